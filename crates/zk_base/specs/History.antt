@@ -1,0 +1,21 @@
+use Rattle.std.specs.Prelude.{◌≡◌, ℕ, ◌<◌, Option, Some, None, List, [], ◌∷◌, ◌++◌, All}
+use Rattle.zk_base.specs.declared.ids.Who.{Who}
+use Rattle.zk_base.specs.declared.ids.Entry.{Entry}
+
+-- one entry
+abbrev pub entry : {O R : Type 0} → Who → ℕ → O → R → Entry O R
+entry who step op reply = record { who = who; step = step; op = op; reply = reply }
+
+-- the history after an attempt: one entry more where there was a reply
+abbrev pub extended : {O R : Type 0} → List (Entry O R) → Who → ℕ → O → Option R → List (Entry O R)
+extended h who step op None = h
+extended h who step op (Some reply) = h ++ entry who step op reply ∷ []
+
+-- the step is above the steps of this player's entries
+abbrev pub IsAbove : {O R : Type 0} → List (Entry O R) → ℕ → ℕ → Type 0
+IsAbove h number step = All (λ e. e.who.number ≡ number → e.step < step) h
+
+-- each player's steps rise strictly
+abbrev pub Rises : {O R : Type 0} → List (Entry O R) → Type 0
+Rises [] = Unit {0}
+Rises (e ∷ es) = All (λ f. f.who.number ≡ e.who.number → e.step < f.step) es × Rises es

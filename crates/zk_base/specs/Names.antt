@@ -1,0 +1,37 @@
+use Rattle.std.specs.Prelude.{◌≡◌, ℕ, ◌+◌, ◌-◌, ◌≤◌, Bool, true, false, not, ◌==◌, nat_lt, nat_le, ◌&&◌, ◌||◌, List, [], ◌∷◌, ◌++◌, length, take, drop, replicate, codes}
+use Rattle.std.specs.List.{list_all, list_any}
+use Rattle.std.specs.Str.{bytes_eq}
+
+-- the bytes a to z
+abbrev pub is_lower : ℕ → Bool
+is_lower b = nat_le 97 b && nat_le b 122
+
+-- what can stand behind a name's first letter: a to z, 0 to 9, and `_`
+abbrev pub is_name_byte : ℕ → Bool
+is_name_byte b = is_lower b || nat_le 48 b && nat_le b 57 || b == 95
+
+-- a lower-case letter, then at most 15 lower-case letters, digits and `_`
+abbrev pub is_spelled : List ℕ → Bool
+is_spelled [] = false
+is_spelled (b ∷ bs) = is_lower b && nat_lt (length bs) 16 && list_all is_name_byte bs
+
+-- a word that a trace has in places where a name can stand
+abbrev pub is_reserved : List ℕ → Bool
+is_reserved text =
+    bytes_eq text (codes "work") || bytes_eq text (codes "clock") || bytes_eq text (codes "table")
+    || bytes_eq text (codes "wait") || bytes_eq text (codes "again") || bytes_eq text (codes "nomsg")
+
+-- spelled as a name, and not reserved
+abbrev pub is_name : List ℕ → Bool
+is_name text = is_spelled text && not (is_reserved text)
+
+-- a name with zeros up to 16 bytes
+abbrev pub padded_name : List ℕ → List ℕ
+padded_name text = text ++ replicate (16 - length text) 0
+
+-- the name fills the front of the bytes, and zeros the rest
+pub record IsPadded (bytes : List ℕ) (len : ℕ) : Type 0 where
+  pub long : length bytes ≡ 16
+  pub within : len ≤ 16
+  pub zeros : drop len bytes ≡ replicate (16 - len) 0
+  pub named : is_name (take len bytes) ≡ true

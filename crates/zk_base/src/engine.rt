@@ -1,0 +1,85 @@
+ghost use Rattle.std.specs.Prelude.{◌≡◌, ℕ, ◌+◌, ◌-◌, ◌^◌, ◌<◌, ◌≤◌, Bool, true, false, is_some, IsOk, IfOk};
+ghost use Rattle.zk_base.specs.declared.ids.Who.{Who};
+ghost use Rattle.zk_base.specs.Legal.{Machine};
+ghost use Rattle.zk_base.specs.Recording.{Steps};
+
+use crate::{NoMemory, Who};
+
+/// What a service computes and keeps, apart from its history.
+pub trait Engine: Drop {
+    type Op: Drop;
+
+    type Reply: Drop;
+
+    type State: Drop;
+
+    /// It stands for this state of the machine, which may say more than is kept.
+    ghost stands_for: { Self → Self.State → Type 0 };
+
+    /// How many changes it takes without memory.
+    ghost room: { Self → ℕ };
+
+    /// Its machine.
+    ghost machine: { Machine Self.State Self.Op Self.Reply };
+
+    /// How many entries were made.
+    ghost entries: { Self.State → ℕ };
+
+    /// How many entries are owed in a state: those of the closing operations that are still to come.
+    ghost owed: { Self.State → ℕ };
+
+    /// Whether an operation gives an owed entry in a state.
+    ghost closes: { Self.State → Who → Self.Op → Bool };
+
+    /// Whether an operation may take memory at any room.
+    ghost grows: { Self.Op → Bool };
+
+    /// One operation. The reply comes twice, since one of them is kept in the history.
+    fn step(
+        &mut self,
+        who: Who,
+        op: &Self::Op,
+    ) -> Result<Option<(Self::Reply, Self::Reply)>, NoMemory>
+        requires ready {
+            (s : Self.State) × stands_for self.old s × (machine.in_range s op.now ≡ true) × (entries s < 2 ^ 32 - 1) }
+        ensures step {
+            (s : Self.State) → stands_for self.old s → Steps machine s who op.now result (stands_for self.new) }
+        ensures closing {
+            (s : Self.State) → stands_for self.old s → closes s who op.now ≡ true → IsOk result }
+        ensures roomy { 3 ≤ room self.old → grows op.now ≡ false → IsOk result }
+        ensures room { room self.old ≤ room self.new + 3 };
+
+    /// Whether this operation gives an owed entry now.
+    fn is_closing(&self, who: Who, op: &Self::Op) -> bool
+        ensures { (s : Self.State) → stands_for self.now s → result ≡ closes s who op.now };
+
+    /// How many entries are owed now.
+    fn owed(&self) -> u64
+        ensures { (s : Self.State) → stands_for self.now s → result ≡ owed s };
+
+    /// Makes room for three changes.
+    fn reserve(&mut self) -> Result<(), NoMemory>
+        ensures room { IfOk result (λ _. 3 ≤ room self.new) }
+        ensures more { room self.old ≤ room self.new }
+        ensures same { (s : Self.State) → stands_for self.old s → stands_for self.new s };
+
+    /// How many changes fit without memory.
+    fn room(&self) -> u64
+        ensures { result ≡ room self.now };
+
+    /// Each entry is counted.
+    ghost counts: {
+        (s : Self.State) (who : Who) (op : Self.Op) → entries (machine.next s who op) ≡ entries s + 1 };
+
+    /// What is in range stays so.
+    ghost ranges: {
+        (s : Self.State) (who : Who) (op : Self.Op) → machine.in_range (machine.next s who op) ≡ machine.in_range s };
+
+    /// An operation adds at most two owed entries.
+    ghost adds: { (s : Self.State) (who : Who) (op : Self.Op) → owed (machine.next s who op) ≤ owed s + 2 };
+
+    /// A closing operation gives one.
+    ghost gives: {
+        (s : Self.State) (who : Who) (op : Self.Op) →
+        closes s who op ≡ true → is_some (machine.reply_of s who op) ≡ true → 1 + owed (machine.next s who op) ≤ owed s };
+}

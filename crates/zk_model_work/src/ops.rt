@@ -1,0 +1,41 @@
+use zk_base::Errno;
+
+/// What can be asked of the work service. An item is its number among the items, a queue its number among the queues,
+/// each from 0 in declared order.
+#[derive(Clone, Copy, Debug)]
+pub enum WorkOp {
+    /// Submits an item, to this queue where one is named. Zephyr's `k_work_submit_to_queue`.
+    Submit(u32, Option<u32>),
+    /// Cancels an item without waiting. Zephyr's `k_work_cancel`.
+    Cancel(u32),
+    /// The queue's worker takes up the next admission.
+    Begin(u32),
+    /// The queue's worker has played the handler to its end.
+    End(u32),
+}
+
+/// What became of a submission.
+#[derive(Clone, Copy, Debug)]
+pub enum Submitted {
+    /// The item is queued already. Answer 0.
+    Already,
+    /// Admitted, with the number of the admission and its queue. Answer 1.
+    Fresh(u64, u32),
+    /// Admitted while the item runs, to the queue that runs it. Answer 2.
+    Rerun(u64, u32),
+    /// Not admitted.
+    Refused(Errno),
+}
+
+/// What the work service answers.
+#[derive(Clone, Copy, Debug)]
+pub enum WorkReply {
+    /// Of a submission.
+    Sub(Submitted),
+    /// The busy flags of an item, below 32: 1 running, 2 cancelling, 4 queued, 8 delayed, 16 flushing.
+    Flags(u8),
+    /// Done, with nothing to say of it.
+    Done,
+    /// The item that a worker took up, and the number of its admission.
+    Run(u32, u64),
+}

@@ -1,0 +1,7 @@
+//! The scenario: its types, its one spelling, the reader and the printer.
+#![tactic(auto)]
+
+mod form;
+mod types;
+
+pub use types::{Call, Decl, Ref, Script};

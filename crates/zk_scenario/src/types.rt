@@ -1,0 +1,36 @@
+use zk_base::{Listed, Name};
+
+/// One declaration. Objects are numbered from 0 in declared order.
+#[derive(Clone, Copy, Debug)]
+pub enum Decl {
+    /// A thread, its priority (-16 to 15, the lower number first), and whether it is a user thread.
+    Thread(Name, i8, bool),
+    /// A work queue, the priority of its worker, and whether it is started at first.
+    Queue(Name, i8, bool),
+    /// A work item.
+    Item(Name),
+}
+
+/// An object as a call names it.
+#[derive(Clone, Copy, Debug)]
+pub enum Ref {
+    /// A declared object, by its number.
+    Known(u32),
+}
+
+/// One call of a script, its arguments in the written order.
+#[derive(Clone, Copy, Debug)]
+pub enum Call {
+    /// An item, and the queue where one is named. Zephyr's `k_work_submit_to_queue`.
+    Submit(Ref, Option<Ref>),
+    /// Zephyr's `k_work_cancel`.
+    Cancel(Ref),
+}
+
+/// The calls that an object makes: those of a thread, in order.
+#[derive(Debug, Drop)]
+pub struct Script {
+    /// The object number of whoever plays the script.
+    pub owner: u32,
+    pub calls: Listed<Call>,
+}
