@@ -31,7 +31,7 @@ ahead_short s at step ahead =
     lt-true (length at.spots) MOST_STEPS (ahead_of (nat_lt (length at.spots) MOST_STEPS) (frames_attempts s at.frames) ahead.0 step ahead.1)
 
 -- what holds of each frame holds of those that are left
-settled-all : (P : Frame → Type 0) (s : Parts) (frames : List Frame) → All P frames → All P (settled s frames)
+pub settled-all : (P : Frame → Type 0) (s : Parts) (frames : List Frame) → All P frames → All P (settled s frames)
 settled-all P s [] all = all
 settled-all P s (frame ∷ below) all =
     elim (is_over s frame.role frame.next) as (λ b. All P (cond b (settled s below) (frame ∷ below)))
@@ -43,7 +43,7 @@ settled-length s (frame ∷ below) =
     elim (is_over s frame.role frame.next) as (λ b. length (cond b (settled s below) (frame ∷ below)) ≤ length (frame ∷ below))
     [ true ↦ omega (arith, settled-length s below) | false ↦ omega arith ]
 
-entered-all : (P : Frame → Type 0) (frames : List Frame) (owner : ℕ) → P (first_frame (Script owner)) → All P frames → All P (entered frames owner)
+pub entered-all : (P : Frame → Type 0) (frames : List Frame) (owner : ℕ) → P (first_frame (Script owner)) → All P frames → All P (entered frames owner)
 entered-all P frames owner first all =
     elim (nat_lt (length frames) MOST_FRAMES) as (λ b. All P (cond b (first_frame (Script owner) ∷ frames) frames))
     [ true ↦ All-cons P (first_frame (Script owner)) frames first all | false ↦ all ]

@@ -125,10 +125,10 @@ moved s at progress spot = record at {
 abbrev pub after : Parts → At → Step → StepReply → At
 after s at made reply = moved s at (frames_progress s at.frames made reply) (spot_of made reply)
 
--- what a player plays: a thread its script, a worker the runs of its queue
+-- what a player plays: the worker of a queue its runs, a thread its script
 abbrev pub role_at : Decl → ℕ → Role
-role_at (decls.Thread name prio user) object = Script object
-role_at decl object = Worker object
+role_at (decls.Queue name prio on) object = Worker object
+role_at decl object = Script object
 
 -- a player that has made no step
 abbrev pub starting : Parts → ℕ → ℕ → Decl → At

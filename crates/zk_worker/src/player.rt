@@ -62,8 +62,8 @@ fn role_at(decl: &Decl, object: u32) -> Role
     ensures { result ≡ role_at decl.now object }
 {
     match decl {
-        Decl::Thread(_, _, _) => Role::Script(object),
-        _ => Role::Worker(object),
+        Decl::Queue(_, _, _) => Role::Worker(object),
+        _ => Role::Script(object),
     }
 }
 
