@@ -13,6 +13,7 @@ mod service;
 mod sink;
 mod source;
 mod standard;
+mod text;
 
 pub use engine::Engine;
 pub use errors::{Errno, Failed, NewRefused, NoMemory, Status};
@@ -26,3 +27,4 @@ pub use service::Service;
 pub use sink::Sink;
 pub use source::Source;
 pub use standard::{StdSink, StdSource};
+pub use text::{put, put_decimal};
