@@ -13,6 +13,8 @@ mod service;
 mod sink;
 mod source;
 mod standard;
+#[cfg(test)]
+mod tests;
 mod text;
 
 pub use engine::Engine;

@@ -20,12 +20,12 @@ impl Model for MemSink {
     ghost Value = { Taking };
 
     ghost view = { λ s. record {
-        held = s.room.items;
-        room = vec_capacity s.room - vec_len s.room;
-        piece = s.piece;
-        failing = s.failing.items;
-        calls = s.calls;
-        faults = s.faults
+      held = s.room.items;
+      room = vec_capacity s.room - vec_len s.room;
+      piece = s.piece;
+      failing = s.failing.items;
+      calls = s.calls;
+      faults = s.faults;
     } };
 
     ghost invariant = { λ s. 0 < s.piece };
@@ -37,12 +37,13 @@ impl MemSink {
     pub fn new(room: Vec<u8>, piece: usize, fail_at: Vec<u64>) -> MemSink
         requires { 0 < piece }
         ensures { result ≡ record {
-            held = room.items;
-            room = vec_capacity room - vec_len room;
-            piece = piece;
-            failing = fail_at.items;
-            calls = 0;
-            faults = 0 } }
+          held = room.items;
+          room = vec_capacity room - vec_len room;
+          piece = piece;
+          failing = fail_at.items;
+          calls = 0;
+          faults = 0;
+        } }
     {
         MemSink {
             room,
@@ -96,12 +97,12 @@ impl Model for SureSink {
     ghost Value = { Taking };
 
     ghost view = { λ s. record {
-        held = s.room.items;
-        room = vec_capacity s.room - vec_len s.room;
-        piece = s.piece;
-        failing = [];
-        calls = 0;
-        faults = s.faults
+      held = s.room.items;
+      room = vec_capacity s.room - vec_len s.room;
+      piece = s.piece;
+      failing = [];
+      calls = 0;
+      faults = s.faults;
     } };
 
     ghost invariant = { λ s. 0 < s.piece };

@@ -24,11 +24,11 @@ impl Model for MemSource {
     ghost Value = { Giving };
 
     ghost view = { λ s. record {
-        left = drop s.given s.bytes.items;
-        piece = s.piece;
-        failing = s.failing.items;
-        calls = s.calls;
-        faults = s.faults
+      left = drop s.given s.bytes.items;
+      piece = s.piece;
+      failing = s.failing.items;
+      calls = s.calls;
+      faults = s.faults;
     } };
 
     ghost invariant = { λ s. (s.given ≤ vec_len s.bytes) × (0 < s.piece) };
@@ -39,7 +39,12 @@ impl MemSource {
     pub fn new(bytes: Vec<u8>, piece: usize, fail_at: Vec<u64>) -> MemSource
         requires { 0 < piece }
         ensures { result ≡ record {
-            left = bytes.items; piece = piece; failing = fail_at.items; calls = 0; faults = 0 } }
+          left = bytes.items;
+          piece = piece;
+          failing = fail_at.items;
+          calls = 0;
+          faults = 0;
+        } }
     {
         MemSource {
             bytes,
