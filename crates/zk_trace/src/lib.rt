@@ -1,0 +1,12 @@
+//! The trace of a run, and its text.
+#![tactic(auto)]
+
+mod entries;
+mod names;
+mod print;
+mod sections;
+mod trace;
+mod words;
+
+pub use print::{print_trace, put_trace};
+pub use trace::{Ending, History, Logs, Trace};
