@@ -1,4 +1,4 @@
-use Rattle.std.specs.Prelude.{◌≡◌, ℕ, ℤ, pos, Bool, true, false, ◌||◌, List, [], ◌∷◌, Option, Some, None, option_map, unwrap_or, find, codes, IsSome, IfSome, if◌then◌else◌}
+use Rattle.std.specs.Prelude.{◌≡◌, ℕ, ℤ, pos, negsuc, ◌≤ℤ◌, Bool, true, false, List, [], ◌∷◌, Option, Some, None, option_map, unwrap_or, codes, IsSome, IfSome, if◌then◌else◌}
 use Rattle.std.specs.Str.{bytes_eq}
 use Rattle.zk_base.specs.Names.{is_name, is_spelled}
 use Rattle.zk_scenario.specs.declared.form.Named.{Named}
@@ -139,3 +139,23 @@ IsPlain (Script owner) = IsUnreserved owner
 IsPlain (Submit item queue) = IsUnreserved item × IfSome queue IsUnreserved
 IsPlain (Cancel item) = IsUnreserved item
 IsPlain End = Unit {0}
+
+-- a word that is a name
+abbrev pub IsNamed : Named → Type 0
+IsNamed (Plain name) = is_name name ≡ true
+IsNamed Reserved = ⊥
+
+-- a priority from -16 to 15
+abbrev pub IsPriority : Option ℤ → Type 0
+IsPriority None = ⊥
+IsPriority (Some prio) = (negsuc 15 ≤ℤ prio) × (prio ≤ℤ pos 15)
+
+-- each name is one, and each number is in its range
+abbrev pub CanBeSpelled : Form → Type 0
+CanBeSpelled (Thread name prio user) = IsNamed name × IsPriority prio
+CanBeSpelled (Queue name prio on) = IsNamed name × IsPriority prio
+CanBeSpelled (Item name) = IsNamed name
+CanBeSpelled (Script owner) = IsNamed owner
+CanBeSpelled (Submit item queue) = IsNamed item × IfSome queue IsNamed
+CanBeSpelled (Cancel item) = IsNamed item
+CanBeSpelled End = Unit {0}

@@ -1,4 +1,4 @@
-use Rattle.std.specs.Prelude.{ℕ, ◌^◌, ◌-◌, min, ℤ, pos, neg_ℤ, Bool, true, false, not, ◌==◌, nat_le, ◌&&◌, ◌||◌, List, [], ◌∷◌, length, Option, Some, None, option_map, option_and_then, if◌then◌else◌}
+use Rattle.std.specs.Prelude.{ℕ, ◌^◌, ◌-◌, min, ℤ, pos, neg_ℤ, Bool, false, not, ◌==◌, nat_le, ◌&&◌, ◌||◌, List, [], ◌∷◌, length, Option, Some, None, option_map, option_and_then, if◌then◌else◌}
 use Rattle.std.specs.Char.{is_ascii_digit}
 use Rattle.std.specs.List.{list_all}
 use Rattle.std.specs.Str.Parse.{digits_value}

@@ -3,6 +3,8 @@
 
 mod form;
 mod keyword;
+#[cfg(test)]
+mod line_tests;
 mod numbers;
 mod print;
 mod types;
