@@ -1,1 +1,6 @@
+pub mod Forms
+pub mod Keywords
+pub mod Numbers
 pub mod Players
+pub mod Text
+pub mod Words
