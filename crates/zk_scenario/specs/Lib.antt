@@ -1,1 +1,3 @@
+pub mod ByName
+pub mod Objects
 pub mod Players

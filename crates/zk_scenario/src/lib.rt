@@ -2,6 +2,8 @@
 #![tactic(auto)]
 
 mod form;
+mod names;
+mod objects;
 mod types;
 
 pub use types::{Call, Decl, Ref, Script};
