@@ -1,3 +1,4 @@
 pub mod ByName
 pub mod Lists
+pub mod Played
 pub mod Tables

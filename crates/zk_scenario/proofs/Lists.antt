@@ -1,6 +1,6 @@
 -- Lists with one element more, and first places.
-use Rattle.std.proofs.Common.{◌≡◌, ℕ, zero, suc, ◌+◌, ◌<◌, ◌≤◌, Bool, true, false, cond, eqb, ltb, nat_lt, Option, None, Some, List, [], ◌∷◌, ◌++◌, length, take, slice_get, count_by, is_some, refl, sym, ap, ◌∙◌, ⊎_elim, arith, length-append, get_or}
-use Rattle.std.proofs.lemmas.Bool.{cases_Bool, cases_lt, cases_order, lt-ltb, le-ltb, eq-eqb, ne_eqb, cond-true, cond-false, false≢true}
+use Rattle.std.proofs.Common.{◌≡◌, ℕ, zero, suc, ◌+◌, ◌<◌, ◌≤◌, Bool, true, false, cond, eqb, ltb, nat_lt, Option, None, Some, List, [], ◌∷◌, ◌++◌, length, take, set, slice_get, count_by, is_some, refl, sym, ap, ◌∙◌, ⊎_elim, arith, length-append, get_or}
+use Rattle.std.proofs.lemmas.Bool.{cases_Bool, cases_eq, cases_lt, cases_order, lt-ltb, le-ltb, eq-eqb, ne_eqb, cond-true, cond-false, false≢true}
 use Rattle.std.proofs.lemmas.List.{get_or_append_left, get_or_push}
 use Rattle.std.proofs.lemmas.List.Folds.{position_or_len_push}
 use Rattle.std.proofs.lemmas.List.Sums.{sum_by-append}
@@ -37,3 +37,13 @@ position-push p xs y =
     position_from-zero p (xs ++ y ∷ []) ∙ from-push p 0 xs y
     ∙ ap (λ o. cond (is_some o) o (cond (p y) (Some (0 + length xs)) None)) (sym (position_from-zero p xs))
     ∙ ap (λ k. cond (is_some (position p xs)) (position p xs) (cond (p y) (Some k) None)) (omega arith)
+
+-- an element after a write
+pub slice_get-set : {X : Type 0} (xs : List X) (i : ℕ) (y : X) (k : ℕ) → i < length xs → slice_get (set xs i y) k ≡ cond (eqb i k) (Some y) (slice_get xs k)
+slice_get-set [] i y k h = absurd (omega arith)
+slice_get-set (x ∷ xs) zero y zero h = refl
+slice_get-set (x ∷ xs) zero y (suc k) h = sym (cond-false (eqb zero (suc k)) (Some y) (slice_get xs k) (ne_eqb zero (suc k) (λ e. omega arith)))
+slice_get-set (x ∷ xs) (suc i) y zero h = sym (cond-false (eqb (suc i) zero) (Some y) (Some x) (ne_eqb (suc i) zero (λ e. omega arith)))
+slice_get-set (x ∷ xs) (suc i) y (suc k) h = slice_get-set xs i y k (omega arith) ∙ ap (λ b. cond b (Some y) (slice_get xs k)) (eqb-suc i k) where
+  eqb-suc : (i k : ℕ) → eqb i k ≡ eqb (suc i) (suc k)
+  eqb-suc i k = ⊎_elim (λ e. eq-eqb i k e ∙ sym (eq-eqb (suc i) (suc k) (ap suc e))) (λ ne. ne_eqb i k ne ∙ sym (ne_eqb (suc i) (suc k) (λ e. ne (omega arith)))) (cases_eq i k)

@@ -1,3 +1,4 @@
 pub mod ByName
 pub mod Objects
 pub mod Players
+pub mod Scripts

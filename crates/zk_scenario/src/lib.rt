@@ -4,6 +4,7 @@
 mod form;
 mod names;
 mod objects;
+mod scripts;
 mod types;
 
 pub use types::{Call, Decl, Ref, Script};
