@@ -2,3 +2,4 @@ pub mod ByName
 pub mod Lists
 pub mod Played
 pub mod Tables
+pub mod Valid

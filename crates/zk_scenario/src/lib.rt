@@ -4,7 +4,9 @@
 mod form;
 mod names;
 mod objects;
+mod scenario;
 mod scripts;
 mod types;
 
+pub use scenario::Scenario;
 pub use types::{Call, Decl, Ref, Script};
