@@ -13,6 +13,6 @@ pub use engine::Engine;
 pub use errors::{Errno, Failed, NewRefused, NoMemory, Status};
 pub use ids::{Entry, Who};
 pub use listed::Listed;
-pub use name::Name;
+pub use name::{is_name, is_spelled, Name};
 pub use recorded::Recorded;
 pub use service::Service;

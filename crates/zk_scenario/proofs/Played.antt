@@ -39,12 +39,12 @@ pub script_of-push : (ss : List Script) (s : Script) (owner : ℕ) → script_of
 script_of-push ss s owner fresh =
     position-push (λ x. eqb x.owner owner) ss s ∙ ⊎_elim
     (λ same. let none : script_of ss owner ≡ None = ap (script_of ss) (sym (eqb-true s.owner owner same)) ∙ fresh in
-      ap (λ o. cond (is_some o) o (cond (eqb s.owner owner) (Some (length ss)) None)) none ∙ ap (λ b. cond b (Some (length ss)) None) same ∙ sym (cond-true (eqb s.owner owner) (Some (length ss)) (script_of ss owner) same))
+    ap (λ o. cond (is_some o) o (cond (eqb s.owner owner) (Some (length ss)) None)) none ∙ ap (λ b. cond b (Some (length ss)) None) same ∙ sym (cond-true (eqb s.owner owner) (Some (length ss)) (script_of ss owner) same))
     (λ other. ap (λ b. cond (is_some (script_of ss owner)) (script_of ss owner) (cond b (Some (length ss)) None)) other ∙ kept (script_of ss owner) ∙ sym (cond-false (eqb s.owner owner) (Some (length ss)) (script_of ss owner) other))
     (cases_Bool (eqb s.owner owner)) where
-  kept : (o : Option ℕ) → cond (is_some o) o None ≡ o
-  kept None = refl
-  kept (Some k) = refl
+      kept : (o : Option ℕ) → cond (is_some o) o None ≡ o
+      kept None = refl
+      kept (Some k) = refl
 
 -- the table of the places, with one script more
 pub IsByOwner-push : (ss : List Script) (s : Script) (before wide : List (Option ℕ)) → IsByOwner ss before → length ss + 1 < 2 ^ 32 → script_of ss s.owner ≡ None
@@ -53,8 +53,8 @@ IsByOwner-push ss s before wide held few fresh long same =
     record {
       few = omega (arith, length-append ss (s ∷ []));
       each = λ owner. ap option_flatten (slice_get-set wide s.owner (Some (length ss)) owner long) ∙ under (eqb s.owner owner) (slice_get wide owner)
-        ∙ ap (λ o. cond (eqb s.owner owner) (Some (length ss)) o) (same owner ∙ held.each owner) ∙ sym (script_of-push ss s owner fresh)
+          ∙ ap (λ o. cond (eqb s.owner owner) (Some (length ss)) o) (same owner ∙ held.each owner) ∙ sym (script_of-push ss s owner fresh);
     } where
-  under : (b : Bool) (o : Option (Option ℕ)) → option_flatten (cond b (Some (Some (length ss))) o) ≡ cond b (Some (length ss)) (option_flatten o)
-  under true o = refl
-  under false o = refl
+      under : (b : Bool) (o : Option (Option ℕ)) → option_flatten (cond b (Some (Some (length ss))) o) ≡ cond b (Some (length ss)) (option_flatten o)
+      under true o = refl
+      under false o = refl

@@ -23,11 +23,11 @@ places_from-push : (n : ℕ) (test : Decl → Bool) (ds : List Decl) (d : Decl) 
 places_from-push n test [] d = ap (λ k. cond (test d) (k ∷ []) []) (omega arith)
 places_from-push n test (x ∷ ds) d =
     step (test x) (test d) (places_from (n + 1) test (ds ++ d ∷ [])) (places_from (n + 1) test ds) (n + 1 + length ds) (n + length (x ∷ ds)) (places_from-push (n + 1) test ds d) (omega arith) where
-  step : (p q : Bool) (after before : List ℕ) (k j : ℕ) → after ≡ cond q (before ++ k ∷ []) before → k ≡ j → cond p (n ∷ after) after ≡ cond q (cond p (n ∷ before) before ++ j ∷ []) (cond p (n ∷ before) before)
-  step true true after before k j e same = cc
-  step true false after before k j e same = cc
-  step false true after before k j e same = cc
-  step false false after before k j e same = cc
+      step : (p q : Bool) (after before : List ℕ) (k j : ℕ) → after ≡ cond q (before ++ k ∷ []) before → k ≡ j → cond p (n ∷ after) after ≡ cond q (cond p (n ∷ before) before ++ j ∷ []) (cond p (n ∷ before) before)
+      step true true after before k j e same = cc
+      step true false after before k j e same = cc
+      step false true after before k j e same = cc
+      step false false after before k j e same = cc
 
 pub places-push : (test : Decl → Bool) (ds : List Decl) (d : Decl) → places test (ds ++ d ∷ []) ≡ grown test d (length ds) (places test ds)
 places-push test ds d = places_from-push 0 test ds d ∙ ap (λ k. grown test d k (places test ds)) (omega arith)
@@ -69,8 +69,8 @@ numbers-push ds d numbers n long each e object =
     ⊎_elim
     (λ at. ap (λ k. unwrap_or (slice_get (numbers ++ n ∷ []) k) 0) (at ∙ sym long) ∙ ap (λ o. unwrap_or o 0) (slice_get-push numbers n) ∙ e ∙ sym (number_of-new ds d) ∙ ap (number_of (ds ++ d ∷ [])) (sym at))
     (⊎_elim
-      (λ below. ap (λ o. unwrap_or o 0) (slice_get-append_left numbers (n ∷ []) object (omega arith)) ∙ each object ∙ sym (number_of-left ds d object below))
-      (λ above. ap (λ o. unwrap_or o 0) (slice_get_past (numbers ++ n ∷ []) object (omega (arith, length-append numbers (n ∷ [])))) ∙ sym (number_of-past (ds ++ d ∷ []) object (omega (arith, length-append ds (d ∷ []))))))
+    (λ below. ap (λ o. unwrap_or o 0) (slice_get-append_left numbers (n ∷ []) object (omega arith)) ∙ each object ∙ sym (number_of-left ds d object below))
+    (λ above. ap (λ o. unwrap_or o 0) (slice_get_past (numbers ++ n ∷ []) object (omega (arith, length-append numbers (n ∷ [])))) ∙ sym (number_of-past (ds ++ d ∷ []) object (omega (arith, length-append ds (d ∷ []))))))
     (cases_order object (length ds))
 
 -- the object of a name, with one declaration more of a new name
@@ -78,12 +78,12 @@ object_of-push : (ds : List Decl) (d : Decl) (name : List ℕ) → object_of ds 
 object_of-push ds d name fresh =
     position-push (λ x. bytes_eq (name_of x) name) ds d ∙ ⊎_elim
     (λ same. let none : object_of ds name ≡ None = ap (object_of ds) (sym ((bytes_decides (name_of d) name).0 same)) ∙ fresh in
-      ap (λ o. cond (is_some o) o (cond (bytes_eq (name_of d) name) (Some (length ds)) None)) none ∙ ap (λ b. cond b (Some (length ds)) None) same ∙ sym (cond-true (bytes_eq (name_of d) name) (Some (length ds)) (object_of ds name) same))
+    ap (λ o. cond (is_some o) o (cond (bytes_eq (name_of d) name) (Some (length ds)) None)) none ∙ ap (λ b. cond b (Some (length ds)) None) same ∙ sym (cond-true (bytes_eq (name_of d) name) (Some (length ds)) (object_of ds name) same))
     (λ other. ap (λ b. cond (is_some (object_of ds name)) (object_of ds name) (cond b (Some (length ds)) None)) other ∙ kept (object_of ds name) ∙ sym (cond-false (bytes_eq (name_of d) name) (Some (length ds)) (object_of ds name) other))
     (cases_Bool (bytes_eq (name_of d) name)) where
-  kept : (o : Option ℕ) → cond (is_some o) o None ≡ o
-  kept None = refl
-  kept (Some k) = refl
+      kept : (o : Option ℕ) → cond (is_some o) o None ≡ o
+      kept None = refl
+      kept (Some k) = refl
 
 -- the number of a new object: how many of its kind there are
 pub length-own_list : (ds : List Decl) (d : Decl) → length (own_list d (places is_thread ds) (places is_queue ds) (places is_item ds)) ≡ count_by (same_kind d) ds
@@ -104,10 +104,10 @@ IsTabled-push ds d threads queues items numbers n names after held few fresh num
       each_item = ap (grown is_item d (length ds)) held.each_item ∙ sym (places-push is_item ds d);
       long = length-append numbers (n ∷ []) ∙ ap (λ k. k + 1) held.long ∙ sym (length-append ds (d ∷ []));
       each_number = numbers-push ds d numbers n held.long held.each_number (number ∙ own ∙ length-own_list ds d);
-      each_name = λ name. put name ∙ ap (λ o. cond (bytes_eq (name_of d) name) (Some (length ds)) o) (held.each_name name) ∙ sym (object_of-push ds d name fresh)
+      each_name = λ name. put name ∙ ap (λ o. cond (bytes_eq (name_of d) name) (Some (length ds)) o) (held.each_name name) ∙ sym (object_of-push ds d name fresh);
     } where
-  own : length (own_list d threads queues items) ≡ length (own_list d (places is_thread ds) (places is_queue ds) (places is_item ds))
-  own = cc
+      own : length (own_list d threads queues items) ≡ length (own_list d (places is_thread ds) (places is_queue ds) (places is_item ds))
+      own = cc
 
 -- a list of objects is no longer than the declarations
 pub length-kind : (test : Decl → Bool) (ds : List Decl) (list after : List ℕ) → length ds < 2 ^ 32 → list ≡ places test ds → after ≡ list → length after < 2 ^ 32

@@ -2,8 +2,8 @@ ghost use Rattle.std.specs.Prelude.{◌≡◌, ◌+◌, ◌-◌, ◌^◌, ◌<�
 ghost use Rattle.zk_scenario.specs.Objects.{object_of, own_list, grown, HasRoom};
 ghost use Rattle.zk_scenario.specs.Players.{is_thread, is_queue, is_item, name_of, places, number_of};
 
+use crate::Decl;
 use crate::names::Names;
-use crate::{Decl};
 use std::alloc::Global;
 use std::marker::Model;
 use zk_base::{Name, NoMemory};

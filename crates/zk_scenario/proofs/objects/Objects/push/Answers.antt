@@ -32,18 +32,18 @@ invariant_of-self-2 c =
     let fresh = ap (λ xs. object_of xs (name_of d)) view ∙ c.requires.fresh in
     let name : c.bytes.result.now ≡ name_of d = c.bytes.ensures ∙ c.name_of-name.ensures in
     let put = λ (other : List ℕ). c.in_ok-insert.ensures.ok other
-        ∙ ap (λ q. cond (bytes_eq q other) (Some c.len-object.result) (by_name at.names other)) name
-        ∙ ap (λ k. cond (bytes_eq (name_of d) other) (Some k) (by_name at.names other)) object in
+    ∙ ap (λ q. cond (bytes_eq q other) (Some c.len-object.result) (by_name at.names other)) name
+    ∙ ap (λ k. cond (bytes_eq (name_of d) other) (Some k) (by_name at.names other)) object in
     let threads = c.make_room-3.ensures.unchanged in
     let queues = c.make_room-4.ensures.unchanged in
     let items = c.make_room-5.ensures.unchanged in
     let number : c.enlist-number.result ≡ length (own_list d at.threads.items at.queues.items at.items.items) =
-        c.enlist-number.ensures.number ∙ ap (λ l. length (own_list d l c.make_room-4.new.list.items c.make_room-5.new.list.items)) threads
-        ∙ ap (λ l. length (own_list d at.threads.items l c.make_room-5.new.list.items)) queues ∙ ap (λ l. length (own_list d at.threads.items at.queues.items l)) items in
+    c.enlist-number.ensures.number ∙ ap (λ l. length (own_list d l c.make_room-4.new.list.items c.make_room-5.new.list.items)) threads
+    ∙ ap (λ l. length (own_list d at.threads.items l c.make_room-5.new.list.items)) queues ∙ ap (λ l. length (own_list d at.threads.items at.queues.items l)) items in
     IsTabled-after ds d at.threads.items at.queues.items at.items.items at.numbers.items c.enlist-number.result at.names c.insert.new.self c.self.invariant few fresh number put
-        c.put-2.new.list.items c.enlist-number.new.threads.items c.enlist-number.new.queues.items c.enlist-number.new.items.items c.put.new.list.items
-        (c.put-2.ensures ∙ ap (λ l. l ++ d ∷ []) c.make_room.ensures.unchanged)
-        (c.enlist-number.ensures.threads ∙ ap (λ l. grown is_thread d c.len-object.result l) threads ∙ ap (λ k. grown is_thread d k at.threads.items) object)
-        (c.enlist-number.ensures.queues ∙ ap (λ l. grown is_queue d c.len-object.result l) queues ∙ ap (λ k. grown is_queue d k at.queues.items) object)
-        (c.enlist-number.ensures.items ∙ ap (λ l. grown is_item d c.len-object.result l) items ∙ ap (λ k. grown is_item d k at.items.items) object)
-        (c.put.ensures ∙ ap (λ l. l ++ c.enlist-number.result ∷ []) c.make_room-2.ensures.unchanged)
+    c.put-2.new.list.items c.enlist-number.new.threads.items c.enlist-number.new.queues.items c.enlist-number.new.items.items c.put.new.list.items
+    (c.put-2.ensures ∙ ap (λ l. l ++ d ∷ []) c.make_room.ensures.unchanged)
+    (c.enlist-number.ensures.threads ∙ ap (λ l. grown is_thread d c.len-object.result l) threads ∙ ap (λ k. grown is_thread d k at.threads.items) object)
+    (c.enlist-number.ensures.queues ∙ ap (λ l. grown is_queue d c.len-object.result l) queues ∙ ap (λ k. grown is_queue d k at.queues.items) object)
+    (c.enlist-number.ensures.items ∙ ap (λ l. grown is_item d c.len-object.result l) items ∙ ap (λ k. grown is_item d k at.items.items) object)
+    (c.put.ensures ∙ ap (λ l. l ++ c.enlist-number.result ∷ []) c.make_room-2.ensures.unchanged)
