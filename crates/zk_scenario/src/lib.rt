@@ -3,10 +3,17 @@
 
 mod form;
 mod keyword;
+<<<<<<< HEAD
 #[cfg(test)]
 mod line_tests;
+=======
+mod names;
+>>>>>>> cec6f6d121a5868205cd9f15d7221b4998dfe0d8
 mod numbers;
+mod objects;
 mod print;
+mod scenario;
+mod scripts;
 mod types;
 mod words;
 
@@ -15,5 +22,6 @@ pub use numbers::{number_of, priority_of};
 pub use print::{
     put_cancel, put_end, put_item, put_number, put_queue, put_script, put_submit, put_thread,
 };
+pub use scenario::Scenario;
 pub use types::{Call, Decl, Ref, Script};
 pub use words::Words;
