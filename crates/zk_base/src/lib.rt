@@ -21,13 +21,9 @@ pub use engine::Engine;
 pub use errors::{Errno, Failed, NewRefused, NoMemory, Status};
 pub use ids::{Entry, Who};
 pub use listed::Listed;
-<<<<<<< HEAD
 pub use memory_sink::{MemSink, SureSink};
 pub use memory_source::{MemSource, SureSource};
 pub use name::{LONGEST_NAME, Name, is_name, is_spelled};
-=======
-pub use name::{is_name, is_spelled, Name};
->>>>>>> a406f0b4bdd47a19fa7554dfa8925dceaa9523a5
 pub use recorded::Recorded;
 pub use service::Service;
 pub use sink::Sink;

@@ -3,12 +3,9 @@
 
 mod form;
 mod keyword;
-<<<<<<< HEAD
 #[cfg(test)]
 mod line_tests;
-=======
 mod names;
->>>>>>> cec6f6d121a5868205cd9f15d7221b4998dfe0d8
 mod numbers;
 mod objects;
 mod print;

@@ -3,10 +3,8 @@
 
 mod entries;
 mod names;
-mod print;
 mod sections;
 mod trace;
 mod words;
 
-pub use print::{print_trace, put_trace};
 pub use trace::{Ending, History, Logs, Trace};
