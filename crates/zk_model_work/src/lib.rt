@@ -19,3 +19,6 @@ pub use questions::{
     run, running, running_queue, waiting,
 };
 pub use state::{WorkState, fresh_queues, mark, submit, work_next};
+
+#[cfg(test)]
+mod tests;
