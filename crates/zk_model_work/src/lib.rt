@@ -18,4 +18,7 @@ pub use questions::{
     armed, first_in_line, is_cancelling, is_empty_and_idle, is_flushing, is_worker, last_queue,
     run, running, running_queue, waiting,
 };
-pub use state::{WorkState, mark, submit, work_next};
+pub use state::{WorkState, fresh_queues, mark, submit, work_next};
+
+#[cfg(test)]
+mod tests;

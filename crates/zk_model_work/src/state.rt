@@ -1,4 +1,4 @@
-ghost use Rattle.std.specs.Prelude.{◌≡◌, ◌≢◌, ◌-◌, ◌^◌, ◌<◌, ◌≤◌, length, AllPairs, Some, IfOk, OnOk, OnErr};
+ghost use Rattle.std.specs.Prelude.{◌≡◌, ◌≢◌, ◌+◌, ◌-◌, ◌^◌, ◌<◌, ◌≤◌, length, vec_len, vec_capacity, AllPairs, Some, IsOk, IfOk, OnOk, OnErr};
 ghost use Rattle.zk_model_work.specs.State.{State, start_of, fresh_queues};
 ghost use Rattle.zk_model_work.specs.Machine.{work_reply, after_reply, submit, mark, flags_of};
 
@@ -47,6 +47,11 @@ impl Model for WorkState {
 pub fn submit(admissions: &mut Vec<Admission>, item: u32, answer: Submitted) -> Result<(), NoMemory>
     ensures ok { OnOk result (admissions.new.items ≡ submit admissions.old.items item answer) }
     ensures err { OnErr result (admissions.new.items ≡ admissions.old.items) }
+
+    // Memory: one place of it is enough.
+    ensures roomy { vec_len admissions.old < vec_capacity admissions.old → IsOk result }
+    ensures len { vec_len admissions.new ≤ vec_len admissions.old + 1 }
+    ensures capacity { vec_capacity admissions.old ≤ vec_capacity admissions.new }
 {
     match answer {
         Submitted::Fresh(_, queue) | Submitted::Rerun(_, queue) => {
@@ -65,6 +70,11 @@ pub fn submit(admissions: &mut Vec<Admission>, item: u32, answer: Submitted) -> 
 pub fn mark(admissions: &[Admission], marks: &mut Vec<u64>, item: u32) -> Result<(), NoMemory>
     ensures ok { OnOk result (marks.new.items ≡ mark admissions.now marks.old.items item) }
     ensures err { OnErr result (marks.new.items ≡ marks.old.items) }
+
+    // Memory: one place of it is enough.
+    ensures roomy { vec_len marks.old < vec_capacity marks.old → IsOk result }
+    ensures len { vec_len marks.new ≤ vec_len marks.old + 1 }
+    ensures capacity { vec_capacity marks.old ≤ vec_capacity marks.new }
 {
     match running(admissions, item) {
         None => Ok(()),
@@ -76,7 +86,11 @@ pub fn mark(admissions: &[Admission], marks: &mut Vec<u64>, item: u32) -> Result
 }
 
 /// The queues of these workers, none of them used yet.
-fn fresh_queues(alloc: Global, workers: &[u32], started: &[bool]) -> Result<Vec<Queue>, NoMemory>
+pub fn fresh_queues(
+    alloc: Global,
+    workers: &[u32],
+    started: &[bool],
+) -> Result<Vec<Queue>, NoMemory>
     requires same { length workers.now ≡ length started.now }
     ensures { IfOk result (λ queues. queues.items ≡ fresh_queues workers.now started.now) }
 {
