@@ -5,8 +5,8 @@ ghost use Rattle.zk_scenario.specs.Text.{line_text, mode_text, state_text, threa
 use itoa::Buffer;
 use zk_base::NoMemory;
 
-/// Appends the declaration of a thread, without its line feed, as do those below. After an error a part of it may
-/// stand there.
+/// Appends the declaration of a thread. As below, no line feed is written, and after an error a
+/// part of the line may stand there.
 pub fn put_thread(out: &mut Vec<u8>, name: &[u8], prio: i8, user: bool) -> Result<(), NoMemory>
     ensures { OnOk result
         (out.new.items ≡ out.old.items ++ line_text (thread_words name.now prio user)) }
