@@ -5,8 +5,12 @@ mod form;
 mod keyword;
 #[cfg(test)]
 mod line_tests;
+mod names;
 mod numbers;
+mod objects;
 mod print;
+mod scenario;
+mod scripts;
 mod types;
 mod words;
 
@@ -15,5 +19,6 @@ pub use numbers::{number_of, priority_of};
 pub use print::{
     put_cancel, put_end, put_item, put_number, put_queue, put_script, put_submit, put_thread,
 };
+pub use scenario::Scenario;
 pub use types::{Call, Decl, Ref, Script};
 pub use words::Words;
