@@ -10,7 +10,7 @@ use Rattle.std.proofs.lemmas.Option.{cond_some, option_and_then_some, same_Some}
 use Rattle.std.proofs.lemmas.Int.{ints}
 use Rattle.std.proofs.lemmas.Fmt.{decimal-digits_value, decimal_digit, digits_decimal, digits_value-decimal, first_decimal}
 use Rattle.std.proofs.lemmas.Str.Parse.{IsNumeralModel, numerals_by_value}
-use Rattle.zk_scenario.specs.Numbers.{is_number, number_of, priority_of, priority_above, priority_below}
+use Rattle.zk_scenario.specs.Numbers.{IsPriority, is_number, number_of, priority_of, priority_above, priority_below}
 
 -- digits alone, as std's lemmas on numerals take it
 pub numerals : IsNumeralModel (λ ds. list_all is_ascii_digit ds ≡ true) (digits_value 10)
@@ -37,40 +37,44 @@ nothing_is_none : (prio : Option ℤ) → None ≡ prio → IsSome prio → ⊥
 nothing_is_none None none within = absurd (cc)
 nothing_is_none (Some p) none within = absurd (cc)
 
+-- the word is the text of the priority, which is in its range
+abbrev pub SpellsPriority : List ℕ → Option ℤ → Type 0
+SpellsPriority word prio = (word ≡ signed_decimal (unwrap_or prio (pos 0))) × IsPriority prio
+
 -- a number that is given as a priority
-above_spelled : (word : List ℕ) (n : ℕ) (prio : Option ℤ) → number_of word ≡ Some n → priority_above n ≡ prio → IsSome prio → word ≡ signed_decimal (unwrap_or prio (pos 0))
+above_spelled : (word : List ℕ) (n : ℕ) (prio : Option ℤ) → number_of word ≡ Some n → priority_above n ≡ prio → IsSome prio → SpellsPriority word prio
 above_spelled word n prio said given within = elim (cases_Bool (leb n 15)) [
-  | inl low ↦ subst (λ (p : Option ℤ). word ≡ signed_decimal (unwrap_or p (pos 0)))
+  | inl low ↦ subst (λ (p : Option ℤ). SpellsPriority word p)
       (sym (cond-true (leb n 15) (Some (pos n)) None low) ∙ given)
-      (number_spelled word n said (omega (arith, leb-true n 15 low)))
+      (let low_is = leb-true n 15 low in (number_spelled word n said (omega arith), (omega (arith, ints), omega (arith, ints))))
   | inr high ↦ absurd (nothing_is_none prio (sym (cond-false (leb n 15) (Some (pos n)) None high) ∙ given) within)
 ]
 
-in_range_below : (word : List ℕ) (n : ℕ) (prio : Option ℤ) → number_of word ≡ Some (suc n) → cond (leb (suc n) 16) (Some (negsuc n)) None ≡ prio → IsSome prio → 45 ∷ word ≡ signed_decimal (unwrap_or prio (pos 0))
+in_range_below : (word : List ℕ) (n : ℕ) (prio : Option ℤ) → number_of word ≡ Some (suc n) → cond (leb (suc n) 16) (Some (negsuc n)) None ≡ prio → IsSome prio → SpellsPriority (45 ∷ word) prio
 in_range_below word n prio said given within = elim (cases_Bool (leb (suc n) 16)) [
-  | inl low ↦ subst (λ (p : Option ℤ). 45 ∷ word ≡ signed_decimal (unwrap_or p (pos 0)))
+  | inl low ↦ subst (λ (p : Option ℤ). SpellsPriority (45 ∷ word) p)
       (sym (cond-true (leb (suc n) 16) (Some (negsuc n)) None low) ∙ given)
-      (ap (λ (w : List ℕ). 45 ∷ w) (number_spelled word (suc n) said (omega (arith, leb-true (suc n) 16 low))))
+      (let low_is = leb-true (suc n) 16 low in (ap (λ (w : List ℕ). 45 ∷ w) (number_spelled word (suc n) said (omega arith)), (omega (arith, ints), omega (arith, ints))))
   | inr high ↦ absurd (nothing_is_none prio (sym (cond-false (leb (suc n) 16) (Some (negsuc n)) None high) ∙ given) within)
 ]
 
 -- a number behind a minus
-below_spelled : (word : List ℕ) (n : ℕ) (prio : Option ℤ) → number_of word ≡ Some n → priority_below n ≡ Some prio → IsSome prio → 45 ∷ word ≡ signed_decimal (unwrap_or prio (pos 0))
+below_spelled : (word : List ℕ) (n : ℕ) (prio : Option ℤ) → number_of word ≡ Some n → priority_below n ≡ Some prio → IsSome prio → SpellsPriority (45 ∷ word) prio
 below_spelled word zero prio said given within = absurd (cc)
 below_spelled word (suc n) prio said given within =
     let given_range = sym (cond-false (eqb (suc n) 0) None _ (ne_eqb (suc n) 0 (λ none. absurd (omega arith)))) ∙ given in
     in_range_below word n prio said (same_Some (cond (leb (suc n) 16) (Some (negsuc n)) None) prio given_range) within
 
-by_number : (word : List ℕ) (prio : Option ℤ) (n : Option ℕ) → number_of word ≡ n → option_map priority_above n ≡ Some prio → IsSome prio → word ≡ signed_decimal (unwrap_or prio (pos 0))
+by_number : (word : List ℕ) (prio : Option ℤ) (n : Option ℕ) → number_of word ≡ n → option_map priority_above n ≡ Some prio → IsSome prio → SpellsPriority word prio
 by_number word prio None said given within = absurd (cc)
 by_number word prio (Some n) said given within = above_spelled word n prio said (same_Some _ _ given) within
 
 -- a word that spells a priority in its range is the priority's text
-pub priority_spelled : (word : List ℕ) (prio : Option ℤ) → priority_of word ≡ Some prio → IsSome prio → word ≡ signed_decimal (unwrap_or prio (pos 0))
+pub priority_spelled : (word : List ℕ) (prio : Option ℤ) → priority_of word ≡ Some prio → IsSome prio → SpellsPriority word prio
 priority_spelled [] prio said within = absurd (cc)
 priority_spelled (b ∷ bs) prio said within = elim (cases_Bool (eqb b 45)) [
   | inl minus ↦ option_and_then_some priority_below (number_of bs) prio (sym (cond-true (eqb b 45) _ _ minus) ∙ said)
-      (λ n is_n given. ap (λ (c : ℕ). c ∷ bs) (eqb-true b 45 minus) ∙ below_spelled bs n prio is_n given within)
+      (λ n is_n given. let below = below_spelled bs n prio is_n given within in (ap (λ (c : ℕ). c ∷ bs) (eqb-true b 45 minus) ∙ below.0, below.1))
   | inr plain ↦ by_number (b ∷ bs) prio (number_of (b ∷ bs)) refl (sym (cond-false (eqb b 45) _ _ plain) ∙ said) within
 ]
 

@@ -10,9 +10,9 @@ use Rattle.zk_scenario.specs.declared.form.Form.{Form}
 use Rattle.zk_scenario.specs.declared.form.Form.TheVariants.{Thread, Queue, Item, Script, Submit, Cancel, End}
 use Rattle.zk_scenario.specs.declared.form.Line.TheVariants.{Formed}
 use Rattle.zk_scenario.specs.Words.{words_of}
-use Rattle.zk_scenario.specs.Numbers.{priority_of}
+use Rattle.zk_scenario.specs.Numbers.{priority_of, IsPriority}
 use Rattle.zk_scenario.specs.Text.{line_text, mode_text, state_text}
-use Rattle.zk_scenario.specs.Forms.{named_of, mode_of, state_of, line_of_words, line_of, named_text, form_words, IsNamed, IsPriority, CanBeSpelled}
+use Rattle.zk_scenario.specs.Forms.{named_of, mode_of, state_of, line_of_words, line_of, named_text, form_words, IsNamed, CanBeSpelled}
 use Rattle.zk_scenario.proofs.Numerals.{priority_of-signed_decimal}
 use Rattle.zk_scenario.proofs.Unspaced.{is_unspaced, words_of-line_text, is_unspaced-name, is_unspaced-signed_decimal}
 

@@ -1,6 +1,6 @@
 use crate::{
-    Form, Line, Named, line_of, number_of, put_cancel, put_end, put_item, put_number, put_queue,
-    put_script, put_submit, put_thread,
+    Form, Line, Named, line_of, number_of, put_cancel, put_end, put_item, put_queue, put_script,
+    put_submit, put_thread,
 };
 use std::test::Fail;
 use zk_base::NoMemory;
@@ -98,7 +98,7 @@ fn tells_forms_from_misspellings(rt: HostRuntime) -> Result<(), Fail> {
 }
 
 #[test]
-fn reads_and_writes_numbers(rt: HostRuntime) -> Result<(), Fail> {
+fn reads_numbers(rt: HostRuntime) -> Result<(), Fail> {
     let table: [(&str, Option<u64>); 8] = [
         ("0", Some(0)),
         ("1000000", Some(1_000_000)),
@@ -111,11 +111,6 @@ fn reads_and_writes_numbers(rt: HostRuntime) -> Result<(), Fail> {
     ];
     for (word, told) in table {
         assert_eq!(rt; number_of(word.as_bytes()), told, "at {word}");
-        if let Some(n) = told {
-            let mut out = Vec::new(rt.alloc());
-            put_number(&mut out, n)?;
-            assert_eq!(rt; out.as_slice(), word.as_bytes());
-        }
     }
     assert_eq!(rt; number_of(b"18446744073709551616"), Some(u64::MAX));
     Ok(())
