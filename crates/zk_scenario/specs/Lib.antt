@@ -1,1 +1,11 @@
+pub mod ByName
+pub mod Forms
+pub mod Keywords
+pub mod Numbers
+pub mod Objects
+pub mod Parts
 pub mod Players
+pub mod Scripts
+pub mod Text
+pub mod Valid
+pub mod Words

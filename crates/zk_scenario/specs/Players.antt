@@ -59,7 +59,7 @@ players decls = places is_thread decls ++ places is_queue decls
 abbrev pub who_of : List Decl → ℕ → Option Who
 who_of decls player =
     option_and_then (λ object. option_map (λ d. record { number = player; prio = prio_of d }) (slice_get decls object))
-        (slice_get (players decls) player)
+    (slice_get (players decls) player)
 
 -- the number of an object among those of its kind, from 0 in declared order
 abbrev pub number_of : List Decl → ℕ → ℕ

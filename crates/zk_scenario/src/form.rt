@@ -1,4 +1,10 @@
-use zk_base::Name;
+ghost use Rattle.std.specs.Prelude.{◌≡◌, ◌∷◌};
+ghost use Rattle.zk_scenario.specs.Forms.{named_of, mode_of, state_of, thread_form, queue_form, item_form, script_form, submit_form, cancel_form, end_form, form_of, formless, line_of};
+
+use crate::keyword::{Keyword, is_unbuilt, keyword_of};
+use crate::numbers::priority_of;
+use crate::words::Words;
+use zk_base::{Name, is_spelled};
 
 /// A word where a name is asked for: spelled as a name, and perhaps reserved.
 #[derive(Clone, Copy, Debug)]
@@ -29,4 +35,160 @@ pub enum Line {
     /// No form of a line, or a wrong spelling.
     Misspelled,
     Formed(Form),
+}
+
+/// What a line, without its line feed, says by its spelling alone.
+pub fn line_of(line: &[u8]) -> Line
+    ensures { result ≡ line_of line.now }
+{
+    let mut words = Words::of(line);
+    let Some(first) = words.next() else {
+        return Line::Misspelled;
+    };
+    let Some(keyword) = keyword_of(first) else {
+        return formless(first);
+    };
+    match form_of(keyword, &mut words) {
+        Some(form) => Line::Formed(form),
+        None => Line::Misspelled,
+    }
+}
+
+fn formless(first: &[u8]) -> Line
+    ensures { result ≡ formless first.now }
+{
+    if is_unbuilt(first) {
+        Line::Unbuilt
+    } else {
+        Line::Misspelled
+    }
+}
+
+fn form_of(keyword: Keyword, words: &mut Words<'_>) -> Option<Form>
+    ensures { result ≡ form_of keyword words.old }
+{
+    match keyword {
+        Keyword::Thread => thread_form(words),
+        Keyword::Queue => queue_form(words),
+        Keyword::Item => item_form(words),
+        Keyword::Script => script_form(words),
+        Keyword::Submit => submit_form(words),
+        Keyword::Cancel => cancel_form(words),
+        Keyword::End => end_form(words),
+    }
+}
+
+fn thread_form(words: &mut Words<'_>) -> Option<Form>
+    ensures { result ≡ thread_form words.old }
+{
+    let name = words.next()?;
+    let prio = words.next()?;
+    let mode = words.next()?;
+    if words.next().is_some() {
+        return None;
+    }
+    Some(Form::Thread(named_of(name)?, priority_of(prio)?, mode_of(mode)?))
+}
+
+fn queue_form(words: &mut Words<'_>) -> Option<Form>
+    ensures { result ≡ queue_form words.old }
+{
+    let name = words.next()?;
+    let prio = words.next()?;
+    let state = words.next()?;
+    if words.next().is_some() {
+        return None;
+    }
+    Some(Form::Queue(named_of(name)?, priority_of(prio)?, state_of(state)?))
+}
+
+fn item_form(words: &mut Words<'_>) -> Option<Form>
+    ensures { result ≡ item_form words.old }
+{
+    let name = words.next()?;
+    if words.next().is_some() {
+        return None;
+    }
+    Some(Form::Item(named_of(name)?))
+}
+
+fn script_form(words: &mut Words<'_>) -> Option<Form>
+    ensures { result ≡ script_form words.old }
+{
+    let owner = words.next()?;
+    if words.next().is_some() {
+        return None;
+    }
+    Some(Form::Script(named_of(owner)?))
+}
+
+fn submit_form(words: &mut Words<'_>) -> Option<Form>
+    ensures { result ≡ submit_form words.old }
+{
+    let item = words.next()?;
+    let Some(queue) = words.next() else {
+        return Some(Form::Submit(named_of(item)?, None));
+    };
+    if words.next().is_some() {
+        return None;
+    }
+    Some(Form::Submit(named_of(item)?, Some(named_of(queue)?)))
+}
+
+fn cancel_form(words: &mut Words<'_>) -> Option<Form>
+    ensures { result ≡ cancel_form words.old }
+{
+    let item = words.next()?;
+    if words.next().is_some() {
+        return None;
+    }
+    Some(Form::Cancel(named_of(item)?))
+}
+
+fn end_form(words: &mut Words<'_>) -> Option<Form>
+    ensures { result ≡ end_form words.old }
+{
+    if words.next().is_some() {
+        return None;
+    }
+    Some(Form::End)
+}
+
+fn named_of(word: &[u8]) -> Option<Named>
+    ensures { result ≡ named_of word.now }
+{
+    if let Some(name) = Name::new(word) {
+        return Some(Named::Plain(name));
+    }
+    if is_spelled(word) {
+        Some(Named::Reserved)
+    } else {
+        None
+    }
+}
+
+fn mode_of(word: &[u8]) -> Option<bool>
+    ensures { result ≡ mode_of word.now }
+{
+    if word == b"user".as_slice() {
+        return Some(true);
+    }
+    if word == b"super".as_slice() {
+        Some(false)
+    } else {
+        None
+    }
+}
+
+fn state_of(word: &[u8]) -> Option<bool>
+    ensures { result ≡ state_of word.now }
+{
+    if word == b"on".as_slice() {
+        return Some(true);
+    }
+    if word == b"off".as_slice() {
+        Some(false)
+    } else {
+        None
+    }
 }

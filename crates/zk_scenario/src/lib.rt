@@ -2,6 +2,21 @@
 #![tactic(auto)]
 
 mod form;
+mod keyword;
+#[cfg(test)]
+mod line_tests;
+mod names;
+mod numbers;
+mod objects;
+mod print;
+mod scenario;
+mod scripts;
 mod types;
+mod words;
 
+pub use form::{Form, Line, Named, line_of};
+pub use numbers::{number_of, priority_of};
+pub use print::{put_cancel, put_end, put_item, put_queue, put_script, put_submit, put_thread};
+pub use scenario::Scenario;
 pub use types::{Call, Decl, Ref, Script};
+pub use words::Words;

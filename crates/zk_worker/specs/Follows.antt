@@ -1,6 +1,6 @@
 use Rattle.std.specs.Prelude.{◌≡◌, ℕ, Bool, true, false, nat_le, if◌then◌else◌, Option, Some, None, List, [], ◌∷◌, length, map, slice_get, option_map}
 use Rattle.zk_base.specs.declared.ids.Entry.{Entry}
-use Rattle.zk_scenario.specs.Valid.{Parts}
+use Rattle.zk_scenario.specs.Parts.{Parts}
 use Rattle.zk_model_work.specs.declared.ops.WorkOp.{WorkOp}
 use Rattle.zk_model_work.specs.declared.ops.WorkReply.{WorkReply}
 use Rattle.zk_worker.specs.declared.steps.TheConstants.{MOST_STEPS}

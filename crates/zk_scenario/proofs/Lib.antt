@@ -1,0 +1,10 @@
+pub mod ByName
+pub mod Cuts
+pub mod Lists
+pub mod Numerals
+pub mod Played
+pub mod Readable
+pub mod Spelled
+pub mod Tables
+pub mod Unspaced
+pub mod Valid

@@ -1,0 +1,102 @@
+-- What a valid scenario gives: its size, the numbers of its objects, and that each call fits.
+use Rattle.std.proofs.Common.{◌≡◌, ℕ, zero, suc, ◌+◌, ◌<◌, ◌≤◌, Bool, true, false, cond, eqb, Option, None, Some, List, [], ◌∷◌, ◌++◌, length, take, slice_get, get_or, count_by, refl, sym, ap, ◌∙◌, ⊎_elim, arith, length-append}
+use Rattle.std.specs.List.{list_all, position}
+use Rattle.std.specs.Option.{option_map_or}
+use Rattle.std.proofs.lemmas.Bool.{and_parts}
+use Rattle.std.proofs.lemmas.List.Quantifiers.{position-Some}
+use Rattle.std.proofs.lemmas.List.Sums.{sum_by-append}
+use Rattle.std.proofs.lemmas.Option.{slice_get-get_or}
+use Rattle.zk_scenario.specs.declared.types.Decl.{Decl}
+use Rattle.zk_scenario.specs.declared.types.Decl.TheVariants.{Thread, Queue, Item}
+use Rattle.zk_scenario.specs.declared.types.Call.{Call}
+use Rattle.zk_scenario.specs.declared.types.Script.{Script}
+use Rattle.zk_scenario.specs.Objects.{is_at}
+use Rattle.zk_scenario.specs.Parts.{Parts}
+use Rattle.zk_scenario.specs.Players.{is_thread, is_queue, is_item, same_kind, players, places, number_of, calls_of}
+use Rattle.zk_scenario.specs.Scripts.{script_of}
+use Rattle.zk_scenario.specs.Valid.{IsValid, call_fits, script_fits, player_count}
+use Rattle.zk_scenario.proofs.Played.{calls_of-none, calls_of-some}
+use Rattle.zk_scenario.proofs.Tables.{length-places}
+
+-- the players of the table are as many as their count
+pub length-players : (decls : List Decl) → length (players decls) ≡ player_count decls
+length-players decls = omega (arith, length-append (places is_thread decls) (places is_queue decls), length-places is_thread decls, length-places is_queue decls)
+
+-- a count over a list, from its first element on
+pub count_by-cons : {X : Type 0} (p : X → Bool) (x : X) (xs : List X) → count_by p (x ∷ xs) ≡ cond (p x) 1 0 + count_by p xs
+count_by-cons p x xs = sum_by-append (λ y. cond (p y) 1 0) (x ∷ []) xs ∙ ap (λ n. n + count_by p xs) (omega arith)
+
+-- each declaration is of one kind
+length-kinds : (ds : List Decl) → length ds ≡ player_count ds + count_by is_item ds
+length-kinds [] = refl
+length-kinds (Thread name prio user ∷ ds) =
+    let d = Thread name prio user in omega (arith, length-kinds ds, count_by-cons is_thread d ds, count_by-cons is_queue d ds, count_by-cons is_item d ds)
+length-kinds (Queue name prio on ∷ ds) =
+    let d = Queue name prio on in omega (arith, length-kinds ds, count_by-cons is_thread d ds, count_by-cons is_queue d ds, count_by-cons is_item d ds)
+length-kinds (Item name ∷ ds) =
+    let d = Item name in omega (arith, length-kinds ds, count_by-cons is_thread d ds, count_by-cons is_queue d ds, count_by-cons is_item d ds)
+
+-- a valid scenario has at most 320 declarations
+pub length-decls : (p : Parts) → IsValid p → length p.decls ≤ 320
+length-decls p valid = omega (arith, length-kinds p.decls, valid.players, valid.items)
+
+-- an element that passes counts behind those before it
+count_by-take-lt : {X : Type 0} (p : X → Bool) (xs : List X) (k : ℕ) (x : X) → slice_get xs k ≡ Some x → p x ≡ true → count_by p (take k xs) < count_by p xs
+count_by-take-lt p [] k x e yep = absurd (cc)
+count_by-take-lt p (y ∷ xs) zero x e yep =
+    let same : p y ≡ true = ap (λ o. option_map_or p o false) e ∙ yep in
+    omega (arith, count_by-cons p y xs, ap {B = ℕ} (λ b. cond b 1 0) same)
+count_by-take-lt p (y ∷ xs) (suc k) x e yep = omega (arith, count_by-take-lt p xs k x e yep, count_by-cons p y xs, count_by-cons p y (take k xs))
+
+below : (test : Decl → Bool) (decls : List Decl) (object : ℕ) → ((d : Decl) → test d ≡ true → same_kind d ≡ test) → is_at test decls object ≡ true → number_of decls object < count_by test decls
+below test decls object kind at = at_some (slice_get decls object) refl at where
+  at_some : (o : Option Decl) → slice_get decls object ≡ o → option_map_or test o false ≡ true → option_map_or (λ d. count_by (same_kind d) (take object decls)) o 0 < count_by test decls
+  at_some None e here = absurd (cc)
+  at_some (Some d) e here = omega (arith, ap (λ p. count_by p (take object decls)) (kind d here), count_by-take-lt test decls object d e here)
+
+-- the number of an item is below the count of the items
+pub number_of-item : (decls : List Decl) (object : ℕ) → is_at is_item decls object ≡ true → number_of decls object < count_by is_item decls
+number_of-item decls object at = below is_item decls object kind at where
+  kind : (d : Decl) → is_item d ≡ true → same_kind d ≡ is_item
+  kind (Thread name prio user) e = absurd (cc)
+  kind (Queue name prio on) e = absurd (cc)
+  kind (Item name) e = refl
+
+-- the number of a queue is below the count of the queues
+pub number_of-queue : (decls : List Decl) (object : ℕ) → is_at is_queue decls object ≡ true → number_of decls object < count_by is_queue decls
+number_of-queue decls object at = below is_queue decls object kind at where
+  kind : (d : Decl) → is_queue d ≡ true → same_kind d ≡ is_queue
+  kind (Thread name prio user) e = absurd (cc)
+  kind (Queue name prio on) e = refl
+  kind (Item name) e = absurd (cc)
+
+-- the number of a thread is below the count of the threads
+pub number_of-thread : (decls : List Decl) (object : ℕ) → is_at is_thread decls object ≡ true → number_of decls object < count_by is_thread decls
+number_of-thread decls object at = below is_thread decls object kind at where
+  kind : (d : Decl) → is_thread d ≡ true → same_kind d ≡ is_thread
+  kind (Thread name prio user) e = refl
+  kind (Queue name prio on) e = absurd (cc)
+  kind (Item name) e = absurd (cc)
+
+-- an element of a list of which all pass
+pub list_all-at : {X : Type 0} (p : X → Bool) (xs : List X) (k : ℕ) (x : X) → list_all p xs ≡ true → slice_get xs k ≡ Some x → p x ≡ true
+list_all-at p [] k x all e = absurd (cc)
+list_all-at p (y ∷ xs) zero x all e = ap (λ o. option_map_or p o false) (sym e) ∙ (and_parts (p y) (list_all p xs) all).0
+list_all-at p (y ∷ xs) (suc k) x all e = list_all-at p xs k x (and_parts (p y) (list_all p xs) all).1 e
+
+-- each call of an object's script fits
+pub call_fits-calls_of : (p : Parts) (owner : ℕ) → IsValid p → list_all (call_fits p.decls) (calls_of p.scripts owner) ≡ true
+call_fits-calls_of p owner valid = by_place (script_of p.scripts owner) refl where
+  by_place : (o : Option ℕ) → script_of p.scripts owner ≡ o → list_all (call_fits p.decls) (calls_of p.scripts owner) ≡ true
+  by_place None e = ap (list_all (call_fits p.decls)) (calls_of-none p.scripts owner e)
+  by_place (Some k) e =
+      let d : Script = record { owner = 0; calls = [] } in
+      let script = get_or p.scripts k d in
+      let within = (position-Some (λ s. eqb s.owner owner) p.scripts k d e).0 in
+      let fits = list_all-at (script_fits p.decls) p.scripts k script valid.fit (slice_get-get_or p.scripts k d within) in
+      ap (list_all (call_fits p.decls)) (calls_of-some p.scripts owner k d e) ∙ (and_parts (is_at is_thread p.decls script.owner) (list_all (call_fits p.decls) script.calls) fits).1
+
+-- each script is played by a thread
+pub is_thread-owner : (p : Parts) (n : ℕ) (script : Script) → IsValid p → slice_get p.scripts n ≡ Some script → is_at is_thread p.decls script.owner ≡ true
+is_thread-owner p n script valid e =
+    (and_parts (is_at is_thread p.decls script.owner) (list_all (call_fits p.decls) script.calls) (list_all-at (script_fits p.decls) p.scripts n script valid.fit e)).0

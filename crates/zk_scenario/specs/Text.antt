@@ -1,0 +1,45 @@
+use Rattle.std.specs.Prelude.{ℕ, ℤ, Bool, true, false, List, [], ◌∷◌, Option, option_to_list, codes}
+use Rattle.std.specs.List.{join_with_byte}
+use Rattle.std.specs.Fmt.{signed_decimal}
+
+-- the line of these words: one space between each two
+abbrev pub line_text : List (List ℕ) → List ℕ
+line_text words = join_with_byte 32 words
+
+-- a thread's mode
+abbrev pub mode_text : Bool → List ℕ
+mode_text true = codes "user"
+mode_text false = codes "super"
+
+-- whether a queue is started at first
+abbrev pub state_text : Bool → List ℕ
+state_text true = codes "on"
+state_text false = codes "off"
+
+-- the declaration of a thread
+abbrev pub thread_words : List ℕ → ℤ → Bool → List (List ℕ)
+thread_words name prio user = codes "thread" ∷ name ∷ signed_decimal prio ∷ mode_text user ∷ []
+
+-- the declaration of a work queue
+abbrev pub queue_words : List ℕ → ℤ → Bool → List (List ℕ)
+queue_words name prio on = codes "queue" ∷ name ∷ signed_decimal prio ∷ state_text on ∷ []
+
+-- the declaration of a work item
+abbrev pub item_words : List ℕ → List (List ℕ)
+item_words name = codes "item" ∷ name ∷ []
+
+-- the head of a script
+abbrev pub script_words : List ℕ → List (List ℕ)
+script_words owner = codes "script" ∷ owner ∷ []
+
+-- the submission of an item, to the queue that is named, if one is
+abbrev pub submit_words : List ℕ → Option (List ℕ) → List (List ℕ)
+submit_words item queue = codes "submit" ∷ item ∷ option_to_list queue
+
+-- the cancellation of an item
+abbrev pub cancel_words : List ℕ → List (List ℕ)
+cancel_words item = codes "cancel" ∷ item ∷ []
+
+-- the end of a script
+abbrev pub end_words : List (List ℕ)
+end_words = codes "end" ∷ []

@@ -1,0 +1,123 @@
+ghost use Rattle.std.specs.Prelude.{◌≡◌, ℕ, ◌++◌, length, slice_get};
+ghost use Rattle.zk_scenario.specs.Parts.{Parts};
+ghost use Rattle.zk_scenario.specs.Players.{is_thread, is_queue, is_item, prio_of, places, players, who_of, number_of, calls_of};
+ghost use Rattle.zk_scenario.specs.Valid.{IsValid};
+
+use crate::objects::Objects;
+use crate::scripts::Scripts;
+use crate::{Call, Decl, Script};
+use std::marker::Model;
+use zk_base::Who;
+
+/// A scenario: declarations, and scripts over them. There is none but what has a text in the grammar.
+///
+/// Objects are numbered from 0 in declared order; players are the threads and then the workers of the queues.
+#[derive(Drop)]
+pub struct Scenario {
+    objects: Objects,
+    scripts: Scripts,
+}
+
+impl Model for Scenario {
+    ghost use Rattle.zk_scenario.specs.Parts.{Parts};
+    ghost use Rattle.zk_scenario.specs.Valid.{IsValid};
+
+    ghost Value = { Parts };
+
+    ghost view = { λ a. record { decls = a.objects; scripts = a.scripts } };
+
+    ghost invariant = { λ a. IsValid (record { decls = a.objects; scripts = a.scripts }) };
+}
+
+impl Scenario {
+    /// The declarations, in the written order.
+    pub fn decls(&self) -> &[Decl]
+        ensures all { result.now ≡ self.now.decls }
+        ensures valid { IsValid self.now }
+    {
+        self.objects.decls()
+    }
+
+    /// The scripts, in the written order.
+    pub fn scripts(&self) -> &[Script]
+        ensures { result.now ≡ self.now.scripts }
+    {
+        self.scripts.scripts()
+    }
+
+    /// The objects of the threads, in declared order.
+    pub fn threads(&self) -> &[u32]
+        ensures { result.now ≡ places is_thread self.now.decls }
+    {
+        self.objects.threads()
+    }
+
+    /// The objects of the queues, in declared order.
+    pub fn queues(&self) -> &[u32]
+        ensures { result.now ≡ places is_queue self.now.decls }
+    {
+        self.objects.queues()
+    }
+
+    /// The objects of the items, in declared order.
+    pub fn items(&self) -> &[u32]
+        ensures { result.now ≡ places is_item self.now.decls }
+    {
+        self.objects.items()
+    }
+
+    /// The number of an object among those of its kind, from 0 in declared order.
+    pub fn number(&self, object: u32) -> u32
+        ensures { result ≡ number_of self.now.decls object }
+    {
+        self.objects.number(object)
+    }
+
+    /// The calls of an object's script; what has no script has an empty one.
+    pub fn calls(&self, owner: u32) -> &[Call]
+        ensures { result.now ≡ calls_of self.now.scripts owner }
+    {
+        self.scripts.calls(owner)
+    }
+
+    /// How many players there are.
+    pub fn players(&self) -> u32
+        ensures { result ≡ length (players self.now.decls) }
+    {
+        (self.objects.threads().len() + self.objects.queues().len()) as u32
+    }
+
+    /// The player of a number.
+    pub fn who(&self, player: u32) -> Option<Who>
+        ensures { result ≡ who_of self.now.decls player }
+    {
+        let object = of_either(self.objects.threads(), self.objects.queues(), player)?;
+        let decl = self.objects.decls().get(object as usize)?;
+        Some(Who {
+            number: player,
+            prio: prio_of(decl),
+        })
+    }
+}
+
+/// The number at a place in the one list or, past its end, in the other behind it.
+fn of_either(first: &[u32], second: &[u32], place: u32) -> Option<u32>
+    ensures { result ≡ slice_get (first.now ++ second.now) place }
+{
+    let place = place as usize;
+    if place < first.len() {
+        return first.get(place).copied();
+    }
+    second.get(place - first.len()).copied()
+}
+
+/// The priority of a player: of a thread, or of the worker of a queue.
+fn prio_of(decl: &Decl) -> i8
+    ensures { result ≡ prio_of decl.now }
+{
+    match decl {
+        Decl::Thread(_, prio, _) => *prio,
+        Decl::Queue(_, prio, _) => *prio,
+        Decl::Item(_) => 0,
+    }
+}

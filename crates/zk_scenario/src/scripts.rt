@@ -1,0 +1,101 @@
+ghost use Rattle.std.specs.Prelude.{◌≡◌, ℕ, ◌+◌, ◌-◌, ◌^◌, ◌<◌, None, [], ◌∷◌, ◌++◌, OnOk, OnErr, length, slice_get, vec_len};
+ghost use Rattle.std.specs.Option.{option_flatten};
+ghost use Rattle.zk_scenario.specs.Players.{calls_of};
+ghost use Rattle.zk_scenario.specs.Scripts.{script_of};
+
+use crate::objects::{make_room, put};
+use crate::{Call, Script};
+use std::alloc::Global;
+use std::marker::Model;
+use zk_base::NoMemory;
+
+/// The scripts in the written order, with the place of each object's script.
+#[derive(Drop)]
+pub struct Scripts {
+    scripts: Vec<Script>,
+    // Under an object's number the place of its script. It ends behind the last object that has one.
+    by_owner: Vec<Option<u32>>,
+}
+
+impl Model for Scripts {
+    ghost use Rattle.std.specs.Prelude.{List};
+    ghost use Rattle.zk_scenario.specs.declared.types.Script.{Script};
+    ghost use Rattle.zk_scenario.specs.Scripts.{IsByOwner};
+
+    ghost Value = { List Script };
+
+    ghost view = { λ a. a.scripts.items };
+
+    ghost invariant = { λ a. IsByOwner a.scripts.items a.by_owner.items };
+}
+
+impl Scripts {
+    /// No script. It takes no memory.
+    pub fn new(alloc: Global) -> Scripts
+        ensures { result ≡ [] }
+    {
+        Scripts {
+            scripts: Vec::new(alloc),
+            by_owner: Vec::new(alloc),
+        }
+    }
+
+    pub fn scripts(&self) -> &[Script]
+        ensures all { result.now ≡ self.now }
+        ensures few { length self.now < 2 ^ 32 }
+    {
+        &self.scripts
+    }
+
+    /// The place of an object's script.
+    pub fn find(&self, owner: u32) -> Option<u32>
+        ensures { result ≡ script_of self.now owner }
+    {
+        place_under(&self.by_owner, owner)
+    }
+
+    /// The calls of an object's script; what has no script has an empty one.
+    pub fn calls(&self, owner: u32) -> &[Call]
+        ensures { result.now ≡ calls_of self.now owner }
+    {
+        match place_under(&self.by_owner, owner) {
+            Some(place) => {
+                let script = &self.scripts[place as usize];
+                script.calls.items()
+            }
+            None => &[],
+        }
+    }
+
+    /// One script more, of an object that has none.
+    pub fn push(&mut self, script: Script) -> Result<(), NoMemory>
+        requires few { length self.old < 2 ^ 32 - 1 }
+        requires fresh { script_of self.old script.owner ≡ None }
+        ensures ok { OnOk result (self.new ≡ self.old ++ script ∷ []) }
+        ensures unchanged { OnErr result (self.new ≡ self.old) }
+    {
+        make_room(&mut self.scripts)?;
+        widen(&mut self.by_owner, script.owner)?;
+        let place = self.scripts.len() as u32;
+        self.by_owner[script.owner as usize] = Some(place);
+        put(&mut self.scripts, script);
+        Ok(())
+    }
+}
+
+fn place_under(by_owner: &[Option<u32>], owner: u32) -> Option<u32>
+    ensures { result ≡ option_flatten (slice_get by_owner.now owner) }
+{
+    by_owner.get(owner as usize).copied().flatten()
+}
+
+/// Makes the table so long that it has a place for this owner, with nothing there as long as nothing is put.
+fn widen(by_owner: &mut Vec<Option<u32>>, owner: u32) -> Result<(), NoMemory>
+    ensures long { OnOk result (owner < vec_len by_owner.new) }
+    ensures same { (k : ℕ) → option_flatten (slice_get by_owner.new.items k) ≡ option_flatten (slice_get by_owner.old.items k) }
+{
+    while by_owner.len() <= owner as usize {
+        by_owner.push(None)?;
+    }
+    Ok(())
+}
