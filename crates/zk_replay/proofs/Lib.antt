@@ -1,3 +1,5 @@
 pub mod Places
 pub mod Readiness
 pub mod Laps
+pub mod Beginning
+pub mod Ends

@@ -1,3 +1,5 @@
 pub mod RoundRobin
 pub mod Ready
 pub mod Turning
+pub mod Replay
+pub mod Ending
