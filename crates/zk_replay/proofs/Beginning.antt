@@ -120,6 +120,26 @@ numbers-starts s (suc n) within p at is =
     by_place new fresh before (inr both) =
         ap (λ (a : At). a.who.number) (sym both.1) ∙ fresh.number_is ∙ sym (both.0 ∙ length-starts s n (omega arith))
 
+starts-there : (s : Parts) (n : ℕ) → n ≤ length (players s.decls) → (p : ℕ) (at : At) → slice_get (starts s n) p ≡ Some at → start_at s p ≡ Some at
+starts-there s zero within p at is = absurd (cc)
+starts-there s (suc n) within p at is =
+    let some = start_at-some s n (omega arith) in
+    let here : starts s (suc n) ≡ starts s n ++ some.0 ∷ [] = ap (λ (o : Option At). starts s n ++ option_to_list o) some.1 in
+    by_place some.0 some.1 (starts-there s n (omega arith) p at) (at-end (starts s n) some.0 at p (ap (λ (l : List At). slice_get l p) (sym here) ∙ is))
+  where
+    by_place : (new : At) → start_at s n ≡ Some new → (slice_get (starts s n) p ≡ Some at → start_at s p ≡ Some at) → (slice_get (starts s n) p ≡ Some at) ⊎ ((p ≡ length (starts s n)) × (new ≡ at)) → start_at s p ≡ Some at
+    by_place new made before (inl there) = before there
+    by_place new made before (inr both) =
+        ap (start_at s) (both.0 ∙ length-starts s n (omega arith)) ∙ made ∙ ap (λ (a : At). Some a) both.1
+
+-- each player of the first world is where it starts
+pub first-there : (s : Parts) (p : ℕ) (at : At) → slice_get (first s).players p ≡ Some at → start_at s p ≡ Some at
+first-there s p at is = starts-there s (length (players s.decls)) (omega arith) p at is
+
+-- the first world has all players
+pub first-players : (s : Parts) → length (first s).players ≡ length (players s.decls)
+first-players s = length-starts s (length (players s.decls)) (omega arith)
+
 -- the first world of a valid scenario is ready
 pub ready-first : (s : Parts) → IsValid s → IsReady s (first s)
 ready-first s valid =

@@ -3,3 +3,5 @@ pub mod Ready
 pub mod Turning
 pub mod Replay
 pub mod Ending
+pub mod Tending
+pub mod Laws
