@@ -1,0 +1,3 @@
+pub mod RoundRobin
+pub mod Ready
+pub mod Turning
