@@ -1,5 +1,6 @@
 pub mod ByName
 pub mod Cuts
+pub mod Feeds
 pub mod Lists
 pub mod Numerals
 pub mod Played

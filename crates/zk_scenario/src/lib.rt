@@ -3,13 +3,16 @@
 
 mod form;
 mod keyword;
+mod lines;
 mod names;
 mod numbers;
 mod objects;
 mod print;
+mod refused;
 mod scenario;
 mod scripts;
 mod types;
+mod verdict;
 mod words;
 
 pub use form::{Form, Line, Named, line_of};
@@ -17,6 +20,7 @@ pub use numbers::{number_of, priority_of};
 pub use print::{
     put_cancel, put_end, put_item, put_number, put_queue, put_script, put_submit, put_thread,
 };
+pub use refused::{ScenarioRefused, Why};
 pub use scenario::Scenario;
 pub use types::{Call, Decl, Ref, Script};
 pub use words::Words;
