@@ -1,6 +1,7 @@
 pub mod ByName
 pub mod Cuts
 pub mod Feeds
+pub mod Kept
 pub mod Lists
 pub mod Numerals
 pub mod Played

@@ -1,6 +1,7 @@
 pub mod ByName
 pub mod Forms
 pub mod Grammar
+pub mod Keeping
 pub mod Keywords
 pub mod Numbers
 pub mod Objects

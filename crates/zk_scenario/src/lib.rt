@@ -8,6 +8,7 @@ mod names;
 mod numbers;
 mod objects;
 mod print;
+mod reader;
 mod refused;
 mod scenario;
 mod scripts;

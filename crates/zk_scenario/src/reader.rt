@@ -1,0 +1,131 @@
+ghost use Rattle.std.specs.Prelude.{◌≡◌, false, None, Some, Ok, Err, OnOk, OnErr, IfOk, IsSome, MatchOption, [], option_map};
+ghost use Rattle.zk_scenario.specs.Forms.{IsUnreserved, named_text};
+ghost use Rattle.zk_scenario.specs.Grammar.{read_line, taken, unfed, ended, at_end, Answers};
+ghost use Rattle.zk_scenario.specs.Objects.{object_of};
+ghost use Rattle.zk_scenario.specs.Players.{name_of};
+ghost use Rattle.zk_scenario.specs.Reading.{start, declared, begun, called, closed, with_call, parts_of};
+ghost use Rattle.zk_scenario.specs.Valid.{IsValid};
+ghost use Rattle.zk_scenario.specs.Verdict.{has_begun, has_script, is_misplaced, is_past_limit, verdict, after};
+
+use crate::form::{Form, Line, Named, line_of};
+use crate::objects::Objects;
+use crate::refused::Why;
+use crate::scripts::Scripts;
+use crate::types::{Call, Decl, Script};
+use crate::verdict::{is_misnamed, is_out_of_range, is_unbuilt, named, object, reference};
+use std::alloc::Global;
+use std::marker::Model;
+use zk_base::{Listed, Name, NoMemory};
+
+const MOST_PLAYERS: usize = 64;
+const MOST_QUEUES: usize = 8;
+const MOST_ITEMS: usize = 256;
+const MOST_CALLS: u32 = 4096;
+
+/// What the lines read so far said.
+#[derive(Drop)]
+pub struct Reader {
+    objects: Objects,
+    // The scripts that have ended.
+    scripts: Scripts,
+    // The script that is open.
+    current: Option<Script>,
+    // How many calls all scripts have, the open one too.
+    calls: u32,
+}
+
+impl Model for Reader {
+    ghost use Rattle.zk_scenario.specs.Reading.{Reading};
+    ghost use Rattle.zk_scenario.specs.Keeping.{IsCounted};
+
+    ghost Value = { Reading };
+
+    ghost view = { λ a. record { decls = a.objects; scripts = a.scripts; current = a.current } };
+
+    ghost invariant = { λ a.
+        IsCounted (record { decls = a.objects; scripts = a.scripts; current = a.current }) a.calls };
+}
+
+impl Reader {
+    /// Nothing read but the header. It takes no memory.
+    pub fn new(alloc: Global) -> Reader
+        ensures { result ≡ start }
+    {
+        Reader {
+            objects: Objects::new(alloc),
+            scripts: Scripts::new(alloc),
+            current: None,
+            calls: 0,
+        }
+    }
+
+    fn has_begun(&self) -> bool
+        ensures { result ≡ has_begun self.now }
+    {
+        self.current.is_some() || 0 < self.scripts.scripts().len()
+    }
+
+    fn has_script(&self, owner: &Named) -> bool
+        ensures { result ≡ has_script self.now owner.now }
+    {
+        match named(&self.objects, owner) {
+            Some(owner) => self.scripts.find(owner).is_some(),
+            None => false,
+        }
+    }
+
+    /// Whether the line may not stand there.
+    fn is_misplaced(&self, form: &Form) -> bool
+        ensures { result ≡ is_misplaced self.now form.now }
+    {
+        match form {
+            Form::Thread(_, _, _) => self.has_begun(),
+            Form::Queue(_, _, _) => self.has_begun(),
+            Form::Item(_) => self.has_begun(),
+            Form::Script(owner) => self.current.is_some() || self.has_script(owner),
+            Form::Submit(_, _) => !self.current.is_some(),
+            Form::Cancel(_) => !self.current.is_some(),
+            Form::End => !self.current.is_some(),
+        }
+    }
+
+    /// Whether the line passes a limit.
+    fn is_past_limit(&self, form: &Form) -> bool
+        ensures { result ≡ is_past_limit self.now form.now }
+    {
+        match form {
+            Form::Thread(_, _, _) => MOST_PLAYERS <= self.objects.player_count(),
+            Form::Queue(_, _, _) => {
+                MOST_PLAYERS <= self.objects.player_count()
+                    || MOST_QUEUES <= self.objects.queue_count()
+            }
+            Form::Item(_) => MOST_ITEMS <= self.objects.item_count(),
+            Form::Script(_) => false,
+            Form::Submit(_, _) => MOST_CALLS <= self.calls,
+            Form::Cancel(_) => MOST_CALLS <= self.calls,
+            Form::End => false,
+        }
+    }
+
+    /// The first reason that applies to a line behind those read.
+    fn verdict(&self, form: &Form) -> Option<Why>
+        ensures { result ≡ verdict self.now form.now }
+    {
+        if is_unbuilt(&self.objects, form) {
+            return Some(Why::Unbuilt);
+        }
+        if self.is_misplaced(form) {
+            return Some(Why::Order);
+        }
+        if is_out_of_range(form) {
+            return Some(Why::Number);
+        }
+        if is_misnamed(&self.objects, form) {
+            return Some(Why::Name);
+        }
+        if self.is_past_limit(form) {
+            return Some(Why::Limit);
+        }
+        None
+    }
+}
