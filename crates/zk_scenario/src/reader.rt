@@ -128,4 +128,67 @@ impl Reader {
         }
         None
     }
+
+    /// One declaration more.
+    fn declare(&mut self, alloc: Global, decl: Decl) -> Result<(), NoMemory>
+        requires fresh { object_of self.old.decls (name_of decl) ≡ None }
+        requires valid { IsValid (parts_of (declared self.old decl)) }
+        ensures ok { OnOk result (self.new ≡ declared self.old decl) }
+        ensures unchanged { OnErr result (self.new ≡ self.old) }
+    {
+        self.objects.push(alloc, decl)
+    }
+
+    /// A script begins.
+    fn begin(&mut self, alloc: Global, owner: u32)
+        requires between { self.old.current ≡ None }
+        requires valid { IsValid (parts_of (begun self.old (record { owner = owner; calls = [] }))) }
+        ensures { self.new ≡ begun self.old (record { owner = owner; calls = [] }) }
+    {
+        self.current = Some(Script {
+            owner,
+            calls: Listed::new(alloc),
+        });
+    }
+
+    /// One call more in the open script.
+    fn call(&mut self, call: Call) -> Result<(), NoMemory>
+        requires inside { IsSome self.old.current }
+        requires valid { IsValid (parts_of (called self.old call)) }
+        ensures ok { OnOk result (self.new ≡ called self.old call) }
+        ensures unchanged { OnErr result (self.new ≡ self.old) }
+    {
+        push_call(&mut self.current, call)?;
+        self.calls += 1;
+        Ok(())
+    }
+
+    /// The open script ends.
+    fn end(&mut self) -> Result<(), NoMemory>
+        requires { IsSome self.old.current }
+        ensures ok { OnOk result (self.new ≡ closed self.old) }
+        ensures unchanged { OnErr result (self.new ≡ self.old) }
+    {
+        let Some(script) = self.current.take() else {
+            return Ok(());
+        };
+        match self.scripts.push(script) {
+            Ok(()) => Ok(()),
+            Err(script) => {
+                self.current = Some(script);
+                Err(NoMemory)
+            }
+        }
+    }
+}
+
+/// One call more in the script, if there is one.
+fn push_call(current: &mut Option<Script>, call: Call) -> Result<(), NoMemory>
+    ensures ok { OnOk result (current.new ≡ option_map (with_call call) current.old) }
+    ensures unchanged { OnErr result (current.new ≡ current.old) }
+{
+    match current {
+        Some(script) => script.calls.push(call),
+        None => Ok(()),
+    }
 }
