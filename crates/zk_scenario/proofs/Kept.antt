@@ -195,3 +195,33 @@ IsValid-after r f e valid = by_form f (Passes-verdict r f e) where
       let named_item = not-false (names is_item r.decls item) p.well_named in
       called_fits r (call.Cancel (ref r.decls item)) valid p.placed (at_object is_item r.decls (named r.decls item) named_item) p.within
   by_form form.End p = subst (λ ss. IsValid (record { decls = r.decls; scripts = ss })) (sym (append-nil (all_scripts r))) valid
+
+-- the name of a new object isn't reserved, and no other's
+pub untaken : (decls : List Decl) (name : Named) → is_taken decls name ≡ false → IsUnreserved name × (object_of decls (named_text name) ≡ None)
+untaken decls (Plain name) e = (tt, is_some-none (object_of decls name) e)
+untaken decls Reserved e = absurd (cc)
+
+-- a name of an object isn't reserved
+pub unreserved-names : (kind : Decl → Bool) (decls : List Decl) (name : Named) → names kind decls name ≡ true → IsUnreserved name
+unreserved-names kind decls (Plain name) e = tt
+unreserved-names kind decls Reserved e = absurd (cc)
+
+-- a line to which no reason applies has its numbers in range and no reserved name
+pub IsPlain-verdict : (r : Reading) (f : Form) → verdict r f ≡ None → IsPlain f
+IsPlain-verdict r f e = by_form f (Passes-verdict r f e) where
+  by_form : (f : Form) → Passes r f → IsPlain f
+  by_form (form.Thread name prio user) p = ((untaken r.decls name p.well_named).0, not-false (is_some prio) p.in_range)
+  by_form (form.Queue name prio on) p = ((untaken r.decls name p.well_named).0, not-false (is_some prio) p.in_range)
+  by_form (form.Item name) p = (untaken r.decls name p.well_named).0
+  by_form (form.Script owner) p = unreserved-names is_thread r.decls owner (not-false (names is_thread r.decls owner) p.well_named)
+  by_form (form.Submit item None) p = (unreserved-names is_item r.decls item (not-false (names is_item r.decls item) p.well_named), tt)
+  by_form (form.Submit item (Some queue)) p =
+      let both = and_parts (names is_item r.decls item) (names is_queue r.decls queue) (not-false (names is_item r.decls item && names is_queue r.decls queue) p.well_named) in
+      (unreserved-names is_item r.decls item both.0, unreserved-names is_queue r.decls queue both.1)
+  by_form (form.Cancel item) p = unreserved-names is_item r.decls item (not-false (names is_item r.decls item) p.well_named)
+  by_form form.End p = tt
+
+-- the same, where what was read after is given by an equation
+pub IsValid-after-is : (before now next : Reading) (f : Form) → before ≡ now → IsValid (parts_of before) → verdict now f ≡ None → after now f ≡ next → IsValid (parts_of next)
+IsValid-after-is before now next f view valid e is =
+    subst (λ r. IsValid (parts_of r)) is (IsValid-after now f e (subst (λ r. IsValid (parts_of r)) view valid))

@@ -18,6 +18,11 @@ abbrev pub judged : Reading → Form → Option Why → Result Reading Why
 judged r form None = Ok (after r form)
 judged r form (Some reason) = Err reason
 
+-- the same, by the reason of a refusal and what the lines say where there is none
+abbrev pub told : Option Why → Reading → Result Reading Why
+told None r = Ok r
+told (Some reason) r = Err reason
+
 -- a line behind those before it, by what its spelling says
 abbrev pub taken : Reading → Line → Result Reading Why
 taken r line.Unbuilt = Err why.Unbuilt

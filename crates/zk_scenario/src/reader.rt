@@ -1,6 +1,6 @@
-ghost use Rattle.std.specs.Prelude.{◌≡◌, false, None, Some, Ok, Err, OnOk, OnErr, IfOk, IsSome, MatchOption, [], option_map};
-ghost use Rattle.zk_scenario.specs.Forms.{IsUnreserved, named_text};
-ghost use Rattle.zk_scenario.specs.Grammar.{read_line, taken, unfed, ended, at_end, Answers};
+ghost use Rattle.std.specs.Prelude.{◌≡◌, false, None, Some, Ok, Err, OnOk, OnErr, IfOk, IsSome, is_some, MatchOption, [], option_map};
+ghost use Rattle.zk_scenario.specs.Forms.{IsUnreserved, named_text, line_of};
+ghost use Rattle.zk_scenario.specs.Grammar.{read_line, judged, told, unfed};
 ghost use Rattle.zk_scenario.specs.Objects.{object_of};
 ghost use Rattle.zk_scenario.specs.Players.{name_of};
 ghost use Rattle.zk_scenario.specs.Reading.{start, declared, begun, called, closed, with_call, parts_of};
@@ -129,6 +129,90 @@ impl Reader {
         None
     }
 
+    /// Reads a line without its line feed. The answer is the reason why it is refused, if it is.
+    ///
+    /// After a refusal, and for want of memory, what was read before stands as it was.
+    pub fn read_line(&mut self, alloc: Global, line: &[u8]) -> Result<Option<Why>, NoMemory>
+        ensures { IfOk result (λ refusal. read_line self.old line.now ≡ told refusal self.new) }
+    {
+        match line_of(line) {
+            Line::Unbuilt => Ok(Some(Why::Unbuilt)),
+            Line::Misspelled => Ok(Some(Why::Line)),
+            Line::Formed(form) => self.read_form(alloc, &form),
+        }
+    }
+
+    fn read_form(&mut self, alloc: Global, form: &Form) -> Result<Option<Why>, NoMemory>
+        ensures { IfOk result
+            (λ refusal. judged self.old form.now (verdict self.old form.now) ≡ told refusal self.new) }
+    {
+        if let Some(reason) = self.verdict(form) {
+            return Ok(Some(reason));
+        }
+        self.accept(alloc, form)?;
+        Ok(None)
+    }
+
+    /// Why a last line without its line feed is refused.
+    pub fn unfed(&self, line: &[u8]) -> Why
+        ensures { result ≡ unfed self.now (line_of line.now) }
+    {
+        match line_of(line) {
+            Line::Unbuilt => Why::Unbuilt,
+            Line::Misspelled => Why::Line,
+            Line::Formed(form) => {
+                if is_unbuilt(&self.objects, &form) {
+                    Why::Unbuilt
+                } else {
+                    Why::Line
+                }
+            }
+        }
+    }
+
+    /// Whether a script is open.
+    pub fn is_open(&self) -> bool
+        ensures { result ≡ is_some self.now.current }
+    {
+        self.current.is_some()
+    }
+
+    /// Takes a line to which no reason applies.
+    fn accept(&mut self, alloc: Global, form: &Form) -> Result<(), NoMemory>
+        requires { verdict self.old form.now ≡ None }
+        ensures { OnOk result (self.new ≡ after self.old form.now) }
+    {
+        let _valid = &self.calls;
+        match form {
+            Form::Thread(name, prio, user) => {
+                self.declare(alloc, Decl::Thread(plain(name), prio.unwrap_or(0), *user))
+            }
+            Form::Queue(name, prio, on) => {
+                self.declare(alloc, Decl::Queue(plain(name), prio.unwrap_or(0), *on))
+            }
+            Form::Item(name) => self.declare(alloc, Decl::Item(plain(name))),
+            Form::Script(owner) => {
+                let owner = object(&self.objects, owner);
+                self.begin(alloc, owner);
+                Ok(())
+            }
+            Form::Submit(item, None) => {
+                let item = reference(&self.objects, item);
+                self.call(Call::Submit(item, None))
+            }
+            Form::Submit(item, Some(queue)) => {
+                let item = reference(&self.objects, item);
+                let queue = reference(&self.objects, queue);
+                self.call(Call::Submit(item, Some(queue)))
+            }
+            Form::Cancel(item) => {
+                let item = reference(&self.objects, item);
+                self.call(Call::Cancel(item))
+            }
+            Form::End => self.end(),
+        }
+    }
+
     /// One declaration more.
     fn declare(&mut self, alloc: Global, decl: Decl) -> Result<(), NoMemory>
         requires fresh { object_of self.old.decls (name_of decl) ≡ None }
@@ -179,6 +263,17 @@ impl Reader {
                 Err(NoMemory)
             }
         }
+    }
+}
+
+/// A name that isn't reserved.
+fn plain(name: &Named) -> Name
+    requires { IsUnreserved name.now }
+    ensures { result ≡ named_text name.now }
+{
+    match name {
+        Named::Plain(name) => *name,
+        Named::Reserved => unreachable!(),
     }
 }
 
