@@ -13,12 +13,7 @@ use Rattle.zk_scenario.specs.Parts.{Parts}
 use Rattle.zk_scenario.specs.Reading.{Reading, start}
 use Rattle.zk_scenario.specs.Verdict.{is_unbuilt, verdict, after}
 
--- what the lines said with one line more, by the verdict on it
-abbrev pub judged : Reading → Form → Option Why → Result Reading Why
-judged r form None = Ok (after r form)
-judged r form (Some reason) = Err reason
-
--- the same, by the reason of a refusal and what the lines say where there is none
+-- what the lines said, where no reason applies to the last of them
 abbrev pub told : Option Why → Reading → Result Reading Why
 told None r = Ok r
 told (Some reason) r = Err reason
@@ -27,7 +22,7 @@ told (Some reason) r = Err reason
 abbrev pub taken : Reading → Line → Result Reading Why
 taken r line.Unbuilt = Err why.Unbuilt
 taken r line.Misspelled = Err why.Line
-taken r (line.Formed form) = judged r form (verdict r form)
+taken r (line.Formed form) = told (verdict r form) (after r form)
 
 -- a line behind those before it
 abbrev pub read_line : Reading → List ℕ → Result Reading Why

@@ -8,6 +8,7 @@ mod names;
 mod numbers;
 mod objects;
 mod print;
+mod read;
 mod reader;
 mod refused;
 mod scenario;
@@ -21,6 +22,7 @@ pub use numbers::{number_of, priority_of};
 pub use print::{
     put_cancel, put_end, put_item, put_number, put_queue, put_script, put_submit, put_thread,
 };
+pub use read::{LONGEST_SCENARIO, read_scenario};
 pub use refused::{ScenarioRefused, Why};
 pub use scenario::Scenario;
 pub use types::{Call, Decl, Ref, Script};

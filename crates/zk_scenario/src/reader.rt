@@ -1,6 +1,6 @@
 ghost use Rattle.std.specs.Prelude.{◌≡◌, false, None, Some, Ok, Err, OnOk, OnErr, IfOk, IsSome, is_some, MatchOption, [], option_map};
 ghost use Rattle.zk_scenario.specs.Forms.{IsUnreserved, named_text, line_of};
-ghost use Rattle.zk_scenario.specs.Grammar.{read_line, judged, told, unfed};
+ghost use Rattle.zk_scenario.specs.Grammar.{read_line, told, unfed};
 ghost use Rattle.zk_scenario.specs.Objects.{object_of};
 ghost use Rattle.zk_scenario.specs.Players.{name_of};
 ghost use Rattle.zk_scenario.specs.Reading.{start, declared, begun, called, closed, with_call, parts_of};
@@ -130,8 +130,6 @@ impl Reader {
     }
 
     /// Reads a line without its line feed. The answer is the reason why it is refused, if it is.
-    ///
-    /// After a refusal, and for want of memory, what was read before stands as it was.
     pub fn read_line(&mut self, alloc: Global, line: &[u8]) -> Result<Option<Why>, NoMemory>
         ensures { IfOk result (λ refusal. read_line self.old line.now ≡ told refusal self.new) }
     {
@@ -143,8 +141,8 @@ impl Reader {
     }
 
     fn read_form(&mut self, alloc: Global, form: &Form) -> Result<Option<Why>, NoMemory>
-        ensures { IfOk result
-            (λ refusal. judged self.old form.now (verdict self.old form.now) ≡ told refusal self.new) }
+        ensures { IfOk result (λ refusal.
+            told (verdict self.old form.now) (after self.old form.now) ≡ told refusal self.new) }
     {
         if let Some(reason) = self.verdict(form) {
             return Ok(Some(reason));
@@ -168,6 +166,21 @@ impl Reader {
                 }
             }
         }
+    }
+
+    /// The declarations and the scripts that have ended. What was read is a scenario where no script is open.
+    pub fn into_parts(self) -> (Objects, Scripts)
+        ensures objects { result.0 ≡ self.decls }
+        ensures scripts { result.1 ≡ self.scripts }
+        ensures valid { self.current ≡ None → IsValid (record { decls = self.decls; scripts = self.scripts }) }
+    {
+        let Reader {
+            objects,
+            scripts,
+            current: _,
+            calls: _,
+        } = self;
+        (objects, scripts)
     }
 
     /// Whether a script is open.

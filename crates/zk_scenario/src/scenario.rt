@@ -30,6 +30,14 @@ impl Model for Scenario {
 }
 
 impl Scenario {
+    /// The scenario of what was read.
+    pub fn of(objects: Objects, scripts: Scripts) -> Scenario
+        requires { IsValid (record { decls = objects; scripts = scripts }) }
+        ensures { result ≡ record { decls = objects; scripts = scripts } }
+    {
+        Scenario { objects, scripts }
+    }
+
     /// The declarations, in the written order.
     pub fn decls(&self) -> &[Decl]
         ensures all { result.now ≡ self.now.decls }
