@@ -1,9 +1,9 @@
 -- Lemmas on histories: one entry more, and a front.
-use Rattle.std.proofs.Common.{◌≡◌, ℕ, ◌+◌, ◌-◌, ◌<◌, ◌≤◌, Bool, true, false, Option, Some, List, [], ◌∷◌, ◌++◌, length, All, refl, sym, ap, subst, ◌∙◌, min, is_some, arith, add-zero, length-append}
+use Rattle.std.proofs.Common.{◌≡◌, ℕ, ◌+◌, ◌-◌, ◌<◌, ◌≤◌, Bool, true, false, Some, List, [], ◌∷◌, ◌++◌, length, All, refl, sym, subst, ◌∙◌, min, arith, add-zero}
 use Rattle.std.proofs.lemmas.List.Elements.{All-nil, All-cons, All-head, All-tail, All-append}
 use Rattle.zk_base.specs.declared.ids.Who.{Who}
 use Rattle.zk_base.specs.declared.ids.Entry.{Entry}
-use Rattle.zk_base.specs.History.{IsAbove, Rises, entry}
+use Rattle.zk_base.specs.History.{IsAbove, Rises}
 use Rattle.zk_base.specs.Legal.{Machine, state_after, Replays, IsLegal}
 use Rattle.zk_base.specs.Recording.{IsRecorded}
 
@@ -86,10 +86,11 @@ IsRecorded-snoc {S} {O} {R} m owed entries stands stands' start past past' long 
     let after = state_after-snoc m start past e in
     let P : S → Type 0 = λ s. long + 1 + owed s ≤ capacity' in
     let made : IsRecorded m owed entries stands' start whole (long + 1) capacity' = record {
-        stands_for = subst stands' (sym after) now;
-        first = was.first;
-        legal = IsLegal-snoc m start past e was.legal reply above range;
-        room = subst P (sym after) fits } in
+      stands_for = subst stands' (sym after) now;
+      first = was.first;
+      legal = IsLegal-snoc m start past e was.legal reply above range;
+      room = subst P (sym after) fits;
+    } in
     let Q : List (Entry O R) → Type 0 = λ h. IsRecorded m owed entries stands' start h (long + 1) capacity' in
     let L : ℕ → Type 0 = λ n. IsRecorded m owed entries stands' start past' n capacity' in
     subst L (sym len) (subst Q (sym items) made)

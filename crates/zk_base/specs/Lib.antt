@@ -1,5 +1,7 @@
+pub mod Causes
 pub mod Codes
 pub mod History
+pub mod InMemory
 pub mod Legal
 pub mod Names
 pub mod Padding

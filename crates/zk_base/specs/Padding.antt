@@ -1,5 +1,5 @@
 -- A name and the zeros behind it.
-use Rattle.std.proofs.Common.{◌≡◌, ℕ, ◌+◌, ◌-◌, ◌<◌, ◌≤◌, Bool, true, not, nat_lt, ◌&&◌, length-append, List, [], ◌∷◌, ◌++◌, length, take, drop, replicate, refl, sym, ap, ◌∙◌, subst, arith, length-drop}
+use Rattle.std.proofs.Common.{◌≡◌, ℕ, ◌+◌, ◌-◌, ◌≤◌, true, not, nat_lt, ◌&&◌, length-append, List, [], ◌∷◌, ◌++◌, length, take, drop, replicate, sym, ap, ◌∙◌, subst, arith}
 use Rattle.std.proofs.lemmas.List.{length-take-le, take-append-drop, drop-replicate, length-replicate}
 use Rattle.std.proofs.lemmas.Bool.{ltb-true}
 use Rattle.std.proofs.Math.Seq.{drop-append_seam, take-append_seam}
@@ -37,9 +37,10 @@ IsPadded-made text zeros front said are same =
     let long = ap length rest ∙ length-replicate (16 - length text) 0 in
     let P : List ℕ → Type 0 = λ f. IsPadded (f ++ drop (length text) zeros) (length text) in
     subst P (sym same) (record {
-        long = sized ∙ ap (λ n. length text + n) long ∙ whole (length text) within;
-        within = within;
-        zeros = drop-append_seam text (drop (length text) zeros) ∙ rest;
-        named = ap is_name (take-append_seam text (drop (length text) zeros)) ∙ said }) where
-    whole : (n : ℕ) → n ≤ 16 → n + (16 - n) ≡ 16
-    whole n w = omega arith
+      long = sized ∙ ap (λ n. length text + n) long ∙ whole (length text) within;
+      within = within;
+      zeros = drop-append_seam text (drop (length text) zeros) ∙ rest;
+      named = ap is_name (take-append_seam text (drop (length text) zeros)) ∙ said;
+    }) where
+      whole : (n : ℕ) → n ≤ 16 → n + (16 - n) ≡ 16
+      whole n w = omega arith

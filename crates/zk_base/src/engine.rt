@@ -40,12 +40,9 @@ pub trait Engine: Drop {
         who: Who,
         op: &Self::Op,
     ) -> Result<Option<(Self::Reply, Self::Reply)>, NoMemory>
-        requires ready {
-            (s : Self.State) × stands_for self.old s × (machine.in_range s op.now ≡ true) × (entries s < 2 ^ 32 - 1) }
-        ensures step {
-            (s : Self.State) → stands_for self.old s → Steps machine s who op.now result (stands_for self.new) }
-        ensures closing {
-            (s : Self.State) → stands_for self.old s → closes s who op.now ≡ true → IsOk result }
+        requires ready { (s : Self.State) × stands_for self.old s × (machine.in_range s op.now ≡ true) × (entries s < 2 ^ 32 - 1) }
+        ensures step { (s : Self.State) → stands_for self.old s → Steps machine s who op.now result (stands_for self.new) }
+        ensures closing { (s : Self.State) → stands_for self.old s → closes s who op.now ≡ true → IsOk result }
         ensures roomy { 3 ≤ room self.old → grows op.now ≡ false → IsOk result }
         ensures room { room self.old ≤ room self.new + 3 };
 
@@ -68,18 +65,15 @@ pub trait Engine: Drop {
         ensures { result ≡ room self.now };
 
     /// Each entry is counted.
-    ghost counts: {
-        (s : Self.State) (who : Who) (op : Self.Op) → entries (machine.next s who op) ≡ entries s + 1 };
+    ghost counts: { (s : Self.State) (who : Who) (op : Self.Op) → entries (machine.next s who op) ≡ entries s + 1 };
 
     /// What is in range stays so.
-    ghost ranges: {
-        (s : Self.State) (who : Who) (op : Self.Op) → machine.in_range (machine.next s who op) ≡ machine.in_range s };
+    ghost ranges: { (s : Self.State) (who : Who) (op : Self.Op) → machine.in_range (machine.next s who op) ≡ machine.in_range s };
 
     /// An operation adds at most two owed entries.
     ghost adds: { (s : Self.State) (who : Who) (op : Self.Op) → owed (machine.next s who op) ≤ owed s + 2 };
 
     /// A closing operation gives one.
-    ghost gives: {
-        (s : Self.State) (who : Who) (op : Self.Op) →
+    ghost gives: { (s : Self.State) (who : Who) (op : Self.Op) →
         closes s who op ≡ true → is_some (machine.reply_of s who op) ≡ true → 1 + owed (machine.next s who op) ≤ owed s };
 }

@@ -21,9 +21,9 @@ impl<C: Engine> Model for Recorded<C> {
     ghost Value = { Shown C.State C.Op C.Reply };
 
     ghost view = { λ a. record {
-        start = a.start;
-        history = a.past.items;
-        room = min (vec_capacity a.past - (vec_len a.past + C.owed (state_after C.machine a.start a.past.items))) (C.room a.engine)
+      start = a.start;
+      history = a.past.items;
+      room = min (vec_capacity a.past - (vec_len a.past + C.owed (state_after C.machine a.start a.past.items))) (C.room a.engine);
     } };
 
     ghost invariant = { λ a.

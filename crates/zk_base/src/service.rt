@@ -38,12 +38,7 @@ pub trait Service: Drop {
     /// Makes one entry, or says that the machine doesn't let it stand.
     ///
     /// The step is the number of this step among all steps of the player, at whatever service.
-    fn act(
-        &mut self,
-        who: Who,
-        step: u32,
-        op: Self::Op,
-    ) -> Result<Option<Self::Reply>, NoMemory>
+    fn act(&mut self, who: Who, step: u32, op: Self::Op) -> Result<Option<Self::Reply>, NoMemory>
         requires later { IsAbove (history self.old) who.number step }
         requires range { machine.in_range (start self.old) op ≡ true }
         requires short { length (history self.old) < 2 ^ 32 - 1 }
@@ -57,8 +52,7 @@ pub trait Service: Drop {
         ensures start { start self.new ≡ start self.old }
 
         // Memory: a closing operation takes none, and no other but a growing one takes any where there is room for 3.
-        ensures closing {
-            closes (state_after machine (start self.old) (history self.old)) who op ≡ true → IsOk result }
+        ensures closing { closes (state_after machine (start self.old) (history self.old)) who op ≡ true → IsOk result }
         ensures roomy { 3 ≤ room self.old → grows op ≡ false → IsOk result }
         ensures room { room self.old ≤ room self.new + 3 };
 

@@ -1,0 +1,4 @@
+pub mod Lists
+pub mod Machine
+pub mod Questions
+pub mod State

@@ -1,6 +1,21 @@
 //! The work service as a plain machine: its operations, its state, and the questions to it.
 #![tactic(auto)]
 
+mod answers;
+mod busy;
+mod changes;
 mod ops;
+mod parts;
+mod questions;
+mod state;
 
+pub use answers::{may_begin, may_end, submission, taken_up};
+pub use busy::{BusyFlags, flags};
+pub use changes::{begin, disarm, drop_waiting, end_run, set_life, settle};
 pub use ops::{Submitted, WorkOp, WorkReply};
+pub use parts::{Admission, Arm, Awaited, Fate, Life, Queue, Wait};
+pub use questions::{
+    armed, first_in_line, is_cancelling, is_empty_and_idle, is_flushing, is_worker, last_queue,
+    run, running, running_queue, waiting,
+};
+pub use state::{WorkState, mark, submit, work_next};

@@ -1,5 +1,5 @@
 -- The first word of a line, by the place of its first space.
-use Rattle.std.proofs.Common.{◌≡◌, ℕ, ◌+◌, ◌<◌, ◌≤◌, suc, Bool, true, false, not, cond, eqb, ltb, List, [], ◌∷◌, length, take, drop, Option, Some, None, refl, sym, ap, subst, inl, inr, ◌∙◌, arith}
+use Rattle.std.proofs.Common.{◌≡◌, ℕ, ◌+◌, ◌≤◌, Bool, false, eqb, ltb, List, [], ◌∷◌, length, take, drop, Some, None, sym, subst, inl, inr, ◌∙◌, arith}
 use Rattle.std.specs.List.{All, slice_split, position, position_or_len}
 use Rattle.std.proofs.lemmas.Bool.{ltb-true, ltb-false, cases_Bool, cond-true}
 use Rattle.std.proofs.lemmas.Option.{cond_some, none-some}

@@ -68,29 +68,29 @@ one_each-left ss s held n x e =
     let within = slice_get_within ss n x e in
     let found = held n x (slice_get-append_left ss (s ∷ []) n within ∙ e) in
     pick (script_of ss x.owner) (eqb s.owner x.owner) (sym (position-push (λ y. eqb y.owner x.owner) ss s) ∙ found) within where
-  pick : (o : Option ℕ) (b : Bool) → cond (is_some o) o (cond b (Some (length ss)) None) ≡ Some n → n < length ss → o ≡ Some n
-  pick (Some k) b found within = found
-  pick None true found within = let same : length ss ≡ n = cc in absurd (omega arith)
-  pick None false found within = absurd (cc)
+      pick : (o : Option ℕ) (b : Bool) → cond (is_some o) o (cond b (Some (length ss)) None) ≡ Some n → n < length ss → o ≡ Some n
+      pick (Some k) b found within = found
+      pick None true found within = let same : length ss ≡ n = cc in absurd (omega arith)
+      pick None false found within = absurd (cc)
 
 one_each-fresh : (ss : List Script) (s : Script) → OneEach (ss ++ s ∷ []) → script_of ss s.owner ≡ None
 one_each-fresh ss s held =
     pick (script_of ss s.owner) (eqb s.owner s.owner) (sym (position-push (λ y. eqb y.owner s.owner) ss s) ∙ held (length ss) s (slice_get-push ss s))
-      (λ k e. (position-Some (λ y. eqb y.owner s.owner) ss k s e).0) where
-  pick : (o : Option ℕ) (b : Bool) → cond (is_some o) o (cond b (Some (length ss)) None) ≡ Some (length ss) → ((k : ℕ) → o ≡ Some k → k < length ss) → o ≡ None
-  pick (Some k) b found within = let same : k ≡ length ss = cc in let short = within k refl in absurd (omega arith)
-  pick None b found within = refl
+    (λ k e. (position-Some (λ y. eqb y.owner s.owner) ss k s e).0) where
+      pick : (o : Option ℕ) (b : Bool) → cond (is_some o) o (cond b (Some (length ss)) None) ≡ Some (length ss) → ((k : ℕ) → o ≡ Some k → k < length ss) → o ≡ None
+      pick (Some k) b found within = let same : k ≡ length ss = cc in let short = within k refl in absurd (omega arith)
+      pick None b found within = refl
 
 one_each-push : (ss : List Script) (s : Script) → OneEach ss → script_of ss s.owner ≡ None → OneEach (ss ++ s ∷ [])
 one_each-push ss s held fresh n x e =
     ⊎_elim
     (λ at. let here : x ≡ s = cc (slice_get-push ss s, ap (slice_get (ss ++ s ∷ [])) at) in
-      script_of-push ss s x.owner fresh ∙ cond-true (eqb s.owner x.owner) (Some (length ss)) (script_of ss x.owner) (eq-eqb s.owner x.owner (ap (λ y. y.owner) (sym here))) ∙ ap Some (sym at))
+    script_of-push ss s x.owner fresh ∙ cond-true (eqb s.owner x.owner) (Some (length ss)) (script_of ss x.owner) (eq-eqb s.owner x.owner (ap (λ y. y.owner) (sym here))) ∙ ap Some (sym at))
     (⊎_elim
-      (λ below.
-        let before = held n x (sym (slice_get-append_left ss (s ∷ []) n below) ∙ e) in
-        script_of-push ss s x.owner fresh ∙ cond-false (eqb s.owner x.owner) (Some (length ss)) (script_of ss x.owner) (ne_eqb s.owner x.owner (λ same. none-some n (sym fresh ∙ ap (script_of ss) same ∙ before))) ∙ before)
-      (λ above. absurd (none-some x (sym (slice_get_past (ss ++ s ∷ []) n (omega (arith, length-append ss (s ∷ [])))) ∙ e))))
+    (λ below.
+    let before = held n x (sym (slice_get-append_left ss (s ∷ []) n below) ∙ e) in
+    script_of-push ss s x.owner fresh ∙ cond-false (eqb s.owner x.owner) (Some (length ss)) (script_of ss x.owner) (ne_eqb s.owner x.owner (λ same. none-some n (sym fresh ∙ ap (script_of ss) same ∙ before))) ∙ before)
+    (λ above. absurd (none-some x (sym (slice_get_past (ss ++ s ∷ []) n (omega (arith, length-append ss (s ∷ [])))) ∙ e))))
     (cases_order n (length ss))
 
 -- no script stands yet, so a declaration says nothing of one
@@ -98,13 +98,14 @@ valid-declared : (r : Reading) (d : Decl) → IsValid (parts_of r) → has_begun
     → IsValid (parts_of (declared r d))
 valid-declared r d valid first players queues items =
     record { players = players; queues = queues; items = items; calls = valid.calls; fit = ap (list_all (script_fits (r.decls ++ d ∷ []))) none; one_each = valid.one_each } where
-  empty : (xs : List Script) → length xs ≤ 0 → xs ≡ []
-  empty [] h = refl
-  empty (x ∷ xs) h = absurd (omega arith)
-  none : all_scripts r ≡ []
-  none =
-      let parts = or_none (is_some r.current) (nat_lt 0 (length r.scripts)) first in
-      ap (λ o. r.scripts ++ option_to_list o) (is_some-none r.current parts.0) ∙ append-nil r.scripts ∙ empty r.scripts (ltb-false 0 (length r.scripts) parts.1)
+      empty : (xs : List Script) → length xs ≤ 0 → xs ≡ []
+      empty [] h = refl
+      empty (x ∷ xs) h = absurd (omega arith)
+
+      none : all_scripts r ≡ []
+      none =
+          let parts = or_none (is_some r.current) (nat_lt 0 (length r.scripts)) first in
+          ap (λ o. r.scripts ++ option_to_list o) (is_some-none r.current parts.0) ∙ append-nil r.scripts ∙ empty r.scripts (ltb-false 0 (length r.scripts) parts.1)
 
 -- where no script is open, all scripts are those that have ended
 pub all_scripts-none : (r : Reading) → r.current ≡ None → all_scripts r ≡ r.scripts
@@ -124,10 +125,12 @@ valid-begun r owner valid none thread fresh =
     let s : Script = record { owner = owner; calls = [] } in
     let same = all_scripts-none r none in
     record {
-      players = valid.players; queues = valid.queues; items = valid.items;
+      players = valid.players;
+      queues = valid.queues;
+      items = valid.items;
       calls = omega (arith, call_count-push r.scripts s, ap call_count same, valid.calls);
       fit = fit-push r.decls r.scripts s ∙ and_from (list_all (script_fits r.decls) r.scripts) (script_fits r.decls s) (ap (list_all (script_fits r.decls)) (sym same) ∙ valid.fit) (and_from (is_at is_thread r.decls owner) true thread refl);
-      one_each = one_each-push r.scripts s (subst OneEach same valid.one_each) fresh
+      one_each = one_each-push r.scripts s (subst OneEach same valid.one_each) fresh;
     }
 
 valid-called : (decls : List Decl) (ss : List Script) (s : Script) (c : Call) → IsValid (record { decls = decls; scripts = ss ++ s ∷ [] }) → call_fits decls c ≡ true → call_count (ss ++ s ∷ []) < 4096
@@ -137,10 +140,12 @@ valid-called decls ss s c valid fits few =
     let own = and_parts (is_at is_thread decls s.owner) (list_all (call_fits decls) s.calls) both.1 in
     let calls = list_all-append (call_fits decls) s.calls (c ∷ []) ∙ and_from (list_all (call_fits decls) s.calls) (call_fits decls c && true) own.1 (and_from (call_fits decls c) true fits refl) in
     record {
-      players = valid.players; queues = valid.queues; items = valid.items;
+      players = valid.players;
+      queues = valid.queues;
+      items = valid.items;
       calls = omega (arith, call_count-push ss s, call_count-push ss (with_call c s), length-append s.calls (c ∷ []));
       fit = fit-push decls ss (with_call c s) ∙ and_from (list_all (script_fits decls) ss) (script_fits decls (with_call c s)) both.0 (and_from (is_at is_thread decls s.owner) (list_all (call_fits decls) (s.calls ++ c ∷ [])) own.0 calls);
-      one_each = one_each-push ss (with_call c s) (one_each-left ss s valid.one_each) (one_each-fresh ss s valid.one_each)
+      one_each = one_each-push ss (with_call c s) (one_each-left ss s valid.one_each) (one_each-fresh ss s valid.one_each);
     }
 
 -- the script that ends has an owner of its own
@@ -152,7 +157,7 @@ called_fits r c valid placed fits few =
     let s = is_some-some r.current (not-false (is_some r.current) placed) in
     subst (λ o. IsValid (record { decls = r.decls; scripts = r.scripts ++ option_to_list (option_map (with_call c) o) })) (sym s.1)
     (valid-called r.decls r.scripts s.0 c (subst (λ o. IsValid (record { decls = r.decls; scripts = r.scripts ++ option_to_list o })) s.1 valid) fits
-      (subst (λ o. call_count (r.scripts ++ option_to_list o) < 4096) s.1 (leb-false 4096 (call_count (all_scripts r)) few)))
+    (subst (λ o. call_count (r.scripts ++ option_to_list o) < 4096) s.1 (leb-false 4096 (call_count (all_scripts r)) few)))
 
 at_object : (kind : Decl → Bool) (decls : List Decl) (o : Option ℕ) → option_map_or (is_at kind decls) o false ≡ true → is_at kind decls (unwrap_or o 0) ≡ true
 at_object kind decls None e = absurd (cc)
@@ -190,7 +195,7 @@ IsValid-after r f e valid = by_form f (Passes-verdict r f e) where
   by_form (form.Submit item (Some queue)) p =
       let both = and_parts (names is_item r.decls item) (names is_queue r.decls queue) (not-false (names is_item r.decls item && names is_queue r.decls queue) p.well_named) in
       called_fits r (call.Submit (ref r.decls item) (Some (ref r.decls queue))) valid p.placed
-        (and_from (is_at is_item r.decls (object r.decls item)) (is_at is_queue r.decls (object r.decls queue)) (at_object is_item r.decls (named r.decls item) both.0) (at_object is_queue r.decls (named r.decls queue) both.1)) p.within
+      (and_from (is_at is_item r.decls (object r.decls item)) (is_at is_queue r.decls (object r.decls queue)) (at_object is_item r.decls (named r.decls item) both.0) (at_object is_queue r.decls (named r.decls queue) both.1)) p.within
   by_form (form.Cancel item) p =
       let named_item = not-false (names is_item r.decls item) p.well_named in
       called_fits r (call.Cancel (ref r.decls item)) valid p.placed (at_object is_item r.decls (named r.decls item) named_item) p.within

@@ -5,6 +5,8 @@ pub mod Kept
 pub mod Lists
 pub mod Numerals
 pub mod Played
+pub mod Readable
 pub mod Spelled
 pub mod Tables
+pub mod Unspaced
 pub mod Valid

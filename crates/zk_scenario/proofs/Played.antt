@@ -52,6 +52,6 @@ pub IsByOwner-push : (ss : List Script) (s : Script) (before wide : List (Option
 IsByOwner-push ss s before wide held fresh long same owner =
     ap option_flatten (slice_get-set wide s.owner (Some (length ss)) owner long) ∙ under (eqb s.owner owner) (slice_get wide owner)
     ∙ ap (λ o. cond (eqb s.owner owner) (Some (length ss)) o) (same owner ∙ held owner) ∙ sym (script_of-push ss s owner fresh) where
-  under : (b : Bool) (o : Option (Option ℕ)) → option_flatten (cond b (Some (Some (length ss))) o) ≡ cond b (Some (length ss)) (option_flatten o)
-  under true o = refl
-  under false o = refl
+      under : (b : Bool) (o : Option (Option ℕ)) → option_flatten (cond b (Some (Some (length ss))) o) ≡ cond b (Some (length ss)) (option_flatten o)
+      under true o = refl
+      under false o = refl

@@ -1,9 +1,8 @@
 -- A line of a form is the text of that form: each has one spelling.
-use Rattle.std.proofs.Common.{◌≡◌, ℕ, ◌^◌, ◌-◌, ◌<◌, ◌≤◌, zero, suc, Bool, true, false, ◌&&◌, ◌||◌, not, cond, eqb, leb, List, [], ◌∷◌, length, get_or, Option, Some, None, refl, sym, ap, subst, inl, inr, ◌∙◌, arith, rules}
-use Rattle.std.specs.Prelude.{ℤ, pos, negsuc, neg_ℤ, IsSome, IfSome, unwrap_or, option_map, option_and_then, codes, find, bytes_eq}
-use Rattle.std.specs.Fmt.{signed_decimal}
+use Rattle.std.proofs.Common.{◌≡◌, ℕ, Bool, true, false, cond, List, [], ◌∷◌, Option, Some, None, refl, sym, ap, subst, inl, inr, ◌∙◌}
+use Rattle.std.specs.Prelude.{option_map, codes, find, bytes_eq}
 use Rattle.std.proofs.lemmas.Bool.{cases_Bool, cond-true, cond-false}
-use Rattle.std.proofs.lemmas.Option.{cond_some, option_and_then_some, same_Some}
+use Rattle.std.proofs.lemmas.Option.{same_Some}
 use Rattle.std.proofs.lemmas.Slice.Eq.{bytes_eq-Decides}
 use Rattle.std.proofs.lemmas.List.Splits.{join_with_byte-slice_split}
 use Rattle.zk_base.specs.Names.{is_name, is_spelled}
@@ -11,7 +10,6 @@ use Rattle.zk_scenario.specs.declared.form.Named.{Named}
 use Rattle.zk_scenario.specs.declared.form.Named.TheVariants.{Plain, Reserved}
 use Rattle.zk_scenario.specs.declared.form.Form.{Form}
 use Rattle.zk_scenario.specs.declared.form.Form.TheVariants.{Thread, Queue, Item, Script, Submit, Cancel, End}
-use Rattle.zk_scenario.specs.declared.form.Line.{Line}
 use Rattle.zk_scenario.specs.declared.form.Line.TheVariants.{Unbuilt, Misspelled, Formed}
 use Rattle.zk_scenario.specs.declared.keyword.Keyword.{Keyword}
 use Rattle.zk_scenario.specs.declared.keyword.Keyword.TheVariants as keyword
@@ -19,7 +17,7 @@ use Rattle.zk_scenario.specs.Words.{words_of}
 use Rattle.zk_scenario.specs.Numbers.{priority_of}
 use Rattle.zk_scenario.specs.Keywords.{keywords, keyword_text, keyword_of, is_unbuilt}
 use Rattle.zk_scenario.specs.Text.{line_text, mode_text, state_text}
-use Rattle.zk_scenario.specs.Forms.{named_of, one_of, mode_of, state_of, made_of_two, made_of_three, thread_form, queue_form, item_form, script_form, submit_form, cancel_form, end_form, form_of, formed, formless, line_after, line_of_words, line_of, named_text, form_words, IsUnreserved, IsPlain}
+use Rattle.zk_scenario.specs.Forms.{named_of, one_of, mode_of, state_of, made_of_two, made_of_three, thread_form, queue_form, item_form, script_form, submit_form, cancel_form, end_form, form_of, formed, formless, line_after, line_of_words, line_of, named_text, form_words, IsUnreserved, IsPlain, IsNamed, CanBeSpelled}
 use Rattle.zk_scenario.proofs.Numerals.{priority_spelled}
 
 plain_same : (word name : List ℕ) → Plain word ≡ Plain name → word ≡ name
@@ -29,10 +27,13 @@ never_plain : (spelled : Bool) (name : List ℕ) → cond spelled (Some Reserved
 never_plain true name said = absurd (cc)
 never_plain false name said = absurd (cc)
 
+plain_named : (word name : List ℕ) → is_name word ≡ true → Plain word ≡ Plain name → (word ≡ name) × (is_name name ≡ true)
+plain_named word name named same = let is_same = plain_same word name same in (is_same, sym (ap is_name is_same) ∙ named)
+
 -- a word that spells a name is the name
-named_spelled : (word : List ℕ) (name : Named) → named_of word ≡ Some name → IsUnreserved name → word ≡ named_text name
+named_spelled : (word : List ℕ) (name : Named) → named_of word ≡ Some name → IsUnreserved name → (word ≡ named_text name) × IsNamed name
 named_spelled word (Plain name) said plain = elim (cases_Bool (is_name word)) [
-  | inl named ↦ plain_same word name (same_Some _ _ (sym (cond-true (is_name word) _ _ named) ∙ said))
+  | inl named ↦ plain_named word name named (same_Some _ _ (sym (cond-true (is_name word) _ _ named) ∙ said))
   | inr other ↦ absurd (never_plain (is_spelled word) name (sym (cond-false (is_name word) _ _ other) ∙ said))
 ]
 named_spelled word Reserved said plain = absurd plain
@@ -58,6 +59,10 @@ state_spelled : (word : List ℕ) (on : Bool) → state_of word ≡ Some on → 
 state_spelled word true said = one_of_spelled _ _ word true said
 state_spelled word false said = one_of_spelled _ _ word false said
 
+-- the words are those of the form, which is one that can be spelled
+abbrev Spells : List (List ℕ) → Form → Type 0
+Spells words form = (words ≡ form_words form) × CanBeSpelled form
+
 -- a form of one, two or three parts tells its parts
 one_part : {A : Type 0} (f : A → Form) (a : Option A) (form : Form) → option_map f a ≡ Some form → (x : A) × (a ≡ Some x) × (f x ≡ form)
 one_part f None form said = absurd (cc)
@@ -74,73 +79,73 @@ three_parts f (Some x) None c form said = absurd (cc)
 three_parts f (Some x) (Some y) None form said = absurd (cc)
 three_parts f (Some x) (Some y) (Some z) form said = (x, y, z, refl, refl, refl, same_Some _ _ said)
 
-thread_spelled : (words : List (List ℕ)) (form : Form) → thread_form words ≡ Some form → IsPlain form → codes "thread" ∷ words ≡ form_words form
+thread_spelled : (words : List (List ℕ)) (form : Form) → thread_form words ≡ Some form → IsPlain form → Spells (codes "thread" ∷ words) form
 thread_spelled [] form said plain = absurd (cc)
 thread_spelled (name ∷ []) form said plain = absurd (cc)
 thread_spelled (name ∷ prio ∷ []) form said plain = absurd (cc)
 thread_spelled (name ∷ prio ∷ mode ∷ []) form said plain =
     let parts = three_parts Thread (named_of name) (priority_of prio) (mode_of mode) form said in
-    subst (λ (f : Form). IsPlain f → codes "thread" ∷ name ∷ prio ∷ mode ∷ [] ≡ form_words f) parts.6
+    subst (λ (f : Form). IsPlain f → Spells (codes "thread" ∷ name ∷ prio ∷ mode ∷ []) f) parts.6
     (λ fine. let n = named_spelled name parts.0 parts.3 fine.0 in
     let p = priority_spelled prio parts.1 parts.4 fine.1 in
-    let m = mode_spelled mode parts.2 parts.5 in cc) plain
+    let m = mode_spelled mode parts.2 parts.5 in (cc, (n.1, p.1))) plain
 thread_spelled (name ∷ prio ∷ mode ∷ more ∷ words) form said plain = absurd (cc)
 
-queue_spelled : (words : List (List ℕ)) (form : Form) → queue_form words ≡ Some form → IsPlain form → codes "queue" ∷ words ≡ form_words form
+queue_spelled : (words : List (List ℕ)) (form : Form) → queue_form words ≡ Some form → IsPlain form → Spells (codes "queue" ∷ words) form
 queue_spelled [] form said plain = absurd (cc)
 queue_spelled (name ∷ []) form said plain = absurd (cc)
 queue_spelled (name ∷ prio ∷ []) form said plain = absurd (cc)
 queue_spelled (name ∷ prio ∷ state ∷ []) form said plain =
     let parts = three_parts Queue (named_of name) (priority_of prio) (state_of state) form said in
-    subst (λ (f : Form). IsPlain f → codes "queue" ∷ name ∷ prio ∷ state ∷ [] ≡ form_words f) parts.6
+    subst (λ (f : Form). IsPlain f → Spells (codes "queue" ∷ name ∷ prio ∷ state ∷ []) f) parts.6
     (λ fine. let n = named_spelled name parts.0 parts.3 fine.0 in
     let p = priority_spelled prio parts.1 parts.4 fine.1 in
-    let s = state_spelled state parts.2 parts.5 in cc) plain
+    let s = state_spelled state parts.2 parts.5 in (cc, (n.1, p.1))) plain
 queue_spelled (name ∷ prio ∷ state ∷ more ∷ words) form said plain = absurd (cc)
 
-item_spelled : (words : List (List ℕ)) (form : Form) → item_form words ≡ Some form → IsPlain form → codes "item" ∷ words ≡ form_words form
+item_spelled : (words : List (List ℕ)) (form : Form) → item_form words ≡ Some form → IsPlain form → Spells (codes "item" ∷ words) form
 item_spelled [] form said plain = absurd (cc)
 item_spelled (name ∷ []) form said plain =
     let part = one_part Item (named_of name) form said in
-    subst (λ (f : Form). IsPlain f → codes "item" ∷ name ∷ [] ≡ form_words f) part.2
-    (λ fine. let n = named_spelled name part.0 part.1 fine in cc) plain
+    subst (λ (f : Form). IsPlain f → Spells (codes "item" ∷ name ∷ []) f) part.2
+    (λ fine. let n = named_spelled name part.0 part.1 fine in (cc, n.1)) plain
 item_spelled (name ∷ more ∷ words) form said plain = absurd (cc)
 
-script_spelled : (words : List (List ℕ)) (form : Form) → script_form words ≡ Some form → IsPlain form → codes "script" ∷ words ≡ form_words form
+script_spelled : (words : List (List ℕ)) (form : Form) → script_form words ≡ Some form → IsPlain form → Spells (codes "script" ∷ words) form
 script_spelled [] form said plain = absurd (cc)
 script_spelled (owner ∷ []) form said plain =
     let part = one_part Script (named_of owner) form said in
-    subst (λ (f : Form). IsPlain f → codes "script" ∷ owner ∷ [] ≡ form_words f) part.2
-    (λ fine. let n = named_spelled owner part.0 part.1 fine in cc) plain
+    subst (λ (f : Form). IsPlain f → Spells (codes "script" ∷ owner ∷ []) f) part.2
+    (λ fine. let n = named_spelled owner part.0 part.1 fine in (cc, n.1)) plain
 script_spelled (owner ∷ more ∷ words) form said plain = absurd (cc)
 
-submit_spelled : (words : List (List ℕ)) (form : Form) → submit_form words ≡ Some form → IsPlain form → codes "submit" ∷ words ≡ form_words form
+submit_spelled : (words : List (List ℕ)) (form : Form) → submit_form words ≡ Some form → IsPlain form → Spells (codes "submit" ∷ words) form
 submit_spelled [] form said plain = absurd (cc)
 submit_spelled (item ∷ []) form said plain =
     let part = one_part (λ i. Submit i None) (named_of item) form said in
-    subst (λ (f : Form). IsPlain f → codes "submit" ∷ item ∷ [] ≡ form_words f) part.2
-    (λ fine. let i = named_spelled item part.0 part.1 fine.0 in cc) plain
+    subst (λ (f : Form). IsPlain f → Spells (codes "submit" ∷ item ∷ []) f) part.2
+    (λ fine. let i = named_spelled item part.0 part.1 fine.0 in (cc, (i.1, tt))) plain
 submit_spelled (item ∷ queue ∷ []) form said plain =
     let parts = two_parts (λ i q. Submit i (Some q)) (named_of item) (named_of queue) form said in
-    subst (λ (f : Form). IsPlain f → codes "submit" ∷ item ∷ queue ∷ [] ≡ form_words f) parts.4
+    subst (λ (f : Form). IsPlain f → Spells (codes "submit" ∷ item ∷ queue ∷ []) f) parts.4
     (λ fine. let i = named_spelled item parts.0 parts.2 fine.0 in
-    let q = named_spelled queue parts.1 parts.3 fine.1 in cc) plain
+    let q = named_spelled queue parts.1 parts.3 fine.1 in (cc, (i.1, q.1))) plain
 submit_spelled (item ∷ queue ∷ more ∷ words) form said plain = absurd (cc)
 
-cancel_spelled : (words : List (List ℕ)) (form : Form) → cancel_form words ≡ Some form → IsPlain form → codes "cancel" ∷ words ≡ form_words form
+cancel_spelled : (words : List (List ℕ)) (form : Form) → cancel_form words ≡ Some form → IsPlain form → Spells (codes "cancel" ∷ words) form
 cancel_spelled [] form said plain = absurd (cc)
 cancel_spelled (item ∷ []) form said plain =
     let part = one_part Cancel (named_of item) form said in
-    subst (λ (f : Form). IsPlain f → codes "cancel" ∷ item ∷ [] ≡ form_words f) part.2
-    (λ fine. let i = named_spelled item part.0 part.1 fine in cc) plain
+    subst (λ (f : Form). IsPlain f → Spells (codes "cancel" ∷ item ∷ []) f) part.2
+    (λ fine. let i = named_spelled item part.0 part.1 fine in (cc, i.1)) plain
 cancel_spelled (item ∷ more ∷ words) form said plain = absurd (cc)
 
-end_spelled : (words : List (List ℕ)) (form : Form) → end_form words ≡ Some form → IsPlain form → codes "end" ∷ words ≡ form_words form
-end_spelled [] form said plain = subst (λ (f : Form). codes "end" ∷ [] ≡ form_words f) (same_Some End form said) refl
+end_spelled : (words : List (List ℕ)) (form : Form) → end_form words ≡ Some form → IsPlain form → Spells (codes "end" ∷ words) form
+end_spelled [] form said plain = subst (λ (f : Form). Spells (codes "end" ∷ []) f) (same_Some End form said) (refl, tt)
 end_spelled (more ∷ words) form said plain = absurd (cc)
 
 -- the words of a form, its first word included
-form_spelled : (k : Keyword) (words : List (List ℕ)) (form : Form) → form_of k words ≡ Some form → IsPlain form → keyword_text k ∷ words ≡ form_words form
+form_spelled : (k : Keyword) (words : List (List ℕ)) (form : Form) → form_of k words ≡ Some form → IsPlain form → Spells (keyword_text k ∷ words) form
 form_spelled keyword.Thread words form said plain = thread_spelled words form said plain
 form_spelled keyword.Queue words form said plain = queue_spelled words form said plain
 form_spelled keyword.Item words form said plain = item_spelled words form said plain
@@ -180,16 +185,21 @@ formless_is first form said = elim (cases_Bool (is_unbuilt first)) [
   | inr other ↦ absurd (misspelled_is form (sym (cond-false (is_unbuilt first) Unbuilt Misspelled other) ∙ said))
 ]
 
-after_spelled : (k : Option Keyword) (first : List ℕ) (words : List (List ℕ)) (form : Form) → keyword_of first ≡ k → line_after k first words ≡ Formed form → IsPlain form → first ∷ words ≡ form_words form
+after_spelled : (k : Option Keyword) (first : List ℕ) (words : List (List ℕ)) (form : Form) → keyword_of first ≡ k → line_after k first words ≡ Formed form → IsPlain form → Spells (first ∷ words) form
 after_spelled None first words form found said plain = absurd (formless_is first form said)
 after_spelled (Some k) first words form found said plain =
-    ap (λ (w : List ℕ). w ∷ words) (keyword_spelled first k found) ∙ form_spelled k words form (formed_is (form_of k words) form said) plain
+    let spelled = form_spelled k words form (formed_is (form_of k words) form said) plain in
+    (ap (λ (w : List ℕ). w ∷ words) (keyword_spelled first k found) ∙ spelled.0, spelled.1)
 
-words_spelled : (words : List (List ℕ)) (form : Form) → line_of_words words ≡ Formed form → IsPlain form → words ≡ form_words form
+words_spelled : (words : List (List ℕ)) (form : Form) → line_of_words words ≡ Formed form → IsPlain form → Spells words form
 words_spelled [] form said plain = absurd (misspelled_is form said)
 words_spelled (first ∷ words) form said plain = after_spelled (keyword_of first) first words form refl said plain
 
 -- a line of a form with no reserved name and no number out of its range is the form's text
 pub line_spelled : (line : List ℕ) (form : Form) → line_of line ≡ Formed form → IsPlain form → line ≡ line_text (form_words form)
 line_spelled line form said plain =
-    sym (join_with_byte-slice_split 32 line) ∙ ap line_text (words_spelled (words_of line) form said plain)
+    sym (join_with_byte-slice_split 32 line) ∙ ap line_text (words_spelled (words_of line) form said plain).0
+
+-- and its names are names, and its numbers in their range
+pub line_can_be_spelled : (line : List ℕ) (form : Form) → line_of line ≡ Formed form → IsPlain form → CanBeSpelled form
+line_can_be_spelled line form said plain = (words_spelled (words_of line) form said plain).1

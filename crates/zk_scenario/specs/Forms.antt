@@ -1,4 +1,4 @@
-use Rattle.std.specs.Prelude.{◌≡◌, ℕ, ℤ, pos, Bool, true, false, ◌||◌, List, [], ◌∷◌, Option, Some, None, option_map, unwrap_or, find, codes, IsSome, IfSome, if◌then◌else◌}
+use Rattle.std.specs.Prelude.{◌≡◌, ℕ, pos, Bool, true, false, List, [], ◌∷◌, Option, Some, None, option_map, unwrap_or, codes, IsSome, IfSome, if◌then◌else◌}
 use Rattle.std.specs.Str.{bytes_eq}
 use Rattle.zk_base.specs.Names.{is_name, is_spelled}
 use Rattle.zk_scenario.specs.declared.form.Named.{Named}
@@ -10,7 +10,7 @@ use Rattle.zk_scenario.specs.declared.form.Line.TheVariants.{Unbuilt, Misspelled
 use Rattle.zk_scenario.specs.declared.keyword.Keyword.{Keyword}
 use Rattle.zk_scenario.specs.declared.keyword.Keyword.TheVariants as keyword
 use Rattle.zk_scenario.specs.Words.{words_of}
-use Rattle.zk_scenario.specs.Numbers.{priority_of}
+use Rattle.zk_scenario.specs.Numbers.{priority_of, IsPriority}
 use Rattle.zk_scenario.specs.Keywords.{keyword_of, is_unbuilt}
 use Rattle.zk_scenario.specs.Text.{thread_words, queue_words, item_words, script_words, submit_words, cancel_words, end_words}
 
@@ -139,3 +139,18 @@ IsPlain (Script owner) = IsUnreserved owner
 IsPlain (Submit item queue) = IsUnreserved item × IfSome queue IsUnreserved
 IsPlain (Cancel item) = IsUnreserved item
 IsPlain End = Unit {0}
+
+-- a word that is a name
+abbrev pub IsNamed : Named → Type 0
+IsNamed (Plain name) = is_name name ≡ true
+IsNamed Reserved = ⊥
+
+-- each name is one, and each number is in its range
+abbrev pub CanBeSpelled : Form → Type 0
+CanBeSpelled (Thread name prio user) = IsNamed name × IsPriority prio
+CanBeSpelled (Queue name prio on) = IsNamed name × IsPriority prio
+CanBeSpelled (Item name) = IsNamed name
+CanBeSpelled (Script owner) = IsNamed owner
+CanBeSpelled (Submit item queue) = IsNamed item × IfSome queue IsNamed
+CanBeSpelled (Cancel item) = IsNamed item
+CanBeSpelled End = Unit {0}

@@ -1,4 +1,4 @@
-use Rattle.std.specs.Prelude.{ℕ, ◌^◌, ◌-◌, min, ℤ, pos, neg_ℤ, Bool, true, false, not, ◌==◌, nat_le, ◌&&◌, ◌||◌, List, [], ◌∷◌, length, Option, Some, None, option_map, option_and_then, if◌then◌else◌}
+use Rattle.std.specs.Prelude.{ℕ, ◌^◌, ◌-◌, min, ℤ, pos, negsuc, neg_ℤ, ◌≤ℤ◌, Bool, false, not, ◌==◌, nat_le, ◌&&◌, ◌||◌, List, [], ◌∷◌, length, Option, Some, None, option_map, option_and_then, if◌then◌else◌}
 use Rattle.std.specs.Char.{is_ascii_digit}
 use Rattle.std.specs.List.{list_all}
 use Rattle.std.specs.Str.Parse.{digits_value}
@@ -29,3 +29,8 @@ abbrev pub priority_of : List ℕ → Option (Option ℤ)
 priority_of [] = None
 priority_of (b ∷ bs) =
     if b == 45 then option_and_then priority_below (number_of bs) else option_map priority_above (number_of (b ∷ bs))
+
+-- a priority from -16 to 15
+abbrev pub IsPriority : Option ℤ → Type 0
+IsPriority None = ⊥
+IsPriority (Some prio) = (negsuc 15 ≤ℤ prio) × (prio ≤ℤ pos 15)

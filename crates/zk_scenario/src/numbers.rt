@@ -4,8 +4,9 @@ ghost use Rattle.std.specs.List.{list_all};
 ghost use Rattle.std.specs.Str.Parse.{digits_value};
 ghost use Rattle.zk_scenario.specs.Numbers.{is_number, number_of, saturated, priority_of, priority_above, priority_below};
 
-/// The number that a word spells in decimal digits, without a sign or a leading zero. One past 64 bits is given as the
-/// greatest of them, so that a caller tells a number out of its range from a word that is no number.
+/// The number that a word spells in decimal digits, without a sign or a leading zero. One past 64
+/// bits is given as the greatest of them, so that a caller tells a number out of its range from a
+/// word that is no number.
 pub fn number_of(word: &[u8]) -> Option<u64>
     ensures { result ≡ option_map saturated (number_of word.now) }
 {
@@ -49,8 +50,8 @@ fn with_digit(n: u64, digit: u8) -> u64
     n.saturating_mul(10).saturating_add(u64::from(digit - b'0'))
 }
 
-/// What a word says as a priority: nothing where it is no spelling of one, and nothing inside where it is out of the
-/// range from -16 to 15.
+/// What a word says as a priority: nothing where it is no spelling of one, and nothing inside where
+/// it is out of the range from -16 to 15.
 pub fn priority_of(word: &[u8]) -> Option<Option<i8>>
     ensures { result ≡ priority_of word.now }
 {

@@ -1,17 +1,17 @@
 ghost use Rattle.std.specs.Prelude.{◌≡◌, ◌∷◌, ◌++◌, OnOk, option_map};
-ghost use Rattle.std.specs.Fmt.{decimal, signed_decimal};
+ghost use Rattle.std.specs.Fmt.{signed_decimal};
 ghost use Rattle.zk_scenario.specs.Text.{line_text, mode_text, state_text, thread_words, queue_words, item_words, script_words, submit_words, cancel_words, end_words};
 
 use itoa::Buffer;
-use zk_base::NoMemory;
+use zk_base::{NoMemory, put};
 
-/// Appends the declaration of a thread, without its line feed, as do those below. After an error a part of it may
-/// stand there.
+/// Appends the declaration of a thread. As below, no line feed is written, and after an error a
+/// part of the line may stand there.
 pub fn put_thread(out: &mut Vec<u8>, name: &[u8], prio: i8, user: bool) -> Result<(), NoMemory>
     ensures { OnOk result
         (out.new.items ≡ out.old.items ++ line_text (thread_words name.now prio user)) }
 {
-    put_word(out, b"thread")?;
+    put(out, b"thread")?;
     put_next_word(out, name)?;
     put_next_priority(out, prio)?;
     put_next_word(out, mode_text(user))
@@ -22,7 +22,7 @@ pub fn put_queue(out: &mut Vec<u8>, name: &[u8], prio: i8, on: bool) -> Result<(
     ensures { OnOk result
         (out.new.items ≡ out.old.items ++ line_text (queue_words name.now prio on)) }
 {
-    put_word(out, b"queue")?;
+    put(out, b"queue")?;
     put_next_word(out, name)?;
     put_next_priority(out, prio)?;
     put_next_word(out, state_text(on))
@@ -32,7 +32,7 @@ pub fn put_queue(out: &mut Vec<u8>, name: &[u8], prio: i8, on: bool) -> Result<(
 pub fn put_item(out: &mut Vec<u8>, name: &[u8]) -> Result<(), NoMemory>
     ensures { OnOk result (out.new.items ≡ out.old.items ++ line_text (item_words name.now)) }
 {
-    put_word(out, b"item")?;
+    put(out, b"item")?;
     put_next_word(out, name)
 }
 
@@ -40,7 +40,7 @@ pub fn put_item(out: &mut Vec<u8>, name: &[u8]) -> Result<(), NoMemory>
 pub fn put_script(out: &mut Vec<u8>, owner: &[u8]) -> Result<(), NoMemory>
     ensures { OnOk result (out.new.items ≡ out.old.items ++ line_text (script_words owner.now)) }
 {
-    put_word(out, b"script")?;
+    put(out, b"script")?;
     put_next_word(out, owner)
 }
 
@@ -49,7 +49,7 @@ pub fn put_submit(out: &mut Vec<u8>, item: &[u8], queue: Option<&[u8]>) -> Resul
     ensures { OnOk result (out.new.items
         ≡ out.old.items ++ line_text (submit_words item.now (option_map (λ q. q.now) queue.entry))) }
 {
-    put_word(out, b"submit")?;
+    put(out, b"submit")?;
     put_next_word(out, item)?;
     match queue {
         Some(queue) => put_next_word(out, queue),
@@ -61,7 +61,7 @@ pub fn put_submit(out: &mut Vec<u8>, item: &[u8], queue: Option<&[u8]>) -> Resul
 pub fn put_cancel(out: &mut Vec<u8>, item: &[u8]) -> Result<(), NoMemory>
     ensures { OnOk result (out.new.items ≡ out.old.items ++ line_text (cancel_words item.now)) }
 {
-    put_word(out, b"cancel")?;
+    put(out, b"cancel")?;
     put_next_word(out, item)
 }
 
@@ -69,29 +69,14 @@ pub fn put_cancel(out: &mut Vec<u8>, item: &[u8]) -> Result<(), NoMemory>
 pub fn put_end(out: &mut Vec<u8>) -> Result<(), NoMemory>
     ensures { OnOk result (out.new.items ≡ out.old.items ++ line_text end_words) }
 {
-    put_word(out, b"end")
-}
-
-/// A number in decimal digits.
-pub fn put_number(out: &mut Vec<u8>, n: u64) -> Result<(), NoMemory>
-    ensures { OnOk result (out.new.items ≡ out.old.items ++ decimal n) }
-{
-    let mut digits = Buffer::new();
-    put_word(out, digits.format(n).as_bytes())
-}
-
-fn put_word(out: &mut Vec<u8>, word: &[u8]) -> Result<(), NoMemory>
-    ensures { OnOk result (out.new.items ≡ out.old.items ++ word.now) }
-{
-    out.extend_from_slice(word)?;
-    Ok(())
+    put(out, b"end")
 }
 
 fn put_next_word(out: &mut Vec<u8>, word: &[u8]) -> Result<(), NoMemory>
     ensures { OnOk result (out.new.items ≡ out.old.items ++ 32 ∷ word.now) }
 {
     out.push(b' ')?;
-    put_word(out, word)
+    put(out, word)
 }
 
 fn put_next_priority(out: &mut Vec<u8>, prio: i8) -> Result<(), NoMemory>

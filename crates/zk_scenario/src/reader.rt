@@ -18,8 +18,11 @@ use std::marker::Model;
 use zk_base::{Listed, Name, NoMemory};
 
 const MOST_PLAYERS: usize = 64;
+
 const MOST_QUEUES: usize = 8;
+
 const MOST_ITEMS: usize = 256;
+
 const MOST_CALLS: u32 = 4096;
 
 /// What the lines read so far said.

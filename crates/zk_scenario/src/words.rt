@@ -3,8 +3,8 @@ ghost use Rattle.zk_scenario.specs.Words.{words_of};
 
 use std::marker::Model;
 
-/// The words of a line, from left to right. A single space stands between two words, so a doubled space gives an
-/// empty word, and so does one at an end of the line.
+/// The words of a line, from left to right. A single space stands between two words, so a doubled
+/// space gives an empty word, and so does one at an end of the line.
 #[derive(Debug, Drop)]
 pub struct Words<'a> {
     // What stands behind the last space that was passed. It counts only while there is more.

@@ -1,6 +1,6 @@
 use Rattle.std.proofs.Common.{◌+◌, ◌-◌, length, drop, take, sym, ap, ◌∷◌, List, ℕ, ◌∙◌, arith}
 use Rattle.std.proofs.lemmas.List.{take_all}
-use Rattle.std.proofs.Common.{length-drop, subst, ◌≡◌}
+use Rattle.std.proofs.Common.{length-drop}
 use Rattle.zk_scenario.specs.Words.{words_of}
 use Rattle.zk_scenario.proofs.Cuts.{words_of-space, words_of-none}
 use Rattle.zk_scenario.proofs.words.split_word.Goals as goal

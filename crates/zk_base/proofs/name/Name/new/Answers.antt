@@ -1,5 +1,4 @@
-use Rattle.std.proofs.Common.{◌≡◌, ◌∙◌, sym, refl, take, drop, length}
-use Rattle.std.proofs.lemmas.List.{take_all}
+use Rattle.std.proofs.Common.{sym, refl}
 use Rattle.zk_base.specs.Padding.{IsPadded-made}
 use Rattle.zk_base.proofs.name.Name.new.Goals as goal
 

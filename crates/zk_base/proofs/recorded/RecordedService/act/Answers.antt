@@ -1,7 +1,6 @@
-use Rattle.std.proofs.Common.{◌≡◌, ◌<◌, ◌≤◌, ◌+◌, ◌-◌, ◌∙◌, ℕ, Bool, ap, sym, subst, true, false, List, ◌∷◌, [], ◌++◌, vec_len, vec_capacity, length, is_some, refl, arith, rules, Some}
-use Rattle.zk_base.specs.Legal.{state_after, IsLegal}
+use Rattle.std.proofs.Common.{◌≡◌, ◌≤◌, ◌+◌, ◌∙◌, ap, sym, subst, false, ◌∷◌, [], ◌++◌, vec_len, vec_capacity, length, is_some, arith, Some}
+use Rattle.zk_base.specs.Legal.{state_after}
 use Rattle.zk_base.specs.History.{entry, IsAbove}
-use Rattle.zk_base.specs.Recording.{IsRecorded}
 use Rattle.zk_base.proofs.Histories.{in_range-after, entries-after, state_after-snoc, room-step, IsRecorded-snoc, room-falls}
 use Rattle.zk_base.proofs.recorded.RecordedService.act.Goals as goal
 
@@ -34,17 +33,17 @@ invariant_of-self-in-Some g c =
     let some = ap is_some possible in
     let grown : vec_capacity c.self.inside.past ≤ vec_capacity c.put.new.items = omega (arith, c.make_room.ensures.capacity, c.put.ensures.capacity) in
     let made : closes ≡ false → vec_len c.self.inside.past + owed s + 3 ≤ vec_capacity c.put.new.items =
-        λ still. omega (arith, c.in_ok-make_room.ensures.ok s c.self.invariant.stands_for still, c.make_room.ensures.len, c.put.ensures.capacity) in
+    λ still. omega (arith, c.in_ok-make_room.ensures.ok s c.self.invariant.stands_for still, c.make_room.ensures.len, c.put.ensures.capacity) in
     let fits = room-step closes (owed s) (owed (m.next s c.args.who c.args.op)) (vec_len c.self.inside.past) (vec_capacity c.self.inside.past) (vec_capacity c.put.new.items)
-        c.self.invariant.room grown (λ closing. g.met.C.Engine.gives s c.args.who c.args.op closing some) made (g.met.C.Engine.adds s c.args.who c.args.op) in
+    c.self.invariant.room grown (λ closing. g.met.C.Engine.gives s c.args.who c.args.op closing some) made (g.met.C.Engine.adds s c.args.who c.args.op) in
     IsRecorded-snoc m owed g.C.Engine.entries (g.C.Engine.stands_for c.self.inside.engine) (g.C.Engine.stands_for c.step.new.self) first past c.put.new.items.items
-        (vec_len c.self.inside.past) (vec_len c.put.new.items) (vec_capacity c.self.inside.past) (vec_capacity c.put.new.items) e c.self.invariant
-        (c.put.ensures.items ∙ ap (λ h. h ++ e ∷ []) c.make_room.ensures.items)
-        (c.put.ensures.len ∙ ap (λ n. n + 1) c.make_room.ensures.len)
-        possible
-        (subst (λ h. IsAbove h c.args.who.number c.args.step) (sym history) c.requires.later)
-        (ap (λ v. m.in_range v c.args.op) start ∙ c.requires.range)
-        steps.2 fits
+    (vec_len c.self.inside.past) (vec_len c.put.new.items) (vec_capacity c.self.inside.past) (vec_capacity c.put.new.items) e c.self.invariant
+    (c.put.ensures.items ∙ ap (λ h. h ++ e ∷ []) c.make_room.ensures.items)
+    (c.put.ensures.len ∙ ap (λ n. n + 1) c.make_room.ensures.len)
+    possible
+    (subst (λ h. IsAbove h c.args.who.number c.args.step) (sym history) c.requires.later)
+    (ap (λ v. m.in_range v c.args.op) start ∙ c.requires.range)
+    steps.2 fits
 
 pub returns-in-Some-clause-room : goal.returns-in-Some-clause-room
 returns-in-Some-clause-room g c =
@@ -60,4 +59,4 @@ returns-in-Some-clause-room g c =
     let len = c.put.ensures.len ∙ ap (λ n. n + 1) c.make_room.ensures.len in
     let grown : vec_capacity c.self.inside.past ≤ vec_capacity c.put.new.items = omega (arith, c.make_room.ensures.capacity, c.put.ensures.capacity) in
     room-falls c.args.self.now.room (vec_len c.self.inside.past) (vec_len c.put.new.items) (owed s) (owed (state_after m first c.put.new.items.items)) (vec_capacity c.self.inside.past) (vec_capacity c.put.new.items)
-        (g.C.Engine.room c.self.inside.engine) (g.C.Engine.room c.step.new.self) (sym (ap (λ v. v.room) c.self.view_is)) len grown (omega (arith, after, adds)) c.step.ensures.room
+    (g.C.Engine.room c.self.inside.engine) (g.C.Engine.room c.step.new.self) (sym (ap (λ v. v.room) c.self.view_is)) len grown (omega (arith, after, adds)) c.step.ensures.room

@@ -1,0 +1,22 @@
+use Rattle.std.specs.Prelude.{◌≡◌, ℕ, ◌+◌, ◌≤◌, List, [], ◌++◌, length, take, drop, Option, Some, None, ⊤}
+use Rattle.std.specs.Io.KnownBytes.{IsAtEnd}
+use Rattle.zk_base.specs.Causes.{Rose}
+use Rattle.zk_cli.specs.declared.input.NoInput.{NoInput}
+use Rattle.zk_cli.specs.declared.input.NoInput.TheVariants.{Fault, NoMemory}
+
+-- the source gave all its bytes, or one byte more than a scenario may have, and keeps the rest
+abbrev pub HasRead : Option (List ℕ) → Option (List ℕ) → List ℕ → Type 0
+HasRead None left read = ⊤
+HasRead (Some input) None read = ⊥
+HasRead (Some input) (Some left) read = (read ≡ take 1048577 input) × (left ≡ drop 1048577 input)
+
+-- the next n bytes moved from the source to the end of what was read, and 0 is the end
+abbrev pub Moves : Option (List ℕ) → Option (List ℕ) → List ℕ → List ℕ → ℕ → Type 0
+Moves None left old new n = ⊤
+Moves (Some input) None old new n = ⊥
+Moves (Some input) (Some left) old new n = (piece : List ℕ) × (input ≡ piece ++ left) × (new ≡ old ++ piece) × (n ≡ 0 → left ≡ [])
+
+-- a fault of reading comes only where the count of faults rose
+abbrev pub IsCaused : ℕ → ℕ → NoInput → Type 0
+IsCaused old new Fault = Rose old new
+IsCaused old new NoMemory = ⊤

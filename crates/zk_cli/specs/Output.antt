@@ -1,0 +1,6 @@
+use Rattle.std.specs.Prelude.{◌≡◌, ℕ, ◌≤◌, List, [], ◌++◌, length, take, drop, Option, Some, None, ⊤}
+use Rattle.std.specs.Io.KnownBytes.{Appends}
+
+-- the sink holds a front of the text more
+abbrev pub AppendsFront : Option (List ℕ) → Option (List ℕ) → List ℕ → Type 0
+AppendsFront old new text = (n : ℕ) × (n ≤ length text) × Appends old new (take n text)

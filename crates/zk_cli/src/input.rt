@@ -1,0 +1,77 @@
+ghost use Rattle.std.specs.Prelude.{◌≡◌, ℕ, ◌+◌, ◌≤◌, [], ◌++◌, length, take, drop, List, Option, IfOk, IfErr, OnOk, OnErr, vec_len, IfSome, Some};
+ghost use Rattle.zk_base.specs.Causes.{Rose};
+ghost use Rattle.zk_cli.specs.Input.{HasRead, IsCaused, Moves};
+ghost use Rattle.zk_cli.specs.declared.input.TheConstants.{LIMIT};
+
+use std::alloc::{AllocError, AllocFailed, Global};
+use zk_base::{Failed, Source};
+
+/// The longest scenario, in bytes.
+pub const LIMIT: usize = 1_048_576;
+
+/// How many bytes one call of the source is asked for, at the most.
+const CHUNK: usize = 4096;
+
+/// Why no input was read.
+#[derive(Clone, Copy, Debug)]
+pub enum NoInput {
+    /// The source failed.
+    Fault,
+    NoMemory,
+}
+
+impl From<AllocError> for NoInput {
+    ghost use Rattle.zk_cli.specs.declared.input.NoInput.TheVariants.{NoMemory};
+    ghost use Rattle.std.specs.Prelude.{◌≡◌};
+
+    ghost from_gives = { λ _ e. e ≡ NoMemory };
+
+    fn from(_error: AllocError) -> NoInput {
+        NoInput::NoMemory
+    }
+}
+
+impl From<Failed> for NoInput {
+    ghost use Rattle.zk_cli.specs.declared.input.NoInput.TheVariants.{Fault};
+    ghost use Rattle.std.specs.Prelude.{◌≡◌};
+
+    ghost from_gives = { λ _ e. e ≡ Fault };
+
+    fn from(_error: Failed) -> NoInput {
+        NoInput::Fault
+    }
+}
+
+/// The source's bytes to their end, or to one byte above the limit.
+pub fn read_input<S: Source>(alloc: Global, source: &mut S) -> Result<Vec<u8>, NoInput>
+    ensures bytes { IfOk result (λ read. HasRead (S.left source.old) (S.left source.new) read.items) }
+    ensures fault { IfErr result (λ e. IsCaused (S.faults source.old) (S.faults source.new) e) }
+{
+    let mut bytes = Vec::new(alloc);
+    for _ in 0..LIMIT + 1 {
+        if read_some(source, &mut bytes)? == 0 {
+            return Ok(bytes);
+        }
+        if bytes.len() > LIMIT {
+            return Ok(bytes);
+        }
+    }
+    unreachable!()
+}
+
+/// Reads once, to the end of these bytes, and never past one byte above the limit.
+fn read_some<S: Source>(source: &mut S, bytes: &mut Vec<u8>) -> Result<usize, NoInput>
+    requires { vec_len bytes.old ≤ LIMIT }
+    ensures moved { IfOk result (λ n. Moves (S.left source.old) (S.left source.new) bytes.old.items bytes.new.items n) }
+    ensures size { IfOk result (λ n. vec_len bytes.new ≡ vec_len bytes.old + n) }
+    ensures within { IfOk result (λ n. vec_len bytes.new ≤ LIMIT + 1) }
+    ensures fault { IfErr result (λ e. IsCaused (S.faults source.old) (S.faults source.new) e) }
+    ensures counts { S.faults source.old ≤ S.faults source.new }
+{
+    let mut chunk = [0; CHUNK];
+    let most = CHUNK.min(LIMIT + 1 - bytes.len());
+    let into = &mut chunk[..most];
+    let count = source.read(into)?;
+    bytes.extend_from_slice(&into[..count])?;
+    Ok(count)
+}

@@ -1,0 +1,73 @@
+-- How often a queue has drained stays below the number of entries, and the queues that a state begins with.
+use Rattle.std.proofs.Common.{◌≡◌, ℕ, zero, suc, ◌+◌, ◌-◌, ◌^◌, ◌<◌, ◌≤◌, Bool, true, false, ◌&&◌, cond, List, [], ◌∷◌, ◌++◌, length, get_or, take, drop, All, refl, sym, ap, subst, ◌∙◌, arith}
+use Rattle.std.proofs.Math.Seq.{take-append_seam}
+use Rattle.std.proofs.lemmas.List.Elements.{All-nil, All-cons, All-head, All-tail}
+use Rattle.zk_model_work.specs.declared.parts.Admission.{Admission}
+use Rattle.zk_model_work.specs.declared.parts.Queue.{Queue}
+use Rattle.zk_model_work.specs.Questions.{is_empty_and_idle}
+use Rattle.zk_model_work.specs.State.{IsCounted, fresh_queue, fresh_queues}
+use Rattle.zk_model_work.specs.Machine.{settle_one, settle_from, settle}
+
+pub length-settle_from : (admissions : List Admission) (from : ℕ) (xs : List Queue) → length (settle_from admissions from xs) ≡ length xs
+length-settle_from admissions from [] = refl
+length-settle_from admissions from (x ∷ xs) = ap suc (length-settle_from admissions (from + 1) xs)
+
+-- one draining more at most
+drained-settle_one : (admissions : List Admission) (number n : ℕ) (q : Queue) → q.drained ≤ n → (settle_one admissions number q).drained ≤ n + 1
+drained-settle_one admissions number n q most = at (q.draining && is_empty_and_idle admissions number) where
+  at : (b : Bool) → (cond b (record q { draining = false; drained = q.drained + 1 }) q).drained ≤ n + 1
+  at true = omega arith
+  at false = omega arith
+
+drained-settle_from : (admissions : List Admission) (from n : ℕ) (xs : List Queue) → All (λ (q : Queue). q.drained ≤ n) xs → All (λ (q : Queue). q.drained ≤ n + 1) (settle_from admissions from xs)
+drained-settle_from admissions from n [] most = let P : Queue → Type 0 = λ q. q.drained ≤ n + 1 in All-nil P
+drained-settle_from admissions from n (x ∷ xs) most =
+    let Q : Queue → Type 0 = λ q. q.drained ≤ n in
+    let P : Queue → Type 0 = λ q. q.drained ≤ n + 1 in
+    All-cons P (settle_one admissions from x) (settle_from admissions (from + 1) xs) (drained-settle_one admissions from n x (All-head Q x xs most)) (drained-settle_from admissions (from + 1) n xs (All-tail Q x xs most))
+
+-- an entry that settles the queues
+pub IsCounted-settle : (entries len : ℕ) (admissions : List Admission) (old new : List Queue) → IsCounted entries old → entries < 2 ^ 32 - 1 → len ≡ length old → new ≡ settle admissions old →
+    IsCounted (entries + 1) (take len (new ++ drop (length new) old))
+IsCounted-settle entries len admissions old new was few same said =
+    let long : length new ≡ length old = ap length said ∙ length-settle_from admissions 0 old in
+    let whole : take len (new ++ drop (length new) old) ≡ new = ap (λ n. take n (new ++ drop (length new) old)) (same ∙ sym long) ∙ take-append_seam new (drop (length new) old) in
+    let P : List Queue → Type 0 = λ qs. IsCounted (entries + 1) qs in
+    let was_few = was.few in
+    let long_settled = length-settle_from admissions 0 old in
+    let counted : IsCounted (entries + 1) (settle admissions old) = record {
+      drained = drained-settle_from admissions 0 entries old was.drained;
+      entries_fit = omega arith;
+      few = omega arith;
+    } in
+    subst P (sym (whole ∙ said)) counted
+
+-- one queue more
+pub fresh_queues-more : (workers : List ℕ) (started : List Bool) (n w : ℕ) (on : Bool) → n < length workers → length workers ≡ length started →
+    fresh_queues (take n workers) (take n started) ++ fresh_queue (get_or workers n w) (get_or started n on) ∷ [] ≡ fresh_queues (take (n + 1) workers) (take (n + 1) started)
+fresh_queues-more workers started n w on within same =
+    let next : n + 1 ≡ suc n = omega arith in
+    more workers started n within same ∙ ap (λ m. fresh_queues (take m workers) (take m started)) (sym next) where
+      more : (ws : List ℕ) (ss : List Bool) (n : ℕ) → n < length ws → length ws ≡ length ss →
+          fresh_queues (take n ws) (take n ss) ++ fresh_queue (get_or ws n w) (get_or ss n on) ∷ [] ≡ fresh_queues (take (suc n) ws) (take (suc n) ss)
+      more [] ss n within same = absurd (omega arith)
+      more (x ∷ ws) [] n within same = absurd (omega arith)
+      more (x ∷ ws) (s ∷ ss) zero within same = refl
+      more (x ∷ ws) (s ∷ ss) (suc n) within same = ap (λ (qs : List Queue). fresh_queue x s ∷ qs) (more ws ss n (omega arith) (omega arith))
+
+pub length-fresh_queues : (workers : List ℕ) (started : List Bool) → length workers ≡ length started → length (fresh_queues workers started) ≡ length workers
+length-fresh_queues [] [] same = refl
+length-fresh_queues [] (s ∷ ss) same = absurd (omega arith)
+length-fresh_queues (w ∷ ws) [] same = absurd (omega arith)
+length-fresh_queues (w ∷ ws) (s ∷ ss) same = ap suc (length-fresh_queues ws ss (omega arith))
+
+pub drained-fresh_queues : (workers : List ℕ) (started : List Bool) → All (λ (q : Queue). q.drained ≤ 0) (fresh_queues workers started)
+drained-fresh_queues [] started = let P : Queue → Type 0 = λ q. q.drained ≤ 0 in All-nil P
+drained-fresh_queues (w ∷ ws) [] = let P : Queue → Type 0 = λ q. q.drained ≤ 0 in All-nil P
+drained-fresh_queues (w ∷ ws) (s ∷ ss) = let P : Queue → Type 0 = λ q. q.drained ≤ 0 in All-cons P (fresh_queue w s) (fresh_queues ws ss) (omega arith) (drained-fresh_queues ws ss)
+
+-- the queues of a state before its first entry
+pub IsCounted-fresh : (workers : List ℕ) (started : List Bool) → length workers ≡ length started → length workers ≤ 8 → IsCounted 0 (fresh_queues workers started)
+IsCounted-fresh workers started same few =
+    let long = length-fresh_queues workers started same in
+    record { drained = drained-fresh_queues workers started; entries_fit = omega arith; few = omega arith }

@@ -1,0 +1,128 @@
+ghost use Rattle.std.specs.Prelude.{◌≡◌, Some, None};
+ghost use Rattle.zk_model_work.specs.Machine.{is_chained, target, admission, submission_to, submission_at, submission, taken_up, may_begin, may_end};
+
+use crate::{
+    Admission, Queue, Submitted, WorkReply, first_in_line, is_cancelling, is_worker, last_queue,
+    run, running, running_queue, waiting,
+};
+use zk_base::{Errno, Who};
+
+/// Whether the caller is the worker of the queue.
+fn is_chained(queue: &Queue, caller: Option<u32>) -> bool
+    ensures { result ≡ is_chained queue.now caller }
+{
+    match caller {
+        None => false,
+        Some(player) => player == queue.worker,
+    }
+}
+
+/// The queue that a submission goes to.
+fn target(admissions: &[Admission], item: u32, named: Option<u32>) -> Option<u32>
+    ensures { result ≡ target admissions.now item named }
+{
+    running_queue(admissions, item)
+        .or(named)
+        .or(last_queue(admissions, item))
+}
+
+/// The answer where the item is admitted.
+fn admission(admissions: &[Admission], item: u32, number: u32) -> Submitted
+    ensures { result ≡ admission admissions.now item number }
+{
+    if running(admissions, item).is_some() {
+        Submitted::Rerun(admissions.len() as u64, number)
+    } else {
+        Submitted::Fresh(admissions.len() as u64, number)
+    }
+}
+
+/// The answer of the queue that the item goes to.
+fn submission_to(
+    admissions: &[Admission],
+    caller: Option<u32>,
+    item: u32,
+    number: u32,
+    queue: &Queue,
+) -> Submitted
+    ensures { result ≡ submission_to admissions.now caller item number queue.now }
+{
+    if !queue.started {
+        return Submitted::Refused(Errno::NoDev);
+    }
+    if queue.draining && !is_chained(queue, caller) {
+        return Submitted::Refused(Errno::Busy);
+    }
+    if queue.plugged && !queue.draining {
+        return Submitted::Refused(Errno::Busy);
+    }
+    admission(admissions, item, number)
+}
+
+/// The answer at the queue of this number, if there is one.
+fn submission_at(
+    admissions: &[Admission],
+    queues: &[Queue],
+    caller: Option<u32>,
+    item: u32,
+    to: Option<u32>,
+) -> Submitted
+    ensures { result ≡ submission_at admissions.now queues.now caller item to }
+{
+    match to {
+        None => Submitted::Refused(Errno::Inval),
+        Some(number) => match queues.get(number as usize) {
+            None => Submitted::Refused(Errno::Inval),
+            Some(queue) => submission_to(admissions, caller, item, number, queue),
+        },
+    }
+}
+
+/// The answer to a submission of the item by this player, or by nobody, to the named queue.
+pub fn submission(
+    admissions: &[Admission],
+    marks: &[u64],
+    queues: &[Queue],
+    caller: Option<u32>,
+    item: u32,
+    named: Option<u32>,
+) -> Submitted
+    ensures { result ≡ submission admissions.now marks.now queues.now caller item named }
+{
+    if is_cancelling(admissions, marks, item) {
+        return Submitted::Refused(Errno::Busy);
+    }
+    if waiting(admissions, item).is_some() {
+        return Submitted::Already;
+    }
+    submission_at(
+        admissions,
+        queues,
+        caller,
+        item,
+        target(admissions, item, named),
+    )
+}
+
+/// What a worker of this queue takes up: the first in its line.
+pub fn taken_up(admissions: &[Admission], queue: u32) -> Option<WorkReply>
+    ensures { result ≡ taken_up admissions.now queue }
+{
+    let number = first_in_line(admissions, queue)?;
+    let admission = admissions.get(number)?;
+    Some(WorkReply::Run(admission.item, number as u64))
+}
+
+/// Whether the player may take up the next of this queue: its worker may, while the queue runs nothing.
+pub fn may_begin(admissions: &[Admission], queues: &[Queue], who: Who, queue: u32) -> bool
+    ensures { result ≡ may_begin admissions.now queues.now who queue }
+{
+    is_worker(queues, queue, who.number) && run(admissions, queue).is_none()
+}
+
+/// Whether the player may end what this queue runs: its worker may.
+pub fn may_end(admissions: &[Admission], queues: &[Queue], who: Who, queue: u32) -> bool
+    ensures { result ≡ may_end admissions.now queues.now who queue }
+{
+    is_worker(queues, queue, who.number) && run(admissions, queue).is_some()
+}

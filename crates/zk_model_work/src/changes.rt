@@ -1,0 +1,120 @@
+ghost use Rattle.std.specs.Prelude.{◌≡◌, ◌+◌, ◌-◌, ◌^◌, ◌<◌, ◌++◌, length, All, option_to_list};
+ghost use Rattle.zk_model_work.specs.Questions.{running, runs_on, waits_as, arms_item};
+ghost use Rattle.zk_model_work.specs.Machine.{set_life, begin, end_run, drop_waiting, disarm, settle_one, settle, end_one, drop_one, disarm_one};
+
+use crate::{Admission, Arm, Fate, Life, Queue, first_in_line, is_empty_and_idle};
+
+/// The admission, ended if the queue runs it.
+fn end_one(admission: Admission, queue: u32) -> Admission
+    ensures { result ≡ end_one queue admission }
+{
+    if admission.queue == queue && admission.life.is_running() {
+        Admission {
+            life: Life::Ended,
+            ..admission
+        }
+    } else {
+        admission
+    }
+}
+
+/// What the queue ran has ended.
+pub fn end_run(admissions: &mut [Admission], queue: u32)
+    ensures { admissions.new ≡ end_run admissions.old queue }
+{
+    for index in 0..admissions.len() {
+        admissions[index] = end_one(admissions[index], queue);
+    }
+}
+
+/// The admission, dropped if it is a waiting one of the item.
+fn drop_one(admission: Admission, item: u32) -> Admission
+    ensures { result ≡ drop_one item admission }
+{
+    if admission.item == item && admission.life.is_waiting() {
+        Admission {
+            life: Life::Dropped,
+            ..admission
+        }
+    } else {
+        admission
+    }
+}
+
+/// The item's waiting admission is dropped.
+pub fn drop_waiting(admissions: &mut [Admission], item: u32)
+    ensures { admissions.new ≡ drop_waiting admissions.old item }
+{
+    for index in 0..admissions.len() {
+        admissions[index] = drop_one(admissions[index], item);
+    }
+}
+
+/// The arm, disarmed if it is a live one of the item.
+fn disarm_one(arm: Arm, item: u32) -> Arm
+    ensures { result ≡ disarm_one item arm }
+{
+    if arm.item == item && arm.fate.is_live() {
+        Arm {
+            fate: Fate::Disarmed,
+            ..arm
+        }
+    } else {
+        arm
+    }
+}
+
+/// The item's live arm is disarmed.
+pub fn disarm(arms: &mut [Arm], item: u32)
+    ensures { arms.new ≡ disarm arms.old item }
+{
+    for index in 0..arms.len() {
+        arms[index] = disarm_one(arms[index], item);
+    }
+}
+
+/// The admission of this number, if there is one, has another life.
+pub fn set_life(admissions: &mut [Admission], number: usize, life: Life)
+    ensures { admissions.new ≡ set_life admissions.old number life }
+{
+    if number < admissions.len() {
+        admissions[number].life = life;
+    }
+}
+
+/// The first in the queue's line runs.
+pub fn begin(admissions: &mut [Admission], queue: u32)
+    ensures { admissions.new ≡ begin admissions.old queue }
+{
+    match first_in_line(admissions, queue) {
+        None => {}
+        Some(number) => set_life(admissions, number, Life::Running),
+    }
+}
+
+/// The queue, drained once more if it drains, and is empty and idle.
+fn settle_one(admissions: &[Admission], number: u32, queue: Queue) -> Queue
+    requires { queue.drained < 2 ^ 64 - 1 }
+    ensures { result ≡ settle_one admissions.now number queue }
+{
+    if queue.draining && is_empty_and_idle(admissions, number) {
+        Queue {
+            draining: false,
+            drained: queue.drained + 1,
+            ..queue
+        }
+    } else {
+        queue
+    }
+}
+
+/// The draining of each queue ends, where it is empty and idle.
+pub fn settle(admissions: &[Admission], queues: &mut [Queue])
+    requires counted { All (λ q. q.drained < 2 ^ 64 - 1) queues.old }
+    requires few { length queues.old < 2 ^ 32 }
+    ensures { queues.new ≡ settle admissions.now queues.old }
+{
+    for number in 0..queues.len() {
+        queues[number] = settle_one(admissions, number as u32, queues[number]);
+    }
+}

@@ -1,0 +1,143 @@
+ghost use Rattle.std.specs.Prelude.{◌≡◌, ◌+◌, option_map, position};
+ghost use Rattle.std.specs.Option.{option_map_or};
+ghost use Rattle.zk_model_work.specs.Lists.{first};
+ghost use Rattle.zk_model_work.specs.Questions.{waiting, running, running_queue, last_queue, line, run, is_empty_and_idle, is_cancelling, armed, is_flushing, waits_as, runs_as, is_open_as, waits_for, flushes, passes_at};
+ghost use Rattle.zk_model_work.specs.Machine.{is_worker};
+
+use crate::{Admission, Arm, Awaited, Queue, Wait};
+
+/// The number of the item's waiting admission.
+pub fn waiting(admissions: &[Admission], item: u32) -> Option<usize>
+    ensures { result ≡ waiting admissions.now item }
+{
+    admissions
+        .iter()
+        .position(|a| a.item == item && a.life.is_waiting())
+}
+
+/// The number of the item's running admission.
+pub fn running(admissions: &[Admission], item: u32) -> Option<usize>
+    ensures { result ≡ running admissions.now item }
+{
+    admissions
+        .iter()
+        .position(|a| a.item == item && a.life.is_running())
+}
+
+/// The queue that runs the item.
+pub fn running_queue(admissions: &[Admission], item: u32) -> Option<u32>
+    ensures { result ≡ running_queue admissions.now item }
+{
+    admissions
+        .iter()
+        .find(|a| a.item == item && a.life.is_running())
+        .map(|a| a.queue)
+}
+
+/// The queue of the item's last admission.
+pub fn last_queue(admissions: &[Admission], item: u32) -> Option<u32>
+    ensures { result ≡ last_queue admissions.now item }
+{
+    admissions
+        .iter()
+        .rev()
+        .find(|a| a.item == item)
+        .map(|a| a.queue)
+}
+
+/// The place of the first admission that waits for the queue.
+fn place_in_line(admissions: &[Admission], queue: u32) -> Option<usize>
+    ensures { result ≡ position (waits_for queue) admissions.now }
+{
+    admissions
+        .iter()
+        .position(|a| a.queue == queue && a.life.is_waiting())
+}
+
+/// The number of the first admission in the queue's line.
+pub fn first_in_line(admissions: &[Admission], queue: u32) -> Option<usize>
+    ensures { result ≡ first (line admissions.now queue) }
+{
+    place_in_line(admissions, queue)
+}
+
+/// The number of the admission that the queue runs.
+pub fn run(admissions: &[Admission], queue: u32) -> Option<usize>
+    ensures { result ≡ run admissions.now queue }
+{
+    admissions
+        .iter()
+        .position(|a| a.queue == queue && a.life.is_running())
+}
+
+/// Whether no admission to the queue waits or runs.
+pub fn is_empty_and_idle(admissions: &[Admission], queue: u32) -> bool
+    ensures { result ≡ is_empty_and_idle admissions.now queue }
+{
+    admissions
+        .iter()
+        .all(|a| !(a.queue == queue && a.life.is_open()))
+}
+
+/// Whether this player is the queue's worker.
+pub fn is_worker(queues: &[Queue], number: u32, player: u32) -> bool
+    ensures { result ≡ is_worker queues.now number player }
+{
+    match queues.get(number as usize) {
+        None => false,
+        Some(queue) => player == queue.worker,
+    }
+}
+
+/// Whether the admission of this number is a running one of the item.
+fn is_run_of(admissions: &[Admission], item: u32, number: u64) -> bool
+    ensures { result ≡ passes_at (runs_as item) admissions.now number }
+{
+    match admissions.get(number as usize) {
+        None => false,
+        Some(a) => a.item == item && a.life.is_running(),
+    }
+}
+
+/// Whether a run of the item is marked by a cancel.
+pub fn is_cancelling(admissions: &[Admission], marks: &[u64], item: u32) -> bool
+    ensures { result ≡ is_cancelling admissions.now marks.now item }
+{
+    marks.iter().any(|mark| is_run_of(admissions, item, *mark))
+}
+
+/// The place of the item's live arm.
+pub fn armed(arms: &[Arm], item: u32) -> Option<usize>
+    ensures { result ≡ armed arms.now item }
+{
+    arms.iter().position(|a| a.item == item && a.fate.is_live())
+}
+
+/// Whether the admission of this number is one of the item that waits or runs.
+fn is_open_of(admissions: &[Admission], item: u32, number: u64) -> bool
+    ensures { result ≡ passes_at (is_open_as item) admissions.now number }
+{
+    match admissions.get(number as usize) {
+        None => false,
+        Some(a) => a.item == item && a.life.is_open(),
+    }
+}
+
+/// Whether this is a flush of such an admission.
+fn flushes(admissions: &[Admission], item: u32, awaited: Awaited) -> bool
+    ensures { result ≡ flushes admissions.now item awaited }
+{
+    match awaited {
+        Awaited::Flush(number) => is_open_of(admissions, item, number),
+        _ => false,
+    }
+}
+
+/// Whether a flush names an admission of the item that waits or runs.
+pub fn is_flushing(admissions: &[Admission], waits: &[Wait], item: u32) -> bool
+    ensures { result ≡ is_flushing admissions.now waits.now item }
+{
+    waits
+        .iter()
+        .any(|wait| flushes(admissions, item, wait.awaited))
+}

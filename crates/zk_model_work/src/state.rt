@@ -1,0 +1,210 @@
+ghost use Rattle.std.specs.Prelude.{◌≡◌, ◌≢◌, ◌-◌, ◌^◌, ◌<◌, ◌≤◌, length, AllPairs, Some, IfOk, OnOk, OnErr};
+ghost use Rattle.zk_model_work.specs.State.{State, start_of, fresh_queues};
+ghost use Rattle.zk_model_work.specs.Machine.{work_reply, after_reply, submit, mark, flags_of};
+
+use crate::{
+    Admission, Arm, Life, Queue, Submitted, Wait, WorkOp, WorkReply, begin, disarm, drop_waiting,
+    end_run, flags, may_begin, may_end, running, settle, submission, taken_up,
+};
+use bitflags::Flags;
+use std::alloc::Global;
+use std::marker::Model;
+use zk_base::{NoMemory, Who};
+
+/// The state of the work machine, which contracts see as its definition has it. Nothing that was ever admitted is forgotten.
+#[derive(Drop)]
+pub struct WorkState {
+    time: u64,
+    entries: u64,
+    items: u32,
+    admissions: Vec<Admission>,
+    arms: Vec<Arm>,
+    marks: Vec<u64>,
+    waits: Vec<Wait>,
+    queues: Vec<Queue>,
+}
+
+impl Model for WorkState {
+    ghost use Rattle.zk_model_work.specs.State.{State, IsCounted};
+
+    ghost Value = { State };
+
+    ghost view = { λ a. record {
+      time = a.time;
+      entries = a.entries;
+      items = a.items;
+      admissions = a.admissions.items;
+      arms = a.arms.items;
+      marks = a.marks.items;
+      waits = a.waits.items;
+      queues = a.queues.items;
+    } };
+
+    ghost invariant = { λ a. IsCounted a.entries a.queues.items };
+}
+
+/// One admission more, where the answer says so.
+pub fn submit(admissions: &mut Vec<Admission>, item: u32, answer: Submitted) -> Result<(), NoMemory>
+    ensures ok { OnOk result (admissions.new.items ≡ submit admissions.old.items item answer) }
+    ensures err { OnErr result (admissions.new.items ≡ admissions.old.items) }
+{
+    match answer {
+        Submitted::Fresh(_, queue) | Submitted::Rerun(_, queue) => {
+            admissions.push(Admission {
+                item,
+                queue,
+                life: Life::Waiting,
+            })?;
+            Ok(())
+        }
+        _ => Ok(()),
+    }
+}
+
+/// The run of the item is marked.
+pub fn mark(admissions: &[Admission], marks: &mut Vec<u64>, item: u32) -> Result<(), NoMemory>
+    ensures ok { OnOk result (marks.new.items ≡ mark admissions.now marks.old.items item) }
+    ensures err { OnErr result (marks.new.items ≡ marks.old.items) }
+{
+    match running(admissions, item) {
+        None => Ok(()),
+        Some(number) => {
+            marks.push(number as u64)?;
+            Ok(())
+        }
+    }
+}
+
+/// The queues of these workers, none of them used yet.
+fn fresh_queues(alloc: Global, workers: &[u32], started: &[bool]) -> Result<Vec<Queue>, NoMemory>
+    requires same { length workers.now ≡ length started.now }
+    ensures { IfOk result (λ queues. queues.items ≡ fresh_queues workers.now started.now) }
+{
+    let mut queues = Vec::new(alloc);
+    for number in 0..workers.len() {
+        queues.push(Queue {
+            worker: workers[number],
+            started: started[number],
+            draining: false,
+            plugged: false,
+            drained: 0,
+        })?;
+    }
+    Ok(queues)
+}
+
+impl WorkState {
+    /// The state before the first entry: so many items, and a queue for each worker, started or not.
+    ///
+    /// The workers' numbers are those of their players, in the order of the queues.
+    pub fn new(
+        alloc: Global,
+        items: u32,
+        workers: &[u32],
+        started: &[bool],
+    ) -> Result<WorkState, NoMemory>
+        requires same { length workers.now ≡ length started.now }
+        requires differ { AllPairs (λ a b. a ≢ b) workers.now }
+        requires queues { length workers.now ≤ 8 }
+        requires items { items ≤ 256 }
+        ensures { IfOk result (λ s. s ≡ start_of items workers.now started.now) }
+    {
+        let queues = fresh_queues(alloc, workers, started)?;
+        Ok(WorkState {
+            time: 0,
+            entries: 0,
+            items,
+            admissions: Vec::new(alloc),
+            arms: Vec::new(alloc),
+            marks: Vec::new(alloc),
+            waits: Vec::new(alloc),
+            queues,
+        })
+    }
+
+    fn submit(
+        &mut self,
+        who: Who,
+        item: u32,
+        named: Option<u32>,
+    ) -> Result<Option<WorkReply>, NoMemory>
+        requires { self.old.entries < 2 ^ 32 - 1 }
+        ensures reply { IfOk result (λ reply. reply ≡ work_reply self.old who (WorkOp.Submit item named)) }
+        ensures next { IfOk result (λ reply. self.new ≡ after_reply self.old who (WorkOp.Submit item named) reply) }
+        ensures unchanged { OnErr result (self.new ≡ self.old) }
+    {
+        let answer = submission(
+            &self.admissions,
+            &self.marks,
+            &self.queues,
+            Some(who.number),
+            item,
+            named,
+        );
+        submit(&mut self.admissions, item, answer)?;
+        self.entries += 1;
+        Ok(Some(WorkReply::Sub(answer)))
+    }
+
+    fn begin(&mut self, who: Who, queue: u32) -> Option<WorkReply>
+        requires { self.old.entries < 2 ^ 32 - 1 }
+        ensures reply { result ≡ work_reply self.old who (WorkOp.Begin queue) }
+        ensures next { self.new ≡ after_reply self.old who (WorkOp.Begin queue) result }
+    {
+        if !may_begin(&self.admissions, &self.queues, who, queue) {
+            return None;
+        }
+        let reply = taken_up(&self.admissions, queue)?;
+        begin(&mut self.admissions, queue);
+        self.entries += 1;
+        Some(reply)
+    }
+
+    fn end(&mut self, who: Who, queue: u32) -> Option<WorkReply>
+        requires { self.old.entries < 2 ^ 32 - 1 }
+        ensures reply { result ≡ work_reply self.old who (WorkOp.End queue) }
+        ensures next { self.new ≡ after_reply self.old who (WorkOp.End queue) result }
+    {
+        if !may_end(&self.admissions, &self.queues, who, queue) {
+            return None;
+        }
+        end_run(&mut self.admissions, queue);
+        settle(&self.admissions, &mut self.queues);
+        self.entries += 1;
+        Some(WorkReply::Done)
+    }
+
+    fn cancel(&mut self, who: Who, item: u32) -> Result<Option<WorkReply>, NoMemory>
+        requires { self.old.entries < 2 ^ 32 - 1 }
+        ensures reply { IfOk result (λ reply. reply ≡ Some (WorkReply.Flags (flags_of self.new item))) }
+        ensures next { IfOk result (λ reply. self.new ≡ after_reply self.old who (WorkOp.Cancel item) reply) }
+        ensures unchanged { OnErr result (self.new ≡ self.old) }
+    {
+        mark(&self.admissions, &mut self.marks, item)?;
+        drop_waiting(&mut self.admissions, item);
+        disarm(&mut self.arms, item);
+        settle(&self.admissions, &mut self.queues);
+        self.entries += 1;
+        let flags = flags(&self.admissions, &self.marks, &self.arms, &self.waits, item);
+        Ok(Some(WorkReply::Flags(flags.bits())))
+    }
+}
+
+/// One operation of the work machine: its reply and its next state. Where it isn't possible nothing changes.
+pub fn work_next(
+    state: &mut WorkState,
+    who: Who,
+    op: &WorkOp,
+) -> Result<Option<WorkReply>, NoMemory>
+    requires { state.old.entries < 2 ^ 32 - 1 }
+    ensures reply { IfOk result (λ reply. reply ≡ work_reply state.old who op.now) }
+    ensures next { IfOk result (λ reply. state.new ≡ after_reply state.old who op.now reply) }
+    ensures unchanged { OnErr result (state.new ≡ state.old) }
+{
+    match *op {
+        WorkOp::Submit(item, named) => state.submit(who, item, named),
+        WorkOp::Begin(queue) => Ok(state.begin(who, queue)),
+        WorkOp::End(queue) => Ok(state.end(who, queue)),
+        WorkOp::Cancel(item) => state.cancel(who, item),
+    }
+}

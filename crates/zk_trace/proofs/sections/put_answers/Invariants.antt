@@ -1,0 +1,7 @@
+use Rattle.std.proofs.Common.{◌≡◌, ◌++◌, take}
+use Rattle.std.specs.List.{flat_map}
+use Rattle.zk_trace.specs.Text.{answer_line}
+use Rattle.zk_trace.proofs.sections.put_answers.Given as goal
+
+abbrev pub invariant-loop-answered : goal.invariant-loop-answered
+invariant-loop-answered l = l.out.items ≡ l.initial.out.items ++ flat_map answer_line (take l.answered-index l.answers)

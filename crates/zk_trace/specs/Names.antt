@@ -1,0 +1,20 @@
+use Rattle.std.specs.Prelude.{ℕ, Option, List, [], slice_get, option_and_then}
+use Rattle.std.specs.Option.{option_map_or}
+use Rattle.zk_scenario.specs.declared.types.Decl.{Decl}
+use Rattle.zk_scenario.specs.Players.{places, players, is_item, is_queue, name_of}
+
+-- the name of an object, if there is one
+abbrev pub object_name : List Decl → Option ℕ → List ℕ
+object_name decls object = option_map_or name_of (option_and_then (slice_get decls) object) []
+
+-- the name of an item, by its number among the items
+abbrev pub item_name : List Decl → ℕ → List ℕ
+item_name decls item = object_name decls (slice_get (places is_item decls) item)
+
+-- the name of a queue, by its number among the queues
+abbrev pub queue_name : List Decl → ℕ → List ℕ
+queue_name decls queue = object_name decls (slice_get (places is_queue decls) queue)
+
+-- the name of a player: a thread's own, and a worker's queue's
+abbrev pub player_name : List Decl → ℕ → List ℕ
+player_name decls player = object_name decls (slice_get (players decls) player)

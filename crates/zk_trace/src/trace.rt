@@ -1,0 +1,28 @@
+use zk_base::{Entry, Listed};
+use zk_model_work::{WorkOp, WorkReply};
+use zk_worker::Log;
+
+/// How a run ended.
+#[derive(Clone, Copy, Debug, PartialEq, Eq)]
+pub enum Ending {
+    /// Each thread is through its script, each worker is between two runs, and no admission waits.
+    Ended,
+    /// Some player isn't, and none can go on.
+    Stuck,
+    /// Some player has made all the steps that a player may make.
+    Spent,
+}
+
+/// What a service did, oldest first.
+pub type History<O, R> = Listed<Entry<O, R>>;
+
+/// What each player did, in player order.
+pub type Logs = Listed<Log>;
+
+/// All that a run of a scenario did.
+#[derive(Debug, Drop)]
+pub struct Trace {
+    pub ending: Ending,
+    pub work: History<WorkOp, WorkReply>,
+    pub logs: Logs,
+}

@@ -1,0 +1,106 @@
+ghost use Rattle.std.specs.Prelude.{◌≡◌, ◌++◌, ◌==◌, OnOk};
+ghost use Rattle.std.specs.Int.RustNames.{bit_and};
+ghost use Rattle.zk_trace.specs.Words.{spaced, ending_word, errno_word, admission_word, flag_letter, flag_letters, flags_word, call_word, answer_text, state_word};
+
+use crate::Ending;
+use zk_base::{Errno, NoMemory, put, put_decimal};
+use zk_worker::{Answer, PlayerState, Word};
+
+/// Appends a space and then the word.
+pub fn put_spaced(out: &mut Vec<u8>, word: &[u8]) -> Result<(), NoMemory>
+    ensures { OnOk result (out.new.items ≡ out.old.items ++ spaced word.now) }
+{
+    put(out, b" ")?;
+    put(out, word)
+}
+
+pub fn ending_word(ending: Ending) -> &'static [u8]
+    ensures { result.now ≡ ending_word ending }
+{
+    match ending {
+        Ending::Ended => b"ended",
+        Ending::Stuck => b"stuck",
+        Ending::Spent => b"spent",
+    }
+}
+
+pub fn errno_word(errno: Errno) -> &'static [u8]
+    ensures { result.now ≡ errno_word errno }
+{
+    match errno {
+        Errno::Busy => b"busy",
+        Errno::Again => b"again",
+        Errno::Inval => b"inval",
+        Errno::NoDev => b"nodev",
+        Errno::NoMsg => b"nomsg",
+        Errno::Already => b"already",
+        Errno::Fault => b"fault",
+    }
+}
+
+/// Appends the number of an admission.
+pub fn put_admission(out: &mut Vec<u8>, number: u64) -> Result<(), NoMemory>
+    ensures { OnOk result (out.new.items ≡ out.old.items ++ admission_word number) }
+{
+    put(out, b"a")?;
+    put_decimal(out, number)
+}
+
+/// Appends the letters of the busy flags, or a dash.
+pub fn put_flags(out: &mut Vec<u8>, flags: u8) -> Result<(), NoMemory>
+    ensures { OnOk result (out.new.items ≡ out.old.items ++ flags_word flags) }
+{
+    if flags == 0 {
+        return put(out, b"-");
+    }
+    put_letters(out, flags)
+}
+
+fn put_letters(out: &mut Vec<u8>, flags: u8) -> Result<(), NoMemory>
+    ensures { OnOk result (out.new.items ≡ out.old.items ++ flag_letters flags) }
+{
+    put_letter(out, flags, 1, b'r')?;
+    put_letter(out, flags, 2, b'c')?;
+    put_letter(out, flags, 4, b'q')?;
+    put_letter(out, flags, 8, b'd')?;
+    put_letter(out, flags, 16, b'f')
+}
+
+fn put_letter(out: &mut Vec<u8>, flags: u8, flag: u8, letter: u8) -> Result<(), NoMemory>
+    ensures { OnOk result (out.new.items ≡ out.old.items ++ flag_letter flags flag letter) }
+{
+    if flags & flag == 0 {
+        return Ok(());
+    }
+    put(out, &[letter])
+}
+
+pub fn call_word(word: Word) -> &'static [u8]
+    ensures { result.now ≡ call_word word }
+{
+    match word {
+        Word::Submit => b"submit",
+        Word::Cancel => b"cancel",
+    }
+}
+
+/// Appends the answer of a call.
+pub fn put_answer(out: &mut Vec<u8>, answer: Answer) -> Result<(), NoMemory>
+    ensures { OnOk result (out.new.items ≡ out.old.items ++ answer_text answer) }
+{
+    match answer {
+        Answer::Number(number) => put_decimal(out, number),
+        Answer::Flags(flags) => put_flags(out, flags),
+        Answer::Refused(errno) => put(out, errno_word(errno)),
+    }
+}
+
+pub fn state_word(state: PlayerState) -> &'static [u8]
+    ensures { result.now ≡ state_word state }
+{
+    match state {
+        PlayerState::Spent => b"spent",
+        PlayerState::Done => b"done",
+        PlayerState::Standing => b"open",
+    }
+}

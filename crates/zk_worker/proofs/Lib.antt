@@ -1,0 +1,4 @@
+pub mod Numbers
+pub mod Moves
+pub mod Starts
+pub mod Fits

@@ -1,0 +1,17 @@
+use Rattle.std.proofs.Common.{◌<◌, ap, arith, length, reverse, vec_capacity}
+use Rattle.zk_worker.specs.declared.steps.TheConstants.{MOST_STEPS}
+use Rattle.zk_worker.proofs.Moves.{ahead_short, IsRoomy-moved}
+use Rattle.zk_worker.proofs.player.Player.made.Goals as goal
+
+pub invariant_of-self : goal.invariant_of-self
+invariant_of-self c =
+    let was = c.self.inside in
+    let short = ahead_short c.args.scenario.now c.args.self.now c.args.step c.requires.ahead in
+    let spots = ap (λ v. length v.spots) c.self.view_is in
+    let fewer : length was.spots.items < MOST_STEPS = omega (arith, spots, short) in
+    IsRoomy-moved c.args.scenario.now (reverse was.stack.items) (reverse c.move_frames.new.stack.items) was.answers.items c.put_answer.new.answers.items
+    was.spots.items c.put.new.items.items c.spot_of.result c.len-number.result c.frames_progress-progress.result
+    (vec_capacity was.stack) (vec_capacity was.answers) (vec_capacity was.spots)
+    (vec_capacity c.move_frames.new.stack) (vec_capacity c.put_answer.new.answers) (vec_capacity c.put.new.items)
+    c.self.invariant fewer c.move_frames.ensures.frames c.put_answer.ensures.answers c.put.ensures.items
+    c.move_frames.ensures.capacity c.put_answer.ensures.capacity c.put.ensures.capacity

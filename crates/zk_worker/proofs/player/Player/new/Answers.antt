@@ -1,0 +1,35 @@
+use Rattle.std.proofs.Common.{◌≡◌, ◌<◌, ◌∙◌, Some, List, [], ◌∷◌, ◌++◌, length, reverse, refl, sym, ap, subst}
+use Rattle.std.specs.List.{slice_get}
+use Rattle.std.proofs.lemmas.Option.{slice_get_read}
+use Rattle.zk_scenario.specs.declared.types.Decl.{Decl}
+use Rattle.zk_worker.specs.declared.frames.Frame.{Frame}
+use Rattle.zk_worker.specs.Places.{At}
+use Rattle.zk_worker.specs.Protocol.{settled, first_frame, role_at}
+use Rattle.zk_worker.proofs.Numbers.{players-below}
+use Rattle.zk_worker.proofs.Starts.{At-same, start_at-found}
+use Rattle.zk_worker.proofs.player.Player.new.Goals as goal
+
+pub unreachable-requires-in_default-get : goal.unreachable-requires-in_default-get
+unreachable-requires-in_default-get c =
+    let below = players-below c.args.scenario.now.decls c.args.number c.in-Some.object (sym c.in-Some.ensures) in
+    let within : c.in-Some.object < length c.decls.result.now = subst (λ (l : List Decl). c.in-Some.object < length l) (sym c.decls.ensures.decls) below in
+    let bad = c.in_default-get.ensures.lookup.2 within in
+    cc
+
+pub returns : goal.returns
+returns c =
+    let s = c.args.scenario.now in
+    let decl = c.in-Some-get.decl.now in
+    let object = c.in-Some.object in
+    let below = players-below s.decls c.args.number object (sym c.in-Some.ensures) in
+    let within : object < length c.decls.result.now = subst (λ (l : List Decl). object < length l) (sym c.decls.ensures.decls) below in
+    let declared : slice_get s.decls object ≡ Some decl =
+    subst (λ (l : List Decl). slice_get l object ≡ Some decl) c.decls.ensures.decls
+    (slice_get_read c.decls.result.now (length c.decls.result.now) object decl refl within c.in-Some-get.ensures.lookup.1) in
+    let frame : c.first_frame.result ≡ first_frame (role_at decl object) = c.first_frame.ensures ∙ ap first_frame c.role_at.ensures in
+    let stack : c.put.new.items.items ≡ first_frame (role_at decl object) ∷ [] =
+    c.put.ensures.items ∙ ap (λ (l : List Frame). l ++ c.first_frame.result ∷ []) c.in_ok-stack.ensures.items ∙ ap (λ (f : Frame). f ∷ []) frame in
+    let frames = c.settle.ensures.frames ∙ ap (λ (l : List Frame). settled s (reverse l)) stack in
+    let made = At-same _ _ _ _ _ _ _ _ (sym c.who_at-who.ensures) (sym frames)
+    (sym c.in_ok-with_capacity.ensures.items) (sym c.in_ok-with_capacity-2.ensures.items) in
+    start_at-found s c.args.number object decl (sym c.in-Some.ensures) declared ∙ ap (λ (x : At). Some x) made

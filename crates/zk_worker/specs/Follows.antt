@@ -1,0 +1,60 @@
+use Rattle.std.specs.Prelude.{◌≡◌, ℕ, Bool, true, false, nat_lt, if◌then◌else◌, Option, Some, None, List, [], ◌∷◌, length, map, slice_get, option_map}
+use Rattle.zk_base.specs.declared.ids.Entry.{Entry}
+use Rattle.zk_scenario.specs.Parts.{Parts}
+use Rattle.zk_model_work.specs.declared.ops.WorkOp.{WorkOp}
+use Rattle.zk_model_work.specs.declared.ops.WorkReply.{WorkReply}
+use Rattle.zk_worker.specs.declared.steps.TheConstants.{MOST_STEPS}
+use Rattle.zk_worker.specs.declared.steps.Step.{Step}
+use Rattle.zk_worker.specs.declared.steps.Step.TheVariants as steps
+use Rattle.zk_worker.specs.declared.steps.StepReply.{StepReply}
+use Rattle.zk_worker.specs.declared.steps.StepReply.TheVariants as step_replies
+use Rattle.zk_worker.specs.declared.steps.Spot.{Spot}
+use Rattle.zk_worker.specs.declared.steps.Spot.TheVariants as spots
+use Rattle.zk_worker.specs.declared.frames.Stage.{Stage}
+use Rattle.zk_worker.specs.declared.frames.Stage.TheVariants.{Start, Runs}
+use Rattle.zk_worker.specs.declared.frames.Role.{Role}
+use Rattle.zk_worker.specs.declared.frames.Role.TheVariants.{Script, Worker}
+use Rattle.zk_worker.specs.declared.frames.Frame.{Frame}
+use Rattle.zk_worker.specs.declared.log.PlayerState.{PlayerState}
+use Rattle.zk_worker.specs.declared.log.PlayerState.TheVariants.{Spent, Done, Standing}
+use Rattle.zk_worker.specs.declared.log.Log.{Log}
+use Rattle.zk_worker.specs.Places.{At}
+use Rattle.zk_worker.specs.Protocol.{IsAhead, after, start_at}
+
+-- whether a worker stands between two runs
+abbrev pub is_between : Role → Stage → Bool
+is_between (Worker queue) Start = true
+is_between role stage = false
+
+-- whether a thread is through its script, or a worker between two runs
+abbrev pub is_done : List Frame → Bool
+is_done [] = true
+is_done (frame ∷ []) = is_between frame.role frame.stage
+is_done frames = false
+
+-- the state of a player: the first that applies
+abbrev pub state_at : At → PlayerState
+state_at at = if nat_lt (length at.spots) MOST_STEPS then (if is_done at.frames then Done else Standing) else Spent
+
+-- what is logged of a player
+abbrev pub log_of : At → Log
+log_of at = record { state = state_at at; steps = at.spots; answers = at.answers }
+
+-- these steps with their replies lead from one place of a player to another, each of them being one of the next attempts of those before it
+abbrev pub IsPlayed : Parts → At → List (Step × StepReply) → At → Type 0
+IsPlayed s at [] end = at ≡ end
+IsPlayed s at (made ∷ more) end = IsAhead s at made.0 × IsPlayed s (after s at made.0 made.1) more end
+
+-- the step and the reply that a spot stands for
+abbrev pub made_at : List (Entry WorkOp WorkReply) → Spot → Option (Step × StepReply)
+made_at work (spots.Work place) = option_map (λ e. (steps.Work e.op, step_replies.Work e.reply place)) (slice_get work place)
+
+-- the log of a player follows the scenario: its spots stand for steps that the protocol lets it make, and its answers and its state are those of these steps
+pub record Follows (s : Parts) (number : ℕ) (work : List (Entry WorkOp WorkReply)) (log : Log) : Type 0 where
+  pub start : At
+  pub made : List (Step × StepReply)
+  pub end : At
+  pub starts : start_at s number ≡ Some start
+  pub stands : map (made_at work) log.steps ≡ map Some made
+  pub played : IsPlayed s start made end
+  pub logged : log_of end ≡ log

@@ -1,0 +1,145 @@
+use Rattle.std.specs.Prelude.{◌≡◌, ℕ, ◌+◌, Bool, true, false, nat_lt, nat_le, if◌then◌else◌, Option, Some, None, List, [], ◌∷◌, ◌++◌, length, slice_get, option_map, option_and_then}
+use Rattle.zk_base.specs.declared.ids.Who.{Who}
+use Rattle.zk_scenario.specs.declared.types.Decl.{Decl}
+use Rattle.zk_scenario.specs.declared.types.Decl.TheVariants as decls
+use Rattle.zk_scenario.specs.declared.types.Call.{Call}
+use Rattle.zk_scenario.specs.Parts.{Parts}
+use Rattle.zk_scenario.specs.Players.{places, players, is_item, prio_of, number_of, calls_of}
+use Rattle.zk_model_work.specs.declared.ops.WorkOp.TheVariants as ops
+use Rattle.zk_model_work.specs.declared.ops.WorkReply.TheVariants as replies
+use Rattle.zk_worker.specs.declared.steps.TheConstants.{MOST_STEPS}
+use Rattle.zk_worker.specs.declared.frames.TheConstants.{MOST_FRAMES}
+use Rattle.zk_worker.specs.declared.steps.Step.{Step}
+use Rattle.zk_worker.specs.declared.steps.Step.TheVariants as steps
+use Rattle.zk_worker.specs.declared.steps.StepReply.{StepReply}
+use Rattle.zk_worker.specs.declared.steps.StepReply.TheVariants as step_replies
+use Rattle.zk_worker.specs.declared.steps.Spot.{Spot}
+use Rattle.zk_worker.specs.declared.steps.Spot.TheVariants as spots
+use Rattle.zk_worker.specs.declared.answers.Answered.{Answered}
+use Rattle.zk_worker.specs.declared.frames.Stage.{Stage}
+use Rattle.zk_worker.specs.declared.frames.Stage.TheVariants.{Start, Runs}
+use Rattle.zk_worker.specs.declared.frames.Role.{Role}
+use Rattle.zk_worker.specs.declared.frames.Role.TheVariants.{Script, Worker}
+use Rattle.zk_worker.specs.declared.frames.Frame.{Frame}
+use Rattle.zk_worker.specs.declared.frames.Progress.{Progress}
+use Rattle.zk_worker.specs.declared.frames.Progress.TheVariants.{Goes, Answers, Enters}
+use Rattle.zk_worker.specs.Calls.{form_of, word_of, form_attempts, form_progress}
+use Rattle.zk_worker.specs.Places.{At}
+
+-- the next attempts of a worker: between two runs the Begin of its queue, in a run whose script is over the End
+abbrev pub worker_attempts : ℕ → Stage → List Step
+worker_attempts queue Start = steps.Work (ops.Begin queue) ∷ []
+worker_attempts queue Runs = steps.Work (ops.End queue) ∷ []
+
+-- the next attempts of a script, at its next call
+abbrev pub call_attempts : List Decl → Option Call → Stage → List Step
+call_attempts decls None stage = []
+call_attempts decls (Some call) stage = form_attempts (form_of decls call) stage
+
+-- the next attempts of an open script or run
+abbrev pub role_attempts : Parts → Role → ℕ → Stage → List Step
+role_attempts s (Script owner) next stage = call_attempts s.decls (slice_get (calls_of s.scripts owner) next) stage
+role_attempts s (Worker queue) next stage = worker_attempts (number_of s.decls queue) stage
+
+-- the next attempts: those of the innermost open script or run
+abbrev pub frames_attempts : Parts → List Frame → List Step
+frames_attempts s [] = []
+frames_attempts s (frame ∷ below) = role_attempts s frame.role frame.next frame.stage
+
+-- the next attempts of a player in order: none where it is through or has made all its steps
+abbrev pub attempts : Parts → At → List Step
+attempts s at = if nat_lt (length at.spots) MOST_STEPS then frames_attempts s at.frames else []
+
+-- the step is one of the player's next attempts
+abbrev pub IsAhead : Parts → At → Step → Type 0
+IsAhead s at step = (k : ℕ) × (slice_get (attempts s at) k ≡ Some step)
+
+-- a worker that took up an item enters its script
+abbrev pub run_progress : Option ℕ → Progress
+run_progress None = Goes Runs
+run_progress (Some owner) = Enters owner Runs
+
+-- what the reply to a step does to a worker
+abbrev pub worker_progress : List Decl → Stage → StepReply → Progress
+worker_progress decls Start (step_replies.Work (replies.Run item admission) place) = run_progress (slice_get (places is_item decls) item)
+worker_progress decls stage reply = Goes Start
+
+-- what the reply to a step does to the call of a script
+abbrev pub call_progress : List Decl → Option Call → Stage → Step → StepReply → Progress
+call_progress decls None stage made reply = Goes stage
+call_progress decls (Some call) stage made reply = form_progress (word_of call) (form_of decls call) stage made reply
+
+-- what the reply to a step does to an open script or run
+abbrev pub role_progress : Parts → Role → ℕ → Stage → Step → StepReply → Progress
+role_progress s (Script owner) next stage made reply = call_progress s.decls (slice_get (calls_of s.scripts owner) next) stage made reply
+role_progress s (Worker queue) next stage made reply = worker_progress s.decls stage reply
+
+-- whether all calls of a script are answered; a worker is never through
+abbrev pub is_over : Parts → Role → ℕ → Bool
+is_over s (Script owner) next = nat_le (length (calls_of s.scripts owner)) next
+is_over s (Worker queue) next = false
+
+-- the open scripts and runs, without the innermost scripts that are over
+abbrev pub settled : Parts → List Frame → List Frame
+settled s [] = []
+settled s (frame ∷ below) = if is_over s frame.role frame.next then settled s below else frame ∷ below
+
+-- what is played from its start
+abbrev pub first_frame : Role → Frame
+first_frame role = record { role = role; next = 0; stage = Start }
+
+-- a script more is open. Where as many are open as there may be, it isn't entered
+abbrev pub entered : List Frame → ℕ → List Frame
+entered frames owner = if nat_lt (length frames) MOST_FRAMES then first_frame (Script owner) ∷ frames else frames
+
+-- what the reply to a step does to the innermost open script or run
+abbrev pub frames_progress : Parts → List Frame → Step → StepReply → Progress
+frames_progress s [] made reply = Goes Start
+frames_progress s (frame ∷ below) made reply = role_progress s frame.role frame.next frame.stage made reply
+
+-- the open scripts and runs after a step
+abbrev pub frames_after : Parts → List Frame → Progress → List Frame
+frames_after s [] progress = []
+frames_after s (frame ∷ below) (Goes stage) = record frame { stage = stage } ∷ below
+frames_after s (frame ∷ below) (Answers word answer) = settled s (record frame { next = frame.next + 1; stage = Start } ∷ below)
+frames_after s (frame ∷ below) (Enters owner stage) = settled s (entered (record frame { stage = stage } ∷ below) owner)
+
+-- the answers after the step of this number
+abbrev pub answers_after : List Answered → ℕ → Progress → List Answered
+answers_after answers number (Answers word answer) = answers ++ record { step = number; word = word; answer = answer } ∷ []
+answers_after answers number progress = answers
+
+-- where a step is recorded
+abbrev pub spot_of : Step → StepReply → Spot
+spot_of made (step_replies.Work reply place) = spots.Work place
+
+-- where a player stands after a step that does this, and is recorded there
+abbrev pub moved : Parts → At → Progress → Spot → At
+moved s at progress spot = record at {
+  frames = frames_after s at.frames progress;
+  answers = answers_after at.answers (length at.spots) progress;
+  spots = at.spots ++ spot ∷ [];
+}
+
+-- where a player stands after a step and its reply
+abbrev pub after : Parts → At → Step → StepReply → At
+after s at made reply = moved s at (frames_progress s at.frames made reply) (spot_of made reply)
+
+-- what a player plays: the worker of a queue its runs, a thread its script
+abbrev pub role_at : Decl → ℕ → Role
+role_at (decls.Queue name prio on) object = Worker object
+role_at decl object = Script object
+
+-- a player that has made no step
+abbrev pub starting : Parts → ℕ → ℕ → Decl → At
+starting s number object decl = record {
+  who = record { number = number; prio = prio_of decl };
+  frames = settled s (first_frame (role_at decl object) ∷ []);
+  answers = [];
+  spots = [];
+}
+
+-- where the player of a number stands at first, if there is one
+abbrev pub start_at : Parts → ℕ → Option At
+start_at s number =
+    option_and_then (λ object. option_map (starting s number object) (slice_get s.decls object)) (slice_get (players s.decls) number)

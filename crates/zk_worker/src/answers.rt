@@ -1,0 +1,32 @@
+use zk_base::{Errno, Listed};
+
+/// What a call of a script is answered.
+#[derive(Clone, Copy, Debug)]
+pub enum Answer {
+    /// A number. Of a submission 0 where the item was queued already, 1 where it was admitted, and 2 where it was admitted
+    /// while it runs.
+    Number(u64),
+    /// The busy flags of an item, below 32.
+    Flags(u8),
+    /// A refusal, with its name.
+    Refused(Errno),
+}
+
+/// Which call it was.
+#[derive(Clone, Copy, Debug, PartialEq, Eq)]
+pub enum Word {
+    Submit,
+    Cancel,
+}
+
+/// A call that has its answer.
+#[derive(Clone, Copy, Debug)]
+pub struct Answered {
+    /// The number of the call's last step among all steps of the player, from 0.
+    pub step: u32,
+    pub word: Word,
+    pub answer: Answer,
+}
+
+/// The answered calls of a player, in the order of their answers.
+pub type Answers = Listed<Answered>;

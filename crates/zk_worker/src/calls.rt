@@ -1,0 +1,98 @@
+ghost use Rattle.std.specs.Prelude.{◌≡◌, slice_get, option_map};
+ghost use Rattle.zk_worker.specs.Calls.{ref_number, form_of, word_of, submission_answer, work_answer, answer_of, form_attempts, form_progress};
+
+use crate::{Answer, Form, Progress, Stage, Step, StepReply, Word};
+use zk_model_work::{Submitted, WorkOp, WorkReply};
+use zk_scenario::{Call, Ref, Scenario};
+
+fn ref_number(scenario: &Scenario, named: Ref) -> u32
+    ensures { result ≡ ref_number scenario.now.decls named }
+{
+    let Ref::Known(object) = named;
+    scenario.number(object)
+}
+
+fn queue_number(scenario: &Scenario, named: Option<Ref>) -> Option<u32>
+    ensures { result ≡ option_map (ref_number scenario.now.decls) named }
+{
+    match named {
+        Some(queue) => Some(ref_number(scenario, queue)),
+        None => None,
+    }
+}
+
+/// How a call goes.
+pub fn form_of(scenario: &Scenario, call: Call) -> Form
+    ensures { result ≡ form_of scenario.now.decls call }
+{
+    match call {
+        Call::Submit(item, queue) => Form::One(Step::Work(WorkOp::Submit(
+            ref_number(scenario, item),
+            queue_number(scenario, queue),
+        ))),
+        Call::Cancel(item) => Form::One(Step::Work(WorkOp::Cancel(ref_number(scenario, item)))),
+    }
+}
+
+/// Which call it is.
+pub fn word_of(call: Call) -> Word
+    ensures { result ≡ word_of call }
+{
+    match call {
+        Call::Submit(_, _) => Word::Submit,
+        Call::Cancel(_) => Word::Cancel,
+    }
+}
+
+fn submission_answer(submitted: Submitted) -> Answer
+    ensures { result ≡ submission_answer submitted }
+{
+    match submitted {
+        Submitted::Already => Answer::Number(0),
+        Submitted::Fresh(_, _) => Answer::Number(1),
+        Submitted::Rerun(_, _) => Answer::Number(2),
+        Submitted::Refused(errno) => Answer::Refused(errno),
+    }
+}
+
+fn work_answer(reply: WorkReply) -> Answer
+    ensures { result ≡ work_answer reply }
+{
+    match reply {
+        WorkReply::Sub(submitted) => submission_answer(submitted),
+        WorkReply::Flags(flags) => Answer::Flags(flags),
+        _ => Answer::Number(0),
+    }
+}
+
+fn answer_of(reply: StepReply) -> Answer
+    ensures { result ≡ answer_of reply }
+{
+    let StepReply::Work(reply, _) = reply;
+    work_answer(reply)
+}
+
+/// The attempt of this index among the next attempts of a call.
+pub fn form_ahead(form: Form, stage: Stage, index: u32) -> Option<Step>
+    ensures { result ≡ slice_get (form_attempts form stage) index }
+{
+    match (form, stage) {
+        (Form::One(step), Stage::Start) if index == 0 => Some(step),
+        _ => None,
+    }
+}
+
+/// What the reply to a step does to its call.
+pub fn form_progress(
+    word: Word,
+    form: Form,
+    _stage: Stage,
+    _made: Step,
+    reply: StepReply,
+) -> Progress
+    ensures { result ≡ form_progress word form _stage _made reply }
+{
+    match form {
+        Form::One(_) => Progress::Answers(word, answer_of(reply)),
+    }
+}

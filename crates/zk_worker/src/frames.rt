@@ -1,0 +1,49 @@
+use crate::{Answer, Step, Word};
+
+/// The most scripts and runs that are open at a time: one for each channel, the run of a worker, and its item's script.
+pub const MOST_FRAMES: usize = 18;
+
+/// How a call goes: which steps it makes in which order.
+#[derive(Clone, Copy, Debug)]
+pub enum Form {
+    /// One step, whose reply it answers.
+    One(Step),
+}
+
+/// How far a call or a run has come.
+#[derive(Clone, Copy, Debug)]
+pub enum Stage {
+    /// Nothing of it was done.
+    Start,
+    /// A worker has taken up an item and hasn't ended it.
+    Runs,
+}
+
+/// What is played.
+#[derive(Clone, Copy, Debug)]
+pub enum Role {
+    /// The script of this object.
+    Script(u32),
+    /// The runs of this queue, one after the other. The number is that of the object.
+    Worker(u32),
+}
+
+/// A script or a run that is open, and how far it has come.
+#[derive(Clone, Copy, Debug)]
+pub struct Frame {
+    pub role: Role,
+    /// How many calls of the script are answered.
+    pub next: u32,
+    pub stage: Stage,
+}
+
+/// What a reply does to the frame whose step it answers.
+#[derive(Clone, Copy, Debug)]
+pub enum Progress {
+    /// It goes on at this stage.
+    Goes(Stage),
+    /// The call is answered.
+    Answers(Word, Answer),
+    /// The script of this object is played next, and the frame then goes on at this stage.
+    Enters(u32, Stage),
+}

@@ -1,0 +1,17 @@
+//! The call protocol, and the player that follows it through its script.
+#![tactic(auto)]
+
+mod answers;
+mod calls;
+mod frames;
+mod log;
+mod player;
+mod protocol;
+mod stack;
+mod steps;
+
+pub use answers::{Answer, Answered, Answers, Word};
+pub use frames::{Form, Frame, Progress, Role, Stage};
+pub use log::{Log, PlayerState};
+pub use player::Player;
+pub use steps::{Spot, Spots, Step, StepReply};

@@ -1,0 +1,20 @@
+use crate::{Answers, Spots};
+
+/// How a player stands.
+#[derive(Clone, Copy, Debug, PartialEq, Eq)]
+pub enum PlayerState {
+    /// It has made all the steps that a player may make.
+    Spent,
+    /// A thread that is through its script, or a worker between two runs.
+    Done,
+    /// Any other: a call has no answer yet, or the next one isn't begun.
+    Standing,
+}
+
+/// What a player has done.
+#[derive(Debug, Drop)]
+pub struct Log {
+    pub state: PlayerState,
+    pub steps: Spots,
+    pub answers: Answers,
+}

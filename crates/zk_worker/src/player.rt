@@ -1,0 +1,205 @@
+ghost use Rattle.std.specs.Prelude.{◌≡◌, ◌<◌, slice_get, reverse, length, IfOk, OnErr, Some};
+ghost use Rattle.zk_scenario.specs.Players.{players, prio_of};
+ghost use Rattle.zk_worker.specs.Protocol.{attempts, after, start_at, starting, role_at, IsAhead};
+ghost use Rattle.zk_worker.specs.Follows.{state_at, log_of, is_done, is_between};
+
+use crate::frames::MOST_FRAMES;
+use crate::protocol::spot_of;
+use crate::stack::{
+    first_frame, frames_ahead, frames_progress, move_frames, put, put_answer, settle,
+};
+use crate::steps::MOST_STEPS;
+use crate::{
+    Answered, Answers, Frame, Log, PlayerState, Role, Spot, Spots, Stage, Step, StepReply,
+};
+use std::alloc::Global;
+use std::marker::Model;
+use zk_base::{NoMemory, Who};
+use zk_scenario::{Decl, Scenario};
+
+/// A player of a scenario, and what it has done.
+///
+/// Every call is given the scenario that the player was made for.
+#[derive(Drop)]
+pub struct Player {
+    who: Who,
+    // The open scripts and runs, the innermost last.
+    stack: Vec<Frame>,
+    answers: Vec<Answered>,
+    spots: Vec<Spot>,
+}
+
+impl Model for Player {
+    ghost use Rattle.std.specs.Prelude.{reverse, vec_capacity};
+    ghost use Rattle.zk_worker.specs.Places.{At};
+    ghost use Rattle.zk_worker.specs.Stacks.{IsRoomy};
+
+    ghost Value = { At };
+
+    ghost view = { λ p. record {
+      who = p.who;
+      frames = reverse p.stack.items;
+      answers = p.answers.items;
+      spots = p.spots.items;
+    } };
+
+    ghost invariant = { λ p.
+        IsRoomy (reverse p.stack.items) p.answers.items p.spots.items (vec_capacity p.stack) (vec_capacity p.answers) (vec_capacity p.spots) };
+}
+
+fn object_of(scenario: &Scenario, number: u32) -> Option<u32>
+    ensures { result ≡ slice_get (players scenario.now.decls) number }
+{
+    let at = number as usize;
+    let threads = scenario.threads();
+    if at < threads.len() {
+        return Some(threads[at]);
+    }
+    scenario.queues().get(at - threads.len()).copied()
+}
+
+fn role_at(decl: &Decl, object: u32) -> Role
+    ensures { result ≡ role_at decl.now object }
+{
+    match decl {
+        Decl::Queue(_, _, _) => Role::Worker(object),
+        _ => Role::Script(object),
+    }
+}
+
+fn prio_of(decl: &Decl) -> i8
+    ensures { result ≡ prio_of decl.now }
+{
+    match decl {
+        Decl::Thread(_, prio, _) => *prio,
+        Decl::Queue(_, prio, _) => *prio,
+        Decl::Item(_) => 0,
+    }
+}
+
+fn who_at(number: u32, decl: &Decl) -> Who
+    ensures { result ≡ record { number = number; prio = prio_of decl.now } }
+{
+    Who {
+        number,
+        prio: prio_of(decl),
+    }
+}
+
+fn is_between(frame: Frame) -> bool
+    ensures { result ≡ is_between frame.role frame.stage }
+{
+    match (frame.role, frame.stage) {
+        (Role::Worker(_), Stage::Start) => true,
+        _ => false,
+    }
+}
+
+fn is_done(stack: &[Frame]) -> bool
+    ensures { result ≡ is_done (reverse stack.now) }
+{
+    match stack {
+        [] => true,
+        [frame] => is_between(*frame),
+        _ => false,
+    }
+}
+
+impl Player {
+    /// The player of this number, with room for all its steps.
+    pub fn new(alloc: Global, scenario: &Scenario, number: u32) -> Result<Player, NoMemory>
+        requires { number < length (players scenario.now.decls) }
+        ensures { IfOk result (λ player. start_at scenario.now number ≡ Some player) }
+    {
+        let Some(object) = object_of(scenario, number) else {
+            unreachable!()
+        };
+        let Some(decl) = scenario.decls().get(object as usize) else {
+            unreachable!()
+        };
+        let who = who_at(number, decl);
+        let mut stack = Vec::with_capacity(alloc, MOST_FRAMES)?;
+        put(&mut stack, first_frame(role_at(decl, object)));
+        settle(scenario, &mut stack);
+        Ok(Player {
+            who,
+            stack,
+            answers: Vec::with_capacity(alloc, MOST_STEPS as usize)?,
+            spots: Vec::with_capacity(alloc, MOST_STEPS as usize)?,
+        })
+    }
+
+    /// The attempt of this index, from 0, among those that the player makes next. It makes the first of them that is possible.
+    pub fn ahead(&self, scenario: &Scenario, index: u32) -> Option<Step>
+        ensures { result ≡ slice_get (attempts scenario.now self.now) index }
+    {
+        if self.spots.len() < MOST_STEPS as usize {
+            return frames_ahead(scenario, &self.stack, index);
+        }
+        None
+    }
+
+    /// Adds one of these attempts, which was answered so.
+    pub fn made(&mut self, scenario: &Scenario, step: Step, reply: StepReply)
+        requires ahead { IsAhead scenario.now self.old step }
+        ensures { self.new ≡ after scenario.now self.old step reply }
+    {
+        let number = self.spots.len() as u32;
+        let progress = frames_progress(scenario, &self.stack, step, reply);
+        move_frames(scenario, &mut self.stack, progress);
+        put_answer(&mut self.answers, number, progress);
+        put(&mut self.spots, spot_of(step, reply));
+    }
+
+    /// Who it is to the services.
+    pub fn who(&self) -> Who
+        ensures { result ≡ self.now.who }
+    {
+        self.who
+    }
+
+    pub fn state(&self) -> PlayerState
+        ensures { result ≡ state_at self.now }
+    {
+        if self.spots.len() < MOST_STEPS as usize {
+            return if is_done(&self.stack) {
+                PlayerState::Done
+            } else {
+                PlayerState::Standing
+            };
+        }
+        PlayerState::Spent
+    }
+
+    /// Where each of its steps is recorded, by the number of the step.
+    pub fn spots(&self) -> &[Spot]
+        ensures { result.now ≡ self.now.spots }
+    {
+        &self.spots
+    }
+
+    /// The answered calls, in the order of their answers.
+    pub fn answers(&self) -> &[Answered]
+        ensures { result.now ≡ self.now.answers }
+    {
+        &self.answers
+    }
+
+    /// What it has done.
+    pub fn into_log(self) -> Log
+        ensures { result ≡ log_of self }
+    {
+        let state = self.state();
+        let Player {
+            who: _,
+            stack: _,
+            answers,
+            spots,
+        } = self;
+        Log {
+            state,
+            steps: Spots::from_vec(spots),
+            answers: Answers::from_vec(answers),
+        }
+    }
+}

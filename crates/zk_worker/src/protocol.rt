@@ -1,0 +1,119 @@
+ghost use Rattle.std.specs.Prelude.{◌≡◌, slice_get, reverse};
+ghost use Rattle.zk_scenario.specs.Players.{places, is_item, players, calls_of};
+ghost use Rattle.zk_worker.specs.Protocol.{worker_attempts, call_attempts, role_attempts, run_progress, worker_progress, call_progress, role_progress, is_over, spot_of};
+
+use crate::calls::{form_ahead, form_of, form_progress, word_of};
+use crate::{Frame, Progress, Role, Spot, Stage, Step, StepReply};
+use zk_model_work::{WorkOp, WorkReply};
+use zk_scenario::{Call, Scenario};
+
+fn call_at(scenario: &Scenario, owner: u32, next: u32) -> Option<Call>
+    ensures { result ≡ slice_get (calls_of scenario.now.scripts owner) next }
+{
+    scenario.calls(owner).get(next as usize).copied()
+}
+
+fn item_object(scenario: &Scenario, item: u32) -> Option<u32>
+    ensures { result ≡ slice_get (places is_item scenario.now.decls) item }
+{
+    scenario.items().get(item as usize).copied()
+}
+
+fn worker_ahead(queue: u32, stage: Stage, index: u32) -> Option<Step>
+    ensures { result ≡ slice_get (worker_attempts queue stage) index }
+{
+    match stage {
+        Stage::Start if index == 0 => Some(Step::Work(WorkOp::Begin(queue))),
+        Stage::Runs if index == 0 => Some(Step::Work(WorkOp::End(queue))),
+        _ => None,
+    }
+}
+
+fn call_ahead(scenario: &Scenario, call: Option<Call>, stage: Stage, index: u32) -> Option<Step>
+    ensures { result ≡ slice_get (call_attempts scenario.now.decls call stage) index }
+{
+    match call {
+        Some(call) => form_ahead(form_of(scenario, call), stage, index),
+        None => None,
+    }
+}
+
+/// The attempt of this index among the next attempts of an open script or run.
+pub fn role_ahead(scenario: &Scenario, frame: Frame, index: u32) -> Option<Step>
+    ensures { result ≡ slice_get (role_attempts scenario.now frame.role frame.next frame.stage) index }
+{
+    match frame.role {
+        Role::Script(owner) => {
+            let call = call_at(scenario, owner, frame.next);
+            call_ahead(scenario, call, frame.stage, index)
+        }
+        Role::Worker(queue) => worker_ahead(scenario.number(queue), frame.stage, index),
+    }
+}
+
+fn run_progress(owner: Option<u32>) -> Progress
+    ensures { result ≡ run_progress owner }
+{
+    match owner {
+        Some(owner) => Progress::Enters(owner, Stage::Runs),
+        None => Progress::Goes(Stage::Runs),
+    }
+}
+
+fn worker_progress(scenario: &Scenario, stage: Stage, reply: StepReply) -> Progress
+    ensures { result ≡ worker_progress scenario.now.decls stage reply }
+{
+    match (stage, reply) {
+        (Stage::Start, StepReply::Work(WorkReply::Run(item, _), _)) => {
+            run_progress(item_object(scenario, item))
+        }
+        _ => Progress::Goes(Stage::Start),
+    }
+}
+
+fn call_progress(
+    scenario: &Scenario,
+    call: Option<Call>,
+    stage: Stage,
+    made: Step,
+    reply: StepReply,
+) -> Progress
+    ensures { result ≡ call_progress scenario.now.decls call stage made reply }
+{
+    match call {
+        Some(call) => form_progress(word_of(call), form_of(scenario, call), stage, made, reply),
+        None => Progress::Goes(stage),
+    }
+}
+
+/// What the reply to a step does to an open script or run.
+pub fn role_progress(scenario: &Scenario, frame: Frame, made: Step, reply: StepReply) -> Progress
+    ensures { result ≡ role_progress scenario.now frame.role frame.next frame.stage made reply }
+{
+    match frame.role {
+        Role::Script(owner) => {
+            let call = call_at(scenario, owner, frame.next);
+            call_progress(scenario, call, frame.stage, made, reply)
+        }
+        Role::Worker(_) => worker_progress(scenario, frame.stage, reply),
+    }
+}
+
+/// Whether all calls of a script are answered.
+pub fn is_over(scenario: &Scenario, frame: Frame) -> bool
+    ensures { result ≡ is_over scenario.now frame.role frame.next }
+{
+    match frame.role {
+        Role::Script(owner) => scenario.calls(owner).len() <= frame.next as usize,
+        Role::Worker(_) => false,
+    }
+}
+
+/// Where a step is recorded.
+pub fn spot_of(_made: Step, reply: StepReply) -> Spot
+    ensures { result ≡ spot_of _made reply }
+{
+    match reply {
+        StepReply::Work(_, place) => Spot::Work(place),
+    }
+}

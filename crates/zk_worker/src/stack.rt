@@ -1,0 +1,162 @@
+ghost use Rattle.std.specs.Prelude.{◌≡◌, ◌+◌, ◌<◌, ◌≤◌, [], ◌∷◌, ◌++◌, slice_get, reverse, length, vec_len, vec_capacity, MatchOption, All};
+ghost use Rattle.zk_worker.specs.Protocol.{frames_attempts, frames_progress, frames_after, settled, is_over, first_frame, entered, answers_after};
+ghost use Rattle.zk_worker.specs.Stacks.{is_top_over};
+
+use crate::frames::MOST_FRAMES;
+use crate::protocol::{is_over, role_ahead, role_progress};
+use crate::steps::MOST_STEPS;
+use crate::{Answered, Frame, Progress, Role, Stage, Step, StepReply};
+use zk_scenario::Scenario;
+
+/// One item more, for which there is room.
+pub fn put<T: Drop>(items: &mut Vec<T>, item: T)
+    requires { vec_len items.old < vec_capacity items.old }
+    ensures items { items.new.items ≡ items.old.items ++ item ∷ [] }
+    ensures capacity { vec_capacity items.old ≤ vec_capacity items.new }
+{
+    match items.push(item) {
+        Ok(()) => {}
+        Err(_) => unreachable!(),
+    }
+}
+
+// The innermost frame is the last of the stack.
+
+fn put_frame(stack: &mut Vec<Frame>, frame: Frame)
+    requires { vec_len stack.old < vec_capacity stack.old }
+    ensures frames { reverse stack.new.items ≡ frame ∷ reverse stack.old.items }
+    ensures capacity { vec_capacity stack.old ≤ vec_capacity stack.new }
+{
+    put(stack, frame);
+}
+
+fn pop_frame(stack: &mut Vec<Frame>) -> Option<Frame>
+    ensures frames { MatchOption result ((reverse stack.old.items ≡ []) × (reverse stack.new.items ≡ []))
+        (λ frame. reverse stack.old.items ≡ frame ∷ reverse stack.new.items) }
+    ensures capacity { vec_capacity stack.old ≤ vec_capacity stack.new }
+{
+    stack.pop()
+}
+
+fn top_frame(stack: &[Frame]) -> Option<Frame>
+    ensures { result ≡ slice_get (reverse stack.now) 0 }
+{
+    stack.last().copied()
+}
+
+/// The attempt of this index among the next attempts.
+pub fn frames_ahead(scenario: &Scenario, stack: &[Frame], index: u32) -> Option<Step>
+    ensures { result ≡ slice_get (frames_attempts scenario.now (reverse stack.now)) index }
+{
+    match top_frame(stack) {
+        Some(frame) => role_ahead(scenario, frame, index),
+        None => None,
+    }
+}
+
+/// What the reply to a step does to the innermost open script or run.
+pub fn frames_progress(
+    scenario: &Scenario,
+    stack: &[Frame],
+    made: Step,
+    reply: StepReply,
+) -> Progress
+    ensures { result ≡ frames_progress scenario.now (reverse stack.now) made reply }
+{
+    match top_frame(stack) {
+        Some(frame) => role_progress(scenario, frame, made, reply),
+        None => Progress::Goes(Stage::Start),
+    }
+}
+
+fn is_top_over(scenario: &Scenario, stack: &[Frame]) -> bool
+    ensures { result ≡ is_top_over scenario.now (reverse stack.now) }
+{
+    match top_frame(stack) {
+        Some(frame) => is_over(scenario, frame),
+        None => false,
+    }
+}
+
+/// Takes off the innermost scripts that are over.
+pub fn settle(scenario: &Scenario, stack: &mut Vec<Frame>)
+    ensures frames { reverse stack.new.items ≡ settled scenario.now (reverse stack.old.items) }
+    ensures capacity { vec_capacity stack.old ≤ vec_capacity stack.new }
+{
+    while is_top_over(scenario, stack) {
+        pop_frame(stack);
+    }
+}
+
+fn enter(stack: &mut Vec<Frame>, owner: u32)
+    requires { MOST_FRAMES ≤ vec_capacity stack.old }
+    ensures frames { reverse stack.new.items ≡ entered (reverse stack.old.items) owner }
+    ensures capacity { vec_capacity stack.old ≤ vec_capacity stack.new }
+{
+    if stack.len() < MOST_FRAMES {
+        put_frame(stack, first_frame(Role::Script(owner)));
+    }
+}
+
+/// What is played from its start.
+pub fn first_frame(role: Role) -> Frame
+    ensures { result ≡ first_frame role }
+{
+    Frame {
+        role,
+        next: 0,
+        stage: Stage::Start,
+    }
+}
+
+/// The open scripts and runs after a step.
+pub fn move_frames(scenario: &Scenario, stack: &mut Vec<Frame>, progress: Progress)
+    requires room { MOST_FRAMES ≤ vec_capacity stack.old }
+    requires short { length stack.old.items ≤ MOST_FRAMES }
+    requires nexts { All (λ frame. frame.next < MOST_STEPS) (reverse stack.old.items) }
+    ensures frames { reverse stack.new.items ≡ frames_after scenario.now (reverse stack.old.items) progress }
+    ensures capacity { vec_capacity stack.old ≤ vec_capacity stack.new }
+{
+    let Some(frame) = pop_frame(stack) else {
+        return;
+    };
+    match progress {
+        Progress::Goes(stage) => put_frame(stack, Frame { stage, ..frame }),
+        Progress::Answers(_, _) => {
+            let next = frame.next + 1;
+            put_frame(
+                stack,
+                Frame {
+                    next,
+                    stage: Stage::Start,
+                    ..frame
+                },
+            );
+            settle(scenario, stack);
+        }
+        Progress::Enters(owner, stage) => {
+            put_frame(stack, Frame { stage, ..frame });
+            enter(stack, owner);
+            settle(scenario, stack);
+        }
+    }
+}
+
+/// The answers after the step of this number.
+pub fn put_answer(answers: &mut Vec<Answered>, number: u32, progress: Progress)
+    requires { vec_len answers.old < vec_capacity answers.old }
+    ensures answers { answers.new.items ≡ answers_after answers.old.items number progress }
+    ensures capacity { vec_capacity answers.old ≤ vec_capacity answers.new }
+{
+    match progress {
+        Progress::Answers(word, answer) => put(
+            answers,
+            Answered {
+                step: number,
+                word,
+                answer,
+            },
+        ),
+        _ => {}
+    }
+}

@@ -1,0 +1,29 @@
+use zk_base::Listed;
+use zk_model_work::{WorkOp, WorkReply};
+
+/// The most steps that a player makes. One that has made them makes no further one.
+pub const MOST_STEPS: u32 = 20_000;
+
+/// One step of a player: what it asks of which service.
+#[derive(Clone, Copy, Debug)]
+pub enum Step {
+    /// An operation of the work service.
+    Work(WorkOp),
+}
+
+/// What a step was answered.
+#[derive(Clone, Copy, Debug)]
+pub enum StepReply {
+    /// The work service's reply, and the place of the entry in its history, from 0.
+    Work(WorkReply, u64),
+}
+
+/// Where a step stands in what was recorded.
+#[derive(Clone, Copy, Debug)]
+pub enum Spot {
+    /// The place of the entry in the history of the work service.
+    Work(u64),
+}
+
+/// The spots of a player's steps, by the number of the step.
+pub type Spots = Listed<Spot>;
