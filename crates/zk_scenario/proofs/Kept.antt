@@ -51,15 +51,15 @@ Passes-verdict r f e =
     let five = drop_test (is_past_limit r f) why.Limit _ four.1 in
     record { built = one.0; placed = two.0; in_range = three.0; well_named = four.0; within = five.0 }
 
-or_none : (a b : Bool) → (a || b) ≡ false → (a ≡ false) × (b ≡ false)
+pub or_none : (a b : Bool) → (a || b) ≡ false → (a ≡ false) × (b ≡ false)
 or_none true b e = absurd (cc)
 or_none false b e = (refl, e)
 
-is_some-none : {X : Type 0} (o : Option X) → is_some o ≡ false → o ≡ None
+pub is_some-none : {X : Type 0} (o : Option X) → is_some o ≡ false → o ≡ None
 is_some-none None e = refl
 is_some-none (Some x) e = absurd (cc)
 
-is_some-some : {X : Type 0} (o : Option X) → is_some o ≡ true → (x : X) × (o ≡ Some x)
+pub is_some-some : {X : Type 0} (o : Option X) → is_some o ≡ true → (x : X) × (o ≡ Some x)
 is_some-some None e = absurd (cc)
 is_some-some (Some x) e = (x, refl)
 
@@ -93,19 +93,22 @@ one_each-push ss s held fresh n x e =
     (λ above. absurd (none-some x (sym (slice_get_past (ss ++ s ∷ []) n (omega (arith, length-append ss (s ∷ [])))) ∙ e))))
     (cases_order n (length ss))
 
+-- before the first script none stands and none is open
+pub nothing_begun : (r : Reading) → has_begun r ≡ false → (r.scripts ≡ []) × (r.current ≡ None)
+nothing_begun r first =
+    let parts = or_none (is_some r.current) (nat_lt 0 (length r.scripts)) first in
+    (empty r.scripts (ltb-false 0 (length r.scripts) parts.1), is_some-none r.current parts.0) where
+  empty : (xs : List Script) → length xs ≤ 0 → xs ≡ []
+  empty [] h = refl
+  empty (x ∷ xs) h = absurd (omega arith)
+
 -- no script stands yet, so a declaration says nothing of one
 valid-declared : (r : Reading) (d : Decl) → IsValid (parts_of r) → has_begun r ≡ false → player_count (r.decls ++ d ∷ []) ≤ 64 → count_by is_queue (r.decls ++ d ∷ []) ≤ 8 → count_by is_item (r.decls ++ d ∷ []) ≤ 256
     → IsValid (parts_of (declared r d))
 valid-declared r d valid first players queues items =
-    record { players = players; queues = queues; items = items; calls = valid.calls; fit = ap (list_all (script_fits (r.decls ++ d ∷ []))) none; one_each = valid.one_each } where
-      empty : (xs : List Script) → length xs ≤ 0 → xs ≡ []
-      empty [] h = refl
-      empty (x ∷ xs) h = absurd (omega arith)
-
-      none : all_scripts r ≡ []
-      none =
-          let parts = or_none (is_some r.current) (nat_lt 0 (length r.scripts)) first in
-          ap (λ o. r.scripts ++ option_to_list o) (is_some-none r.current parts.0) ∙ append-nil r.scripts ∙ empty r.scripts (ltb-false 0 (length r.scripts) parts.1)
+    let nothing = nothing_begun r first in
+    let none : all_scripts r ≡ [] = ap (λ o. r.scripts ++ option_to_list o) nothing.1 ∙ append-nil r.scripts ∙ nothing.0 in
+    record { players = players; queues = queues; items = items; calls = valid.calls; fit = ap (list_all (script_fits (r.decls ++ d ∷ []))) none; one_each = valid.one_each }
 
 -- where no script is open, all scripts are those that have ended
 pub all_scripts-none : (r : Reading) → r.current ≡ None → all_scripts r ≡ r.scripts

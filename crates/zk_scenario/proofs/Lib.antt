@@ -8,5 +8,6 @@ pub mod Played
 pub mod Readable
 pub mod Spelled
 pub mod Tables
+pub mod Told
 pub mod Unspaced
 pub mod Valid

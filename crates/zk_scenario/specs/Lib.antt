@@ -9,6 +9,7 @@ pub mod Parts
 pub mod Players
 pub mod Reading
 pub mod Scripts
+pub mod Spelling
 pub mod Text
 pub mod Valid
 pub mod Verdict
