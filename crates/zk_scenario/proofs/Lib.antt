@@ -6,6 +6,7 @@ pub mod Lists
 pub mod Numerals
 pub mod Played
 pub mod Readable
+pub mod Sound
 pub mod Spelled
 pub mod Tables
 pub mod Told

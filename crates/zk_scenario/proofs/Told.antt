@@ -26,7 +26,7 @@ use Rattle.zk_scenario.specs.declared.refused.Why.TheVariants as why
 use Rattle.zk_scenario.specs.declared.refused.ScenarioRefused.{ScenarioRefused}
 use Rattle.zk_scenario.specs.declared.refused.ScenarioRefused.TheVariants.{At, NoMemory}
 use Rattle.zk_scenario.specs.Forms.{line_of, named_text, form_words}
-use Rattle.zk_scenario.specs.Grammar.{told, taken, read_line, ended, at_end, behind, read_lines, behind_header, read_pieces, pieces_of, scenario_of}
+use Rattle.zk_scenario.specs.Grammar.{told, taken, read_line, ended, at_end, behind, read_lines, behind_header, read_pieces, pieces_of, scenario_of, IsReadable}
 use Rattle.zk_scenario.specs.Objects.{object_of, is_at}
 use Rattle.zk_scenario.specs.Parts.{Parts}
 use Rattle.zk_scenario.specs.Players.{is_thread, is_queue, is_item, name_of}
@@ -184,3 +184,7 @@ text_of-read text p e = by_length (nat_lt 1048576 (length text)) e where
   by_length true here = absurd (cc)
   by_length false here =
       sym (join_with_byte-slice_split 10 text) ∙ ap (join_with_byte 10) (read-pieces p (pieces_of text) here) ∙ join-lines (lines_of p)
+
+-- what was read is a scenario whose text is read as it
+pub IsReadable-read : (text : List ℕ) (p : Parts) → scenario_of text ≡ Ok p → IsReadable p
+IsReadable-read text p e = record { read_back = ap scenario_of (sym (text_of-read text p e)) ∙ e }

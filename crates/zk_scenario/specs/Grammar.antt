@@ -11,6 +11,7 @@ use Rattle.zk_scenario.specs.declared.refused.ScenarioRefused.TheVariants.{At, N
 use Rattle.zk_scenario.specs.Forms.{line_of}
 use Rattle.zk_scenario.specs.Parts.{Parts}
 use Rattle.zk_scenario.specs.Reading.{Reading, start}
+use Rattle.zk_scenario.specs.Spelling.{text_of}
 use Rattle.zk_scenario.specs.Verdict.{is_unbuilt, verdict, after}
 
 -- what the lines said, where no reason applies to the last of them
@@ -76,3 +77,13 @@ abbrev pub Answers : Result Parts ScenarioRefused → Result Parts ScenarioRefus
 Answers (Ok parts) said = said ≡ Ok parts
 Answers (Err (At n reason)) said = said ≡ Err (At n reason)
 Answers (Err NoMemory) said = Unit {0}
+
+-- what was read to the end as the grammar says, or want of memory
+abbrev pub AnswersReading : Result Reading ScenarioRefused → Result Parts ScenarioRefused → Type 0
+AnswersReading (Ok r) said = said ≡ Ok (record { decls = r.decls; scripts = r.scripts })
+AnswersReading (Err (At n reason)) said = said ≡ Err (At n reason)
+AnswersReading (Err NoMemory) said = Unit {0}
+
+-- the text of a scenario is read as the scenario
+pub record IsReadable (p : Parts) : Type 0 where
+  pub read_back : scenario_of (text_of p) ≡ Ok p

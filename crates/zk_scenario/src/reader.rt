@@ -171,11 +171,10 @@ impl Reader {
         }
     }
 
-    /// The declarations and the scripts that have ended. What was read is a scenario where no script is open.
+    /// The declarations and the scripts that have ended.
     pub fn into_parts(self) -> (Objects, Scripts)
         ensures objects { result.0 ≡ self.decls }
         ensures scripts { result.1 ≡ self.scripts }
-        ensures valid { self.current ≡ None → IsValid (record { decls = self.decls; scripts = self.scripts }) }
     {
         let Reader {
             objects,
