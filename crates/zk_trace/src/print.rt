@@ -1,0 +1,18 @@
+ghost use Rattle.std.specs.Prelude.{◌≡◌, ◌++◌, OnOk};
+ghost use Rattle.zk_trace.specs.Text.{trace_text};
+
+use crate::Trace;
+use crate::sections::{put_line, put_players, put_work_section};
+use crate::words::ending_word;
+use zk_base::NoMemory;
+use zk_scenario::Scenario;
+
+/// Appends the trace part of the output: the head, the ending, the sections of the services and of the players.
+pub fn put_trace(out: &mut Vec<u8>, scenario: &Scenario, trace: &Trace) -> Result<(), NoMemory>
+    ensures { OnOk result (out.new.items ≡ out.old.items ++ trace_text scenario.now trace.now) }
+{
+    put_line(out, b"zt 1")?;
+    put_line(out, ending_word(trace.ending))?;
+    put_work_section(out, scenario, trace.work.items())?;
+    put_players(out, scenario, trace.logs.items())
+}
