@@ -5,6 +5,7 @@ pub mod Kept
 pub mod Lists
 pub mod Numerals
 pub mod Played
+pub mod Printed
 pub mod Readable
 pub mod Sound
 pub mod Spelled

@@ -15,6 +15,7 @@ mod reader;
 mod refused;
 mod scenario;
 mod scripts;
+mod text;
 mod types;
 mod verdict;
 mod words;
@@ -25,5 +26,6 @@ pub use print::{put_cancel, put_end, put_item, put_queue, put_script, put_submit
 pub use read::{LONGEST_SCENARIO, read_scenario};
 pub use refused::{ScenarioRefused, Why};
 pub use scenario::Scenario;
+pub use text::print_scenario;
 pub use types::{Call, Decl, Ref, Script};
 pub use words::Words;
