@@ -8,5 +8,5 @@ mod sections;
 mod trace;
 mod words;
 
-pub use print::put_trace;
+pub use print::{print_trace, put_trace};
 pub use trace::{Ending, History, Logs, Trace};
