@@ -22,7 +22,7 @@ use Rattle.zk_scenario.specs.declared.refused.Why.TheVariants as why
 use Rattle.zk_scenario.specs.Forms.{named_text, IsUnreserved, IsPlain}
 use Rattle.zk_scenario.specs.Objects.{object_of, is_at}
 use Rattle.zk_scenario.specs.Parts.{Parts}
-use Rattle.zk_scenario.specs.Players.{is_thread, is_queue, is_item, name_of}
+use Rattle.zk_scenario.specs.Players.{plays_script, is_thread, is_queue, is_item, name_of}
 use Rattle.zk_scenario.specs.Reading.{Reading, all_scripts, declared, begun, with_call, called, closed, parts_of}
 use Rattle.zk_scenario.specs.Scripts.{script_of}
 use Rattle.zk_scenario.specs.Valid.{IsValid, OneEach, call_fits, script_fits, player_count, call_count}
@@ -32,7 +32,7 @@ use Rattle.zk_scenario.proofs.Played.{script_of-push}
 
 -- no reason applies: none of the tests says so
 pub record Passes (r : Reading) (f : Form) : Type 0 where
-  pub built : is_unbuilt r.decls f ≡ false
+  pub built : is_unbuilt f ≡ false
   pub placed : is_misplaced r f ≡ false
   pub in_range : is_out_of_range f ≡ false
   pub well_named : is_misnamed r.decls f ≡ false
@@ -44,7 +44,7 @@ drop_test false reason rest e = (refl, e)
 
 pub Passes-verdict : (r : Reading) (f : Form) → verdict r f ≡ None → Passes r f
 Passes-verdict r f e =
-    let one = drop_test (is_unbuilt r.decls f) why.Unbuilt _ e in
+    let one = drop_test (is_unbuilt f) why.Unbuilt _ e in
     let two = drop_test (is_misplaced r f) why.Order _ one.1 in
     let three = drop_test (is_out_of_range f) why.Number _ two.1 in
     let four = drop_test (is_misnamed r.decls f) why.Name _ three.1 in
@@ -123,7 +123,7 @@ fit-push decls ss s = list_all-append (script_fits decls) ss (s ∷ []) ∙ ap (
   and-true true = refl
   and-true false = refl
 
-valid-begun : (r : Reading) (owner : ℕ) → IsValid (parts_of r) → r.current ≡ None → is_at is_thread r.decls owner ≡ true → script_of r.scripts owner ≡ None → IsValid (parts_of (begun r (record { owner = owner; calls = [] })))
+valid-begun : (r : Reading) (owner : ℕ) → IsValid (parts_of r) → r.current ≡ None → is_at plays_script r.decls owner ≡ true → script_of r.scripts owner ≡ None → IsValid (parts_of (begun r (record { owner = owner; calls = [] })))
 valid-begun r owner valid none thread fresh =
     let s : Script = record { owner = owner; calls = [] } in
     let same = all_scripts-none r none in
@@ -132,7 +132,7 @@ valid-begun r owner valid none thread fresh =
       queues = valid.queues;
       items = valid.items;
       calls = omega (arith, call_count-push r.scripts s, ap call_count same, valid.calls);
-      fit = fit-push r.decls r.scripts s ∙ and_from (list_all (script_fits r.decls) r.scripts) (script_fits r.decls s) (ap (list_all (script_fits r.decls)) (sym same) ∙ valid.fit) (and_from (is_at is_thread r.decls owner) true thread refl);
+      fit = fit-push r.decls r.scripts s ∙ and_from (list_all (script_fits r.decls) r.scripts) (script_fits r.decls s) (ap (list_all (script_fits r.decls)) (sym same) ∙ valid.fit) (and_from (is_at plays_script r.decls owner) true thread refl);
       one_each = one_each-push r.scripts s (subst OneEach same valid.one_each) fresh;
     }
 
@@ -140,14 +140,14 @@ valid-called : (decls : List Decl) (ss : List Script) (s : Script) (c : Call) �
     → IsValid (record { decls = decls; scripts = ss ++ with_call c s ∷ [] })
 valid-called decls ss s c valid fits few =
     let both = and_parts (list_all (script_fits decls) ss) (script_fits decls s) (sym (fit-push decls ss s) ∙ valid.fit) in
-    let own = and_parts (is_at is_thread decls s.owner) (list_all (call_fits decls) s.calls) both.1 in
+    let own = and_parts (is_at plays_script decls s.owner) (list_all (call_fits decls) s.calls) both.1 in
     let calls = list_all-append (call_fits decls) s.calls (c ∷ []) ∙ and_from (list_all (call_fits decls) s.calls) (call_fits decls c && true) own.1 (and_from (call_fits decls c) true fits refl) in
     record {
       players = valid.players;
       queues = valid.queues;
       items = valid.items;
       calls = omega (arith, call_count-push ss s, call_count-push ss (with_call c s), length-append s.calls (c ∷ []));
-      fit = fit-push decls ss (with_call c s) ∙ and_from (list_all (script_fits decls) ss) (script_fits decls (with_call c s)) both.0 (and_from (is_at is_thread decls s.owner) (list_all (call_fits decls) (s.calls ++ c ∷ [])) own.0 calls);
+      fit = fit-push decls ss (with_call c s) ∙ and_from (list_all (script_fits decls) ss) (script_fits decls (with_call c s)) both.0 (and_from (is_at plays_script decls s.owner) (list_all (call_fits decls) (s.calls ++ c ∷ [])) own.0 calls);
       one_each = one_each-push ss (with_call c s) (one_each-left ss s valid.one_each) (one_each-fresh ss s valid.one_each);
     }
 
@@ -190,8 +190,8 @@ IsValid-after r f e valid = by_form f (Passes-verdict r f e) where
       valid-declared r d valid p.placed (omega (arith, valid.players, count_by-push is_thread r.decls d, count_by-push is_queue r.decls d)) (omega (arith, valid.queues, count_by-push is_queue r.decls d)) (omega (arith, items, count_by-push is_item r.decls d))
   by_form (form.Script owner) p =
       let both = or_none (is_some r.current) (has_script r owner) p.placed in
-      let thread = not-false (names is_thread r.decls owner) p.well_named in
-      valid-begun r (object r.decls owner) valid (is_some-none r.current both.0) (at_object is_thread r.decls (named r.decls owner) thread) (none_at is_thread r.decls r.scripts (named r.decls owner) thread both.1)
+      let thread = not-false (names plays_script r.decls owner) p.well_named in
+      valid-begun r (object r.decls owner) valid (is_some-none r.current both.0) (at_object plays_script r.decls (named r.decls owner) thread) (none_at plays_script r.decls r.scripts (named r.decls owner) thread both.1)
   by_form (form.Submit item None) p =
       let named_item = not-false (names is_item r.decls item) p.well_named in
       called_fits r (call.Submit (ref r.decls item) None) valid p.placed (at_object is_item r.decls (named r.decls item) named_item) p.within
@@ -202,6 +202,9 @@ IsValid-after r f e valid = by_form f (Passes-verdict r f e) where
   by_form (form.Cancel item) p =
       let named_item = not-false (names is_item r.decls item) p.well_named in
       called_fits r (call.Cancel (ref r.decls item)) valid p.placed (at_object is_item r.decls (named r.decls item) named_item) p.within
+  by_form (form.Start queue) p =
+      let named_queue = not-false (names is_queue r.decls queue) p.well_named in
+      called_fits r (call.Start (ref r.decls queue)) valid p.placed (at_object is_queue r.decls (named r.decls queue) named_queue) p.within
   by_form form.End p = subst (λ ss. IsValid (record { decls = r.decls; scripts = ss })) (sym (append-nil (all_scripts r))) valid
 
 -- the name of a new object isn't reserved, and no other's
@@ -221,12 +224,13 @@ IsPlain-verdict r f e = by_form f (Passes-verdict r f e) where
   by_form (form.Thread name prio user) p = ((untaken r.decls name p.well_named).0, not-false (is_some prio) p.in_range)
   by_form (form.Queue name prio on) p = ((untaken r.decls name p.well_named).0, not-false (is_some prio) p.in_range)
   by_form (form.Item name) p = (untaken r.decls name p.well_named).0
-  by_form (form.Script owner) p = unreserved-names is_thread r.decls owner (not-false (names is_thread r.decls owner) p.well_named)
+  by_form (form.Script owner) p = unreserved-names plays_script r.decls owner (not-false (names plays_script r.decls owner) p.well_named)
   by_form (form.Submit item None) p = (unreserved-names is_item r.decls item (not-false (names is_item r.decls item) p.well_named), tt)
   by_form (form.Submit item (Some queue)) p =
       let both = and_parts (names is_item r.decls item) (names is_queue r.decls queue) (not-false (names is_item r.decls item && names is_queue r.decls queue) p.well_named) in
       (unreserved-names is_item r.decls item both.0, unreserved-names is_queue r.decls queue both.1)
   by_form (form.Cancel item) p = unreserved-names is_item r.decls item (not-false (names is_item r.decls item) p.well_named)
+  by_form (form.Start queue) p = unreserved-names is_queue r.decls queue (not-false (names is_queue r.decls queue) p.well_named)
   by_form form.End p = tt
 
 -- the same, where what was read after is given by an equation

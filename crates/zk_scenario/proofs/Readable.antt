@@ -7,7 +7,7 @@ use Rattle.zk_base.specs.Names.{is_name}
 use Rattle.zk_scenario.specs.declared.form.Named.{Named}
 use Rattle.zk_scenario.specs.declared.form.Named.TheVariants.{Plain, Reserved}
 use Rattle.zk_scenario.specs.declared.form.Form.{Form}
-use Rattle.zk_scenario.specs.declared.form.Form.TheVariants.{Thread, Queue, Item, Script, Submit, Cancel, End}
+use Rattle.zk_scenario.specs.declared.form.Form.TheVariants.{Thread, Queue, Item, Script, Submit, Cancel, Start, End}
 use Rattle.zk_scenario.specs.declared.form.Line.TheVariants.{Formed}
 use Rattle.zk_scenario.specs.Words.{words_of}
 use Rattle.zk_scenario.specs.Numbers.{priority_of, IsPriority}
@@ -64,6 +64,7 @@ line_of_words-form (Submit item None) fine = let i = named_of-name item fine.0 i
 line_of_words-form (Submit item (Some queue)) fine =
     let i = named_of-name item fine.0 in let q = named_of-name queue fine.1 in simp (i, q)
 line_of_words-form (Cancel item) fine = let i = named_of-name item fine in simp i
+line_of_words-form (Start queue) fine = let q = named_of-name queue fine in simp q
 line_of_words-form End fine = refl
 
 -- the words of a form are those of its line
@@ -78,6 +79,7 @@ words_of-form (Submit item None) fine = words_of-line_text _ _ refl (unspaced_na
 words_of-form (Submit item (Some queue)) fine =
     words_of-line_text _ _ refl (unspaced_name item fine.0, (unspaced_name queue fine.1, tt))
 words_of-form (Cancel item) fine = words_of-line_text _ _ refl (unspaced_name item fine, tt)
+words_of-form (Start queue) fine = words_of-line_text _ _ refl (unspaced_name queue fine, tt)
 words_of-form End fine = words_of-line_text _ _ refl tt
 
 -- the text of a form whose names are names and whose numbers are in range is read as that form

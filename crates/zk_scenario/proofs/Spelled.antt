@@ -9,7 +9,7 @@ use Rattle.zk_base.specs.Names.{is_name, is_spelled}
 use Rattle.zk_scenario.specs.declared.form.Named.{Named}
 use Rattle.zk_scenario.specs.declared.form.Named.TheVariants.{Plain, Reserved}
 use Rattle.zk_scenario.specs.declared.form.Form.{Form}
-use Rattle.zk_scenario.specs.declared.form.Form.TheVariants.{Thread, Queue, Item, Script, Submit, Cancel, End}
+use Rattle.zk_scenario.specs.declared.form.Form.TheVariants.{Thread, Queue, Item, Script, Submit, Cancel, Start, End}
 use Rattle.zk_scenario.specs.declared.form.Line.TheVariants.{Unbuilt, Misspelled, Formed}
 use Rattle.zk_scenario.specs.declared.keyword.Keyword.{Keyword}
 use Rattle.zk_scenario.specs.declared.keyword.Keyword.TheVariants as keyword
@@ -17,7 +17,7 @@ use Rattle.zk_scenario.specs.Words.{words_of}
 use Rattle.zk_scenario.specs.Numbers.{priority_of}
 use Rattle.zk_scenario.specs.Keywords.{keywords, keyword_text, keyword_of, is_unbuilt}
 use Rattle.zk_scenario.specs.Text.{line_text, mode_text, state_text}
-use Rattle.zk_scenario.specs.Forms.{named_of, one_of, mode_of, state_of, made_of_two, made_of_three, thread_form, queue_form, item_form, script_form, submit_form, cancel_form, end_form, form_of, formed, formless, line_after, line_of_words, line_of, named_text, form_words, IsUnreserved, IsPlain, IsNamed, CanBeSpelled}
+use Rattle.zk_scenario.specs.Forms.{named_of, one_of, mode_of, state_of, made_of_two, made_of_three, thread_form, queue_form, item_form, script_form, submit_form, cancel_form, start_form, end_form, form_of, formed, formless, line_after, line_of_words, line_of, named_text, form_words, IsUnreserved, IsPlain, IsNamed, CanBeSpelled}
 use Rattle.zk_scenario.proofs.Numerals.{priority_spelled}
 
 plain_same : (word name : List ℕ) → Plain word ≡ Plain name → word ≡ name
@@ -140,6 +140,14 @@ cancel_spelled (item ∷ []) form said plain =
     (λ fine. let i = named_spelled item part.0 part.1 fine in (cc, i.1)) plain
 cancel_spelled (item ∷ more ∷ words) form said plain = absurd (cc)
 
+start_spelled : (words : List (List ℕ)) (form : Form) → start_form words ≡ Some form → IsPlain form → Spells (codes "start" ∷ words) form
+start_spelled [] form said plain = absurd (cc)
+start_spelled (queue ∷ []) form said plain =
+    let part = one_part Start (named_of queue) form said in
+    subst (λ (f : Form). IsPlain f → Spells (codes "start" ∷ queue ∷ []) f) part.2
+    (λ fine. let i = named_spelled queue part.0 part.1 fine in (cc, i.1)) plain
+start_spelled (queue ∷ more ∷ words) form said plain = absurd (cc)
+
 end_spelled : (words : List (List ℕ)) (form : Form) → end_form words ≡ Some form → IsPlain form → Spells (codes "end" ∷ words) form
 end_spelled [] form said plain = subst (λ (f : Form). Spells (codes "end" ∷ []) f) (same_Some End form said) (refl, tt)
 end_spelled (more ∷ words) form said plain = absurd (cc)
@@ -152,6 +160,7 @@ form_spelled keyword.Item words form said plain = item_spelled words form said p
 form_spelled keyword.Script words form said plain = script_spelled words form said plain
 form_spelled keyword.Submit words form said plain = submit_spelled words form said plain
 form_spelled keyword.Cancel words form said plain = cancel_spelled words form said plain
+form_spelled keyword.Start words form said plain = start_spelled words form said plain
 form_spelled keyword.End words form said plain = end_spelled words form said plain
 
 -- what a search finds passes its test

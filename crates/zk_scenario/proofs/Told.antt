@@ -29,10 +29,10 @@ use Rattle.zk_scenario.specs.Forms.{line_of, named_text, form_words}
 use Rattle.zk_scenario.specs.Grammar.{told, taken, read_line, ended, at_end, behind, read_lines, behind_header, read_pieces, pieces_of, scenario_of, IsReadable}
 use Rattle.zk_scenario.specs.Objects.{object_of, is_at}
 use Rattle.zk_scenario.specs.Parts.{Parts}
-use Rattle.zk_scenario.specs.Players.{is_thread, is_queue, is_item, name_of}
+use Rattle.zk_scenario.specs.Players.{plays_script, is_thread, is_queue, is_item, name_of}
 use Rattle.zk_scenario.specs.Reading.{Reading, start, declared, begun, with_call, called, closed, all_scripts}
 use Rattle.zk_scenario.specs.Spelling.{decl_line, name_at, ref_name, call_words, call_line, begun_lines, script_lines, body_lines, lines_of, fed, lines_text, text_of}
-use Rattle.zk_scenario.specs.Text.{line_text, script_words, submit_words, cancel_words, end_words}
+use Rattle.zk_scenario.specs.Text.{line_text, script_words, submit_words, cancel_words, start_words, end_words}
 use Rattle.zk_scenario.specs.Verdict.{named, names, has_begun, verdict, object, ref, after}
 use Rattle.zk_scenario.proofs.Kept.{Passes, Passes-verdict, IsPlain-verdict, nothing_begun, is_some-none, is_some-some, or_none}
 use Rattle.zk_scenario.proofs.Spelled.{line_spelled}
@@ -114,8 +114,8 @@ read-after r f e = by_form f (Passes-verdict r f e) where
       read-declared r.decls r.scripts r.current (decl.Item (named_text name)) nothing.0 nothing.1
   by_form (form.Script owner) p =
       let both = or_none (is_some r.current) _ p.placed in
-      let thread = not-false (names is_thread r.decls owner) p.well_named in
-      read-begun r.decls r.scripts r.current (object r.decls owner) (named_text owner) (is_some-none r.current both.0) (name_at-object is_thread r.decls owner thread)
+      let thread = not-false (names plays_script r.decls owner) p.well_named in
+      read-begun r.decls r.scripts r.current (object r.decls owner) (named_text owner) (is_some-none r.current both.0) (name_at-object plays_script r.decls owner thread)
   by_form (form.Submit item None) p =
       read_call (call.Submit (ref r.decls item) None) _ p.placed (item_line item None (not-false (names is_item r.decls item) p.well_named) refl)
   by_form (form.Submit item (Some queue)) p =
@@ -123,6 +123,8 @@ read-after r f e = by_form f (Passes-verdict r f e) where
       read_call (call.Submit (ref r.decls item) (Some (ref r.decls queue))) _ p.placed (item_line item (Some queue) both.0 (ap Some (name_at-object is_queue r.decls queue both.1)))
   by_form (form.Cancel item) p =
       read_call (call.Cancel (ref r.decls item)) _ p.placed (ap (λ name. line_text (cancel_words name)) (name_at-object is_item r.decls item (not-false (names is_item r.decls item) p.well_named)))
+  by_form (form.Start queue) p =
+      read_call (call.Start (ref r.decls queue)) _ p.placed (ap (λ name. line_text (start_words name)) (name_at-object is_queue r.decls queue (not-false (names is_queue r.decls queue) p.well_named)))
   by_form form.End p =
       let inside = is_some-some r.current (not-false (is_some r.current) p.placed) in
       ap (λ o. read_so r.decls (r.scripts ++ option_to_list o) None) inside.1 ∙ read-closed r.decls r.scripts inside.0

@@ -12,7 +12,7 @@ use Rattle.zk_scenario.specs.declared.types.Call.{Call}
 use Rattle.zk_scenario.specs.declared.types.Script.{Script}
 use Rattle.zk_scenario.specs.Objects.{is_at}
 use Rattle.zk_scenario.specs.Parts.{Parts}
-use Rattle.zk_scenario.specs.Players.{is_thread, is_queue, is_item, same_kind, players, places, number_of, calls_of}
+use Rattle.zk_scenario.specs.Players.{plays_script, is_thread, is_queue, is_item, same_kind, players, places, number_of, calls_of}
 use Rattle.zk_scenario.specs.Scripts.{script_of}
 use Rattle.zk_scenario.specs.Valid.{IsValid, call_fits, script_fits, player_count}
 use Rattle.zk_scenario.proofs.Played.{calls_of-none, calls_of-some}
@@ -94,9 +94,9 @@ call_fits-calls_of p owner valid = by_place (script_of p.scripts owner) refl whe
       let script = get_or p.scripts k d in
       let within = (position-Some (λ s. eqb s.owner owner) p.scripts k d e).0 in
       let fits = list_all-at (script_fits p.decls) p.scripts k script valid.fit (slice_get-get_or p.scripts k d within) in
-      ap (list_all (call_fits p.decls)) (calls_of-some p.scripts owner k d e) ∙ (and_parts (is_at is_thread p.decls script.owner) (list_all (call_fits p.decls) script.calls) fits).1
+      ap (list_all (call_fits p.decls)) (calls_of-some p.scripts owner k d e) ∙ (and_parts (is_at plays_script p.decls script.owner) (list_all (call_fits p.decls) script.calls) fits).1
 
--- each script is played by a thread
-pub is_thread-owner : (p : Parts) (n : ℕ) (script : Script) → IsValid p → slice_get p.scripts n ≡ Some script → is_at is_thread p.decls script.owner ≡ true
-is_thread-owner p n script valid e =
-    (and_parts (is_at is_thread p.decls script.owner) (list_all (call_fits p.decls) script.calls) (list_all-at (script_fits p.decls) p.scripts n script valid.fit e)).0
+-- each script is played by a thread or an item
+pub plays_script-owner : (p : Parts) (n : ℕ) (script : Script) → IsValid p → slice_get p.scripts n ≡ Some script → is_at plays_script p.decls script.owner ≡ true
+plays_script-owner p n script valid e =
+    (and_parts (is_at plays_script p.decls script.owner) (list_all (call_fits p.decls) script.calls) (list_all-at (script_fits p.decls) p.scripts n script valid.fit e)).0

@@ -4,7 +4,7 @@ use Rattle.zk_base.specs.Names.{is_name, is_spelled}
 use Rattle.zk_scenario.specs.declared.form.Named.{Named}
 use Rattle.zk_scenario.specs.declared.form.Named.TheVariants.{Plain, Reserved}
 use Rattle.zk_scenario.specs.declared.form.Form.{Form}
-use Rattle.zk_scenario.specs.declared.form.Form.TheVariants.{Thread, Queue, Item, Script, Submit, Cancel, End}
+use Rattle.zk_scenario.specs.declared.form.Form.TheVariants.{Thread, Queue, Item, Script, Submit, Cancel, Start, End}
 use Rattle.zk_scenario.specs.declared.form.Line.{Line}
 use Rattle.zk_scenario.specs.declared.form.Line.TheVariants.{Unbuilt, Misspelled, Formed}
 use Rattle.zk_scenario.specs.declared.keyword.Keyword.{Keyword}
@@ -12,7 +12,7 @@ use Rattle.zk_scenario.specs.declared.keyword.Keyword.TheVariants as keyword
 use Rattle.zk_scenario.specs.Words.{words_of}
 use Rattle.zk_scenario.specs.Numbers.{priority_of, IsPriority}
 use Rattle.zk_scenario.specs.Keywords.{keyword_of, is_unbuilt}
-use Rattle.zk_scenario.specs.Text.{thread_words, queue_words, item_words, script_words, submit_words, cancel_words, end_words}
+use Rattle.zk_scenario.specs.Text.{thread_words, queue_words, item_words, script_words, submit_words, cancel_words, start_words, end_words}
 
 -- a word where a name is asked for
 abbrev pub named_of : List ℕ → Option Named
@@ -72,6 +72,11 @@ abbrev pub cancel_form : List (List ℕ) → Option Form
 cancel_form (item ∷ []) = option_map Cancel (named_of item)
 cancel_form _ = None
 
+-- start QUEUE
+abbrev pub start_form : List (List ℕ) → Option Form
+start_form (queue ∷ []) = option_map Start (named_of queue)
+start_form _ = None
+
 -- end
 abbrev pub end_form : List (List ℕ) → Option Form
 end_form [] = Some End
@@ -85,6 +90,7 @@ form_of keyword.Item words = item_form words
 form_of keyword.Script words = script_form words
 form_of keyword.Submit words = submit_form words
 form_of keyword.Cancel words = cancel_form words
+form_of keyword.Start words = start_form words
 form_of keyword.End words = end_form words
 
 -- a form, or a wrong spelling where there is none
@@ -123,6 +129,7 @@ form_words (Item name) = item_words (named_text name)
 form_words (Script owner) = script_words (named_text owner)
 form_words (Submit item queue) = submit_words (named_text item) (option_map named_text queue)
 form_words (Cancel item) = cancel_words (named_text item)
+form_words (Start queue) = start_words (named_text queue)
 form_words End = end_words
 
 -- a name that isn't reserved
@@ -138,6 +145,7 @@ IsPlain (Item name) = IsUnreserved name
 IsPlain (Script owner) = IsUnreserved owner
 IsPlain (Submit item queue) = IsUnreserved item × IfSome queue IsUnreserved
 IsPlain (Cancel item) = IsUnreserved item
+IsPlain (Start queue) = IsUnreserved queue
 IsPlain End = Unit {0}
 
 -- a word that is a name
@@ -153,4 +161,5 @@ CanBeSpelled (Item name) = IsNamed name
 CanBeSpelled (Script owner) = IsNamed owner
 CanBeSpelled (Submit item queue) = IsNamed item × IfSome queue IsNamed
 CanBeSpelled (Cancel item) = IsNamed item
+CanBeSpelled (Start queue) = IsNamed queue
 CanBeSpelled End = Unit {0}

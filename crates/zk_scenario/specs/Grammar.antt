@@ -33,7 +33,7 @@ read_line r text = taken r (line_of text)
 abbrev pub unfed : Reading → Line → Why
 unfed r line.Unbuilt = why.Unbuilt
 unfed r line.Misspelled = why.Line
-unfed r (line.Formed form) = (if is_unbuilt r.decls form then why.Unbuilt else why.Line)
+unfed r (line.Formed form) = (if is_unbuilt form then why.Unbuilt else why.Line)
 
 -- the end of the input behind a line feed; n is the number after the last line
 abbrev pub ended : ℕ → Reading → Result Parts ScenarioRefused

@@ -24,6 +24,12 @@ is_item (Thread name prio user) = false
 is_item (Queue name prio on) = false
 is_item (Item name) = true
 
+-- whether a declaration is of what can play a script: a thread, or an item by its handler
+abbrev pub plays_script : Decl → Bool
+plays_script (Thread name prio user) = true
+plays_script (Queue name prio on) = false
+plays_script (Item name) = true
+
 -- the name that a declaration gives
 abbrev pub name_of : Decl → List ℕ
 name_of (Thread name prio user) = name

@@ -40,6 +40,10 @@ submit_words item queue = codes "submit" ∷ item ∷ option_to_list queue
 abbrev pub cancel_words : List ℕ → List (List ℕ)
 cancel_words item = codes "cancel" ∷ item ∷ []
 
+-- the start of a queue
+abbrev pub start_words : List ℕ → List (List ℕ)
+start_words queue = codes "start" ∷ queue ∷ []
+
 -- the end of a script
 abbrev pub end_words : List (List ℕ)
 end_words = codes "end" ∷ []

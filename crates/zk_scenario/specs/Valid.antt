@@ -3,11 +3,11 @@ use Rattle.std.specs.List.{list_all, sum_by}
 use Rattle.zk_scenario.specs.declared.types.Decl.{Decl}
 use Rattle.zk_scenario.specs.declared.types.Ref.TheVariants.{Known}
 use Rattle.zk_scenario.specs.declared.types.Call.{Call}
-use Rattle.zk_scenario.specs.declared.types.Call.TheVariants.{Submit, Cancel}
+use Rattle.zk_scenario.specs.declared.types.Call.TheVariants.{Submit, Cancel, Start}
 use Rattle.zk_scenario.specs.declared.types.Script.{Script}
 use Rattle.zk_scenario.specs.Objects.{is_at}
 use Rattle.zk_scenario.specs.Parts.{Parts}
-use Rattle.zk_scenario.specs.Players.{is_thread, is_queue, is_item}
+use Rattle.zk_scenario.specs.Players.{plays_script, is_thread, is_queue, is_item}
 use Rattle.zk_scenario.specs.Scripts.{script_of}
 
 -- whether each object of a call is declared and of the kind that the call asks for
@@ -15,10 +15,11 @@ abbrev pub call_fits : List Decl → Call → Bool
 call_fits decls (Submit (Known item) None) = is_at is_item decls item
 call_fits decls (Submit (Known item) (Some (Known queue))) = is_at is_item decls item && is_at is_queue decls queue
 call_fits decls (Cancel (Known item)) = is_at is_item decls item
+call_fits decls (Start (Known queue)) = is_at is_queue decls queue
 
--- whether a thread plays a script, and each of its calls fits
+-- whether a thread or a handler plays a script, and each of its calls fits
 abbrev pub script_fits : List Decl → Script → Bool
-script_fits decls script = is_at is_thread decls script.owner && list_all (call_fits decls) script.calls
+script_fits decls script = is_at plays_script decls script.owner && list_all (call_fits decls) script.calls
 
 -- how many players there are: the threads, and a worker for each queue
 abbrev pub player_count : List Decl → ℕ

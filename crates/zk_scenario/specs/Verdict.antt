@@ -8,12 +8,12 @@ use Rattle.zk_scenario.specs.declared.types.Call.TheVariants as call
 use Rattle.zk_scenario.specs.declared.form.Named.{Named}
 use Rattle.zk_scenario.specs.declared.form.Named.TheVariants.{Plain, Reserved}
 use Rattle.zk_scenario.specs.declared.form.Form.{Form}
-use Rattle.zk_scenario.specs.declared.form.Form.TheVariants.{Thread, Queue, Item, Script, Submit, Cancel, End}
+use Rattle.zk_scenario.specs.declared.form.Form.TheVariants.{Thread, Queue, Item, Script, Submit, Cancel, Start, End}
 use Rattle.zk_scenario.specs.declared.refused.Why.{Why}
 use Rattle.zk_scenario.specs.declared.refused.Why.TheVariants as why
 use Rattle.zk_scenario.specs.Forms.{named_text}
 use Rattle.zk_scenario.specs.Objects.{object_of, is_at}
-use Rattle.zk_scenario.specs.Players.{is_thread, is_queue, is_item}
+use Rattle.zk_scenario.specs.Players.{plays_script, is_queue, is_item}
 use Rattle.zk_scenario.specs.Reading.{Reading, all_scripts, declared, begun, called, closed}
 use Rattle.zk_scenario.specs.Scripts.{script_of}
 use Rattle.zk_scenario.specs.Valid.{player_count, call_count}
@@ -41,14 +41,9 @@ abbrev pub has_script : Reading → Named → Bool
 has_script r name = option_map_or (λ owner. is_some (script_of r.scripts owner)) (named r.decls name) false
 
 -- whether the grammar has the line, and the program can't play it yet
-abbrev pub is_unbuilt : List Decl → Form → Bool
-is_unbuilt decls (Thread name prio user) = user
-is_unbuilt decls (Queue name prio on) = not on || nat_lt 0 (count_by is_queue decls)
-is_unbuilt decls (Item name) = false
-is_unbuilt decls (Script owner) = names is_item decls owner
-is_unbuilt decls (Submit item queue) = false
-is_unbuilt decls (Cancel item) = false
-is_unbuilt decls End = false
+abbrev pub is_unbuilt : Form → Bool
+is_unbuilt (Thread name prio user) = user
+is_unbuilt form = false
 
 -- whether the line may not stand there
 abbrev pub is_misplaced : Reading → Form → Bool
@@ -58,6 +53,7 @@ is_misplaced r (Item name) = has_begun r
 is_misplaced r (Script owner) = is_some r.current || has_script r owner
 is_misplaced r (Submit item queue) = not (is_some r.current)
 is_misplaced r (Cancel item) = not (is_some r.current)
+is_misplaced r (Start queue) = not (is_some r.current)
 is_misplaced r End = not (is_some r.current)
 
 -- whether a number of the line is out of its range
@@ -68,6 +64,7 @@ is_out_of_range (Item name) = false
 is_out_of_range (Script owner) = false
 is_out_of_range (Submit item queue) = false
 is_out_of_range (Cancel item) = false
+is_out_of_range (Start queue) = false
 is_out_of_range End = false
 
 -- whether a name of the line is declared twice, reserved, not declared, or of the wrong kind
@@ -75,10 +72,11 @@ abbrev pub is_misnamed : List Decl → Form → Bool
 is_misnamed decls (Thread name prio user) = is_taken decls name
 is_misnamed decls (Queue name prio on) = is_taken decls name
 is_misnamed decls (Item name) = is_taken decls name
-is_misnamed decls (Script owner) = not (names is_thread decls owner)
+is_misnamed decls (Script owner) = not (names plays_script decls owner)
 is_misnamed decls (Submit item None) = not (names is_item decls item)
 is_misnamed decls (Submit item (Some queue)) = not (names is_item decls item && names is_queue decls queue)
 is_misnamed decls (Cancel item) = not (names is_item decls item)
+is_misnamed decls (Start queue) = not (names is_queue decls queue)
 is_misnamed decls End = false
 
 -- whether the line passes a limit
@@ -89,12 +87,13 @@ is_past_limit r (Item name) = nat_le 256 (count_by is_item r.decls)
 is_past_limit r (Script owner) = false
 is_past_limit r (Submit item queue) = nat_le 4096 (call_count (all_scripts r))
 is_past_limit r (Cancel item) = nat_le 4096 (call_count (all_scripts r))
+is_past_limit r (Start queue) = nat_le 4096 (call_count (all_scripts r))
 is_past_limit r End = false
 
 -- the first reason that applies to a line behind these, if there is one
 abbrev pub verdict : Reading → Form → Option Why
 verdict r form =
-    if is_unbuilt r.decls form then Some why.Unbuilt else
+    if is_unbuilt form then Some why.Unbuilt else
     if is_misplaced r form then Some why.Order else
     if is_out_of_range form then Some why.Number else
     if is_misnamed r.decls form then Some why.Name else
@@ -116,4 +115,5 @@ after r (Item name) = declared r (decl.Item (named_text name))
 after r (Script owner) = begun r (record { owner = object r.decls owner; calls = [] })
 after r (Submit item queue) = called r (call.Submit (ref r.decls item) (option_map (ref r.decls) queue))
 after r (Cancel item) = called r (call.Cancel (ref r.decls item))
+after r (Start queue) = called r (call.Start (ref r.decls queue))
 after r End = closed r

@@ -1,5 +1,5 @@
 ghost use Rattle.std.specs.Prelude.{◌≡◌, ◌∷◌};
-ghost use Rattle.zk_scenario.specs.Forms.{named_of, mode_of, state_of, thread_form, queue_form, item_form, script_form, submit_form, cancel_form, end_form, form_of, formless, line_of};
+ghost use Rattle.zk_scenario.specs.Forms.{named_of, mode_of, state_of, thread_form, queue_form, item_form, script_form, submit_form, cancel_form, start_form, end_form, form_of, formless, line_of};
 
 use crate::keyword::{Keyword, is_unbuilt, keyword_of};
 use crate::numbers::priority_of;
@@ -24,6 +24,7 @@ pub enum Form {
     Script(Named),
     Submit(Named, Option<Named>),
     Cancel(Named),
+    Start(Named),
     End,
 }
 
@@ -74,6 +75,7 @@ fn form_of(keyword: Keyword, words: &mut Words<'_>) -> Option<Form>
         Keyword::Script => script_form(words),
         Keyword::Submit => submit_form(words),
         Keyword::Cancel => cancel_form(words),
+        Keyword::Start => start_form(words),
         Keyword::End => end_form(words),
     }
 }
@@ -143,6 +145,16 @@ fn cancel_form(words: &mut Words<'_>) -> Option<Form>
         return None;
     }
     Some(Form::Cancel(named_of(item)?))
+}
+
+fn start_form(words: &mut Words<'_>) -> Option<Form>
+    ensures { result ≡ start_form words.old }
+{
+    let queue = words.next()?;
+    if words.next().is_some() {
+        return None;
+    }
+    Some(Form::Start(named_of(queue)?))
 }
 
 fn end_form(words: &mut Words<'_>) -> Option<Form>

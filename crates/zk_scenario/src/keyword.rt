@@ -12,6 +12,7 @@ pub enum Keyword {
     Script,
     Submit,
     Cancel,
+    Start,
     End,
 }
 
@@ -36,6 +37,9 @@ pub fn keyword_of(word: &[u8]) -> Option<Keyword>
     }
     if word == b"cancel".as_slice() {
         return Some(Keyword::Cancel);
+    }
+    if word == b"start".as_slice() {
+        return Some(Keyword::Start);
     }
     if word == b"end".as_slice() {
         return Some(Keyword::End);
@@ -76,7 +80,6 @@ fn is_unbuilt_work_call(word: &[u8]) -> bool
         || word == b"reschedule".as_slice()
         || word == b"remaining".as_slice()
         || word == b"busy".as_slice()
-        || word == b"start".as_slice()
         || word == b"drain".as_slice()
         || word == b"unplug".as_slice()
         || word == b"tick".as_slice()

@@ -22,7 +22,9 @@ mod words;
 
 pub use form::{Form, Line, Named, line_of};
 pub use numbers::{number_of, priority_of};
-pub use print::{put_cancel, put_end, put_item, put_queue, put_script, put_submit, put_thread};
+pub use print::{
+    put_cancel, put_end, put_item, put_queue, put_script, put_start, put_submit, put_thread,
+};
 pub use read::{LONGEST_SCENARIO, read_scenario};
 pub use refused::{ScenarioRefused, Why};
 pub use scenario::Scenario;

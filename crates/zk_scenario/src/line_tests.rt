@@ -1,6 +1,6 @@
 use crate::{
     Form, Line, Named, line_of, number_of, put_cancel, put_end, put_item, put_queue, put_script,
-    put_submit, put_thread,
+    put_start, put_submit, put_thread,
 };
 use std::test::Fail;
 use zk_base::NoMemory;
@@ -21,6 +21,7 @@ fn put_form(out: &mut Vec<u8>, form: &Form) -> Result<(), NoMemory> {
         }
         Form::Submit(Named::Plain(item), None) => put_submit(out, item.bytes(), None),
         Form::Cancel(Named::Plain(item)) => put_cancel(out, item.bytes()),
+        Form::Start(Named::Plain(queue)) => put_start(out, queue.bytes()),
         Form::End => put_end(out),
         Form::Thread(Named::Plain(_), None, _) | Form::Queue(Named::Plain(_), None, _) => put_item(
             out, b"number",
@@ -39,7 +40,7 @@ fn put_line(out: &mut Vec<u8>, line: &[u8]) -> Result<(), NoMemory> {
 
 #[test]
 fn tells_forms_from_misspellings(rt: HostRuntime) -> Result<(), Fail> {
-    let table: [(&str, &str); 48] = [
+    let table: [(&str, &str); 49] = [
         ("thread main 0 super", "thread main 0 super"),
         ("thread a_1 -16 user", "thread a_1 -16 user"),
         ("queue q0 15 on", "queue q0 15 on"),
@@ -49,6 +50,7 @@ fn tells_forms_from_misspellings(rt: HostRuntime) -> Result<(), Fail> {
         ("submit i0", "submit i0"),
         ("submit i0 q0", "submit i0 q0"),
         ("cancel i0", "cancel i0"),
+        ("start q0", "start q0"),
         ("end", "end"),
         ("thread main 16 super", "item number"),
         ("thread main -17 super", "item number"),

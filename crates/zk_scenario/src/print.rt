@@ -1,6 +1,6 @@
 ghost use Rattle.std.specs.Prelude.{◌≡◌, ◌∷◌, ◌++◌, OnOk, option_map};
 ghost use Rattle.std.specs.Fmt.{signed_decimal};
-ghost use Rattle.zk_scenario.specs.Text.{line_text, mode_text, state_text, thread_words, queue_words, item_words, script_words, submit_words, cancel_words, end_words};
+ghost use Rattle.zk_scenario.specs.Text.{line_text, mode_text, state_text, thread_words, queue_words, item_words, script_words, submit_words, cancel_words, start_words, end_words};
 
 use itoa::Buffer;
 use zk_base::{NoMemory, put};
@@ -63,6 +63,14 @@ pub fn put_cancel(out: &mut Vec<u8>, item: &[u8]) -> Result<(), NoMemory>
 {
     put(out, b"cancel")?;
     put_next_word(out, item)
+}
+
+/// The start of a queue.
+pub fn put_start(out: &mut Vec<u8>, queue: &[u8]) -> Result<(), NoMemory>
+    ensures { OnOk result (out.new.items ≡ out.old.items ++ line_text (start_words queue.now)) }
+{
+    put(out, b"start")?;
+    put_next_word(out, queue)
 }
 
 /// The end of a script.

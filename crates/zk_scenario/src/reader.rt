@@ -88,6 +88,7 @@ impl Reader {
             Form::Script(owner) => self.current.is_some() || self.has_script(owner),
             Form::Submit(_, _) => !self.current.is_some(),
             Form::Cancel(_) => !self.current.is_some(),
+            Form::Start(_) => !self.current.is_some(),
             Form::End => !self.current.is_some(),
         }
     }
@@ -106,6 +107,7 @@ impl Reader {
             Form::Script(_) => false,
             Form::Submit(_, _) => MOST_CALLS <= self.calls,
             Form::Cancel(_) => MOST_CALLS <= self.calls,
+            Form::Start(_) => MOST_CALLS <= self.calls,
             Form::End => false,
         }
     }
@@ -114,7 +116,7 @@ impl Reader {
     fn verdict(&self, form: &Form) -> Option<Why>
         ensures { result ≡ verdict self.now form.now }
     {
-        if is_unbuilt(&self.objects, form) {
+        if is_unbuilt(form) {
             return Some(Why::Unbuilt);
         }
         if self.is_misplaced(form) {
@@ -162,7 +164,7 @@ impl Reader {
             Line::Unbuilt => Why::Unbuilt,
             Line::Misspelled => Why::Line,
             Line::Formed(form) => {
-                if is_unbuilt(&self.objects, &form) {
+                if is_unbuilt(&form) {
                     Why::Unbuilt
                 } else {
                     Why::Line
@@ -223,6 +225,10 @@ impl Reader {
             Form::Cancel(item) => {
                 let item = reference(&self.objects, item);
                 self.call(Call::Cancel(item))
+            }
+            Form::Start(queue) => {
+                let queue = reference(&self.objects, queue);
+                self.call(Call::Start(queue))
             }
             Form::End => self.end(),
         }

@@ -4,7 +4,9 @@ ghost use Rattle.zk_scenario.specs.Grammar.{IsReadable};
 ghost use Rattle.zk_scenario.specs.Spelling.{decl_words, decl_line, name_at, ref_name, call_words, call_line, script_lines, fed, lines_text, text_of};
 ghost use Rattle.zk_scenario.specs.Text.{line_text, script_words, end_words};
 
-use crate::print::{put_cancel, put_end, put_item, put_queue, put_script, put_submit, put_thread};
+use crate::print::{
+    put_cancel, put_end, put_item, put_queue, put_script, put_start, put_submit, put_thread,
+};
 use crate::{Call, Decl, Ref, Scenario, Script};
 use std::alloc::Global;
 use zk_base::{NoMemory, put};
@@ -115,6 +117,7 @@ fn put_call_words(out: &mut Vec<u8>, decls: &[Decl], call: &Call) -> Result<(), 
             put_submit(out, ref_name(decls, item), Some(ref_name(decls, queue)))
         }
         Call::Cancel(item) => put_cancel(out, ref_name(decls, item)),
+        Call::Start(queue) => put_start(out, ref_name(decls, queue)),
     }
 }
 

@@ -25,9 +25,11 @@ pub enum Call {
     Submit(Ref, Option<Ref>),
     /// Zephyr's `k_work_cancel`.
     Cancel(Ref),
+    /// A queue. Zephyr's `k_work_queue_start`.
+    Start(Ref),
 }
 
-/// The calls that an object makes: those of a thread, in order.
+/// The calls that an object makes, in order: those of a thread, or those of an item's handler.
 #[derive(Debug, Drop)]
 pub struct Script {
     /// The object number of whoever plays the script.

@@ -1,6 +1,6 @@
 ghost use Rattle.std.specs.Prelude.{◌≡◌, ◌+◌, length, option_map};
 ghost use Rattle.zk_scenario.specs.Objects.{is_at};
-ghost use Rattle.zk_scenario.specs.Players.{is_thread, is_queue, is_item};
+ghost use Rattle.zk_scenario.specs.Players.{plays_script, is_queue, is_item};
 ghost use Rattle.zk_scenario.specs.Valid.{player_count};
 ghost use Rattle.zk_scenario.specs.Verdict.{named, names, is_taken, is_unbuilt, is_out_of_range, is_misnamed, object, ref};
 
@@ -32,16 +32,17 @@ pub fn reference(objects: &Objects, name: &Named) -> Ref
 }
 
 /// Whether the grammar has the line, and the program can't play it yet.
-pub fn is_unbuilt(objects: &Objects, form: &Form) -> bool
-    ensures { result ≡ is_unbuilt objects.now form.now }
+pub fn is_unbuilt(form: &Form) -> bool
+    ensures { result ≡ is_unbuilt form.now }
 {
     match form {
         Form::Thread(_, _, user) => *user,
-        Form::Queue(_, _, on) => !*on || 0 < objects.queue_count(),
-        Form::Script(owner) => names_item(objects, owner),
+        Form::Queue(_, _, _) => false,
         Form::Item(_) => false,
+        Form::Script(_) => false,
         Form::Submit(_, _) => false,
         Form::Cancel(_) => false,
+        Form::Start(_) => false,
         Form::End => false,
     }
 }
@@ -57,6 +58,7 @@ pub fn is_out_of_range(form: &Form) -> bool
         Form::Script(_) => false,
         Form::Submit(_, _) => false,
         Form::Cancel(_) => false,
+        Form::Start(_) => false,
         Form::End => false,
     }
 }
@@ -69,12 +71,13 @@ pub fn is_misnamed(objects: &Objects, form: &Form) -> bool
         Form::Thread(name, _, _) => is_taken(objects, name),
         Form::Queue(name, _, _) => is_taken(objects, name),
         Form::Item(name) => is_taken(objects, name),
-        Form::Script(owner) => !names_thread(objects, owner),
+        Form::Script(owner) => !names_owner(objects, owner),
         Form::Submit(item, None) => !names_item(objects, item),
         Form::Submit(item, Some(queue)) => {
             !(names_item(objects, item) && names_queue(objects, queue))
         }
         Form::Cancel(item) => !names_item(objects, item),
+        Form::Start(queue) => !names_queue(objects, queue),
         Form::End => false,
     }
 }
@@ -88,11 +91,11 @@ fn is_taken(objects: &Objects, name: &Named) -> bool
     }
 }
 
-fn names_thread(objects: &Objects, name: &Named) -> bool
-    ensures { result ≡ names is_thread objects.now name.now }
+fn names_owner(objects: &Objects, name: &Named) -> bool
+    ensures { result ≡ names plays_script objects.now name.now }
 {
     match named(objects, name) {
-        Some(object) => is_thread_at(objects.decls(), object),
+        Some(object) => may_own_at(objects.decls(), object),
         None => false,
     }
 }
@@ -115,13 +118,13 @@ fn names_item(objects: &Objects, name: &Named) -> bool
     }
 }
 
-fn is_thread_at(decls: &[Decl], object: u32) -> bool
-    ensures { result ≡ is_at is_thread decls.now object }
+fn may_own_at(decls: &[Decl], object: u32) -> bool
+    ensures { result ≡ is_at plays_script decls.now object }
 {
     match decls.get(object as usize) {
         Some(Decl::Thread(..)) => true,
         Some(Decl::Queue(..)) => false,
-        Some(Decl::Item(_)) => false,
+        Some(Decl::Item(_)) => true,
         None => false,
     }
 }

@@ -23,3 +23,6 @@ call-requires-in-Submit-default-Some-clause-valid c = IsValid-after-is _ _ _ c.a
 
 pub call-requires-in-Cancel-clause-valid : goal.call-requires-in-Cancel-clause-valid
 call-requires-in-Cancel-clause-valid c = IsValid-after-is _ _ _ c.args.form.now c.self.view_is c.self.invariant.valid c.requires (search rules)
+
+pub call-requires-in-Start-clause-valid : goal.call-requires-in-Start-clause-valid
+call-requires-in-Start-clause-valid c = IsValid-after-is _ _ _ c.args.form.now c.self.view_is c.self.invariant.valid c.requires (search rules)
