@@ -15,6 +15,8 @@ mod reader;
 mod refused;
 mod scenario;
 mod scripts;
+#[cfg(test)]
+mod tests;
 mod text;
 mod types;
 mod verdict;

@@ -1,0 +1,234 @@
+use crate::{LONGEST_SCENARIO, ScenarioRefused, print_scenario, read_scenario};
+use std::alloc::Global;
+use std::test::Fail;
+
+const HEADER: &str = "zk 1\n";
+
+const FRONT: &str = "zk 1\nthread main 0 super\nqueue q0 -1 on\nitem i0\n";
+
+const INSIDE: &str = "zk 1\nthread main 0 super\nqueue q0 -1 on\nitem i0\nscript main\n";
+
+const BEHIND: &str = "zk 1\nthread main 0 super\nqueue q0 -1 on\nitem i0\nscript main\nend\n";
+
+const WHOLE: &str =
+    "zk 1\nthread main -3 super\nqueue q0 -1 on\nitem i0\nscript main\nsubmit i0 q0\nend\n";
+
+// The reading of a text in a word or two: `read` where it is printed again as it stood, else the refusal.
+fn reading(alloc: Global, text: &[u8]) -> Result<String, Fail> {
+    match read_scenario(alloc, text) {
+        Ok(scenario) => {
+            let printed = print_scenario(alloc, &scenario)?;
+            let same = printed.as_slice() == text;
+            Ok(format!(in alloc; "{}", if same { "read" } else { "misprinted" })?)
+        }
+        Err(ScenarioRefused::At(line, why)) => Ok(format!(in alloc; "{line} {why}")?),
+        Err(ScenarioRefused::NoMemory) => Ok(format!(in alloc; "no memory")?),
+    }
+}
+
+// Whether each of the lines, which a `|` parts, is read so behind those before it.
+fn told(alloc: Global, before: &str, lines: &str, said: &str) -> Result<bool, Fail> {
+    let mut all = true;
+    for line in lines.split('|') {
+        let text = format!(in alloc; "{before}{line}")?;
+        let told = reading(alloc, text.as_bytes())?;
+        all = all && told.as_str() == said;
+    }
+    Ok(all)
+}
+
+#[test]
+fn refuses_what_is_misspelled(rt: HostRuntime) -> Result<(), Fail> {
+    let headers = "|\n|zk|zk 2\n|zk  1\n|zk 1 \n|zk 1\r\n| zk 1\n|zk 1\t\n";
+    let spaces = "\n|item  i0\n|item i0 \n| item i0\n|item i0\r\n|item\ti0\n|item\n|item i0 i1\n";
+    let names = "zk 1\n|item I\n|item 1\n|item _a\n|item abcdefghijklmnopq\n|item i-0\n";
+    let numbers = "thread t 00 super\n|thread t -0 super\n|thread t +1 super\n|thread t - super\n";
+    let table: [(&str, &str, &str); 8] = [
+        ("", headers, "1 header"),
+        ("", "zk 1", "1 line"),
+        (HEADER, spaces, "2 line"),
+        (HEADER, names, "2 line"),
+        (HEADER, numbers, "2 line"),
+        (HEADER, "item i0|thread t 0 super|frob", "2 line"),
+        (INSIDE, "end|submit i0|end \n", "6 line"),
+        (BEHIND, "item I\n|submit\n|end |item i1", "7 line"),
+    ];
+    for (before, lines, said) in table {
+        assert!(rt; told(rt.alloc(), before, lines, said)?, "at {lines}");
+    }
+    Ok(())
+}
+
+#[test]
+fn refuses_what_stands_in_the_wrong_place(rt: HostRuntime) -> Result<(), Fail> {
+    let early = "thread t 0 user\n|queue q 0 off\n|sem s 0 1\n|give\n|thread t 0 user|sem";
+    let late = "thread t 16 super\n|thread main 0 super\n|submit nosuch\n|script main\n|end\n";
+    let numbers = "thread t 16 super\n|thread t -17 super\n|queue q 99999999999999999999999 on\n";
+    let table: [(&str, &str, &str); 10] = [
+        (HEADER, early, "2 unbuilt"),
+        (
+            FRONT,
+            "queue q1 0 on\n|queue q0 16 on\n|script i0\n|script i0",
+            "5 unbuilt",
+        ),
+        (
+            BEHIND,
+            "thread t 0 user\n|queue q1 16 on\n|script i0\n",
+            "7 unbuilt",
+        ),
+        (FRONT, "end\n|submit i0\n|cancel nosuch\n", "5 order"),
+        (
+            INSIDE,
+            "script main\n|item i1\n|thread t 16 super\n|",
+            "6 order",
+        ),
+        (INSIDE, "submit i0\n|cancel i0\n", "7 order"),
+        (BEHIND, late, "7 order"),
+        (HEADER, numbers, "2 number"),
+        (
+            FRONT,
+            "thread main 16 super\n|thread work -17 super\n",
+            "5 number",
+        ),
+        (
+            HEADER,
+            "thread t 15 super\nthread u -16 super\nthread t 0 super\n",
+            "4 name",
+        ),
+    ];
+    for (before, lines, said) in table {
+        assert!(rt; told(rt.alloc(), before, lines, said)?, "at {lines}");
+    }
+    Ok(())
+}
+
+#[test]
+fn refuses_what_is_misnamed(rt: HostRuntime) -> Result<(), Fail> {
+    let reserved = "item work\n|item clock\n|item table\n|item wait\n|item again\n|item nomsg\n";
+    let objects = "submit nosuch\n|submit main\n|submit i0 main\n|submit i0 nosuch\n|cancel q0\n";
+    let called =
+        "submit work\n|submit i0 clock\n|cancel table\n|cancel wait\n|submit again nomsg\n";
+    let more = "thread t1 15 super\nitem i1\nscript t1\nsubmit i1\nend\nscript main\nend\n";
+    let table: [(&str, &str, &str); 10] = [
+        (FRONT, "item main\n|item i0\n|thread q0 0 super\n", "5 name"),
+        (FRONT, reserved, "5 name"),
+        (HEADER, "thread wait 0 super\n|queue nomsg 0 on\n", "2 name"),
+        (FRONT, "script nosuch\n|script q0\n|script work\n", "5 name"),
+        (INSIDE, objects, "6 name"),
+        (INSIDE, called, "6 name"),
+        (
+            HEADER,
+            "|item abcdefghijklmnop\n|thread t -16 super\n|queue a_1 15 on\n",
+            "read",
+        ),
+        (FRONT, "|thread q 0 super\n|item i\n", "read"),
+        (
+            INSIDE,
+            "end\n|submit i0\nsubmit i0 q0\ncancel i0\nend\n",
+            "read",
+        ),
+        (FRONT, more, "read"),
+    ];
+    for (before, lines, said) in table {
+        assert!(rt; told(rt.alloc(), before, lines, said)?, "at {lines}");
+    }
+    Ok(())
+}
+
+// Lines that differ by a number alone.
+fn numbered(
+    alloc: Global,
+    text: &mut String,
+    before: &str,
+    count: u32,
+    after: &str,
+) -> Result<(), Fail> {
+    for n in 0..count {
+        let line = format!(in alloc; "{before}{n}{after}")?;
+        text.push_str(line.as_str())?;
+    }
+    Ok(())
+}
+
+// That many declarations of each kind, and a script of that many calls where there are some.
+fn sized(alloc: Global, counts: (u32, u32, u32, u32), last: &str) -> Result<String, Fail> {
+    let (threads, queues, items, calls) = counts;
+    let mut text = String::from_str(alloc, HEADER)?;
+    numbered(alloc, &mut text, "thread t", threads, " 0 super\n")?;
+    numbered(alloc, &mut text, "queue q", queues, " 0 on\n")?;
+    numbered(alloc, &mut text, "item i", items, "\n")?;
+    text.push_str(last)?;
+    if 0 < calls {
+        text.push_str("script t0\n")?;
+        for _ in 0..calls {
+            text.push_str("submit i0\n")?;
+        }
+        text.push_str("end\n")?;
+    }
+    Ok(text)
+}
+
+#[test]
+fn keeps_to_the_limits(rt: HostRuntime) -> Result<(), Fail> {
+    // How many threads, queues, items and calls there are, the last line of the front, and what is said.
+    let table: [((u32, u32, u32, u32), &str, &str); 12] = [
+        ((64, 0, 0, 0), "", "read"),
+        ((63, 1, 256, 4096), "", "read"),
+        ((64, 0, 0, 0), "thread last 0 super\n", "66 limit"),
+        ((64, 0, 0, 0), "queue last 0 on\n", "66 limit"),
+        ((63, 1, 0, 0), "thread last 0 super\n", "66 limit"),
+        ((1, 0, 256, 0), "item last\n", "259 limit"),
+        ((1, 0, 1, 4097), "", "4101 limit"),
+        ((64, 0, 0, 0), "thread t0 0 super\n", "66 name"),
+        ((64, 0, 0, 0), "thread last 16 super\n", "66 number"),
+        ((1, 0, 256, 0), "item nomsg\n", "259 name"),
+        ((1, 0, 256, 0), "item last", "259 line"),
+        ((64, 0, 0, 0), "thread last 0 user\n", "66 unbuilt"),
+    ];
+    for (counts, last, said) in table {
+        let text = sized(rt.alloc(), counts, last)?;
+        let told = reading(rt.alloc(), text.as_bytes())?;
+        assert_eq!(rt; told.as_str(), said, "at {last}");
+    }
+    Ok(())
+}
+
+#[test]
+fn reads_no_more_than_a_mebibyte(rt: HostRuntime) -> Result<(), Fail> {
+    let mut text = vec![in rt.alloc(); b' '; LONGEST_SCENARIO]?;
+    assert_eq!(rt; reading(rt.alloc(), &text)?.as_str(), "1 header");
+    text.push(b'\n')?;
+    assert_eq!(rt; reading(rt.alloc(), &text)?.as_str(), "0 length");
+    Ok(())
+}
+
+#[test]
+fn reads_a_front_at_the_end_of_a_line_alone(rt: HostRuntime) -> Result<(), Fail> {
+    let text = WHOLE.as_bytes();
+    let mut fronts = Vec::new(rt.alloc());
+    for at in 0..text.len() {
+        if read_scenario(rt.alloc(), &text[..at]).is_ok() {
+            fronts.push(at)?;
+        }
+    }
+    assert_eq!(rt; fronts.as_slice(), [5usize, 26, 41, 49].as_slice());
+    Ok(())
+}
+
+#[test]
+fn answers_from_its_tables(rt: HostRuntime) -> Result<(), Fail> {
+    let scenario = read_scenario(rt.alloc(), WHOLE.as_bytes())?;
+    assert_eq!(rt; scenario.players(), 2);
+    assert_eq!(rt; scenario.who(0).map(|w| w.prio), Some(-3));
+    assert_eq!(rt; scenario.who(1).map(|w| w.prio), Some(-1));
+    assert!(rt; scenario.who(2).is_none());
+    assert_eq!(rt; scenario.threads(), [0u32].as_slice());
+    assert_eq!(rt; scenario.queues(), [1u32].as_slice());
+    assert_eq!(rt; scenario.items(), [2u32].as_slice());
+    assert_eq!(rt; scenario.number(2), 0);
+    assert_eq!(rt; scenario.decls().len(), 3);
+    assert_eq!(rt; scenario.scripts().len(), 1);
+    assert_eq!(rt; scenario.calls(0).len(), 1);
+    assert_eq!(rt; scenario.calls(1).len(), 0);
+    Ok(())
+}
