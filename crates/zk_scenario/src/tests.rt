@@ -61,21 +61,19 @@ fn refuses_what_is_misspelled(rt: HostRuntime) -> Result<(), Fail> {
 
 #[test]
 fn refuses_what_stands_in_the_wrong_place(rt: HostRuntime) -> Result<(), Fail> {
-    let early = "thread t 0 user\n|queue q 0 off\n|sem s 0 1\n|give\n|thread t 0 user|sem";
-    let late = "thread t 16 super\n|thread main 0 super\n|submit nosuch\n|script main\n|end\n";
+    let early = "thread t 0 user\n|sem s 0 1\n|give\n|thread t 0 user|sem";
+    let late =
+        "thread t 16 super\n|queue q0 16 on\n|submit nosuch\n|script main\n|end\n|start q0\n";
     let numbers = "thread t 16 super\n|thread t -17 super\n|queue q 99999999999999999999999 on\n";
-    let table: [(&str, &str, &str); 10] = [
+    let table: [(&str, &str, &str); 11] = [
         (HEADER, early, "2 unbuilt"),
         (
             FRONT,
-            "queue q1 0 on\n|queue q0 16 on\n|script i0\n|script i0",
+            "thread t 16 user\n|thread main 0 user\n|drain q0 plug\n",
             "5 unbuilt",
         ),
-        (
-            BEHIND,
-            "thread t 0 user\n|queue q1 16 on\n|script i0\n",
-            "7 unbuilt",
-        ),
+        (BEHIND, "thread t 0 user\n|flush i0\n", "7 unbuilt"),
+        (FRONT, "script i0\nend\nscript i0\n", "7 order"),
         (FRONT, "end\n|submit i0\n|cancel nosuch\n", "5 order"),
         (
             INSIDE,
@@ -105,11 +103,12 @@ fn refuses_what_stands_in_the_wrong_place(rt: HostRuntime) -> Result<(), Fail> {
 #[test]
 fn refuses_what_is_misnamed(rt: HostRuntime) -> Result<(), Fail> {
     let reserved = "item work\n|item clock\n|item table\n|item wait\n|item again\n|item nomsg\n";
-    let objects = "submit nosuch\n|submit main\n|submit i0 main\n|submit i0 nosuch\n|cancel q0\n";
+    let objects =
+        "submit nosuch\n|submit main\n|submit i0 main\n|submit i0 nosuch\n|cancel q0\n|start i0\n|start nosuch\n";
     let called =
         "submit work\n|submit i0 clock\n|cancel table\n|cancel wait\n|submit again nomsg\n";
     let more = "thread t1 15 super\nitem i1\nscript t1\nsubmit i1\nend\nscript main\nend\n";
-    let table: [(&str, &str, &str); 10] = [
+    let table: [(&str, &str, &str); 11] = [
         (FRONT, "item main\n|item i0\n|thread q0 0 super\n", "5 name"),
         (FRONT, reserved, "5 name"),
         (HEADER, "thread wait 0 super\n|queue nomsg 0 on\n", "2 name"),
@@ -128,6 +127,11 @@ fn refuses_what_is_misnamed(rt: HostRuntime) -> Result<(), Fail> {
             "read",
         ),
         (FRONT, more, "read"),
+        (
+            FRONT,
+            "queue q1 0 off\nscript i0\nstart q1\nsubmit i0 q1\nend\nscript main\nend\n",
+            "read",
+        ),
     ];
     for (before, lines, said) in table {
         assert!(rt; told(rt.alloc(), before, lines, said)?, "at {lines}");
@@ -171,9 +175,11 @@ fn sized(alloc: Global, counts: (u32, u32, u32, u32), last: &str) -> Result<Stri
 #[test]
 fn keeps_to_the_limits(rt: HostRuntime) -> Result<(), Fail> {
     // How many threads, queues, items and calls there are, the last line of the front, and what is said.
-    let table: [((u32, u32, u32, u32), &str, &str); 12] = [
+    let table: [((u32, u32, u32, u32), &str, &str); 14] = [
         ((64, 0, 0, 0), "", "read"),
         ((63, 1, 256, 4096), "", "read"),
+        ((56, 8, 256, 4096), "", "read"),
+        ((1, 8, 0, 0), "queue last 0 off\n", "11 limit"),
         ((64, 0, 0, 0), "thread last 0 super\n", "66 limit"),
         ((64, 0, 0, 0), "queue last 0 on\n", "66 limit"),
         ((63, 1, 0, 0), "thread last 0 super\n", "66 limit"),
