@@ -1,6 +1,6 @@
 -- The first line of a text, by the place of its first line feed.
-use Rattle.std.proofs.Common.{◌≡◌, ℕ, ◌+◌, ◌<◌, ◌≤◌, Bool, true, false, eqb, ltb, List, [], ◌∷◌, length, take, drop, Option, Some, None, sym, subst, inl, inr, ◌∙◌, arith}
-use Rattle.std.specs.List.{slice_split, position, position_or_len}
+use Rattle.std.proofs.Common.{◌≡◌, ℕ, ◌+◌, ◌≤◌, eqb, ltb, List, [], ◌∷◌, length, take, drop, Some, None, sym, subst, inl, inr, ◌∙◌, arith}
+use Rattle.std.specs.List.{position, position_or_len}
 use Rattle.std.proofs.lemmas.Bool.{ltb-true, ltb-false, cases_Bool, cond-true}
 use Rattle.std.proofs.lemmas.Option.{cond_some, none-some}
 use Rattle.std.proofs.lemmas.List.Sums.{fails_before_first}

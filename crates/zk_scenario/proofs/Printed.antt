@@ -1,12 +1,12 @@
 -- The lines of a scenario, part by part.
-use Rattle.std.proofs.Common.{◌≡◌, ℕ, List, [], ◌∷◌, ◌++◌, map, codes, refl, sym, ap, ◌∙◌, append_assoc}
+use Rattle.std.proofs.Common.{◌≡◌, List, [], ◌∷◌, ◌++◌, map, refl, sym, ap, ◌∙◌}
 use Rattle.std.specs.List.{flat_map}
 use Rattle.std.proofs.lemmas.List.{append-nil}
 use Rattle.std.proofs.lemmas.Grind.{flat_map-append}
 use Rattle.std.proofs.lemmas.List.Folds.{flat_map-map}
 use Rattle.zk_scenario.specs.declared.types.Decl.{Decl}
 use Rattle.zk_scenario.specs.declared.types.Script.{Script}
-use Rattle.zk_scenario.specs.Spelling.{decl_line, name_at, call_line, begun_lines, script_lines, body_lines, fed, lines_text}
+use Rattle.zk_scenario.specs.Spelling.{decl_line, name_at, call_line, script_lines, body_lines, fed, lines_text}
 use Rattle.zk_scenario.specs.Text.{line_text, script_words, end_words}
 
 lines_text-flat_map : (decls : List Decl) (ss : List Script) → lines_text (flat_map (script_lines decls) ss) ≡ flat_map (λ s. lines_text (script_lines decls s)) ss

@@ -1,5 +1,5 @@
 -- What is read is valid.
-use Rattle.std.proofs.Common.{◌≡◌, ℕ, ◌+◌, ◌≤◌, Bool, true, false, cond, nat_lt, Option, None, Some, Result, Ok, Err, List, [], ◌∷◌, ◌++◌, length, is_some, codes, refl, sym, ap, subst, ◌∙◌, arith}
+use Rattle.std.proofs.Common.{◌≡◌, ℕ, ◌+◌, Bool, true, false, cond, nat_lt, Option, None, Some, Result, Ok, Err, List, [], ◌∷◌, length, is_some, codes, refl, sym, ap, subst, ◌∙◌, arith}
 use Rattle.std.specs.Str.{bytes_eq}
 use Rattle.zk_scenario.specs.declared.types.Script.{Script}
 use Rattle.zk_scenario.specs.declared.form.Form.{Form}
@@ -8,11 +8,11 @@ use Rattle.zk_scenario.specs.declared.form.Line.TheVariants as line
 use Rattle.zk_scenario.specs.declared.refused.Why.{Why}
 use Rattle.zk_scenario.specs.declared.refused.Why.TheVariants as why
 use Rattle.zk_scenario.specs.declared.refused.ScenarioRefused.{ScenarioRefused}
-use Rattle.zk_scenario.specs.declared.refused.ScenarioRefused.TheVariants.{At, NoMemory}
+use Rattle.zk_scenario.specs.declared.refused.ScenarioRefused.TheVariants.{At}
 use Rattle.zk_scenario.specs.Forms.{line_of}
 use Rattle.zk_scenario.specs.Grammar.{told, taken, read_line, at_end, behind, read_lines, behind_header, read_pieces, pieces_of, scenario_of, IsReadable}
 use Rattle.zk_scenario.specs.Parts.{Parts}
-use Rattle.zk_scenario.specs.Reading.{Reading, start, all_scripts, parts_of}
+use Rattle.zk_scenario.specs.Reading.{Reading, start, parts_of}
 use Rattle.zk_scenario.specs.Spelling.{text_of}
 use Rattle.zk_scenario.specs.Valid.{IsValid}
 use Rattle.zk_scenario.specs.Verdict.{verdict, after}
@@ -71,3 +71,7 @@ IsValid-read text p e = by_length (nat_lt 1048576 (length text)) e where
 -- a scenario whose text is read as it is valid
 pub IsValid-readable : (p : Parts) → IsReadable p → IsValid p
 IsValid-readable p readable = IsValid-read (text_of p) p readable.read_back
+
+-- scenarios with one text are equal
+pub one_scenario : (p q : Parts) → IsReadable p → IsReadable q → text_of p ≡ text_of q → p ≡ q
+one_scenario p q first second same = let read : ◌≡◌ {A = Result Parts ScenarioRefused} (Ok p) (Ok q) = sym first.read_back ∙ ap scenario_of same ∙ second.read_back in cc

@@ -1,9 +1,8 @@
 -- The tables of the declarations, with one declaration more.
 use Rattle.std.proofs.Common.{◌≡◌, ℕ, ◌+◌, ◌<◌, ◌≤◌, ◌^◌, Bool, true, false, cond, Option, None, Some, List, [], ◌∷◌, ◌++◌, length, take, slice_get, count_by, is_some, unwrap_or, refl, sym, ap, subst, ◌∙◌, ⊎_elim, arith, length-append}
-use Rattle.std.specs.List.{position}
 use Rattle.std.specs.Option.{option_map_or}
 use Rattle.std.specs.Str.{bytes_eq}
-use Rattle.std.specs.Cmp.Lexicographic.{bytes_decides, nat_list_eq_equiv}
+use Rattle.std.specs.Cmp.Lexicographic.{bytes_decides}
 use Rattle.std.proofs.lemmas.Bool.{cases_Bool, cases_order, cond-true, cond-false}
 use Rattle.std.proofs.lemmas.List.{take-append-le}
 use Rattle.std.proofs.lemmas.List.Recursion.{is_count_by}
@@ -16,7 +15,7 @@ use Rattle.zk_scenario.specs.declared.types.Decl.TheVariants.{Thread, Queue, Ite
 use Rattle.zk_scenario.specs.ByName.{by_name}
 use Rattle.zk_scenario.specs.Objects.{object_of, own_list, grown, IsTabled}
 use Rattle.zk_scenario.specs.Players.{is_thread, is_queue, is_item, name_of, same_kind, places, places_from, number_of}
-use Rattle.zk_scenario.proofs.Lists.{slice_get-append_left, slice_get-push, count_by-push, position-push}
+use Rattle.zk_scenario.proofs.Lists.{slice_get-append_left, slice_get-push, position-push}
 
 -- the places of what passes, with one declaration more
 places_from-push : (n : ℕ) (test : Decl → Bool) (ds : List Decl) (d : Decl) → places_from n test (ds ++ d ∷ []) ≡ grown test d (n + length ds) (places_from n test ds)

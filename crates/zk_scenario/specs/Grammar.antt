@@ -1,7 +1,6 @@
-use Rattle.std.specs.Prelude.{◌≡◌, ℕ, ◌+◌, ◌==◌, Bool, nat_lt, Option, None, Some, Result, Ok, Err, List, [], ◌∷◌, length, is_some, codes, if◌then◌else◌}
+use Rattle.std.specs.Prelude.{◌≡◌, ℕ, ◌+◌, ◌==◌, nat_lt, Option, None, Some, Result, Ok, Err, List, [], ◌∷◌, length, is_some, codes, if◌then◌else◌}
 use Rattle.std.specs.List.{slice_split}
 use Rattle.std.specs.Str.{bytes_eq}
-use Rattle.zk_scenario.specs.declared.form.Form.{Form}
 use Rattle.zk_scenario.specs.declared.form.Line.{Line}
 use Rattle.zk_scenario.specs.declared.form.Line.TheVariants as line
 use Rattle.zk_scenario.specs.declared.refused.Why.{Why}

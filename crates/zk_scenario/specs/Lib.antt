@@ -1,7 +1,6 @@
 pub mod ByName
 pub mod Forms
 pub mod Grammar
-pub mod Keeping
 pub mod Keywords
 pub mod Numbers
 pub mod Objects

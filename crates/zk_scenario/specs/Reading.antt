@@ -1,8 +1,9 @@
-use Rattle.std.specs.Prelude.{Option, None, Some, List, [], ◌∷◌, ◌++◌, option_map, option_to_list}
+use Rattle.std.specs.Prelude.{◌≡◌, ℕ, Option, None, Some, List, [], ◌∷◌, ◌++◌, option_map, option_to_list}
 use Rattle.zk_scenario.specs.declared.types.Decl.{Decl}
 use Rattle.zk_scenario.specs.declared.types.Call.{Call}
 use Rattle.zk_scenario.specs.declared.types.Script.{Script}
 use Rattle.zk_scenario.specs.Parts.{Parts}
+use Rattle.zk_scenario.specs.Valid.{IsValid, call_count}
 
 -- what the lines so far said: the declarations, the scripts that have ended, and the one that is open
 pub record Reading : Type 0 where
@@ -41,3 +42,8 @@ closed r = record { decls = r.decls; scripts = all_scripts r; current = None }
 -- the scenario of what was read
 abbrev pub parts_of : Reading → Parts
 parts_of r = record { decls = r.decls; scripts = all_scripts r }
+
+-- what was read is valid, and its calls are counted
+pub record IsCounted (r : Reading) (calls : ℕ) : Type 0 where
+  pub valid : IsValid (parts_of r)
+  pub counted : calls ≡ call_count (all_scripts r)

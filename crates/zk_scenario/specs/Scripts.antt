@@ -1,4 +1,4 @@
-use Rattle.std.specs.Prelude.{◌≡◌, ℕ, ◌^◌, ◌<◌, ◌==◌, Option, List, length, slice_get}
+use Rattle.std.specs.Prelude.{◌≡◌, ℕ, ◌==◌, Option, List, slice_get}
 use Rattle.std.specs.List.{position}
 use Rattle.std.specs.Option.{option_flatten}
 use Rattle.zk_scenario.specs.declared.types.Script.{Script}

@@ -1,4 +1,4 @@
-use Rattle.std.specs.Prelude.{ℕ, ℤ, pos, Bool, true, false, not, nat_le, nat_lt, ◌&&◌, ◌||◌, Option, None, Some, List, [], length, count_by, is_some, is_none, unwrap_or, option_map, if◌then◌else◌}
+use Rattle.std.specs.Prelude.{ℕ, pos, Bool, true, false, not, nat_le, nat_lt, ◌&&◌, ◌||◌, Option, None, Some, List, [], length, count_by, is_some, unwrap_or, option_map, if◌then◌else◌}
 use Rattle.std.specs.Option.{option_map_or}
 use Rattle.zk_scenario.specs.declared.types.Decl.{Decl}
 use Rattle.zk_scenario.specs.declared.types.Decl.TheVariants as decl

@@ -3,6 +3,7 @@
 
 mod form;
 mod keyword;
+mod laws;
 #[cfg(test)]
 mod line_tests;
 mod lines;
@@ -23,6 +24,7 @@ mod verdict;
 mod words;
 
 pub use form::{Form, Line, Named, line_of};
+pub use laws::tells_them_apart;
 pub use numbers::{number_of, priority_of};
 pub use print::{
     put_cancel, put_end, put_item, put_queue, put_script, put_start, put_submit, put_thread,

@@ -38,8 +38,7 @@ pub struct Reader {
 }
 
 impl Model for Reader {
-    ghost use Rattle.zk_scenario.specs.Reading.{Reading};
-    ghost use Rattle.zk_scenario.specs.Keeping.{IsCounted};
+    ghost use Rattle.zk_scenario.specs.Reading.{Reading, IsCounted};
 
     ghost Value = { Reading };
 

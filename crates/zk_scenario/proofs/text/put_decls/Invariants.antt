@@ -1,6 +1,6 @@
 use Rattle.std.proofs.Common.{◌≡◌, ◌++◌, take}
 use Rattle.std.specs.List.{flat_map}
-use Rattle.zk_scenario.specs.Spelling.{decl_line, call_line, script_lines, fed, lines_text}
+use Rattle.zk_scenario.specs.Spelling.{decl_line, fed}
 use Rattle.zk_scenario.proofs.text.put_decls.Given as goal
 
 abbrev pub invariant-loop-decl : goal.invariant-loop-decl

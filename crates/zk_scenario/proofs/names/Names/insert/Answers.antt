@@ -1,5 +1,4 @@
-use Rattle.std.proofs.Common.{◌≡◌, ◌∙◌, ℕ, List, Some, ap, subst}
-use Rattle.std.specs.Cmp.Lexicographic.{pointwise}
+use Rattle.std.proofs.Common.{ℕ, List, Some, subst}
 use Rattle.std.specs.HashMap.{UpdatesBy}
 use Rattle.std.specs.Str.{bytes_eq}
 use Rattle.zk_scenario.proofs.ByName.{by_name-insert}

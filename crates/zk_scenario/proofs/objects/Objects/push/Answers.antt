@@ -1,4 +1,4 @@
-use Rattle.std.proofs.Common.{◌≡◌, ◌∙◌, ◌<◌, ◌+◌, ◌^◌, length, ap, arith, sym, ◌++◌, ◌∷◌, [], vec_len, ℕ, List, Some, cond, subst}
+use Rattle.std.proofs.Common.{◌≡◌, ◌∙◌, ◌<◌, ◌+◌, ◌^◌, length, ap, arith, ◌++◌, ◌∷◌, [], ℕ, List, Some, cond}
 use Rattle.std.specs.Str.{bytes_eq}
 use Rattle.zk_scenario.specs.ByName.{by_name}
 use Rattle.zk_scenario.specs.Objects.{grown, own_list, object_of}

@@ -1,4 +1,4 @@
-use Rattle.std.proofs.Common.{◌≡◌, ◌∙◌, ◌<◌, ◌+◌, ◌^◌, ◌++◌, ◌∷◌, [], ap, sym, subst, arith, set, Some, length, vec_len, List, ℕ, Option}
+use Rattle.std.proofs.Common.{◌≡◌, ◌∙◌, ◌<◌, ◌++◌, ◌∷◌, [], ap, sym, subst, arith, set, Some, length}
 use Rattle.zk_scenario.specs.Scripts.{script_of, IsByOwner}
 use Rattle.zk_scenario.proofs.Played.{IsByOwner-push}
 use Rattle.zk_scenario.proofs.scripts.Scripts.push.Goals as goal

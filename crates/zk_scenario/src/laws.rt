@@ -1,0 +1,12 @@
+ghost use Rattle.std.specs.Prelude.{◌≡◌};
+ghost use Rattle.zk_scenario.specs.Spelling.{text_of};
+
+use crate::Scenario;
+
+/// Scenarios with one text are equal.
+pub fn tells_them_apart(first: &Scenario, second: &Scenario)
+    ensures { text_of first.now ≡ text_of second.now → first.now ≡ second.now }
+{
+    first.decls();
+    second.decls();
+}
