@@ -20,11 +20,7 @@ pub fn put_trace(out: &mut Vec<u8>, scenario: &Scenario, trace: &Trace) -> Resul
 }
 
 /// The scenario's text and then the trace part.
-pub fn print_trace(
-    alloc: Global,
-    scenario: &Scenario,
-    trace: &Trace,
-) -> Result<Vec<u8>, NoMemory>
+pub fn print_trace(alloc: Global, scenario: &Scenario, trace: &Trace) -> Result<Vec<u8>, NoMemory>
     ensures { IfOk result (λ out. out.items ≡ text_of scenario.now ++ trace_text scenario.now trace.now) }
 {
     let mut out = print_scenario(alloc, scenario)?;

@@ -3,7 +3,7 @@ use Rattle.std.specs.Option.{option_map_or}
 use Rattle.zk_scenario.specs.declared.types.Decl.{Decl}
 use Rattle.zk_scenario.specs.Players.{places, is_queue, is_item}
 use Rattle.zk_model_work.specs.declared.ops.WorkOp.{WorkOp}
-use Rattle.zk_model_work.specs.declared.ops.WorkOp.TheVariants.{Submit, Cancel, Begin, End}
+use Rattle.zk_model_work.specs.declared.ops.WorkOp.TheVariants.{Submit, Cancel, Start, Begin, End}
 use Rattle.zk_worker.specs.declared.steps.Step.{Step}
 use Rattle.zk_worker.specs.declared.steps.Step.TheVariants as steps
 use Rattle.zk_worker.specs.declared.frames.Role.{Role}
@@ -14,6 +14,7 @@ use Rattle.zk_worker.specs.declared.frames.Frame.{Frame}
 abbrev pub work_fits : ℕ → ℕ → WorkOp → Bool
 work_fits items queues (Submit item named) = nat_lt item items && option_map_or (λ queue. nat_lt queue queues) named true
 work_fits items queues (Cancel item) = nat_lt item items
+work_fits items queues (Start queue) = nat_lt queue queues
 work_fits items queues (Begin queue) = nat_lt queue queues
 work_fits items queues (End queue) = nat_lt queue queues
 
