@@ -8,14 +8,15 @@ use Rattle.zk_scenario.specs.Parts.{Parts}
 use Rattle.zk_scenario.specs.Players.{places, is_item, is_queue}
 use Rattle.zk_model_work.specs.declared.ops.WorkOp.{WorkOp}
 use Rattle.zk_model_work.specs.declared.ops.WorkReply.{WorkReply}
+use Rattle.zk_model_work.specs.Machine.{is_among}
 use Rattle.zk_worker.specs.declared.steps.TheConstants.{MOST_STEPS}
 use Rattle.zk_worker.specs.Places.{At}
-use Rattle.zk_worker.specs.Ranges.{work_fits, FramesFit}
+use Rattle.zk_worker.specs.Ranges.{FramesFit}
 use Rattle.zk_replay.specs.RoundRobin.{World}
 
 -- the machine takes all operations whose items and queues are declared
 abbrev pub TakesDeclared : {T : Type 0} → Machine T WorkOp WorkReply → T → List Decl → Type 0
-TakesDeclared m start decls = (op : WorkOp) → work_fits (length (places is_item decls)) (length (places is_queue decls)) op ≡ true → m.in_range start op ≡ true
+TakesDeclared m start decls = (op : WorkOp) → is_among (length (places is_item decls)) (length (places is_queue decls)) op ≡ true → m.in_range start op ≡ true
 
 -- how many steps of the player are left
 abbrev pub left : At → ℕ

@@ -21,15 +21,15 @@ pub record World : Type 0 where
   pub work : List (Entry WorkOp WorkReply)
   pub players : List At
 
+-- a step with its answer, or else what comes after it
+abbrev pub or_else : Step → Option StepReply → Option (Step × StepReply) → Option (Step × StepReply)
+or_else step None further = further
+or_else step (Some reply) further = Some (step, reply)
+
 module _ {T : Type 0} (m : Machine T WorkOp WorkReply) (start : T) where
   -- what is answered to a step after a history, if it is possible
   abbrev pub answer_in : List (Entry WorkOp WorkReply) → Who → Step → Option StepReply
   answer_in work who (steps.Work op) = option_map (λ reply. step_replies.Work reply (length work)) (m.reply_of (state_after m start work) who op)
-
-  -- a step with its answer, or else what comes after it
-  abbrev pub or_else : Step → Option StepReply → Option (Step × StepReply) → Option (Step × StepReply)
-  or_else step None further = further
-  or_else step (Some reply) further = Some (step, reply)
 
   -- the first of these attempts that is possible, with its answer
   abbrev pub first_possible : List (Entry WorkOp WorkReply) → Who → List Step → Option (Step × StepReply)

@@ -35,7 +35,7 @@ use Rattle.zk_worker.specs.declared.frames.Progress.TheVariants.{Goes, Answers, 
 use Rattle.zk_worker.specs.Calls.{ref_number, form_of, form_attempts}
 use Rattle.zk_worker.specs.Places.{At}
 use Rattle.zk_worker.specs.Protocol.{worker_attempts, call_attempts, role_attempts, frames_attempts, attempts, IsAhead, after, frames_after, frames_progress, settled, entered, first_frame, role_at, starting, start_at}
-use Rattle.zk_worker.specs.Ranges.{work_fits, step_fits, role_fits, FramesFit}
+use Rattle.zk_worker.specs.Ranges.{step_fits, role_fits, FramesFit}
 use Rattle.zk_worker.proofs.Numbers.{All-slice_get}
 use Rattle.zk_worker.proofs.Moves.{settled-all, entered-all}
 

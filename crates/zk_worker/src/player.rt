@@ -164,7 +164,14 @@ impl Player {
         if self.is_spent() {
             return PlayerState::Spent;
         }
-        if is_done(&self.stack) { PlayerState::Done } else { PlayerState::Standing }
+        if self.is_done() { PlayerState::Done } else { PlayerState::Standing }
+    }
+
+    /// Whether it is a thread that is through its script, or a worker between two runs.
+    pub fn is_done(&self) -> bool
+        ensures { result ≡ is_done self.now.frames }
+    {
+        is_done(&self.stack)
     }
 
     /// How many steps it has made.
