@@ -13,15 +13,16 @@ use Rattle.zk_model_work.specs.declared.parts.Life.{Life}
 use Rattle.zk_model_work.specs.declared.parts.Life.TheVariants.{Waiting, Running, Ended, Dropped}
 use Rattle.zk_model_work.specs.declared.parts.Admission.{Admission}
 use Rattle.zk_model_work.specs.declared.ops.WorkOp.{WorkOp}
-use Rattle.zk_model_work.specs.declared.ops.WorkOp.TheVariants.{Submit, Cancel, Begin, End}
+use Rattle.zk_model_work.specs.declared.ops.WorkOp.TheVariants.{Submit, Cancel, Start, Begin, End}
 use Rattle.zk_model_work.specs.declared.ops.WorkReply.{WorkReply}
 use Rattle.zk_model_work.specs.declared.ops.WorkReply.TheVariants.{Sub, Flags, Done, Run}
+use Rattle.zk_model_work.specs.declared.ops.WorkReply.TheVariants as replies
 use Rattle.zk_model_work.specs.declared.ops.Submitted.{Submitted}
 use Rattle.zk_model_work.specs.declared.ops.Submitted.TheVariants.{Already, Fresh, Rerun, Refused}
 use Rattle.zk_model_work.specs.Lists.{first}
 use Rattle.zk_model_work.specs.Questions.{is_waiting, is_running, is_open, waits_as, runs_on, line}
 use Rattle.zk_model_work.specs.State.{State}
-use Rattle.zk_model_work.specs.Machine.{work_next, work_reply, work_machine, submission, submit, set_life, with_life, begin, end_one, drop_one, cancel, flags_of, taken_up, may_begin, may_end}
+use Rattle.zk_model_work.specs.Machine.{work_next, work_reply, work_machine, submission, submit, set_life, with_life, begin, end_one, drop_one, cancel, flags_of, taken_up, may_begin, may_end, is_started, start_reply}
 use Rattle.zk_model_work.specs.Laws.{IsWorkHistory, hands_out, begins, admission_after, EachBegunOnce, DroppedNeverBegun, RunOrDropped, NoneWaitsBefore, BeginsRise}
 use Rattle.zk_model_work.proofs.Lives.{Kept, Kept-after, IsFirst, IsFirst-line, set_life-at, set_life-aside}
 
@@ -134,6 +135,10 @@ step-begun_reply xs queue n reply it = which (eqb_tells it.number n) where
       let now : begun (slice_get (begin xs queue) n) ≡ begun (slice_get xs n) = ap (λ (ys : List Admission). begun (slice_get ys n)) after ∙ ap begun (set_life-aside xs it.number n Running other.1) in
       omega arith
 
+handed-start : (n : ℕ) (was : Bool) → handed n (cond was replies.Already Done) ≡ 0
+handed-start n true = refl
+handed-start n false = refl
+
 -- each entry counts
 step-begun : (s : State) (who : Who) (op : WorkOp) (reply : WorkReply) (n : ℕ) → work_reply s who op ≡ Some reply → handed n reply + begun (slice_get s.admissions n) ≡ begun (slice_get (work_next s who op).admissions n)
 step-begun s who (Submit item named) reply n is =
@@ -144,6 +149,9 @@ step-begun s who (Submit item named) reply n is =
 step-begun s who (Cancel item) reply n is =
     let out : handed n reply ≡ 0 = ap (handed n) (sym (same_Some (Flags (flags_of (cancel s item) item)) reply is)) in
     let same = ap begun (slice_get-map (drop_one item) s.admissions n) ∙ begun-map (drop_one item) (begun-drop_one item) (slice_get s.admissions n) in
+    omega arith
+step-begun s who (Start queue) reply n is =
+    let out : handed n reply ≡ 0 = ap (handed n) (sym (same_Some (start_reply s.queues queue) reply is)) ∙ handed-start n (is_started s.queues queue) in
     omega arith
 step-begun s who (Begin queue) reply n is = step-begun_reply s.admissions queue n reply (Begun-reply s who queue reply is)
 step-begun s who (End queue) reply n is =

@@ -6,7 +6,7 @@ use Rattle.zk_model_work.specs.declared.parts.Admission.{Admission}
 use Rattle.zk_model_work.specs.declared.parts.Queue.{Queue}
 use Rattle.zk_model_work.specs.Questions.{is_empty_and_idle}
 use Rattle.zk_model_work.specs.State.{IsCounted, fresh_queue, fresh_queues}
-use Rattle.zk_model_work.specs.Machine.{settle_one, settle_from, settle}
+use Rattle.zk_model_work.specs.Machine.{start, settle_one, settle_from, settle}
 
 pub length-settle_from : (admissions : List Admission) (from : ℕ) (xs : List Queue) → length (settle_from admissions from xs) ≡ length xs
 length-settle_from admissions from [] = refl
@@ -26,12 +26,15 @@ drained-settle_from admissions from n (x ∷ xs) most =
     let P : Queue → Type 0 = λ q. q.drained ≤ n + 1 in
     All-cons P (settle_one admissions from x) (settle_from admissions (from + 1) xs) (drained-settle_one admissions from n x (All-head Q x xs most)) (drained-settle_from admissions (from + 1) n xs (All-tail Q x xs most))
 
+-- what is written over the whole list stands there afterwards
+whole : (len : ℕ) (old new : List Queue) → len ≡ length old → length new ≡ length old → take len (new ++ drop (length new) old) ≡ new
+whole len old new same long = ap (λ n. take n (new ++ drop (length new) old)) (same ∙ sym long) ∙ take-append_seam new (drop (length new) old)
+
 -- an entry that settles the queues
 pub IsCounted-settle : (entries len : ℕ) (admissions : List Admission) (old new : List Queue) → IsCounted entries old → entries < 2 ^ 32 - 1 → len ≡ length old → new ≡ settle admissions old →
     IsCounted (entries + 1) (take len (new ++ drop (length new) old))
 IsCounted-settle entries len admissions old new was few same said =
     let long : length new ≡ length old = ap length said ∙ length-settle_from admissions 0 old in
-    let whole : take len (new ++ drop (length new) old) ≡ new = ap (λ n. take n (new ++ drop (length new) old)) (same ∙ sym long) ∙ take-append_seam new (drop (length new) old) in
     let P : List Queue → Type 0 = λ qs. IsCounted (entries + 1) qs in
     let was_few = was.few in
     let long_settled = length-settle_from admissions 0 old in
@@ -40,7 +43,41 @@ IsCounted-settle entries len admissions old new was few same said =
       entries_fit = omega arith;
       few = omega arith;
     } in
-    subst P (sym (whole ∙ said)) counted
+    subst P (sym (whole len old new same long ∙ said)) counted
+
+pub length-start : (qs : List Queue) (n : ℕ) → length (start qs n) ≡ length qs
+length-start [] n = refl
+length-start (q ∷ qs) zero = refl
+length-start (q ∷ qs) (suc n) = ap suc (length-start qs n)
+
+-- a start drains nothing
+drained-start : (qs : List Queue) (number n : ℕ) → All (λ (q : Queue). q.drained ≤ n) qs → All (λ (q : Queue). q.drained ≤ n + 1) (start qs number)
+drained-start [] number n most = let P : Queue → Type 0 = λ q. q.drained ≤ n + 1 in All-nil P
+drained-start (q ∷ qs) zero n most =
+    let Q : Queue → Type 0 = λ q. q.drained ≤ n in
+    let P : Queue → Type 0 = λ q. q.drained ≤ n + 1 in
+    let here = All-head Q q qs most in
+    All-cons P (record q { started = true }) qs (omega arith) (λ k d within. let one = All-tail Q q qs most k d within in omega arith)
+drained-start (q ∷ qs) (suc number) n most =
+    let Q : Queue → Type 0 = λ q. q.drained ≤ n in
+    let P : Queue → Type 0 = λ q. q.drained ≤ n + 1 in
+    let here = All-head Q q qs most in
+    All-cons P q (start qs number) (omega arith) (drained-start qs number n (All-tail Q q qs most))
+
+-- an entry that starts a queue
+pub IsCounted-start : (entries len number : ℕ) (old new : List Queue) → IsCounted entries old → entries < 2 ^ 32 - 1 → len ≡ length old → new ≡ start old number →
+    IsCounted (entries + 1) (take len (new ++ drop (length new) old))
+IsCounted-start entries len number old new was few same said =
+    let long : length new ≡ length old = ap length said ∙ length-start old number in
+    let P : List Queue → Type 0 = λ qs. IsCounted (entries + 1) qs in
+    let was_few = was.few in
+    let long_started = length-start old number in
+    let counted : IsCounted (entries + 1) (start old number) = record {
+      drained = drained-start old number entries was.drained;
+      entries_fit = omega arith;
+      few = omega arith;
+    } in
+    subst P (sym (whole len old new same long ∙ said)) counted
 
 -- one queue more
 pub fresh_queues-more : (workers : List ℕ) (started : List Bool) (n w : ℕ) (on : Bool) → n < length workers → length workers ≡ length started →

@@ -1,11 +1,11 @@
 -- A life that is set at a place, and the queues that are settled one after another.
-use Rattle.std.proofs.Common.{◌≡◌, ℕ, zero, suc, ◌+◌, ◌<◌, ◌≤◌, List, [], ◌∷◌, ◌++◌, length, map, get_or, set, take, drop, All, refl, sym, ap, subst, ◌∙◌, add-zero, arith}
+use Rattle.std.proofs.Common.{◌≡◌, ℕ, zero, suc, ◌+◌, ◌<◌, ◌≤◌, true, List, [], ◌∷◌, ◌++◌, length, map, get_or, set, take, drop, All, refl, sym, ap, subst, ◌∙◌, add-zero, arith}
 use Rattle.std.proofs.lemmas.List.{get_or_default}
 use Rattle.std.proofs.lemmas.List.Edits.{map_over_more}
 use Rattle.zk_model_work.specs.declared.parts.Life.{Life}
 use Rattle.zk_model_work.specs.declared.parts.Admission.{Admission}
 use Rattle.zk_model_work.specs.declared.parts.Queue.{Queue}
-use Rattle.zk_model_work.specs.Machine.{with_life, set_life, settle_one, settle_from, settle}
+use Rattle.zk_model_work.specs.Machine.{with_life, set_life, start, settle_one, settle_from, settle}
 
 -- a life that is written at a place
 pub set-life : (xs : List Admission) (n : ℕ) (d : Admission) (life : Life) → n < length xs → set xs n (with_life life (get_or xs n d)) ≡ set_life xs n life
@@ -18,6 +18,18 @@ pub set_life-past : (xs : List Admission) (n : ℕ) (life : Life) → length xs 
 set_life-past [] n life past = refl
 set_life-past (a ∷ rest) zero life past = absurd (omega arith)
 set_life-past (a ∷ rest) (suc n) life past = ap (λ (xs : List Admission). a ∷ xs) (set_life-past rest n life (omega arith))
+
+-- a queue that is started at a place
+pub set-start : (qs : List Queue) (n : ℕ) (d : Queue) → n < length qs → set qs n (record (get_or qs n d) { started = true }) ≡ start qs n
+set-start [] n d within = absurd (omega arith)
+set-start (q ∷ rest) zero d within = refl
+set-start (q ∷ rest) (suc n) d within = ap (λ (qs : List Queue). q ∷ qs) (set-start rest n d (omega arith))
+
+-- past the end there is nothing to start
+pub start-past : (qs : List Queue) (n : ℕ) → length qs ≤ n → qs ≡ start qs n
+start-past [] n past = refl
+start-past (q ∷ rest) zero past = absurd (omega arith)
+start-past (q ∷ rest) (suc n) past = ap (λ (qs : List Queue). q ∷ qs) (start-past rest n (omega arith))
 
 -- one more element of a list is mapped in its place
 pub mapped-more : {X : Type 0} (f : X → X) (xs ys : List X) (i : ℕ) (d y : X) → i < length xs → length ys ≡ length xs → ys ≡ map f (take i xs) ++ drop i xs → y ≡ f (get_or ys i d) →

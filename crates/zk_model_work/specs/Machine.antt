@@ -4,11 +4,12 @@ use Rattle.zk_base.specs.declared.ids.Who.{Who}
 use Rattle.zk_base.specs.declared.errors.Errno.TheVariants.{Busy, Inval, NoDev}
 use Rattle.zk_base.specs.Legal.{Machine}
 use Rattle.zk_model_work.specs.declared.ops.WorkOp.{WorkOp}
-use Rattle.zk_model_work.specs.declared.ops.WorkOp.TheVariants.{Submit, Cancel, Begin, End}
+use Rattle.zk_model_work.specs.declared.ops.WorkOp.TheVariants.{Submit, Cancel, Start, Begin, End}
 use Rattle.zk_model_work.specs.declared.ops.Submitted.{Submitted}
 use Rattle.zk_model_work.specs.declared.ops.Submitted.TheVariants.{Already, Fresh, Rerun, Refused}
 use Rattle.zk_model_work.specs.declared.ops.WorkReply.{WorkReply}
 use Rattle.zk_model_work.specs.declared.ops.WorkReply.TheVariants.{Sub, Flags, Done, Run}
+use Rattle.zk_model_work.specs.declared.ops.WorkReply.TheVariants as replies
 use Rattle.zk_model_work.specs.declared.parts.Life.{Life}
 use Rattle.zk_model_work.specs.declared.parts.Life.TheVariants.{Waiting, Running, Ended, Dropped}
 use Rattle.zk_model_work.specs.declared.parts.Admission.{Admission}
@@ -125,6 +126,12 @@ end s queue =
     let admissions = end_run s.admissions queue in
     record s { admissions = admissions; queues = settle admissions s.queues }
 
+-- the queue of this number, if there is one, is started
+abbrev pub start : List Queue → ℕ → List Queue
+start [] number = []
+start (queue ∷ queues) zero = record queue { started = true } ∷ queues
+start (queue ∷ queues) (suc number) = queue ∷ start queues number
+
 -- the flags of an item in a state
 abbrev pub flags_of : State → ℕ → ℕ
 flags_of s item = flags s.admissions s.marks s.arms s.waits item
@@ -146,19 +153,29 @@ may_begin admissions queues who queue = is_worker queues queue who.number && is_
 abbrev pub may_end : List Admission → List Queue → Who → ℕ → Bool
 may_end admissions queues who queue = is_worker queues queue who.number && is_some (run admissions queue)
 
+-- the queue of this number is started
+abbrev pub is_started : List Queue → ℕ → Bool
+is_started queues number = option_map_or (λ queue. queue.started) (slice_get queues number) false
+
+-- whether a start finds the queue started
+abbrev pub start_reply : List Queue → ℕ → WorkReply
+start_reply queues number = if is_started queues number then replies.Already else Done
+
 -- the reply to each operation, where it is possible
 abbrev pub work_reply : State → Who → WorkOp → Option WorkReply
 work_reply s who (Submit item named) = Some (Sub (submission s.admissions s.marks s.queues (Some who.number) item named))
+work_reply s who (Cancel item) = Some (Flags (flags_of (cancel s item) item))
+work_reply s who (Start queue) = Some (start_reply s.queues queue)
 work_reply s who (Begin queue) = if may_begin s.admissions s.queues who queue then taken_up s.admissions queue else None
 work_reply s who (End queue) = if may_end s.admissions s.queues who queue then Some Done else None
-work_reply s who (Cancel item) = Some (Flags (flags_of (cancel s item) item))
 
 -- what each operation changes, where it is possible
 abbrev pub changed : State → Who → WorkOp → State
 changed s who (Submit item named) = record s { admissions = submit s.admissions item (submission s.admissions s.marks s.queues (Some who.number) item named) }
+changed s who (Cancel item) = cancel s item
+changed s who (Start queue) = record s { queues = start s.queues queue }
 changed s who (Begin queue) = record s { admissions = begin s.admissions queue }
 changed s who (End queue) = end s queue
-changed s who (Cancel item) = cancel s item
 
 -- the state after an entry, which is counted
 abbrev pub work_next : State → Who → WorkOp → State
@@ -171,9 +188,10 @@ after_reply s who op reply = if is_some reply then work_next s who op else s
 -- the item and the queue that the operation names are among so many items and queues
 abbrev pub is_among : ℕ → ℕ → WorkOp → Bool
 is_among items queues (Submit item named) = nat_lt item items && option_map_or (λ queue. nat_lt queue queues) named true
+is_among items queues (Cancel item) = nat_lt item items
+is_among items queues (Start queue) = nat_lt queue queues
 is_among items queues (Begin queue) = nat_lt queue queues
 is_among items queues (End queue) = nat_lt queue queues
-is_among items queues (Cancel item) = nat_lt item items
 
 -- what the operation names is there
 abbrev pub in_range : State → WorkOp → Bool

@@ -1,9 +1,9 @@
 ghost use Rattle.std.specs.Prelude.{◌≡◌, Some, None};
-ghost use Rattle.zk_model_work.specs.Machine.{is_chained, target, admission, submission_to, submission_at, submission, taken_up, may_begin, may_end};
+ghost use Rattle.zk_model_work.specs.Machine.{is_chained, target, admission, submission_to, submission_at, submission, taken_up, may_begin, may_end, start_reply};
 
 use crate::{
-    Admission, Queue, Submitted, WorkReply, first_in_line, is_cancelling, is_worker, last_queue,
-    run, running, running_queue, waiting,
+    Admission, Queue, Submitted, WorkReply, first_in_line, is_cancelling, is_started, is_worker,
+    last_queue, run, running, running_queue, waiting,
 };
 use zk_base::{Errno, Who};
 
@@ -125,4 +125,15 @@ pub fn may_end(admissions: &[Admission], queues: &[Queue], who: Who, queue: u32)
     ensures { result ≡ may_end admissions.now queues.now who queue }
 {
     is_worker(queues, queue, who.number) && run(admissions, queue).is_some()
+}
+
+/// What a start of this queue is answered: whether it was started before.
+pub fn start_reply(queues: &[Queue], queue: u32) -> WorkReply
+    ensures { result ≡ start_reply queues.now queue }
+{
+    if is_started(queues, queue) {
+        WorkReply::Already
+    } else {
+        WorkReply::Done
+    }
 }

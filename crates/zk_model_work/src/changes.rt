@@ -1,6 +1,6 @@
 ghost use Rattle.std.specs.Prelude.{◌≡◌, ◌+◌, ◌-◌, ◌^◌, ◌<◌, ◌++◌, length, All, option_to_list};
 ghost use Rattle.zk_model_work.specs.Questions.{running, runs_on, waits_as, arms_item};
-ghost use Rattle.zk_model_work.specs.Machine.{set_life, begin, end_run, drop_waiting, disarm, settle_one, settle, end_one, drop_one, disarm_one};
+ghost use Rattle.zk_model_work.specs.Machine.{set_life, begin, end_run, drop_waiting, disarm, start, settle_one, settle, end_one, drop_one, disarm_one};
 
 use crate::{Admission, Arm, Fate, Life, Queue, first_in_line, is_empty_and_idle};
 
@@ -89,6 +89,16 @@ pub fn begin(admissions: &mut [Admission], queue: u32)
     match first_in_line(admissions, queue) {
         None => {}
         Some(number) => set_life(admissions, number, Life::Running),
+    }
+}
+
+/// The queue of this number, if there is one, is started.
+pub fn start(queues: &mut [Queue], number: u32)
+    ensures { queues.new ≡ start queues.old number }
+{
+    let number = number as usize;
+    if number < queues.len() {
+        queues[number].started = true;
     }
 }
 

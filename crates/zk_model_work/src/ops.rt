@@ -8,6 +8,8 @@ pub enum WorkOp {
     Submit(u32, Option<u32>),
     /// Cancels an item without waiting. Zephyr's `k_work_cancel`.
     Cancel(u32),
+    /// Starts a queue, so that it takes items. Zephyr's `k_work_queue_start`.
+    Start(u32),
     /// The queue's worker takes up the next admission.
     Begin(u32),
     /// The queue's worker has played the handler to its end.
@@ -36,6 +38,8 @@ pub enum WorkReply {
     Flags(u8),
     /// Done, with nothing to say of it.
     Done,
+    /// Nothing was done, since it was done before.
+    Already,
     /// The item that a worker took up, and the number of its admission.
     Run(u32, u64),
 }

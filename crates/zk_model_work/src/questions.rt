@@ -2,7 +2,7 @@ ghost use Rattle.std.specs.Prelude.{◌≡◌, ◌+◌, option_map, position};
 ghost use Rattle.std.specs.Option.{option_map_or};
 ghost use Rattle.zk_model_work.specs.Lists.{first};
 ghost use Rattle.zk_model_work.specs.Questions.{waiting, running, running_queue, last_queue, line, run, is_empty_and_idle, is_cancelling, armed, is_flushing, waits_as, runs_as, is_open_as, waits_for, flushes, passes_at};
-ghost use Rattle.zk_model_work.specs.Machine.{is_worker};
+ghost use Rattle.zk_model_work.specs.Machine.{is_worker, is_started};
 
 use crate::{Admission, Arm, Awaited, Queue, Wait};
 
@@ -86,6 +86,16 @@ pub fn is_worker(queues: &[Queue], number: u32, player: u32) -> bool
     match queues.get(number as usize) {
         None => false,
         Some(queue) => player == queue.worker,
+    }
+}
+
+/// Whether this queue is started.
+pub fn is_started(queues: &[Queue], number: u32) -> bool
+    ensures { result ≡ is_started queues.now number }
+{
+    match queues.get(number as usize) {
+        None => false,
+        Some(queue) => queue.started,
     }
 }
 

@@ -4,7 +4,7 @@ ghost use Rattle.zk_model_work.specs.Machine.{work_reply, after_reply, submit, m
 
 use crate::{
     Admission, Arm, Life, Queue, Submitted, Wait, WorkOp, WorkReply, begin, disarm, drop_waiting,
-    end_run, flags, may_begin, may_end, running, settle, submission, taken_up,
+    end_run, flags, may_begin, may_end, running, settle, start, start_reply, submission, taken_up,
 };
 use bitflags::Flags;
 use std::alloc::Global;
@@ -191,6 +191,17 @@ impl WorkState {
         Some(WorkReply::Done)
     }
 
+    fn start(&mut self, who: Who, queue: u32) -> Option<WorkReply>
+        requires { self.old.entries < 2 ^ 32 - 1 }
+        ensures reply { result ≡ work_reply self.old who (WorkOp.Start queue) }
+        ensures next { self.new ≡ after_reply self.old who (WorkOp.Start queue) result }
+    {
+        let reply = start_reply(&self.queues, queue);
+        start(&mut self.queues, queue);
+        self.entries += 1;
+        Some(reply)
+    }
+
     fn cancel(&mut self, who: Who, item: u32) -> Result<Option<WorkReply>, NoMemory>
         requires { self.old.entries < 2 ^ 32 - 1 }
         ensures reply { IfOk result (λ reply.
@@ -224,8 +235,9 @@ pub fn work_next(
 {
     match *op {
         WorkOp::Submit(item, named) => state.submit(who, item, named),
+        WorkOp::Cancel(item) => state.cancel(who, item),
+        WorkOp::Start(queue) => Ok(state.start(who, queue)),
         WorkOp::Begin(queue) => Ok(state.begin(who, queue)),
         WorkOp::End(queue) => Ok(state.end(who, queue)),
-        WorkOp::Cancel(item) => state.cancel(who, item),
     }
 }

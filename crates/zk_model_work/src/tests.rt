@@ -1,6 +1,6 @@
 ghost use Rattle.std.specs.Prelude.{◌+◌, ◌<◌, ◌≤◌, length, IfOk};
 
-use crate::WorkOp::{Begin, Cancel, End, Submit};
+use crate::WorkOp::{Begin, Cancel, End, Start, Submit};
 use crate::{WorkOp, WorkReply, WorkState, work_next};
 use std::alloc::Global;
 use std::process::Abort;
@@ -56,6 +56,25 @@ fn replies(rt: HostRuntime) -> Result<(), Fail> {
             (2, Begin(0), "None"),
             (0, Submit(0, None), "Some(Sub(Fresh(3, 0)))"),
             (2, Begin(0), "Some(Run(0, 3))"),
+        ],
+    )
+}
+
+#[test]
+fn starts(rt: HostRuntime) -> Result<(), Fail> {
+    play(
+        &rt,
+        rt.alloc(),
+        &[
+            (0, Submit(0, None), "Some(Sub(Refused(Inval)))"),
+            (0, Submit(0, Some(1)), "Some(Sub(Refused(NoDev)))"),
+            (0, Start(0), "Some(Already)"),
+            (0, Start(1), "Some(Done)"),
+            (2, Start(1), "Some(Already)"),
+            (0, Submit(0, Some(1)), "Some(Sub(Fresh(0, 1)))"),
+            (3, Begin(1), "Some(Run(0, 0))"),
+            (3, Start(1), "Some(Already)"),
+            (3, End(1), "Some(Done)"),
         ],
     )
 }

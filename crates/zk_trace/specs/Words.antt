@@ -64,6 +64,7 @@ named_queue decls (Some queue) = queue_name decls queue
 abbrev pub op_text : List Decl → WorkOp → List ℕ
 op_text decls (ops.Submit item queue) = codes "submit " ++ item_name decls item ++ spaced (named_queue decls queue)
 op_text decls (ops.Cancel item) = codes "cancel " ++ item_name decls item
+op_text decls (ops.Start queue) = codes "start " ++ queue_name decls queue
 op_text decls (ops.Begin queue) = codes "begin " ++ queue_name decls queue
 op_text decls (ops.End queue) = codes "end " ++ queue_name decls queue
 
@@ -79,6 +80,7 @@ abbrev pub reply_text : List Decl → WorkReply → List ℕ
 reply_text decls (replies.Sub submitted) = submitted_text decls submitted
 reply_text decls (replies.Flags flags) = flags_word flags
 reply_text decls replies.Done = codes "ok"
+reply_text decls replies.Already = codes "already"
 reply_text decls (replies.Run item admission) = item_name decls item ++ spaced (admission_word admission)
 
 -- the word of a call

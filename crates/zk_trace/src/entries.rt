@@ -33,6 +33,7 @@ fn put_op(out: &mut Vec<u8>, scenario: &Scenario, op: WorkOp) -> Result<(), NoMe
     match op {
         WorkOp::Submit(item, queue) => put_submit(out, scenario, item, queue),
         WorkOp::Cancel(item) => put_named(out, b"cancel ", item_name(scenario, item)),
+        WorkOp::Start(queue) => put_named(out, b"start ", queue_name(scenario, queue)),
         WorkOp::Begin(queue) => put_named(out, b"begin ", queue_name(scenario, queue)),
         WorkOp::End(queue) => put_named(out, b"end ", queue_name(scenario, queue)),
     }
@@ -74,6 +75,7 @@ fn put_reply(out: &mut Vec<u8>, scenario: &Scenario, reply: WorkReply) -> Result
         WorkReply::Sub(submitted) => put_submitted(out, scenario, submitted),
         WorkReply::Flags(flags) => put_flags(out, flags),
         WorkReply::Done => put(out, b"ok"),
+        WorkReply::Already => put(out, b"already"),
         WorkReply::Run(item, admission) => put_run(out, scenario, item, admission),
     }
 }

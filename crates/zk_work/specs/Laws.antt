@@ -10,7 +10,7 @@ use Rattle.zk_model_work.specs.declared.parts.Life.{Life}
 use Rattle.zk_model_work.specs.declared.parts.Life.TheVariants.{Waiting, Running, Ended, Dropped}
 use Rattle.zk_model_work.specs.declared.parts.Admission.{Admission}
 use Rattle.zk_model_work.specs.declared.ops.WorkOp.{WorkOp}
-use Rattle.zk_model_work.specs.declared.ops.WorkOp.TheVariants.{Submit, Cancel, Begin, End}
+use Rattle.zk_model_work.specs.declared.ops.WorkOp.TheVariants.{Submit, Cancel, Start, Begin, End}
 use Rattle.zk_model_work.specs.declared.ops.Submitted.{Submitted}
 use Rattle.zk_model_work.specs.declared.ops.Submitted.TheVariants.{Already, Fresh, Rerun, Refused}
 use Rattle.zk_model_work.specs.declared.ops.WorkReply.{WorkReply}
@@ -19,13 +19,14 @@ use Rattle.zk_model_work.specs.Lists.{first}
 use Rattle.zk_model_work.specs.Questions.{is_running, waits_as, runs_on, run, line}
 use Rattle.zk_model_work.specs.State.{State}
 use Rattle.zk_model_work.specs.Machine.{work_reply, work_next, in_range, is_among, is_worker, submission, submit, set_life, with_life, begin, end_one, end_run, drop_one, drop_waiting}
-use Rattle.zk_model_work.proofs.Counts.{length-settle_from}
+use Rattle.zk_model_work.proofs.Counts.{length-settle_from, length-start}
 use Rattle.zk_work.specs.Kept.{work_owed, work_closes}
 
 -- each entry is counted
 pub counts : (s : State) (who : Who) (op : WorkOp) → (work_next s who op).entries ≡ s.entries + 1
 counts s who (Submit item named) = refl
 counts s who (Cancel item) = refl
+counts s who (Start queue) = refl
 counts s who (Begin queue) = refl
 counts s who (End queue) = refl
 
@@ -33,6 +34,7 @@ counts s who (End queue) = refl
 pub ranges : (s : State) (who : Who) (op : WorkOp) → in_range (work_next s who op) ≡ in_range s
 ranges s who (Submit item named) = refl
 ranges s who (Cancel item) = ap (is_among s.items) (length-settle_from (drop_waiting s.admissions item) 0 s.queues)
+ranges s who (Start queue) = ap (is_among s.items) (length-start s.queues queue)
 ranges s who (Begin queue) = refl
 ranges s who (End queue) = ap (is_among s.items) (length-settle_from (end_run s.admissions queue) 0 s.queues)
 
@@ -118,6 +120,7 @@ runs_where_possible false found reply possible = absurd (cc)
 pub adds : (s : State) (who : Who) (op : WorkOp) → work_owed (work_next s who op) ≤ work_owed s + 2
 adds s who (Submit item named) = omega (arith, owed-submit s.admissions item (submission s.admissions s.marks s.queues (Some who.number) item named))
 adds s who (Cancel item) = omega (arith, sum_by-map runs (drop_one item) (owed-drop_one item) s.admissions)
+adds s who (Start queue) = omega arith
 adds s who (Begin queue) = omega (arith, owed-begin s.admissions queue)
 adds s who (End queue) = omega (arith, sum_by-map runs (end_one queue) (owed-end_one queue) s.admissions)
 
@@ -125,6 +128,7 @@ adds s who (End queue) = omega (arith, sum_by-map runs (end_one queue) (owed-end
 pub gives : (s : State) (who : Who) (op : WorkOp) → work_closes op ≡ true → is_some (work_reply s who op) ≡ true → 1 + work_owed (work_next s who op) ≤ work_owed s
 gives s who (Submit item named) closes possible = absurd (cc)
 gives s who (Cancel item) closes possible = absurd (cc)
+gives s who (Start queue) closes possible = absurd (cc)
 gives s who (Begin queue) closes possible = absurd (cc)
 gives s who (End queue) closes possible =
     let found = runs_where_possible (is_worker s.queues queue who.number) (is_some (run s.admissions queue)) Done possible in

@@ -9,7 +9,8 @@ use std::marker::Model;
 use zk_base::{Engine, NoMemory, Who};
 use zk_model_work::{
     Admission, Arm, Queue, Wait, WorkOp, WorkReply, WorkState, begin, disarm, drop_waiting,
-    end_run, flags, fresh_queues, mark, may_begin, may_end, settle, submission, submit, taken_up,
+    end_run, flags, fresh_queues, mark, may_begin, may_end, settle, start, start_reply, submission,
+    submit, taken_up,
 };
 
 /// What the work service computes and keeps: all lists of its state, as they are.
@@ -134,6 +135,18 @@ impl WorkEngine {
         Some(WorkReply::Done)
     }
 
+    fn start(&mut self, who: Who, queue: u32) -> Option<WorkReply>
+        requires { self.old.state.entries < 2 ^ 32 - 1 }
+        ensures reply { result ≡ work_reply self.old.state who (WorkOp.Start queue) }
+        ensures next { self.new.state ≡ after_reply self.old.state who (WorkOp.Start queue) result }
+        ensures room { self.new.room ≡ self.old.room }
+    {
+        let reply = start_reply(&self.queues, queue);
+        start(&mut self.queues, queue);
+        self.entries += 1;
+        Some(reply)
+    }
+
     fn cancel(&mut self, who: Who, item: u32) -> Result<Option<WorkReply>, NoMemory>
         requires { self.old.state.entries < 2 ^ 32 - 1 }
         ensures reply { IfOk result (λ reply.
@@ -166,9 +179,10 @@ impl WorkEngine {
     {
         match *op {
             WorkOp::Submit(item, named) => self.submit(who, item, named),
+            WorkOp::Cancel(item) => self.cancel(who, item),
+            WorkOp::Start(queue) => Ok(self.start(who, queue)),
             WorkOp::Begin(queue) => Ok(self.begin(who, queue)),
             WorkOp::End(queue) => Ok(self.end(who, queue)),
-            WorkOp::Cancel(item) => self.cancel(who, item),
         }
     }
 }

@@ -1,7 +1,7 @@
 use crate::Work;
 use std::test::*;
 use zk_base::{Service, Who};
-use zk_model_work::WorkOp::{Begin, End, Submit};
+use zk_model_work::WorkOp::{Begin, End, Start, Submit};
 
 /// One item, and one started queue, whose worker is player 1.
 #[test]
@@ -21,5 +21,22 @@ fn one_run(rt: HostRuntime) -> Result<(), Fail> {
     );
     assert_eq!(&rt; work.history().len(), 3);
     assert_eq!(&rt; work.into_history().len(), 3);
+    Ok(())
+}
+
+/// A queue that isn't started takes nothing.
+#[test]
+fn one_start(rt: HostRuntime) -> Result<(), Fail> {
+    let thread = Who { number: 0, prio: 0 };
+    let mut work = Work::new(rt.alloc(), 1, &[1], &[false])?;
+    let first = work.act(thread, 0, Submit(0, Some(0)))?;
+    let second = work.act(thread, 1, Start(0))?;
+    let third = work.act(thread, 2, Start(0))?;
+    let fourth = work.act(thread, 3, Submit(0, Some(0)))?;
+    let replies = format!(in rt.alloc(); "{first:?} {second:?} {third:?} {fourth:?}")?;
+    assert_eq!(&rt;
+        replies.as_str(),
+        "Some(Sub(Refused(NoDev))) Some(Done) Some(Already) Some(Sub(Fresh(0, 0)))"
+    );
     Ok(())
 }
