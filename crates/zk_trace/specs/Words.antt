@@ -87,6 +87,7 @@ reply_text decls (replies.Run item admission) = item_name decls item ++ spaced (
 abbrev pub call_word : Word → List ℕ
 call_word words.Submit = codes "submit"
 call_word words.Cancel = codes "cancel"
+call_word words.Start = codes "start"
 
 -- the answer of a call
 abbrev pub answer_text : Answer → List ℕ

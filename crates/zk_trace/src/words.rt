@@ -81,6 +81,7 @@ pub fn call_word(word: Word) -> &'static [u8]
     match word {
         Word::Submit => b"submit",
         Word::Cancel => b"cancel",
+        Word::Start => b"start",
     }
 }
 

@@ -10,7 +10,7 @@ use Rattle.zk_scenario.specs.declared.types.Decl.{Decl}
 use Rattle.zk_scenario.specs.declared.types.Decl.TheVariants.{Thread, Queue, Item}
 use Rattle.zk_scenario.specs.declared.types.Ref.TheVariants.{Known}
 use Rattle.zk_scenario.specs.declared.types.Call.{Call}
-use Rattle.zk_scenario.specs.declared.types.Call.TheVariants.{Submit, Cancel}
+use Rattle.zk_scenario.specs.declared.types.Call.TheVariants.{Submit, Cancel, Start}
 use Rattle.zk_scenario.specs.Players.{places, players, is_queue, is_item, number_of, calls_of}
 use Rattle.zk_scenario.specs.Objects.{is_at}
 use Rattle.zk_scenario.specs.Parts.{Parts}
@@ -61,6 +61,7 @@ form_of-fits decls (Submit (Known item) (Some (Known queue))) fits =
     and_from (nat_lt (number_of decls item) (length (places is_item decls))) (nat_lt (number_of decls queue) (length (places is_queue decls)))
     (item-fits decls item both.0) (queue-fits decls queue both.1)
 form_of-fits decls (Cancel (Known item)) fits = item-fits decls item fits
+form_of-fits decls (Start (Known queue)) fits = queue-fits decls queue fits
 
 only : (x y : Step) (k : ℕ) → slice_get (x ∷ []) k ≡ Some y → x ≡ y
 only x y zero is = cc

@@ -3,13 +3,14 @@ use Rattle.zk_scenario.specs.declared.types.Decl.{Decl}
 use Rattle.zk_scenario.specs.declared.types.Ref.{Ref}
 use Rattle.zk_scenario.specs.declared.types.Ref.TheVariants.{Known}
 use Rattle.zk_scenario.specs.declared.types.Call.{Call}
-use Rattle.zk_scenario.specs.declared.types.Call.TheVariants.{Submit, Cancel}
+use Rattle.zk_scenario.specs.declared.types.Call.TheVariants as calls
 use Rattle.zk_scenario.specs.Players.{number_of}
 use Rattle.zk_model_work.specs.declared.ops.WorkOp.TheVariants as ops
 use Rattle.zk_model_work.specs.declared.ops.WorkReply.{WorkReply}
 use Rattle.zk_model_work.specs.declared.ops.WorkReply.TheVariants as replies
 use Rattle.zk_model_work.specs.declared.ops.Submitted.{Submitted}
 use Rattle.zk_model_work.specs.declared.ops.Submitted.TheVariants as submissions
+use Rattle.zk_base.specs.declared.errors.Errno.TheVariants.{Already}
 use Rattle.zk_worker.specs.declared.steps.Step.{Step}
 use Rattle.zk_worker.specs.declared.steps.Step.TheVariants as steps
 use Rattle.zk_worker.specs.declared.steps.StepReply.{StepReply}
@@ -31,13 +32,15 @@ ref_number decls (Known object) = number_of decls object
 
 -- how a call goes
 abbrev pub form_of : List Decl → Call → Form
-form_of decls (Submit item queue) = One (steps.Work (ops.Submit (ref_number decls item) (option_map (ref_number decls) queue)))
-form_of decls (Cancel item) = One (steps.Work (ops.Cancel (ref_number decls item)))
+form_of decls (calls.Submit item queue) = One (steps.Work (ops.Submit (ref_number decls item) (option_map (ref_number decls) queue)))
+form_of decls (calls.Cancel item) = One (steps.Work (ops.Cancel (ref_number decls item)))
+form_of decls (calls.Start queue) = One (steps.Work (ops.Start (ref_number decls queue)))
 
 -- which call it is
 abbrev pub word_of : Call → Word
-word_of (Submit item queue) = words.Submit
-word_of (Cancel item) = words.Cancel
+word_of (calls.Submit item queue) = words.Submit
+word_of (calls.Cancel item) = words.Cancel
+word_of (calls.Start queue) = words.Start
 
 -- what a submission answers
 abbrev pub submission_answer : Submitted → Answer
@@ -50,6 +53,7 @@ submission_answer (submissions.Refused errno) = Refused errno
 abbrev pub work_answer : WorkReply → Answer
 work_answer (replies.Sub submitted) = submission_answer submitted
 work_answer (replies.Flags flags) = Flags flags
+work_answer replies.Already = Refused Already
 work_answer reply = Number 0
 
 -- what the reply to a step answers to its call

@@ -17,6 +17,7 @@ pub enum Answer {
 pub enum Word {
     Submit,
     Cancel,
+    Start,
 }
 
 /// A call that has its answer.

@@ -2,6 +2,7 @@ ghost use Rattle.std.specs.Prelude.{◌≡◌, slice_get, option_map};
 ghost use Rattle.zk_worker.specs.Calls.{ref_number, form_of, word_of, submission_answer, work_answer, answer_of, form_attempts, form_progress};
 
 use crate::{Answer, Form, Progress, Stage, Step, StepReply, Word};
+use zk_base::Errno;
 use zk_model_work::{Submitted, WorkOp, WorkReply};
 use zk_scenario::{Call, Ref, Scenario};
 
@@ -31,6 +32,7 @@ pub fn form_of(scenario: &Scenario, call: Call) -> Form
             queue_number(scenario, queue),
         ))),
         Call::Cancel(item) => Form::One(Step::Work(WorkOp::Cancel(ref_number(scenario, item)))),
+        Call::Start(queue) => Form::One(Step::Work(WorkOp::Start(ref_number(scenario, queue)))),
     }
 }
 
@@ -41,6 +43,7 @@ pub fn word_of(call: Call) -> Word
     match call {
         Call::Submit(_, _) => Word::Submit,
         Call::Cancel(_) => Word::Cancel,
+        Call::Start(_) => Word::Start,
     }
 }
 
@@ -61,6 +64,7 @@ fn work_answer(reply: WorkReply) -> Answer
     match reply {
         WorkReply::Sub(submitted) => submission_answer(submitted),
         WorkReply::Flags(flags) => Answer::Flags(flags),
+        WorkReply::Already => Answer::Refused(Errno::Already),
         _ => Answer::Number(0),
     }
 }
