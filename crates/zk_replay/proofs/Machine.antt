@@ -1,7 +1,7 @@
 -- What the operations of the work machine leave of its queues and their runs.
-use Rattle.std.proofs.Common.{◌≡◌, ◌≢◌, ℕ, zero, suc, ◌+◌, ◌<◌, Bool, true, false, not, ◌&&◌, cond, eqb, Option, Some, None, is_some, is_none, List, [], ◌∷◌, length, map, All, refl, sym, ap, subst, ◌∙◌, arith, eq-eqb, nat_lt}
-use Rattle.std.specs.List.{slice_get, position_or_len}
-use Rattle.std.specs.Option.{option_map, option_map_or, option_and_then}
+use Rattle.std.proofs.Common.{◌≡◌, ◌≢◌, ◌⊎◌, ℕ, zero, suc, ◌+◌, ◌<◌, ◌≤◌, Bool, true, false, not, ◌&&◌, cond, eqb, Option, Some, None, is_some, is_none, List, [], ◌∷◌, ◌++◌, length, map, All, refl, sym, ap, subst, ◌∙◌, arith, eq-eqb, nat_lt}
+use Rattle.std.specs.List.{slice_get, position, position_or_len}
+use Rattle.std.specs.Option.{option_map, option_map_or, option_and_then, option_or}
 use Rattle.std.proofs.lemmas.Bool.{eqb-true, and_parts, and_right, and_left, and_from}
 use Rattle.std.proofs.lemmas.Bool.Decides.{nat_tests}
 use Rattle.std.proofs.lemmas.List.Elements.{All-nil, All-cons, All-head, All-tail, All-push}
@@ -17,11 +17,11 @@ use Rattle.zk_model_work.specs.declared.ops.WorkOp.TheVariants as ops
 use Rattle.zk_model_work.specs.declared.ops.Submitted.{Submitted}
 use Rattle.zk_model_work.specs.declared.ops.Submitted.TheVariants.{Already, Fresh, Rerun, Refused}
 use Rattle.zk_model_work.specs.declared.ops.WorkReply.{WorkReply}
-use Rattle.zk_model_work.specs.declared.ops.WorkReply.TheVariants.{Run}
-use Rattle.zk_model_work.specs.Lists.{places_from, first as first_of}
-use Rattle.zk_model_work.specs.Questions.{is_waiting, waits_for, waits_as, runs_on, running, waiting, is_cancelling, run, line, is_empty_and_idle}
+use Rattle.zk_model_work.specs.declared.ops.WorkReply.TheVariants.{Sub, Flags, Done, Run}
+use Rattle.zk_model_work.specs.Lists.{places_from, places, first as first_of}
+use Rattle.zk_model_work.specs.Questions.{is_waiting, is_running, waits_for, waits_as, runs_on, running, waiting, is_cancelling, run, line, is_empty_and_idle}
 use Rattle.zk_model_work.specs.State.{State}
-use Rattle.zk_model_work.specs.Machine.{work_reply, work_next, is_chained, admission, submission, submission_at, submission_to, target, submit, set_life, with_life, begin, end_one, end_run, drop_one, drop_waiting, settle_from, is_worker, may_begin, taken_up}
+use Rattle.zk_model_work.specs.Machine.{work_reply, work_next, changed, is_chained, admission, submission, submission_at, submission_to, target, submit, set_life, with_life, begin, end_one, end_run, drop_one, drop_waiting, start, settle_from, settle_one, is_worker, may_begin, may_end, taken_up}
 use Rattle.zk_replay.specs.Tending.{IsIdle}
 
 -- a submission that admits goes to one of so many queues
@@ -42,8 +42,8 @@ admission-home admissions item number many less =
 submission_to-home : (admissions : List Admission) (caller : Option ℕ) (item number : ℕ) (queue : Queue) (many : ℕ) → number < many → Home many (submission_to admissions caller item number queue)
 submission_to-home admissions caller item number queue many less =
     cond-home many (not queue.started) (Refused errors.NoDev) _ tt
-    (cond-home many (queue.draining && not (is_chained queue caller)) (Refused errors.Busy) _ tt
-    (cond-home many (queue.plugged && not queue.draining) (Refused errors.Busy) _ tt (admission-home admissions item number many less)))
+        (cond-home many (queue.draining && not (is_chained queue caller)) (Refused errors.Busy) _ tt
+            (cond-home many (queue.plugged && not queue.draining) (Refused errors.Busy) _ tt (admission-home admissions item number many less)))
 
 submission_at-home : (admissions : List Admission) (queues : List Queue) (caller : Option ℕ) (item : ℕ) (to : Option ℕ) → Home (length queues) (submission_at admissions queues caller item to)
 submission_at-home admissions queues caller item None = tt
@@ -57,7 +57,7 @@ submission-home : (admissions : List Admission) (marks : List ℕ) (queues : Lis
     Home (length queues) (submission admissions marks queues caller item named)
 submission-home admissions marks queues caller item named =
     cond-home (length queues) (is_cancelling admissions marks item) (Refused errors.Busy) _ tt
-    (cond-home (length queues) (is_some (waiting admissions item)) Already _ tt (submission_at-home admissions queues caller item (target admissions item named)))
+        (cond-home (length queues) (is_some (waiting admissions item)) Already _ tt (submission_at-home admissions queues caller item (target admissions item named)))
 
 -- what holds of each admission and of a new one holds after a submission
 submit-all : (P : Admission → Type 0) (admissions : List Admission) (item many : ℕ) (answer : Submitted) → Home many answer →
@@ -123,6 +123,7 @@ homes-next many st who (ops.Submit item named) long all =
 homes-next many st who (ops.Cancel item) long all =
     let P : Admission → Type 0 = λ a. a.queue < many in
     map-all P (drop_one item) (λ a less. cond-keeps P (waits_as item a) (with_life Dropped a) a less less) st.admissions all
+homes-next many st who (ops.Start queue) long all = all
 homes-next many st who (ops.Begin queue) long all =
     let P : Admission → Type 0 = λ a. a.queue < many in begin-all P st.admissions queue (λ a waits less. less) all
 homes-next many st who (ops.End queue) long all =
@@ -139,10 +140,16 @@ settle-workers admissions n (queue ∷ queues) =
     worker-kept queue true = refl
     worker-kept queue false = refl
 
+start-workers : (queues : List Queue) (number : ℕ) → map (λ queue. queue.worker) (start queues number) ≡ map (λ queue. queue.worker) queues
+start-workers [] number = refl
+start-workers (queue ∷ queues) zero = refl
+start-workers (queue ∷ queues) (suc number) = ap (λ (l : List ℕ). queue.worker ∷ l) (start-workers queues number)
+
 -- each queue keeps its worker
 pub workers-next : (st : State) (who : Who) (op : WorkOp) → map (λ queue. queue.worker) (work_next st who op).queues ≡ map (λ queue. queue.worker) st.queues
 workers-next st who (ops.Submit item named) = refl
 workers-next st who (ops.Cancel item) = settle-workers (drop_waiting st.admissions item) 0 st.queues
+workers-next st who (ops.Start queue) = start-workers st.queues queue
 workers-next st who (ops.Begin queue) = refl
 workers-next st who (ops.End queue) = settle-workers (end_run st.admissions queue) 0 st.queues
 
@@ -170,6 +177,7 @@ begins-as st who queue reply is =
 abbrev pub IsCalled : WorkOp → Type 0
 IsCalled (ops.Submit item named) = Unit {0}
 IsCalled (ops.Cancel item) = Unit {0}
+IsCalled (ops.Start queue) = Unit {0}
 IsCalled (ops.Begin queue) = ⊥
 IsCalled (ops.End queue) = ⊥
 
@@ -178,10 +186,11 @@ pub idle-called : (st : State) (who : Who) (op : WorkOp) (queue : ℕ) → IsCal
 idle-called st who (ops.Submit item named) queue called idle =
     let P : Admission → Type 0 = λ a. runs_on queue a ≡ false in
     submit-all P st.admissions item (length st.queues) (submission st.admissions st.marks st.queues (Some who.number) item named)
-    (submission-home st.admissions st.marks st.queues (Some who.number) item named) (λ q less. and_right (eqb q queue) false refl) idle
+        (submission-home st.admissions st.marks st.queues (Some who.number) item named) (λ q less. and_right (eqb q queue) false refl) idle
 idle-called st who (ops.Cancel item) queue called idle =
     let P : Admission → Type 0 = λ a. runs_on queue a ≡ false in
     map-all P (drop_one item) (λ a none. cond-keeps P (waits_as item a) (with_life Dropped a) a (and_right (eqb a.queue queue) false refl) none) st.admissions idle
+idle-called st who (ops.Start queue') queue called idle = idle
 idle-called st who (ops.Begin queue') queue called idle = absurd called
 idle-called st who (ops.End queue') queue called idle = absurd called
 
@@ -207,11 +216,9 @@ begin-told st who queue reply is =
     by_admission : (number : ℕ) (o : Option Admission) → option_map (λ (a : Admission). Run a.item number) o ≡ Some reply → (item : ℕ) × (number : ℕ) × (reply ≡ Run item number)
     by_admission number None is = absurd (cc)
     by_admission number (Some a) is = (a.item, number, cc)
-
     by_number : (o : Option ℕ) → option_and_then (λ number. option_map (λ (a : Admission). Run a.item number) (slice_get st.admissions number)) o ≡ Some reply → (item : ℕ) × (number : ℕ) × (reply ≡ Run item number)
     by_number None is = absurd (cc)
     by_number (Some number) is = by_admission number (slice_get st.admissions number) is
-
     by_may : (b : Bool) → cond b (taken_up st.admissions queue) None ≡ Some reply → (item : ℕ) × (number : ℕ) × (reply ≡ Run item number)
     by_may true is = by_number (first_of (line st.admissions queue)) is
     by_may false is = absurd (cc)
@@ -221,13 +228,13 @@ pub idle-next : (st : State) (who : Who) (op : WorkOp) (reply : WorkReply) (queu
     work_reply st who op ≡ Some reply → IsIdle queue st.admissions → IsIdle queue (work_next st who op).admissions
 idle-next st who (ops.Submit item named) reply queue worker is other made idle = idle-called st who (ops.Submit item named) queue tt idle
 idle-next st who (ops.Cancel item) reply queue worker is other made idle = idle-called st who (ops.Cancel item) queue tt idle
+idle-next st who (ops.Start queue') reply queue worker is other made idle = idle
 idle-next st who (ops.Begin queue') reply queue worker is other made idle =
     let P : Admission → Type 0 = λ a. runs_on queue a ≡ false in
     begin-all P st.admissions queue' (λ a waits none. and_left (eqb a.queue queue) true (apart a (and_parts (eqb a.queue queue') (is_waiting a.life) waits).0)) idle
   where
     differs : queue' ≢ queue
     differs same = other (worker-is st queue who.number worker is (subst (λ (q : ℕ). is_worker st.queues q who.number ≡ true) same (begins-as st who queue' reply made)))
-
     apart : (a : Admission) → eqb a.queue queue' ≡ true → eqb a.queue queue ≡ false
     apart a to = grind (arith, nat_tests, eqb-true a.queue queue' to, differs)
 idle-next st who (ops.End queue') reply queue worker is other made idle =
@@ -282,10 +289,8 @@ none-waits-for st who queue is idle none = none-where (waits_for queue) 0 st.adm
   where
     may : may_begin st.admissions st.queues who queue ≡ true
     may = and_from (is_worker st.queues queue who.number) (is_none (run st.admissions queue)) (is-worker st queue who.number is) (ap (λ (o : Option ℕ). is_none o) (run-none queue st.admissions idle))
-
     taken : taken_up st.admissions queue ≡ None
     taken = sym (ap (λ b. cond b (taken_up st.admissions queue) None) may) ∙ none
-
     line_none : (o : Option ℕ) → first_of (line st.admissions queue) ≡ o → first_of (line st.admissions queue) ≡ None
     line_none None here = here
     line_none (Some p) here =
@@ -293,7 +298,7 @@ none-waits-for st who queue is idle none = none-where (waits_for queue) 0 st.adm
         let same : there.0 ≡ p = omega (arith, there.1) in
         let a = there.2 in
         let some : taken_up st.admissions queue ≡ Some (Run a.item p) =
-        ap (λ (o : Option ℕ). option_and_then (λ number. option_map (λ (b : Admission). Run b.item number) (slice_get st.admissions number)) o) here
-        ∙ ap (λ (o : Option Admission). option_map (λ (b : Admission). Run b.item p) o) (ap (λ (k : ℕ). slice_get st.admissions k) (sym same) ∙ there.3) in
+            ap (λ (o : Option ℕ). option_and_then (λ number. option_map (λ (b : Admission). Run b.item number) (slice_get st.admissions number)) o) here
+            ∙ ap (λ (o : Option Admission). option_map (λ (b : Admission). Run b.item p) o) (ap (λ (k : ℕ). slice_get st.admissions k) (sym same) ∙ there.3) in
         let none_taken = sym some ∙ taken in
         absurd (cc)

@@ -12,7 +12,7 @@ use Rattle.zk_base.proofs.Histories.{state_after-snoc}
 use Rattle.zk_scenario.specs.declared.types.Decl.{Decl}
 use Rattle.zk_scenario.specs.declared.types.Decl.TheVariants as decls
 use Rattle.zk_scenario.specs.declared.types.Call.{Call}
-use Rattle.zk_scenario.specs.declared.types.Call.TheVariants.{Submit, Cancel}
+use Rattle.zk_scenario.specs.declared.types.Call.TheVariants as calls
 use Rattle.zk_scenario.specs.Parts.{Parts}
 use Rattle.zk_scenario.specs.Players.{places_from, places, players, is_thread, is_queue, is_item, same_kind, number_of, calls_of}
 use Rattle.zk_scenario.proofs.Valid.{count_by-cons}
@@ -125,8 +125,9 @@ own-script s st who queue frame next below op reply place k call script tends is
     by_call : (call : Option Call) → slice_get (call_attempts s.decls call frame.stage) k ≡ Some (steps.Work op) →
         Tends s.decls queue (frames_after s (frame ∷ next ∷ below) (call_progress s.decls call frame.stage (steps.Work op) (step_replies.Work reply place))) (work_next st who op).admissions
     by_call None is = absurd (cc)
-    by_call (Some (Submit item named)) is = over (called_by (ops.Submit _ _) frame.stage tt is)
-    by_call (Some (Cancel item)) is = over (called_by (ops.Cancel _) frame.stage tt is)
+    by_call (Some (calls.Submit item named)) is = over (called_by (ops.Submit _ _) frame.stage tt is)
+    by_call (Some (calls.Cancel item)) is = over (called_by (ops.Cancel _) frame.stage tt is)
+    by_call (Some (calls.Start named)) is = over (called_by (ops.Start _) frame.stage tt is)
 
 -- a worker tends its queue after each step of its own
 pub tends-own : (s : Parts) (st : State) (who : Who) (queue : ℕ) (frames : List Frame) (op : WorkOp) (reply : WorkReply) (place k : ℕ) →
