@@ -21,7 +21,7 @@ use Rattle.zk_model_work.specs.declared.ops.WorkReply.TheVariants.{Sub, Flags, D
 use Rattle.zk_model_work.specs.Lists.{places_from, places, first as first_of}
 use Rattle.zk_model_work.specs.Questions.{is_waiting, is_running, waits_for, waits_as, runs_on, running, waiting, is_cancelling, run, line, is_empty_and_idle}
 use Rattle.zk_model_work.specs.State.{State}
-use Rattle.zk_model_work.specs.Machine.{work_reply, work_next, changed, is_chained, admission, submission, submission_at, submission_to, target, submit, set_life, with_life, begin, end_one, end_run, drop_one, drop_waiting, settle_from, settle_one, is_worker, may_begin, may_end, taken_up}
+use Rattle.zk_model_work.specs.Machine.{work_reply, work_next, changed, is_chained, admission, submission, submission_at, submission_to, target, submit, set_life, with_life, begin, end_one, end_run, drop_one, drop_waiting, start, settle_from, settle_one, is_worker, may_begin, may_end, taken_up}
 use Rattle.zk_replay.specs.Tending.{IsIdle}
 
 -- a submission that admits goes to one of so many queues
@@ -123,6 +123,7 @@ homes-next many st who (ops.Submit item named) long all =
 homes-next many st who (ops.Cancel item) long all =
     let P : Admission → Type 0 = λ a. a.queue < many in
     map-all P (drop_one item) (λ a less. cond-keeps P (waits_as item a) (with_life Dropped a) a less less) st.admissions all
+homes-next many st who (ops.Start queue) long all = all
 homes-next many st who (ops.Begin queue) long all =
     let P : Admission → Type 0 = λ a. a.queue < many in begin-all P st.admissions queue (λ a waits less. less) all
 homes-next many st who (ops.End queue) long all =
@@ -139,10 +140,16 @@ settle-workers admissions n (queue ∷ queues) =
     worker-kept queue true = refl
     worker-kept queue false = refl
 
+start-workers : (queues : List Queue) (number : ℕ) → map (λ queue. queue.worker) (start queues number) ≡ map (λ queue. queue.worker) queues
+start-workers [] number = refl
+start-workers (queue ∷ queues) zero = refl
+start-workers (queue ∷ queues) (suc number) = ap (λ (l : List ℕ). queue.worker ∷ l) (start-workers queues number)
+
 -- each queue keeps its worker
 pub workers-next : (st : State) (who : Who) (op : WorkOp) → map (λ queue. queue.worker) (work_next st who op).queues ≡ map (λ queue. queue.worker) st.queues
 workers-next st who (ops.Submit item named) = refl
 workers-next st who (ops.Cancel item) = settle-workers (drop_waiting st.admissions item) 0 st.queues
+workers-next st who (ops.Start queue) = start-workers st.queues queue
 workers-next st who (ops.Begin queue) = refl
 workers-next st who (ops.End queue) = settle-workers (end_run st.admissions queue) 0 st.queues
 
@@ -170,6 +177,7 @@ begins-as st who queue reply is =
 abbrev pub IsCalled : WorkOp → Type 0
 IsCalled (ops.Submit item named) = Unit {0}
 IsCalled (ops.Cancel item) = Unit {0}
+IsCalled (ops.Start queue) = Unit {0}
 IsCalled (ops.Begin queue) = ⊥
 IsCalled (ops.End queue) = ⊥
 
@@ -182,6 +190,7 @@ idle-called st who (ops.Submit item named) queue called idle =
 idle-called st who (ops.Cancel item) queue called idle =
     let P : Admission → Type 0 = λ a. runs_on queue a ≡ false in
     map-all P (drop_one item) (λ a none. cond-keeps P (waits_as item a) (with_life Dropped a) a (and_right (eqb a.queue queue) false refl) none) st.admissions idle
+idle-called st who (ops.Start queue') queue called idle = idle
 idle-called st who (ops.Begin queue') queue called idle = absurd called
 idle-called st who (ops.End queue') queue called idle = absurd called
 
@@ -219,6 +228,7 @@ pub idle-next : (st : State) (who : Who) (op : WorkOp) (reply : WorkReply) (queu
     work_reply st who op ≡ Some reply → IsIdle queue st.admissions → IsIdle queue (work_next st who op).admissions
 idle-next st who (ops.Submit item named) reply queue worker is other made idle = idle-called st who (ops.Submit item named) queue tt idle
 idle-next st who (ops.Cancel item) reply queue worker is other made idle = idle-called st who (ops.Cancel item) queue tt idle
+idle-next st who (ops.Start queue') reply queue worker is other made idle = idle
 idle-next st who (ops.Begin queue') reply queue worker is other made idle =
     let P : Admission → Type 0 = λ a. runs_on queue a ≡ false in
     begin-all P st.admissions queue' (λ a waits none. and_left (eqb a.queue queue) true (apart a (and_parts (eqb a.queue queue') (is_waiting a.life) waits).0)) idle
