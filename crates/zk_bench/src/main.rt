@@ -3,9 +3,8 @@
 
 mod scenario;
 
-use std::env;
-use std::io;
 use std::time::Instant;
+use std::{env, io};
 use zk_replay::replay;
 use zk_scenario::read_scenario;
 use zk_trace::put_trace;
@@ -33,6 +32,14 @@ fn main(rt: HostRuntime) -> io::Result<()> {
         return println!(rt; "out of memory");
     }
     println!(rt; "reading  {:>8} us", read.as_micros())?;
-    println!(rt; "playing  {:>8} us, {} entries", played.as_micros(), trace.work.items().len())?;
-    println!(rt; "printing {:>8} us, {} bytes", printed.as_micros(), output.len())
+    println!(rt;
+        "playing  {:>8} us, {} entries",
+        played.as_micros(),
+        trace.work.items().len()
+    )?;
+    println!(rt;
+        "printing {:>8} us, {} bytes",
+        printed.as_micros(),
+        output.len()
+    )
 }

@@ -22,11 +22,7 @@ pub fn output_of(alloc: Global, input: Vec<u8>) -> Result<(Vec<u8>, Status), NoM
 }
 
 /// The trace of the scenario behind its text.
-fn run(
-    alloc: Global,
-    text: Vec<u8>,
-    scenario: &Scenario,
-) -> Result<(Vec<u8>, Status), NoMemory>
+fn run(alloc: Global, text: Vec<u8>, scenario: &Scenario) -> Result<(Vec<u8>, Status), NoMemory>
     requires read { scenario_of text.items ≡ Ok scenario.now }
     requires spelled { text.items ≡ text_of scenario.now }
     ensures { IfOk result (λ made. IsOutput made.1 text.items made.0.items) }

@@ -4,7 +4,8 @@ use std::test::Fail;
 use zk_base::{MemSink, MemSource, Status, SureSink, SureSource};
 
 /// The front of the rows: two threads, one queue, three items.
-const FRONT: &str = "zk 1\nthread t0 0 super\nthread t1 0 super\nqueue q0 0 on\nitem w0\nitem w1\nitem w2\n";
+const FRONT: &str =
+    "zk 1\nthread t0 0 super\nthread t1 0 super\nqueue q0 0 on\nitem w0\nitem w1\nitem w2\n";
 
 /// More room than any output of these tests needs.
 const ROOM: usize = 8192;
@@ -83,14 +84,49 @@ fn rows_print_their_traces(rt: HostRuntime) -> Result<(), Fail> {
 #[test]
 fn other_inputs_and_words_are_told(rt: HostRuntime) -> Result<(), Fail> {
     for (words, input, status, output) in [
-        (["replay"].as_slice(), "zk 1\n", Status::Success, "zk 1\nzt 1\nended\n"),
-        (["replay"].as_slice(), "", Status::Refused, "refused 1 header\n"),
-        (["replay"].as_slice(), "zk 1\nthread t0 0 super\nsem s0 0 1\n", Status::Refused, "refused 3 unbuilt\n"),
-        (["replay"].as_slice(), "zk 1\nitem w0\nscript w0\n", Status::Refused, "refused 3 unbuilt\n"),
-        (["replay"].as_slice(), "zk 1\nitem w0\nitem w0\n", Status::Refused, "refused 3 name\n"),
+        (
+            ["replay"].as_slice(),
+            "zk 1\n",
+            Status::Success,
+            "zk 1\nzt 1\nended\n",
+        ),
+        (
+            ["replay"].as_slice(),
+            "",
+            Status::Refused,
+            "refused 1 header\n",
+        ),
+        (
+            ["replay"].as_slice(),
+            "zk 1\nthread t0 0 super\nsem s0 0 1\n",
+            Status::Refused,
+            "refused 3 unbuilt\n",
+        ),
+        (
+            ["replay"].as_slice(),
+            "zk 1\nitem w0\nscript w0\n",
+            Status::Refused,
+            "refused 3 unbuilt\n",
+        ),
+        (
+            ["replay"].as_slice(),
+            "zk 1\nitem w0\nitem w0\n",
+            Status::Refused,
+            "refused 3 name\n",
+        ),
         ([].as_slice(), "zk 1\n", Status::Words, "refused words\n"),
-        (["check"].as_slice(), "zk 1\n", Status::Words, "refused words\n"),
-        (["replay", "replay"].as_slice(), "zk 1\n", Status::Words, "refused words\n"),
+        (
+            ["check"].as_slice(),
+            "zk 1\n",
+            Status::Words,
+            "refused words\n",
+        ),
+        (
+            ["replay", "replay"].as_slice(),
+            "zk 1\n",
+            Status::Words,
+            "refused words\n",
+        ),
     ] {
         let (got, printed) = outcome(&rt, words, input.as_bytes())?;
         assert_eq!(rt; got, status, "{output}");
@@ -101,11 +137,18 @@ fn other_inputs_and_words_are_told(rt: HostRuntime) -> Result<(), Fail> {
 
 #[test]
 fn a_long_input_is_refused_by_its_length(rt: HostRuntime) -> Result<(), Fail> {
-    for (length, line) in [(1_048_576, "refused 1 header\n"), (1_048_577, "refused 0 length\n"), (1_048_600, "refused 0 length\n")] {
+    for (length, line) in [
+        (1_048_576, "refused 1 header\n"),
+        (1_048_577, "refused 0 length\n"),
+        (1_048_600, "refused 0 length\n"),
+    ] {
         let words = words_of(&rt, &["replay"])?;
         let mut source = SureSource::new(vec![in rt.alloc(); b' '; length]?, 100_000);
         let mut sink = SureSink::new(Vec::with_capacity(rt.alloc(), ROOM)?, 100);
-        assert_eq!(rt; zk_plain(rt.alloc(), &words, &mut source, &mut sink), Status::Refused);
+        assert_eq!(rt;
+            zk_plain(rt.alloc(), &words, &mut source, &mut sink),
+            Status::Refused
+        );
         assert!(rt; sink.held() == line.as_bytes(), "{line}");
     }
     Ok(())
@@ -120,7 +163,11 @@ fn each_fault_of_reading_prints_nothing(rt: HostRuntime) -> Result<(), Fail> {
     for call in 0..calls {
         let mut source = MemSource::new(input.clone()?, 4, vec![in rt.alloc(); call]?);
         let mut sink = SureSink::new(Vec::with_capacity(rt.alloc(), ROOM)?, 9);
-        assert_eq!(rt; zk_plain(rt.alloc(), &words, &mut source, &mut sink), Status::ReadFault, "{call}");
+        assert_eq!(rt;
+            zk_plain(rt.alloc(), &words, &mut source, &mut sink),
+            Status::ReadFault,
+            "{call}"
+        );
         assert!(rt; sink.held().is_empty(), "{call}");
     }
     Ok(())
@@ -135,8 +182,16 @@ fn each_fault_of_writing_leaves_a_front(rt: HostRuntime) -> Result<(), Fail> {
     let calls = wanted.len().div_ceil(4);
     for call in 0..calls {
         let mut source = SureSource::new(input.clone()?, 100);
-        let mut sink = MemSink::new(Vec::with_capacity(rt.alloc(), ROOM)?, 4, vec![in rt.alloc(); call as u64]?);
-        assert_eq!(rt; zk_plain(rt.alloc(), &words, &mut source, &mut sink), Status::WriteFault, "{call}");
+        let mut sink = MemSink::new(
+            Vec::with_capacity(rt.alloc(), ROOM)?,
+            4,
+            vec![in rt.alloc(); call as u64]?,
+        );
+        assert_eq!(rt;
+            zk_plain(rt.alloc(), &words, &mut source, &mut sink),
+            Status::WriteFault,
+            "{call}"
+        );
         assert!(rt; wanted.starts_with(sink.held()), "{call}");
         assert_eq!(rt; sink.held().len(), 4usize.saturating_mul(call), "{call}");
     }

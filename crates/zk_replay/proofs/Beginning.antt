@@ -1,6 +1,6 @@
 -- The world in which nothing was done.
-use Rattle.std.proofs.Common.{◌≡◌, ◌≢◌, ◌⊎◌, ℕ, zero, suc, ◌+◌, ◌*◌, ◌^◌, ◌<◌, ◌≤◌, Bool, true, false, Option, Some, None, option_to_list, List, [], ◌∷◌, ◌++◌, length, map, All, AllPairs, get_or, inl, inr, refl, sym, ap, subst, ◌∙◌, arith, length-append, nat_le, Fits, w32}
-use Rattle.std.specs.List.{slice_get, list_any, sum_by, range_with_len}
+use Rattle.std.proofs.Common.{◌≡◌, ◌≢◌, ◌⊎◌, ℕ, zero, suc, ◌+◌, ◌<◌, ◌≤◌, Bool, true, false, Option, Some, None, option_to_list, List, [], ◌∷◌, ◌++◌, length, map, All, AllPairs, inl, inr, refl, sym, ap, subst, ◌∙◌, arith, length-append}
+use Rattle.std.specs.List.{slice_get, range_with_len}
 use Rattle.std.proofs.lemmas.Bool.Decides.{nat_tests}
 use Rattle.std.proofs.lemmas.List.Elements.{All-nil, All-cons, All-append, All-weaker}
 use Rattle.std.proofs.lemmas.List.Folds.{list_any_none}
@@ -8,7 +8,6 @@ use Rattle.std.proofs.lemmas.List.{length-map}
 use Rattle.std.proofs.lemmas.List.FromFn.{length-range_with_len, get_or-range_with_len}
 use Rattle.std.proofs.lemmas.List.Sums.{sum_by-le}
 use Rattle.zk_base.specs.declared.ids.Entry.{Entry}
-use Rattle.zk_scenario.specs.declared.types.Decl.{Decl}
 use Rattle.zk_scenario.specs.Parts.{Parts}
 use Rattle.zk_scenario.specs.Valid.{IsValid}
 use Rattle.zk_scenario.specs.Players.{places, players, is_thread, is_queue, is_item}
@@ -26,7 +25,7 @@ use Rattle.zk_worker.specs.Follows.{is_spent_at}
 use Rattle.zk_worker.specs.Ranges.{FramesFit}
 use Rattle.zk_worker.proofs.Fits.{start_at-fits}
 use Rattle.zk_worker.proofs.Starts.{start_at-some, start_at-fresh, IsFresh}
-use Rattle.zk_replay.specs.RoundRobin.{World, starts, first, is_spent}
+use Rattle.zk_replay.specs.RoundRobin.{starts, first, is_spent}
 use Rattle.zk_replay.specs.Ready.{IsReady, TakesDeclared}
 use Rattle.zk_replay.specs.Turning.{world}
 use Rattle.zk_replay.specs.Replay.{workers, is_on, work_start_of}
@@ -78,7 +77,7 @@ same-lengths s =
 pub takes-declared : (s : Parts) → TakesDeclared work_machine (work_start_of s) s.decls
 takes-declared s = λ op fits.
     let long = length-fresh_queues (workers s.decls) (map (is_on s.decls) (places is_queue s.decls)) (same-lengths s)
-            ∙ length-range_with_len (length (places is_thread s.decls)) (length (places is_queue s.decls)) in
+    ∙ length-range_with_len (length (places is_thread s.decls)) (length (places is_queue s.decls)) in
     subst (λ (n : ℕ). is_among (length (places is_item s.decls)) n op ≡ true) (sym long) fits
 
 -- what holds of each player that starts holds of all
@@ -149,14 +148,15 @@ ready-first s valid =
     let Short : At → Type 0 = λ at. length at.spots ≤ MOST_STEPS in
     let Fits : At → Type 0 = λ at. FramesFit s.decls at.frames in
     let none : All None_made (starts s n) =
-        starts-all None_made s (λ k at is. omega (arith, ap (λ (l : List Spot). length l) (start_at-fresh s k at is).none_made)) n in
+    starts-all None_made s (λ k at is. omega (arith, ap (λ (l : List Spot). length l) (start_at-fresh s k at is).none_made)) n in
     record {
-        few = omega (arith, length-starts s n (omega arith), length-players s.decls, valid.players);
-        numbers = numbers-starts s n (omega arith);
-        above = λ p at is. let P : Entry WorkOp WorkReply → Type 0 = λ e. e.who.number ≡ at.who.number → e.step < length at.spots in All-nil P;
-        short = All-weaker None_made Short (λ at le. omega arith) (starts s n) none;
-        counted = omega (arith, sum_by-le count 0 (starts s n) none);
-        fits = starts-all Fits s (λ k at is. start_at-fits s k at is) n }
+      few = omega (arith, length-starts s n (omega arith), length-players s.decls, valid.players);
+      numbers = numbers-starts s n (omega arith);
+      above = λ p at is. let P : Entry WorkOp WorkReply → Type 0 = λ e. e.who.number ≡ at.who.number → e.step < length at.spots in All-nil P;
+      short = All-weaker None_made Short (λ at le. omega arith) (starts s n) none;
+      counted = omega (arith, sum_by-le count 0 (starts s n) none);
+      fits = starts-all Fits s (λ k at is. start_at-fits s k at is) n;
+    }
 
 unspent-fresh : (at : At) → length at.spots ≤ 0 → is_spent_at at ≡ false
 unspent-fresh at none = grind (arith, nat_tests)
@@ -167,7 +167,7 @@ unspent-first s =
     let n = length (players s.decls) in
     let P : At → Type 0 = λ at. is_spent_at at ≡ false in
     list_any_none is_spent_at (starts s n)
-        (starts-all P s (λ k at is. unspent-fresh at (omega (arith, ap (λ (l : List Spot). length l) (start_at-fresh s k at is).none_made))) n)
+    (starts-all P s (λ k at is. unspent-fresh at (omega (arith, ap (λ (l : List Spot). length l) (start_at-fresh s k at is).none_made))) n)
 
 pub few-workers : (s : Parts) → IsValid s → length (workers s.decls) ≤ 8
 few-workers s valid =

@@ -1,6 +1,6 @@
 -- The trace of a run that has come to its end.
-use Rattle.std.proofs.Common.{◌≡◌, ℕ, zero, suc, ◌+◌, ◌<◌, ◌≤◌, ◌∙◌, Bool, true, false, not, ◌&&◌, cond, eqb, eq-eqb, nat_lt, Option, Some, None, List, [], ◌∷◌, ◌++◌, length, map, set, All, refl, sym, ap, subst, arith, length-append}
-use Rattle.std.specs.List.{slice_get, list_any, list_all}
+use Rattle.std.proofs.Common.{◌≡◌, ℕ, zero, suc, ◌+◌, ◌<◌, ◌∙◌, Bool, true, false, not, ◌&&◌, cond, eqb, eq-eqb, nat_lt, Option, Some, None, List, [], ◌∷◌, length, map, All, refl, sym, ap, subst, arith, length-append}
+use Rattle.std.specs.List.{slice_get, list_all}
 use Rattle.std.specs.Option.{option_map}
 use Rattle.std.proofs.lemmas.Bool.{and_parts, and_from}
 use Rattle.std.proofs.lemmas.Bool.Decides.{nat_tests}
@@ -13,11 +13,11 @@ use Rattle.zk_model_work.specs.declared.ops.WorkOp.TheVariants as ops
 use Rattle.zk_model_work.specs.declared.ops.WorkReply.{WorkReply}
 use Rattle.zk_model_work.specs.declared.parts.Admission.{Admission}
 use Rattle.zk_model_work.specs.Questions.{is_waiting, waits_for}
-use Rattle.zk_model_work.specs.State.{State, start_of}
+use Rattle.zk_model_work.specs.State.{State}
 use Rattle.zk_model_work.specs.Machine.{work_machine, work_reply, work_next}
 use Rattle.zk_scenario.specs.Parts.{Parts}
 use Rattle.zk_scenario.specs.Valid.{IsValid}
-use Rattle.zk_scenario.specs.Players.{places, players, is_thread, is_queue}
+use Rattle.zk_scenario.specs.Players.{places, is_thread, is_queue}
 use Rattle.zk_worker.specs.declared.steps.TheConstants.{MOST_STEPS}
 use Rattle.zk_worker.specs.declared.steps.Step.{Step}
 use Rattle.zk_worker.specs.declared.steps.Step.TheVariants as steps
@@ -37,7 +37,7 @@ use Rattle.zk_trace.specs.declared.trace.Ending.TheVariants.{Ended, Stuck, Spent
 use Rattle.zk_trace.specs.declared.trace.Trace.{Trace}
 use Rattle.zk_replay.specs.RoundRobin.{World, or_else, first_possible, chosen, stepped, first, round, rounds, is_spent, IsRun}
 use Rattle.zk_replay.specs.Ready.{IsReady}
-use Rattle.zk_replay.specs.Replay.{work_start_of, all_done, none_waits, ending_of, trace_of, IsReplay}
+use Rattle.zk_replay.specs.Replay.{work_start_of, all_done, none_waits, ending_of, IsReplay}
 use Rattle.zk_replay.specs.Ending.{ending_by}
 use Rattle.zk_replay.specs.Tending.{IsIdle, IsWorkers, Tends, IsTended}
 use Rattle.zk_replay.proofs.Places.{none-passes}
@@ -63,20 +63,22 @@ good-step : (s : Parts) (w : World) (p : ℕ) (at : At) (made : Step × StepRepl
 good-step s w p at (steps.Work op, step_replies.Work reply place) good unspent is choice =
     let made = first_possible-made work_machine (work_start_of s) w.work at.who (attempts s at) (steps.Work op, step_replies.Work reply place) choice in
     let possible : work_reply good.state at.who op ≡ Some reply =
-        ap (λ (t : State). work_reply t at.who op) good.tended.after ∙ replied _ (length w.work) place reply made.answered in
+    ap (λ (t : State). work_reply t at.who op) good.tended.after ∙ replied _ (length w.work) place reply made.answered in
     let ahead = open-ahead (nat_lt (length at.spots) MOST_STEPS) (frames_attempts s at.frames) made.place (steps.Work op) made.is_there in
     record {
-        all_there = length-set w.players p (after s at (steps.Work op) (step_replies.Work reply place)) ∙ good.all_there;
-        ready = ready-stepped s w p at (steps.Work op, step_replies.Work reply place) good.ready is (none-passes is_spent_at w.players p at unspent is);
-        state = work_next good.state at.who op;
-        tended = tended-step s w good.state p at op reply place made.place good.tended is (good.ready.numbers p at is) ahead possible }
+      all_there = length-set w.players p (after s at (steps.Work op) (step_replies.Work reply place)) ∙ good.all_there;
+      ready = ready-stepped s w p at (steps.Work op, step_replies.Work reply place) good.ready is (none-passes is_spent_at w.players p at unspent is);
+      state = work_next good.state at.who op;
+      tended = tended-step s w good.state p at op reply place made.place good.tended is (good.ready.numbers p at is) ahead possible;
+    }
 
 good-first : (s : Parts) → IsValid s → IsGood s (first s)
 good-first s valid = record {
-    all_there = first-players s ∙ length-append (places is_thread s.decls) (places is_queue s.decls);
-    ready = ready-first s valid;
-    state = work_start_of s;
-    tended = tended-first s (first-there s) (same-lengths s) }
+  all_there = first-players s ∙ length-append (places is_thread s.decls) (places is_queue s.decls);
+  ready = ready-first s valid;
+  state = work_start_of s;
+  tended = tended-first s (first-there s) (same-lengths s);
+}
 
 good-rounds : (s : Parts) (n : ℕ) → IsValid s → IsGood s (rounds work_machine (work_start_of s) s n (first s))
 good-rounds s n valid = rounds-keep work_machine (work_start_of s) s (IsGood s) (good-step s) n (first s) (good-first s valid)
@@ -135,13 +137,13 @@ module _ (s : Parts) (w : World) (good : IsGood s w) (still : round work_machine
       let only = done-ahead s queue at.frames good.state.admissions tends is_done_at in
       let none = round-still work_machine (work_start_of s) s w still unspent (threads + queue) at (omega (arith, good.all_there)) there.1 in
       let ahead : attempts s at ≡ steps.Work (ops.Begin queue) ∷ [] =
-          ap (λ b. cond b (frames_attempts s at.frames) []) (short-unspent at (none-passes is_spent_at w.players (threads + queue) at unspent there.1)) ∙ only.0 in
+      ap (λ b. cond b (frames_attempts s at.frames) []) (short-unspent at (none-passes is_spent_at w.players (threads + queue) at unspent there.1)) ∙ only.0 in
       let first_none = sym (ap (first_possible work_machine (work_start_of s) w.work at.who) ahead) ∙ none in
       let not_begun : work_reply good.state at.who (ops.Begin queue) ≡ None =
-          ap (λ (t : State). work_reply t at.who (ops.Begin queue)) good.tended.after
-          ∙ answer-none (work_reply (state_after work_machine (work_start_of s) w.work) at.who (ops.Begin queue)) (length w.work) (steps.Work (ops.Begin queue)) first_none in
+      ap (λ (t : State). work_reply t at.who (ops.Begin queue)) good.tended.after
+      ∙ answer-none (work_reply (state_after work_machine (work_start_of s) w.work) at.who (ops.Begin queue)) (length w.work) (steps.Work (ops.Begin queue)) first_none in
       none-waits-for good.state at.who queue
-          (worker-of s w good.state queue good.tended within ∙ ap (λ (n : ℕ). Some n) (sym (good.ready.numbers (threads + queue) at there.1))) only.1 not_begun
+      (worker-of s w good.state queue good.tended within ∙ ap (λ (n : ℕ). Some n) (sym (good.ready.numbers (threads + queue) at there.1))) only.1 not_begun
 
   -- where all are done at the end of a run that isn't spent, no admission waits
   ended : none_waits (state_after work_machine (work_start_of s) w.work) ≡ true
@@ -152,9 +154,11 @@ ending-good s w good still = by_spent (is_spent w) refl
   where
     waits : Bool
     waits = none_waits (state_after work_machine (work_start_of s) w.work)
+
     by_done : (b : Bool) → is_spent w ≡ false → all_done w.players ≡ b → cond b Ended Stuck ≡ cond (b && none_waits (state_after work_machine (work_start_of s) w.work)) Ended Stuck
     by_done true unspent done = sym (ap (λ c. cond c Ended Stuck) (ended s w good still unspent done))
     by_done false unspent done = refl
+
     by_spent : (b : Bool) → is_spent w ≡ b → cond b Spent (cond (all_done w.players) Ended Stuck)
         ≡ cond b Spent (cond (all_done w.players && none_waits (state_after work_machine (work_start_of s) w.work)) Ended Stuck)
     by_spent true spent = refl
@@ -171,15 +175,17 @@ Trace-same : (e e' : Ending) (h h' : List (Entry WorkOp WorkReply)) (l l' : List
 Trace-same e e' h h' l l' ee eh el =
     let P : Trace → Type 0 = λ x. ◌≡◌ {A = Trace} (record { ending = e; work = h; logs = l }) x in
     subst (λ (x : List Log). P (record { ending = e'; work = h'; logs = x })) el
-        (subst (λ (x : List (Entry WorkOp WorkReply)). P (record { ending = e'; work = x; logs = l })) eh
-            (subst (λ (x : Ending). P (record { ending = x; work = h; logs = l })) ee refl))
+    (subst (λ (x : List (Entry WorkOp WorkReply)). P (record { ending = e'; work = x; logs = l })) eh
+    (subst (λ (x : Ending). P (record { ending = x; work = h; logs = l })) ee refl))
 
 -- what the code hands out is the trace of the run
 pub replayed : (s : Parts) (start : State) (old w : World) (ending : Ending) (work : List (Entry WorkOp WorkReply)) (logs : List Log) → IsValid s →
     start ≡ work_start_of s → old ≡ first s → (n : ℕ) → w ≡ rounds work_machine start s n old → round work_machine start s w ≡ w →
     ending ≡ ending_by w.players → work ≡ w.work → logs ≡ map log_of w.players → IsReplay s (record { ending = ending; work = work; logs = logs })
 replayed s start old w ending work logs valid starts begins n so_far over end history log =
-    let run : IsRun work_machine (work_start_of s) s w =
-        (n, so_far ∙ ap (λ (t : State). rounds work_machine t s n old) starts ∙ ap (rounds work_machine (work_start_of s) s n) begins,
-            subst (λ (t : State). round work_machine t s w ≡ w) starts over) in
+    let run : IsRun work_machine (work_start_of s) s w = (
+      n,
+      so_far ∙ ap (λ (t : State). rounds work_machine t s n old) starts ∙ ap (rounds work_machine (work_start_of s) s n) begins,
+      subst (λ (t : State). round work_machine t s w ≡ w) starts over,
+    ) in
     (w, run, Trace-same ending (ending_of s w) work w.work logs (map log_of w.players) (end ∙ ending-is s w valid run) history log)

@@ -1,5 +1,5 @@
 -- Turns and rounds as the definition has them.
-use Rattle.std.proofs.Common.{◌≡◌, ℕ, zero, suc, ◌+◌, ◌<◌, ◌≤◌, Bool, ◌||◌, true, false, cond, Option, Some, None, Result, Ok, Err, IfOk, List, [], ◌∷◌, length, set, refl, sym, ap, subst, ◌∙◌, arith, is_some}
+use Rattle.std.proofs.Common.{◌≡◌, ℕ, zero, suc, ◌+◌, ◌<◌, Bool, ◌||◌, true, false, cond, Option, Some, None, Result, Ok, Err, IfOk, List, length, set, refl, sym, ap, subst, ◌∙◌, arith, is_some}
 use Rattle.std.specs.List.{slice_get}
 use Rattle.std.proofs.lemmas.Option.{slice_get_within}
 use Rattle.zk_base.specs.declared.ids.Entry.{Entry}
@@ -17,7 +17,7 @@ use Rattle.zk_replay.specs.declared.turns.Course.{Course}
 use Rattle.zk_replay.specs.declared.turns.Course.TheVariants.{Still, Goes, Spent}
 use Rattle.zk_replay.specs.RoundRobin.{World, chosen, stepped, turn, turn_of, turns, round, rounds, is_spent}
 use Rattle.zk_replay.specs.Ready.{IsReady, all_left}
-use Rattle.zk_replay.specs.Turning.{world, history_with, at_after, Turned, Rounded, WithinRound, GoesOn}
+use Rattle.zk_replay.specs.Turning.{world, history_with, at_after, Turned, Rounded, WithinRound}
 use Rattle.zk_replay.proofs.Places.{set-there, none-passes, any-set}
 use Rattle.zk_replay.proofs.Readiness.{ready-stepped, left-stepped}
 

@@ -1,14 +1,12 @@
 -- The run of a scenario is one, and ends where no player can go on.
-use Rattle.std.proofs.Common.{◌≡◌, ℕ, zero, suc, ◌+◌, ◌<◌, ◌≤◌, false, Some, sym, ap, ◌∙◌, arith}
-use Rattle.std.specs.List.{slice_get}
+use Rattle.std.proofs.Common.{◌≡◌, ℕ, zero, suc, ◌+◌, sym, ap, ◌∙◌, arith}
 use Rattle.std.proofs.lemmas.Option.{slice_get_within}
 use Rattle.zk_base.specs.Legal.{Machine}
 use Rattle.zk_model_work.specs.declared.ops.WorkOp.{WorkOp}
 use Rattle.zk_model_work.specs.declared.ops.WorkReply.{WorkReply}
 use Rattle.zk_model_work.specs.Machine.{work_machine}
 use Rattle.zk_scenario.specs.Parts.{Parts}
-use Rattle.zk_worker.specs.Places.{At}
-use Rattle.zk_replay.specs.RoundRobin.{World, first, round, rounds, IsRun, is_spent}
+use Rattle.zk_replay.specs.RoundRobin.{World, first, round, rounds, IsRun}
 use Rattle.zk_replay.specs.Replay.{work_start_of}
 use Rattle.zk_replay.specs.Laws.{HasOneRun, NoneGoesOn}
 use Rattle.zk_replay.proofs.Still.{round-still}

@@ -1,8 +1,7 @@
 -- What a run keeps in each turn.
-use Rattle.std.proofs.Common.{◌≡◌, ◌≢◌, ◌⊎◌, ℕ, ◌+◌, ◌-◌, ◌*◌, ◌^◌, ◌<◌, ◌≤◌, Bool, true, false, cond, Option, Some, None, List, [], ◌∷◌, ◌++◌, length, set, All, inl, inr, refl, sym, ap, subst, ◌∙◌, arith, is_some, length-append, nat_le}
-use Rattle.std.specs.List.{slice_get, list_any, sum_by}
+use Rattle.std.proofs.Common.{◌≡◌, ◌≢◌, ◌⊎◌, ℕ, ◌+◌, ◌-◌, ◌*◌, ◌^◌, ◌<◌, ◌≤◌, true, false, Some, List, [], ◌∷◌, ◌++◌, length, set, All, inl, inr, refl, sym, ap, subst, ◌∙◌, arith, length-append}
+use Rattle.std.specs.List.{slice_get, sum_by}
 use Rattle.std.proofs.lemmas.Bool.Decides.{nat_tests}
-use Rattle.std.proofs.lemmas.Option.{slice_get_within}
 use Rattle.std.proofs.lemmas.List.{length-set}
 use Rattle.std.proofs.lemmas.List.Sums.{sum_by-le}
 use Rattle.std.proofs.lemmas.List.Elements.{All-nil, All-cons, All-append, All-set, All-weaker}
@@ -14,21 +13,20 @@ use Rattle.zk_model_work.specs.declared.ops.WorkReply.{WorkReply}
 use Rattle.zk_scenario.specs.Parts.{Parts}
 use Rattle.zk_scenario.specs.Valid.{IsValid}
 use Rattle.zk_worker.specs.declared.steps.TheConstants.{MOST_STEPS}
-use Rattle.zk_worker.specs.declared.steps.Spot.{Spot}
 use Rattle.zk_worker.specs.declared.steps.Step.{Step}
 use Rattle.zk_worker.specs.declared.steps.Step.TheVariants as steps
 use Rattle.zk_worker.specs.declared.steps.StepReply.{StepReply}
 use Rattle.zk_worker.specs.declared.steps.StepReply.TheVariants as step_replies
 use Rattle.zk_worker.specs.Places.{At}
-use Rattle.zk_worker.specs.Protocol.{IsAhead, after, spot_of}
+use Rattle.zk_worker.specs.Protocol.{after, spot_of}
 use Rattle.zk_worker.specs.Follows.{is_spent_at}
 use Rattle.zk_worker.specs.Ranges.{FramesFit, step_fits}
 use Rattle.zk_worker.proofs.Fits.{ahead-fits, after-fits}
 use Rattle.zk_worker.proofs.Numbers.{All-slice_get}
-use Rattle.zk_replay.specs.RoundRobin.{World, chosen, stepped, work_after, turn, turn_of, is_spent}
+use Rattle.zk_replay.specs.RoundRobin.{World, stepped, work_after}
 use Rattle.zk_replay.specs.Ready.{IsReady, TakesDeclared, left, all_left}
 use Rattle.zk_replay.specs.Turning.{RangeOf, AreTaken, world}
-use Rattle.zk_replay.proofs.Places.{slice_get-set, none-passes, sum-set}
+use Rattle.zk_replay.proofs.Places.{slice_get-set, sum-set}
 
 -- a history is shorter than a history may be
 pub short-work : (s : Parts) (w : World) → IsReady s w → length w.work < 2 ^ 32 - 1

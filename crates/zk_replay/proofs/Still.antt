@@ -1,5 +1,5 @@
 -- What each step keeps holds after any number of rounds; and where a round changes nothing, no player can go on.
-use Rattle.std.proofs.Common.{◌≡◌, ◌⊎◌, inl, inr, ℕ, zero, suc, ◌+◌, ◌<◌, ◌≤◌, Bool, true, false, cond, Option, Some, None, List, [], ◌∷◌, ◌++◌, length, refl, sym, ap, subst, ◌∙◌, arith, length-append}
+use Rattle.std.proofs.Common.{◌≡◌, ◌⊎◌, inl, inr, ℕ, zero, suc, ◌+◌, ◌<◌, ◌≤◌, Bool, true, false, cond, Option, Some, None, List, [], ◌∷◌, length, refl, sym, ap, subst, ◌∙◌, arith, length-append}
 use Rattle.std.specs.List.{slice_get}
 use Rattle.zk_base.specs.declared.ids.Who.{Who}
 use Rattle.zk_base.specs.declared.ids.Entry.{Entry}
@@ -13,7 +13,6 @@ use Rattle.zk_worker.specs.declared.steps.Step.TheVariants as steps
 use Rattle.zk_worker.specs.declared.steps.StepReply.{StepReply}
 use Rattle.zk_worker.specs.declared.steps.StepReply.TheVariants as step_replies
 use Rattle.zk_worker.specs.Places.{At}
-use Rattle.zk_worker.specs.Protocol.{attempts}
 use Rattle.zk_replay.specs.RoundRobin.{World, answer_in, or_else, first_possible, chosen, stepped, work_after, turn, turn_of, turns, round, rounds, is_spent}
 
 -- a step that is made is one of the attempts, and was answered so
@@ -37,9 +36,10 @@ first_possible-made m start work who (x ∷ xs) made is = by_answer (answer_in m
         let step = ap (λ (p : Step × StepReply). p.0) pair in
         let told = ap (λ (p : Step × StepReply). p.1) pair in
         record {
-            place = 0;
-            is_there = ap (λ (y : Step). Some y) step;
-            answered = ap (answer_in m start work who) (sym step) ∙ some ∙ ap (λ (r : StepReply). Some r) told }
+          place = 0;
+          is_there = ap (λ (y : Step). Some y) step;
+          answered = ap (answer_in m start work who) (sym step) ∙ some ∙ ap (λ (r : StepReply). Some r) told;
+        }
 
 at_or_above : (p q : ℕ) → p ≤ q → (p ≡ q) ⊎ (p + 1 ≤ q)
 at_or_above zero zero low = inl refl
@@ -60,9 +60,11 @@ module _ {T : Type 0} (m : Machine T WorkOp WorkReply) (start : T) (s : Parts) w
       by_made : (at : At) (made : Option (Step × StepReply)) → is_spent w ≡ false → slice_get w.players p ≡ Some at → chosen m start s w.work at ≡ made → P (stepped s w p at made)
       by_made at None unspent is choice = here
       by_made at (Some made) unspent is choice = kept at made unspent is choice
+
       by_at : (o : Option At) → is_spent w ≡ false → slice_get w.players p ≡ o → P (turn_of m start s w p o)
       by_at None unspent is = here
       by_at (Some at) unspent is = by_made at (chosen m start s w.work at) unspent is refl
+
       by_spent : (b : Bool) → is_spent w ≡ b → P (cond b w (turn_of m start s w p (slice_get w.players p)))
       by_spent true spent = here
       by_spent false unspent = by_at (slice_get w.players p) unspent refl
@@ -97,12 +99,14 @@ module _ {T : Type 0} (m : Machine T WorkOp WorkReply) (start : T) (s : Parts) w
     where
       opened : turn m start s w p ≡ turn_of m start s w p (slice_get w.players p)
       opened = ap (λ b. cond b w (turn_of m start s w p (slice_get w.players p))) unspent
+
       by_made : (at : At) (made : Option (Step × StepReply)) → slice_get w.players p ≡ Some at → chosen m start s w.work at ≡ made → length (stepped s w p at made).work ≤ length w.work →
           turn_of m start s w p (slice_get w.players p) ≡ stepped s w p at made →
           (turn m start s w p ≡ w) × ((at : At) → slice_get w.players p ≡ Some at → chosen m start s w.work at ≡ None)
       by_made at None is choice short same =
           (opened ∙ same, λ other there. let it : at ≡ other = cc in ap (chosen m start s w.work) (sym it) ∙ choice)
       by_made at (Some made) is choice short same = absurd (omega (arith, work-longer w p at made))
+
       by_at : (o : Option At) → slice_get w.players p ≡ o → length (turn_of m start s w p (slice_get w.players p)).work ≤ length w.work →
           (turn m start s w p ≡ w) × ((at : At) → slice_get w.players p ≡ Some at → chosen m start s w.work at ≡ None)
       by_at None is short = (opened ∙ ap (turn_of m start s w p) is, λ at there. absurd (cc))

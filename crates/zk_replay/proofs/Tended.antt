@@ -1,15 +1,13 @@
 -- Each worker tends its queue in every world of a run.
-use Rattle.std.proofs.Common.{◌≡◌, ◌≢◌, ◌⊎◌, ℕ, zero, suc, ◌+◌, ◌<◌, ◌≤◌, Bool, true, false, cond, Option, Some, None, option_to_list, List, [], ◌∷◌, ◌++◌, length, map, set, take, count_by, All, inl, inr, refl, sym, ap, subst, ◌∙◌, arith, nat_lt, nat_le, get_or}
+use Rattle.std.proofs.Common.{◌≡◌, ◌≢◌, ◌⊎◌, ℕ, zero, suc, ◌+◌, ◌<◌, Bool, true, false, cond, Option, Some, None, List, [], ◌∷◌, ◌++◌, length, map, take, count_by, inl, inr, refl, sym, ap, subst, ◌∙◌, arith, nat_lt}
 use Rattle.std.specs.List.{slice_get, range_with_len}
-use Rattle.std.specs.Option.{option_map, option_map_or, option_and_then}
+use Rattle.std.specs.Option.{option_map, option_map_or}
 use Rattle.std.proofs.lemmas.List.{length-map}
 use Rattle.std.proofs.lemmas.List.Elements.{All-nil}
 use Rattle.std.proofs.lemmas.List.FromFn.{length-range_with_len, get_or-range_with_len}
 use Rattle.std.proofs.lemmas.Option.{slice_get-get_or, option_and_then_some}
 use Rattle.zk_base.specs.declared.ids.Who.{Who}
-use Rattle.zk_base.specs.declared.ids.Entry.{Entry}
 use Rattle.zk_base.specs.History.{entry}
-use Rattle.zk_base.specs.Legal.{state_after}
 use Rattle.zk_base.proofs.Histories.{state_after-snoc}
 use Rattle.zk_scenario.specs.declared.types.Decl.{Decl}
 use Rattle.zk_scenario.specs.declared.types.Decl.TheVariants as decls
@@ -21,7 +19,6 @@ use Rattle.zk_scenario.proofs.Valid.{count_by-cons}
 use Rattle.zk_model_work.specs.declared.ops.WorkOp.{WorkOp}
 use Rattle.zk_model_work.specs.declared.ops.WorkOp.TheVariants as ops
 use Rattle.zk_model_work.specs.declared.ops.WorkReply.{WorkReply}
-use Rattle.zk_model_work.specs.declared.ops.WorkReply.TheVariants as replies
 use Rattle.zk_model_work.specs.declared.parts.Admission.{Admission}
 use Rattle.zk_model_work.specs.declared.parts.Queue.{Queue}
 use Rattle.zk_model_work.specs.Questions.{runs_on}
@@ -29,7 +26,6 @@ use Rattle.zk_model_work.specs.State.{State, fresh_queues}
 use Rattle.zk_model_work.specs.Machine.{work_machine, work_reply, work_next}
 use Rattle.zk_worker.specs.declared.steps.Step.{Step}
 use Rattle.zk_worker.specs.declared.steps.Step.TheVariants as steps
-use Rattle.zk_worker.specs.declared.steps.StepReply.{StepReply}
 use Rattle.zk_worker.specs.declared.steps.StepReply.TheVariants as step_replies
 use Rattle.zk_worker.specs.declared.frames.Frame.{Frame}
 use Rattle.zk_worker.specs.declared.frames.TheConstants.{MOST_FRAMES}
@@ -38,10 +34,10 @@ use Rattle.zk_worker.specs.declared.frames.Role.TheVariants.{Script, Worker}
 use Rattle.zk_worker.specs.declared.frames.Stage.{Stage}
 use Rattle.zk_worker.specs.declared.frames.Stage.TheVariants.{Start, Runs}
 use Rattle.zk_worker.specs.declared.frames.Form.TheVariants.{One}
-use Rattle.zk_worker.specs.Calls.{form_of, form_attempts}
+use Rattle.zk_worker.specs.Calls.{form_attempts}
 use Rattle.zk_worker.specs.Places.{At}
-use Rattle.zk_worker.specs.Protocol.{call_attempts, frames_attempts, frames_progress, frames_after, call_progress, run_progress, is_over, settled, entered, first_frame, role_at, starting, start_at, after}
-use Rattle.zk_replay.specs.RoundRobin.{World, starts, first, stepped, work_after}
+use Rattle.zk_worker.specs.Protocol.{call_attempts, frames_attempts, frames_progress, frames_after, call_progress, run_progress, is_over, settled, entered, first_frame, starting, start_at, after}
+use Rattle.zk_replay.specs.RoundRobin.{World, starts, first, stepped}
 use Rattle.zk_replay.specs.Replay.{workers, work_start_of, is_on}
 use Rattle.zk_replay.specs.Tending.{IsIdle, IsWorkers, IsScript, Tends, IsTended}
 use Rattle.zk_replay.proofs.Places.{slice_get-set}
@@ -71,13 +67,13 @@ tends-settled s queue (frame ∷ []) admissions tends =
     subst (λ b. Tends s.decls queue (cond b [] (frame ∷ [])) admissions) (sym (never-over s queue frame.role frame.next frame.stage admissions tends)) tends
 tends-settled s queue (frame ∷ next ∷ below) admissions tends =
     elim (is_over s frame.role frame.next) as (λ b. Tends s.decls queue (cond b (settled s (next ∷ below)) (frame ∷ next ∷ below)) admissions)
-        [ true ↦ tends-settled s queue (next ∷ below) admissions tends.1 | false ↦ tends ]
+    [ true ↦ tends-settled s queue (next ∷ below) admissions tends.1 | false ↦ tends ]
 
 tends-entered : (ds : List Decl) (queue owner : ℕ) (frame : Frame) (below : List Frame) (admissions : List Admission) → Tends ds queue (frame ∷ below) admissions →
     Tends ds queue (entered (frame ∷ below) owner) admissions
 tends-entered ds queue owner frame below admissions tends =
     elim (nat_lt (length (frame ∷ below)) MOST_FRAMES) as (λ b. Tends ds queue (cond b (first_frame (Script owner) ∷ frame ∷ below) (frame ∷ below)) admissions)
-        [ true ↦ (tt, tends) | false ↦ tends ]
+    [ true ↦ (tt, tends) | false ↦ tends ]
 
 only : (x y : Step) (k : ℕ) → slice_get (x ∷ []) k ≡ Some y → x ≡ y
 only x y zero is = cc
@@ -88,7 +84,7 @@ own-run : (s : Parts) (st : State) (who : Who) (queue : ℕ) (role : Role) (next
     IsWorkers s.decls queue role stage st.admissions → slice_get (frames_attempts s (record { role = role; next = next; stage = stage } ∷ [])) k ≡ Some (steps.Work op) →
     work_reply st who op ≡ Some reply →
     Tends s.decls queue (frames_after s (record { role = role; next = next; stage = stage } ∷ [])
-        (frames_progress s (record { role = role; next = next; stage = stage } ∷ []) (steps.Work op) (step_replies.Work reply place))) (work_next st who op).admissions
+    (frames_progress s (record { role = role; next = next; stage = stage } ∷ []) (steps.Work op) (step_replies.Work reply place))) (work_next st who op).admissions
 own-run s st who queue (Script owner) next stage op reply place k tends is made = absurd tends
 own-run s st who queue (Worker object) next Start op reply place k tends is made =
     let step = only (steps.Work (ops.Begin (number_of s.decls object))) (steps.Work op) k is in
@@ -97,7 +93,7 @@ own-run s st who queue (Worker object) next Start op reply place k tends is made
     let frame : Frame = record { role = Worker object; next = next; stage = Start } in
     let new = (work_next st who op).admissions in
     subst (λ (r : WorkReply). Tends s.decls queue (frames_after s (frame ∷ []) (frames_progress s (frame ∷ []) (steps.Work op) (step_replies.Work r place))) new) (sym told.2)
-        (by_item (slice_get (places is_item s.decls) told.0))
+    (by_item (slice_get (places is_item s.decls) told.0))
   where
     by_item : (owner : Option ℕ) → Tends s.decls queue (frames_after s (record { role = Worker object; next = next; stage = Start } ∷ []) (run_progress owner)) (work_next st who op).admissions
     by_item None = tends.0
@@ -108,7 +104,7 @@ own-run s st who queue (Worker object) next Runs op reply place k tends is made 
     let step = only (steps.Work (ops.End (number_of s.decls object))) (steps.Work op) k is in
     let ends : ops.End (number_of s.decls object) ≡ op = cc in
     let idle : IsIdle queue (work_next st who (ops.End (number_of s.decls object))).admissions =
-        subst (λ (q : ℕ). IsIdle q (work_next st who (ops.End (number_of s.decls object))).admissions) tends (idle-ended (number_of s.decls object) st.admissions) in
+    subst (λ (q : ℕ). IsIdle q (work_next st who (ops.End (number_of s.decls object))).admissions) tends (idle-ended (number_of s.decls object) st.admissions) in
     (tends, subst (λ (o : WorkOp). IsIdle queue (work_next st who o).admissions) ends idle)
 
 -- the scripts of a worker after a step of the innermost one
@@ -120,10 +116,12 @@ own-script s st who queue frame next below op reply place k call script tends is
     over : IsCalled op → Tends s.decls queue (settled s (record frame { next = frame.next + 1; stage = Start } ∷ next ∷ below)) (work_next st who op).admissions
     over called =
         tends-settled s queue (record frame { next = frame.next + 1; stage = Start } ∷ next ∷ below) (work_next st who op).admissions
-            (script, tends-keep s.decls queue (next ∷ below) st.admissions (work_next st who op).admissions (idle-called st who op queue called) tends)
+        (script, tends-keep s.decls queue (next ∷ below) st.admissions (work_next st who op).admissions (idle-called st who op queue called) tends)
+
     called_by : (made : WorkOp) (stage : Stage) → IsCalled made → slice_get (form_attempts (One (steps.Work made)) stage) k ≡ Some (steps.Work op) → IsCalled op
     called_by made Start called is = let step = only (steps.Work made) (steps.Work op) k is in let same : made ≡ op = cc in subst (λ (o : WorkOp). IsCalled o) same called
     called_by made Runs called is = absurd (cc)
+
     by_call : (call : Option Call) → slice_get (call_attempts s.decls call frame.stage) k ≡ Some (steps.Work op) →
         Tends s.decls queue (frames_after s (frame ∷ next ∷ below) (call_progress s.decls call frame.stage (steps.Work op) (step_replies.Work reply place))) (work_next st who op).admissions
     by_call None is = absurd (cc)
@@ -140,7 +138,7 @@ tends-own s st who queue (frame ∷ next ∷ below) op reply place k tends is ma
   where
     by_role : (role : Role) (at : ℕ) (stage : Stage) → IsScript role → slice_get (frames_attempts s (record { role = role; next = at; stage = stage } ∷ next ∷ below)) k ≡ Some (steps.Work op) →
         Tends s.decls queue (frames_after s (record { role = role; next = at; stage = stage } ∷ next ∷ below)
-            (frames_progress s (record { role = role; next = at; stage = stage } ∷ next ∷ below) (steps.Work op) (step_replies.Work reply place))) (work_next st who op).admissions
+        (frames_progress s (record { role = role; next = at; stage = stage } ∷ next ∷ below) (steps.Work op) (step_replies.Work reply place))) (work_next st who op).admissions
     by_role (Script owner) at stage script is =
         own-script s st who queue (record { role = Script owner; next = at; stage = stage }) next below op reply place k (slice_get (calls_of s.scripts owner) at) tt tends.1 is
     by_role (Worker object) at stage script is = absurd script
@@ -172,10 +170,11 @@ pub tended-step : (s : Parts) (w : World) (st : State) (p : ℕ) (at : At) (op :
     slice_get (frames_attempts s at.frames) k ≡ Some (steps.Work op) → work_reply st at.who op ≡ Some reply →
     IsTended s (stepped s w p at (Some (steps.Work op, step_replies.Work reply place))) (work_next st at.who op)
 tended-step s w st p at op reply place k tended is number ahead made = record {
-    after = ap (λ (t : State). work_next t at.who op) tended.after ∙ sym (state_after-snoc work_machine (work_start_of s) w.work (entry at.who (length at.spots) op reply));
-    homes = homes-next (length (places is_queue s.decls)) st at.who op (many-queues s w st tended) tended.homes;
-    has_workers = workers-next st at.who op ∙ tended.has_workers;
-    tended = λ queue other there within. by_place queue other within (slice_get-set w.players p (length (places is_thread s.decls) + queue) (after s at (steps.Work op) (step_replies.Work reply place)) other there) }
+  after = ap (λ (t : State). work_next t at.who op) tended.after ∙ sym (state_after-snoc work_machine (work_start_of s) w.work (entry at.who (length at.spots) op reply));
+  homes = homes-next (length (places is_queue s.decls)) st at.who op (many-queues s w st tended) tended.homes;
+  has_workers = workers-next st at.who op ∙ tended.has_workers;
+  tended = λ queue other there within. by_place queue other within (slice_get-set w.players p (length (places is_thread s.decls) + queue) (after s at (steps.Work op) (step_replies.Work reply place)) other there);
+}
   where
     by_place : (queue : ℕ) (other : At) → queue < length (places is_queue s.decls) →
         ((length (places is_thread s.decls) + queue ≡ p) × (other ≡ after s at (steps.Work op) (step_replies.Work reply place)))
@@ -184,11 +183,11 @@ tended-step s w st p at op reply place k tended is number ahead made = record {
     by_place queue other within (inl same) =
         let mine = tended.tended queue at (ap (λ (n : ℕ). slice_get w.players n) same.0 ∙ is) within in
         subst (λ (o : At). Tends s.decls queue o.frames (work_next st at.who op).admissions) (sym same.1)
-            (tends-own s st at.who queue at.frames op reply place k mine ahead made)
+        (tends-own s st at.who queue at.frames op reply place k mine ahead made)
     by_place queue other within (inr apart) =
         tends-keep s.decls queue other.frames st.admissions (work_next st at.who op).admissions
-            (idle-next st at.who op reply queue (length (places is_thread s.decls) + queue) (worker-of s w st queue tended within) (λ same. apart.0 (sym same ∙ number)) made)
-            (tended.tended queue other apart.1 within)
+        (idle-next st at.who op reply queue (length (places is_thread s.decls) + queue) (worker-of s w st queue tended within) (λ same. apart.0 (sym same ∙ number)) made)
+        (tended.tended queue other apart.1 within)
 
 -- the object of the n-th place of a kind has n before it
 placed : (test : Decl → Bool) (n : ℕ) (ds : List Decl) (q o : ℕ) → slice_get (places_from n test ds) q ≡ Some o →
@@ -226,7 +225,7 @@ start-tends s queue at is =
     let number = length (places is_thread s.decls) + queue in
     let inner : ℕ → Option At = λ object. option_map (starting s number object) (slice_get s.decls object) in
     option_and_then_some inner (slice_get (players s.decls) number) at is (λ object found made. by_place object
-        (placed is_queue 0 s.decls queue object (sym (behind-first (places is_thread s.decls) (places is_queue s.decls) queue) ∙ found)) made)
+    (placed is_queue 0 s.decls queue object (sym (behind-first (places is_thread s.decls) (places is_queue s.decls) queue) ∙ found)) made)
   where
     by_place : (object : ℕ) → (k : ℕ) × (object ≡ 0 + k) × (d : Decl) × (slice_get s.decls k ≡ Some d) × (is_queue d ≡ true) × (count_by is_queue (take k s.decls) ≡ queue) →
         option_map (starting s (length (places is_thread s.decls) + queue) object) (slice_get s.decls object) ≡ Some at → Tends s.decls queue at.frames []
@@ -237,7 +236,7 @@ start-tends s queue at is =
         let it : Some (starting s number object there.2) ≡ Some at = sym (ap (option_map (starting s number object)) declared) ∙ made in
         let is_it : starting s number object there.2 ≡ at = cc in
         subst (λ (a : At). Tends s.decls queue a.frames []) is_it
-            (starting-tends s number queue object there.2 there.4 declared (ap (λ (n : ℕ). count_by is_queue (take n s.decls)) (sym same) ∙ there.5))
+        (starting-tends s number queue object there.2 there.4 declared (ap (λ (n : ℕ). count_by is_queue (take n s.decls)) (sym same) ∙ there.5))
 
 fresh-workers : (ws : List ℕ) (on : List Bool) → length ws ≡ length on → map (λ (q : Queue). q.worker) (fresh_queues ws on) ≡ ws
 fresh-workers [] on same = refl
@@ -248,7 +247,8 @@ fresh-workers (w ∷ ws) (b ∷ bs) same = ap (λ (l : List ℕ). w ∷ l) (fres
 pub tended-first : (s : Parts) → ((p : ℕ) (at : At) → slice_get (first s).players p ≡ Some at → start_at s p ≡ Some at) →
     length (workers s.decls) ≡ length (map (is_on s.decls) (places is_queue s.decls)) → IsTended s (first s) (work_start_of s)
 tended-first s starts same = record {
-    after = refl;
-    homes = let P : Admission → Type 0 = λ a. a.queue < length (places is_queue s.decls) in All-nil P;
-    has_workers = fresh-workers (workers s.decls) (map (is_on s.decls) (places is_queue s.decls)) same;
-    tended = λ queue at is within. start-tends s queue at (starts (length (places is_thread s.decls) + queue) at is) }
+  after = refl;
+  homes = let P : Admission → Type 0 = λ a. a.queue < length (places is_queue s.decls) in All-nil P;
+  has_workers = fresh-workers (workers s.decls) (map (is_on s.decls) (places is_queue s.decls)) same;
+  tended = λ queue at is within. start-tends s queue at (starts (length (places is_thread s.decls) + queue) at is);
+}

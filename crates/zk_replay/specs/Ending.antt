@@ -1,4 +1,4 @@
-use Rattle.std.specs.Prelude.{Bool, if◌then◌else◌, List}
+use Rattle.std.specs.Prelude.{if◌then◌else◌, List}
 use Rattle.std.specs.List.{list_any}
 use Rattle.zk_worker.specs.Places.{At}
 use Rattle.zk_worker.specs.Follows.{is_spent_at}

@@ -1,4 +1,4 @@
-use Rattle.std.specs.Prelude.{◌≡◌, ℕ, false, Option, Some, None, slice_get}
+use Rattle.std.specs.Prelude.{◌≡◌, ℕ, false, Some, None, slice_get}
 use Rattle.zk_scenario.specs.Parts.{Parts}
 use Rattle.zk_model_work.specs.Machine.{work_machine}
 use Rattle.zk_worker.specs.Places.{At}

@@ -1,6 +1,5 @@
-use Rattle.std.specs.Prelude.{◌≡◌, ℕ, ◌+◌, ◌-◌, ◌≤◌, ◌<◌, Bool, true, Option, Some, List, length, slice_get, All}
+use Rattle.std.specs.Prelude.{◌≡◌, ℕ, ◌-◌, ◌≤◌, true, Some, List, length, slice_get, All}
 use Rattle.std.specs.List.{sum_by}
-use Rattle.zk_base.specs.declared.ids.Who.{Who}
 use Rattle.zk_base.specs.History.{IsAbove}
 use Rattle.zk_base.specs.Legal.{Machine}
 use Rattle.zk_scenario.specs.declared.types.Decl.{Decl}

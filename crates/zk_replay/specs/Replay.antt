@@ -1,5 +1,5 @@
-use Rattle.std.specs.Prelude.{◌≡◌, ℕ, Bool, true, false, not, ◌&&◌, if◌then◌else◌, List, length, map, slice_get}
-use Rattle.std.specs.List.{list_all, list_any, range_with_len}
+use Rattle.std.specs.Prelude.{◌≡◌, ℕ, Bool, false, not, ◌&&◌, if◌then◌else◌, List, length, map, slice_get}
+use Rattle.std.specs.List.{list_all, range_with_len}
 use Rattle.std.specs.Option.{option_map_or}
 use Rattle.zk_base.specs.Legal.{state_after}
 use Rattle.zk_scenario.specs.declared.types.Decl.{Decl}
@@ -10,7 +10,7 @@ use Rattle.zk_model_work.specs.Questions.{is_waiting}
 use Rattle.zk_model_work.specs.State.{State, start_of}
 use Rattle.zk_model_work.specs.Machine.{work_machine}
 use Rattle.zk_worker.specs.Places.{At}
-use Rattle.zk_worker.specs.Follows.{is_done, is_spent_at, log_of}
+use Rattle.zk_worker.specs.Follows.{is_done, log_of}
 use Rattle.zk_trace.specs.declared.trace.Ending.{Ending}
 use Rattle.zk_trace.specs.declared.trace.Ending.TheVariants.{Ended, Stuck, Spent}
 use Rattle.zk_trace.specs.declared.trace.Trace.{Trace}

@@ -105,7 +105,11 @@ fn ending_of(players: &[Player]) -> Ending
     if is_any_spent(players) {
         return Ending::Spent;
     }
-    if are_all_done(players) { Ending::Ended } else { Ending::Stuck }
+    if are_all_done(players) {
+        Ending::Ended
+    } else {
+        Ending::Stuck
+    }
 }
 
 /// Plays a scenario: goes round its players, each making its next possible step, until none has one or one is spent.

@@ -98,9 +98,9 @@ pub nothing_begun : (r : Reading) → has_begun r ≡ false → (r.scripts ≡ [
 nothing_begun r first =
     let parts = or_none (is_some r.current) (nat_lt 0 (length r.scripts)) first in
     (empty r.scripts (ltb-false 0 (length r.scripts) parts.1), is_some-none r.current parts.0) where
-  empty : (xs : List Script) → length xs ≤ 0 → xs ≡ []
-  empty [] h = refl
-  empty (x ∷ xs) h = absurd (omega arith)
+      empty : (xs : List Script) → length xs ≤ 0 → xs ≡ []
+      empty [] h = refl
+      empty (x ∷ xs) h = absurd (omega arith)
 
 -- no script stands yet, so a declaration says nothing of one
 valid-declared : (r : Reading) (d : Decl) → IsValid (parts_of r) → has_begun r ≡ false → player_count (r.decls ++ d ∷ []) ≤ 64 → count_by is_queue (r.decls ++ d ∷ []) ≤ 8 → count_by is_item (r.decls ++ d ∷ []) ≤ 256

@@ -26,5 +26,5 @@ pub lines_text-script_lines : (decls : List Decl) (s : Script) → lines_text (s
 lines_text-script_lines decls s =
     let head = fed (line_text (script_words (name_at decls s.owner))) in
     ap (λ t. head ++ t) (flat_map-append fed (map (call_line decls) s.calls) (line_text end_words ∷ [])
-      ∙ ap (λ t. t ++ (fed (line_text end_words) ++ [])) (flat_map-map fed (call_line decls) s.calls)
-      ∙ ap (λ t. flat_map (λ c. fed (call_line decls c)) s.calls ++ t) (append-nil (fed (line_text end_words))))
+    ∙ ap (λ t. t ++ (fed (line_text end_words) ++ [])) (flat_map-map fed (call_line decls) s.calls)
+    ∙ ap (λ t. flat_map (λ c. fed (call_line decls c)) s.calls ++ t) (append-nil (fed (line_text end_words))))

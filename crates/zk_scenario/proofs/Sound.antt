@@ -23,6 +23,7 @@ valid-line r s text e valid = by_line (line_of text) e where
   by_verdict : (f : Form) (o : Option Why) → verdict r f ≡ o → told o (after r f) ≡ Ok s → IsValid (parts_of s)
   by_verdict f None passes here = let is : after r f ≡ s = cc in subst (λ x. IsValid (parts_of x)) is (IsValid-after r f passes valid)
   by_verdict f (Some reason) passes here = absurd (cc)
+
   by_line : (l : Line) → taken r l ≡ Ok s → IsValid (parts_of s)
   by_line line.Unbuilt here = absurd (cc)
   by_line line.Misspelled here = absurd (cc)
@@ -55,6 +56,7 @@ valid-pieces p (first ∷ more) e = by_header (bytes_eq first (codes "zk 1")) e 
   by_more : (more : List (List ℕ)) → behind_header more ≡ Ok p → IsValid p
   by_more [] here = absurd (cc)
   by_more (piece ∷ more) here = valid-rest 2 start p piece more here valid-start
+
   by_header : (b : Bool) → cond b (behind_header more) (Err (At 1 why.Header)) ≡ Ok p → IsValid p
   by_header true here = by_more more here
   by_header false here = absurd (cc)

@@ -96,10 +96,12 @@ read-after r f e = by_form f (Passes-verdict r f e) where
   item_line item queue here same =
       ap (λ name. line_text (submit_words name (option_map (ref_name r.decls) (option_map (ref r.decls) queue)))) (name_at-object is_item r.decls item here)
       ∙ ap (λ o. line_text (submit_words (named_text item) o)) same
+
   read_call : (c : Call) (text : List ℕ) → not (is_some r.current) ≡ false → call_line r.decls c ≡ text → read_lines_of (called r c) ≡ read_lines_of r ++ text ∷ []
   read_call c text placed same =
       let inside = is_some-some r.current (not-false (is_some r.current) placed) in
       read-called r.decls r.scripts r.current inside.0 c inside.1 ∙ ap (λ l. read_lines_of r ++ l ∷ []) same
+
   by_form : (f : Form) → Passes r f → read_lines_of (after r f) ≡ read_lines_of r ++ line_text (form_words f) ∷ []
   by_form (form.Thread name prio user) p =
       let nothing = nothing_begun r p.placed in
@@ -134,6 +136,7 @@ read-line r s text e = by_line (line_of text) refl e where
       let is : after r f ≡ s = cc in
       ap read_lines_of (sym is) ∙ read-after r f passes ∙ ap (λ l. read_lines_of r ++ l ∷ []) (sym (line_spelled text f same (IsPlain-verdict r f passes)))
   by_verdict f same (Some reason) passes here = absurd (cc)
+
   by_line : (l : Line) → line_of text ≡ l → taken r l ≡ Ok s → read_lines_of s ≡ read_lines_of r ++ text ∷ []
   by_line line.Unbuilt same here = absurd (cc)
   by_line line.Misspelled same here = absurd (cc)
@@ -167,6 +170,7 @@ read-pieces p (first ∷ more) e = by_header (bytes_eq first (codes "zk 1")) ref
   by_more : (more : List (List ℕ)) → behind_header more ≡ Ok p → more ≡ body_lines p.decls p.scripts ++ [] ∷ []
   by_more [] here = absurd (cc)
   by_more (piece ∷ more) here = read-rest 2 start p piece more here
+
   by_header : (b : Bool) → bytes_eq first (codes "zk 1") ≡ b → cond b (behind_header more) (Err (At 1 why.Header)) ≡ Ok p → first ∷ more ≡ lines_of p ++ [] ∷ []
   by_header true same here = ap (λ l. l ∷ more) ((bytes_decides first (codes "zk 1")).0 same) ∙ ap (λ l. codes "zk 1" ∷ l) (by_more more here)
   by_header false same here = absurd (cc)

@@ -21,7 +21,7 @@ pub struct Scenario {
 
 impl Model for Scenario {
     ghost use Rattle.zk_scenario.specs.Grammar.{IsReadable};
-ghost use Rattle.zk_scenario.specs.Parts.{Parts};
+    ghost use Rattle.zk_scenario.specs.Parts.{Parts};
     ghost use Rattle.zk_scenario.specs.Grammar.{IsReadable};
 
     ghost Value = { Parts };

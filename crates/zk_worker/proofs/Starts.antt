@@ -1,5 +1,5 @@
 -- Where a player starts.
-use Rattle.std.proofs.Common.{◌≡◌, ℕ, zero, suc, ◌<◌, ◌≤◌, ◌∙◌, Option, Some, None, arith, length, List, [], ◌∷◌, ◌++◌, reverse, refl, sym, ap, subst}
+use Rattle.std.proofs.Common.{◌≡◌, ℕ, zero, suc, ◌<◌, ◌≤◌, ◌∙◌, Option, Some, None, arith, length, List, [], ◌∷◌, refl, ap, subst}
 use Rattle.std.specs.Option.{option_and_then, option_map}
 use Rattle.std.specs.List.{slice_get}
 use Rattle.std.proofs.lemmas.Option.{option_and_then_some}
@@ -7,12 +7,12 @@ use Rattle.zk_worker.proofs.Numbers.{players-below}
 use Rattle.zk_base.specs.declared.ids.Who.{Who}
 use Rattle.zk_scenario.specs.declared.types.Decl.{Decl}
 use Rattle.zk_scenario.specs.Parts.{Parts}
-use Rattle.zk_scenario.specs.Players.{players, prio_of}
+use Rattle.zk_scenario.specs.Players.{players}
 use Rattle.zk_worker.specs.declared.steps.Spot.{Spot}
 use Rattle.zk_worker.specs.declared.answers.Answered.{Answered}
 use Rattle.zk_worker.specs.declared.frames.Frame.{Frame}
 use Rattle.zk_worker.specs.Places.{At}
-use Rattle.zk_worker.specs.Protocol.{starting, start_at, settled, first_frame, role_at}
+use Rattle.zk_worker.specs.Protocol.{starting, start_at}
 
 -- equal parts make equal places
 pub At-same : (w w' : Who) (f f' : List Frame) (a a' : List Answered) (p p' : List Spot) → w ≡ w' → f ≡ f' → a ≡ a' → p ≡ p' →

@@ -1,4 +1,4 @@
-use Rattle.std.specs.Prelude.{◌≡◌, ℕ, Bool, true, false, List, length, slice_get, All}
+use Rattle.std.specs.Prelude.{◌≡◌, Bool, true, false, List, length, slice_get, All}
 use Rattle.std.specs.Option.{option_map_or}
 use Rattle.zk_scenario.specs.declared.types.Decl.{Decl}
 use Rattle.zk_scenario.specs.Players.{places, is_queue, is_item}

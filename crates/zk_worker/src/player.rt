@@ -164,7 +164,11 @@ impl Player {
         if self.is_spent() {
             return PlayerState::Spent;
         }
-        if self.is_done() { PlayerState::Done } else { PlayerState::Standing }
+        if self.is_done() {
+            PlayerState::Done
+        } else {
+            PlayerState::Standing
+        }
     }
 
     /// Whether it is a thread that is through its script, or a worker between two runs.

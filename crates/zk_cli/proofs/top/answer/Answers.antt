@@ -13,11 +13,11 @@ returns-in-Ok-write_text g c =
     let old = g.K.Sink.held c.args.sink.now in
     let new = g.K.Sink.held c.write_text.new.sink in
     answered c.in-Ok.status c.in-Ok.output.items c.in-Ok.ensures
-        (subst (λ (text : List ℕ). Appends old new text) c.deref.ensures.value c.in-Ok-write_text.ensures.whole)
+    (subst (λ (text : List ℕ). Appends old new text) c.deref.ensures.value c.in-Ok-write_text.ensures.whole)
 
 pub returns : goal.returns
 returns g c =
     let old = g.K.Sink.held c.args.sink.now in
     let new = g.K.Sink.held c.write_text.new.sink in
     cut_short c.in-Ok.status c.in-Ok.output.items c.in-Ok.ensures
-        (subst (λ (text : List ℕ). AppendsFront old new text) c.deref.ensures.value c.in-Err.ensures.front) c.in-Err.ensures.cause.1
+    (subst (λ (text : List ℕ). AppendsFront old new text) c.deref.ensures.value c.in-Err.ensures.front) c.in-Err.ensures.cause.1

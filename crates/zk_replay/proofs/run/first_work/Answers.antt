@@ -2,7 +2,7 @@ use Rattle.std.proofs.Common.{◌≡◌, ◌≢◌, ◌∙◌, Bool, List, ℕ, 
 use Rattle.zk_scenario.specs.declared.types.Decl.{Decl}
 use Rattle.zk_scenario.specs.Players.{places, is_thread, is_queue}
 use Rattle.zk_replay.specs.Replay.{is_on}
-use Rattle.zk_replay.proofs.Beginning.{few-items, few-queues, same-lengths, range_differs, few-workers}
+use Rattle.zk_replay.proofs.Beginning.{few-items, same-lengths, range_differs, few-workers}
 use Rattle.zk_replay.proofs.run.first_work.Goals as goal
 
 pub overflow_cast-items : goal.overflow_cast-items
@@ -16,15 +16,15 @@ new-requires-clause-same c =
     let s = c.args.scenario.now in
     let workers = ap (λ (l : List ℕ). length l) (c.deref.ensures.value ∙ c.in_ok-workers.ensures) in
     let started : c.deref-2.result.now ≡ map (is_on s.decls) (places is_queue s.decls) =
-        c.deref-2.ensures.value ∙ c.in_ok-started.ensures
-        ∙ ap (λ (l : List Decl). map (is_on l) c.queues.result.now) c.decls.ensures.all ∙ ap (map (is_on s.decls)) c.queues.ensures in
+    c.deref-2.ensures.value ∙ c.in_ok-started.ensures
+    ∙ ap (λ (l : List Decl). map (is_on l) c.queues.result.now) c.decls.ensures.all ∙ ap (map (is_on s.decls)) c.queues.ensures in
     workers ∙ same-lengths s ∙ sym (ap (λ (l : List Bool). length l) started)
 
 pub new-requires-clause-differ : goal.new-requires-clause-differ
 new-requires-clause-differ c =
     let decls = c.args.scenario.now.decls in
     subst (λ (l : List ℕ). AllPairs (λ a b. a ≢ b) l) (sym (c.deref.ensures.value ∙ c.in_ok-workers.ensures))
-        (range_differs (length (places is_thread decls)) (length (places is_queue decls)))
+    (range_differs (length (places is_thread decls)) (length (places is_queue decls)))
 
 pub new-requires-clause-queues : goal.new-requires-clause-queues
 new-requires-clause-queues c =

@@ -19,13 +19,13 @@ pub play_rounds-requires-clause-ready : goal.play_rounds-requires-clause-ready
 play_rounds-requires-clause-ready c =
     let s = c.args.scenario.now in
     subst (λ (w : World). IsReady s w) (sym (world-first s (work_history c.in_ok-work.work) c.in_ok-players.players.items c.in_ok-work.ensures.none c.in_ok-players.ensures))
-        (ready-first s c.first_work.ensures.valid)
+    (ready-first s c.first_work.ensures.valid)
 
 pub play_rounds-requires-clause-unspent : goal.play_rounds-requires-clause-unspent
 play_rounds-requires-clause-unspent c =
     let s = c.args.scenario.now in
     subst (λ (w : World). is_spent w ≡ false) (sym (world-first s (work_history c.in_ok-work.work) c.in_ok-players.players.items c.in_ok-work.ensures.none c.in_ok-players.ensures))
-        (unspent-first s)
+    (unspent-first s)
 
 pub returns-clause-replay : goal.returns-clause-replay
 returns-clause-replay c =
@@ -34,6 +34,6 @@ returns-clause-replay c =
     let new = world (work_history c.play_rounds.new.service) c.play_rounds.new.players.items in
     let so_far = c.in_ok-play_rounds.ensures.rounds in
     replayed s (work_start c.in_ok-work.work) old new c.ending_of-ending.result c.from_vec.result c.in_ok-logs.logs c.first_work.ensures.valid
-        c.in_ok-work.ensures.start (world-first s (work_history c.in_ok-work.work) c.in_ok-players.players.items c.in_ok-work.ensures.none c.in_ok-players.ensures)
-        so_far.0 so_far.1 c.in_ok-play_rounds.ensures.over
-        (c.ending_of-ending.ensures ∙ ap ending_by c.deref.ensures.value) (c.from_vec.ensures ∙ c.into_history.ensures.history) c.in_ok-logs.ensures
+    c.in_ok-work.ensures.start (world-first s (work_history c.in_ok-work.work) c.in_ok-players.players.items c.in_ok-work.ensures.none c.in_ok-players.ensures)
+    so_far.0 so_far.1 c.in_ok-play_rounds.ensures.over
+    (c.ending_of-ending.ensures ∙ ap ending_by c.deref.ensures.value) (c.from_vec.ensures ∙ c.into_history.ensures.history) c.in_ok-logs.ensures

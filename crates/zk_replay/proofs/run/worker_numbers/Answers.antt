@@ -1,4 +1,4 @@
-use Rattle.std.proofs.Common.{◌≡◌, ◌+◌, ◌∙◌, List, [], ◌∷◌, ◌++◌, ℕ, length, ap, arith, rules}
+use Rattle.std.proofs.Common.{◌+◌, ◌∙◌, List, [], ◌∷◌, ◌++◌, ℕ, length, ap, rules}
 use Rattle.zk_replay.proofs.Beginning.{few-threads, few-queues, range_more}
 use Rattle.zk_replay.proofs.run.worker_numbers.Goals as goal
 

@@ -1,4 +1,4 @@
-use Rattle.std.proofs.Common.{◌≡◌, ◌+◌, ◌-◌, ◌∙◌, suc, arith}
+use Rattle.std.proofs.Common.{◌+◌, ◌-◌, ◌∙◌, suc, arith}
 use Rattle.zk_replay.specs.Turning.{world}
 use Rattle.zk_replay.proofs.Laps.{turned-at, within-left, within-spent, within-next}
 use Rattle.zk_replay.proofs.turns.play_round.Goals as goal

@@ -14,9 +14,9 @@ returns-clause-text c =
     let scripts = flat_map (λ script. lines_text (script_lines p.decls script)) p.scripts in
     let same = c.decls-decls.ensures.all in
     let two : c.put_decls.new.out.items ≡ out ++ head ++ decls =
-        c.in_ok-put_decls.ensures ∙ ap (λ l. c.put.new.out.items ++ flat_map (λ decl. fed (decl_line decl)) l) same ∙ ap (λ l. l ++ decls) c.in_ok-put.ensures.ok in
+    c.in_ok-put_decls.ensures ∙ ap (λ l. c.put.new.out.items ++ flat_map (λ decl. fed (decl_line decl)) l) same ∙ ap (λ l. l ++ decls) c.in_ok-put.ensures.ok in
     IfOk-equal _ _ _ _ c.put_scripts.ensures
-      (ap (λ ds. c.put_decls.new.out.items ++ flat_map (λ script. lines_text (script_lines ds script)) c.scripts.result.now) same
-      ∙ ap (λ ss. c.put_decls.new.out.items ++ flat_map (λ script. lines_text (script_lines p.decls script)) ss) c.scripts.ensures
-      ∙ ap (λ l. l ++ scripts) two ∙ append_assoc (out ++ head) decls scripts ∙ append_assoc out head (decls ++ scripts)
-      ∙ ap (λ l. out ++ (head ++ l)) (lines_text-body_lines p.decls p.scripts))
+    (ap (λ ds. c.put_decls.new.out.items ++ flat_map (λ script. lines_text (script_lines ds script)) c.scripts.result.now) same
+    ∙ ap (λ ss. c.put_decls.new.out.items ++ flat_map (λ script. lines_text (script_lines p.decls script)) ss) c.scripts.ensures
+    ∙ ap (λ l. l ++ scripts) two ∙ append_assoc (out ++ head) decls scripts ∙ append_assoc out head (decls ++ scripts)
+    ∙ ap (λ l. out ++ (head ++ l)) (lines_text-body_lines p.decls p.scripts))

@@ -17,4 +17,4 @@ returns c =
     let one : c.put_head.new.out.items ≡ out ++ head = c.in_ok-put_head.ensures ∙ ap (λ name. out ++ fed (line_text (script_words name))) c.name_at.ensures in
     let two : c.put_calls.new.out.items ≡ out ++ head ++ calls = c.in_ok-put_calls.ensures ∙ ap (λ l. c.put_head.new.out.items ++ flat_map (λ call. fed (call_line decls call)) l) c.items.ensures ∙ ap (λ l. l ++ calls) one in
     IfOk-equal _ _ _ _ c.put_tail.ensures
-      (ap (λ l. l ++ tail) two ∙ append_assoc (out ++ head) calls tail ∙ append_assoc out head (calls ++ tail) ∙ ap (λ l. out ++ l) (sym (lines_text-script_lines decls script)))
+    (ap (λ l. l ++ tail) two ∙ append_assoc (out ++ head) calls tail ∙ append_assoc out head (calls ++ tail) ∙ ap (λ l. out ++ l) (sym (lines_text-script_lines decls script)))
