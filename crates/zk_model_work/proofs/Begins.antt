@@ -176,11 +176,11 @@ begun-history start h n work =
 pub each_begun_once : EachBegunOnce
 each_begun_once start h n work = let all = begun-history start h n work in let most = begun-most (admission_after start h n) in omega arith
 
-alive : (o : Option Admission) (life : Life) → option_map (λ a. a.life) o ≡ Some life → (a : Admission) × (o ≡ Some a) × (a.life ≡ life)
+pub alive : (o : Option Admission) (life : Life) → option_map (λ a. a.life) o ≡ Some life → (a : Admission) × (o ≡ Some a) × (a.life ≡ life)
 alive None life is = absurd (cc)
 alive (Some a) life is = (a, refl, same_Some a.life life is)
 
-state_after-append : (s : State) (front rest : List (Entry WorkOp WorkReply)) → state_after work_machine s (front ++ rest) ≡ state_after work_machine (state_after work_machine s front) rest
+pub state_after-append : (s : State) (front rest : List (Entry WorkOp WorkReply)) → state_after work_machine s (front ++ rest) ≡ state_after work_machine (state_after work_machine s front) rest
 state_after-append s [] rest = refl
 state_after-append s (e ∷ es) rest = state_after-append (work_next s e.who e.op) es rest
 
@@ -205,11 +205,11 @@ run_or_dropped start h n life work is over =
       which Dropped over all = inr (refl, all)
 
 -- a later part of a history, and one entry of it, replay from the state after the front
-Replays-rest : (s : State) (front rest : List (Entry WorkOp WorkReply)) → Replays work_machine s (front ++ rest) → Replays work_machine (state_after work_machine s front) rest
+pub Replays-rest : (s : State) (front rest : List (Entry WorkOp WorkReply)) → Replays work_machine s (front ++ rest) → Replays work_machine (state_after work_machine s front) rest
 Replays-rest s [] rest replays = replays
 Replays-rest s (e ∷ es) rest replays = Replays-rest (work_next s e.who e.op) es rest replays.1
 
-Begun-entry : (s : State) (e : Entry WorkOp WorkReply) (queue : ℕ) → e.op ≡ Begin queue → work_reply s e.who e.op ≡ Some e.reply → Begun s.admissions queue e.reply
+pub Begun-entry : (s : State) (e : Entry WorkOp WorkReply) (queue : ℕ) → e.op ≡ Begin queue → work_reply s e.who e.op ≡ Some e.reply → Begun s.admissions queue e.reply
 Begun-entry s e queue op is = Begun-reply s e.who queue e.reply (ap (work_reply s e.who) (sym op) ∙ is)
 
 same_run : (item item' number number' : ℕ) (reply : WorkReply) → reply ≡ Run item number → reply ≡ Run item' number' → number' ≡ number

@@ -1,14 +1,17 @@
-use Rattle.std.specs.Prelude.{◌≡◌, ℕ, ◌<◌, ◌≤◌, ◌⊎◌, Bool, false, ◌==◌, count_by, Option, Some, option_map, List, [], ◌∷◌, ◌++◌, slice_get}
+use Rattle.std.specs.Prelude.{◌≡◌, ℕ, ◌<◌, ◌≤◌, ◌⊎◌, Bool, true, false, ◌==◌, ◌&&◌, count_by, Option, Some, option_map, List, [], ◌∷◌, ◌++◌, length, slice_get}
+use Rattle.std.specs.List.{list_any}
 use Rattle.zk_base.specs.declared.ids.Entry.{Entry}
 use Rattle.zk_base.specs.Legal.{state_after, IsLegal}
 use Rattle.zk_model_work.specs.declared.ops.WorkOp.{WorkOp}
-use Rattle.zk_model_work.specs.declared.ops.WorkOp.TheVariants.{Begin}
+use Rattle.zk_model_work.specs.declared.ops.WorkOp.TheVariants.{Submit, Cancel, Begin, End}
 use Rattle.zk_model_work.specs.declared.ops.WorkReply.{WorkReply}
-use Rattle.zk_model_work.specs.declared.ops.WorkReply.TheVariants.{Run}
+use Rattle.zk_model_work.specs.declared.ops.WorkReply.TheVariants.{Sub, Run}
+use Rattle.zk_model_work.specs.declared.ops.Submitted.{Submitted}
+use Rattle.zk_model_work.specs.declared.ops.Submitted.TheVariants.{Fresh, Rerun}
 use Rattle.zk_model_work.specs.declared.parts.Life.{Life}
-use Rattle.zk_model_work.specs.declared.parts.Life.TheVariants.{Ended, Dropped}
+use Rattle.zk_model_work.specs.declared.parts.Life.TheVariants.{Running, Ended, Dropped}
 use Rattle.zk_model_work.specs.declared.parts.Admission.{Admission}
-use Rattle.zk_model_work.specs.Questions.{is_waiting, is_open}
+use Rattle.zk_model_work.specs.Questions.{is_waiting, is_open, running}
 use Rattle.zk_model_work.specs.State.{State}
 use Rattle.zk_model_work.specs.Machine.{work_machine}
 
@@ -58,3 +61,71 @@ abbrev pub BeginsRise : Type 0
 BeginsRise = (start : State) (front between rest : List (Entry WorkOp WorkReply)) (first second : Entry WorkOp WorkReply) (queue item next_item number next : ℕ) →
     IsWorkHistory start (front ++ first ∷ (between ++ second ∷ rest)) →
     first.op ≡ Begin queue → first.reply ≡ Run item number → second.op ≡ Begin queue → second.reply ≡ Run next_item next → number < next
+
+-- the operation ends what this queue runs
+abbrev pub ends : ℕ → WorkOp → Bool
+ends queue (End ended) = queue == ended
+ends queue _ = false
+
+-- an admission that runs goes on until an end at its queue
+abbrev pub RunsToItsEnd : Type 0
+RunsToItsEnd = (start : State) (front between : List (Entry WorkOp WorkReply)) (number : ℕ) (a : Admission) → admission_after start front number ≡ Some a → a.life ≡ Running →
+    list_any (λ e. ends a.queue e.op) between ≡ false → admission_after start (front ++ between) number ≡ Some a
+
+-- while an admission of an item runs, none of that item is begun, on any queue
+abbrev pub NotBegunDuringRun : Type 0
+NotBegunDuringRun = (start : State) (front rest : List (Entry WorkOp WorkReply)) (e : Entry WorkOp WorkReply) (item number running : ℕ) (a : Admission) → IsWorkHistory start (front ++ e ∷ rest) →
+    admission_after start front running ≡ Some a → a.item ≡ item → a.life ≡ Running → e.reply ≡ Run item number → ⊥
+
+-- between two begins of one item, on whatever queues, stands an end at the queue of the first
+abbrev pub EndsBetweenBegins : Type 0
+EndsBetweenBegins = (start : State) (front between rest : List (Entry WorkOp WorkReply)) (first second : Entry WorkOp WorkReply) (queue item number next : ℕ) →
+    IsWorkHistory start (front ++ first ∷ (between ++ second ∷ rest)) →
+    first.op ≡ Begin queue → first.reply ≡ Run item number → second.reply ≡ Run item next → list_any (λ e. ends queue e.op) between ≡ true
+
+-- the number of the item's running admission after a history, if it runs
+abbrev pub running_after : State → List (Entry WorkOp WorkReply) → ℕ → Option ℕ
+running_after start h item = running (state_after work_machine start h).admissions item
+
+-- how many admissions a history makes, which is the number of the next one
+abbrev pub made_after : State → List (Entry WorkOp WorkReply) → ℕ
+made_after start h = length (state_after work_machine start h).admissions
+
+-- it is a submission of the item
+abbrev pub submits : ℕ → WorkOp → Bool
+submits item (Submit submitted named) = submitted == item
+submits item _ = false
+
+-- the submission was admitted
+abbrev pub is_admitted : Submitted → Bool
+is_admitted (Fresh number queue) = true
+is_admitted (Rerun number queue) = true
+is_admitted _ = false
+
+-- the reply says that a submission was admitted
+abbrev pub says_admitted : WorkReply → Bool
+says_admitted (Sub submitted) = is_admitted submitted
+says_admitted _ = false
+
+-- the entry makes an admission of the item
+abbrev pub admits : ℕ → Entry WorkOp WorkReply → Bool
+admits item e = submits item e.op && says_admitted e.reply
+
+-- where a cancel found a run of its item, no admission of the item is made until that run has ended
+abbrev pub NoneAdmittedDuringCancel : Type 0
+NoneAdmittedDuringCancel = (start : State) (front during rest : List (Entry WorkOp WorkReply)) (e next : Entry WorkOp WorkReply) (item run : ℕ) →
+    IsWorkHistory start (front ++ e ∷ (during ++ next ∷ rest)) →
+    e.op ≡ Cancel item → running_after start front item ≡ Some run → life_after start (front ++ e ∷ during) run ≡ Some Running → admits item next ≡ false
+
+-- each begin of an item after a cancel of it is of an admission made after the cancel
+abbrev pub BegunMadeAfterCancel : Type 0
+BegunMadeAfterCancel = (start : State) (front between rest : List (Entry WorkOp WorkReply)) (e later : Entry WorkOp WorkReply) (item number : ℕ) →
+    IsWorkHistory start (front ++ e ∷ (between ++ later ∷ rest)) →
+    e.op ≡ Cancel item → later.reply ≡ Run item number → made_after start (front ++ e ∷ []) ≤ number
+
+-- and, where the cancel found a run, of an admission made after the end of that run
+abbrev pub BegunMadeAfterRun : Type 0
+BegunMadeAfterRun = (start : State) (front during between rest : List (Entry WorkOp WorkReply)) (e later : Entry WorkOp WorkReply) (item run number : ℕ) →
+    IsWorkHistory start (front ++ e ∷ (during ++ (between ++ later ∷ rest))) →
+    e.op ≡ Cancel item → running_after start front item ≡ Some run → life_after start (front ++ e ∷ during) run ≡ Some Running → later.reply ≡ Run item number →
+    made_after start (front ++ e ∷ during) ≤ number

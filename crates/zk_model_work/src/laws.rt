@@ -1,4 +1,4 @@
-ghost use Rattle.zk_model_work.specs.Laws.{EachBegunOnce, DroppedNeverBegun, RunOrDropped, NoneWaitsBefore, BeginsRise};
+ghost use Rattle.zk_model_work.specs.Laws.{EachBegunOnce, DroppedNeverBegun, RunOrDropped, NoneWaitsBefore, BeginsRise, RunsToItsEnd, NotBegunDuringRun, EndsBetweenBegins, NoneAdmittedDuringCancel, BegunMadeAfterCancel, BegunMadeAfterRun};
 
 /// Of every legal work history: each admission is run at most once, and one that was dropped never.
 pub fn runs_once()
@@ -11,4 +11,21 @@ pub fn runs_once()
 pub fn begins_in_order()
     ensures rise { BeginsRise }
     ensures first { NoneWaitsBefore }
+{}
+
+/// Of every legal work history: an item that runs isn't begun again, on any queue, until that run has
+/// ended.
+pub fn never_overlaps()
+    ensures ends { RunsToItsEnd }
+    ensures apart { NotBegunDuringRun }
+    ensures between { EndsBetweenBegins }
+{}
+
+/// Of every legal work history: a cancel completes at the end of the run that it found, or at once
+/// where it found none. Until then no admission of its item is made, and what is begun of the item
+/// later was admitted after that.
+pub fn cancel_holds()
+    ensures admits { NoneAdmittedDuringCancel }
+    ensures after { BegunMadeAfterCancel }
+    ensures run { BegunMadeAfterRun }
 {}

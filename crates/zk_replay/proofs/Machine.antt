@@ -1,7 +1,7 @@
 -- What the operations of the work machine leave of its queues and their runs.
-use Rattle.std.proofs.Common.{◌≡◌, ◌≢◌, ◌⊎◌, ℕ, zero, suc, ◌+◌, ◌<◌, ◌≤◌, Bool, true, false, not, ◌&&◌, cond, eqb, Option, Some, None, is_some, is_none, List, [], ◌∷◌, ◌++◌, length, map, All, refl, sym, ap, subst, ◌∙◌, arith, eq-eqb, nat_lt}
-use Rattle.std.specs.List.{slice_get, position, position_or_len}
-use Rattle.std.specs.Option.{option_map, option_map_or, option_and_then, option_or}
+use Rattle.std.proofs.Common.{◌≡◌, ◌≢◌, ℕ, zero, suc, ◌+◌, ◌<◌, Bool, true, false, not, ◌&&◌, cond, eqb, Option, Some, None, is_some, is_none, List, [], ◌∷◌, length, map, All, refl, sym, ap, subst, ◌∙◌, arith, eq-eqb, nat_lt}
+use Rattle.std.specs.List.{slice_get, position_or_len}
+use Rattle.std.specs.Option.{option_map, option_map_or, option_and_then}
 use Rattle.std.proofs.lemmas.Bool.{eqb-true, and_parts, and_right, and_left, and_from}
 use Rattle.std.proofs.lemmas.Bool.Decides.{nat_tests}
 use Rattle.std.proofs.lemmas.List.Elements.{All-nil, All-cons, All-head, All-tail, All-push}
@@ -17,11 +17,11 @@ use Rattle.zk_model_work.specs.declared.ops.WorkOp.TheVariants as ops
 use Rattle.zk_model_work.specs.declared.ops.Submitted.{Submitted}
 use Rattle.zk_model_work.specs.declared.ops.Submitted.TheVariants.{Already, Fresh, Rerun, Refused}
 use Rattle.zk_model_work.specs.declared.ops.WorkReply.{WorkReply}
-use Rattle.zk_model_work.specs.declared.ops.WorkReply.TheVariants.{Sub, Flags, Done, Run}
-use Rattle.zk_model_work.specs.Lists.{places_from, places, first as first_of}
-use Rattle.zk_model_work.specs.Questions.{is_waiting, is_running, waits_for, waits_as, runs_on, running, waiting, is_cancelling, run, line, is_empty_and_idle}
+use Rattle.zk_model_work.specs.declared.ops.WorkReply.TheVariants.{Run}
+use Rattle.zk_model_work.specs.Lists.{places_from, first as first_of}
+use Rattle.zk_model_work.specs.Questions.{is_waiting, waits_for, waits_as, runs_on, running, waiting, is_cancelling, run, line, is_empty_and_idle}
 use Rattle.zk_model_work.specs.State.{State}
-use Rattle.zk_model_work.specs.Machine.{work_reply, work_next, changed, is_chained, admission, submission, submission_at, submission_to, target, submit, set_life, with_life, begin, end_one, end_run, drop_one, drop_waiting, start, settle_from, settle_one, is_worker, may_begin, may_end, taken_up}
+use Rattle.zk_model_work.specs.Machine.{work_reply, work_next, is_chained, admission, submission, submission_at, submission_to, target, submit, set_life, with_life, begin, end_one, end_run, drop_one, drop_waiting, start, settle_from, is_worker, may_begin, taken_up}
 use Rattle.zk_replay.specs.Tending.{IsIdle}
 
 -- a submission that admits goes to one of so many queues
@@ -42,8 +42,8 @@ admission-home admissions item number many less =
 submission_to-home : (admissions : List Admission) (caller : Option ℕ) (item number : ℕ) (queue : Queue) (many : ℕ) → number < many → Home many (submission_to admissions caller item number queue)
 submission_to-home admissions caller item number queue many less =
     cond-home many (not queue.started) (Refused errors.NoDev) _ tt
-        (cond-home many (queue.draining && not (is_chained queue caller)) (Refused errors.Busy) _ tt
-            (cond-home many (queue.plugged && not queue.draining) (Refused errors.Busy) _ tt (admission-home admissions item number many less)))
+    (cond-home many (queue.draining && not (is_chained queue caller)) (Refused errors.Busy) _ tt
+    (cond-home many (queue.plugged && not queue.draining) (Refused errors.Busy) _ tt (admission-home admissions item number many less)))
 
 submission_at-home : (admissions : List Admission) (queues : List Queue) (caller : Option ℕ) (item : ℕ) (to : Option ℕ) → Home (length queues) (submission_at admissions queues caller item to)
 submission_at-home admissions queues caller item None = tt
@@ -57,7 +57,7 @@ submission-home : (admissions : List Admission) (marks : List ℕ) (queues : Lis
     Home (length queues) (submission admissions marks queues caller item named)
 submission-home admissions marks queues caller item named =
     cond-home (length queues) (is_cancelling admissions marks item) (Refused errors.Busy) _ tt
-        (cond-home (length queues) (is_some (waiting admissions item)) Already _ tt (submission_at-home admissions queues caller item (target admissions item named)))
+    (cond-home (length queues) (is_some (waiting admissions item)) Already _ tt (submission_at-home admissions queues caller item (target admissions item named)))
 
 -- what holds of each admission and of a new one holds after a submission
 submit-all : (P : Admission → Type 0) (admissions : List Admission) (item many : ℕ) (answer : Submitted) → Home many answer →
@@ -186,7 +186,7 @@ pub idle-called : (st : State) (who : Who) (op : WorkOp) (queue : ℕ) → IsCal
 idle-called st who (ops.Submit item named) queue called idle =
     let P : Admission → Type 0 = λ a. runs_on queue a ≡ false in
     submit-all P st.admissions item (length st.queues) (submission st.admissions st.marks st.queues (Some who.number) item named)
-        (submission-home st.admissions st.marks st.queues (Some who.number) item named) (λ q less. and_right (eqb q queue) false refl) idle
+    (submission-home st.admissions st.marks st.queues (Some who.number) item named) (λ q less. and_right (eqb q queue) false refl) idle
 idle-called st who (ops.Cancel item) queue called idle =
     let P : Admission → Type 0 = λ a. runs_on queue a ≡ false in
     map-all P (drop_one item) (λ a none. cond-keeps P (waits_as item a) (with_life Dropped a) a (and_right (eqb a.queue queue) false refl) none) st.admissions idle
@@ -216,9 +216,11 @@ begin-told st who queue reply is =
     by_admission : (number : ℕ) (o : Option Admission) → option_map (λ (a : Admission). Run a.item number) o ≡ Some reply → (item : ℕ) × (number : ℕ) × (reply ≡ Run item number)
     by_admission number None is = absurd (cc)
     by_admission number (Some a) is = (a.item, number, cc)
+
     by_number : (o : Option ℕ) → option_and_then (λ number. option_map (λ (a : Admission). Run a.item number) (slice_get st.admissions number)) o ≡ Some reply → (item : ℕ) × (number : ℕ) × (reply ≡ Run item number)
     by_number None is = absurd (cc)
     by_number (Some number) is = by_admission number (slice_get st.admissions number) is
+
     by_may : (b : Bool) → cond b (taken_up st.admissions queue) None ≡ Some reply → (item : ℕ) × (number : ℕ) × (reply ≡ Run item number)
     by_may true is = by_number (first_of (line st.admissions queue)) is
     by_may false is = absurd (cc)
@@ -235,6 +237,7 @@ idle-next st who (ops.Begin queue') reply queue worker is other made idle =
   where
     differs : queue' ≢ queue
     differs same = other (worker-is st queue who.number worker is (subst (λ (q : ℕ). is_worker st.queues q who.number ≡ true) same (begins-as st who queue' reply made)))
+
     apart : (a : Admission) → eqb a.queue queue' ≡ true → eqb a.queue queue ≡ false
     apart a to = grind (arith, nat_tests, eqb-true a.queue queue' to, differs)
 idle-next st who (ops.End queue') reply queue worker is other made idle =
@@ -289,8 +292,10 @@ none-waits-for st who queue is idle none = none-where (waits_for queue) 0 st.adm
   where
     may : may_begin st.admissions st.queues who queue ≡ true
     may = and_from (is_worker st.queues queue who.number) (is_none (run st.admissions queue)) (is-worker st queue who.number is) (ap (λ (o : Option ℕ). is_none o) (run-none queue st.admissions idle))
+
     taken : taken_up st.admissions queue ≡ None
     taken = sym (ap (λ b. cond b (taken_up st.admissions queue) None) may) ∙ none
+
     line_none : (o : Option ℕ) → first_of (line st.admissions queue) ≡ o → first_of (line st.admissions queue) ≡ None
     line_none None here = here
     line_none (Some p) here =
@@ -298,7 +303,7 @@ none-waits-for st who queue is idle none = none-where (waits_for queue) 0 st.adm
         let same : there.0 ≡ p = omega (arith, there.1) in
         let a = there.2 in
         let some : taken_up st.admissions queue ≡ Some (Run a.item p) =
-            ap (λ (o : Option ℕ). option_and_then (λ number. option_map (λ (b : Admission). Run b.item number) (slice_get st.admissions number)) o) here
-            ∙ ap (λ (o : Option Admission). option_map (λ (b : Admission). Run b.item p) o) (ap (λ (k : ℕ). slice_get st.admissions k) (sym same) ∙ there.3) in
+        ap (λ (o : Option ℕ). option_and_then (λ number. option_map (λ (b : Admission). Run b.item number) (slice_get st.admissions number)) o) here
+        ∙ ap (λ (o : Option Admission). option_map (λ (b : Admission). Run b.item p) o) (ap (λ (k : ℕ). slice_get st.admissions k) (sym same) ∙ there.3) in
         let none_taken = sym some ∙ taken in
         absurd (cc)

@@ -1,0 +1,476 @@
+-- An item runs once at a time, and its next admission waits at the queue that runs it.
+use Rattle.std.proofs.Common.{◌≡◌, ℕ, zero, suc, ◌+◌, ◌<◌, ◌≢◌, ◌⊎◌, inl, inr, Bool, true, false, not, ◌&&◌, ◌||◌, cond, eqb, ltb, Option, Some, None, is_some, is_none, option_map, List, [], ◌∷◌, ◌++◌, length, map, find, slice_get, refl, sym, ap, subst, ◌∙◌, arith}
+use Rattle.std.specs.Cmp.{first_so, second_so}
+use Rattle.std.specs.List.{position, position_or_len, list_any}
+use Rattle.std.specs.Option.{option_map_or, option_or}
+use Rattle.std.proofs.lemmas.Bool.{eqb-true, eq-eqb, false≢true, cases_order}
+use Rattle.std.proofs.lemmas.Bool.Decides.{eqb_tells, nat_tests}
+use Rattle.std.proofs.lemmas.Option.{slice_get-map, slice_get_within, same_Some}
+use Rattle.zk_base.specs.declared.ids.Who.{Who}
+use Rattle.zk_base.specs.declared.ids.Entry.{Entry}
+use Rattle.zk_base.specs.Legal.{state_after, Replays}
+use Rattle.zk_base.specs.declared.errors.Errno.TheVariants.{Busy, Inval, NoDev}
+use Rattle.zk_model_work.specs.declared.parts.Life.{Life}
+use Rattle.zk_model_work.specs.declared.parts.Life.TheVariants.{Waiting, Running, Ended, Dropped}
+use Rattle.zk_model_work.specs.declared.parts.Admission.{Admission}
+use Rattle.zk_model_work.specs.declared.parts.Queue.{Queue}
+use Rattle.zk_model_work.specs.declared.ops.WorkOp.{WorkOp}
+use Rattle.zk_model_work.specs.declared.ops.WorkOp.TheVariants.{Submit, Cancel, Start, Begin, End}
+use Rattle.zk_model_work.specs.declared.ops.WorkReply.{WorkReply}
+use Rattle.zk_model_work.specs.declared.ops.WorkReply.TheVariants as replies
+use Rattle.zk_model_work.specs.declared.ops.Submitted.{Submitted}
+use Rattle.zk_model_work.specs.declared.ops.Submitted.TheVariants.{Already, Fresh, Rerun, Refused}
+use Rattle.zk_model_work.specs.Lists.{first}
+use Rattle.zk_model_work.specs.Questions.{is_waiting, is_running, is_open, waits_as, runs_as, runs_on, waiting, running, running_queue, last_queue, line, run, is_cancelling}
+use Rattle.zk_model_work.specs.State.{State}
+use Rattle.zk_model_work.specs.Machine.{work_next, work_reply, work_machine, is_chained, target, admission, submission_to, submission_at, submission, submit, set_life, with_life, begin, end_one, drop_one, may_begin, may_end, is_worker, is_started, taken_up}
+use Rattle.zk_model_work.specs.Laws.{IsWorkHistory, ends, NotBegunDuringRun, RunsToItsEnd, EndsBetweenBegins}
+use Rattle.zk_model_work.proofs.Lives.{IsFirst, IsFirst-line, set_life-at, set_life-aside}
+use Rattle.zk_model_work.proofs.Begins.{Begun, Begun-reply, Begun-entry, state_after-append, Replays-rest}
+
+-- what a life is
+
+pub waiting-running : (life : Life) → is_waiting life ≡ true → is_running life ≡ true → ⊥
+waiting-running Waiting w r = false≢true r
+waiting-running Running w r = false≢true w
+waiting-running Ended w r = false≢true w
+waiting-running Dropped w r = false≢true w
+
+open-waiting : (life : Life) → is_waiting life ≡ true → is_open life ≡ true
+open-waiting Waiting w = refl
+open-waiting Running w = absurd (cc)
+open-waiting Ended w = absurd (cc)
+open-waiting Dropped w = absurd (cc)
+
+open-running : (life : Life) → is_running life ≡ true → is_open life ≡ true
+open-running Waiting r = absurd (cc)
+open-running Running r = refl
+open-running Ended r = absurd (cc)
+open-running Dropped r = absurd (cc)
+
+pub runs-open : (life : Life) → is_open life ≡ true → is_waiting life ≡ false → is_running life ≡ true
+runs-open Waiting o w = absurd (cc)
+runs-open Running o w = refl
+runs-open Ended o w = absurd (cc)
+runs-open Dropped o w = absurd (cc)
+
+-- where no place is found, no element passes
+abbrev found_at : ℕ → ℕ → Option ℕ
+found_at place long = cond (ltb place long) (Some place) None
+
+behind : (place long : ℕ) → found_at (1 + place) (suc long) ≡ None → found_at place long ≡ None
+behind place long none = grind (arith, nat_tests)
+
+at_front : (long : ℕ) → found_at 0 (suc long) ≡ None → ⊥
+at_front long none = grind (arith, nat_tests)
+
+fails_at_front : (b : Bool) (place long : ℕ) → found_at (cond (not b) (1 + place) 0) (suc long) ≡ None → (b ≡ false) × (found_at place long ≡ None)
+fails_at_front true place long none = absurd (at_front long none)
+fails_at_front false place long none = (refl, behind place long none)
+
+pub position-none : {A : Type 0} (p : A → Bool) (xs : List A) (n : ℕ) (a : A) → position p xs ≡ None → slice_get xs n ≡ Some a → p a ≡ false
+position-none p [] n a none at = absurd (cc)
+position-none p (x ∷ xs) zero a none at = ap p (sym (same_Some x a at)) ∙ (fails_at_front (p x) (position_or_len p xs) (length xs) none).0
+position-none p (x ∷ xs) (suc n) a none at = position-none p xs n a (fails_at_front (p x) (position_or_len p xs) (length xs) none).1 at
+
+-- the first that passes is of this queue, where each that passes is
+found_queue : (p : Admission → Bool) (xs : List Admission) (queue n : ℕ) (a : Admission) → ((m : ℕ) (b : Admission) → slice_get xs m ≡ Some b → p b ≡ true → b.queue ≡ queue) →
+    slice_get xs n ≡ Some a → p a ≡ true → option_map (λ (b : Admission). b.queue) (find p xs) ≡ Some queue
+found_queue p [] queue n a each at passes = absurd (cc)
+found_queue p (x ∷ xs) queue n a each at passes = by (p x) refl n at (λ k there. found_queue p xs queue k a (λ m b at_m. each (suc m) b at_m) there passes) where
+  by : (b : Bool) → p x ≡ b → (k : ℕ) → slice_get (x ∷ xs) k ≡ Some a → ((k : ℕ) → slice_get xs k ≡ Some a → option_map (λ (b : Admission). b.queue) (find p xs) ≡ Some queue) →
+      option_map (λ (b : Admission). b.queue) (cond b (Some x) (find p xs)) ≡ Some queue
+  by true is k at further = ap Some (each 0 x refl is)
+  by false is zero at further = absurd (false≢true (sym is ∙ ap p (same_Some x a at) ∙ passes))
+  by false is (suc k) at further = further k at
+
+-- one runs, the other waits, and both are to one queue
+abbrev Follow : Admission → Admission → Type 0
+Follow a b = (is_running a.life ≡ true) × (is_waiting b.life ≡ true) × (a.queue ≡ b.queue)
+
+-- of two open admissions of one item the one with the lower number runs, and the other waits for its queue
+abbrev pub Ordered : List Admission → Type 0
+Ordered xs = (m n : ℕ) (a b : Admission) → m < n → slice_get xs m ≡ Some a → slice_get xs n ≡ Some b → a.item ≡ b.item → is_open a.life ≡ true → is_open b.life ≡ true → Follow a b
+
+Ordered-nil : Ordered []
+Ordered-nil m n a b below at there = absurd (cc)
+
+-- fewer are open
+Ordered-fewer : (xs ys : List Admission) → ((n : ℕ) (b : Admission) → slice_get ys n ≡ Some b → is_open b.life ≡ true → slice_get xs n ≡ Some b) → Ordered xs → Ordered ys
+Ordered-fewer xs ys each ordered m n a b below at there same open_a open_b = ordered m n a b below (each m a at open_a) (each n b there open_b) same open_a open_b
+
+mapped : (f : Admission → Admission) (o : Option Admission) (b : Admission) → ((a : Admission) → is_open (f a).life ≡ true → f a ≡ a) → option_map f o ≡ Some b → is_open b.life ≡ true → o ≡ Some b
+mapped f None b same at open_b = absurd (cc)
+mapped f (Some a) b same at open_b =
+    let is = same_Some (f a) b at in
+    ap Some (sym (same a (ap (λ (c : Admission). is_open c.life) is ∙ open_b)) ∙ is)
+
+Ordered-map : (f : Admission → Admission) → ((a : Admission) → is_open (f a).life ≡ true → f a ≡ a) → (xs : List Admission) → Ordered xs → Ordered (map f xs)
+Ordered-map f same xs ordered = Ordered-fewer xs (map f xs) (λ n b at open_b. mapped f (slice_get xs n) b same (sym (slice_get-map f xs n) ∙ at) open_b) ordered
+
+kept-cond : (b : Bool) (a : Admission) (life : Life) → is_open life ≡ false → is_open (cond b (with_life life a) a).life ≡ true → cond b (with_life life a) a ≡ a
+kept-cond true a life over opens = absurd (false≢true (sym over ∙ opens))
+kept-cond false a life over opens = refl
+
+kept-end_one : (queue : ℕ) (a : Admission) → is_open (end_one queue a).life ≡ true → end_one queue a ≡ a
+kept-end_one queue a opens = kept-cond (runs_on queue a) a Ended refl opens
+
+kept-drop_one : (item : ℕ) (a : Admission) → is_open (drop_one item a).life ≡ true → drop_one item a ≡ a
+kept-drop_one item a opens = kept-cond (waits_as item a) a Dropped refl opens
+
+-- an admission more: it is an old one, or the new one in its place
+pub pushed : (xs : List Admission) (x : Admission) (n : ℕ) (b : Admission) → slice_get (xs ++ x ∷ []) n ≡ Some b → (slice_get xs n ≡ Some b) ⊎ ((n ≡ length xs) × (x ≡ b))
+pushed [] x zero b at = inr (refl, same_Some x b at)
+pushed [] x (suc n) b at = absurd (cc)
+pushed (y ∷ ys) x zero b at = inl at
+pushed (y ∷ ys) x (suc n) b at = up (pushed ys x n b at) where
+  up : (slice_get ys n ≡ Some b) ⊎ ((n ≡ length ys) × (x ≡ b)) → (slice_get ys n ≡ Some b) ⊎ ((suc n ≡ suc (length ys)) × (x ≡ b))
+  up (inl old) = inl old
+  up (inr new) = inr (ap suc new.0, new.1)
+
+-- the queue that an answer admits to
+abbrev pub admitted_to : Submitted → Option ℕ
+admitted_to (Fresh number queue) = Some queue
+admitted_to (Rerun number queue) = Some queue
+admitted_to answer = None
+
+pub submit-admitted : (xs : List Admission) (item : ℕ) (answer : Submitted) → submit xs item answer ≡ option_map_or (λ queue. xs ++ record { item = item; queue = queue; life = Waiting } ∷ []) (admitted_to answer) xs
+submit-admitted xs item Already = refl
+submit-admitted xs item (Fresh number queue) = refl
+submit-admitted xs item (Rerun number queue) = refl
+submit-admitted xs item (Refused cause) = refl
+
+past : (b : Bool) (x y : Submitted) (queue : ℕ) → admitted_to x ≡ None → admitted_to (cond b x y) ≡ Some queue → (b ≡ false) × (admitted_to y ≡ Some queue)
+past true x y queue none is = absurd (cc)
+past false x y queue none is = (refl, is)
+
+admission-to : (b : Bool) (long number queue : ℕ) → admitted_to (cond b (Rerun long number) (Fresh long number)) ≡ Some queue → number ≡ queue
+admission-to true long number queue is = same_Some number queue is
+admission-to false long number queue is = same_Some number queue is
+
+submission_to-admitted : (xs : List Admission) (caller : Option ℕ) (item number : ℕ) (q : Queue) (queue : ℕ) → admitted_to (submission_to xs caller item number q) ≡ Some queue → number ≡ queue
+submission_to-admitted xs caller item number q queue is =
+    let plugged = cond (q.plugged && not q.draining) (Refused Busy) (admission xs item number) in
+    let draining = cond (q.draining && not (is_chained q caller)) (Refused Busy) plugged in
+    let one = past (not q.started) (Refused NoDev) draining queue refl is in
+    let two = past (q.draining && not (is_chained q caller)) (Refused Busy) plugged queue refl one.1 in
+    let three = past (q.plugged && not q.draining) (Refused Busy) (admission xs item number) queue refl two.1 in
+    admission-to (is_some (running xs item)) (length xs) number queue three.1
+
+submission_at-admitted : (xs : List Admission) (queues : List Queue) (caller : Option ℕ) (item : ℕ) (o : Option ℕ) (queue : ℕ) → admitted_to (submission_at xs queues caller item o) ≡ Some queue → o ≡ Some queue
+submission_at-admitted xs queues caller item None queue is = absurd (cc)
+submission_at-admitted xs queues caller item (Some number) queue is = by (slice_get queues number) is where
+  by : (q : Option Queue) → admitted_to (option_map_or (submission_to xs caller item number) q (Refused Inval)) ≡ Some queue → Some number ≡ Some queue
+  by None is = absurd (cc)
+  by (Some q) is = ap Some (submission_to-admitted xs caller item number q queue is)
+
+-- a submission that admits finds the item neither cancelled nor waiting, and goes to its target
+pub record Admits (xs : List Admission) (marks : List ℕ) (item : ℕ) (named : Option ℕ) (queue : ℕ) : Type 0 where
+  pub not_cancelling : is_cancelling xs marks item ≡ false
+  pub not_waiting : is_some (waiting xs item) ≡ false
+  pub target_is : target xs item named ≡ Some queue
+
+pub submission-admits : (xs : List Admission) (marks : List ℕ) (queues : List Queue) (caller : Option ℕ) (item : ℕ) (named : Option ℕ) (queue : ℕ) →
+    admitted_to (submission xs marks queues caller item named) ≡ Some queue → Admits xs marks item named queue
+submission-admits xs marks queues caller item named queue is =
+    let at = submission_at xs queues caller item (target xs item named) in
+    let one = past (is_cancelling xs marks item) (Refused Busy) (cond (is_some (waiting xs item)) Already at) queue refl is in
+    let two = past (is_some (waiting xs item)) Already at queue refl one.1 in
+    record { not_cancelling = one.0; not_waiting = two.0; target_is = submission_at-admitted xs queues caller item (target xs item named) queue two.1 }
+
+is_none-None : {A : Type 0} (o : Option A) → is_some o ≡ false → o ≡ None
+is_none-None None is = refl
+is_none-None (Some x) is = absurd (cc)
+
+None-is_none : {A : Type 0} (o : Option A) → is_none o ≡ true → o ≡ None
+None-is_none None is = refl
+None-is_none (Some x) is = absurd (cc)
+
+pub second_of : (b c : Bool) → b ≡ true → (b && c) ≡ false → c ≡ false
+second_of true c is both = both
+second_of false c is both = absurd (cc)
+
+pub and-true : (b c : Bool) → b ≡ true → c ≡ true → (b && c) ≡ true
+and-true true c is there = there
+and-true false c is there = absurd (cc)
+
+-- of what runs an item, each is of the queue of any other
+one_queue : (xs : List Admission) (item : ℕ) → Ordered xs → (n m : ℕ) (a b : Admission) → slice_get xs n ≡ Some a → runs_as item a ≡ true → slice_get xs m ≡ Some b → runs_as item b ≡ true → b.queue ≡ a.queue
+one_queue xs item ordered n m a b at runs there runs_too =
+    let item_a = eqb-true a.item item (first_so (eqb a.item item) (is_running a.life) runs) in
+    let item_b = eqb-true b.item item (first_so (eqb b.item item) (is_running b.life) runs_too) in
+    let run_a = second_so (eqb a.item item) (is_running a.life) runs in
+    let run_b = second_so (eqb b.item item) (is_running b.life) runs_too in
+    by (cases_order n m) (item_a ∙ sym item_b) run_a run_b where
+      by : (n ≡ m) ⊎ ((n < m) ⊎ (m < n)) → a.item ≡ b.item → is_running a.life ≡ true → is_running b.life ≡ true → b.queue ≡ a.queue
+      by (inl same) items run_a run_b = ap (λ (c : Admission). c.queue) (same_Some b a (sym there ∙ ap (slice_get xs) (sym same) ∙ at))
+      by (inr (inl below)) items run_a run_b = absurd (waiting-running b.life (ordered n m a b below at there items (open-running a.life run_a) (open-running b.life run_b)).1 run_b)
+      by (inr (inr above)) items run_a run_b = absurd (waiting-running a.life (ordered m n b a above there at (sym items) (open-running b.life run_b) (open-running a.life run_a)).1 run_a)
+
+-- an admission of an item that doesn't wait, at the queue that runs it
+abbrev waiting_at : ℕ → ℕ → Admission
+waiting_at item queue = record { item = item; queue = queue; life = Waiting }
+
+Ordered-push : (xs : List Admission) (marks : List ℕ) (item : ℕ) (named : Option ℕ) (queue : ℕ) → Admits xs marks item named queue → Ordered xs → Ordered (xs ++ waiting_at item queue ∷ [])
+Ordered-push xs marks item named queue admits ordered m n a b below at there same open_a open_b = by (pushed xs (waiting_at item queue) m a at) (pushed xs (waiting_at item queue) n b there) where
+  newest : slice_get xs m ≡ Some a → waiting_at item queue ≡ b → Follow a b
+  newest old is =
+      let item_is : a.item ≡ item = same ∙ ap (λ (c : Admission). c.item) (sym is) in
+      let none = position-none (waits_as item) xs m a (is_none-None (waiting xs item) admits.not_waiting) old in
+      let a_runs = runs-open a.life open_a (second_of (eqb a.item item) (is_waiting a.life) (eq-eqb a.item item item_is) none) in
+      let runs = and-true (eqb a.item item) (is_running a.life) (eq-eqb a.item item item_is) a_runs in
+      let found : running_queue xs item ≡ Some a.queue = found_queue (runs_as item) xs a.queue m a (λ k c there passes. one_queue xs item ordered m k a c old runs there passes) old runs in
+      let to : Some a.queue ≡ Some queue = sym (ap (λ (o : Option ℕ). option_or o (option_or named (last_queue xs item))) found) ∙ admits.target_is in
+      (a_runs, ap (λ (c : Admission). is_waiting c.life) (sym is), same_Some a.queue queue to ∙ ap (λ (c : Admission). c.queue) is)
+
+  by : (slice_get xs m ≡ Some a) ⊎ ((m ≡ length xs) × (waiting_at item queue ≡ a)) → (slice_get xs n ≡ Some b) ⊎ ((n ≡ length xs) × (waiting_at item queue ≡ b)) → Follow a b
+  by (inl old) (inl older) = ordered m n a b below old older same open_a open_b
+  by (inl old) (inr is) = newest old is.1
+  by (inr is) (inl older) = let within = slice_get_within xs n b older in let long = is.0 in absurd (omega arith)
+  by (inr is) (inr too) = let long = is.0 in let longer = too.0 in absurd (omega arith)
+
+Ordered-submit : (xs : List Admission) (marks : List ℕ) (item : ℕ) (named : Option ℕ) (answer : Submitted) → ((queue : ℕ) → admitted_to answer ≡ Some queue → Admits xs marks item named queue) → Ordered xs → Ordered (submit xs item answer)
+Ordered-submit xs marks item named Already admits ordered = ordered
+Ordered-submit xs marks item named (Fresh number queue) admits ordered = Ordered-push xs marks item named queue (admits queue refl) ordered
+Ordered-submit xs marks item named (Rerun number queue) admits ordered = Ordered-push xs marks item named queue (admits queue refl) ordered
+Ordered-submit xs marks item named (Refused cause) admits ordered = ordered
+
+-- an element of the list after a begin: the one that was taken up, or an old one
+pub record Taken (xs : List Admission) (m n : ℕ) (b : Admission) : Type 0 where
+  pub place : m ≡ n
+  pub was : Admission
+  pub there : slice_get xs m ≡ Some was
+  pub is : with_life Running was ≡ b
+
+pub taken : (xs : List Admission) (m n : ℕ) (b : Admission) (a : Admission) → slice_get xs m ≡ Some a → slice_get (set_life xs m Running) n ≡ Some b → Taken xs m n b ⊎ (slice_get xs n ≡ Some b)
+taken xs m n b a there at = by (eqb_tells m n) where
+  by : ((eqb m n ≡ true) × (m ≡ n)) ⊎ ((eqb m n ≡ false) × (m ≢ n)) → Taken xs m n b ⊎ (slice_get xs n ≡ Some b)
+  by (inl same) = inl (record {
+    place = same.1;
+    was = a;
+    there = there;
+    is = same_Some (with_life Running a) b (sym (set_life-at xs m Running a there) ∙ ap (slice_get (set_life xs m Running)) same.1 ∙ at);
+  })
+  by (inr other) = inr (sym (set_life-aside xs m n Running other.1) ∙ at)
+
+-- the first of a line that runs nothing is taken up
+Ordered-set_life : (xs : List Admission) (queue m : ℕ) (first_one : Admission) → IsFirst xs queue m → slice_get xs m ≡ Some first_one → run xs queue ≡ None → Ordered xs → Ordered (set_life xs m Running)
+Ordered-set_life xs queue m first_one is first_there idle ordered i j a b below at there same open_a open_b = by (taken xs m i a first_one first_there at) (taken xs m j b first_one first_there there) where
+  waits : (c : Admission) → slice_get xs m ≡ Some c → is_waiting c.life ≡ true
+  waits c there = second_so (eqb c.queue queue) (is_waiting c.life) (is.waits c there)
+
+  lower : Taken xs m i a → slice_get xs j ≡ Some b → Follow a b
+  lower t old =
+      let item_is : t.was.item ≡ b.item = ap (λ (c : Admission). c.item) t.is ∙ same in
+      let place = t.place in
+      let w = waits t.was t.there in
+      absurd (waiting-running t.was.life w (ordered m j t.was b (omega arith) t.there old item_is (open-waiting t.was.life w) open_b).0)
+
+  upper : slice_get xs i ≡ Some a → Taken xs m j b → Follow a b
+  upper old t =
+      let item_is : a.item ≡ t.was.item = same ∙ ap (λ (c : Admission). c.item) (sym t.is) in
+      let place = t.place in
+      let three = ordered i m a t.was (omega arith) old t.there item_is open_a (open-waiting t.was.life (waits t.was t.there)) in
+      let queue_is : a.queue ≡ queue = three.2 ∙ eqb-true t.was.queue queue (first_so (eqb t.was.queue queue) (is_waiting t.was.life) (is.waits t.was t.there)) in
+      let runs = and-true (eqb a.queue queue) (is_running a.life) (eq-eqb a.queue queue queue_is) three.0 in
+      absurd (false≢true (sym (position-none (runs_on queue) xs i a idle old) ∙ runs))
+
+  by : Taken xs m i a ⊎ (slice_get xs i ≡ Some a) → Taken xs m j b ⊎ (slice_get xs j ≡ Some b) → Follow a b
+  by (inl t) (inl u) = let one = t.place in let two = u.place in absurd (omega arith)
+  by (inl t) (inr old) = lower t old
+  by (inr old) (inl t) = upper old t
+  by (inr old) (inr older) = ordered i j a b below old older same open_a open_b
+
+-- a begin is possible where the queue runs nothing
+chosen_when : (b : Bool) (o : Option WorkReply) (reply : WorkReply) → cond b o None ≡ Some reply → b ≡ true
+chosen_when true o reply is = refl
+chosen_when false o reply is = absurd (cc)
+
+pub idle-begin : (s : State) (who : Who) (queue : ℕ) (reply : WorkReply) → work_reply s who (Begin queue) ≡ Some reply → run s.admissions queue ≡ None
+idle-begin s who queue reply is =
+    let may = chosen_when (may_begin s.admissions s.queues who queue) (taken_up s.admissions queue) reply is in
+    None-is_none (run s.admissions queue) (second_so (is_worker s.queues queue who.number) (is_none (run s.admissions queue)) may)
+
+pub begin-is : (xs : List Admission) (queue : ℕ) (reply : WorkReply) → (it : Begun xs queue reply) → begin xs queue ≡ set_life xs it.number Running
+begin-is xs queue reply it = ap (λ (o : Option ℕ). option_map_or (λ number. set_life xs number Running) o xs) it.first_is
+
+Ordered-begin : (xs : List Admission) (queue : ℕ) (reply : WorkReply) → Begun xs queue reply → run xs queue ≡ None → Ordered xs → Ordered (begin xs queue)
+Ordered-begin xs queue reply it idle ordered =
+    subst Ordered (sym (begin-is xs queue reply it)) (Ordered-set_life xs queue it.number it.taken (IsFirst-line xs queue it.number it.first_is) it.there idle ordered)
+
+-- each entry keeps the order
+Ordered-next : (s : State) (who : Who) (op : WorkOp) (reply : WorkReply) → work_reply s who op ≡ Some reply → Ordered s.admissions → Ordered (work_next s who op).admissions
+Ordered-next s who (Submit item named) reply is ordered =
+    Ordered-submit s.admissions s.marks item named (submission s.admissions s.marks s.queues (Some who.number) item named)
+    (λ queue to. submission-admits s.admissions s.marks s.queues (Some who.number) item named queue to) ordered
+Ordered-next s who (Cancel item) reply is ordered = Ordered-map (drop_one item) (kept-drop_one item) s.admissions ordered
+Ordered-next s who (Start queue) reply is ordered = ordered
+Ordered-next s who (Begin queue) reply is ordered = Ordered-begin s.admissions queue reply (Begun-reply s who queue reply is) (idle-begin s who queue reply is) ordered
+Ordered-next s who (End queue) reply is ordered = Ordered-map (end_one queue) (kept-end_one queue) s.admissions ordered
+
+Ordered-after : (s : State) (front rest : List (Entry WorkOp WorkReply)) → Replays work_machine s (front ++ rest) → Ordered s.admissions → Ordered (state_after work_machine s front).admissions
+Ordered-after s [] rest replays ordered = ordered
+Ordered-after s (e ∷ es) rest replays ordered = Ordered-after (work_next s e.who e.op) es rest replays.1 (Ordered-next s e.who e.op e.reply replays.0 ordered)
+
+pub Ordered-history : (start : State) (front rest : List (Entry WorkOp WorkReply)) → IsWorkHistory start (front ++ rest) → Ordered (state_after work_machine start front).admissions
+Ordered-history start front rest work = Ordered-after start front rest work.legal.0 (subst Ordered (sym work.fresh) Ordered-nil)
+
+-- what hands an admission out is a begin
+pub is_begin : (s : State) (who : Who) (op : WorkOp) (item number : ℕ) → work_reply s who op ≡ Some (replies.Run item number) → (queue : ℕ) × (op ≡ Begin queue)
+is_begin s who (Submit item' named) item number is = absurd (cc)
+is_begin s who (Cancel item') item number is = absurd (cc)
+is_begin s who (Start queue) item number is = absurd (not_started (is_started s.queues queue) is) where
+  not_started : (b : Bool) → Some (cond b replies.Already replies.Done) ≡ Some (replies.Run item number) → ⊥
+  not_started true is = cc
+  not_started false is = cc
+is_begin s who (Begin queue) item number is = (queue, refl)
+is_begin s who (End queue) item number is = absurd (not_ended (may_end s.admissions s.queues who queue) is) where
+  not_ended : (b : Bool) → cond b (Some replies.Done) None ≡ Some (replies.Run item number) → ⊥
+  not_ended true is = cc
+  not_ended false is = cc
+
+-- a begin that hands out an admission of an item
+pub record Handed (s : State) (item number : ℕ) : Type 0 where
+  pub queue : ℕ
+  pub was : Admission
+  pub there : slice_get s.admissions number ≡ Some was
+  pub item_is : was.item ≡ item
+  pub queue_is : was.queue ≡ queue
+  pub waits : is_waiting was.life ≡ true
+  pub idle : run s.admissions queue ≡ None
+
+same_item : (item item' number number' : ℕ) (reply : WorkReply) → reply ≡ replies.Run item number → reply ≡ replies.Run item' number' → (item' ≡ item) × (number' ≡ number)
+same_item item item' number number' reply one other = (cc, cc)
+
+pub Handed-begin : (s : State) (who : Who) (queue item number : ℕ) → work_reply s who (Begin queue) ≡ Some (replies.Run item number) → Handed s item number
+Handed-begin s who queue item number is =
+    let it = Begun-reply s who queue (replies.Run item number) is in
+    let same = same_item item it.taken.item number it.number (replies.Run item number) refl it.replied in
+    let waits = (IsFirst-line s.admissions queue it.number it.first_is).waits it.taken it.there in
+    record {
+      queue = queue;
+      was = it.taken;
+      there = ap (slice_get s.admissions) (sym same.1) ∙ it.there;
+      item_is = same.0;
+      queue_is = eqb-true it.taken.queue queue (first_so (eqb it.taken.queue queue) (is_waiting it.taken.life) waits);
+      waits = second_so (eqb it.taken.queue queue) (is_waiting it.taken.life) waits;
+      idle = idle-begin s who queue (replies.Run item number) is;
+    }
+
+pub Handed-entry : (s : State) (e : Entry WorkOp WorkReply) (item number : ℕ) → e.reply ≡ replies.Run item number → work_reply s e.who e.op ≡ Some e.reply → Handed s item number
+Handed-entry s e item number reply is =
+    let said : work_reply s e.who e.op ≡ Some (replies.Run item number) = is ∙ ap Some reply in
+    let op = is_begin s e.who e.op item number said in
+    Handed-begin s e.who op.0 item number (ap (work_reply s e.who) (sym op.1) ∙ said)
+
+-- what runs keeps its item from a begin
+runs-alone : (xs : List Admission) (queue number running : ℕ) (a b : Admission) → Ordered xs → slice_get xs running ≡ Some a → is_running a.life ≡ true → slice_get xs number ≡ Some b → is_waiting b.life ≡ true →
+    a.item ≡ b.item → b.queue ≡ queue → run xs queue ≡ None → ⊥
+runs-alone xs queue number running a b ordered at runs there waits same queue_is idle = by (cases_order running number) where
+  by : (running ≡ number) ⊎ ((running < number) ⊎ (number < running)) → ⊥
+  by (inl is) = waiting-running b.life waits (ap (λ (c : Admission). is_running c.life) (same_Some b a (sym there ∙ ap (slice_get xs) (sym is) ∙ at)) ∙ runs)
+  by (inr (inl below)) =
+      let three = ordered running number a b below at there same (open-running a.life runs) (open-waiting b.life waits) in
+      let on = and-true (eqb a.queue queue) (is_running a.life) (eq-eqb a.queue queue (three.2 ∙ queue_is)) runs in
+      false≢true (sym (position-none (runs_on queue) xs running a idle at) ∙ on)
+  by (inr (inr above)) = waiting-running b.life waits (ordered number running b a above there at (sym same) (open-waiting b.life waits) (open-running a.life runs)).0
+
+pub not_begun_during_run : NotBegunDuringRun
+not_begun_during_run start front rest e item number running a work at item_is runs reply =
+    let s = state_after work_machine start front in
+    let it = Handed-entry s e item number reply (Replays-rest start front (e ∷ rest) work.legal.0).0 in
+    runs-alone s.admissions it.queue number running a it.was (Ordered-history start front (e ∷ rest) work) at (ap is_running runs) it.there it.waits (item_is ∙ sym it.item_is) it.queue_is it.idle
+
+-- a running admission runs on, but for an end at its queue
+still-push : (xs : List Admission) (x : Admission) (n : ℕ) (a : Admission) → slice_get xs n ≡ Some a → slice_get (xs ++ x ∷ []) n ≡ Some a
+still-push [] x n a at = absurd (cc)
+still-push (y ∷ ys) x zero a at = at
+still-push (y ∷ ys) x (suc n) a at = still-push ys x n a at
+
+still-submit : (xs : List Admission) (item : ℕ) (answer : Submitted) (n : ℕ) (a : Admission) → slice_get xs n ≡ Some a → slice_get (submit xs item answer) n ≡ Some a
+still-submit xs item Already n a at = at
+still-submit xs item (Fresh number queue) n a at = still-push xs _ n a at
+still-submit xs item (Rerun number queue) n a at = still-push xs _ n a at
+still-submit xs item (Refused cause) n a at = at
+
+pub still-map : (f : Admission → Admission) (xs : List Admission) (n : ℕ) (a : Admission) → f a ≡ a → slice_get xs n ≡ Some a → slice_get (map f xs) n ≡ Some a
+still-map f xs n a same at = slice_get-map f xs n ∙ ap (option_map f) at ∙ ap Some same
+
+pub still-cond : (b : Bool) (a : Admission) (life : Life) → b ≡ false → cond b (with_life life a) a ≡ a
+still-cond true a life is = absurd (cc)
+still-cond false a life is = refl
+
+pub not_both : (b c : Bool) → c ≡ false → (b && c) ≡ false
+not_both true c is = is
+not_both false c is = refl
+
+not_first : (b c : Bool) → b ≡ false → (b && c) ≡ false
+not_first true c is = absurd (cc)
+not_first false c is = refl
+
+pub running-not : (life : Life) → is_running life ≡ true → is_waiting life ≡ false
+running-not Waiting r = absurd (cc)
+running-not Running r = refl
+running-not Ended r = refl
+running-not Dropped r = refl
+
+still-begin : (xs : List Admission) (queue n : ℕ) (a : Admission) → is_running a.life ≡ true → slice_get xs n ≡ Some a → slice_get (begin xs queue) n ≡ Some a
+still-begin xs queue n a runs at = by (first (line xs queue)) refl where
+  apart : (m : ℕ) → first (line xs queue) ≡ Some m → m ≢ n
+  apart m is same =
+      let waits = (IsFirst-line xs queue m is).waits a (ap (slice_get xs) same ∙ at) in
+      waiting-running a.life (second_so (eqb a.queue queue) (is_waiting a.life) waits) runs
+
+  by : (o : Option ℕ) → first (line xs queue) ≡ o → slice_get (option_map_or (λ number. set_life xs number Running) o xs) n ≡ Some a
+  by None is = at
+  by (Some m) is = set_life-aside xs m n Running (apart m is) ∙ at
+
+still-next : (s : State) (who : Who) (op : WorkOp) (n : ℕ) (a : Admission) → is_running a.life ≡ true → ends a.queue op ≡ false → slice_get s.admissions n ≡ Some a → slice_get (work_next s who op).admissions n ≡ Some a
+still-next s who (Submit item named) n a runs goes_on at = still-submit s.admissions item (submission s.admissions s.marks s.queues (Some who.number) item named) n a at
+still-next s who (Cancel item) n a runs goes_on at =
+    still-map (drop_one item) s.admissions n a (still-cond (waits_as item a) a Dropped (not_both (eqb a.item item) (is_waiting a.life) (running-not a.life runs))) at
+still-next s who (Start queue) n a runs goes_on at = at
+still-next s who (Begin queue) n a runs goes_on at = still-begin s.admissions queue n a runs at
+still-next s who (End queue) n a runs goes_on at =
+    still-map (end_one queue) s.admissions n a (still-cond (runs_on queue a) a Ended (not_first (eqb a.queue queue) (is_running a.life) goes_on)) at
+
+nor : (b c : Bool) → (b || c) ≡ false → (b ≡ false) × (c ≡ false)
+nor true c is = absurd (cc)
+nor false c is = (refl, is)
+
+still-after : (s : State) (h : List (Entry WorkOp WorkReply)) (n : ℕ) (a : Admission) → is_running a.life ≡ true → list_any (λ e. ends a.queue e.op) h ≡ false → slice_get s.admissions n ≡ Some a →
+    slice_get (state_after work_machine s h).admissions n ≡ Some a
+still-after s [] n a runs goes_on at = at
+still-after s (e ∷ es) n a runs goes_on at =
+    let both = nor (ends a.queue e.op) (list_any (λ f. ends a.queue f.op) es) goes_on in
+    still-after (work_next s e.who e.op) es n a runs both.1 (still-next s e.who e.op n a runs both.0 at)
+
+pub runs_to_its_end : RunsToItsEnd
+runs_to_its_end start front between number a at runs goes_on =
+    ap (λ (s : State). slice_get s.admissions number) (state_after-append start front between) ∙ still-after (state_after work_machine start front) between number a (ap is_running runs) goes_on at
+
+not_false : (b : Bool) → (b ≡ false → ⊥) → b ≡ true
+not_false true wrong = refl
+not_false false wrong = absurd (wrong refl)
+
+pub ends_between_begins : EndsBetweenBegins
+ends_between_begins start front between rest one two queue item number next work op reply next_reply =
+    let s = state_after work_machine start front in
+    let after = work_next s one.who one.op in
+    let t = state_after work_machine after between in
+    let replays = Replays-rest start front (one ∷ (between ++ two ∷ rest)) work.legal.0 in
+    let begun = Begun-entry s one queue op replays.0 in
+    let same = same_item item begun.taken.item number begun.number one.reply reply begun.replied in
+    let waits = (IsFirst-line s.admissions queue begun.number begun.first_is).waits begun.taken begun.there in
+    let queue_is = eqb-true begun.taken.queue queue (first_so (eqb begun.taken.queue queue) (is_waiting begun.taken.life) waits) in
+    let runner : Admission = with_life Running begun.taken in
+    let here : slice_get after.admissions begun.number ≡ Some runner =
+    ap (λ o. slice_get (work_next s one.who o).admissions begun.number) op ∙ ap (λ (xs : List Admission). slice_get xs begun.number) (begin-is s.admissions queue one.reply begun)
+    ∙ set_life-at s.admissions begun.number Running begun.taken begun.there in
+    let it = Handed-entry t two item next next_reply (Replays-rest after between (two ∷ rest) replays.1).0 in
+    let order : Ordered after.admissions = Ordered-next s one.who one.op one.reply replays.0 (Ordered-history start front (one ∷ (between ++ two ∷ rest)) work) in
+    let ordered : Ordered t.admissions = Ordered-after after between (two ∷ rest) replays.1 order in
+    not_false (list_any (λ e. ends queue e.op) between) (λ none.
+    let goes_on : list_any (λ e. ends begun.taken.queue e.op) between ≡ false = ap (λ q. list_any (λ (e : Entry WorkOp WorkReply). ends q e.op) between) queue_is ∙ none in
+    let still = still-after after between begun.number runner refl goes_on here in
+    runs-alone t.admissions it.queue next begun.number runner it.was ordered still refl it.there it.waits (same.0 ∙ sym it.item_is) it.queue_is it.idle)
