@@ -10,7 +10,7 @@ mod questions;
 mod state;
 
 pub use answers::{may_begin, may_end, submission, taken_up};
-pub use busy::{BusyFlags, flags};
+pub use busy::{BusyFlags, flags, united};
 pub use changes::{begin, disarm, drop_waiting, end_run, set_life, settle};
 pub use ops::{Submitted, WorkOp, WorkReply};
 pub use parts::{Admission, Arm, Awaited, Fate, Life, Queue, Wait};

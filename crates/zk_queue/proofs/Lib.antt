@@ -1,0 +1,4 @@
+pub mod Fresh
+pub mod Keeping
+pub mod Lines
+pub mod Tables

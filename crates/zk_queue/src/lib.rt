@@ -1,0 +1,16 @@
+//! The waiting and running admissions of the work service, and the marks of its items.
+#![tactic(auto)]
+
+mod copies;
+mod line;
+mod marks;
+mod queues;
+mod runs;
+mod ticket;
+mod waiting;
+
+pub use line::Line;
+pub use marks::Marks;
+pub use queues::Queues;
+pub use ticket::Ticket;
+pub use waiting::Waiting;
