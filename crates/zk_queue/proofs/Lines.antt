@@ -99,7 +99,7 @@ length_fits (suc n) xs once below =
       none item within (inl same) = subst (λ m. count m (without n xs) ≡ 0) (sym same.1) (omega (arith, once n, count-without n xs))
       none item within (inr differ) = let ne = differ.1 in omega (arith, below item (omega arith), count-without_other n item xs differ.1)
 
-All-without : (P : Ticket → Type 0) (item : ℕ) (xs : List Ticket) → All P xs → All P (without item xs)
+pub All-without : (P : Ticket → Type 0) (item : ℕ) (xs : List Ticket) → All P xs → All P (without item xs)
 All-without P item [] all = all
 All-without P item (t ∷ ts) all = at (is_of item t) (All-without P item ts (All-tail P t ts all)) where
   at : (b : Bool) → All P (without item ts) → All P (cond b ts (t ∷ without item ts))

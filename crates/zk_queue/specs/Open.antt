@@ -1,4 +1,4 @@
-use Rattle.std.specs.Prelude.{ℕ, ◌+◌, Bool, false, ◌==◌, ◌&&◌, Option, Some, None, is_some, is_none, List, [], ◌∷◌, ◌++◌, length, map, set, replicate, slice_index_or}
+use Rattle.std.specs.Prelude.{ℕ, ◌+◌, ◌<◌, Bool, false, ◌==◌, ◌&&◌, Option, Some, None, is_some, is_none, List, [], ◌∷◌, ◌++◌, length, map, set, replicate, slice_index_or, All}
 use Rattle.std.specs.Int.RustNames.{bit_and}
 use Rattle.std.specs.List.{list_any}
 use Rattle.std.specs.Option.{option_map_or}
@@ -56,6 +56,10 @@ waiting o item = number_among item o.lines
 -- the item waits for a queue
 abbrev pub is_queued : Open → ℕ → Bool
 is_queued o item = is_some (waiting o item)
+
+-- the number is above all that wait
+abbrev pub IsAbove : ℕ → Open → Type 0
+IsAbove number o = All (λ line. All (λ t. t.number < number) line) o.lines
 
 -- the busy flags of the item: 1 a queue runs it, 4 it waits, and 2, 8 and 16 as it is marked
 abbrev pub flags : Open → ℕ → ℕ

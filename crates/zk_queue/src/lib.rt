@@ -9,8 +9,9 @@ mod runs;
 mod ticket;
 mod waiting;
 
-pub use line::Line;
 pub use marks::Marks;
 pub use queues::Queues;
 pub use ticket::Ticket;
-pub use waiting::Waiting;
+
+#[cfg(test)]
+mod tests;

@@ -1,8 +1,9 @@
 ghost use Rattle.std.specs.Prelude.{◌≡◌, ◌<◌, false, option_map, All, IfOk, IfSome};
-ghost use Rattle.zk_queue.specs.Open.{nothing_open, line, run, is_queued, flags, is_idle, mark, admit, waiting, drop_item, next, begin, end, pair_of};
+ghost use Rattle.zk_queue.specs.Open.{nothing_open, line, run, is_queued, IsAbove, flags, is_idle, mark, admit, waiting, drop_item, next, begin, end, pair_of};
 
 use crate::copies::copies;
-use crate::{Marks, Ticket, Waiting, runs};
+use crate::waiting::Waiting;
+use crate::{Marks, Ticket, runs};
 use std::alloc::Global;
 use std::marker::Model;
 use zk_base::NoMemory;
@@ -88,7 +89,7 @@ impl Queues {
         requires item { item < self.old.items }
         requires queue { queue < self.old.queues }
         requires free { is_queued self.old item ≡ false }
-        requires above { All (λ t. t.number < number) (line self.old queue) }
+        requires above { IsAbove number self.old }
         ensures { self.new ≡ admit self.old item queue number }
     {
         self.waiting.admit(item, queue, number);

@@ -2,8 +2,9 @@ ghost use Rattle.std.specs.Prelude.{◌≡◌, ◌<◌, ◌==◌, None, [], ◌�
 ghost use Rattle.zk_model_work.specs.Lists.{first};
 ghost use Rattle.zk_queue.specs.Line.{without, number_among};
 
+use crate::Ticket;
 use crate::copies::copies;
-use crate::{Line, Ticket};
+use crate::line::Line;
 use std::alloc::Global;
 use std::marker::Model;
 use zk_base::NoMemory;
