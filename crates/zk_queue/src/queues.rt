@@ -9,7 +9,8 @@ use std::marker::Model;
 use zk_base::NoMemory;
 use zk_model_work::{BusyFlags, united};
 
-/// The open admissions of the work service: what waits for each queue, what each queue runs, and the marks of each item.
+/// The open admissions of the work service: what waits for each queue, what each queue runs, and
+/// the marks of each item.
 ///
 /// Queues and items are numbers below those that `new` was given.
 #[derive(Drop)]

@@ -11,7 +11,7 @@ use zk_base::NoMemory;
 
 /// What waits for each queue, where an item waits at most once.
 ///
-/// `places` says of each item in which queue's line it is, so that a drop looks through one line alone.
+/// `places` says of each item in which queue's line it is, so that a drop looks through one line.
 #[derive(Drop)]
 pub struct Waiting {
     lines: Vec<Line>,
