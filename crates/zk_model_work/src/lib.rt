@@ -4,6 +4,7 @@
 mod answers;
 mod busy;
 mod changes;
+mod laws;
 mod ops;
 mod parts;
 mod questions;
@@ -12,6 +13,7 @@ mod state;
 pub use answers::{may_begin, may_end, submission, taken_up};
 pub use busy::{BusyFlags, flags, united};
 pub use changes::{begin, disarm, drop_waiting, end_run, set_life, settle};
+pub use laws::{begins_in_order, runs_once};
 pub use ops::{Submitted, WorkOp, WorkReply};
 pub use parts::{Admission, Arm, Awaited, Fate, Life, Queue, Wait};
 pub use questions::{

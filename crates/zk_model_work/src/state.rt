@@ -11,7 +11,8 @@ use std::alloc::Global;
 use std::marker::Model;
 use zk_base::{NoMemory, Who};
 
-/// The state of the work machine, which contracts see as its definition has it. Nothing that was ever admitted is forgotten.
+/// The state of the work machine, which contracts see as its definition has it. Nothing that was
+/// ever admitted is forgotten.
 #[derive(Drop)]
 pub struct WorkState {
     time: u64,
@@ -108,7 +109,7 @@ pub fn fresh_queues(
 }
 
 impl WorkState {
-    /// The state before the first entry: so many items, and a queue for each worker, started or not.
+    /// The state before the first entry: so many items, and a queue for each worker.
     ///
     /// The workers' numbers are those of their players, in the order of the queues.
     pub fn new(
@@ -143,8 +144,10 @@ impl WorkState {
         named: Option<u32>,
     ) -> Result<Option<WorkReply>, NoMemory>
         requires { self.old.entries < 2 ^ 32 - 1 }
-        ensures reply { IfOk result (λ reply. reply ≡ work_reply self.old who (WorkOp.Submit item named)) }
-        ensures next { IfOk result (λ reply. self.new ≡ after_reply self.old who (WorkOp.Submit item named) reply) }
+        ensures reply { IfOk result (λ reply.
+            reply ≡ work_reply self.old who (WorkOp.Submit item named)) }
+        ensures next { IfOk result (λ reply.
+            self.new ≡ after_reply self.old who (WorkOp.Submit item named) reply) }
         ensures unchanged { OnErr result (self.new ≡ self.old) }
     {
         let answer = submission(
@@ -190,8 +193,10 @@ impl WorkState {
 
     fn cancel(&mut self, who: Who, item: u32) -> Result<Option<WorkReply>, NoMemory>
         requires { self.old.entries < 2 ^ 32 - 1 }
-        ensures reply { IfOk result (λ reply. reply ≡ Some (WorkReply.Flags (flags_of self.new item))) }
-        ensures next { IfOk result (λ reply. self.new ≡ after_reply self.old who (WorkOp.Cancel item) reply) }
+        ensures reply { IfOk result (λ reply.
+            reply ≡ Some (WorkReply.Flags (flags_of self.new item))) }
+        ensures next { IfOk result (λ reply.
+            self.new ≡ after_reply self.old who (WorkOp.Cancel item) reply) }
         ensures unchanged { OnErr result (self.new ≡ self.old) }
     {
         mark(&self.admissions, &mut self.marks, item)?;
@@ -204,7 +209,9 @@ impl WorkState {
     }
 }
 
-/// One operation of the work machine: its reply and its next state. Where it isn't possible nothing changes.
+/// One operation of the work machine: its reply and its next state.
+///
+/// `None` says that the operation isn't possible now.
 pub fn work_next(
     state: &mut WorkState,
     who: Who,

@@ -47,14 +47,11 @@ script_of-push ss s owner fresh =
       kept (Some k) = refl
 
 -- the table of the places, with one script more
-pub IsByOwner-push : (ss : List Script) (s : Script) (before wide : List (Option ℕ)) → IsByOwner ss before → length ss + 1 < 2 ^ 32 → script_of ss s.owner ≡ None
+pub IsByOwner-push : (ss : List Script) (s : Script) (before wide : List (Option ℕ)) → IsByOwner ss before → script_of ss s.owner ≡ None
     → s.owner < length wide → ((k : ℕ) → option_flatten (slice_get wide k) ≡ option_flatten (slice_get before k)) → IsByOwner (ss ++ s ∷ []) (set wide s.owner (Some (length ss)))
-IsByOwner-push ss s before wide held few fresh long same =
-    record {
-      few = omega (arith, length-append ss (s ∷ []));
-      each = λ owner. ap option_flatten (slice_get-set wide s.owner (Some (length ss)) owner long) ∙ under (eqb s.owner owner) (slice_get wide owner)
-          ∙ ap (λ o. cond (eqb s.owner owner) (Some (length ss)) o) (same owner ∙ held.each owner) ∙ sym (script_of-push ss s owner fresh);
-    } where
+IsByOwner-push ss s before wide held fresh long same owner =
+    ap option_flatten (slice_get-set wide s.owner (Some (length ss)) owner long) ∙ under (eqb s.owner owner) (slice_get wide owner)
+    ∙ ap (λ o. cond (eqb s.owner owner) (Some (length ss)) o) (same owner ∙ held owner) ∙ sym (script_of-push ss s owner fresh) where
       under : (b : Bool) (o : Option (Option ℕ)) → option_flatten (cond b (Some (Some (length ss))) o) ≡ cond b (Some (length ss)) (option_flatten o)
       under true o = refl
       under false o = refl

@@ -1,11 +1,16 @@
 pub mod ByName
 pub mod Forms
+pub mod Grammar
+pub mod Keeping
 pub mod Keywords
 pub mod Numbers
 pub mod Objects
 pub mod Parts
 pub mod Players
+pub mod Reading
 pub mod Scripts
+pub mod Spelling
 pub mod Text
 pub mod Valid
+pub mod Verdict
 pub mod Words

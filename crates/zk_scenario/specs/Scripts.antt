@@ -8,6 +8,5 @@ abbrev pub script_of : List Script → ℕ → Option ℕ
 script_of scripts owner = position (λ s. s.owner == owner) scripts
 
 -- the table has under each object the place of its script
-pub record IsByOwner (scripts : List Script) (table : List (Option ℕ)) : Type 0 where
-  pub few : length scripts < 2 ^ 32
-  pub each : (owner : ℕ) → option_flatten (slice_get table owner) ≡ script_of scripts owner
+abbrev pub IsByOwner : List Script → List (Option ℕ) → Type 0
+IsByOwner scripts table = (owner : ℕ) → option_flatten (slice_get table owner) ≡ script_of scripts owner

@@ -28,6 +28,10 @@ player_count decls = count_by is_thread decls + count_by is_queue decls
 abbrev pub call_count : List Script → ℕ
 call_count scripts = sum_by (λ script. length script.calls) scripts
 
+-- each object has at most one script
+abbrev pub OneEach : List Script → Type 0
+OneEach scripts = (n : ℕ) (script : Script) → slice_get scripts n ≡ Some script → script_of scripts script.owner ≡ Some n
+
 -- within the limits, each script fits, and each object has at most one
 pub record IsValid (p : Parts) : Type 0 where
   pub players : player_count p.decls ≤ 64
@@ -35,4 +39,4 @@ pub record IsValid (p : Parts) : Type 0 where
   pub items : count_by is_item p.decls ≤ 256
   pub calls : call_count p.scripts ≤ 4096
   pub fit : list_all (script_fits p.decls) p.scripts ≡ true
-  pub one_each : (n : ℕ) (script : Script) → slice_get p.scripts n ≡ Some script → script_of p.scripts script.owner ≡ Some n
+  pub one_each : OneEach p.scripts

@@ -5,18 +5,27 @@ mod form;
 mod keyword;
 #[cfg(test)]
 mod line_tests;
+mod lines;
 mod names;
 mod numbers;
 mod objects;
 mod print;
+mod read;
+mod reader;
+mod refused;
 mod scenario;
 mod scripts;
+mod text;
 mod types;
+mod verdict;
 mod words;
 
 pub use form::{Form, Line, Named, line_of};
 pub use numbers::{number_of, priority_of};
 pub use print::{put_cancel, put_end, put_item, put_queue, put_script, put_submit, put_thread};
+pub use read::{LONGEST_SCENARIO, read_scenario};
+pub use refused::{ScenarioRefused, Why};
 pub use scenario::Scenario;
+pub use text::print_scenario;
 pub use types::{Call, Decl, Ref, Script};
 pub use words::Words;

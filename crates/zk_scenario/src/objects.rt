@@ -1,6 +1,7 @@
 ghost use Rattle.std.specs.Prelude.{◌≡◌, ◌+◌, ◌-◌, ◌^◌, ◌<◌, None, [], ◌∷◌, ◌++◌, OnOk, OnErr, length, count_by, vec_len, vec_capacity};
 ghost use Rattle.zk_scenario.specs.Objects.{object_of, own_list, grown, HasRoom};
 ghost use Rattle.zk_scenario.specs.Players.{is_thread, is_queue, is_item, name_of, places, number_of};
+ghost use Rattle.zk_scenario.specs.Valid.{player_count};
 
 use crate::Decl;
 use crate::names::Names;
@@ -72,6 +73,25 @@ impl Objects {
         ensures all { result.now ≡ places is_item self.now }
     {
         &self.items
+    }
+
+    /// How many players there are: the threads, and a worker for each queue.
+    pub fn player_count(&self) -> usize
+        ensures { result ≡ player_count self.now }
+    {
+        self.threads.len() + self.queues.len()
+    }
+
+    pub fn queue_count(&self) -> usize
+        ensures { result ≡ count_by is_queue self.now }
+    {
+        self.queues.len()
+    }
+
+    pub fn item_count(&self) -> usize
+        ensures { result ≡ count_by is_item self.now }
+    {
+        self.items.len()
     }
 
     /// The number of an object among those of its kind.

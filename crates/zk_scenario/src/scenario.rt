@@ -1,4 +1,5 @@
 ghost use Rattle.std.specs.Prelude.{◌≡◌, ℕ, ◌++◌, length, slice_get};
+ghost use Rattle.zk_scenario.specs.Grammar.{IsReadable};
 ghost use Rattle.zk_scenario.specs.Parts.{Parts};
 ghost use Rattle.zk_scenario.specs.Players.{is_thread, is_queue, is_item, prio_of, places, players, who_of, number_of, calls_of};
 ghost use Rattle.zk_scenario.specs.Valid.{IsValid};
@@ -19,21 +20,31 @@ pub struct Scenario {
 }
 
 impl Model for Scenario {
+    ghost use Rattle.zk_scenario.specs.Grammar.{IsReadable};
     ghost use Rattle.zk_scenario.specs.Parts.{Parts};
-    ghost use Rattle.zk_scenario.specs.Valid.{IsValid};
+    ghost use Rattle.zk_scenario.specs.Grammar.{IsReadable};
 
     ghost Value = { Parts };
 
     ghost view = { λ a. record { decls = a.objects; scripts = a.scripts } };
 
-    ghost invariant = { λ a. IsValid (record { decls = a.objects; scripts = a.scripts }) };
+    ghost invariant = { λ a. IsReadable (record { decls = a.objects; scripts = a.scripts }) };
 }
 
 impl Scenario {
+    /// The scenario of what was read.
+    pub fn of(objects: Objects, scripts: Scripts) -> Scenario
+        requires { IsReadable (record { decls = objects; scripts = scripts }) }
+        ensures { result ≡ record { decls = objects; scripts = scripts } }
+    {
+        Scenario { objects, scripts }
+    }
+
     /// The declarations, in the written order.
     pub fn decls(&self) -> &[Decl]
         ensures all { result.now ≡ self.now.decls }
         ensures valid { IsValid self.now }
+        ensures readable { IsReadable self.now }
     {
         self.objects.decls()
     }

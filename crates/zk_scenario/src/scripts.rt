@@ -1,4 +1,4 @@
-ghost use Rattle.std.specs.Prelude.{◌≡◌, ℕ, ◌+◌, ◌-◌, ◌^◌, ◌<◌, None, [], ◌∷◌, ◌++◌, OnOk, OnErr, length, slice_get, vec_len};
+ghost use Rattle.std.specs.Prelude.{◌≡◌, ℕ, ◌+◌, ◌-◌, ◌^◌, ◌<◌, None, [], ◌∷◌, ◌++◌, OnOk, OnErr, IfErr, slice_get, vec_len};
 ghost use Rattle.std.specs.Option.{option_flatten};
 ghost use Rattle.zk_scenario.specs.Players.{calls_of};
 ghost use Rattle.zk_scenario.specs.Scripts.{script_of};
@@ -14,7 +14,7 @@ use zk_base::NoMemory;
 pub struct Scripts {
     scripts: Vec<Script>,
     // Under an object's number the place of its script. It ends behind the last object that has one.
-    by_owner: Vec<Option<u32>>,
+    by_owner: Vec<Option<usize>>,
 }
 
 impl Model for Scripts {
@@ -41,14 +41,13 @@ impl Scripts {
     }
 
     pub fn scripts(&self) -> &[Script]
-        ensures all { result.now ≡ self.now }
-        ensures few { length self.now < 2 ^ 32 }
+        ensures { result.now ≡ self.now }
     {
         &self.scripts
     }
 
     /// The place of an object's script.
-    pub fn find(&self, owner: u32) -> Option<u32>
+    pub fn find(&self, owner: u32) -> Option<usize>
         ensures { result ≡ script_of self.now owner }
     {
         place_under(&self.by_owner, owner)
@@ -60,37 +59,40 @@ impl Scripts {
     {
         match place_under(&self.by_owner, owner) {
             Some(place) => {
-                let script = &self.scripts[place as usize];
+                let script = &self.scripts[place];
                 script.calls.items()
             }
             None => &[],
         }
     }
 
-    /// One script more, of an object that has none.
-    pub fn push(&mut self, script: Script) -> Result<(), NoMemory>
-        requires few { length self.old < 2 ^ 32 - 1 }
-        requires fresh { script_of self.old script.owner ≡ None }
+    /// One script more, of an object that has none. For want of memory it comes back.
+    pub fn push(&mut self, script: Script) -> Result<(), Script>
+        requires { script_of self.old script.owner ≡ None }
         ensures ok { OnOk result (self.new ≡ self.old ++ script ∷ []) }
-        ensures unchanged { OnErr result (self.new ≡ self.old) }
+        ensures unchanged { IfErr result (λ back. (back ≡ script) × (self.new ≡ self.old)) }
     {
-        make_room(&mut self.scripts)?;
-        widen(&mut self.by_owner, script.owner)?;
-        let place = self.scripts.len() as u32;
+        let Ok(()) = make_room(&mut self.scripts) else {
+            return Err(script);
+        };
+        let Ok(()) = widen(&mut self.by_owner, script.owner) else {
+            return Err(script);
+        };
+        let place = self.scripts.len();
         self.by_owner[script.owner as usize] = Some(place);
         put(&mut self.scripts, script);
         Ok(())
     }
 }
 
-fn place_under(by_owner: &[Option<u32>], owner: u32) -> Option<u32>
+fn place_under(by_owner: &[Option<usize>], owner: u32) -> Option<usize>
     ensures { result ≡ option_flatten (slice_get by_owner.now owner) }
 {
     by_owner.get(owner as usize).copied().flatten()
 }
 
 /// Makes the table so long that it has a place for this owner, with nothing there as long as nothing is put.
-fn widen(by_owner: &mut Vec<Option<u32>>, owner: u32) -> Result<(), NoMemory>
+fn widen(by_owner: &mut Vec<Option<usize>>, owner: u32) -> Result<(), NoMemory>
     ensures long { OnOk result (owner < vec_len by_owner.new) }
     ensures same { (k : ℕ) → option_flatten (slice_get by_owner.new.items k) ≡ option_flatten (slice_get by_owner.old.items k) }
 {

@@ -83,7 +83,8 @@ impl WorkEngine {
         named: Option<u32>,
     ) -> Result<Option<WorkReply>, NoMemory>
         requires { self.old.state.entries < 2 ^ 32 - 1 }
-        ensures reply { IfOk result (λ reply. reply ≡ work_reply self.old.state who (WorkOp.Submit item named)) }
+        ensures reply { IfOk result (λ reply.
+            reply ≡ work_reply self.old.state who (WorkOp.Submit item named)) }
         ensures next { IfOk result (λ reply.
             self.new.state ≡ after_reply self.old.state who (WorkOp.Submit item named) reply) }
         ensures unchanged { OnErr result (self.new.state ≡ self.old.state) }
@@ -135,7 +136,8 @@ impl WorkEngine {
 
     fn cancel(&mut self, who: Who, item: u32) -> Result<Option<WorkReply>, NoMemory>
         requires { self.old.state.entries < 2 ^ 32 - 1 }
-        ensures reply { IfOk result (λ reply. reply ≡ Some (WorkReply.Flags (flags_of self.new.state item))) }
+        ensures reply { IfOk result (λ reply.
+            reply ≡ Some (WorkReply.Flags (flags_of self.new.state item))) }
         ensures next { IfOk result (λ reply.
             self.new.state ≡ after_reply self.old.state who (WorkOp.Cancel item) reply) }
         ensures unchanged { OnErr result (self.new.state ≡ self.old.state) }
@@ -155,7 +157,8 @@ impl WorkEngine {
     fn one(&mut self, who: Who, op: &WorkOp) -> Result<Option<WorkReply>, NoMemory>
         requires { self.old.state.entries < 2 ^ 32 - 1 }
         ensures reply { IfOk result (λ reply. reply ≡ work_reply self.old.state who op.now) }
-        ensures next { IfOk result (λ reply. self.new.state ≡ after_reply self.old.state who op.now reply) }
+        ensures next { IfOk result (λ reply.
+            self.new.state ≡ after_reply self.old.state who op.now reply) }
         ensures unchanged { OnErr result (self.new.state ≡ self.old.state) }
         ensures closing { work_closes op.now ≡ true → IsOk result }
         ensures roomy { 3 ≤ self.old.room → IsOk result }

@@ -6,3 +6,6 @@ mod work;
 
 pub use engine::WorkEngine;
 pub use work::Work;
+
+#[cfg(test)]
+mod tests;

@@ -14,7 +14,7 @@ pub struct Work {
 }
 
 impl Work {
-    /// The service before the first entry: so many items, and a queue for each worker, started or not.
+    /// The service before the first entry: so many items, and a queue for each worker.
     ///
     /// The workers' numbers are those of their players, in the order of the queues.
     pub fn new(

@@ -1,20 +1,17 @@
 -- The attempts of a player name items and queues that are declared.
-use Rattle.std.proofs.Common.{◌≡◌, ℕ, zero, suc, ◌+◌, ◌<◌, ◌≤◌, ◌&&◌, Bool, true, false, Option, Some, None, List, [], ◌∷◌, ◌++◌, length, take, count_by, All, refl, sym, ap, subst, ◌∙◌, arith, cond, eqb, nat_lt}
-use Rattle.std.specs.Option.{option_map, option_map_or, option_and_then}
+use Rattle.std.proofs.Common.{◌≡◌, ℕ, zero, suc, ◌+◌, ◌<◌, Bool, true, false, Option, Some, None, List, [], ◌∷◌, length, All, refl, ap, subst, arith, cond, nat_lt}
+use Rattle.std.specs.Option.{option_map, option_map_or}
 use Rattle.std.specs.List.{slice_get, list_all}
 use Rattle.std.proofs.lemmas.Bool.{and_parts, and_from}
 use Rattle.std.proofs.lemmas.Bool.Decides.{nat_tests}
-use Rattle.std.proofs.lemmas.List.Sums.{sum_by-cons}
 use Rattle.std.proofs.lemmas.List.Elements.{All-nil, All-cons, All-head, All-tail}
 use Rattle.std.proofs.lemmas.Option.{option_and_then_some}
 use Rattle.zk_scenario.specs.declared.types.Decl.{Decl}
 use Rattle.zk_scenario.specs.declared.types.Decl.TheVariants.{Thread, Queue, Item}
-use Rattle.zk_scenario.specs.declared.types.Ref.{Ref}
 use Rattle.zk_scenario.specs.declared.types.Ref.TheVariants.{Known}
 use Rattle.zk_scenario.specs.declared.types.Call.{Call}
 use Rattle.zk_scenario.specs.declared.types.Call.TheVariants.{Submit, Cancel}
-use Rattle.zk_scenario.specs.declared.types.Script.{Script}
-use Rattle.zk_scenario.specs.Players.{places_from, places, players, is_queue, is_item, same_kind, number_of, calls_of}
+use Rattle.zk_scenario.specs.Players.{places, players, is_queue, is_item, number_of, calls_of}
 use Rattle.zk_scenario.specs.Objects.{is_at}
 use Rattle.zk_scenario.specs.Parts.{Parts}
 use Rattle.zk_scenario.specs.Valid.{IsValid, call_fits}
@@ -32,11 +29,10 @@ use Rattle.zk_worker.specs.declared.frames.Role.{Role}
 use Rattle.zk_worker.specs.declared.frames.Role.TheVariants as roles
 use Rattle.zk_worker.specs.declared.frames.Progress.{Progress}
 use Rattle.zk_worker.specs.declared.frames.Progress.TheVariants.{Goes, Answers, Enters}
-use Rattle.zk_worker.specs.Calls.{ref_number, form_of, form_attempts}
+use Rattle.zk_worker.specs.Calls.{form_of, form_attempts}
 use Rattle.zk_worker.specs.Places.{At}
-use Rattle.zk_worker.specs.Protocol.{worker_attempts, call_attempts, role_attempts, frames_attempts, attempts, IsAhead, after, frames_after, frames_progress, settled, entered, first_frame, role_at, starting, start_at}
-use Rattle.zk_worker.specs.Ranges.{work_fits, step_fits, role_fits, FramesFit}
-use Rattle.zk_worker.proofs.Numbers.{All-slice_get}
+use Rattle.zk_worker.specs.Protocol.{worker_attempts, call_attempts, role_attempts, frames_attempts, IsAhead, after, frames_after, frames_progress, entered, first_frame, role_at, starting, start_at}
+use Rattle.zk_worker.specs.Ranges.{step_fits, role_fits, FramesFit}
 use Rattle.zk_worker.proofs.Moves.{settled-all, entered-all}
 
 lt-yes : (a b : ℕ) → a < b → nat_lt a b ≡ true
@@ -63,7 +59,7 @@ form_of-fits decls (Submit (Known item) None) fits =
 form_of-fits decls (Submit (Known item) (Some (Known queue))) fits =
     let both = and_parts (is_at is_item decls item) (is_at is_queue decls queue) fits in
     and_from (nat_lt (number_of decls item) (length (places is_item decls))) (nat_lt (number_of decls queue) (length (places is_queue decls)))
-        (item-fits decls item both.0) (queue-fits decls queue both.1)
+    (item-fits decls item both.0) (queue-fits decls queue both.1)
 form_of-fits decls (Cancel (Known item)) fits = item-fits decls item fits
 
 only : (x y : Step) (k : ℕ) → slice_get (x ∷ []) k ≡ Some y → x ≡ y
@@ -96,7 +92,7 @@ role_attempts-fit : (s : Parts) (role : Role) (next : ℕ) (stage : Stage) (k : 
     role_fits s.decls role ≡ true → slice_get (role_attempts s role next stage) k ≡ Some step → step_fits s.decls step ≡ true
 role_attempts-fit s (roles.Script owner) next stage k step valid fits is =
     call_attempts-fit s.decls (slice_get (calls_of s.scripts owner) next) stage k step
-        (call-fits s.decls (calls_of s.scripts owner) next (slice_get (calls_of s.scripts owner) next) refl (call_fits-calls_of s owner valid)) is
+    (call-fits s.decls (calls_of s.scripts owner) next (slice_get (calls_of s.scripts owner) next) refl (call_fits-calls_of s owner valid)) is
 role_attempts-fit s (roles.Worker queue) next stage k step valid fits is =
     worker_attempts-fit s.decls (number_of s.decls queue) stage k step (queue-fits s.decls queue fits) is
 
@@ -123,14 +119,15 @@ frames_after-fit s (frame ∷ below) progress fits =
     let P : Frame → Type 0 = λ f. role_fits s.decls f.role ≡ true in
     let here = All-head P frame below fits in
     let there = All-tail P frame below fits in
-    elim progress as (λ p. All P (frames_after s (frame ∷ below) p))
-        [ Goes stage ↦ All-cons P (record frame { stage = stage }) below here there
-        | Answers word answer ↦
-            let next = record frame { next = frame.next + 1; stage = stages.Start } in
-            settled-all P s (next ∷ below) (All-cons P next below here there)
-        | Enters owner stage ↦
-            let next = record frame { stage = stage } in
-            settled-all P s (entered (next ∷ below) owner) (entered-all P (next ∷ below) owner refl (All-cons P next below here there)) ]
+    elim progress as (λ p. All P (frames_after s (frame ∷ below) p)) [
+      | Goes stage ↦ All-cons P (record frame { stage = stage }) below here there
+      | Answers word answer ↦
+          let next = record frame { next = frame.next + 1; stage = stages.Start } in
+          settled-all P s (next ∷ below) (All-cons P next below here there)
+      | Enters owner stage ↦
+          let next = record frame { stage = stage } in
+          settled-all P s (entered (next ∷ below) owner) (entered-all P (next ∷ below) owner refl (All-cons P next below here there))
+    ]
 
 -- a step keeps the queues of the open runs
 pub after-fits : (s : Parts) (at : At) (made : Step) (reply : StepReply) → FramesFit s.decls at.frames → FramesFit s.decls (after s at made reply).frames
@@ -152,7 +149,7 @@ pub start_at-fits : (s : Parts) (number : ℕ) (at : At) → start_at s number �
 start_at-fits s number at is =
     let inner : ℕ → Option At = λ object. option_map (starting s number object) (slice_get s.decls object) in
     option_and_then_some inner (slice_get (players s.decls) number) at is
-        (λ object found made. from_decl s number object (slice_get s.decls object) refl at made)
+    (λ object found made. from_decl s number object (slice_get s.decls object) refl at made)
   where
     from_decl : (s : Parts) (number object : ℕ) (decl : Option Decl) → slice_get s.decls object ≡ decl → (at : At) →
         option_map (starting s number object) decl ≡ Some at → FramesFit s.decls at.frames

@@ -125,6 +125,7 @@ frames_attempts-few s (frame ∷ below) = role_few s frame.role frame.next frame
     call_few : (s : Parts) (call : Option Call) (stage : Stage) → length (call_attempts s.decls call stage) ≤ 1
     call_few s None stage = omega arith
     call_few s (Some call) stage = form_attempts-few (form_of s.decls call) stage
+
     role_few : (s : Parts) (role : Role) (next : ℕ) (stage : Stage) → length (role_attempts s role next stage) ≤ 1
     role_few s (Script owner) next stage = call_few s (slice_get (calls_of s.scripts owner) next) stage
     role_few s (Worker queue) next Start = omega arith
@@ -134,4 +135,4 @@ frames_attempts-few s (frame ∷ below) = role_few s frame.role frame.next frame
 pub attempts-few : (s : Parts) (at : At) → length (attempts s at) ≤ MOST_ATTEMPTS
 attempts-few s at =
     elim (nat_lt (length at.spots) MOST_STEPS) as (λ b. length (cond b (frames_attempts s at.frames) []) ≤ MOST_ATTEMPTS)
-        [ true ↦ omega (arith, frames_attempts-few s at.frames) | false ↦ omega arith ]
+    [ true ↦ omega (arith, frames_attempts-few s at.frames) | false ↦ omega arith ]

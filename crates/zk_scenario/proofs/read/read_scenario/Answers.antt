@@ -1,0 +1,19 @@
+use Rattle.std.proofs.Common.{ap, arith, rules, eqb, length}
+use Rattle.std.proofs.lemmas.List.Splits.{length-slice_split}
+use Rattle.std.proofs.lemmas.List.Sums.{count_by-le-length}
+use Rattle.zk_scenario.specs.Parts.{Parts}
+use Rattle.zk_scenario.proofs.Told.{IsReadable-read, text_of-read}
+use Rattle.zk_scenario.proofs.read.read_scenario.Goals as goal
+
+pub read_pieces-requires : goal.read_pieces-requires
+read_pieces-requires c =
+    let text = c.args.text.now in
+    omega (arith, ap length c.of-lines.ensures, length-slice_split (λ b. eqb b 10) text, count_by-le-length (λ b. eqb b 10) text)
+
+pub of-requires : goal.of-requires
+of-requires c =
+    let parts : Parts = record { decls = c.into_parts-objects.result.0; scripts = c.into_parts-objects.result.1 } in
+    IsReadable-read c.args.text.now parts (search rules)
+
+pub returns-in-Ok-clause-spelled : goal.returns-in-Ok-clause-spelled
+returns-in-Ok-clause-spelled c = text_of-read c.args.text.now c.of.result (search rules)

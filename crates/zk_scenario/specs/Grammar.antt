@@ -1,0 +1,89 @@
+use Rattle.std.specs.Prelude.{◌≡◌, ℕ, ◌+◌, ◌==◌, Bool, nat_lt, Option, None, Some, Result, Ok, Err, List, [], ◌∷◌, length, is_some, codes, if◌then◌else◌}
+use Rattle.std.specs.List.{slice_split}
+use Rattle.std.specs.Str.{bytes_eq}
+use Rattle.zk_scenario.specs.declared.form.Form.{Form}
+use Rattle.zk_scenario.specs.declared.form.Line.{Line}
+use Rattle.zk_scenario.specs.declared.form.Line.TheVariants as line
+use Rattle.zk_scenario.specs.declared.refused.Why.{Why}
+use Rattle.zk_scenario.specs.declared.refused.Why.TheVariants as why
+use Rattle.zk_scenario.specs.declared.refused.ScenarioRefused.{ScenarioRefused}
+use Rattle.zk_scenario.specs.declared.refused.ScenarioRefused.TheVariants.{At, NoMemory}
+use Rattle.zk_scenario.specs.Forms.{line_of}
+use Rattle.zk_scenario.specs.Parts.{Parts}
+use Rattle.zk_scenario.specs.Reading.{Reading, start}
+use Rattle.zk_scenario.specs.Spelling.{text_of}
+use Rattle.zk_scenario.specs.Verdict.{is_unbuilt, verdict, after}
+
+-- what the lines said, where no reason applies to the last of them
+abbrev pub told : Option Why → Reading → Result Reading Why
+told None r = Ok r
+told (Some reason) r = Err reason
+
+-- a line behind those before it, by what its spelling says
+abbrev pub taken : Reading → Line → Result Reading Why
+taken r line.Unbuilt = Err why.Unbuilt
+taken r line.Misspelled = Err why.Line
+taken r (line.Formed form) = told (verdict r form) (after r form)
+
+-- a line behind those before it
+abbrev pub read_line : Reading → List ℕ → Result Reading Why
+read_line r text = taken r (line_of text)
+
+-- why a last line without its line feed is refused
+abbrev pub unfed : Reading → Line → Why
+unfed r line.Unbuilt = why.Unbuilt
+unfed r line.Misspelled = why.Line
+unfed r (line.Formed form) = (if is_unbuilt r.decls form then why.Unbuilt else why.Line)
+
+-- the end of the input behind a line feed; n is the number after the last line
+abbrev pub ended : ℕ → Reading → Result Parts ScenarioRefused
+ended n r = (if is_some r.current then Err (At n why.Order) else Ok (record { decls = r.decls; scripts = r.scripts }))
+
+-- what stands behind the last line feed: nothing, or a line without its feed
+abbrev pub at_end : ℕ → Reading → List ℕ → Result Parts ScenarioRefused
+at_end n r [] = ended n r
+at_end n r (b ∷ bs) = Err (At n (unfed r (line_of (b ∷ bs))))
+
+-- what follows a line, where that is accepted
+abbrev pub behind : ℕ → Result Reading Why → (Reading → Result Parts ScenarioRefused) → Result Parts ScenarioRefused
+behind n (Ok r) next = next r
+behind n (Err reason) next = Err (At n reason)
+
+-- the pieces between the line feeds, from the one of number n on
+abbrev pub read_lines : ℕ → Reading → List ℕ → List (List ℕ) → Result Parts ScenarioRefused
+read_lines n r piece [] = at_end n r piece
+read_lines n r piece (next ∷ more) = behind n (read_line r piece) (λ s. read_lines (n + 1) s next more)
+
+-- what stands behind the header's line feed, if it has one
+abbrev pub behind_header : List (List ℕ) → Result Parts ScenarioRefused
+behind_header [] = Err (At 1 why.Line)
+behind_header (piece ∷ more) = read_lines 2 start piece more
+
+-- the pieces between the line feeds, the header first
+abbrev pub read_pieces : List (List ℕ) → Result Parts ScenarioRefused
+read_pieces [] = Err (At 1 why.Header)
+read_pieces (first ∷ more) = (if bytes_eq first (codes "zk 1") then behind_header more else Err (At 1 why.Header))
+
+-- the pieces between the line feeds of a text: its lines, and what stands behind the last feed
+abbrev pub pieces_of : List ℕ → List (List ℕ)
+pieces_of text = slice_split (λ b. b == 10) text
+
+-- the scenario of a text, or the first failing line and the first reason that applies there
+abbrev pub scenario_of : List ℕ → Result Parts ScenarioRefused
+scenario_of text = (if nat_lt 1048576 (length text) then Err (At 0 why.Length) else read_pieces (pieces_of text))
+
+-- an answer that is what the grammar says, or want of memory
+abbrev pub Answers : Result Parts ScenarioRefused → Result Parts ScenarioRefused → Type 0
+Answers (Ok parts) said = said ≡ Ok parts
+Answers (Err (At n reason)) said = said ≡ Err (At n reason)
+Answers (Err NoMemory) said = Unit {0}
+
+-- what was read to the end as the grammar says, or want of memory
+abbrev pub AnswersReading : Result Reading ScenarioRefused → Result Parts ScenarioRefused → Type 0
+AnswersReading (Ok r) said = said ≡ Ok (record { decls = r.decls; scripts = r.scripts })
+AnswersReading (Err (At n reason)) said = said ≡ Err (At n reason)
+AnswersReading (Err NoMemory) said = Unit {0}
+
+-- the text of a scenario is read as the scenario
+pub record IsReadable (p : Parts) : Type 0 where
+  pub read_back : scenario_of (text_of p) ≡ Ok p

@@ -1,0 +1,60 @@
+ghost use Rattle.std.specs.Prelude.{◌≡◌};
+ghost use Rattle.zk_scenario.specs.declared.refused.ScenarioRefused.TheVariants.{NoMemory};
+
+use std::fmt;
+use thiserror::Error;
+use zk_base as base;
+
+/// Why a line, or a whole input, is refused. It is printed as the name in lower case.
+#[derive(Clone, Copy, Debug, PartialEq, Eq)]
+pub enum Why {
+    /// The first line isn't `zk 1`.
+    Header,
+    /// No form of a line, a wrong spelling, or no line feed.
+    Line,
+    /// The line may not stand there.
+    Order,
+    /// A number out of its range.
+    Number,
+    /// A name that is declared twice, reserved, not declared, or of the wrong kind.
+    Name,
+    /// A limit is passed by this line.
+    Limit,
+    /// The input is too long.
+    Length,
+    /// The grammar has the line, and this program can't play it yet.
+    Unbuilt,
+}
+
+impl fmt::Display for Why {
+    fn fmt<W: fmt::Write>(&self, f: &mut fmt::Formatter<W>) -> fmt::Result {
+        f.write_str(match self {
+            Why::Header => "header",
+            Why::Line => "line",
+            Why::Order => "order",
+            Why::Number => "number",
+            Why::Name => "name",
+            Why::Limit => "limit",
+            Why::Length => "length",
+            Why::Unbuilt => "unbuilt",
+        })
+    }
+}
+
+/// Why no scenario was read.
+#[derive(Clone, Copy, Debug, PartialEq, Eq, Error)]
+pub enum ScenarioRefused {
+    /// The first failing line, counted from 1, and the first reason that applies there. Line 0 is the whole input.
+    #[error("line {0}: {1}")]
+    At(u32, Why),
+    #[error("out of memory")]
+    NoMemory,
+}
+
+impl From<base::NoMemory> for ScenarioRefused {
+    ghost from_gives = { λ _ e. e ≡ NoMemory };
+
+    fn from(_error: base::NoMemory) -> ScenarioRefused {
+        ScenarioRefused::NoMemory
+    }
+}

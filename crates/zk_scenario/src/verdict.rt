@@ -1,0 +1,149 @@
+ghost use Rattle.std.specs.Prelude.{◌≡◌, ◌+◌, length, option_map};
+ghost use Rattle.zk_scenario.specs.Objects.{is_at};
+ghost use Rattle.zk_scenario.specs.Players.{is_thread, is_queue, is_item};
+ghost use Rattle.zk_scenario.specs.Valid.{player_count};
+ghost use Rattle.zk_scenario.specs.Verdict.{named, names, is_taken, is_unbuilt, is_out_of_range, is_misnamed, object, ref};
+
+use crate::objects::Objects;
+use crate::{Decl, Form, Named, Ref};
+
+/// The object that a word names.
+pub fn named(objects: &Objects, name: &Named) -> Option<u32>
+    ensures { result ≡ named objects.now name.now }
+{
+    match name {
+        Named::Plain(name) => objects.find(name.bytes()),
+        Named::Reserved => None,
+    }
+}
+
+/// The object of a name that is known to be declared.
+pub fn object(objects: &Objects, name: &Named) -> u32
+    ensures { result ≡ object objects.now name.now }
+{
+    named(objects, name).unwrap_or(0)
+}
+
+/// The object of a name that is known to be declared, as a call names it.
+pub fn reference(objects: &Objects, name: &Named) -> Ref
+    ensures { result ≡ ref objects.now name.now }
+{
+    Ref::Known(object(objects, name))
+}
+
+/// Whether the grammar has the line, and the program can't play it yet.
+pub fn is_unbuilt(objects: &Objects, form: &Form) -> bool
+    ensures { result ≡ is_unbuilt objects.now form.now }
+{
+    match form {
+        Form::Thread(_, _, user) => *user,
+        Form::Queue(_, _, on) => !*on || 0 < objects.queue_count(),
+        Form::Script(owner) => names_item(objects, owner),
+        Form::Item(_) => false,
+        Form::Submit(_, _) => false,
+        Form::Cancel(_) => false,
+        Form::End => false,
+    }
+}
+
+/// Whether a number of the line is out of its range.
+pub fn is_out_of_range(form: &Form) -> bool
+    ensures { result ≡ is_out_of_range form.now }
+{
+    match form {
+        Form::Thread(_, prio, _) => !prio.is_some(),
+        Form::Queue(_, prio, _) => !prio.is_some(),
+        Form::Item(_) => false,
+        Form::Script(_) => false,
+        Form::Submit(_, _) => false,
+        Form::Cancel(_) => false,
+        Form::End => false,
+    }
+}
+
+/// Whether a name of the line is declared twice, reserved, not declared, or of the wrong kind.
+pub fn is_misnamed(objects: &Objects, form: &Form) -> bool
+    ensures { result ≡ is_misnamed objects.now form.now }
+{
+    match form {
+        Form::Thread(name, _, _) => is_taken(objects, name),
+        Form::Queue(name, _, _) => is_taken(objects, name),
+        Form::Item(name) => is_taken(objects, name),
+        Form::Script(owner) => !names_thread(objects, owner),
+        Form::Submit(item, None) => !names_item(objects, item),
+        Form::Submit(item, Some(queue)) => {
+            !(names_item(objects, item) && names_queue(objects, queue))
+        }
+        Form::Cancel(item) => !names_item(objects, item),
+        Form::End => false,
+    }
+}
+
+fn is_taken(objects: &Objects, name: &Named) -> bool
+    ensures { result ≡ is_taken objects.now name.now }
+{
+    match name {
+        Named::Plain(name) => objects.find(name.bytes()).is_some(),
+        Named::Reserved => true,
+    }
+}
+
+fn names_thread(objects: &Objects, name: &Named) -> bool
+    ensures { result ≡ names is_thread objects.now name.now }
+{
+    match named(objects, name) {
+        Some(object) => is_thread_at(objects.decls(), object),
+        None => false,
+    }
+}
+
+fn names_queue(objects: &Objects, name: &Named) -> bool
+    ensures { result ≡ names is_queue objects.now name.now }
+{
+    match named(objects, name) {
+        Some(object) => is_queue_at(objects.decls(), object),
+        None => false,
+    }
+}
+
+fn names_item(objects: &Objects, name: &Named) -> bool
+    ensures { result ≡ names is_item objects.now name.now }
+{
+    match named(objects, name) {
+        Some(object) => is_item_at(objects.decls(), object),
+        None => false,
+    }
+}
+
+fn is_thread_at(decls: &[Decl], object: u32) -> bool
+    ensures { result ≡ is_at is_thread decls.now object }
+{
+    match decls.get(object as usize) {
+        Some(Decl::Thread(..)) => true,
+        Some(Decl::Queue(..)) => false,
+        Some(Decl::Item(_)) => false,
+        None => false,
+    }
+}
+
+fn is_queue_at(decls: &[Decl], object: u32) -> bool
+    ensures { result ≡ is_at is_queue decls.now object }
+{
+    match decls.get(object as usize) {
+        Some(Decl::Queue(..)) => true,
+        Some(Decl::Thread(..)) => false,
+        Some(Decl::Item(_)) => false,
+        None => false,
+    }
+}
+
+fn is_item_at(decls: &[Decl], object: u32) -> bool
+    ensures { result ≡ is_at is_item decls.now object }
+{
+    match decls.get(object as usize) {
+        Some(Decl::Item(_)) => true,
+        Some(Decl::Thread(..)) => false,
+        Some(Decl::Queue(..)) => false,
+        None => false,
+    }
+}
