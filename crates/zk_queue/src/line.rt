@@ -1,0 +1,77 @@
+ghost use Rattle.std.specs.Prelude.{◌≡◌, ◌+◌, ◌<◌, ◌≤◌, ◌==◌, [], ◌∷◌, ◌++◌, length, drop, position, IfOk, vec_len};
+ghost use Rattle.zk_model_work.specs.Lists.{first};
+ghost use Rattle.zk_queue.specs.Line.{is_of, without, number_in};
+
+use crate::Ticket;
+use std::alloc::Global;
+use std::marker::Model;
+use zk_base::NoMemory;
+
+/// What waits for a queue, lowest number first.
+#[derive(Drop)]
+pub struct Line {
+    tickets: Vec<Ticket>,
+}
+
+impl Model for Line {
+    ghost use Rattle.std.specs.Prelude.{vec_capacity};
+    ghost use Rattle.zk_queue.specs.Line.{Held};
+
+    ghost Value = { Held };
+
+    ghost view = { λ a. record { tickets = a.tickets.items; capacity = vec_capacity a.tickets } };
+}
+
+/// The place of the item's first ticket.
+fn place(tickets: &[Ticket], item: u32) -> Option<usize>
+    ensures { result ≡ position (is_of item) tickets.now }
+{
+    tickets.iter().position(|t| t.item == item)
+}
+
+impl Line {
+    /// An empty line that takes so many tickets.
+    pub fn new(alloc: Global, capacity: usize) -> Result<Line, NoMemory>
+        ensures { IfOk result (λ l. l ≡ record { tickets = []; capacity = capacity }) }
+    {
+        let tickets = Vec::with_capacity(alloc, capacity)?;
+        Ok(Line { tickets })
+    }
+
+    /// Whether nothing waits.
+    pub fn is_empty(&self) -> bool
+        ensures { result ≡ (length self.now.tickets == 0) }
+    {
+        self.tickets.is_empty()
+    }
+
+    /// One more at the end.
+    pub fn push(&mut self, ticket: Ticket)
+        requires { length self.old.tickets < self.old.capacity }
+        ensures next { self.new.tickets ≡ self.old.tickets ++ ticket ∷ [] }
+        ensures room { self.old.capacity ≤ self.new.capacity }
+    {
+        match self.tickets.push(ticket) {
+            Ok(()) => {}
+            Err(_) => unreachable!(),
+        }
+    }
+
+    /// The first one.
+    pub fn first(&self) -> Option<Ticket>
+        ensures { result ≡ first self.now.tickets }
+    {
+        self.tickets.first().copied()
+    }
+
+    /// Takes the item's first ticket out, and says its number.
+    pub fn drop_item(&mut self, item: u32) -> Option<u64>
+        ensures reply { result ≡ number_in item self.old.tickets }
+        ensures next { self.new.tickets ≡ without item self.old.tickets }
+        ensures room { self.new.capacity ≡ self.old.capacity }
+    {
+        let place = place(&self.tickets, item)?;
+        let ticket = self.tickets.remove(place);
+        Some(ticket.number)
+    }
+}

@@ -1,0 +1,142 @@
+ghost use Rattle.std.specs.Prelude.{◌≡◌, ◌<◌, false, option_map, All, IfOk, IfSome};
+ghost use Rattle.zk_queue.specs.Open.{nothing_open, line, run, is_queued, IsAbove, flags, is_idle, mark, admit, waiting, drop_item, next, begin, end, pair_of};
+
+use crate::copies::copies;
+use crate::waiting::Waiting;
+use crate::{Marks, Ticket, runs};
+use std::alloc::Global;
+use std::marker::Model;
+use zk_base::NoMemory;
+use zk_model_work::{BusyFlags, united};
+
+/// The open admissions of the work service: what waits for each queue, what each queue runs, and
+/// the marks of each item.
+///
+/// Queues and items are numbers below those that `new` was given.
+#[derive(Drop)]
+pub struct Queues {
+    waiting: Waiting,
+    runs: Vec<Option<Ticket>>,
+    marks: Vec<Marks>,
+}
+
+impl Model for Queues {
+    ghost use Rattle.std.specs.Prelude.{◌≡◌, length};
+    ghost use Rattle.zk_queue.specs.Open.{Open};
+
+    ghost Value = { Open };
+
+    ghost view = { λ a. record {
+      items = length a.marks.items;
+      queues = length a.runs.items;
+      lines = a.waiting.lines;
+      runs = a.runs.items;
+      marks = a.marks.items;
+    } };
+
+    ghost invariant = { λ a. record {
+      items : a.waiting.items ≡ length a.marks.items;
+      queues : length a.waiting.lines ≡ length a.runs.items;
+    } };
+}
+
+impl Queues {
+    /// Nothing is open: so many items that don't wait and have no marks, and so many idle queues.
+    ///
+    /// It takes all the memory that the later calls need.
+    pub fn new(alloc: Global, items: u32, queues: u32) -> Result<Queues, NoMemory>
+        ensures { IfOk result (λ q. q ≡ nothing_open items queues) }
+    {
+        let waiting = Waiting::new(alloc, items, queues)?;
+        let runs = copies(alloc, None, queues)?;
+        let unmarked = Marks {
+            cancelling: false,
+            delayed: false,
+            flushing: false,
+        };
+        let marks = copies(alloc, unmarked, items)?;
+        Ok(Queues {
+            waiting,
+            runs,
+            marks,
+        })
+    }
+
+    /// The busy flags of the item. Zephyr's `k_work_busy_get`.
+    pub fn flags(&self, item: u32) -> BusyFlags
+        requires { item < self.now.items }
+        ensures { result.0 ≡ flags self.now item }
+    {
+        let marks = self.marks[item as usize];
+        united(
+            runs::is_any_of(&self.runs, item),
+            marks.cancelling,
+            self.waiting.has(item),
+            marks.delayed,
+            marks.flushing,
+        )
+    }
+
+    /// Marks the item as cancelling, delayed and flushing where these flags are set, and only there.
+    pub fn mark(&mut self, item: u32, bits: BusyFlags)
+        requires { item < self.old.items }
+        ensures { self.new ≡ mark self.old item bits.0 }
+    {
+        self.marks[item as usize] = Marks::among(bits);
+    }
+
+    /// The item waits for the queue, behind all that wait already: the numbers of admissions rise.
+    pub fn admit(&mut self, item: u32, queue: u32, number: u64)
+        requires item { item < self.old.items }
+        requires queue { queue < self.old.queues }
+        requires free { is_queued self.old item ≡ false }
+        requires above { IsAbove number self.old }
+        ensures { self.new ≡ admit self.old item queue number }
+    {
+        self.waiting.admit(item, queue, number);
+    }
+
+    /// The item waits no longer. The number of its admission, if it waited.
+    pub fn drop_item(&mut self, item: u32) -> Option<u64>
+        requires { item < self.old.items }
+        ensures reply { result ≡ waiting self.old item }
+        ensures next { self.new ≡ drop_item self.old item }
+    {
+        self.waiting.drop_item(item)
+    }
+
+    /// The queue begins the lowest that waits for it, if it runs nothing: the item and the number.
+    pub fn begin(&mut self, queue: u32) -> Option<(u32, u64)>
+        requires { queue < self.old.queues }
+        ensures reply { result ≡ option_map pair_of (next self.old queue) }
+        ensures next { self.new ≡ begin self.old queue }
+        ensures lowest { IfSome result (λ begun. All (λ t. begun.1 < t.number) (line self.new queue)) }
+    {
+        if self.runs[queue as usize].is_some() {
+            return None;
+        }
+        let ticket = self.waiting.first(queue)?;
+        self.waiting.drop_item(ticket.item);
+        self.runs[queue as usize] = Some(ticket);
+        Some((ticket.item, ticket.number))
+    }
+
+    /// What the queue runs ends: the item and the number.
+    pub fn end(&mut self, queue: u32) -> Option<(u32, u64)>
+        requires { queue < self.old.queues }
+        ensures reply { result ≡ option_map pair_of (run self.old queue) }
+        ensures next { self.new ≡ end self.old queue }
+    {
+        let ticket = self.runs[queue as usize]?;
+        self.runs[queue as usize] = None;
+        Some((ticket.item, ticket.number))
+    }
+
+    /// Whether nothing waits for the queue, and it runs nothing.
+    pub fn is_idle(&self, queue: u32) -> bool
+        requires { queue < self.now.queues }
+        ensures { result ≡ is_idle self.now queue }
+    {
+        self.runs[queue as usize].is_none() && self.waiting.is_empty(queue)
+    }
+}
