@@ -1,5 +1,8 @@
+ghost use Rattle.std.specs.Prelude.{◌≡◌};
+
 use crate::{Failed, Sink, Source};
 use std::io::{Read, Write};
+use std::marker::Model;
 
 /// A source over a reader, as standard input. It tells nothing of the bytes.
 #[derive(Drop)]
@@ -8,8 +11,19 @@ pub struct StdSource<R: Drop> {
     faults: u64,
 }
 
+impl<R: Drop> Model for StdSource<R> {
+    ghost use Rattle.std.specs.Prelude.{ℕ};
+
+    ghost Value = { ℕ };
+
+    ghost view = { λ s. s.faults };
+}
+
 impl<R: Read + Drop> StdSource<R> {
-    pub fn new(stream: R) -> StdSource<R> {
+    /// A source over this reader. A contract sees the count of its faults.
+    pub fn new(stream: R) -> StdSource<R>
+        ensures { result ≡ 0 }
+    {
         StdSource { stream, faults: 0 }
     }
 }
@@ -19,7 +33,7 @@ impl<R: Read + Drop> Source for StdSource<R> {
 
     ghost left = { λ _. None };
 
-    ghost faults = { λ s. s.faults };
+    ghost faults = { λ s. s };
 
     fn read(&mut self, into: &mut [u8]) -> Result<usize, Failed> {
         match self.stream.read(into) {
@@ -40,8 +54,19 @@ pub struct StdSink<W: Drop> {
     faults: u64,
 }
 
+impl<W: Drop> Model for StdSink<W> {
+    ghost use Rattle.std.specs.Prelude.{ℕ};
+
+    ghost Value = { ℕ };
+
+    ghost view = { λ s. s.faults };
+}
+
 impl<W: Write + Drop> StdSink<W> {
-    pub fn new(stream: W) -> StdSink<W> {
+    /// A sink over this writer. A contract sees the count of its faults.
+    pub fn new(stream: W) -> StdSink<W>
+        ensures { result ≡ 0 }
+    {
         StdSink { stream, faults: 0 }
     }
 }
@@ -51,7 +76,7 @@ impl<W: Write + Drop> Sink for StdSink<W> {
 
     ghost held = { λ _. None };
 
-    ghost faults = { λ s. s.faults };
+    ghost faults = { λ s. s };
 
     fn write(&mut self, piece: &[u8]) -> Result<usize, Failed> {
         match self.stream.write(piece) {

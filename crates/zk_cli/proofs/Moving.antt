@@ -26,9 +26,10 @@ at_end n xs ys read so short ended =
     (sym same ∙ sym (take_all n xs within), ended ∙ sym (drop_all n xs within))
 
 at_limit : (n : ℕ) (xs ys read : List ℕ) → xs ≡ read ++ ys → length read ≡ n → (read ≡ take n xs) × (ys ≡ drop n xs)
-at_limit n xs ys read so full =
-    (sym (ap (λ k. take k xs) (sym full) ∙ ap (λ l. take (length read) l) so ∙ take-append_seam read ys),
-     sym (ap (λ k. drop k xs) (sym full) ∙ ap (λ l. drop (length read) l) so ∙ drop-append_seam read ys))
+at_limit n xs ys read so full = (
+  sym (ap (λ k. take k xs) (sym full) ∙ ap (λ l. take (length read) l) so ∙ take-append_seam read ys),
+  sym (ap (λ k. drop k xs) (sym full) ∙ ap (λ l. drop (length read) l) so ∙ drop-append_seam read ys),
+)
 
 -- what was read to the end, or to one byte above the limit
 pub HasRead-done : (first left : Option (List ℕ)) (read : List ℕ) → Consumes first left read → ((length read ≤ 1048576) × IsAtEnd left) ⊎ (length read ≡ 1048577) → HasRead first left read

@@ -1,2 +1,5 @@
+pub mod Answer
 pub mod Input
 pub mod Output
+pub mod Refusal
+pub mod Top

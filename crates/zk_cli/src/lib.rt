@@ -1,5 +1,12 @@
 //! The program's top call, over any source and any sink.
 #![tactic(auto)]
 
+mod answer;
 mod input;
 mod output;
+#[cfg(test)]
+mod tests;
+mod top;
+
+pub use input::LIMIT;
+pub use top::zk_plain;

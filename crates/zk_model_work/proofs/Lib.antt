@@ -1,4 +1,6 @@
+pub mod Begins
 pub mod Counts
 pub mod Lines
+pub mod Lives
 pub mod Weights
 pub mod Writes

@@ -168,12 +168,16 @@ work_next s who op = let after = changed s who op in record after { entries = s.
 abbrev pub after_reply : State → Who → WorkOp → Option WorkReply → State
 after_reply s who op reply = if is_some reply then work_next s who op else s
 
--- the item and the queues that the operation names are there
+-- the item and the queue that the operation names are among so many items and queues
+abbrev pub is_among : ℕ → ℕ → WorkOp → Bool
+is_among items queues (Submit item named) = nat_lt item items && option_map_or (λ queue. nat_lt queue queues) named true
+is_among items queues (Begin queue) = nat_lt queue queues
+is_among items queues (End queue) = nat_lt queue queues
+is_among items queues (Cancel item) = nat_lt item items
+
+-- what the operation names is there
 abbrev pub in_range : State → WorkOp → Bool
-in_range s (Submit item named) = nat_lt item s.items && option_map_or (λ queue. nat_lt queue (length s.queues)) named true
-in_range s (Begin queue) = nat_lt queue (length s.queues)
-in_range s (End queue) = nat_lt queue (length s.queues)
-in_range s (Cancel item) = nat_lt item s.items
+in_range s op = is_among s.items (length s.queues) op
 
 -- the work machine
 abbrev pub work_machine : Machine State WorkOp WorkReply

@@ -113,7 +113,7 @@ pub fn taken_up(admissions: &[Admission], queue: u32) -> Option<WorkReply>
     Some(WorkReply::Run(admission.item, number as u64))
 }
 
-/// Whether the player may take up the next of this queue: its worker may, while the queue runs nothing.
+/// Whether the player may take up the next of this queue: its worker may, while it runs nothing.
 pub fn may_begin(admissions: &[Admission], queues: &[Queue], who: Who, queue: u32) -> bool
     ensures { result ≡ may_begin admissions.now queues.now who queue }
 {

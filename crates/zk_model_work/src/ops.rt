@@ -1,7 +1,7 @@
 use zk_base::Errno;
 
-/// What can be asked of the work service. An item is its number among the items, a queue its number among the queues,
-/// each from 0 in declared order.
+/// What can be asked of the work service. An item is its number among the items, a queue its number
+/// among the queues, each from 0 in declared order.
 #[derive(Clone, Copy, Debug)]
 pub enum WorkOp {
     /// Submits an item, to this queue where one is named. Zephyr's `k_work_submit_to_queue`.

@@ -1,4 +1,4 @@
-ghost use Rattle.std.specs.Prelude.{◌≡◌, ◌≢◌, ◌-◌, ◌^◌, ◌<◌, ◌≤◌, length, AllPairs, Some, IfOk, OnOk, OnErr};
+ghost use Rattle.std.specs.Prelude.{◌≡◌, ◌≢◌, ◌+◌, ◌-◌, ◌^◌, ◌<◌, ◌≤◌, length, vec_len, vec_capacity, AllPairs, Some, IsOk, IfOk, OnOk, OnErr};
 ghost use Rattle.zk_model_work.specs.State.{State, start_of, fresh_queues};
 ghost use Rattle.zk_model_work.specs.Machine.{work_reply, after_reply, submit, mark, flags_of};
 
@@ -11,7 +11,8 @@ use std::alloc::Global;
 use std::marker::Model;
 use zk_base::{NoMemory, Who};
 
-/// The state of the work machine, which contracts see as its definition has it. Nothing that was ever admitted is forgotten.
+/// The state of the work machine, which contracts see as its definition has it. Nothing that was
+/// ever admitted is forgotten.
 #[derive(Drop)]
 pub struct WorkState {
     time: u64,
@@ -47,6 +48,11 @@ impl Model for WorkState {
 pub fn submit(admissions: &mut Vec<Admission>, item: u32, answer: Submitted) -> Result<(), NoMemory>
     ensures ok { OnOk result (admissions.new.items ≡ submit admissions.old.items item answer) }
     ensures err { OnErr result (admissions.new.items ≡ admissions.old.items) }
+
+    // Memory: one place of it is enough.
+    ensures roomy { vec_len admissions.old < vec_capacity admissions.old → IsOk result }
+    ensures len { vec_len admissions.new ≤ vec_len admissions.old + 1 }
+    ensures capacity { vec_capacity admissions.old ≤ vec_capacity admissions.new }
 {
     match answer {
         Submitted::Fresh(_, queue) | Submitted::Rerun(_, queue) => {
@@ -65,6 +71,11 @@ pub fn submit(admissions: &mut Vec<Admission>, item: u32, answer: Submitted) -> 
 pub fn mark(admissions: &[Admission], marks: &mut Vec<u64>, item: u32) -> Result<(), NoMemory>
     ensures ok { OnOk result (marks.new.items ≡ mark admissions.now marks.old.items item) }
     ensures err { OnErr result (marks.new.items ≡ marks.old.items) }
+
+    // Memory: one place of it is enough.
+    ensures roomy { vec_len marks.old < vec_capacity marks.old → IsOk result }
+    ensures len { vec_len marks.new ≤ vec_len marks.old + 1 }
+    ensures capacity { vec_capacity marks.old ≤ vec_capacity marks.new }
 {
     match running(admissions, item) {
         None => Ok(()),
@@ -76,7 +87,11 @@ pub fn mark(admissions: &[Admission], marks: &mut Vec<u64>, item: u32) -> Result
 }
 
 /// The queues of these workers, none of them used yet.
-fn fresh_queues(alloc: Global, workers: &[u32], started: &[bool]) -> Result<Vec<Queue>, NoMemory>
+pub fn fresh_queues(
+    alloc: Global,
+    workers: &[u32],
+    started: &[bool],
+) -> Result<Vec<Queue>, NoMemory>
     requires same { length workers.now ≡ length started.now }
     ensures { IfOk result (λ queues. queues.items ≡ fresh_queues workers.now started.now) }
 {
@@ -94,7 +109,7 @@ fn fresh_queues(alloc: Global, workers: &[u32], started: &[bool]) -> Result<Vec<
 }
 
 impl WorkState {
-    /// The state before the first entry: so many items, and a queue for each worker, started or not.
+    /// The state before the first entry: so many items, and a queue for each worker.
     ///
     /// The workers' numbers are those of their players, in the order of the queues.
     pub fn new(
@@ -129,8 +144,10 @@ impl WorkState {
         named: Option<u32>,
     ) -> Result<Option<WorkReply>, NoMemory>
         requires { self.old.entries < 2 ^ 32 - 1 }
-        ensures reply { IfOk result (λ reply. reply ≡ work_reply self.old who (WorkOp.Submit item named)) }
-        ensures next { IfOk result (λ reply. self.new ≡ after_reply self.old who (WorkOp.Submit item named) reply) }
+        ensures reply { IfOk result (λ reply.
+            reply ≡ work_reply self.old who (WorkOp.Submit item named)) }
+        ensures next { IfOk result (λ reply.
+            self.new ≡ after_reply self.old who (WorkOp.Submit item named) reply) }
         ensures unchanged { OnErr result (self.new ≡ self.old) }
     {
         let answer = submission(
@@ -176,8 +193,10 @@ impl WorkState {
 
     fn cancel(&mut self, who: Who, item: u32) -> Result<Option<WorkReply>, NoMemory>
         requires { self.old.entries < 2 ^ 32 - 1 }
-        ensures reply { IfOk result (λ reply. reply ≡ Some (WorkReply.Flags (flags_of self.new item))) }
-        ensures next { IfOk result (λ reply. self.new ≡ after_reply self.old who (WorkOp.Cancel item) reply) }
+        ensures reply { IfOk result (λ reply.
+            reply ≡ Some (WorkReply.Flags (flags_of self.new item))) }
+        ensures next { IfOk result (λ reply.
+            self.new ≡ after_reply self.old who (WorkOp.Cancel item) reply) }
         ensures unchanged { OnErr result (self.new ≡ self.old) }
     {
         mark(&self.admissions, &mut self.marks, item)?;
@@ -190,7 +209,9 @@ impl WorkState {
     }
 }
 
-/// One operation of the work machine: its reply and its next state. Where it isn't possible nothing changes.
+/// One operation of the work machine: its reply and its next state.
+///
+/// `None` says that the operation isn't possible now.
 pub fn work_next(
     state: &mut WorkState,
     who: Who,

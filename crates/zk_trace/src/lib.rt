@@ -3,8 +3,10 @@
 
 mod entries;
 mod names;
+mod print;
 mod sections;
 mod trace;
 mod words;
 
+pub use print::{print_trace, put_trace};
 pub use trace::{Ending, History, Logs, Trace};

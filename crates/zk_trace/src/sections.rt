@@ -47,11 +47,7 @@ fn put_entries(
 }
 
 /// Appends the sections of all players.
-pub fn put_players(
-    out: &mut Vec<u8>,
-    scenario: &Scenario,
-    logs: &[Log],
-) -> Result<(), NoMemory>
+pub fn put_players(out: &mut Vec<u8>, scenario: &Scenario, logs: &[Log]) -> Result<(), NoMemory>
     ensures { OnOk result (out.new.items ≡ out.old.items ++ player_sections scenario.now.decls 0 logs.now) }
 {
     for (player, log) in logs.iter().enumerate() {

@@ -1,10 +1,10 @@
 -- What a step keeps of the limits of a player.
-use Rattle.std.proofs.Common.{◌≡◌, ℕ, ◌+◌, ◌<◌, ◌≤◌, Bool, true, false, Option, Some, List, [], ◌∷◌, ◌++◌, length, All, refl, sym, subst, arith, cond, length-append, nat_lt}
+use Rattle.std.proofs.Common.{◌≡◌, ℕ, ◌+◌, ◌<◌, ◌≤◌, Bool, true, false, Option, Some, None, List, [], ◌∷◌, ◌++◌, length, All, refl, sym, subst, arith, cond, length-append, nat_lt}
 use Rattle.std.specs.List.{slice_get}
 use Rattle.std.proofs.lemmas.List.Elements.{All-nil, All-cons, All-head, All-tail, All-weaker}
 use Rattle.std.proofs.lemmas.Bool.Decides.{nat_tests}
 use Rattle.zk_scenario.specs.Parts.{Parts}
-use Rattle.zk_worker.specs.declared.steps.TheConstants.{MOST_STEPS}
+use Rattle.zk_worker.specs.declared.steps.TheConstants.{MOST_STEPS, MOST_ATTEMPTS}
 use Rattle.zk_worker.specs.declared.steps.Step.{Step}
 use Rattle.zk_worker.specs.declared.steps.Spot.{Spot}
 use Rattle.zk_worker.specs.declared.answers.Answered.{Answered}
@@ -12,10 +12,17 @@ use Rattle.zk_worker.specs.declared.frames.TheConstants.{MOST_FRAMES}
 use Rattle.zk_worker.specs.declared.frames.Frame.{Frame}
 use Rattle.zk_worker.specs.declared.frames.Progress.{Progress}
 use Rattle.zk_worker.specs.declared.frames.Progress.TheVariants.{Goes, Answers, Enters}
-use Rattle.zk_worker.specs.declared.frames.Role.TheVariants.{Script}
-use Rattle.zk_worker.specs.declared.frames.Stage.TheVariants.{Start}
+use Rattle.zk_worker.specs.declared.frames.Role.{Role}
+use Rattle.zk_worker.specs.declared.frames.Role.TheVariants.{Script, Worker}
+use Rattle.zk_worker.specs.declared.frames.Stage.{Stage}
+use Rattle.zk_worker.specs.declared.frames.Stage.TheVariants.{Start, Runs}
+use Rattle.zk_worker.specs.declared.frames.Form.{Form}
+use Rattle.zk_worker.specs.declared.frames.Form.TheVariants.{One}
 use Rattle.zk_worker.specs.Places.{At}
-use Rattle.zk_worker.specs.Protocol.{attempts, IsAhead, is_over, settled, entered, first_frame, frames_after, answers_after, frames_attempts}
+use Rattle.zk_worker.specs.Calls.{form_of, form_attempts}
+use Rattle.zk_scenario.specs.declared.types.Call.{Call}
+use Rattle.zk_scenario.specs.Players.{calls_of}
+use Rattle.zk_worker.specs.Protocol.{attempts, IsAhead, is_over, settled, entered, first_frame, frames_after, answers_after, frames_attempts, role_attempts, call_attempts}
 use Rattle.zk_worker.specs.Stacks.{IsRoomy}
 
 ahead_of : (b : Bool) (steps : List Step) (k : ℕ) (step : Step) → slice_get (cond b steps []) k ≡ Some step → b ≡ true
@@ -106,3 +113,26 @@ IsRoomy-moved s frames frames' answers answers' spots spots' spot number progres
     subst (λ (f : List Frame). IsRoomy f answers' spots' a' b' c') (sym frames_are)
     (subst (λ (n : List Answered). IsRoomy (frames_after s frames progress) n spots' a' b' c') (sym answers_are)
     (subst (λ (p : List Spot). IsRoomy (frames_after s frames progress) (answers_after answers number progress) p a' b' c') (sym spots_are) here))
+
+form_attempts-few : (form : Form) (stage : Stage) → length (form_attempts form stage) ≤ 1
+form_attempts-few (One step) Start = omega arith
+form_attempts-few (One step) Runs = omega arith
+
+frames_attempts-few : (s : Parts) (frames : List Frame) → length (frames_attempts s frames) ≤ 1
+frames_attempts-few s [] = omega arith
+frames_attempts-few s (frame ∷ below) = role_few s frame.role frame.next frame.stage
+  where
+    call_few : (s : Parts) (call : Option Call) (stage : Stage) → length (call_attempts s.decls call stage) ≤ 1
+    call_few s None stage = omega arith
+    call_few s (Some call) stage = form_attempts-few (form_of s.decls call) stage
+
+    role_few : (s : Parts) (role : Role) (next : ℕ) (stage : Stage) → length (role_attempts s role next stage) ≤ 1
+    role_few s (Script owner) next stage = call_few s (slice_get (calls_of s.scripts owner) next) stage
+    role_few s (Worker queue) next Start = omega arith
+    role_few s (Worker queue) next Runs = omega arith
+
+-- a player has few attempts at a time
+pub attempts-few : (s : Parts) (at : At) → length (attempts s at) ≤ MOST_ATTEMPTS
+attempts-few s at =
+    elim (nat_lt (length at.spots) MOST_STEPS) as (λ b. length (cond b (frames_attempts s at.frames) []) ≤ MOST_ATTEMPTS)
+    [ true ↦ omega (arith, frames_attempts-few s at.frames) | false ↦ omega arith ]

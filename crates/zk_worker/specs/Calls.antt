@@ -1,4 +1,4 @@
-use Rattle.std.specs.Prelude.{ℕ, Option, List, [], ◌∷◌, option_map}
+use Rattle.std.specs.Prelude.{ℕ, List, [], ◌∷◌, option_map}
 use Rattle.zk_scenario.specs.declared.types.Decl.{Decl}
 use Rattle.zk_scenario.specs.declared.types.Ref.{Ref}
 use Rattle.zk_scenario.specs.declared.types.Ref.TheVariants.{Known}
@@ -21,7 +21,7 @@ use Rattle.zk_worker.specs.declared.answers.Word.TheVariants as words
 use Rattle.zk_worker.specs.declared.frames.Form.{Form}
 use Rattle.zk_worker.specs.declared.frames.Form.TheVariants.{One}
 use Rattle.zk_worker.specs.declared.frames.Stage.{Stage}
-use Rattle.zk_worker.specs.declared.frames.Stage.TheVariants.{Start, Runs}
+use Rattle.zk_worker.specs.declared.frames.Stage.TheVariants.{Start}
 use Rattle.zk_worker.specs.declared.frames.Progress.{Progress}
 use Rattle.zk_worker.specs.declared.frames.Progress.TheVariants.{Answers}
 

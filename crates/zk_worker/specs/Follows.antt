@@ -1,4 +1,4 @@
-use Rattle.std.specs.Prelude.{◌≡◌, ℕ, Bool, true, false, nat_lt, if◌then◌else◌, Option, Some, None, List, [], ◌∷◌, length, map, slice_get, option_map}
+use Rattle.std.specs.Prelude.{◌≡◌, ℕ, Bool, true, false, nat_le, if◌then◌else◌, Option, Some, List, [], ◌∷◌, length, map, slice_get, option_map}
 use Rattle.zk_base.specs.declared.ids.Entry.{Entry}
 use Rattle.zk_scenario.specs.Parts.{Parts}
 use Rattle.zk_model_work.specs.declared.ops.WorkOp.{WorkOp}
@@ -11,9 +11,9 @@ use Rattle.zk_worker.specs.declared.steps.StepReply.TheVariants as step_replies
 use Rattle.zk_worker.specs.declared.steps.Spot.{Spot}
 use Rattle.zk_worker.specs.declared.steps.Spot.TheVariants as spots
 use Rattle.zk_worker.specs.declared.frames.Stage.{Stage}
-use Rattle.zk_worker.specs.declared.frames.Stage.TheVariants.{Start, Runs}
+use Rattle.zk_worker.specs.declared.frames.Stage.TheVariants.{Start}
 use Rattle.zk_worker.specs.declared.frames.Role.{Role}
-use Rattle.zk_worker.specs.declared.frames.Role.TheVariants.{Script, Worker}
+use Rattle.zk_worker.specs.declared.frames.Role.TheVariants.{Worker}
 use Rattle.zk_worker.specs.declared.frames.Frame.{Frame}
 use Rattle.zk_worker.specs.declared.log.PlayerState.{PlayerState}
 use Rattle.zk_worker.specs.declared.log.PlayerState.TheVariants.{Spent, Done, Standing}
@@ -32,9 +32,13 @@ is_done [] = true
 is_done (frame ∷ []) = is_between frame.role frame.stage
 is_done frames = false
 
+-- whether a player has made all its steps
+abbrev pub is_spent_at : At → Bool
+is_spent_at at = nat_le MOST_STEPS (length at.spots)
+
 -- the state of a player: the first that applies
 abbrev pub state_at : At → PlayerState
-state_at at = if nat_lt (length at.spots) MOST_STEPS then (if is_done at.frames then Done else Standing) else Spent
+state_at at = if is_spent_at at then Spent else (if is_done at.frames then Done else Standing)
 
 -- what is logged of a player
 abbrev pub log_of : At → Log

@@ -1,25 +1,17 @@
-use Rattle.std.specs.Prelude.{◌≡◌, ℕ, Bool, true, false, ◌&&◌, nat_lt, List, length, slice_get, All}
+use Rattle.std.specs.Prelude.{◌≡◌, Bool, true, false, List, length, slice_get, All}
 use Rattle.std.specs.Option.{option_map_or}
 use Rattle.zk_scenario.specs.declared.types.Decl.{Decl}
 use Rattle.zk_scenario.specs.Players.{places, is_queue, is_item}
-use Rattle.zk_model_work.specs.declared.ops.WorkOp.{WorkOp}
-use Rattle.zk_model_work.specs.declared.ops.WorkOp.TheVariants.{Submit, Cancel, Begin, End}
+use Rattle.zk_model_work.specs.Machine.{is_among}
 use Rattle.zk_worker.specs.declared.steps.Step.{Step}
 use Rattle.zk_worker.specs.declared.steps.Step.TheVariants as steps
 use Rattle.zk_worker.specs.declared.frames.Role.{Role}
 use Rattle.zk_worker.specs.declared.frames.Role.TheVariants.{Script, Worker}
 use Rattle.zk_worker.specs.declared.frames.Frame.{Frame}
 
--- whether the items and the queues of an operation are among so many
-abbrev pub work_fits : ℕ → ℕ → WorkOp → Bool
-work_fits items queues (Submit item named) = nat_lt item items && option_map_or (λ queue. nat_lt queue queues) named true
-work_fits items queues (Cancel item) = nat_lt item items
-work_fits items queues (Begin queue) = nat_lt queue queues
-work_fits items queues (End queue) = nat_lt queue queues
-
 -- whether the objects of a step are declared
 abbrev pub step_fits : List Decl → Step → Bool
-step_fits decls (steps.Work op) = work_fits (length (places is_item decls)) (length (places is_queue decls)) op
+step_fits decls (steps.Work op) = is_among (length (places is_item decls)) (length (places is_queue decls)) op
 
 -- whether a worker's queue is declared as one
 abbrev pub role_fits : List Decl → Role → Bool

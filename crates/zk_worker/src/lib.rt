@@ -14,4 +14,4 @@ pub use answers::{Answer, Answered, Answers, Word};
 pub use frames::{Form, Frame, Progress, Role, Stage};
 pub use log::{Log, PlayerState};
 pub use player::Player;
-pub use steps::{Spot, Spots, Step, StepReply};
+pub use steps::{MOST_ATTEMPTS, MOST_STEPS, Spot, Spots, Step, StepReply};

@@ -1,7 +1,7 @@
-ghost use Rattle.std.specs.Prelude.{◌≡◌, ◌<◌, slice_get, reverse, length, IfOk, OnErr, Some};
+ghost use Rattle.std.specs.Prelude.{◌≡◌, ◌<◌, ◌≤◌, slice_get, reverse, length, IfOk, OnErr, Some};
 ghost use Rattle.zk_scenario.specs.Players.{players, prio_of};
 ghost use Rattle.zk_worker.specs.Protocol.{attempts, after, start_at, starting, role_at, IsAhead};
-ghost use Rattle.zk_worker.specs.Follows.{state_at, log_of, is_done, is_between};
+ghost use Rattle.zk_worker.specs.Follows.{state_at, log_of, is_done, is_between, is_spent_at};
 
 use crate::frames::MOST_FRAMES;
 use crate::protocol::spot_of;
@@ -161,14 +161,36 @@ impl Player {
     pub fn state(&self) -> PlayerState
         ensures { result ≡ state_at self.now }
     {
-        if self.spots.len() < MOST_STEPS as usize {
-            return if is_done(&self.stack) {
-                PlayerState::Done
-            } else {
-                PlayerState::Standing
-            };
+        if self.is_spent() {
+            return PlayerState::Spent;
         }
-        PlayerState::Spent
+        if self.is_done() {
+            PlayerState::Done
+        } else {
+            PlayerState::Standing
+        }
+    }
+
+    /// Whether it is a thread that is through its script, or a worker between two runs.
+    pub fn is_done(&self) -> bool
+        ensures { result ≡ is_done self.now.frames }
+    {
+        is_done(&self.stack)
+    }
+
+    /// How many steps it has made.
+    pub fn steps(&self) -> u32
+        ensures count { result ≡ length self.now.spots }
+        ensures most { result ≤ MOST_STEPS }
+    {
+        self.spots.len() as u32
+    }
+
+    /// Whether it has made all the steps that a player may make.
+    pub fn is_spent(&self) -> bool
+        ensures { result ≡ is_spent_at self.now }
+    {
+        self.spots.len() >= MOST_STEPS as usize
     }
 
     /// Where each of its steps is recorded, by the number of the step.

@@ -6,12 +6,12 @@ pub returns-then-branch-eq0-clause-bytes : goal.returns-then-branch-eq0-clause-b
 returns-then-branch-eq0-clause-bytes g c =
     let short : length c.read_some.new.bytes.items ≤ 1048576 = omega (arith, c.in_ok-read_some.ensures.size) in
     HasRead-end (g.S.Source.left c.args.source.now) (g.S.Source.left c.loop.source) (g.S.Source.left c.read_some.new.source) c.loop.bytes.items c.read_some.new.bytes.items
-        c.in_ok-read_some.field-0 c.loop.invariant.consumed c.in_ok-read_some.ensures.moved c.if-branch-eq0.true short
+    c.in_ok-read_some.field-0 c.loop.invariant.consumed c.in_ok-read_some.ensures.moved c.if-branch-eq0.true short
 
 pub returns-then-len-gt-LIMIT-clause-bytes : goal.returns-then-len-gt-LIMIT-clause-bytes
 returns-then-len-gt-LIMIT-clause-bytes g c =
     let full : length c.read_some.new.bytes.items ≡ 1048577 = omega (arith, c.in_ok-read_some.ensures.within) in
     HasRead-done (g.S.Source.left c.args.source.now) (g.S.Source.left c.read_some.new.source) c.read_some.new.bytes.items
-        (Consumes-more (g.S.Source.left c.args.source.now) (g.S.Source.left c.loop.source) (g.S.Source.left c.read_some.new.source) c.loop.bytes.items c.read_some.new.bytes.items
-            c.in_ok-read_some.field-0 c.loop.invariant.consumed c.in_ok-read_some.ensures.moved)
-        (inr full)
+    (Consumes-more (g.S.Source.left c.args.source.now) (g.S.Source.left c.loop.source) (g.S.Source.left c.read_some.new.source) c.loop.bytes.items c.read_some.new.bytes.items
+    c.in_ok-read_some.field-0 c.loop.invariant.consumed c.in_ok-read_some.ensures.moved)
+    (inr full)

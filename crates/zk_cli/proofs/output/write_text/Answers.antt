@@ -13,8 +13,9 @@ loop-written-preserved g c =
     let fits = c.in_ok-written.ensures.bound in
     let counted = c.write.ensures.cause.0 in
     record {
-        within = omega arith;
-        held = Appends-more (g.K.Sink.held c.args.sink.now) (g.K.Sink.held c.loop-written.sink) (g.K.Sink.held c.write.new.self) text done c.in_ok-written.field-0
-            c.loop-written.invariant.within c.loop-written.invariant.held
-            (subst (λ (l : List ℕ). Appends (g.K.Sink.held c.loop-written.sink) (g.K.Sink.held c.write.new.self) (take c.in_ok-written.field-0 l)) rest c.in_ok-written.ensures.bytes);
-        counted = omega (arith, counted) }
+      within = omega arith;
+      held = Appends-more (g.K.Sink.held c.args.sink.now) (g.K.Sink.held c.loop-written.sink) (g.K.Sink.held c.write.new.self) text done c.in_ok-written.field-0
+          c.loop-written.invariant.within c.loop-written.invariant.held
+          (subst (λ (l : List ℕ). Appends (g.K.Sink.held c.loop-written.sink) (g.K.Sink.held c.write.new.self) (take c.in_ok-written.field-0 l)) rest c.in_ok-written.ensures.bytes);
+      counted = omega (arith, counted);
+    }

@@ -12,7 +12,7 @@ use Rattle.zk_worker.proofs.player.Player.new.Goals as goal
 pub unreachable-requires-in_default-get : goal.unreachable-requires-in_default-get
 unreachable-requires-in_default-get c =
     let below = players-below c.args.scenario.now.decls c.args.number c.in-Some.object (sym c.in-Some.ensures) in
-    let within : c.in-Some.object < length c.decls.result.now = subst (λ (l : List Decl). c.in-Some.object < length l) (sym c.decls.ensures.decls) below in
+    let within : c.in-Some.object < length c.decls.result.now = subst (λ (l : List Decl). c.in-Some.object < length l) (sym c.decls.ensures.all) below in
     let bad = c.in_default-get.ensures.lookup.2 within in
     cc
 
@@ -22,9 +22,9 @@ returns c =
     let decl = c.in-Some-get.decl.now in
     let object = c.in-Some.object in
     let below = players-below s.decls c.args.number object (sym c.in-Some.ensures) in
-    let within : object < length c.decls.result.now = subst (λ (l : List Decl). object < length l) (sym c.decls.ensures.decls) below in
+    let within : object < length c.decls.result.now = subst (λ (l : List Decl). object < length l) (sym c.decls.ensures.all) below in
     let declared : slice_get s.decls object ≡ Some decl =
-    subst (λ (l : List Decl). slice_get l object ≡ Some decl) c.decls.ensures.decls
+    subst (λ (l : List Decl). slice_get l object ≡ Some decl) c.decls.ensures.all
     (slice_get_read c.decls.result.now (length c.decls.result.now) object decl refl within c.in-Some-get.ensures.lookup.1) in
     let frame : c.first_frame.result ≡ first_frame (role_at decl object) = c.first_frame.ensures ∙ ap first_frame c.role_at.ensures in
     let stack : c.put.new.items.items ≡ first_frame (role_at decl object) ∷ [] =

@@ -1,0 +1,45 @@
+//! Times of reading, playing and printing a scenario of 4,000 submissions over 60 threads. With no word it does nothing.
+#![tactic(auto)]
+
+mod scenario;
+
+use std::time::Instant;
+use std::{env, io};
+use zk_replay::replay;
+use zk_scenario::read_scenario;
+use zk_trace::put_trace;
+
+fn main(rt: HostRuntime) -> io::Result<()> {
+    if env::args(&rt)?.count() < 2 {
+        return Ok(());
+    }
+    let text = scenario::submissions(rt.alloc())?;
+    let start = Instant::now(&rt)?;
+    let Ok(scenario) = read_scenario(rt.alloc(), &text) else {
+        return println!(rt; "the scenario was refused");
+    };
+    let read = start.elapsed(&rt)?;
+    let start = Instant::now(&rt)?;
+    let Ok(trace) = replay(rt.alloc(), &scenario) else {
+        return println!(rt; "out of memory");
+    };
+    let played = start.elapsed(&rt)?;
+    let start = Instant::now(&rt)?;
+    let mut output = text;
+    let printing = put_trace(&mut output, &scenario, &trace);
+    let printed = start.elapsed(&rt)?;
+    if printing.is_err() {
+        return println!(rt; "out of memory");
+    }
+    println!(rt; "reading  {:>8} us", read.as_micros())?;
+    println!(rt;
+        "playing  {:>8} us, {} entries",
+        played.as_micros(),
+        trace.work.items().len()
+    )?;
+    println!(rt;
+        "printing {:>8} us, {} bytes",
+        printed.as_micros(),
+        output.len()
+    )
+}

@@ -1,0 +1,49 @@
+use Rattle.std.specs.Prelude.{◌≡◌, ℕ, Option, Result, Ok, Err, List, ◌++◌, IfSome}
+use Rattle.std.specs.Io.KnownBytes.{Appends}
+use Rattle.zk_base.specs.declared.errors.Status.{Status}
+use Rattle.zk_base.specs.declared.errors.Status.TheVariants as statuses
+use Rattle.zk_base.specs.Legal.{IsLegal}
+use Rattle.zk_model_work.specs.Machine.{work_machine}
+use Rattle.zk_scenario.specs.Parts.{Parts}
+use Rattle.zk_scenario.specs.declared.refused.ScenarioRefused.{ScenarioRefused}
+use Rattle.zk_scenario.specs.declared.refused.ScenarioRefused.TheVariants as refusals
+use Rattle.zk_scenario.specs.Grammar.{scenario_of}
+use Rattle.zk_scenario.specs.Spelling.{text_of}
+use Rattle.zk_trace.specs.declared.trace.Trace.{Trace}
+use Rattle.zk_trace.specs.declared.trace.Ending.{Ending}
+use Rattle.zk_trace.specs.declared.trace.Ending.TheVariants as endings
+use Rattle.zk_trace.specs.Text.{trace_text}
+use Rattle.zk_replay.specs.Replay.{IsReplay, work_start_of}
+use Rattle.zk_cli.specs.Output.{AppendsFront}
+use Rattle.zk_cli.specs.Refusal.{refusal_text}
+
+-- the input is the text of a scenario, and the output is that text and the trace of its round robin run, which ends so and whose history the work machine lets stand
+pub record IsRun (ending : Ending) (input output : List ℕ) : Type 0 where
+  pub scenario : Parts
+  pub trace : Trace
+  pub read : scenario_of input ≡ Ok scenario
+  pub spelled : input ≡ text_of scenario
+  pub run : IsReplay scenario trace
+  pub legal : IsLegal work_machine (work_start_of scenario) trace.work
+  pub ends : trace.ending ≡ ending
+  pub printed : output ≡ text_of scenario ++ trace_text scenario trace
+
+-- the output names the first failing line and its first reason
+abbrev pub IsRefusal : Result Parts ScenarioRefused → List ℕ → Type 0
+IsRefusal (Err (refusals.At line why)) output = output ≡ refusal_text line why
+IsRefusal (Err refusals.NoMemory) output = ⊥
+IsRefusal (Ok scenario) output = ⊥
+
+-- the status of a run with this ending
+abbrev pub status_of : Ending → Status
+status_of endings.Ended = statuses.Success
+status_of endings.Stuck = statuses.Stuck
+status_of endings.Spent = statuses.Spent
+
+-- the whole output that goes with a status, for an input
+abbrev pub IsOutput : Status → List ℕ → List ℕ → Type 0
+IsOutput statuses.Success input output = IsRun endings.Ended input output
+IsOutput statuses.Stuck input output = IsRun endings.Stuck input output
+IsOutput statuses.Spent input output = IsRun endings.Spent input output
+IsOutput statuses.Refused input output = IsRefusal (scenario_of input) output
+IsOutput status input output = ⊥

@@ -1,0 +1,199 @@
+//! The worked rows of one queue, through the top call over memory; and each fault of reading and writing in turn.
+use crate::zk_plain;
+use std::test::Fail;
+use zk_base::{MemSink, MemSource, Status, SureSink, SureSource};
+
+/// The front of the rows: two threads, one queue, three items.
+const FRONT: &str =
+    "zk 1\nthread t0 0 super\nthread t1 0 super\nqueue q0 0 on\nitem w0\nitem w1\nitem w2\n";
+
+/// More room than any output of these tests needs.
+const ROOM: usize = 8192;
+
+/// What the rows show: the scripts, the trace part that is printed behind the scenario, by name.
+const ROWS: [(&str, &str, &str); 6] = [
+    (
+        "one submission",
+        "script t0\nsubmit w0 q0\nend\n",
+        "zt 1\nended\nservice work\nt0.0 submit w0 q0 = 1 a0 q0\nq0.0 begin q0 = w0 a0\nq0.1 end q0 = ok\nplayer t0 done\n0 submit = 1\nplayer t1 done\nplayer q0 done\n",
+    ),
+    (
+        "resubmission while running",
+        "script t0\nsubmit w0 q0\nsubmit w0 q0\nend\n",
+        "zt 1\nended\nservice work\nt0.0 submit w0 q0 = 1 a0 q0\nq0.0 begin q0 = w0 a0\nt0.1 submit w0 q0 = 2 a1 q0\nq0.1 end q0 = ok\nq0.2 begin q0 = w0 a1\nq0.3 end q0 = ok\nplayer t0 done\n0 submit = 1\n1 submit = 2\nplayer t1 done\nplayer q0 done\n",
+    ),
+    (
+        "already queued",
+        "script t0\nsubmit w0 q0\nend\nscript t1\nsubmit w0 q0\nend\n",
+        "zt 1\nended\nservice work\nt0.0 submit w0 q0 = 1 a0 q0\nt1.0 submit w0 q0 = 0\nq0.0 begin q0 = w0 a0\nq0.1 end q0 = ok\nplayer t0 done\n0 submit = 1\nplayer t1 done\n0 submit = 0\nplayer q0 done\n",
+    ),
+    (
+        "submit with no queue",
+        "script t0\nsubmit w0\nend\n",
+        "zt 1\nended\nservice work\nt0.0 submit w0 - = inval\nplayer t0 done\n0 submit = inval\nplayer t1 done\nplayer q0 done\n",
+    ),
+    (
+        "cancel drops the waiting admission",
+        "script t0\nsubmit w0 q0\nsubmit w1 q0\ncancel w1\nend\n",
+        "zt 1\nended\nservice work\nt0.0 submit w0 q0 = 1 a0 q0\nq0.0 begin q0 = w0 a0\nt0.1 submit w1 q0 = 1 a1 q0\nq0.1 end q0 = ok\nt0.2 cancel w1 = -\nplayer t0 done\n0 submit = 1\n1 submit = 1\n2 cancel = -\nplayer t1 done\nplayer q0 done\n",
+    ),
+    (
+        "cancel marks the run",
+        "script t0\nsubmit w0 q0\ncancel w0\nend\nscript t1\nsubmit w1 q0\nsubmit w0 q0\nend\n",
+        "zt 1\nended\nservice work\nt0.0 submit w0 q0 = 1 a0 q0\nt1.0 submit w1 q0 = 1 a1 q0\nq0.0 begin q0 = w0 a0\nt0.1 cancel w0 = rc\nt1.1 submit w0 q0 = busy\nq0.1 end q0 = ok\nq0.2 begin q0 = w1 a1\nq0.3 end q0 = ok\nplayer t0 done\n0 submit = 1\n1 cancel = rc\nplayer t1 done\n0 submit = 1\n1 submit = busy\nplayer q0 done\n",
+    ),
+];
+
+fn words_of(rt: &HostRuntime, words: &[&str]) -> Result<Vec<String>, Fail> {
+    let mut made = Vec::new(rt.alloc());
+    for word in words {
+        made.push(String::from_str(rt.alloc(), word)?)?;
+    }
+    Ok(made)
+}
+
+/// The status and the output of one call.
+fn outcome(rt: &HostRuntime, words: &[&str], input: &[u8]) -> Result<(Status, Vec<u8>), Fail> {
+    let words = words_of(rt, words)?;
+    let mut source = SureSource::new(input.to_vec(rt.alloc())?, 5);
+    let mut sink = SureSink::new(Vec::with_capacity(rt.alloc(), ROOM)?, 7);
+    let status = zk_plain(rt.alloc(), &words, &mut source, &mut sink);
+    Ok((status, sink.held().to_vec(rt.alloc())?))
+}
+
+fn joined(rt: &HostRuntime, parts: &[&str]) -> Result<Vec<u8>, Fail> {
+    let mut all = Vec::new(rt.alloc());
+    for part in parts {
+        all.extend_from_slice(part.as_bytes())?;
+    }
+    Ok(all)
+}
+
+#[test]
+fn rows_print_their_traces(rt: HostRuntime) -> Result<(), Fail> {
+    for (name, scripts, trace) in ROWS {
+        let input = joined(&rt, &[FRONT, scripts])?;
+        let (status, output) = outcome(&rt, &["replay"], &input)?;
+        assert_eq!(rt; status, Status::Success, "{name}");
+        let wanted = joined(&rt, &[FRONT, scripts, trace])?;
+        assert!(rt; output.as_slice() == wanted.as_slice(), "{name}");
+    }
+    Ok(())
+}
+
+#[test]
+fn other_inputs_and_words_are_told(rt: HostRuntime) -> Result<(), Fail> {
+    for (words, input, status, output) in [
+        (
+            ["replay"].as_slice(),
+            "zk 1\n",
+            Status::Success,
+            "zk 1\nzt 1\nended\n",
+        ),
+        (
+            ["replay"].as_slice(),
+            "",
+            Status::Refused,
+            "refused 1 header\n",
+        ),
+        (
+            ["replay"].as_slice(),
+            "zk 1\nthread t0 0 super\nsem s0 0 1\n",
+            Status::Refused,
+            "refused 3 unbuilt\n",
+        ),
+        (
+            ["replay"].as_slice(),
+            "zk 1\nitem w0\nscript w0\n",
+            Status::Refused,
+            "refused 3 unbuilt\n",
+        ),
+        (
+            ["replay"].as_slice(),
+            "zk 1\nitem w0\nitem w0\n",
+            Status::Refused,
+            "refused 3 name\n",
+        ),
+        ([].as_slice(), "zk 1\n", Status::Words, "refused words\n"),
+        (
+            ["check"].as_slice(),
+            "zk 1\n",
+            Status::Words,
+            "refused words\n",
+        ),
+        (
+            ["replay", "replay"].as_slice(),
+            "zk 1\n",
+            Status::Words,
+            "refused words\n",
+        ),
+    ] {
+        let (got, printed) = outcome(&rt, words, input.as_bytes())?;
+        assert_eq!(rt; got, status, "{output}");
+        assert!(rt; printed.as_slice() == output.as_bytes(), "{output}");
+    }
+    Ok(())
+}
+
+#[test]
+fn a_long_input_is_refused_by_its_length(rt: HostRuntime) -> Result<(), Fail> {
+    for (length, line) in [
+        (1_048_576, "refused 1 header\n"),
+        (1_048_577, "refused 0 length\n"),
+        (1_048_600, "refused 0 length\n"),
+    ] {
+        let words = words_of(&rt, &["replay"])?;
+        let mut source = SureSource::new(vec![in rt.alloc(); b' '; length]?, 100_000);
+        let mut sink = SureSink::new(Vec::with_capacity(rt.alloc(), ROOM)?, 100);
+        assert_eq!(rt;
+            zk_plain(rt.alloc(), &words, &mut source, &mut sink),
+            Status::Refused
+        );
+        assert!(rt; sink.held() == line.as_bytes(), "{line}");
+    }
+    Ok(())
+}
+
+#[test]
+fn each_fault_of_reading_prints_nothing(rt: HostRuntime) -> Result<(), Fail> {
+    let (_, scripts, _) = ROWS[0];
+    let input = joined(&rt, &[FRONT, scripts])?;
+    let words = words_of(&rt, &["replay"])?;
+    let calls = input.len() as u64 / 4 + 2;
+    for call in 0..calls {
+        let mut source = MemSource::new(input.clone()?, 4, vec![in rt.alloc(); call]?);
+        let mut sink = SureSink::new(Vec::with_capacity(rt.alloc(), ROOM)?, 9);
+        assert_eq!(rt;
+            zk_plain(rt.alloc(), &words, &mut source, &mut sink),
+            Status::ReadFault,
+            "{call}"
+        );
+        assert!(rt; sink.held().is_empty(), "{call}");
+    }
+    Ok(())
+}
+
+#[test]
+fn each_fault_of_writing_leaves_a_front(rt: HostRuntime) -> Result<(), Fail> {
+    let (_, scripts, trace) = ROWS[0];
+    let input = joined(&rt, &[FRONT, scripts])?;
+    let wanted = joined(&rt, &[FRONT, scripts, trace])?;
+    let words = words_of(&rt, &["replay"])?;
+    let calls = wanted.len().div_ceil(4);
+    for call in 0..calls {
+        let mut source = SureSource::new(input.clone()?, 100);
+        let mut sink = MemSink::new(
+            Vec::with_capacity(rt.alloc(), ROOM)?,
+            4,
+            vec![in rt.alloc(); call as u64]?,
+        );
+        assert_eq!(rt;
+            zk_plain(rt.alloc(), &words, &mut source, &mut sink),
+            Status::WriteFault,
+            "{call}"
+        );
+        assert!(rt; wanted.starts_with(sink.held()), "{call}");
+        assert_eq!(rt; sink.held().len(), 4usize.saturating_mul(call), "{call}");
+    }
+    Ok(())
+}

@@ -1,0 +1,61 @@
+ghost use Rattle.std.specs.Prelude.{◌+◌, ◌<◌, ◌≤◌, length, IfOk};
+
+use crate::WorkOp::{Begin, Cancel, End, Submit};
+use crate::{WorkOp, WorkReply, WorkState, work_next};
+use std::alloc::Global;
+use std::process::Abort;
+use std::test::*;
+use zk_base::{NoMemory, Who};
+
+/// One attempt: the player, the operation, and what is answered.
+type Row = (u32, WorkOp, &'static str);
+
+/// One attempt. It makes one entry at most.
+fn attempt(state: &mut WorkState, number: u32, op: &WorkOp) -> Result<Option<WorkReply>, NoMemory>
+    requires { state.old.entries < 100 }
+    ensures { IfOk result (λ _. state.new.entries ≤ state.old.entries + 1) }
+{
+    work_next(state, Who { number, prio: 0 }, op)
+}
+
+/// Makes the attempts one after another, in a state with three items and two queues, whose workers are the players 2 and 3.
+fn play<R: Abort>(rt: &R, alloc: Global, rows: &[Row]) -> Result<(), Fail>
+    requires { length rows.now < 100 }
+{
+    let mut state = WorkState::new(alloc, 3, &[2, 3], &[true, false])?;
+    for index in 0..rows.len() {
+        let (number, op, wanted) = rows[index];
+        let reply = attempt(&mut state, number, &op)?;
+        let text = format!(in alloc; "{reply:?}")?;
+        assert_eq!(rt; text.as_str(), wanted, "at {index}");
+    }
+    Ok(())
+}
+
+#[test]
+fn replies(rt: HostRuntime) -> Result<(), Fail> {
+    play(
+        &rt,
+        rt.alloc(),
+        &[
+            (0, Submit(0, None), "Some(Sub(Refused(Inval)))"),
+            (0, Submit(0, Some(1)), "Some(Sub(Refused(NoDev)))"),
+            (2, Begin(0), "None"),
+            (0, Submit(0, Some(0)), "Some(Sub(Fresh(0, 0)))"),
+            (1, Submit(0, Some(0)), "Some(Sub(Already))"),
+            (1, Submit(1, Some(0)), "Some(Sub(Fresh(1, 0)))"),
+            (3, Begin(0), "None"),
+            (2, End(0), "None"),
+            (2, Begin(0), "Some(Run(0, 0))"),
+            (2, Begin(0), "None"),
+            (0, Submit(0, Some(1)), "Some(Sub(Rerun(2, 0)))"),
+            (0, Cancel(0), "Some(Flags(3))"),
+            (1, Submit(0, Some(0)), "Some(Sub(Refused(Busy)))"),
+            (0, Cancel(1), "Some(Flags(0))"),
+            (2, End(0), "Some(Done)"),
+            (2, Begin(0), "None"),
+            (0, Submit(0, None), "Some(Sub(Fresh(3, 0)))"),
+            (2, Begin(0), "Some(Run(0, 3))"),
+        ],
+    )
+}

@@ -1,0 +1,178 @@
+-- The world in which nothing was done.
+use Rattle.std.proofs.Common.{◌≡◌, ◌≢◌, ◌⊎◌, ℕ, zero, suc, ◌+◌, ◌<◌, ◌≤◌, Bool, true, false, Option, Some, None, option_to_list, List, [], ◌∷◌, ◌++◌, length, map, All, AllPairs, inl, inr, refl, sym, ap, subst, ◌∙◌, arith, length-append}
+use Rattle.std.specs.List.{slice_get, range_with_len}
+use Rattle.std.proofs.lemmas.Bool.Decides.{nat_tests}
+use Rattle.std.proofs.lemmas.List.Elements.{All-nil, All-cons, All-append, All-weaker}
+use Rattle.std.proofs.lemmas.List.Folds.{list_any_none}
+use Rattle.std.proofs.lemmas.List.{length-map}
+use Rattle.std.proofs.lemmas.List.FromFn.{length-range_with_len, get_or-range_with_len}
+use Rattle.std.proofs.lemmas.List.Sums.{sum_by-le}
+use Rattle.zk_base.specs.declared.ids.Entry.{Entry}
+use Rattle.zk_scenario.specs.Parts.{Parts}
+use Rattle.zk_scenario.specs.Valid.{IsValid}
+use Rattle.zk_scenario.specs.Players.{places, players, is_thread, is_queue, is_item}
+use Rattle.zk_scenario.proofs.Tables.{length-places}
+use Rattle.zk_scenario.proofs.Valid.{length-players}
+use Rattle.zk_model_work.specs.declared.ops.WorkOp.{WorkOp}
+use Rattle.zk_model_work.specs.declared.ops.WorkReply.{WorkReply}
+use Rattle.zk_model_work.specs.State.{fresh_queues}
+use Rattle.zk_model_work.specs.Machine.{work_machine, is_among}
+use Rattle.zk_worker.specs.declared.steps.Spot.{Spot}
+use Rattle.zk_worker.specs.declared.steps.TheConstants.{MOST_STEPS}
+use Rattle.zk_worker.specs.Places.{At}
+use Rattle.zk_worker.specs.Protocol.{start_at}
+use Rattle.zk_worker.specs.Follows.{is_spent_at}
+use Rattle.zk_worker.specs.Ranges.{FramesFit}
+use Rattle.zk_worker.proofs.Fits.{start_at-fits}
+use Rattle.zk_worker.proofs.Starts.{start_at-some, start_at-fresh, IsFresh}
+use Rattle.zk_replay.specs.RoundRobin.{starts, first, is_spent}
+use Rattle.zk_replay.specs.Ready.{IsReady, TakesDeclared}
+use Rattle.zk_replay.specs.Turning.{world}
+use Rattle.zk_replay.specs.Replay.{workers, is_on, work_start_of}
+
+-- there are few threads and queues
+pub few-threads : (s : Parts) → IsValid s → length (places is_thread s.decls) ≤ 64
+few-threads s valid = omega (arith, valid.players, length-places is_thread s.decls)
+
+pub few-queues : (s : Parts) → IsValid s → length (places is_queue s.decls) ≤ 8
+few-queues s valid = omega (arith, valid.queues, length-places is_queue s.decls)
+
+pub few-items : (s : Parts) → IsValid s → length (places is_item s.decls) ≤ 256
+few-items s valid = omega (arith, valid.items, length-places is_item s.decls)
+
+-- one number more of a row
+pub range_more : (a n : ℕ) → range_with_len a n ++ (a + n) ∷ [] ≡ range_with_len a (n + 1)
+range_more a zero = let same : a + zero ≡ a = omega arith in ap (λ (x : ℕ). x ∷ []) same
+range_more a (suc n) =
+    let same : a + suc n ≡ (a + 1) + n = omega arith in
+    let long : suc (n + 1) ≡ suc n + 1 = omega arith in
+    ap (λ (l : List ℕ). a ∷ l) (ap (λ (x : ℕ). range_with_len (a + 1) n ++ x ∷ []) same ∙ range_more (a + 1) n) ∙ ap (range_with_len a) long
+
+-- the numbers of a row differ
+pub range_differs : (a n : ℕ) → AllPairs (λ x y. x ≢ y) (range_with_len a n)
+range_differs a n = λ i j d less within same.
+    let long = length-range_with_len a n in
+    let at_i = get_or-range_with_len a n i d (omega arith) in
+    let at_j = get_or-range_with_len a n j d (omega arith) in
+    let both : a + i ≡ a + j = sym at_i ∙ same ∙ at_j in
+    omega arith
+
+-- one player more
+pub starts_more : (s : Parts) (n : ℕ) (at : At) → start_at s n ≡ Some at → starts s n ++ at ∷ [] ≡ starts s (n + 1)
+starts_more s n at is =
+    let next : suc n ≡ n + 1 = omega arith in
+    ap (λ (o : Option At). starts s n ++ option_to_list o) (sym is) ∙ ap (starts s) next
+
+length-fresh_queues : (workers : List ℕ) (started : List Bool) → length workers ≡ length started → length (fresh_queues workers started) ≡ length workers
+length-fresh_queues [] started same = refl
+length-fresh_queues (w ∷ ws) [] same = absurd (omega arith)
+length-fresh_queues (w ∷ ws) (b ∷ bs) same = let more = length-fresh_queues ws bs (omega arith) in omega arith
+
+-- each worker has its queue's mark whether it is started
+pub same-lengths : (s : Parts) → length (workers s.decls) ≡ length (map (is_on s.decls) (places is_queue s.decls))
+same-lengths s =
+    length-range_with_len (length (places is_thread s.decls)) (length (places is_queue s.decls)) ∙ sym (length-map (places is_queue s.decls) (is_on s.decls))
+
+-- the work service of a scenario takes all that is declared
+pub takes-declared : (s : Parts) → TakesDeclared work_machine (work_start_of s) s.decls
+takes-declared s = λ op fits.
+    let long = length-fresh_queues (workers s.decls) (map (is_on s.decls) (places is_queue s.decls)) (same-lengths s)
+    ∙ length-range_with_len (length (places is_thread s.decls)) (length (places is_queue s.decls)) in
+    subst (λ (n : ℕ). is_among (length (places is_item s.decls)) n op ≡ true) (sym long) fits
+
+-- what holds of each player that starts holds of all
+starts-all : (P : At → Type 0) (s : Parts) → ((n : ℕ) (at : At) → start_at s n ≡ Some at → P at) → (n : ℕ) → All P (starts s n)
+starts-all P s each zero = All-nil P
+starts-all P s each (suc n) = All-append P (starts s n) (option_to_list (start_at s n)) (starts-all P s each n) (one (start_at s n) refl)
+  where
+    one : (o : Option At) → start_at s n ≡ o → All P (option_to_list o)
+    one None is = All-nil P
+    one (Some at) is = All-cons P at [] (each n at is) (All-nil P)
+
+length-starts : (s : Parts) (n : ℕ) → n ≤ length (players s.decls) → length (starts s n) ≡ n
+length-starts s zero within = refl
+length-starts s (suc n) within =
+    let some = start_at-some s n (omega arith) in
+    let more = length-starts s n (omega arith) in
+    let one : length (option_to_list (start_at s n)) ≡ 1 = ap (λ (o : Option At). length (option_to_list o)) some.1 in
+    omega (arith, length-append (starts s n) (option_to_list (start_at s n)))
+
+at-end : (xs : List At) (y x : At) (p : ℕ) → slice_get (xs ++ y ∷ []) p ≡ Some x → (slice_get xs p ≡ Some x) ⊎ ((p ≡ length xs) × (y ≡ x))
+at-end [] y x zero is = inr (refl, cc)
+at-end [] y x (suc p) is = absurd (cc)
+at-end (z ∷ zs) y x zero is = inl is
+at-end (z ∷ zs) y x (suc p) is = further (at-end zs y x p is)
+  where
+    further : (slice_get zs p ≡ Some x) ⊎ ((p ≡ length zs) × (y ≡ x)) → (slice_get zs p ≡ Some x) ⊎ ((suc p ≡ suc (length zs)) × (y ≡ x))
+    further (inl there) = inl there
+    further (inr both) = inr (ap suc both.0, both.1)
+
+numbers-starts : (s : Parts) (n : ℕ) → n ≤ length (players s.decls) → (p : ℕ) (at : At) → slice_get (starts s n) p ≡ Some at → at.who.number ≡ p
+numbers-starts s zero within p at is = absurd (cc)
+numbers-starts s (suc n) within p at is =
+    let some = start_at-some s n (omega arith) in
+    let here : starts s (suc n) ≡ starts s n ++ some.0 ∷ [] = ap (λ (o : Option At). starts s n ++ option_to_list o) some.1 in
+    by_place some.0 (start_at-fresh s n some.0 some.1) (numbers-starts s n (omega arith) p at) (at-end (starts s n) some.0 at p (ap (λ (l : List At). slice_get l p) (sym here) ∙ is))
+  where
+    by_place : (new : At) → IsFresh n new → (slice_get (starts s n) p ≡ Some at → at.who.number ≡ p) → (slice_get (starts s n) p ≡ Some at) ⊎ ((p ≡ length (starts s n)) × (new ≡ at)) → at.who.number ≡ p
+    by_place new fresh before (inl there) = before there
+    by_place new fresh before (inr both) =
+        ap (λ (a : At). a.who.number) (sym both.1) ∙ fresh.number_is ∙ sym (both.0 ∙ length-starts s n (omega arith))
+
+starts-there : (s : Parts) (n : ℕ) → n ≤ length (players s.decls) → (p : ℕ) (at : At) → slice_get (starts s n) p ≡ Some at → start_at s p ≡ Some at
+starts-there s zero within p at is = absurd (cc)
+starts-there s (suc n) within p at is =
+    let some = start_at-some s n (omega arith) in
+    let here : starts s (suc n) ≡ starts s n ++ some.0 ∷ [] = ap (λ (o : Option At). starts s n ++ option_to_list o) some.1 in
+    by_place some.0 some.1 (starts-there s n (omega arith) p at) (at-end (starts s n) some.0 at p (ap (λ (l : List At). slice_get l p) (sym here) ∙ is))
+  where
+    by_place : (new : At) → start_at s n ≡ Some new → (slice_get (starts s n) p ≡ Some at → start_at s p ≡ Some at) → (slice_get (starts s n) p ≡ Some at) ⊎ ((p ≡ length (starts s n)) × (new ≡ at)) → start_at s p ≡ Some at
+    by_place new made before (inl there) = before there
+    by_place new made before (inr both) =
+        ap (start_at s) (both.0 ∙ length-starts s n (omega arith)) ∙ made ∙ ap (λ (a : At). Some a) both.1
+
+-- each player of the first world is where it starts
+pub first-there : (s : Parts) (p : ℕ) (at : At) → slice_get (first s).players p ≡ Some at → start_at s p ≡ Some at
+first-there s p at is = starts-there s (length (players s.decls)) (omega arith) p at is
+
+-- the first world has all players
+pub first-players : (s : Parts) → length (first s).players ≡ length (players s.decls)
+first-players s = length-starts s (length (players s.decls)) (omega arith)
+
+-- the first world of a valid scenario is ready
+pub ready-first : (s : Parts) → IsValid s → IsReady s (first s)
+ready-first s valid =
+    let n = length (players s.decls) in
+    let count : At → ℕ = λ at. length at.spots in
+    let None_made : At → Type 0 = λ at. length at.spots ≤ 0 in
+    let Short : At → Type 0 = λ at. length at.spots ≤ MOST_STEPS in
+    let Fits : At → Type 0 = λ at. FramesFit s.decls at.frames in
+    let none : All None_made (starts s n) =
+    starts-all None_made s (λ k at is. omega (arith, ap (λ (l : List Spot). length l) (start_at-fresh s k at is).none_made)) n in
+    record {
+      few = omega (arith, length-starts s n (omega arith), length-players s.decls, valid.players);
+      numbers = numbers-starts s n (omega arith);
+      above = λ p at is. let P : Entry WorkOp WorkReply → Type 0 = λ e. e.who.number ≡ at.who.number → e.step < length at.spots in All-nil P;
+      short = All-weaker None_made Short (λ at le. omega arith) (starts s n) none;
+      counted = omega (arith, sum_by-le count 0 (starts s n) none);
+      fits = starts-all Fits s (λ k at is. start_at-fits s k at is) n;
+    }
+
+unspent-fresh : (at : At) → length at.spots ≤ 0 → is_spent_at at ≡ false
+unspent-fresh at none = grind (arith, nat_tests)
+
+-- and no player of it is spent
+pub unspent-first : (s : Parts) → is_spent (first s) ≡ false
+unspent-first s =
+    let n = length (players s.decls) in
+    let P : At → Type 0 = λ at. is_spent_at at ≡ false in
+    list_any_none is_spent_at (starts s n)
+    (starts-all P s (λ k at is. unspent-fresh at (omega (arith, ap (λ (l : List Spot). length l) (start_at-fresh s k at is).none_made))) n)
+
+pub few-workers : (s : Parts) → IsValid s → length (workers s.decls) ≤ 8
+few-workers s valid =
+    omega (arith, few-queues s valid, length-range_with_len (length (places is_thread s.decls)) (length (places is_queue s.decls)))
+
+-- nothing done, and the players as they start, are the first world
+pub world-first : (s : Parts) (work : List (Entry WorkOp WorkReply)) (made : List At) → work ≡ [] → made ≡ starts s (length (players s.decls)) → world work made ≡ first s
+world-first s work made none all = ap (λ (h : List (Entry WorkOp WorkReply)). world h made) none ∙ ap (world []) all

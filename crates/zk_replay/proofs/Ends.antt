@@ -1,0 +1,191 @@
+-- The trace of a run that has come to its end.
+use Rattle.std.proofs.Common.{◌≡◌, ℕ, zero, suc, ◌+◌, ◌<◌, ◌∙◌, Bool, true, false, not, ◌&&◌, cond, eqb, eq-eqb, nat_lt, Option, Some, None, List, [], ◌∷◌, length, map, All, refl, sym, ap, subst, arith, length-append}
+use Rattle.std.specs.List.{slice_get, list_all}
+use Rattle.std.specs.Option.{option_map}
+use Rattle.std.proofs.lemmas.Bool.{and_parts, and_from}
+use Rattle.std.proofs.lemmas.Bool.Decides.{nat_tests}
+use Rattle.std.proofs.lemmas.List.{length-set}
+use Rattle.std.proofs.lemmas.List.Elements.{All-head, All-tail}
+use Rattle.zk_base.specs.declared.ids.Entry.{Entry}
+use Rattle.zk_base.specs.Legal.{state_after}
+use Rattle.zk_model_work.specs.declared.ops.WorkOp.{WorkOp}
+use Rattle.zk_model_work.specs.declared.ops.WorkOp.TheVariants as ops
+use Rattle.zk_model_work.specs.declared.ops.WorkReply.{WorkReply}
+use Rattle.zk_model_work.specs.declared.parts.Admission.{Admission}
+use Rattle.zk_model_work.specs.Questions.{is_waiting, waits_for}
+use Rattle.zk_model_work.specs.State.{State}
+use Rattle.zk_model_work.specs.Machine.{work_machine, work_reply, work_next}
+use Rattle.zk_scenario.specs.Parts.{Parts}
+use Rattle.zk_scenario.specs.Valid.{IsValid}
+use Rattle.zk_scenario.specs.Players.{places, is_thread, is_queue}
+use Rattle.zk_worker.specs.declared.steps.TheConstants.{MOST_STEPS}
+use Rattle.zk_worker.specs.declared.steps.Step.{Step}
+use Rattle.zk_worker.specs.declared.steps.Step.TheVariants as steps
+use Rattle.zk_worker.specs.declared.steps.StepReply.{StepReply}
+use Rattle.zk_worker.specs.declared.steps.StepReply.TheVariants as step_replies
+use Rattle.zk_worker.specs.declared.frames.Frame.{Frame}
+use Rattle.zk_worker.specs.declared.frames.Role.{Role}
+use Rattle.zk_worker.specs.declared.frames.Role.TheVariants.{Script, Worker}
+use Rattle.zk_worker.specs.declared.frames.Stage.{Stage}
+use Rattle.zk_worker.specs.declared.frames.Stage.TheVariants.{Start, Runs}
+use Rattle.zk_worker.specs.declared.log.Log.{Log}
+use Rattle.zk_worker.specs.Places.{At}
+use Rattle.zk_worker.specs.Protocol.{attempts, frames_attempts, role_attempts, after}
+use Rattle.zk_worker.specs.Follows.{log_of, is_done, is_between, is_spent_at}
+use Rattle.zk_trace.specs.declared.trace.Ending.{Ending}
+use Rattle.zk_trace.specs.declared.trace.Ending.TheVariants.{Ended, Stuck, Spent}
+use Rattle.zk_trace.specs.declared.trace.Trace.{Trace}
+use Rattle.zk_replay.specs.RoundRobin.{World, or_else, first_possible, chosen, stepped, first, round, rounds, is_spent, IsRun}
+use Rattle.zk_replay.specs.Ready.{IsReady}
+use Rattle.zk_replay.specs.Replay.{work_start_of, all_done, none_waits, ending_of, IsReplay}
+use Rattle.zk_replay.specs.Ending.{ending_by}
+use Rattle.zk_replay.specs.Tending.{IsIdle, IsWorkers, Tends, IsTended}
+use Rattle.zk_replay.proofs.Places.{none-passes}
+use Rattle.zk_replay.proofs.Readiness.{ready-stepped}
+use Rattle.zk_replay.proofs.Beginning.{ready-first, first-there, first-players, same-lengths}
+use Rattle.zk_replay.proofs.Machine.{none-waits-for}
+use Rattle.zk_replay.proofs.Tended.{tended-step, tended-first, worker-of, open-ahead}
+use Rattle.zk_replay.proofs.Still.{first_possible-made, rounds-keep, round-still}
+
+-- what holds of each world of the run of a valid scenario
+record IsGood (s : Parts) (w : World) : Type 0 where
+  all_there : length w.players ≡ length (places is_thread s.decls) + length (places is_queue s.decls)
+  ready : IsReady s w
+  state : State
+  tended : IsTended s w state
+
+replied : (r : Option WorkReply) (long place : ℕ) (reply : WorkReply) → option_map (λ x. step_replies.Work x long) r ≡ Some (step_replies.Work reply place) → r ≡ Some reply
+replied None long place reply is = absurd (cc)
+replied (Some x) long place reply is = let both : step_replies.Work x long ≡ step_replies.Work reply place = cc in cc
+
+good-step : (s : Parts) (w : World) (p : ℕ) (at : At) (made : Step × StepReply) → IsGood s w → is_spent w ≡ false → slice_get w.players p ≡ Some at →
+    chosen work_machine (work_start_of s) s w.work at ≡ Some made → IsGood s (stepped s w p at (Some made))
+good-step s w p at (steps.Work op, step_replies.Work reply place) good unspent is choice =
+    let made = first_possible-made work_machine (work_start_of s) w.work at.who (attempts s at) (steps.Work op, step_replies.Work reply place) choice in
+    let possible : work_reply good.state at.who op ≡ Some reply =
+    ap (λ (t : State). work_reply t at.who op) good.tended.after ∙ replied _ (length w.work) place reply made.answered in
+    let ahead = open-ahead (nat_lt (length at.spots) MOST_STEPS) (frames_attempts s at.frames) made.place (steps.Work op) made.is_there in
+    record {
+      all_there = length-set w.players p (after s at (steps.Work op) (step_replies.Work reply place)) ∙ good.all_there;
+      ready = ready-stepped s w p at (steps.Work op, step_replies.Work reply place) good.ready is (none-passes is_spent_at w.players p at unspent is);
+      state = work_next good.state at.who op;
+      tended = tended-step s w good.state p at op reply place made.place good.tended is (good.ready.numbers p at is) ahead possible;
+    }
+
+good-first : (s : Parts) → IsValid s → IsGood s (first s)
+good-first s valid = record {
+  all_there = first-players s ∙ length-append (places is_thread s.decls) (places is_queue s.decls);
+  ready = ready-first s valid;
+  state = work_start_of s;
+  tended = tended-first s (first-there s) (same-lengths s);
+}
+
+good-rounds : (s : Parts) (n : ℕ) → IsValid s → IsGood s (rounds work_machine (work_start_of s) s n (first s))
+good-rounds s n valid = rounds-keep work_machine (work_start_of s) s (IsGood s) (good-step s) n (first s) (good-first s valid)
+
+-- a worker between two runs, whose queue runs nothing, can only begin
+done-ahead : (s : Parts) (queue : ℕ) (frames : List Frame) (admissions : List Admission) → Tends s.decls queue frames admissions → is_done frames ≡ true →
+    (frames_attempts s frames ≡ steps.Work (ops.Begin queue) ∷ []) × IsIdle queue admissions
+done-ahead s queue [] admissions tends done = absurd tends
+done-ahead s queue (frame ∷ next ∷ below) admissions tends done = absurd (cc)
+done-ahead s queue (frame ∷ []) admissions tends done = by_role frame.role frame.next frame.stage tends done
+  where
+    by_role : (role : Role) (next : ℕ) (stage : Stage) → IsWorkers s.decls queue role stage admissions → is_between role stage ≡ true →
+        (role_attempts s role next stage ≡ steps.Work (ops.Begin queue) ∷ []) × IsIdle queue admissions
+    by_role (Worker object) next Start tends done = (ap (λ (q : ℕ). steps.Work (ops.Begin q) ∷ []) tends.0, tends.1)
+    by_role (Worker object) next Runs tends done = absurd (cc)
+    by_role (Script owner) next stage tends done = absurd tends
+
+answer-none : (r : Option WorkReply) (long : ℕ) (step : Step) → or_else step (option_map (λ x. step_replies.Work x long) r) None ≡ None → r ≡ None
+answer-none None long step none = refl
+answer-none (Some x) long step none = absurd (cc)
+
+all-at : (test : At → Bool) (xs : List At) (p : ℕ) (x : At) → list_all test xs ≡ true → slice_get xs p ≡ Some x → test x ≡ true
+all-at test [] p x all is = absurd (cc)
+all-at test (y ∷ ys) zero x all is = let same : y ≡ x = cc in subst (λ (z : At). test z ≡ true) same (and_parts (test y) (list_all test ys) all).0
+all-at test (y ∷ ys) (suc p) x all is = all-at test ys p x (and_parts (test y) (list_all test ys) all).1 is
+
+none-wait : (many : ℕ) (xs : List Admission) → All (λ a. a.queue < many) xs → ((queue : ℕ) → queue < many → All (λ a. waits_for queue a ≡ false) xs) → list_all (λ a. not (is_waiting a.life)) xs ≡ true
+none-wait many [] homes none = refl
+none-wait many (a ∷ xs) homes none =
+    let P : Admission → Type 0 = λ a. a.queue < many in
+    let here : waits_for a.queue a ≡ false = let Q : Admission → Type 0 = λ b. waits_for a.queue b ≡ false in All-head Q a xs (none a.queue (All-head P a xs homes)) in
+    let rest = none-wait many xs (All-tail P a xs homes) (λ queue less. let Q : Admission → Type 0 = λ b. waits_for queue b ≡ false in All-tail Q a xs (none queue less)) in
+    and_from (not (is_waiting a.life)) (list_all (λ a. not (is_waiting a.life)) xs) (not_waits (eqb a.queue a.queue) (is_waiting a.life) (eq-eqb a.queue a.queue refl) here) rest
+  where
+    not_waits : (b c : Bool) → b ≡ true → (b && c) ≡ false → not c ≡ true
+    not_waits true true is none = absurd (cc)
+    not_waits true false is none = refl
+    not_waits false c is none = absurd (cc)
+
+short-unspent : (at : At) → is_spent_at at ≡ false → nat_lt (length at.spots) MOST_STEPS ≡ true
+short-unspent at is = grind (arith, nat_tests)
+
+there-is : (xs : List At) (p : ℕ) → p < length xs → (x : At) × (slice_get xs p ≡ Some x)
+there-is [] p within = absurd (omega arith)
+there-is (x ∷ xs) zero within = (x, refl)
+there-is (x ∷ xs) (suc p) within = there-is xs p (omega arith)
+
+module _ (s : Parts) (w : World) (good : IsGood s w) (still : round work_machine (work_start_of s) s w ≡ w) (unspent : is_spent w ≡ false) (done : all_done w.players ≡ true) where
+  none-for : (queue : ℕ) → queue < length (places is_queue s.decls) → All (λ a. waits_for queue a ≡ false) good.state.admissions
+  none-for queue within =
+      let threads = length (places is_thread s.decls) in
+      let there = there-is w.players (threads + queue) (omega (arith, good.all_there)) in
+      let at = there.0 in
+      let is_done_at = all-at (λ at. is_done at.frames) w.players (threads + queue) at done there.1 in
+      let tends = good.tended.tended queue at there.1 within in
+      let only = done-ahead s queue at.frames good.state.admissions tends is_done_at in
+      let none = round-still work_machine (work_start_of s) s w still unspent (threads + queue) at (omega (arith, good.all_there)) there.1 in
+      let ahead : attempts s at ≡ steps.Work (ops.Begin queue) ∷ [] =
+      ap (λ b. cond b (frames_attempts s at.frames) []) (short-unspent at (none-passes is_spent_at w.players (threads + queue) at unspent there.1)) ∙ only.0 in
+      let first_none = sym (ap (first_possible work_machine (work_start_of s) w.work at.who) ahead) ∙ none in
+      let not_begun : work_reply good.state at.who (ops.Begin queue) ≡ None =
+      ap (λ (t : State). work_reply t at.who (ops.Begin queue)) good.tended.after
+      ∙ answer-none (work_reply (state_after work_machine (work_start_of s) w.work) at.who (ops.Begin queue)) (length w.work) (steps.Work (ops.Begin queue)) first_none in
+      none-waits-for good.state at.who queue
+      (worker-of s w good.state queue good.tended within ∙ ap (λ (n : ℕ). Some n) (sym (good.ready.numbers (threads + queue) at there.1))) only.1 not_begun
+
+  -- where all are done at the end of a run that isn't spent, no admission waits
+  ended : none_waits (state_after work_machine (work_start_of s) w.work) ≡ true
+  ended = subst (λ (t : State). none_waits t ≡ true) good.tended.after (none-wait (length (places is_queue s.decls)) good.state.admissions good.tended.homes none-for)
+
+ending-good : (s : Parts) (w : World) → IsGood s w → round work_machine (work_start_of s) s w ≡ w → ending_by w.players ≡ ending_of s w
+ending-good s w good still = by_spent (is_spent w) refl
+  where
+    waits : Bool
+    waits = none_waits (state_after work_machine (work_start_of s) w.work)
+
+    by_done : (b : Bool) → is_spent w ≡ false → all_done w.players ≡ b → cond b Ended Stuck ≡ cond (b && none_waits (state_after work_machine (work_start_of s) w.work)) Ended Stuck
+    by_done true unspent done = sym (ap (λ c. cond c Ended Stuck) (ended s w good still unspent done))
+    by_done false unspent done = refl
+
+    by_spent : (b : Bool) → is_spent w ≡ b → cond b Spent (cond (all_done w.players) Ended Stuck)
+        ≡ cond b Spent (cond (all_done w.players && none_waits (state_after work_machine (work_start_of s) w.work)) Ended Stuck)
+    by_spent true spent = refl
+    by_spent false unspent = by_done (all_done w.players) unspent refl
+
+-- at the end of a run the players alone say how it ended
+ending-is : (s : Parts) (w : World) → IsValid s → IsRun work_machine (work_start_of s) s w → ending_by w.players ≡ ending_of s w
+ending-is s w valid run =
+    ending-good s w (subst (λ (v : World). IsGood s v) (sym run.1) (good-rounds s run.0 valid)) run.2
+
+-- equal parts make equal traces
+Trace-same : (e e' : Ending) (h h' : List (Entry WorkOp WorkReply)) (l l' : List Log) → e ≡ e' → h ≡ h' → l ≡ l' →
+    ◌≡◌ {A = Trace} (record { ending = e; work = h; logs = l }) (record { ending = e'; work = h'; logs = l' })
+Trace-same e e' h h' l l' ee eh el =
+    let P : Trace → Type 0 = λ x. ◌≡◌ {A = Trace} (record { ending = e; work = h; logs = l }) x in
+    subst (λ (x : List Log). P (record { ending = e'; work = h'; logs = x })) el
+    (subst (λ (x : List (Entry WorkOp WorkReply)). P (record { ending = e'; work = x; logs = l })) eh
+    (subst (λ (x : Ending). P (record { ending = x; work = h; logs = l })) ee refl))
+
+-- what the code hands out is the trace of the run
+pub replayed : (s : Parts) (start : State) (old w : World) (ending : Ending) (work : List (Entry WorkOp WorkReply)) (logs : List Log) → IsValid s →
+    start ≡ work_start_of s → old ≡ first s → (n : ℕ) → w ≡ rounds work_machine start s n old → round work_machine start s w ≡ w →
+    ending ≡ ending_by w.players → work ≡ w.work → logs ≡ map log_of w.players → IsReplay s (record { ending = ending; work = work; logs = logs })
+replayed s start old w ending work logs valid starts begins n so_far over end history log =
+    let run : IsRun work_machine (work_start_of s) s w = (
+      n,
+      so_far ∙ ap (λ (t : State). rounds work_machine t s n old) starts ∙ ap (rounds work_machine (work_start_of s) s n) begins,
+      subst (λ (t : State). round work_machine t s w ≡ w) starts over,
+    ) in
+    (w, run, Trace-same ending (ending_of s w) work w.work logs (map log_of w.players) (end ∙ ending-is s w valid run) history log)

@@ -1,0 +1,158 @@
+-- Turns and rounds as the definition has them.
+use Rattle.std.proofs.Common.{◌≡◌, ℕ, zero, suc, ◌+◌, ◌<◌, Bool, ◌||◌, true, false, cond, Option, Some, None, Result, Ok, Err, IfOk, List, length, set, refl, sym, ap, subst, ◌∙◌, arith, is_some}
+use Rattle.std.specs.List.{slice_get}
+use Rattle.std.proofs.lemmas.Option.{slice_get_within}
+use Rattle.zk_base.specs.declared.ids.Entry.{Entry}
+use Rattle.zk_base.specs.declared.errors.NoMemory.{NoMemory}
+use Rattle.zk_base.specs.Legal.{Machine}
+use Rattle.zk_model_work.specs.declared.ops.WorkOp.{WorkOp}
+use Rattle.zk_model_work.specs.declared.ops.WorkReply.{WorkReply}
+use Rattle.zk_scenario.specs.Parts.{Parts}
+use Rattle.zk_worker.specs.declared.steps.Step.{Step}
+use Rattle.zk_worker.specs.declared.steps.StepReply.{StepReply}
+use Rattle.zk_worker.specs.Places.{At}
+use Rattle.zk_worker.specs.Follows.{is_spent_at}
+use Rattle.zk_replay.specs.declared.turns.Turn.{Turn}
+use Rattle.zk_replay.specs.declared.turns.Course.{Course}
+use Rattle.zk_replay.specs.declared.turns.Course.TheVariants.{Still, Goes, Spent}
+use Rattle.zk_replay.specs.RoundRobin.{World, chosen, stepped, turn, turn_of, turns, round, rounds, is_spent}
+use Rattle.zk_replay.specs.Ready.{IsReady, all_left}
+use Rattle.zk_replay.specs.Turning.{world, history_with, at_after, Turned, Rounded, WithinRound}
+use Rattle.zk_replay.proofs.Places.{set-there, none-passes, any-set}
+use Rattle.zk_replay.proofs.Readiness.{ready-stepped, left-stepped}
+
+module _ {T : Type 0} (m : Machine T WorkOp WorkReply) (start : T) (s : Parts) where
+  turn-unspent : (w : World) (p : ℕ) (at : At) → is_spent w ≡ false → slice_get w.players p ≡ Some at → turn m start s w p ≡ stepped s w p at (chosen m start s w.work at)
+  turn-unspent w p at unspent is =
+      ap (λ b. cond b w (turn_of m start s w p (slice_get w.players p))) unspent ∙ ap (turn_of m start s w p) is
+
+  -- the world that a turn leaves
+  left-by : (work : List (Entry WorkOp WorkReply)) (players : List At) (p : ℕ) (at : At) (made : Option (Step × StepReply)) → slice_get players p ≡ Some at →
+      world (history_with work at.who (length at.spots) made) (set players p (at_after s at made)) ≡ stepped s (world work players) p at made
+  left-by work players p at None is = ap (world work) (set-there players p at is)
+  left-by work players p at (Some made) is = refl
+
+  -- a turn in the code is a turn of the definition
+  pub turned-from : (work work' : List (Entry WorkOp WorkReply)) (players players' : List At) (p : ℕ) (at at' : At) (told : Turn) (made : Option (Step × StepReply)) →
+      IsReady s (world work players) → is_spent (world work players) ≡ false → slice_get players p ≡ Some at → chosen m start s work at ≡ made →
+      work' ≡ history_with work at.who (length at.spots) made → at' ≡ at_after s at made → players' ≡ set players p at' →
+      told.moved ≡ is_some made → told.spent ≡ is_spent_at at' → Turned m start s (world work players) (world work' players') p told
+  turned-from work work' players players' p at at' told made ready unspent is choice history place written moved spent =
+      let all : world work' players' ≡ stepped s (world work players) p at made =
+      ap (λ (h : List (Entry WorkOp WorkReply)). world h players') history
+      ∙ ap (world (history_with work at.who (length at.spots) made)) (written ∙ ap (set players p) place)
+      ∙ left-by work players p at made is in
+      let W : World → Type 0 = IsReady s in
+      record {
+        next = all ∙ ap (stepped s (world work players) p at) (sym choice) ∙ sym (turn-unspent (world work players) p at unspent is);
+        ready = subst W (sym all) (ready_after made);
+        spent = spent ∙ sym (any-set is_spent_at players p at' unspent (slice_get_within players p at is)) ∙ ap (λ (l : List At). is_spent (world work' l)) (sym written);
+        moved = λ moves. subst (λ (w : World). all_left w.players < all_left players) (sym all) (less made (sym moved ∙ moves));
+        still = λ rests. all ∙ same made (sym moved ∙ rests);
+      }
+    where
+      alone : is_spent_at at ≡ false
+      alone = none-passes is_spent_at players p at unspent is
+
+      ready_after : (made : Option (Step × StepReply)) → IsReady s (stepped s (world work players) p at made)
+      ready_after None = ready
+      ready_after (Some made) = ready-stepped s (world work players) p at made ready is alone
+
+      less : (made : Option (Step × StepReply)) → is_some made ≡ true → all_left (stepped s (world work players) p at made).players < all_left players
+      less None moves = absurd (cc)
+      less (Some made) moves = left-stepped s (world work players) p at made is alone
+
+      same : (made : Option (Step × StepReply)) → is_some made ≡ false → stepped s (world work players) p at made ≡ world work players
+      same None rests = refl
+      same (Some made) rests = absurd (cc)
+
+  -- the same, where the code may have had no memory
+  pub turned-if : (result : Result Turn NoMemory) (work work' : List (Entry WorkOp WorkReply)) (players players' : List At) (p : ℕ) (at at' : At) →
+      IsReady s (world work players) → is_spent (world work players) ≡ false → slice_get players p ≡ Some at → players' ≡ set players p at' →
+      IfOk result (λ told. at' ≡ at_after s at (chosen m start s work at)) →
+      IfOk result (λ told. work' ≡ history_with work at.who (length at.spots) (chosen m start s work at)) →
+      IfOk result (λ told. told.moved ≡ is_some (chosen m start s work at)) →
+      IfOk result (λ told. told.spent ≡ is_spent_at at') →
+      IfOk result (λ told. Turned m start s (world work players) (world work' players') p told)
+  turned-if (Ok told) work work' players players' p at at' ready unspent is written place history moved spent =
+      turned-from work work' players players' p at at' told (chosen m start s work at) ready unspent is refl history place written moved spent
+  turned-if (Err e) work work' players players' p at at' ready unspent is written place history moved spent = tt
+
+  -- once the run is spent no turn changes it
+  pub turns-spent : (w : World) (n p : ℕ) → is_spent w ≡ true → turns m start s w n p ≡ w
+  turns-spent w zero p spent = refl
+  turns-spent w (suc n) p spent =
+      let here : turn m start s w p ≡ w = ap (λ b. cond b w (turn_of m start s w p (slice_get w.players p))) spent in
+      ap (λ (v : World). turns m start s v n (p + 1)) here ∙ turns-spent w n (p + 1) spent
+
+  -- a round before its first turn
+  pub within-first : (w : World) → IsReady s w → is_spent w ≡ false → WithinRound m start s w w false (length w.players) 0
+  within-first w ready unspent = record { rest = refl; ready = ready; unspent = unspent; less = λ moves. absurd (cc); still = λ rests. refl }
+
+  rest-next : (old now new : World) (n p : ℕ) → new ≡ turn m start s now p → turns m start s now (suc n) p ≡ round m start s old → turns m start s new n (p + 1) ≡ round m start s old
+  rest-next old now new n p next rest = ap (λ (w : World). turns m start s w n (p + 1)) next ∙ rest
+
+  -- the round goes on behind a turn after which no player is spent
+  pub within-next : (old now new : World) (moved : Bool) (n p : ℕ) (told : Turn) → WithinRound m start s old now moved (suc n) p → Turned m start s now new p told → told.spent ≡ false →
+      WithinRound m start s old new (moved || told.moved) n (p + 1)
+  within-next old now new moved n p told within turned unspent = record {
+    rest = rest-next old now new n p turned.next within.rest;
+    ready = turned.ready;
+    unspent = sym turned.spent ∙ unspent;
+    less = λ moves. by_less moved told.moved within.less within.still turned.moved turned.still moves;
+    still = λ rests. by_still moved told.moved within.still turned.still rests;
+  }
+    where
+      by_still : (a b : Bool) → (a ≡ false → now ≡ old) → (b ≡ false → new ≡ now) → (a || b) ≡ false → new ≡ old
+      by_still true b first second rests = absurd (cc)
+      by_still false b first second rests = second rests ∙ first refl
+
+      by_less : (a b : Bool) → (a ≡ true → all_left now.players < all_left old.players) → (a ≡ false → now ≡ old) → (b ≡ true → all_left new.players < all_left now.players) → (b ≡ false → new ≡ now) →
+          (a || b) ≡ true → all_left new.players < all_left old.players
+      by_less true true less still less' still' moves = omega (arith, less refl, less' refl)
+      by_less true false less still less' still' moves = subst (λ (w : World). all_left w.players < all_left old.players) (sym (still' refl)) (less refl)
+      by_less false b less still less' still' moves = subst (λ (w : World). all_left new.players < all_left w.players) (still refl) (less' moves)
+
+  -- a turn after which a player is spent ends the round
+  pub within-spent : (old now new : World) (moved : Bool) (n p : ℕ) (told : Turn) → WithinRound m start s old now moved (suc n) p → Turned m start s now new p told → told.spent ≡ true →
+      Rounded m start s old new Spent
+  within-spent old now new moved n p told within turned spent =
+      let over : is_spent new ≡ true = sym turned.spent ∙ spent in
+      record {
+        next = sym (turns-spent new n (p + 1) over) ∙ rest-next old now new n p turned.next within.rest;
+        ready = turned.ready;
+        goes = over;
+      }
+
+  -- a round behind its last turn
+  pub within-last : (old now : World) (moved : Bool) (p : ℕ) → WithinRound m start s old now moved 0 p → Rounded m start s old now (cond moved Goes Still)
+  within-last old now true p within = record { next = within.rest; ready = within.ready; goes = (within.unspent, within.less refl) }
+  within-last old now false p within = record { next = within.rest; ready = within.ready; goes = (within.unspent, within.still refl) }
+
+  -- a round without a step is the last one
+  pub over-still : (old new : World) → Rounded m start s old new Still → round m start s new ≡ new
+  over-still old new rounded = ap (round m start s) rounded.goes.1 ∙ sym rounded.next
+
+  -- a spent run has no further round
+  pub over-spent : (old new : World) → Rounded m start s old new Spent → round m start s new ≡ new
+  over-spent old new rounded = turns-spent new (length new.players) 0 rounded.goes
+
+  -- one round more
+  pub rounds-next : (first old new : World) (n : ℕ) → old ≡ rounds m start s n first → new ≡ round m start s old → new ≡ rounds m start s (suc n) first
+  rounds-next first old new n so_far next = next ∙ ap (round m start s) so_far
+
+-- what a turn leaves doesn't rest on how the first state is written
+pub turned-at : {T : Type 0} (m : Machine T WorkOp WorkReply) (s : Parts) (start start' : T) (old new : World) (p : ℕ) (told : Turn) → start ≡ start' →
+    Turned m start s old new p told → Turned m start' s old new p told
+turned-at {T} m s start start' old new p told same turned = subst (λ (t : T). Turned m t s old new p told) same turned
+
+-- the same of a round, and of how its course is written
+pub rounded-at : {T : Type 0} (m : Machine T WorkOp WorkReply) (s : Parts) (start start' : T) (old new : World) (course course' : Course) → start ≡ start' → course ≡ course' →
+    Rounded m start s old new course → Rounded m start' s old new course'
+rounded-at {T} m s start start' old new course course' same told rounded =
+    subst (λ (t : T). Rounded m t s old new course') same (subst (λ (c : Course). Rounded m start s old new c) told rounded)
+
+-- the turns that are left in a round, one by one
+pub within-left : {T : Type 0} (m : Machine T WorkOp WorkReply) (start : T) (s : Parts) (old now : World) (moved : Bool) (k l p : ℕ) → k ≡ l →
+    WithinRound m start s old now moved k p → WithinRound m start s old now moved l p
+within-left m start s old now moved k l p same within = subst (λ (j : ℕ). WithinRound m start s old now moved j p) same within

@@ -1,0 +1,9 @@
+pub mod Places
+pub mod Readiness
+pub mod Laps
+pub mod Beginning
+pub mod Ends
+pub mod Machine
+pub mod Tended
+pub mod Still
+pub mod Once

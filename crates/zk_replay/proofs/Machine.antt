@@ -1,0 +1,299 @@
+-- What the operations of the work machine leave of its queues and their runs.
+use Rattle.std.proofs.Common.{◌≡◌, ◌≢◌, ℕ, zero, suc, ◌+◌, ◌<◌, Bool, true, false, not, ◌&&◌, cond, eqb, Option, Some, None, is_some, is_none, List, [], ◌∷◌, length, map, All, refl, sym, ap, subst, ◌∙◌, arith, eq-eqb, nat_lt}
+use Rattle.std.specs.List.{slice_get, position_or_len}
+use Rattle.std.specs.Option.{option_map, option_map_or, option_and_then}
+use Rattle.std.proofs.lemmas.Bool.{eqb-true, and_parts, and_right, and_left, and_from}
+use Rattle.std.proofs.lemmas.Bool.Decides.{nat_tests}
+use Rattle.std.proofs.lemmas.List.Elements.{All-nil, All-cons, All-head, All-tail, All-push}
+use Rattle.std.proofs.lemmas.Option.{slice_get_within, slice_get-map}
+use Rattle.zk_base.specs.declared.ids.Who.{Who}
+use Rattle.zk_base.specs.declared.errors.Errno.TheVariants as errors
+use Rattle.zk_model_work.specs.declared.parts.Life.{Life}
+use Rattle.zk_model_work.specs.declared.parts.Life.TheVariants.{Waiting, Running, Ended, Dropped}
+use Rattle.zk_model_work.specs.declared.parts.Admission.{Admission}
+use Rattle.zk_model_work.specs.declared.parts.Queue.{Queue}
+use Rattle.zk_model_work.specs.declared.ops.WorkOp.{WorkOp}
+use Rattle.zk_model_work.specs.declared.ops.WorkOp.TheVariants as ops
+use Rattle.zk_model_work.specs.declared.ops.Submitted.{Submitted}
+use Rattle.zk_model_work.specs.declared.ops.Submitted.TheVariants.{Already, Fresh, Rerun, Refused}
+use Rattle.zk_model_work.specs.declared.ops.WorkReply.{WorkReply}
+use Rattle.zk_model_work.specs.declared.ops.WorkReply.TheVariants.{Run}
+use Rattle.zk_model_work.specs.Lists.{places_from, first as first_of}
+use Rattle.zk_model_work.specs.Questions.{is_waiting, waits_for, waits_as, runs_on, running, waiting, is_cancelling, run, line, is_empty_and_idle}
+use Rattle.zk_model_work.specs.State.{State}
+use Rattle.zk_model_work.specs.Machine.{work_reply, work_next, is_chained, admission, submission, submission_at, submission_to, target, submit, set_life, with_life, begin, end_one, end_run, drop_one, drop_waiting, settle_from, is_worker, may_begin, taken_up}
+use Rattle.zk_replay.specs.Tending.{IsIdle}
+
+-- a submission that admits goes to one of so many queues
+abbrev Home : ℕ → Submitted → Type 0
+Home many Already = Unit {0}
+Home many (Fresh number queue) = queue < many
+Home many (Rerun number queue) = queue < many
+Home many (Refused cause) = Unit {0}
+
+cond-home : (many : ℕ) (b : Bool) (x y : Submitted) → Home many x → Home many y → Home many (cond b x y)
+cond-home many true x y hx hy = hx
+cond-home many false x y hx hy = hy
+
+admission-home : (admissions : List Admission) (item number many : ℕ) → number < many → Home many (admission admissions item number)
+admission-home admissions item number many less =
+    cond-home many (is_some (running admissions item)) (Rerun (length admissions) number) (Fresh (length admissions) number) less less
+
+submission_to-home : (admissions : List Admission) (caller : Option ℕ) (item number : ℕ) (queue : Queue) (many : ℕ) → number < many → Home many (submission_to admissions caller item number queue)
+submission_to-home admissions caller item number queue many less =
+    cond-home many (not queue.started) (Refused errors.NoDev) _ tt
+    (cond-home many (queue.draining && not (is_chained queue caller)) (Refused errors.Busy) _ tt
+    (cond-home many (queue.plugged && not queue.draining) (Refused errors.Busy) _ tt (admission-home admissions item number many less)))
+
+submission_at-home : (admissions : List Admission) (queues : List Queue) (caller : Option ℕ) (item : ℕ) (to : Option ℕ) → Home (length queues) (submission_at admissions queues caller item to)
+submission_at-home admissions queues caller item None = tt
+submission_at-home admissions queues caller item (Some number) = by_queue (slice_get queues number) refl
+  where
+    by_queue : (queue : Option Queue) → slice_get queues number ≡ queue → Home (length queues) (option_map_or (submission_to admissions caller item number) queue (Refused errors.Inval))
+    by_queue None is = tt
+    by_queue (Some queue) is = submission_to-home admissions caller item number queue (length queues) (slice_get_within queues number queue is)
+
+submission-home : (admissions : List Admission) (marks : List ℕ) (queues : List Queue) (caller : Option ℕ) (item : ℕ) (named : Option ℕ) →
+    Home (length queues) (submission admissions marks queues caller item named)
+submission-home admissions marks queues caller item named =
+    cond-home (length queues) (is_cancelling admissions marks item) (Refused errors.Busy) _ tt
+    (cond-home (length queues) (is_some (waiting admissions item)) Already _ tt (submission_at-home admissions queues caller item (target admissions item named)))
+
+-- what holds of each admission and of a new one holds after a submission
+submit-all : (P : Admission → Type 0) (admissions : List Admission) (item many : ℕ) (answer : Submitted) → Home many answer →
+    ((queue : ℕ) → queue < many → P (record { item = item; queue = queue; life = Waiting })) → All P admissions → All P (submit admissions item answer)
+submit-all P admissions item many Already home new all = all
+submit-all P admissions item many (Fresh number queue) home new all = All-push P admissions (record { item = item; queue = queue; life = Waiting }) all (new queue home)
+submit-all P admissions item many (Rerun number queue) home new all = All-push P admissions (record { item = item; queue = queue; life = Waiting }) all (new queue home)
+submit-all P admissions item many (Refused cause) home new all = all
+
+-- what each admission keeps holds of all that are changed
+map-all : (P : Admission → Type 0) (f : Admission → Admission) → ((a : Admission) → P a → P (f a)) → (xs : List Admission) → All P xs → All P (map f xs)
+map-all P f keeps [] all = All-nil P
+map-all P f keeps (x ∷ xs) all = All-cons P (f x) (map f xs) (keeps x (All-head P x xs all)) (map-all P f keeps xs (All-tail P x xs all))
+
+set_life-all : (P : Admission → Type 0) (xs : List Admission) (n : ℕ) (life : Life) → ((a : Admission) → slice_get xs n ≡ Some a → P (with_life life a)) → All P xs → All P (set_life xs n life)
+set_life-all P [] n life new all = all
+set_life-all P (x ∷ xs) zero life new all = All-cons P (with_life life x) xs (new x refl) (All-tail P x xs all)
+set_life-all P (x ∷ xs) (suc n) life new all = All-cons P x (set_life xs n life) (All-head P x xs all) (set_life-all P xs n life new (All-tail P x xs all))
+
+-- the first place of those that pass has an element that passes
+first-passes : (test : Admission → Bool) (n : ℕ) (xs : List Admission) (p : ℕ) → first_of (places_from n test xs) ≡ Some p →
+    (k : ℕ) × (p ≡ n + k) × ((a : Admission) → slice_get xs k ≡ Some a → test a ≡ true)
+first-passes test n [] p is = absurd (cc)
+first-passes test n (x ∷ xs) p is = by_test (test x) refl is (first-passes test (n + 1) xs p)
+  where
+    by_test : (b : Bool) → test x ≡ b → first_of (cond b (n ∷ places_from (n + 1) test xs) (places_from (n + 1) test xs)) ≡ Some p →
+        (first_of (places_from (n + 1) test xs) ≡ Some p → (k : ℕ) × (p ≡ (n + 1) + k) × ((a : Admission) → slice_get xs k ≡ Some a → test a ≡ true)) →
+        (k : ℕ) × (p ≡ n + k) × ((a : Admission) → slice_get (x ∷ xs) k ≡ Some a → test a ≡ true)
+    by_test true passes here further =
+        let same : n ≡ p = cc in
+        (0, omega arith, λ a is. let it : x ≡ a = cc in subst (λ (y : Admission). test y ≡ true) it passes)
+    by_test false passes here further = let more = further here in (suc more.0, omega arith, more.2)
+
+-- the first in the line of a queue waits for it
+line-waits : (xs : List Admission) (queue p : ℕ) (a : Admission) → first_of (line xs queue) ≡ Some p → slice_get xs p ≡ Some a → waits_for queue a ≡ true
+line-waits xs queue p a is there =
+    let found = first-passes (waits_for queue) 0 xs p is in
+    let same : found.0 ≡ p = omega (arith, found.1) in
+    found.2 a (ap (λ (k : ℕ). slice_get xs k) same ∙ there)
+
+begin-all : (P : Admission → Type 0) (xs : List Admission) (queue : ℕ) → ((a : Admission) → waits_for queue a ≡ true → P a → P (with_life Running a)) → All P xs → All P (begin xs queue)
+begin-all P xs queue new all = by_first (first_of (line xs queue)) refl
+  where
+    by_first : (o : Option ℕ) → first_of (line xs queue) ≡ o → All P (option_map_or (λ number. set_life xs number Running) o xs)
+    by_first None is = all
+    by_first (Some p) is = set_life-all P xs p Running (λ a there. new a (line-waits xs queue p a is there) (All-at P xs p a there all)) all
+      where
+        All-at : (P : Admission → Type 0) (xs : List Admission) (k : ℕ) (x : Admission) → slice_get xs k ≡ Some x → All P xs → P x
+        All-at P [] k x is all = absurd (cc)
+        All-at P (y ∷ ys) zero x is all = let same : y ≡ x = cc in subst P same (All-head P y ys all)
+        All-at P (y ∷ ys) (suc k) x is all = All-at P ys k x is (All-tail P y ys all)
+
+cond-keeps : (P : Admission → Type 0) (b : Bool) (x y : Admission) → P x → P y → P (cond b x y)
+cond-keeps P true x y hx hy = hx
+cond-keeps P false x y hx hy = hy
+
+-- each admission stays one to a queue
+pub homes-next : (many : ℕ) (st : State) (who : Who) (op : WorkOp) → length st.queues ≡ many → All (λ a. a.queue < many) st.admissions → All (λ a. a.queue < many) (work_next st who op).admissions
+homes-next many st who (ops.Submit item named) long all =
+    let P : Admission → Type 0 = λ a. a.queue < many in
+    let answer = submission st.admissions st.marks st.queues (Some who.number) item named in
+    submit-all P st.admissions item many answer (subst (λ (n : ℕ). Home n answer) long (submission-home st.admissions st.marks st.queues (Some who.number) item named)) (λ queue less. less) all
+homes-next many st who (ops.Cancel item) long all =
+    let P : Admission → Type 0 = λ a. a.queue < many in
+    map-all P (drop_one item) (λ a less. cond-keeps P (waits_as item a) (with_life Dropped a) a less less) st.admissions all
+homes-next many st who (ops.Begin queue) long all =
+    let P : Admission → Type 0 = λ a. a.queue < many in begin-all P st.admissions queue (λ a waits less. less) all
+homes-next many st who (ops.End queue) long all =
+    let P : Admission → Type 0 = λ a. a.queue < many in
+    map-all P (end_one queue) (λ a less. cond-keeps P (runs_on queue a) (with_life Ended a) a less less) st.admissions all
+
+settle-workers : (admissions : List Admission) (n : ℕ) (queues : List Queue) → map (λ queue. queue.worker) (settle_from admissions n queues) ≡ map (λ queue. queue.worker) queues
+settle-workers admissions n [] = refl
+settle-workers admissions n (queue ∷ queues) =
+    ap (λ (w : ℕ). w ∷ map (λ (q : Queue). q.worker) (settle_from admissions (n + 1) queues)) (worker-kept queue (queue.draining && is_empty_and_idle admissions n))
+    ∙ ap (λ (l : List ℕ). queue.worker ∷ l) (settle-workers admissions (n + 1) queues)
+  where
+    worker-kept : (queue : Queue) (b : Bool) → (cond b (record queue { draining = false; drained = queue.drained + 1 }) queue).worker ≡ queue.worker
+    worker-kept queue true = refl
+    worker-kept queue false = refl
+
+-- each queue keeps its worker
+pub workers-next : (st : State) (who : Who) (op : WorkOp) → map (λ queue. queue.worker) (work_next st who op).queues ≡ map (λ queue. queue.worker) st.queues
+workers-next st who (ops.Submit item named) = refl
+workers-next st who (ops.Cancel item) = settle-workers (drop_waiting st.admissions item) 0 st.queues
+workers-next st who (ops.Begin queue) = refl
+workers-next st who (ops.End queue) = settle-workers (end_run st.admissions queue) 0 st.queues
+
+-- the worker of a queue, by its number as a player
+pub IsWorkerOf : State → ℕ → ℕ → Type 0
+IsWorkerOf st queue worker = slice_get (map (λ (q : Queue). q.worker) st.queues) queue ≡ Some worker
+
+-- who may begin or end a run of a queue is its worker
+pub worker-is : (st : State) (queue player worker : ℕ) → slice_get (map (λ (q : Queue). q.worker) st.queues) queue ≡ Some worker → is_worker st.queues queue player ≡ true → player ≡ worker
+worker-is st queue player worker is may = by_queue (slice_get st.queues queue) (sym (slice_get-map (λ (q : Queue). q.worker) st.queues queue) ∙ is) may
+  where
+    by_queue : (o : Option Queue) → option_map (λ (q : Queue). q.worker) o ≡ Some worker → option_map_or (λ (q : Queue). eqb player q.worker) o false ≡ true → player ≡ worker
+    by_queue None is may = absurd (cc)
+    by_queue (Some q) is may = let same : q.worker ≡ worker = cc in eqb-true player q.worker may ∙ same
+
+begins-as : (st : State) (who : Who) (queue : ℕ) (reply : WorkReply) → work_reply st who (ops.Begin queue) ≡ Some reply → is_worker st.queues queue who.number ≡ true
+begins-as st who queue reply is =
+    by_both (is_worker st.queues queue who.number) (is_none (run st.admissions queue)) is
+  where
+    by_both : (a b : Bool) → cond (a && b) (taken_up st.admissions queue) None ≡ Some reply → a ≡ true
+    by_both true b is = refl
+    by_both false b is = absurd (cc)
+
+-- what a call of a script asks of the work service
+abbrev pub IsCalled : WorkOp → Type 0
+IsCalled (ops.Submit item named) = Unit {0}
+IsCalled (ops.Cancel item) = Unit {0}
+IsCalled (ops.Begin queue) = ⊥
+IsCalled (ops.End queue) = ⊥
+
+-- no call starts a run
+pub idle-called : (st : State) (who : Who) (op : WorkOp) (queue : ℕ) → IsCalled op → IsIdle queue st.admissions → IsIdle queue (work_next st who op).admissions
+idle-called st who (ops.Submit item named) queue called idle =
+    let P : Admission → Type 0 = λ a. runs_on queue a ≡ false in
+    submit-all P st.admissions item (length st.queues) (submission st.admissions st.marks st.queues (Some who.number) item named)
+    (submission-home st.admissions st.marks st.queues (Some who.number) item named) (λ q less. and_right (eqb q queue) false refl) idle
+idle-called st who (ops.Cancel item) queue called idle =
+    let P : Admission → Type 0 = λ a. runs_on queue a ≡ false in
+    map-all P (drop_one item) (λ a none. cond-keeps P (waits_as item a) (with_life Dropped a) a (and_right (eqb a.queue queue) false refl) none) st.admissions idle
+idle-called st who (ops.Begin queue') queue called idle = absurd called
+idle-called st who (ops.End queue') queue called idle = absurd called
+
+end_one-idle : (queue : ℕ) (a : Admission) → runs_on queue (end_one queue a) ≡ false
+end_one-idle queue a = by_runs (runs_on queue a) refl
+  where
+    by_runs : (b : Bool) → runs_on queue a ≡ b → runs_on queue (cond b (with_life Ended a) a) ≡ false
+    by_runs true is = and_right (eqb a.queue queue) false refl
+    by_runs false is = is
+
+-- a queue whose run has ended runs nothing
+pub idle-ended : (queue : ℕ) (xs : List Admission) → IsIdle queue (end_run xs queue)
+idle-ended queue [] = let P : Admission → Type 0 = λ a. runs_on queue a ≡ false in All-nil P
+idle-ended queue (a ∷ xs) =
+    let P : Admission → Type 0 = λ a. runs_on queue a ≡ false in
+    All-cons P (end_one queue a) (map (end_one queue) xs) (end_one-idle queue a) (idle-ended queue xs)
+
+-- a worker that begins is told what it runs
+pub begin-told : (st : State) (who : Who) (queue : ℕ) (reply : WorkReply) → work_reply st who (ops.Begin queue) ≡ Some reply → (item : ℕ) × (number : ℕ) × (reply ≡ Run item number)
+begin-told st who queue reply is =
+    by_may (may_begin st.admissions st.queues who queue) is
+  where
+    by_admission : (number : ℕ) (o : Option Admission) → option_map (λ (a : Admission). Run a.item number) o ≡ Some reply → (item : ℕ) × (number : ℕ) × (reply ≡ Run item number)
+    by_admission number None is = absurd (cc)
+    by_admission number (Some a) is = (a.item, number, cc)
+
+    by_number : (o : Option ℕ) → option_and_then (λ number. option_map (λ (a : Admission). Run a.item number) (slice_get st.admissions number)) o ≡ Some reply → (item : ℕ) × (number : ℕ) × (reply ≡ Run item number)
+    by_number None is = absurd (cc)
+    by_number (Some number) is = by_admission number (slice_get st.admissions number) is
+
+    by_may : (b : Bool) → cond b (taken_up st.admissions queue) None ≡ Some reply → (item : ℕ) × (number : ℕ) × (reply ≡ Run item number)
+    by_may true is = by_number (first_of (line st.admissions queue)) is
+    by_may false is = absurd (cc)
+
+-- a queue that runs nothing does so after any operation but a Begin of its worker
+pub idle-next : (st : State) (who : Who) (op : WorkOp) (reply : WorkReply) (queue worker : ℕ) → slice_get (map (λ (q : Queue). q.worker) st.queues) queue ≡ Some worker → who.number ≢ worker →
+    work_reply st who op ≡ Some reply → IsIdle queue st.admissions → IsIdle queue (work_next st who op).admissions
+idle-next st who (ops.Submit item named) reply queue worker is other made idle = idle-called st who (ops.Submit item named) queue tt idle
+idle-next st who (ops.Cancel item) reply queue worker is other made idle = idle-called st who (ops.Cancel item) queue tt idle
+idle-next st who (ops.Begin queue') reply queue worker is other made idle =
+    let P : Admission → Type 0 = λ a. runs_on queue a ≡ false in
+    begin-all P st.admissions queue' (λ a waits none. and_left (eqb a.queue queue) true (apart a (and_parts (eqb a.queue queue') (is_waiting a.life) waits).0)) idle
+  where
+    differs : queue' ≢ queue
+    differs same = other (worker-is st queue who.number worker is (subst (λ (q : ℕ). is_worker st.queues q who.number ≡ true) same (begins-as st who queue' reply made)))
+
+    apart : (a : Admission) → eqb a.queue queue' ≡ true → eqb a.queue queue ≡ false
+    apart a to = grind (arith, nat_tests, eqb-true a.queue queue' to, differs)
+idle-next st who (ops.End queue') reply queue worker is other made idle =
+    let P : Admission → Type 0 = λ a. runs_on queue a ≡ false in
+    map-all P (end_one queue') (λ a none. cond-keeps P (runs_on queue' a) (with_life Ended a) a (and_right (eqb a.queue queue) false refl) none) st.admissions idle
+
+none-where : (test : Admission → Bool) (n : ℕ) (xs : List Admission) → first_of (places_from n test xs) ≡ None → All (λ a. test a ≡ false) xs
+none-where test n [] is = let P : Admission → Type 0 = λ a. test a ≡ false in All-nil P
+none-where test n (x ∷ xs) is = by_test (test x) refl is (none-where test (n + 1) xs)
+  where
+    by_test : (b : Bool) → test x ≡ b → first_of (cond b (n ∷ places_from (n + 1) test xs) (places_from (n + 1) test xs)) ≡ None →
+        (first_of (places_from (n + 1) test xs) ≡ None → All (λ a. test a ≡ false) xs) → All (λ a. test a ≡ false) (x ∷ xs)
+    by_test true passes none further = absurd (cc)
+    by_test false passes none further = let P : Admission → Type 0 = λ a. test a ≡ false in All-cons P x xs passes (further none)
+
+run-none : (queue : ℕ) (xs : List Admission) → IsIdle queue xs → run xs queue ≡ None
+run-none queue [] idle = refl
+run-none queue (x ∷ xs) idle =
+    let P : Admission → Type 0 = λ a. runs_on queue a ≡ false in
+    behind (runs_on queue x) (position_or_len (runs_on queue) xs) (length xs) (All-head P x xs idle) (run-none queue xs (All-tail P x xs idle))
+  where
+    behind : (b : Bool) (place long : ℕ) → b ≡ false → cond (nat_lt place long) (Some place) None ≡ None →
+        cond (nat_lt (cond (not b) (1 + place) 0) (suc long)) (Some (cond (not b) (1 + place) 0)) None ≡ None
+    behind true place long is none = absurd (cc)
+    behind false place long is none = by_less (nat_lt place long) refl none
+      where
+        by_less : (c : Bool) → nat_lt place long ≡ c → cond c (Some place) None ≡ None → cond (nat_lt (1 + place) (suc long)) (Some (1 + place)) None ≡ None
+        by_less true is none = absurd (cc)
+        by_less false is none = let more : nat_lt (1 + place) (suc long) ≡ false = grind (arith, nat_tests) in ap (λ c. cond c (Some (1 + place)) None) more
+
+first-there : (test : Admission → Bool) (n : ℕ) (xs : List Admission) (p : ℕ) → first_of (places_from n test xs) ≡ Some p → (k : ℕ) × (p ≡ n + k) × (a : Admission) × (slice_get xs k ≡ Some a)
+first-there test n [] p is = absurd (cc)
+first-there test n (x ∷ xs) p is = by_test (test x) is (first-there test (n + 1) xs p)
+  where
+    by_test : (b : Bool) → first_of (cond b (n ∷ places_from (n + 1) test xs) (places_from (n + 1) test xs)) ≡ Some p →
+        (first_of (places_from (n + 1) test xs) ≡ Some p → (k : ℕ) × (p ≡ (n + 1) + k) × (a : Admission) × (slice_get xs k ≡ Some a)) →
+        (k : ℕ) × (p ≡ n + k) × (a : Admission) × (slice_get (x ∷ xs) k ≡ Some a)
+    by_test true here further = let same : n ≡ p = cc in (0, omega arith, x, refl)
+    by_test false here further = let more = further here in (suc more.0, omega arith, more.2, more.3)
+
+is-worker : (st : State) (queue worker : ℕ) → slice_get (map (λ (q : Queue). q.worker) st.queues) queue ≡ Some worker → is_worker st.queues queue worker ≡ true
+is-worker st queue worker is = by_queue (slice_get st.queues queue) (sym (slice_get-map (λ (q : Queue). q.worker) st.queues queue) ∙ is)
+  where
+    by_queue : (o : Option Queue) → option_map (λ (q : Queue). q.worker) o ≡ Some worker → option_map_or (λ (q : Queue). eqb worker q.worker) o false ≡ true
+    by_queue None is = absurd (cc)
+    by_queue (Some q) is = let same : q.worker ≡ worker = cc in eq-eqb worker q.worker (sym same)
+
+-- where the worker of a queue that runs nothing can't begin, nothing waits for the queue
+pub none-waits-for : (st : State) (who : Who) (queue : ℕ) → slice_get (map (λ (q : Queue). q.worker) st.queues) queue ≡ Some who.number → IsIdle queue st.admissions →
+    work_reply st who (ops.Begin queue) ≡ None → All (λ a. waits_for queue a ≡ false) st.admissions
+none-waits-for st who queue is idle none = none-where (waits_for queue) 0 st.admissions (line_none (first_of (line st.admissions queue)) refl)
+  where
+    may : may_begin st.admissions st.queues who queue ≡ true
+    may = and_from (is_worker st.queues queue who.number) (is_none (run st.admissions queue)) (is-worker st queue who.number is) (ap (λ (o : Option ℕ). is_none o) (run-none queue st.admissions idle))
+
+    taken : taken_up st.admissions queue ≡ None
+    taken = sym (ap (λ b. cond b (taken_up st.admissions queue) None) may) ∙ none
+
+    line_none : (o : Option ℕ) → first_of (line st.admissions queue) ≡ o → first_of (line st.admissions queue) ≡ None
+    line_none None here = here
+    line_none (Some p) here =
+        let there = first-there (waits_for queue) 0 st.admissions p here in
+        let same : there.0 ≡ p = omega (arith, there.1) in
+        let a = there.2 in
+        let some : taken_up st.admissions queue ≡ Some (Run a.item p) =
+        ap (λ (o : Option ℕ). option_and_then (λ number. option_map (λ (b : Admission). Run b.item number) (slice_get st.admissions number)) o) here
+        ∙ ap (λ (o : Option Admission). option_map (λ (b : Admission). Run b.item p) o) (ap (λ (k : ℕ). slice_get st.admissions k) (sym same) ∙ there.3) in
+        let none_taken = sym some ∙ taken in
+        absurd (cc)

@@ -1,0 +1,93 @@
+use Rattle.std.specs.Prelude.{◌≡◌, ℕ, zero, suc, ◌+◌, Bool, if◌then◌else◌, Option, Some, None, option_to_list, List, [], ◌∷◌, ◌++◌, length, slice_get, slice_set, option_map}
+use Rattle.std.specs.List.{list_any}
+use Rattle.zk_base.specs.declared.ids.Who.{Who}
+use Rattle.zk_base.specs.declared.ids.Entry.{Entry}
+use Rattle.zk_base.specs.History.{entry}
+use Rattle.zk_base.specs.Legal.{Machine, state_after}
+use Rattle.zk_scenario.specs.Parts.{Parts}
+use Rattle.zk_scenario.specs.Players.{players}
+use Rattle.zk_model_work.specs.declared.ops.WorkOp.{WorkOp}
+use Rattle.zk_model_work.specs.declared.ops.WorkReply.{WorkReply}
+use Rattle.zk_worker.specs.declared.steps.Step.{Step}
+use Rattle.zk_worker.specs.declared.steps.Step.TheVariants as steps
+use Rattle.zk_worker.specs.declared.steps.StepReply.{StepReply}
+use Rattle.zk_worker.specs.declared.steps.StepReply.TheVariants as step_replies
+use Rattle.zk_worker.specs.Places.{At}
+use Rattle.zk_worker.specs.Protocol.{attempts, after, start_at}
+use Rattle.zk_worker.specs.Follows.{is_spent_at}
+
+-- all that a run has come to: the history of the work service, and where each player stands
+pub record World : Type 0 where
+  pub work : List (Entry WorkOp WorkReply)
+  pub players : List At
+
+-- a step with its answer, or else what comes after it
+abbrev pub or_else : Step → Option StepReply → Option (Step × StepReply) → Option (Step × StepReply)
+or_else step None further = further
+or_else step (Some reply) further = Some (step, reply)
+
+module _ {T : Type 0} (m : Machine T WorkOp WorkReply) (start : T) where
+  -- what is answered to a step after a history, if it is possible
+  abbrev pub answer_in : List (Entry WorkOp WorkReply) → Who → Step → Option StepReply
+  answer_in work who (steps.Work op) = option_map (λ reply. step_replies.Work reply (length work)) (m.reply_of (state_after m start work) who op)
+
+  -- the first of these attempts that is possible, with its answer
+  abbrev pub first_possible : List (Entry WorkOp WorkReply) → Who → List Step → Option (Step × StepReply)
+  first_possible work who [] = None
+  first_possible work who (step ∷ more) = or_else step (answer_in work who step) (first_possible work who more)
+
+  -- the attempt that a player makes in a turn
+  abbrev pub chosen : Parts → List (Entry WorkOp WorkReply) → At → Option (Step × StepReply)
+  chosen s work at = first_possible work at.who (attempts s at)
+
+-- the history with the entry of a step
+abbrev pub work_after : List (Entry WorkOp WorkReply) → Who → ℕ → Step → StepReply → List (Entry WorkOp WorkReply)
+work_after work who number (steps.Work op) (step_replies.Work reply place) = work ++ entry who number op reply ∷ []
+
+-- the world after a step of the player of this number, if it makes one
+abbrev pub stepped : Parts → World → ℕ → At → Option (Step × StepReply) → World
+stepped s w player at None = w
+stepped s w player at (Some made) = record {
+  work = work_after w.work at.who (length at.spots) made.0 made.1;
+  players = slice_set w.players player (after s at made.0 made.1);
+}
+
+-- whether some player has made all its steps
+abbrev pub is_spent : World → Bool
+is_spent w = list_any is_spent_at w.players
+
+module _ {T : Type 0} (m : Machine T WorkOp WorkReply) (start : T) (s : Parts) where
+  abbrev pub turn_of : World → ℕ → Option At → World
+  turn_of w player None = w
+  turn_of w player (Some at) = stepped s w player at (chosen m start s w.work at)
+
+  -- the world after a turn of a player: it makes the first of its attempts that is possible, unless the run is spent
+  abbrev pub turn : World → ℕ → World
+  turn w player = if is_spent w then w else turn_of w player (slice_get w.players player)
+
+  -- the world after a turn of each of so many players, from this one on
+  abbrev pub turns : World → ℕ → ℕ → World
+  turns w zero player = w
+  turns w (suc n) player = turns (turn w player) n (player + 1)
+
+  -- the world after a turn of each player in order
+  abbrev pub round : World → World
+  round w = turns w (length w.players) 0
+
+  -- the world after so many rounds
+  abbrev pub rounds : ℕ → World → World
+  rounds zero w = w
+  rounds (suc n) w = round (rounds n w)
+
+-- the players with lower numbers, none of which has made a step
+abbrev pub starts : Parts → ℕ → List At
+starts s zero = []
+starts s (suc n) = starts s n ++ option_to_list (start_at s n)
+
+-- the world in which nothing was done
+abbrev pub first : Parts → World
+first s = record { work = []; players = starts s (length (players s.decls)) }
+
+-- the round robin run of a scenario: the world after some number of rounds that a further round leaves as it is
+abbrev pub IsRun : {T : Type 0} → Machine T WorkOp WorkReply → T → Parts → World → Type 0
+IsRun m start s w = (n : ℕ) × (w ≡ rounds m start s n (first s)) × (round m start s w ≡ w)

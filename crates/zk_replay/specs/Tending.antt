@@ -1,0 +1,46 @@
+use Rattle.std.specs.Prelude.{◌≡◌, ℕ, ◌+◌, ◌<◌, false, Some, List, [], ◌∷◌, length, map, slice_get, All}
+use Rattle.zk_base.specs.Legal.{state_after}
+use Rattle.zk_scenario.specs.declared.types.Decl.{Decl}
+use Rattle.zk_scenario.specs.Parts.{Parts}
+use Rattle.zk_scenario.specs.Players.{places, number_of, is_thread, is_queue}
+use Rattle.zk_model_work.specs.declared.parts.Admission.{Admission}
+use Rattle.zk_model_work.specs.Questions.{runs_on}
+use Rattle.zk_model_work.specs.State.{State}
+use Rattle.zk_model_work.specs.Machine.{work_machine}
+use Rattle.zk_worker.specs.declared.frames.Frame.{Frame}
+use Rattle.zk_worker.specs.declared.frames.Role.{Role}
+use Rattle.zk_worker.specs.declared.frames.Role.TheVariants.{Script, Worker}
+use Rattle.zk_worker.specs.declared.frames.Stage.{Stage}
+use Rattle.zk_worker.specs.declared.frames.Stage.TheVariants.{Start, Runs}
+use Rattle.zk_worker.specs.Places.{At}
+use Rattle.zk_replay.specs.RoundRobin.{World}
+use Rattle.zk_replay.specs.Replay.{workers, work_start_of}
+
+-- the queue runs nothing
+abbrev pub IsIdle : ℕ → List Admission → Type 0
+IsIdle queue admissions = All (λ a. runs_on queue a ≡ false) admissions
+
+-- the run of a worker: it is the queue's, and between two runs the queue runs nothing
+abbrev pub IsWorkers : List Decl → ℕ → Role → Stage → List Admission → Type 0
+IsWorkers decls queue (Worker object) Start admissions = (number_of decls object ≡ queue) × IsIdle queue admissions
+IsWorkers decls queue (Worker object) Runs admissions = number_of decls object ≡ queue
+IsWorkers decls queue (Script owner) stage admissions = ⊥
+
+-- it is a script that is open
+abbrev pub IsScript : Role → Type 0
+IsScript (Script owner) = Unit {0}
+IsScript (Worker object) = ⊥
+
+-- these are a worker's open scripts and its run, which tends this queue
+abbrev pub Tends : List Decl → ℕ → List Frame → List Admission → Type 0
+Tends decls queue [] admissions = ⊥
+Tends decls queue (frame ∷ []) admissions = IsWorkers decls queue frame.role frame.stage admissions
+Tends decls queue (frame ∷ next ∷ below) admissions = IsScript frame.role × Tends decls queue (next ∷ below) admissions
+
+-- each admission is to a queue, each queue has its worker, and each worker tends its queue
+pub record IsTended (s : Parts) (w : World) (state : State) : Type 0 where
+  pub after : state ≡ state_after work_machine (work_start_of s) w.work
+  pub homes : All (λ a. a.queue < length (places is_queue s.decls)) state.admissions
+  pub has_workers : map (λ queue. queue.worker) state.queues ≡ workers s.decls
+  pub tended : (queue : ℕ) (at : At) → slice_get w.players (length (places is_thread s.decls) + queue) ≡ Some at → queue < length (places is_queue s.decls) →
+      Tends s.decls queue at.frames state.admissions

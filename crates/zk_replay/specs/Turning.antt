@@ -1,0 +1,72 @@
+use Rattle.std.specs.Prelude.{◌≡◌, ℕ, ◌<◌, Bool, true, false, Option, Some, None, List}
+use Rattle.zk_base.specs.declared.ids.Who.{Who}
+use Rattle.zk_base.specs.declared.ids.Entry.{Entry}
+use Rattle.zk_base.specs.Legal.{Machine}
+use Rattle.zk_scenario.specs.Parts.{Parts}
+use Rattle.zk_model_work.specs.declared.ops.WorkOp.{WorkOp}
+use Rattle.zk_model_work.specs.declared.ops.WorkReply.{WorkReply}
+use Rattle.zk_worker.specs.declared.steps.Step.{Step}
+use Rattle.zk_worker.specs.declared.steps.Step.TheVariants as steps
+use Rattle.zk_worker.specs.declared.steps.StepReply.{StepReply}
+use Rattle.zk_worker.specs.Places.{At}
+use Rattle.zk_worker.specs.Protocol.{IsAhead, after}
+use Rattle.zk_replay.specs.declared.turns.Turn.{Turn}
+use Rattle.zk_replay.specs.declared.turns.Course.{Course}
+use Rattle.zk_replay.specs.declared.turns.Course.TheVariants.{Still, Goes, Spent}
+use Rattle.zk_replay.specs.RoundRobin.{World, work_after, turn, turns, round, is_spent}
+use Rattle.zk_replay.specs.Ready.{IsReady, all_left}
+
+-- the history after an attempt: with the entry of the step where there was a reply
+abbrev pub history_after : List (Entry WorkOp WorkReply) → Who → ℕ → Step → Option StepReply → List (Entry WorkOp WorkReply)
+history_after work who number step None = work
+history_after work who number step (Some reply) = work_after work who number step reply
+
+-- the history after a turn
+abbrev pub history_with : List (Entry WorkOp WorkReply) → Who → ℕ → Option (Step × StepReply) → List (Entry WorkOp WorkReply)
+history_with work who number None = work
+history_with work who number (Some made) = work_after work who number made.0 made.1
+
+-- where a player stands after a turn
+abbrev pub at_after : Parts → At → Option (Step × StepReply) → At
+at_after s at None = at
+at_after s at (Some made) = after s at made.0 made.1
+
+-- the ids in a step are in range at its service
+abbrev pub RangeOf : {T : Type 0} → Machine T WorkOp WorkReply → T → Step → Type 0
+RangeOf m start (steps.Work op) = m.in_range start op ≡ true
+
+-- the ids in each attempt of a player are in range
+abbrev pub AreTaken : {T : Type 0} → Machine T WorkOp WorkReply → T → Parts → At → Type 0
+AreTaken m start s at = (step : Step) → IsAhead s at step → RangeOf m start step
+
+-- this history and these players
+abbrev pub world : List (Entry WorkOp WorkReply) → List At → World
+world work players = record { work = work; players = players }
+
+-- what a turn leaves, and what is told of it
+pub record Turned {T : Type 0} (m : Machine T WorkOp WorkReply) (start : T) (s : Parts) (old new : World) (player : ℕ) (told : Turn) : Type 0 where
+  pub next : new ≡ turn m start s old player
+  pub ready : IsReady s new
+  pub spent : told.spent ≡ is_spent new
+  pub moved : told.moved ≡ true → all_left new.players < all_left old.players
+  pub still : told.moved ≡ false → new ≡ old
+
+-- how the run goes on after a round
+abbrev pub GoesOn : World → World → Course → Type 0
+GoesOn old new Still = (is_spent new ≡ false) × (new ≡ old)
+GoesOn old new Goes = (is_spent new ≡ false) × (all_left new.players < all_left old.players)
+GoesOn old new Spent = is_spent new ≡ true
+
+-- what a round leaves, and what is told of it
+pub record Rounded {T : Type 0} (m : Machine T WorkOp WorkReply) (start : T) (s : Parts) (old new : World) (course : Course) : Type 0 where
+  pub next : new ≡ round m start s old
+  pub ready : IsReady s new
+  pub goes : GoesOn old new course
+
+-- a round that has come to the player of this number, with so many turns left
+pub record WithinRound {T : Type 0} (m : Machine T WorkOp WorkReply) (start : T) (s : Parts) (old now : World) (moved : Bool) (turns_left player : ℕ) : Type 0 where
+  pub rest : turns m start s now turns_left player ≡ round m start s old
+  pub ready : IsReady s now
+  pub unspent : is_spent now ≡ false
+  pub less : moved ≡ true → all_left now.players < all_left old.players
+  pub still : moved ≡ false → now ≡ old

@@ -1,0 +1,9 @@
+//! The round robin run of a scenario, on one thread.
+#![tactic(auto)]
+
+mod laws;
+mod run;
+mod turns;
+
+pub use laws::{none_goes_on, one_run};
+pub use run::replay;

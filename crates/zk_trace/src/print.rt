@@ -1,0 +1,29 @@
+ghost use Rattle.std.specs.Prelude.{◌≡◌, ◌++◌, OnOk, IfOk};
+ghost use Rattle.zk_scenario.specs.Spelling.{text_of};
+ghost use Rattle.zk_trace.specs.Text.{trace_text};
+
+use crate::Trace;
+use crate::sections::{put_line, put_players, put_work_section};
+use crate::words::ending_word;
+use std::alloc::Global;
+use zk_base::NoMemory;
+use zk_scenario::{Scenario, print_scenario};
+
+/// Appends the trace part of the output: the head, the ending, the sections of the services and of the players.
+pub fn put_trace(out: &mut Vec<u8>, scenario: &Scenario, trace: &Trace) -> Result<(), NoMemory>
+    ensures { OnOk result (out.new.items ≡ out.old.items ++ trace_text scenario.now trace.now) }
+{
+    put_line(out, b"zt 1")?;
+    put_line(out, ending_word(trace.ending))?;
+    put_work_section(out, scenario, trace.work.items())?;
+    put_players(out, scenario, trace.logs.items())
+}
+
+/// The scenario's text and then the trace part.
+pub fn print_trace(alloc: Global, scenario: &Scenario, trace: &Trace) -> Result<Vec<u8>, NoMemory>
+    ensures { IfOk result (λ out. out.items ≡ text_of scenario.now ++ trace_text scenario.now trace.now) }
+{
+    let mut out = print_scenario(alloc, scenario)?;
+    put_trace(&mut out, scenario, trace)?;
+    Ok(out)
+}

@@ -1,0 +1,131 @@
+-- The laws of the engine, over all states and operations.
+use Rattle.std.proofs.Common.{◌≡◌, ℕ, zero, suc, ◌+◌, ◌≤◌, Bool, true, false, not, cond, eqb, ltb, ◌&&◌, Option, Some, None, is_some, List, [], ◌∷◌, length, map, sum_by, refl, ap, arith}
+use Rattle.std.specs.Cmp.{second_so}
+use Rattle.std.specs.List.{position, position_or_len}
+use Rattle.std.specs.Option.{option_map_or}
+use Rattle.std.proofs.lemmas.List.Sums.{sum_by-cons, sum_by_push}
+use Rattle.std.proofs.lemmas.Bool.Decides.{nat_tests}
+use Rattle.zk_base.specs.declared.ids.Who.{Who}
+use Rattle.zk_model_work.specs.declared.parts.Life.{Life}
+use Rattle.zk_model_work.specs.declared.parts.Life.TheVariants.{Waiting, Running, Ended, Dropped}
+use Rattle.zk_model_work.specs.declared.parts.Admission.{Admission}
+use Rattle.zk_model_work.specs.declared.ops.WorkOp.{WorkOp}
+use Rattle.zk_model_work.specs.declared.ops.WorkOp.TheVariants.{Submit, Cancel, Begin, End}
+use Rattle.zk_model_work.specs.declared.ops.Submitted.{Submitted}
+use Rattle.zk_model_work.specs.declared.ops.Submitted.TheVariants.{Already, Fresh, Rerun, Refused}
+use Rattle.zk_model_work.specs.declared.ops.WorkReply.{WorkReply}
+use Rattle.zk_model_work.specs.declared.ops.WorkReply.TheVariants.{Done}
+use Rattle.zk_model_work.specs.Lists.{first}
+use Rattle.zk_model_work.specs.Questions.{is_running, waits_as, runs_on, run, line}
+use Rattle.zk_model_work.specs.State.{State}
+use Rattle.zk_model_work.specs.Machine.{work_reply, work_next, in_range, is_among, is_worker, submission, submit, set_life, with_life, begin, end_one, end_run, drop_one, drop_waiting}
+use Rattle.zk_model_work.proofs.Counts.{length-settle_from}
+use Rattle.zk_work.specs.Kept.{work_owed, work_closes}
+
+-- each entry is counted
+pub counts : (s : State) (who : Who) (op : WorkOp) → (work_next s who op).entries ≡ s.entries + 1
+counts s who (Submit item named) = refl
+counts s who (Cancel item) = refl
+counts s who (Begin queue) = refl
+counts s who (End queue) = refl
+
+-- what is in range stays so
+pub ranges : (s : State) (who : Who) (op : WorkOp) → in_range (work_next s who op) ≡ in_range s
+ranges s who (Submit item named) = refl
+ranges s who (Cancel item) = ap (is_among s.items) (length-settle_from (drop_waiting s.admissions item) 0 s.queues)
+ranges s who (Begin queue) = refl
+ranges s who (End queue) = ap (is_among s.items) (length-settle_from (end_run s.admissions queue) 0 s.queues)
+
+-- one for an admission that runs
+abbrev runs : Admission → ℕ
+runs a = cond (is_running a.life) 1 0
+
+-- a sum over a list whose elements have been changed, where no change adds
+sum_by-map : {A : Type 0} (w : A → ℕ) (f : A → A) → ((x : A) → w (f x) ≤ w x) → (xs : List A) → sum_by w (map f xs) ≤ sum_by w xs
+sum_by-map w f less [] = omega arith
+sum_by-map w f less (x ∷ xs) =
+    let here = less x in
+    let rest = sum_by-map w f less xs in
+    omega (arith, sum_by-cons w x xs, sum_by-cons w (f x) (map f xs))
+
+-- a place is found behind the first element, which doesn't pass
+found_behind : (place long : ℕ) → is_some (cond (ltb (1 + place) (suc long)) (Some (1 + place)) None) ≡ true → is_some (cond (ltb place long) (Some place) None) ≡ true
+found_behind place long found = grind (arith, nat_tests)
+
+-- one is taken away here or behind
+taken_here : (passes : Bool) (w w_before r r_before place long : ℕ) → w ≤ w_before → (passes ≡ true → 1 + w ≤ w_before) → r ≤ r_before → (is_some (cond (ltb place long) (Some place) None) ≡ true → 1 + r ≤ r_before) →
+    is_some (cond (ltb (cond (not passes) (1 + place) 0) (suc long)) (Some (cond (not passes) (1 + place) 0)) None) ≡ true → 1 + (w + r) ≤ w_before + r_before
+taken_here true w w_before r r_before place long less here rest behind found = let one = here refl in omega arith
+taken_here false w w_before r r_before place long less here rest behind found = let one = behind (found_behind place long found) in omega arith
+
+-- and the change of one that passes takes one away
+sum_by-map_found : {A : Type 0} (w : A → ℕ) (f : A → A) (passes : A → Bool) → ((x : A) → w (f x) ≤ w x) → ((x : A) → passes x ≡ true → 1 + w (f x) ≤ w x) →
+    (xs : List A) → is_some (position passes xs) ≡ true → 1 + sum_by w (map f xs) ≤ sum_by w xs
+sum_by-map_found w f passes less one [] found = absurd (cc)
+sum_by-map_found w f passes less one (x ∷ xs) found =
+    let taken = taken_here (passes x) (w (f x)) (w x) (sum_by w (map f xs)) (sum_by w xs) (position_or_len passes xs) (length xs) (less x) (one x) (sum_by-map w f less xs)
+    (sum_by-map_found w f passes less one xs) found in
+    omega (arith, sum_by-cons w x xs, sum_by-cons w (f x) (map f xs))
+
+owed-set_life : (xs : List Admission) (n : ℕ) (life : Life) → sum_by runs (set_life xs n life) ≤ sum_by runs xs + 1
+owed-set_life [] n life = omega arith
+owed-set_life (a ∷ rest) zero life =
+    let new = most (is_running life) in
+    omega (arith, sum_by-cons runs a rest, sum_by-cons runs (with_life life a) rest) where
+      most : (b : Bool) → cond b 1 0 ≤ 1
+      most true = omega arith
+      most false = omega arith
+owed-set_life (a ∷ rest) (suc n) life =
+    let behind = owed-set_life rest n life in
+    omega (arith, sum_by-cons runs a rest, sum_by-cons runs a (set_life rest n life))
+
+owed-submit : (xs : List Admission) (item : ℕ) (answer : Submitted) → sum_by runs (submit xs item answer) ≡ sum_by runs xs
+owed-submit xs item Already = refl
+owed-submit xs item (Fresh number queue) = omega (arith, sum_by_push runs xs (record { item = item; queue = queue; life = Waiting }))
+owed-submit xs item (Rerun number queue) = omega (arith, sum_by_push runs xs (record { item = item; queue = queue; life = Waiting }))
+owed-submit xs item (Refused cause) = refl
+
+owed-begin : (xs : List Admission) (queue : ℕ) → sum_by runs (begin xs queue) ≤ sum_by runs xs + 1
+owed-begin xs queue = at (first (line xs queue)) where
+  at : (number : Option ℕ) → sum_by runs (option_map_or (λ n. set_life xs n Running) number xs) ≤ sum_by runs xs + 1
+  at None = omega arith
+  at (Some number) = owed-set_life xs number Running
+
+-- an admission that has ended or was dropped doesn't run
+owed-cond : (b : Bool) (a after : Admission) → runs after ≡ 0 → runs (cond b after a) ≤ runs a
+owed-cond true a after none = omega arith
+owed-cond false a after none = omega arith
+
+owed-end_one : (queue : ℕ) (a : Admission) → runs (end_one queue a) ≤ runs a
+owed-end_one queue a = owed-cond (runs_on queue a) a (with_life Ended a) refl
+
+owed-drop_one : (item : ℕ) (a : Admission) → runs (drop_one item a) ≤ runs a
+owed-drop_one item a = owed-cond (waits_as item a) a (with_life Dropped a) refl
+
+owed-end_one_run : (queue : ℕ) (a : Admission) → runs_on queue a ≡ true → 1 + runs (end_one queue a) ≤ runs a
+owed-end_one_run queue a it_runs =
+    let after : runs (end_one queue a) ≡ 0 = ap (λ b. runs (cond b (with_life Ended a) a)) it_runs in
+    let before : runs a ≡ 1 = ap (λ b. cond b 1 0) (second_so (eqb a.queue queue) (is_running a.life) it_runs) in
+    omega arith
+
+-- the end of a run is possible where the queue runs something
+runs_where_possible : (worker found : Bool) (reply : WorkReply) → is_some (cond (worker && found) (Some reply) None) ≡ true → found ≡ true
+runs_where_possible true true reply possible = refl
+runs_where_possible true false reply possible = absurd (cc)
+runs_where_possible false found reply possible = absurd (cc)
+
+-- an operation adds at most two owed entries
+pub adds : (s : State) (who : Who) (op : WorkOp) → work_owed (work_next s who op) ≤ work_owed s + 2
+adds s who (Submit item named) = omega (arith, owed-submit s.admissions item (submission s.admissions s.marks s.queues (Some who.number) item named))
+adds s who (Cancel item) = omega (arith, sum_by-map runs (drop_one item) (owed-drop_one item) s.admissions)
+adds s who (Begin queue) = omega (arith, owed-begin s.admissions queue)
+adds s who (End queue) = omega (arith, sum_by-map runs (end_one queue) (owed-end_one queue) s.admissions)
+
+-- the end of a run gives one
+pub gives : (s : State) (who : Who) (op : WorkOp) → work_closes op ≡ true → is_some (work_reply s who op) ≡ true → 1 + work_owed (work_next s who op) ≤ work_owed s
+gives s who (Submit item named) closes possible = absurd (cc)
+gives s who (Cancel item) closes possible = absurd (cc)
+gives s who (Begin queue) closes possible = absurd (cc)
+gives s who (End queue) closes possible =
+    let found = runs_where_possible (is_worker s.queues queue who.number) (is_some (run s.admissions queue)) Done possible in
+    omega (arith, sum_by-map_found runs (end_one queue) (runs_on queue) (owed-end_one queue) (owed-end_one_run queue) s.admissions found)

@@ -1,0 +1,11 @@
+//! The work service: all items and queues of a scenario, with their history.
+#![tactic(auto)]
+
+mod engine;
+mod work;
+
+pub use engine::WorkEngine;
+pub use work::Work;
+
+#[cfg(test)]
+mod tests;

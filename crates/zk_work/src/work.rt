@@ -1,0 +1,85 @@
+ghost use Rattle.std.specs.Prelude.{◌≡◌, ◌≢◌, ◌≤◌, [], length, AllPairs, IfOk};
+ghost use Rattle.zk_model_work.specs.State.{start_of};
+ghost use Rattle.zk_work.specs.Seen.{work_start, work_history};
+
+use crate::WorkEngine;
+use std::alloc::Global;
+use zk_base::{Entry, NoMemory, Recorded, Service, Who};
+use zk_model_work::{WorkOp, WorkReply, WorkState};
+
+/// The work service: all items and queues, with one history.
+#[derive(Drop)]
+pub struct Work {
+    inner: Recorded<WorkEngine>,
+}
+
+impl Work {
+    /// The service before the first entry: so many items, and a queue for each worker.
+    ///
+    /// The workers' numbers are those of their players, in the order of the queues.
+    pub fn new(
+        alloc: Global,
+        items: u32,
+        workers: &[u32],
+        started: &[bool],
+    ) -> Result<Work, NoMemory>
+        requires same { length workers.now ≡ length started.now }
+        requires differ { AllPairs (λ a b. a ≢ b) workers.now }
+        requires queues { length workers.now ≤ 8 }
+        requires items { items ≤ 256 }
+        ensures { IfOk result (λ w.
+            (work_start w ≡ start_of items workers.now started.now) × (work_history w ≡ [])) }
+    {
+        let start = WorkState::new(alloc, items, workers, started)?;
+        let engine = WorkEngine::new(alloc, items, workers, started)?;
+        Ok(Work {
+            inner: Recorded::new(alloc, start, engine),
+        })
+    }
+}
+
+impl Service for Work {
+    type Op = WorkOp;
+
+    type Reply = WorkReply;
+
+    type State = WorkState;
+
+    ghost use Rattle.std.specs.Prelude.{false};
+    ghost use Rattle.zk_model_work.specs.Machine.{work_machine};
+    ghost use Rattle.zk_work.specs.Kept.{work_closes};
+    ghost use Rattle.zk_work.specs.Seen.{work_start, work_history};
+
+    ghost machine = { work_machine };
+
+    ghost start = { work_start };
+
+    ghost history = { work_history };
+
+    ghost room = { λ w. w.inner.room };
+
+    ghost closes = { λ s who op. work_closes op };
+
+    ghost grows = { λ op. false };
+
+    fn act(&mut self, who: Who, step: u32, op: WorkOp) -> Result<Option<WorkReply>, NoMemory> {
+        self.inner.act(who, step, op)
+    }
+
+    fn reserve(&mut self) -> Result<(), NoMemory> {
+        self.inner.reserve()
+    }
+
+    fn room(&self) -> u64 {
+        self.inner.room()
+    }
+
+    fn history(&self) -> &[Entry<WorkOp, WorkReply>] {
+        self.inner.history()
+    }
+
+    fn into_history(self) -> Vec<Entry<WorkOp, WorkReply>> {
+        let Work { inner } = self;
+        inner.into_history()
+    }
+}
