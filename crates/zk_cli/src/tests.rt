@@ -11,7 +11,7 @@ const FRONT: &str =
 const ROOM: usize = 8192;
 
 /// What the rows show: the scripts, the trace part that is printed behind the scenario, by name.
-const ROWS: [(&str, &str, &str); 6] = [
+const ROWS: [(&str, &str, &str); 8] = [
     (
         "one submission",
         "script t0\nsubmit w0 q0\nend\n",
@@ -41,6 +41,16 @@ const ROWS: [(&str, &str, &str); 6] = [
         "cancel marks the run",
         "script t0\nsubmit w0 q0\ncancel w0\nend\nscript t1\nsubmit w1 q0\nsubmit w0 q0\nend\n",
         "zt 1\nended\nservice work\nt0.0 submit w0 q0 = 1 a0 q0\nt1.0 submit w1 q0 = 1 a1 q0\nq0.0 begin q0 = w0 a0\nt0.1 cancel w0 = rc\nt1.1 submit w0 q0 = busy\nq0.1 end q0 = ok\nq0.2 begin q0 = w1 a1\nq0.3 end q0 = ok\nplayer t0 done\n0 submit = 1\n1 cancel = rc\nplayer t1 done\n0 submit = 1\n1 submit = busy\nplayer q0 done\n",
+    ),
+    (
+        "a queue that is off",
+        "queue q2 0 off\nscript t0\nsubmit w0\nsubmit w0 q2\nstart q2\nstart q2\nsubmit w0 q2\nend\n",
+        "zt 1\nended\nservice work\nt0.0 submit w0 - = inval\nt0.1 submit w0 q2 = nodev\nt0.2 start q2 = ok\nt0.3 start q2 = already\nt0.4 submit w0 q2 = 1 a0 q2\nq2.0 begin q2 = w0 a0\nq2.1 end q2 = ok\nplayer t0 done\n0 submit = inval\n1 submit = nodev\n2 start = 0\n3 start = already\n4 submit = 1\nplayer t1 done\nplayer q0 done\nplayer q2 done\n",
+    ),
+    (
+        "a handler submits to another queue",
+        "queue q1 0 on\nscript t0\nsubmit w0 q0\nend\nscript w0\nsubmit w1 q1\nend\n",
+        "zt 1\nended\nservice work\nt0.0 submit w0 q0 = 1 a0 q0\nq0.0 begin q0 = w0 a0\nq0.1 submit w1 q1 = 1 a1 q1\nq1.0 begin q1 = w1 a1\nq0.2 end q0 = ok\nq1.1 end q1 = ok\nplayer t0 done\n0 submit = 1\nplayer t1 done\nplayer q0 done\n1 submit = 1\nplayer q1 done\n",
     ),
 ];
 
@@ -106,7 +116,7 @@ fn other_inputs_and_words_are_told(rt: HostRuntime) -> Result<(), Fail> {
             ["replay"].as_slice(),
             "zk 1\nitem w0\nscript w0\n",
             Status::Refused,
-            "refused 3 unbuilt\n",
+            "refused 4 order\n",
         ),
         (
             ["replay"].as_slice(),
@@ -195,5 +205,25 @@ fn each_fault_of_writing_leaves_a_front(rt: HostRuntime) -> Result<(), Fail> {
         assert!(rt; wanted.starts_with(sink.held()), "{call}");
         assert_eq!(rt; sink.held().len(), 4usize.saturating_mul(call), "{call}");
     }
+    Ok(())
+}
+
+#[test]
+fn a_handler_that_submits_itself_is_spent(rt: HostRuntime) -> Result<(), Fail> {
+    let input = joined(
+        &rt,
+        &[
+            FRONT,
+            "script t0\nsubmit w0 q0\nend\nscript w0\nsubmit w0\nend\n",
+        ],
+    )?;
+    let words = words_of(&rt, &["replay"])?;
+    let mut source = SureSource::new(input, 4096);
+    let mut sink = SureSink::new(Vec::with_capacity(rt.alloc(), 2_000_000)?, 4096);
+    assert_eq!(rt;
+        zk_plain(rt.alloc(), &words, &mut source, &mut sink),
+        Status::Spent
+    );
+    assert!(rt; sink.held().ends_with(b"\n19999 submit = 2\n".as_slice()));
     Ok(())
 }

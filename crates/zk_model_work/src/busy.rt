@@ -49,7 +49,13 @@ fn where_set(flag: BusyFlags, is_set: bool) -> BusyFlags
 }
 
 /// The flags that are set.
-pub fn united(running: bool, cancelling: bool, queued: bool, delayed: bool, flushing: bool) -> BusyFlags
+pub fn united(
+    running: bool,
+    cancelling: bool,
+    queued: bool,
+    delayed: bool,
+    flushing: bool,
+) -> BusyFlags
     ensures { result.0 ≡ weight 1 running + weight 2 cancelling + weight 4 queued + weight 8 delayed
         + weight 16 flushing }
 {
