@@ -1,5 +1,4 @@
-use Rattle.std.specs.Prelude.{◌≡◌, ℕ, Option, Result, Ok, Err, List, ◌++◌, IfSome}
-use Rattle.std.specs.Io.KnownBytes.{Appends}
+use Rattle.std.specs.Prelude.{◌≡◌, ℕ, Result, Ok, Err, List, ◌++◌}
 use Rattle.zk_base.specs.declared.errors.Status.{Status}
 use Rattle.zk_base.specs.declared.errors.Status.TheVariants as statuses
 use Rattle.zk_base.specs.Legal.{IsLegal}
@@ -14,7 +13,6 @@ use Rattle.zk_trace.specs.declared.trace.Ending.{Ending}
 use Rattle.zk_trace.specs.declared.trace.Ending.TheVariants as endings
 use Rattle.zk_trace.specs.Text.{trace_text}
 use Rattle.zk_replay.specs.Replay.{IsReplay, work_start_of}
-use Rattle.zk_cli.specs.Output.{AppendsFront}
 use Rattle.zk_cli.specs.Refusal.{refusal_text}
 
 -- the input is the text of a scenario, and the output is that text and the trace of its round robin run, which ends so and whose history the work machine lets stand

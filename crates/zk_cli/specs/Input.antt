@@ -1,5 +1,4 @@
-use Rattle.std.specs.Prelude.{◌≡◌, ℕ, ◌+◌, ◌≤◌, List, [], ◌++◌, length, take, drop, Option, Some, None, ⊤}
-use Rattle.std.specs.Io.KnownBytes.{IsAtEnd}
+use Rattle.std.specs.Prelude.{◌≡◌, ℕ, List, [], ◌++◌, take, drop, Option, Some, None, ⊤}
 use Rattle.zk_base.specs.Causes.{Rose}
 use Rattle.zk_cli.specs.declared.input.NoInput.{NoInput}
 use Rattle.zk_cli.specs.declared.input.NoInput.TheVariants.{Fault, NoMemory}

@@ -2,6 +2,10 @@
 use crate::zk_plain;
 use std::test::Fail;
 use zk_base::{MemSink, MemSource, Status, SureSink, SureSource};
+use zk_replay::replay;
+use zk_scenario::read_scenario;
+use zk_trace::print_trace;
+use zk_worker::{Player, PlayerState};
 
 /// The front of the rows: two threads, one queue, three items.
 const FRONT: &str =
@@ -225,5 +229,33 @@ fn a_handler_that_submits_itself_is_spent(rt: HostRuntime) -> Result<(), Fail> {
         Status::Spent
     );
     assert!(rt; sink.held().ends_with(b"\n19999 submit = 2\n".as_slice()));
+    Ok(())
+}
+
+#[test]
+fn a_trace_is_printed_behind_its_scenario(rt: HostRuntime) -> Result<(), Fail> {
+    let (_, scripts, trace) = ROWS[0];
+    let input = joined(&rt, &[FRONT, scripts])?;
+    let scenario = read_scenario(rt.alloc(), &input)?;
+    let played = replay(rt.alloc(), &scenario)?;
+    let printed = print_trace(rt.alloc(), &scenario, &played)?;
+    let wanted = joined(&rt, &[FRONT, scripts, trace])?;
+    assert!(rt; printed.as_slice() == wanted.as_slice());
+    Ok(())
+}
+
+#[test]
+fn a_player_stands_before_its_first_call(rt: HostRuntime) -> Result<(), Fail> {
+    let (_, scripts, _) = ROWS[0];
+    let input = joined(&rt, &[FRONT, scripts])?;
+    let scenario = read_scenario(rt.alloc(), &input)?;
+    assert!(rt; 0 < scenario.players());
+    let player = Player::new(rt.alloc(), &scenario, 0)?;
+    assert_eq!(rt; player.who().number, 0);
+    assert_eq!(rt; player.state(), PlayerState::Standing);
+    assert_eq!(rt; player.steps(), 0);
+    assert!(rt; player.spots().is_empty() && player.answers().is_empty());
+    assert!(rt; player.ahead(&scenario, 0).is_some() && player.ahead(&scenario, 1).is_none());
+    assert!(rt; !player.is_done() && !player.is_spent());
     Ok(())
 }

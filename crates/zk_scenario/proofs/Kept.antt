@@ -1,8 +1,8 @@
 -- A line to which no reason applies keeps what was read valid.
-use Rattle.std.proofs.Common.{◌≡◌, ℕ, ℤ, pos, zero, suc, ◌+◌, ◌<◌, ◌≤◌, Bool, true, false, not, cond, eqb, leb, ltb, nat_le, nat_lt, ◌&&◌, ◌||◌, Option, None, Some, List, [], ◌∷◌, ◌++◌, length, slice_get, count_by, is_some, IsSome, unwrap_or, refl, sym, ap, subst, ◌∙◌, ⊎_elim, arith, length-append}
-use Rattle.std.specs.List.{list_all, position, sum_by}
+use Rattle.std.proofs.Common.{◌≡◌, ℕ, pos, ◌+◌, ◌<◌, ◌≤◌, Bool, true, false, not, cond, eqb, nat_le, nat_lt, ◌&&◌, ◌||◌, Option, None, Some, List, [], ◌∷◌, ◌++◌, length, slice_get, count_by, is_some, unwrap_or, refl, sym, ap, subst, ◌∙◌, ⊎_elim, arith, length-append}
+use Rattle.std.specs.List.{list_all}
 use Rattle.std.specs.Option.{option_map_or, option_map, option_to_list}
-use Rattle.std.proofs.lemmas.Bool.{and_parts, and_from, cases_Bool, cases_order, leb-false, ltb-false, not-false, eqb-true, eq-eqb, ne_eqb, cond-true, cond-false}
+use Rattle.std.proofs.lemmas.Bool.{and_parts, and_from, cases_order, leb-false, ltb-false, not-false, eq-eqb, ne_eqb, cond-true, cond-false}
 use Rattle.std.proofs.lemmas.List.{append-nil}
 use Rattle.std.proofs.lemmas.List.Folds.{list_all-append}
 use Rattle.std.proofs.lemmas.List.Quantifiers.{position-Some}
@@ -21,9 +21,8 @@ use Rattle.zk_scenario.specs.declared.refused.Why.{Why}
 use Rattle.zk_scenario.specs.declared.refused.Why.TheVariants as why
 use Rattle.zk_scenario.specs.Forms.{named_text, IsUnreserved, IsPlain}
 use Rattle.zk_scenario.specs.Objects.{object_of, is_at}
-use Rattle.zk_scenario.specs.Parts.{Parts}
-use Rattle.zk_scenario.specs.Players.{plays_script, is_thread, is_queue, is_item, name_of}
-use Rattle.zk_scenario.specs.Reading.{Reading, all_scripts, declared, begun, with_call, called, closed, parts_of}
+use Rattle.zk_scenario.specs.Players.{plays_script, is_thread, is_queue, is_item}
+use Rattle.zk_scenario.specs.Reading.{Reading, all_scripts, declared, begun, with_call, called, parts_of}
 use Rattle.zk_scenario.specs.Scripts.{script_of}
 use Rattle.zk_scenario.specs.Valid.{IsValid, OneEach, call_fits, script_fits, player_count, call_count}
 use Rattle.zk_scenario.specs.Verdict.{named, names, is_taken, has_begun, has_script, is_unbuilt, is_misplaced, is_out_of_range, is_misnamed, is_past_limit, verdict, object, ref, after}

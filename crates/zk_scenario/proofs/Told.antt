@@ -1,10 +1,10 @@
 -- What is read is spelled so: the text of a scenario that was read is the scenario's text.
-use Rattle.std.proofs.Common.{◌≡◌, ℕ, ℤ, pos, zero, suc, ◌+◌, ◌<◌, ◌≤◌, Bool, true, false, not, cond, eqb, nat_lt, ◌&&◌, ◌||◌, Option, None, Some, Result, Ok, Err, List, [], ◌∷◌, ◌++◌, map, length, slice_get, get_or, is_some, unwrap_or, codes, refl, sym, ap, subst, ◌∙◌, arith, append_assoc}
-use Rattle.std.specs.List.{flat_map, join_with_byte, position}
+use Rattle.std.proofs.Common.{◌≡◌, ℕ, pos, ◌+◌, Bool, true, false, not, cond, nat_lt, ◌&&◌, Option, None, Some, Result, Ok, Err, List, [], ◌∷◌, ◌++◌, map, length, get_or, is_some, unwrap_or, codes, refl, sym, ap, ◌∙◌, append_assoc}
+use Rattle.std.specs.List.{flat_map, join_with_byte}
 use Rattle.std.specs.Option.{option_map_or, option_map, option_to_list}
 use Rattle.std.specs.Str.{bytes_eq}
 use Rattle.std.specs.Cmp.Lexicographic.{bytes_decides}
-use Rattle.std.proofs.lemmas.Bool.{and_parts, not-false, ltb-false}
+use Rattle.std.proofs.lemmas.Bool.{and_parts, not-false}
 use Rattle.std.proofs.lemmas.List.{append-nil, map-append}
 use Rattle.std.proofs.lemmas.Grind.{flat_map-append}
 use Rattle.std.proofs.lemmas.List.Quantifiers.{position-Some}
@@ -23,17 +23,16 @@ use Rattle.zk_scenario.specs.declared.form.Line.{Line}
 use Rattle.zk_scenario.specs.declared.form.Line.TheVariants as line
 use Rattle.zk_scenario.specs.declared.refused.Why.{Why}
 use Rattle.zk_scenario.specs.declared.refused.Why.TheVariants as why
-use Rattle.zk_scenario.specs.declared.refused.ScenarioRefused.{ScenarioRefused}
-use Rattle.zk_scenario.specs.declared.refused.ScenarioRefused.TheVariants.{At, NoMemory}
+use Rattle.zk_scenario.specs.declared.refused.ScenarioRefused.TheVariants.{At}
 use Rattle.zk_scenario.specs.Forms.{line_of, named_text, form_words}
-use Rattle.zk_scenario.specs.Grammar.{told, taken, read_line, ended, at_end, behind, read_lines, behind_header, read_pieces, pieces_of, scenario_of, IsReadable}
+use Rattle.zk_scenario.specs.Grammar.{told, taken, read_line, at_end, behind, read_lines, behind_header, read_pieces, pieces_of, scenario_of, IsReadable}
 use Rattle.zk_scenario.specs.Objects.{object_of, is_at}
 use Rattle.zk_scenario.specs.Parts.{Parts}
-use Rattle.zk_scenario.specs.Players.{plays_script, is_thread, is_queue, is_item, name_of}
-use Rattle.zk_scenario.specs.Reading.{Reading, start, declared, begun, with_call, called, closed, all_scripts}
-use Rattle.zk_scenario.specs.Spelling.{decl_line, name_at, ref_name, call_words, call_line, begun_lines, script_lines, body_lines, lines_of, fed, lines_text, text_of}
+use Rattle.zk_scenario.specs.Players.{plays_script, is_queue, is_item, name_of}
+use Rattle.zk_scenario.specs.Reading.{Reading, start, with_call, called, closed}
+use Rattle.zk_scenario.specs.Spelling.{decl_line, name_at, ref_name, call_line, begun_lines, script_lines, body_lines, lines_of, lines_text, text_of}
 use Rattle.zk_scenario.specs.Text.{line_text, script_words, submit_words, cancel_words, start_words, end_words}
-use Rattle.zk_scenario.specs.Verdict.{named, names, has_begun, verdict, object, ref, after}
+use Rattle.zk_scenario.specs.Verdict.{names, verdict, object, ref, after}
 use Rattle.zk_scenario.proofs.Kept.{Passes, Passes-verdict, IsPlain-verdict, nothing_begun, is_some-none, is_some-some, or_none}
 use Rattle.zk_scenario.proofs.Spelled.{line_spelled}
 

@@ -1,4 +1,4 @@
-use Rattle.std.proofs.Common.{ℕ, ◌≤◌, ◌≡◌, ◌+◌, length, vec_len, inr, arith}
+use Rattle.std.proofs.Common.{◌≤◌, ◌≡◌, length, inr, arith}
 use Rattle.zk_cli.proofs.Moving.{Consumes-more, HasRead-done, HasRead-end}
 use Rattle.zk_cli.proofs.input.read_input.Goals as goal
 

@@ -1,4 +1,3 @@
-use Rattle.std.proofs.Common.{refl}
 use Rattle.zk_base.specs.declared.errors.Status.TheVariants.{Success, Stuck, Spent, Refused}
 use Rattle.zk_cli.proofs.Ways.{Went-prints, Went-words, Went-no_form, Went-complete, Went-read_fault, Went-write_fault, Went-nothing, Went-front, Went-read}
 use Rattle.zk_cli.proofs.top.zk_plain.Goals as goal
