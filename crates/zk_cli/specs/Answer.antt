@@ -13,9 +13,10 @@ use Rattle.zk_trace.specs.declared.trace.Ending.{Ending}
 use Rattle.zk_trace.specs.declared.trace.Ending.TheVariants as endings
 use Rattle.zk_trace.specs.Text.{trace_text}
 use Rattle.zk_replay.specs.Replay.{IsReplay, work_start_of}
+use Rattle.zk_cli.specs.Kept.{KeepsLaws}
 use Rattle.zk_cli.specs.Refusal.{refusal_text}
 
--- the input is the text of a scenario, and the output is that text and the trace of its round robin run, which ends so and whose history the work machine lets stand
+-- the input is the text of a scenario, and the output is that text and the trace of its round robin run, which ends so; the work machine lets its history stand, which keeps the laws
 pub record IsRun (ending : Ending) (input output : List ℕ) : Type 0 where
   pub scenario : Parts
   pub trace : Trace
@@ -23,6 +24,7 @@ pub record IsRun (ending : Ending) (input output : List ℕ) : Type 0 where
   pub spelled : input ≡ text_of scenario
   pub run : IsReplay scenario trace
   pub legal : IsLegal work_machine (work_start_of scenario) trace.work
+  pub laws : KeepsLaws (work_start_of scenario) trace.work
   pub ends : trace.ending ≡ ending
   pub printed : output ≡ text_of scenario ++ trace_text scenario trace
 

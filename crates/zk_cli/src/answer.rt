@@ -3,9 +3,11 @@ ghost use Rattle.zk_scenario.specs.Grammar.{scenario_of};
 ghost use Rattle.zk_scenario.specs.Spelling.{text_of};
 ghost use Rattle.zk_cli.specs.Refusal.{reason_word, refusal_text};
 ghost use Rattle.zk_cli.specs.Answer.{IsRun, IsOutput, status_of};
+ghost use Rattle.zk_cli.specs.Kept.{HistoriesKeepLaws};
 
 use std::alloc::Global;
 use zk_base::{NoMemory, Status, put, put_decimal};
+use zk_model_work::{begins_in_order, cancel_holds, never_overlaps, runs_once};
 use zk_replay::replay;
 use zk_scenario::{Scenario, ScenarioRefused, Why, read_scenario};
 use zk_trace::{Ending, put_trace};
@@ -27,10 +29,21 @@ fn run(alloc: Global, text: Vec<u8>, scenario: &Scenario) -> Result<(Vec<u8>, St
     requires spelled { text.items ≡ text_of scenario.now }
     ensures { IfOk result (λ made. IsOutput made.1 text.items made.0.items) }
 {
+    histories_keep_laws();
     let trace = replay(alloc, scenario)?;
     let mut output = text;
     put_trace(&mut output, scenario, &trace)?;
     Ok((output, status_of(trace.ending)))
+}
+
+/// The laws of the work service, of each history by itself. It does nothing when it runs.
+fn histories_keep_laws()
+    ensures { HistoriesKeepLaws }
+{
+    runs_once();
+    begins_in_order();
+    never_overlaps();
+    cancel_holds();
 }
 
 /// The status of a run with this ending.

@@ -1,0 +1,38 @@
+use Rattle.std.specs.Prelude.{◌≡◌, ℕ, ◌<◌, ◌≤◌, ◌⊎◌, true, false, count_by, Some, List, [], ◌∷◌, ◌++◌}
+use Rattle.std.specs.List.{list_any}
+use Rattle.zk_base.specs.declared.ids.Entry.{Entry}
+use Rattle.zk_model_work.specs.declared.ops.WorkOp.{WorkOp}
+use Rattle.zk_model_work.specs.declared.ops.WorkOp.TheVariants.{Begin, Cancel}
+use Rattle.zk_model_work.specs.declared.ops.WorkReply.{WorkReply}
+use Rattle.zk_model_work.specs.declared.ops.WorkReply.TheVariants.{Run}
+use Rattle.zk_model_work.specs.declared.parts.Life.{Life}
+use Rattle.zk_model_work.specs.declared.parts.Life.TheVariants.{Running, Ended, Dropped}
+use Rattle.zk_model_work.specs.declared.parts.Admission.{Admission}
+use Rattle.zk_model_work.specs.Questions.{is_waiting, is_open}
+use Rattle.zk_model_work.specs.State.{State}
+use Rattle.zk_model_work.specs.Laws.{IsWorkHistory, begins, ends, admission_after, life_after, running_after, made_after}
+
+-- what the laws say of one work history: each admission is run or dropped, once, in the order of its queue; an item never overlaps itself; what is begun of an item after a cancel was admitted after the cancellation was complete
+pub record KeepsLaws (start : State) (h : List (Entry WorkOp WorkReply)) : Type 0 where
+  -- each admission is begun at most once
+  pub once : (number : ℕ) → count_by (begins number) h ≤ 1
+  -- one that neither waits nor runs at the end was begun and has ended, or was dropped and never begun
+  pub outcome : (number : ℕ) (life : Life) → life_after start h number ≡ Some life → is_open life ≡ false →
+      ((life ≡ Ended) × (count_by (begins number) h ≡ 1)) ⊎ ((life ≡ Dropped) × (count_by (begins number) h ≡ 0))
+  -- a begin takes the lowest number that waits for its queue
+  pub order : (front rest : List (Entry WorkOp WorkReply)) (e : Entry WorkOp WorkReply) (queue item number lower : ℕ) (a : Admission) → h ≡ front ++ e ∷ rest →
+      e.op ≡ Begin queue → e.reply ≡ Run item number → lower < number → admission_after start front lower ≡ Some a → a.queue ≡ queue → is_waiting a.life ≡ false
+  -- between two begins of one item, on whatever queues, stands an end at the queue of the first
+  pub apart : (front between rest : List (Entry WorkOp WorkReply)) (first second : Entry WorkOp WorkReply) (queue item number next : ℕ) → h ≡ front ++ first ∷ (between ++ second ∷ rest) →
+      first.op ≡ Begin queue → first.reply ≡ Run item number → second.reply ≡ Run item next → list_any (λ e. ends queue e.op) between ≡ true
+  -- a begin of an item after a cancel is of an admission made after the cancel
+  pub cancelled : (front between rest : List (Entry WorkOp WorkReply)) (e later : Entry WorkOp WorkReply) (item number : ℕ) → h ≡ front ++ e ∷ (between ++ later ∷ rest) →
+      e.op ≡ Cancel item → later.reply ≡ Run item number → made_after start (front ++ e ∷ []) ≤ number
+  -- and, where the cancel found a run, of one made after the end of that run
+  pub completed : (front during between rest : List (Entry WorkOp WorkReply)) (e later : Entry WorkOp WorkReply) (item run number : ℕ) → h ≡ front ++ e ∷ (during ++ (between ++ later ∷ rest)) →
+      e.op ≡ Cancel item → running_after start front item ≡ Some run → life_after start (front ++ e ∷ during) run ≡ Some Running → later.reply ≡ Run item number →
+      made_after start (front ++ e ∷ during) ≤ number
+
+-- every work history keeps them
+abbrev pub HistoriesKeepLaws : Type 0
+HistoriesKeepLaws = (start : State) (h : List (Entry WorkOp WorkReply)) → IsWorkHistory start h → KeepsLaws start h
