@@ -13,7 +13,7 @@ use Rattle.zk_trace.specs.declared.trace.Ending.{Ending}
 use Rattle.zk_trace.specs.declared.trace.Ending.TheVariants as endings
 use Rattle.zk_trace.specs.Text.{trace_text}
 use Rattle.zk_replay.specs.Replay.{IsReplay, work_start_of}
-use Rattle.zk_cli.specs.Kept.{KeepsLaws}
+use Rattle.zk_cli.specs.Kept.{KeepsLaws, NobodyCanGoOn}
 use Rattle.zk_cli.specs.Refusal.{refusal_text}
 
 -- the input is the text of a scenario, and the output is that text and the trace of its round robin run, which ends so; the work machine lets its history stand, which keeps the laws
@@ -26,6 +26,7 @@ pub record IsRun (ending : Ending) (input output : List ℕ) : Type 0 where
   pub legal : IsLegal work_machine (work_start_of scenario) trace.work
   pub laws : KeepsLaws (work_start_of scenario) trace.work
   pub ends : trace.ending ≡ ending
+  pub halts : NobodyCanGoOn ending scenario run.0
   pub printed : output ≡ text_of scenario ++ trace_text scenario trace
 
 -- the output names the first failing line and its first reason
