@@ -1,5 +1,6 @@
 pub mod Places
 pub mod Readiness
+pub mod Following
 pub mod Laps
 pub mod Beginning
 pub mod Ends
