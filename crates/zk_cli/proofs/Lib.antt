@@ -1,3 +1,2 @@
-pub mod Halting
 pub mod Moving
 pub mod Ways

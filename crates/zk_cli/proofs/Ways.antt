@@ -13,9 +13,10 @@ use Rattle.zk_scenario.specs.declared.refused.ScenarioRefused.{ScenarioRefused}
 use Rattle.zk_scenario.specs.declared.refused.ScenarioRefused.TheVariants as refusals
 use Rattle.zk_scenario.specs.Grammar.{scenario_of, read_pieces, pieces_of}
 use Rattle.zk_trace.specs.declared.trace.Ending.{Ending}
+use Rattle.zk_trace.specs.declared.trace.Ending.TheVariants as endings
 use Rattle.zk_cli.specs.Input.{HasRead}
 use Rattle.zk_cli.specs.Output.{AppendsFront}
-use Rattle.zk_cli.specs.Answer.{IsRun, IsRefusal, IsOutput}
+use Rattle.zk_cli.specs.Answer.{IsRun, IsRefusal, IsOutput, status_of}
 use Rattle.zk_cli.specs.Top.{is_replay, words_refused, Prints, PrintsFront, HasReadAll, IsAnswer, HasInput, MayEnd, Answered, answered, cut_short, unmade, Went, no_form, no_form_cut, unread, no_memory, printed, cut}
 
 -- what was not written to stays
@@ -26,6 +27,12 @@ Keeps-same (Some xs) = refl
 -- a text above the limit is refused for its length
 scenario_of-long : (text : List ℕ) → 1048576 < length text → scenario_of text ≡ Err (refusals.At 0 why.Length)
 scenario_of-long text long = ap (λ b. cond b (Err (refusals.At 0 why.Length)) (read_pieces (pieces_of text))) (lt-ltb 1048576 (length text) long)
+
+-- a run is the answer of the status that its ending has
+pub output-run : (ending : Ending) (input output : List ℕ) → IsRun ending input output → IsOutput (status_of ending) input output
+output-run endings.Ended input output run = run
+output-run endings.Stuck input output run = run
+output-run endings.Spent input output run = run
 
 -- a status that has an output is one that prints
 pub IsAnswer-output : (status : Status) (input output : List ℕ) → IsOutput status input output → IsAnswer status

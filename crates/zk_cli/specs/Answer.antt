@@ -1,8 +1,6 @@
 use Rattle.std.specs.Prelude.{◌≡◌, ℕ, Result, Ok, Err, List, ◌++◌}
 use Rattle.zk_base.specs.declared.errors.Status.{Status}
 use Rattle.zk_base.specs.declared.errors.Status.TheVariants as statuses
-use Rattle.zk_base.specs.Legal.{IsLegal}
-use Rattle.zk_model_work.specs.Machine.{work_machine}
 use Rattle.zk_scenario.specs.Parts.{Parts}
 use Rattle.zk_scenario.specs.declared.refused.ScenarioRefused.{ScenarioRefused}
 use Rattle.zk_scenario.specs.declared.refused.ScenarioRefused.TheVariants as refusals
@@ -13,20 +11,20 @@ use Rattle.zk_trace.specs.declared.trace.Ending.{Ending}
 use Rattle.zk_trace.specs.declared.trace.Ending.TheVariants as endings
 use Rattle.zk_trace.specs.Text.{trace_text}
 use Rattle.zk_replay.specs.Replay.{IsReplay, work_start_of}
-use Rattle.zk_cli.specs.Kept.{KeepsLaws, NobodyCanGoOn}
+use Rattle.zk_replay.specs.Lawful.{IsLawful}
+use Rattle.zk_cli.specs.Kept.{KeepsLaws}
 use Rattle.zk_cli.specs.Refusal.{refusal_text}
 
--- the input is the text of a scenario, and the output is that text and the trace of its round robin run, which ends so; the work machine lets its history stand, which keeps the laws
+-- the input is the text of a scenario, and the output is that text and the trace of its round robin run, which ends so; the trace is lawful for the scenario, and its work history keeps the laws
 pub record IsRun (ending : Ending) (input output : List ℕ) : Type 0 where
   pub scenario : Parts
   pub trace : Trace
   pub read : scenario_of input ≡ Ok scenario
   pub spelled : input ≡ text_of scenario
   pub run : IsReplay scenario trace
-  pub legal : IsLegal work_machine (work_start_of scenario) trace.work
+  pub lawful : IsLawful scenario trace
   pub laws : KeepsLaws (work_start_of scenario) trace.work
   pub ends : trace.ending ≡ ending
-  pub halts : NobodyCanGoOn ending scenario run.0
   pub printed : output ≡ text_of scenario ++ trace_text scenario trace
 
 -- the output names the first failing line and its first reason

@@ -1,4 +1,4 @@
-use Rattle.std.specs.Prelude.{◌≡◌, ℕ, ◌<◌, ◌≤◌, ◌⊎◌, true, false, count_by, Some, List, [], ◌∷◌, ◌++◌, None, slice_get}
+use Rattle.std.specs.Prelude.{◌≡◌, ℕ, ◌<◌, ◌≤◌, ◌⊎◌, true, false, count_by, Some, List, [], ◌∷◌, ◌++◌}
 use Rattle.std.specs.List.{list_any}
 use Rattle.zk_base.specs.declared.ids.Entry.{Entry}
 use Rattle.zk_model_work.specs.declared.ops.WorkOp.{WorkOp}
@@ -10,13 +10,6 @@ use Rattle.zk_model_work.specs.declared.parts.Life.TheVariants.{Running, Ended, 
 use Rattle.zk_model_work.specs.declared.parts.Admission.{Admission}
 use Rattle.zk_model_work.specs.Questions.{is_waiting, is_open}
 use Rattle.zk_model_work.specs.State.{State}
-use Rattle.zk_model_work.specs.Machine.{work_machine}
-use Rattle.zk_scenario.specs.Parts.{Parts}
-use Rattle.zk_worker.specs.Places.{At}
-use Rattle.zk_trace.specs.declared.trace.Ending.{Ending}
-use Rattle.zk_trace.specs.declared.trace.Ending.TheVariants.{Spent}
-use Rattle.zk_replay.specs.RoundRobin.{World, chosen}
-use Rattle.zk_replay.specs.Replay.{work_start_of}
 use Rattle.zk_model_work.specs.Laws.{IsWorkHistory, begins, ends, admission_after, life_after, running_after, made_after}
 
 -- what the laws say of one work history: each admission is run or dropped, once, in the order of its queue; an item never overlaps itself; what is begun of an item after a cancel was admitted after the cancellation was complete
@@ -43,7 +36,3 @@ pub record KeepsLaws (start : State) (h : List (Entry WorkOp WorkReply)) : Type 
 -- every work history keeps them
 abbrev pub HistoriesKeepLaws : Type 0
 HistoriesKeepLaws = (start : State) (h : List (Entry WorkOp WorkReply)) → IsWorkHistory start h → KeepsLaws start h
-
--- where nobody is spent, no player has a possible attempt any more
-abbrev pub NobodyCanGoOn : Ending → Parts → World → Type 0
-NobodyCanGoOn ending s w = (ending ≡ Spent → ⊥) → (player : ℕ) (at : At) → slice_get w.players player ≡ Some at → chosen work_machine (work_start_of s) s w.work at ≡ None

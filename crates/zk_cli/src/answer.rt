@@ -8,7 +8,7 @@ ghost use Rattle.zk_cli.specs.Kept.{HistoriesKeepLaws};
 use std::alloc::Global;
 use zk_base::{NoMemory, Status, put, put_decimal};
 use zk_model_work::{begins_in_order, cancel_holds, never_overlaps, runs_once};
-use zk_replay::{none_goes_on, replay};
+use zk_replay::replay;
 use zk_scenario::{Scenario, ScenarioRefused, Why, read_scenario};
 use zk_trace::{Ending, put_trace};
 
@@ -30,7 +30,6 @@ fn run(alloc: Global, text: Vec<u8>, scenario: &Scenario) -> Result<(Vec<u8>, St
     ensures { IfOk result (λ made. IsOutput made.1 text.items made.0.items) }
 {
     histories_keep_laws();
-    none_goes_on();
     let trace = replay(alloc, scenario)?;
     let mut output = text;
     put_trace(&mut output, scenario, &trace)?;

@@ -29,6 +29,7 @@ use Rattle.zk_replay.specs.RoundRobin.{starts, first, is_spent}
 use Rattle.zk_replay.specs.Ready.{IsReady, TakesDeclared}
 use Rattle.zk_replay.specs.Turning.{world}
 use Rattle.zk_replay.specs.Replay.{workers, is_on, work_start_of}
+use Rattle.zk_replay.proofs.Places.{at-end}
 
 -- there are few threads and queues
 pub few-threads : (s : Parts) → IsValid s → length (places is_thread s.decls) ≤ 64
@@ -96,16 +97,6 @@ length-starts s (suc n) within =
     let more = length-starts s n (omega arith) in
     let one : length (option_to_list (start_at s n)) ≡ 1 = ap (λ (o : Option At). length (option_to_list o)) some.1 in
     omega (arith, length-append (starts s n) (option_to_list (start_at s n)))
-
-at-end : (xs : List At) (y x : At) (p : ℕ) → slice_get (xs ++ y ∷ []) p ≡ Some x → (slice_get xs p ≡ Some x) ⊎ ((p ≡ length xs) × (y ≡ x))
-at-end [] y x zero is = inr (refl, cc)
-at-end [] y x (suc p) is = absurd (cc)
-at-end (z ∷ zs) y x zero is = inl is
-at-end (z ∷ zs) y x (suc p) is = further (at-end zs y x p is)
-  where
-    further : (slice_get zs p ≡ Some x) ⊎ ((p ≡ length zs) × (y ≡ x)) → (slice_get zs p ≡ Some x) ⊎ ((suc p ≡ suc (length zs)) × (y ≡ x))
-    further (inl there) = inl there
-    further (inr both) = inr (ap suc both.0, both.1)
 
 numbers-starts : (s : Parts) (n : ℕ) → n ≤ length (players s.decls) → (p : ℕ) (at : At) → slice_get (starts s n) p ≡ Some at → at.who.number ≡ p
 numbers-starts s zero within p at is = absurd (cc)

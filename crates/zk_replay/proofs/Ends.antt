@@ -189,3 +189,7 @@ replayed s start old w ending work logs valid starts begins n so_far over end hi
       subst (λ (t : State). round work_machine t s w ≡ w) starts over,
     ) in
     (w, run, Trace-same ending (ending_of s w) work w.work logs (map log_of w.players) (end ∙ ending-is s w valid run) history log)
+
+-- each world that a run ends with is ready
+pub run-ready : (s : Parts) (w : World) → IsValid s → IsRun work_machine (work_start_of s) s w → IsReady s w
+run-ready s w valid run = let good = subst (λ (v : World). IsGood s v) (sym run.1) (good-rounds s run.0 valid) in good.ready

@@ -1,8 +1,8 @@
 -- The log of each player of a run follows the scenario.
-use Rattle.std.proofs.Common.{◌≡◌, ◌≢◌, ◌⊎◌, ℕ, zero, suc, false, Option, Some, None, List, [], ◌∷◌, ◌++◌, length, map, inl, inr, refl, sym, ap, subst, ◌∙◌}
-use Rattle.std.specs.List.{slice_get, slice_set}
+use Rattle.std.proofs.Common.{◌≡◌, ◌≢◌, ◌⊎◌, ℕ, false, Option, Some, None, List, [], ◌∷◌, ◌++◌, length, map, inl, inr, refl, sym, ap, subst, ◌∙◌}
+use Rattle.std.specs.List.{slice_get}
 use Rattle.std.specs.Option.{option_map}
-use Rattle.std.proofs.lemmas.List.{length-map, length-set}
+use Rattle.std.proofs.lemmas.List.{length-set}
 use Rattle.zk_base.specs.declared.ids.Entry.{Entry}
 use Rattle.zk_base.specs.History.{entry}
 use Rattle.zk_base.specs.Legal.{Machine, state_after}
@@ -17,47 +17,19 @@ use Rattle.zk_worker.specs.declared.steps.StepReply.{StepReply}
 use Rattle.zk_worker.specs.declared.steps.StepReply.TheVariants as step_replies
 use Rattle.zk_worker.specs.declared.steps.Spot.{Spot}
 use Rattle.zk_worker.specs.declared.steps.Spot.TheVariants as spots
-use Rattle.zk_worker.specs.declared.log.Log.{Log}
 use Rattle.zk_worker.specs.Places.{At}
 use Rattle.zk_worker.specs.Protocol.{IsAhead, attempts, after, start_at}
-use Rattle.zk_worker.specs.Follows.{IsPlayed, made_at, log_of, Follows}
+use Rattle.zk_worker.specs.Follows.{IsPlayed, made_at}
 use Rattle.zk_worker.proofs.Starts.{start_at-fresh}
-use Rattle.zk_trace.specs.declared.trace.Trace.{Trace}
-use Rattle.zk_replay.specs.RoundRobin.{World, answer_in, chosen, first, stepped, work_after, is_spent}
-use Rattle.zk_replay.specs.Replay.{IsReplay, work_start_of}
-use Rattle.zk_replay.specs.Laws.{LogsFollow, AllPlayersLogged}
-use Rattle.zk_replay.proofs.Places.{slice_get-set}
-use Rattle.zk_replay.proofs.Still.{IsMade, first_possible-made, rounds-keep}
+use Rattle.zk_replay.specs.RoundRobin.{World, IsRun, answer_in, chosen, first, stepped, work_after, is_spent}
+use Rattle.zk_replay.specs.Replay.{work_start_of}
+use Rattle.zk_replay.proofs.Places.{slice_get-set, there-behind, known-longer}
+use Rattle.zk_replay.proofs.Still.{first_possible-made, rounds-keep}
 use Rattle.zk_replay.proofs.Beginning.{first-there, first-players}
-
-module _ {A : Type 0} where
-  -- what is at a place stays there in a longer list
-  there-longer : (xs ys : List A) (p : ℕ) (x : A) → slice_get xs p ≡ Some x → slice_get (xs ++ ys) p ≡ Some x
-  there-longer [] ys p x is = absurd (cc)
-  there-longer (y ∷ xs) ys zero x is = is
-  there-longer (y ∷ xs) ys (suc p) x is = there-longer xs ys p x is
-
-  -- what is put behind a list is at the place of its length
-  there-behind : (xs : List A) (x : A) → slice_get (xs ++ x ∷ []) (length xs) ≡ Some x
-  there-behind [] x = refl
-  there-behind (y ∷ xs) x = there-behind xs x
-
-  -- what is at a place of a mapped list comes from what is at that place
-  there-mapped : {B : Type 0} (f : A → B) (xs : List A) (p : ℕ) (b : B) → slice_get (map f xs) p ≡ Some b → (a : A) × (slice_get xs p ≡ Some a) × (f a ≡ b)
-  there-mapped f [] p b is = absurd (cc)
-  there-mapped f (x ∷ xs) zero b is = (x, refl, cc)
-  there-mapped f (x ∷ xs) (suc p) b is = there-mapped f xs p b is
 
 -- a spot stands for the same step in a longer history
 spot-longer : (work more : List (Entry WorkOp WorkReply)) (spot : Spot) (made : Step × StepReply) → made_at work spot ≡ Some made → made_at (work ++ more) spot ≡ Some made
-spot-longer work more (spots.Work place) made is = by_entry (slice_get work place) refl is
-  where
-    stands : Entry WorkOp WorkReply → Step × StepReply
-    stands e = (steps.Work e.op, step_replies.Work e.reply place)
-
-    by_entry : (o : Option (Entry WorkOp WorkReply)) → slice_get work place ≡ o → option_map stands o ≡ Some made → option_map stands (slice_get (work ++ more) place) ≡ Some made
-    by_entry None found is = absurd (cc)
-    by_entry (Some e) found is = ap (option_map stands) (there-longer work more place e found) ∙ is
+spot-longer work more (spots.Work place) made is = known-longer (λ (e : Entry WorkOp WorkReply). (steps.Work e.op, step_replies.Work e.reply place)) work more place made is
 
 -- and so do all of them
 stands-longer : (work more : List (Entry WorkOp WorkReply)) (places : List Spot) (made : List (Step × StepReply)) →
@@ -90,14 +62,14 @@ played-more s start [] at new is ahead =
 played-more s start (x ∷ xs) at new is ahead = (is.0, played-more s (after s start x.0 x.1) xs at new is.1 ahead)
 
 -- so far the player of this number has made steps that the protocol lets it make
-record IsFollowing (s : Parts) (work : List (Entry WorkOp WorkReply)) (number : ℕ) (at : At) : Type 0 where
-  start : At
-  made : List (Step × StepReply)
-  starts : start_at s number ≡ Some start
-  stands : map (made_at work) at.spots ≡ map Some made
-  played : IsPlayed s start made at
+pub record IsFollowing (s : Parts) (work : List (Entry WorkOp WorkReply)) (number : ℕ) (at : At) : Type 0 where
+  pub start : At
+  pub made : List (Step × StepReply)
+  pub starts : start_at s number ≡ Some start
+  pub stands : map (made_at work) at.spots ≡ map Some made
+  pub played : IsPlayed s start made at
 
-abbrev AllFollow : Parts → World → Type 0
+abbrev pub AllFollow : Parts → World → Type 0
 AllFollow s w = (number : ℕ) (at : At) → slice_get w.players number ≡ Some at → IsFollowing s w.work number at
 
 following-fresh : (s : Parts) (number : ℕ) (at : At) → start_at s number ≡ Some at → IsFollowing s [] number at
@@ -108,6 +80,11 @@ following-fresh s number at is = record {
   stands = ap (map (made_at [])) (start_at-fresh s number at is).none_made;
   played = refl;
 }
+
+-- a reply names the place behind the history
+pub answered-at : (o : Option WorkReply) (long : ℕ) (reply : WorkReply) (place : ℕ) → option_map (λ (r : WorkReply). step_replies.Work r long) o ≡ Some (step_replies.Work reply place) → long ≡ place
+answered-at None long reply place is = absurd (cc)
+answered-at (Some r) long reply place is = cc
 
 module _ {T : Type 0} (m : Machine T WorkOp WorkReply) (first_state : T) (s : Parts) where
   -- a player that makes no step follows as before
@@ -148,13 +125,9 @@ module _ {T : Type 0} (m : Machine T WorkOp WorkReply) (first_state : T) (s : Pa
           longer : List (Entry WorkOp WorkReply)
           longer = work ++ e ∷ []
 
-          at_length : (o : Option WorkReply) → option_map (λ (r : WorkReply). step_replies.Work r (length work)) o ≡ Some (step_replies.Work reply place) → length work ≡ place
-          at_length None is = absurd (cc)
-          at_length (Some r) is = cc
-
           here : made_at longer (spots.Work place) ≡ Some (steps.Work op, step_replies.Work reply place)
           here = ap (option_map (λ (x : Entry WorkOp WorkReply). (steps.Work x.op, step_replies.Work x.reply place)))
-              (subst (λ (p : ℕ). slice_get longer p ≡ Some e) (at_length (m.reply_of (state_after m first_state work) at.who op) answered) (there-behind work e))
+              (subst (λ (p : ℕ). slice_get longer p ≡ Some e) (answered-at (m.reply_of (state_after m first_state work) at.who op) (length work) reply place answered) (there-behind work e))
 
   all-follow : (w : World) (p : ℕ) (at : At) (new : Step × StepReply) → AllFollow s w → is_spent w ≡ false → slice_get w.players p ≡ Some at →
       chosen m first_state s w.work at ≡ Some new → AllFollow s (stepped s w p at (Some new))
@@ -171,30 +144,14 @@ module _ {T : Type 0} (m : Machine T WorkOp WorkReply) (first_state : T) (s : Pa
 first-follow : (s : Parts) → AllFollow s (first s)
 first-follow s number at is = following-fresh s number at (first-there s number at is)
 
-pub logs_follow : LogsFollow
-logs_follow s t run number log is =
-    let w = run.0 in
-    let n = run.1.0 in
+-- each player of a run follows the scenario
+pub run-follows : (s : Parts) (w : World) → IsRun work_machine (work_start_of s) s w → AllFollow s w
+run-follows s w run =
     let m = work_machine in
-    let all : AllFollow s w = subst (λ (v : World). AllFollow s v) (sym run.1.1) (rounds-keep m (work_start_of s) s (AllFollow s) (all-follow m (work_start_of s) s) n (first s) (first-follow s)) in
-    let logs : t.logs ≡ map log_of w.players = ap (λ (x : Trace). x.logs) run.2 in
-    let work : t.work ≡ w.work = ap (λ (x : Trace). x.work) run.2 in
-    let found = there-mapped log_of w.players number log (ap (λ (l : List Log). slice_get l number) (sym logs) ∙ is) in
-    let good = all number found.0 found.1 in
-    subst (λ (h : List (Entry WorkOp WorkReply)). Follows s number h log) (sym work)
-    (subst (λ (l : Log). Follows s number w.work l) found.2 (record {
-      start = good.start;
-      made = good.made;
-      end = found.0;
-      starts = good.starts;
-      stands = good.stands;
-      played = good.played;
-      logged = refl;
-    }))
+    subst (λ (v : World). AllFollow s v) (sym run.1) (rounds-keep m (work_start_of s) s (AllFollow s) (all-follow m (work_start_of s) s) run.0 (first s) (first-follow s))
 
-pub all_logged : AllPlayersLogged
-all_logged s t run =
-    let w = run.0 in
+-- and there are as many as the scenario has
+pub run-players : (s : Parts) (w : World) → IsRun work_machine (work_start_of s) s w → length w.players ≡ length (players s.decls)
+run-players s w run =
     let P : World → Type 0 = λ v. length v.players ≡ length (players s.decls) in
-    let all : P w = subst P (sym run.1.1) (rounds-keep work_machine (work_start_of s) s P (λ v p at new here unspent there choice. length-set v.players p (after s at new.0 new.1) ∙ here) run.1.0 (first s) (first-players s)) in
-    ap (λ (x : Trace). length x.logs) run.2 ∙ length-map w.players log_of ∙ all
+    subst P (sym run.1) (rounds-keep work_machine (work_start_of s) s P (λ v p at new here unspent there choice. length-set v.players p (after s at new.0 new.1) ∙ here) run.0 (first s) (first-players s))

@@ -8,3 +8,4 @@ pub mod Machine
 pub mod Tended
 pub mod Still
 pub mod Once
+pub mod Lawful

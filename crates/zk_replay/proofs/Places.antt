@@ -1,10 +1,11 @@
 -- Lists with one place written.
-use Rattle.std.proofs.Common.{◌≡◌, ◌≢◌, ◌⊎◌, ℕ, zero, suc, ◌+◌, ◌<◌, ◌||◌, Bool, true, false, Some, List, [], ◌∷◌, length, set, inl, inr, refl, sym, ap, subst, ◌∙◌, arith}
+use Rattle.std.proofs.Common.{◌≡◌, ◌≢◌, ◌⊎◌, ℕ, zero, suc, ◌+◌, ◌<◌, ◌||◌, Bool, true, false, Some, List, [], ◌∷◌, ◌++◌, length, map, set, inl, inr, refl, sym, ap, subst, ◌∙◌, arith}
 use Rattle.std.specs.List.{slice_get, list_any, sum_by}
+use Rattle.std.specs.Option.{option_map}
 use Rattle.std.proofs.lemmas.Option.{slice_get_within, get_or_from_slice_get}
 use Rattle.std.proofs.lemmas.List.Sums.{sum_by-set}
 
-or-first : (a b : Bool) → (a || b) ≡ false → (a ≡ false) × (b ≡ false)
+pub or-first : (a b : Bool) → (a || b) ≡ false → (a ≡ false) × (b ≡ false)
 or-first true b is = absurd (cc)
 or-first false b is = (refl, is)
 
@@ -16,6 +17,58 @@ or-none true b is = refl
 or-none false b is = is
 
 module _ {A : Type 0} where
+  -- what is at a place of a list with one element more
+  pub at-end : (xs : List A) (y x : A) (p : ℕ) → slice_get (xs ++ y ∷ []) p ≡ Some x → (slice_get xs p ≡ Some x) ⊎ ((p ≡ length xs) × (y ≡ x))
+  at-end [] y x zero is = inr (refl, cc)
+  at-end [] y x (suc p) is = absurd (cc)
+  at-end (z ∷ zs) y x zero is = inl is
+  at-end (z ∷ zs) y x (suc p) is = further p (at-end zs y x p is)
+    where
+      further : (p : ℕ) → (slice_get zs p ≡ Some x) ⊎ ((p ≡ length zs) × (y ≡ x)) → (slice_get zs p ≡ Some x) ⊎ ((suc p ≡ suc (length zs)) × (y ≡ x))
+      further p (inl there) = inl there
+      further p (inr both) = inr (ap suc both.0, both.1)
+
+  -- what is at a place stays there in a longer list
+  pub there-longer : (xs ys : List A) (p : ℕ) (x : A) → slice_get xs p ≡ Some x → slice_get (xs ++ ys) p ≡ Some x
+  there-longer [] ys p x is = absurd (cc)
+  there-longer (y ∷ xs) ys zero x is = is
+  there-longer (y ∷ xs) ys (suc p) x is = there-longer xs ys p x is
+
+  -- what is put behind a list is at the place of its length
+  pub there-behind : (xs : List A) (x : A) → slice_get (xs ++ x ∷ []) (length xs) ≡ Some x
+  there-behind [] x = refl
+  there-behind (y ∷ xs) x = there-behind xs x
+
+  -- what is at a place of a mapped list comes from what is at that place
+  pub there-mapped : {B : Type 0} (f : A → B) (xs : List A) (p : ℕ) (b : B) → slice_get (map f xs) p ≡ Some b → (a : A) × (slice_get xs p ≡ Some a) × (f a ≡ b)
+  there-mapped f [] p b is = absurd (cc)
+  there-mapped f (x ∷ xs) zero b is = (x, refl, cc)
+  there-mapped f (x ∷ xs) (suc p) b is = there-mapped f xs p b is
+
+  -- what is known of a place stays so in a longer list
+  pub known-longer : {B : Type 0} (f : A → B) (xs ys : List A) (p : ℕ) (b : B) → option_map f (slice_get xs p) ≡ Some b → option_map f (slice_get (xs ++ ys) p) ≡ Some b
+  known-longer f [] ys p b is = absurd (cc)
+  known-longer f (x ∷ xs) ys zero b is = is
+  known-longer f (x ∷ xs) ys (suc p) b is = known-longer f xs ys p b is
+
+  -- what is written at a place is there
+  pub there-set : (xs : List A) (p : ℕ) (x v : A) → slice_get xs p ≡ Some x → slice_get (set xs p v) p ≡ Some v
+  there-set [] p x v is = absurd (cc)
+  there-set (y ∷ ys) zero x v is = refl
+  there-set (y ∷ ys) (suc p) x v is = there-set ys p x v is
+
+  -- and at every other place what was there
+  pub set-elsewhere : (xs : List A) (p q : ℕ) (x v : A) → slice_get xs q ≡ Some x → (q ≡ p) ⊎ (slice_get (set xs p v) q ≡ Some x)
+  set-elsewhere [] p q x v is = absurd (cc)
+  set-elsewhere (y ∷ ys) zero zero x v is = inl refl
+  set-elsewhere (y ∷ ys) zero (suc q) x v is = inr is
+  set-elsewhere (y ∷ ys) (suc p) zero x v is = inr is
+  set-elsewhere (y ∷ ys) (suc p) (suc q) x v is = further p q (set-elsewhere ys p q x v is)
+    where
+      further : (p q : ℕ) → (q ≡ p) ⊎ (slice_get (set ys p v) q ≡ Some x) → (suc q ≡ suc p) ⊎ (slice_get (set ys p v) q ≡ Some x)
+      further p q (inl same) = inl (ap suc same)
+      further p q (inr there) = inr there
+
   -- what is at a place after a write: what was written, or what was there at another place
   pub slice_get-set : (xs : List A) (p q : ℕ) (v x : A) → slice_get (set xs p v) q ≡ Some x → ((q ≡ p) × (x ≡ v)) ⊎ ((q ≢ p) × (slice_get xs q ≡ Some x))
   slice_get-set [] p q v x is = absurd (cc)

@@ -5,3 +5,4 @@ pub mod Replay
 pub mod Ending
 pub mod Tending
 pub mod Laws
+pub mod Lawful

@@ -5,5 +5,5 @@ mod laws;
 mod run;
 mod turns;
 
-pub use laws::{logs_follow, none_goes_on, one_run};
+pub use laws::{none_goes_on, one_run};
 pub use run::replay;

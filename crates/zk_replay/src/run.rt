@@ -1,14 +1,13 @@
 ghost use Rattle.std.specs.Prelude.{◌≡◌, ℕ, ◌+◌, ◌-◌, ◌^◌, ◌<◌, ◌≤◌, [], length, map, IfOk};
 ghost use Rattle.std.specs.List.{list_any};
-ghost use Rattle.zk_base.specs.Legal.{IsLegal};
 ghost use Rattle.zk_scenario.specs.Players.{places, players, is_queue};
 ghost use Rattle.zk_scenario.specs.Valid.{IsValid};
-ghost use Rattle.zk_model_work.specs.Machine.{work_machine};
 ghost use Rattle.zk_work.specs.Seen.{work_start, work_history};
 ghost use Rattle.zk_worker.specs.Follows.{log_of, is_spent_at};
 ghost use Rattle.zk_replay.specs.RoundRobin.{starts};
 ghost use Rattle.zk_replay.specs.Replay.{workers, is_on, work_start_of, all_done, IsReplay};
 ghost use Rattle.zk_replay.specs.Ending.{ending_by};
+ghost use Rattle.zk_replay.specs.Lawful.{IsLawful};
 
 use crate::turns::play_rounds;
 use std::alloc::Global;
@@ -117,7 +116,7 @@ fn ending_of(players: &[Player]) -> Ending
 /// The players are the threads in declared order, then the workers of the queues.
 pub fn replay(alloc: Global, scenario: &Scenario) -> Result<Trace, NoMemory>
     ensures replay { IfOk result (λ trace. IsReplay scenario.now trace) }
-    ensures legal { IfOk result (λ trace. IsLegal work_machine (work_start_of scenario.now) trace.work) }
+    ensures lawful { IfOk result (λ trace. IsLawful scenario.now trace) }
 {
     let mut work = first_work(alloc, scenario)?;
     let mut players = first_players(alloc, scenario)?;

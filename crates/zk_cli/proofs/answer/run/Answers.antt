@@ -2,7 +2,7 @@ use Rattle.std.proofs.Common.{ℕ, List, ◌++◌, refl, sym, ap, ◌∙◌, sub
 use Rattle.zk_base.specs.declared.errors.Status.{Status}
 use Rattle.zk_trace.specs.Text.{trace_text}
 use Rattle.zk_cli.specs.Answer.{IsOutput}
-use Rattle.zk_cli.proofs.Halting.{output-run, halted}
+use Rattle.zk_cli.proofs.Ways.{output-run}
 use Rattle.zk_cli.proofs.answer.run.Goals as goal
 
 pub returns : goal.returns
@@ -15,9 +15,8 @@ returns c =
       read = c.requires.read;
       spelled = c.requires.spelled;
       run = run;
-      legal = c.in_ok-trace.ensures.legal;
-      laws = c.histories_keep_laws.ensures _ trace.work (record { fresh = refl; legal = c.in_ok-trace.ensures.legal });
+      lawful = c.in_ok-trace.ensures.lawful;
+      laws = c.histories_keep_laws.ensures _ trace.work (record { fresh = refl; legal = c.in_ok-trace.ensures.lawful.legal });
       ends = refl;
-      halts = halted c.none_goes_on.ensures trace.ending c.args.scenario.now trace run refl;
       printed = c.in_ok-put_trace.ensures ∙ ap (λ (text : List ℕ). text ++ trace_text c.args.scenario.now trace) c.requires.spelled;
     }))

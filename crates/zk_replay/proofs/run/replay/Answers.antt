@@ -1,4 +1,8 @@
-use Rattle.std.proofs.Common.{◌≡◌, false, ap, sym, subst, ◌∙◌}
+use Rattle.std.proofs.Common.{◌≡◌, false, List, ap, sym, subst, ◌∙◌}
+use Rattle.zk_base.specs.declared.ids.Entry.{Entry}
+use Rattle.zk_base.specs.Legal.{IsLegal}
+use Rattle.zk_model_work.specs.declared.ops.WorkOp.{WorkOp}
+use Rattle.zk_model_work.specs.declared.ops.WorkReply.{WorkReply}
 use Rattle.zk_model_work.specs.State.{State}
 use Rattle.zk_model_work.specs.Machine.{work_machine}
 use Rattle.zk_work.specs.Seen.{work_start, work_history}
@@ -8,6 +12,7 @@ use Rattle.zk_replay.specs.Turning.{world}
 use Rattle.zk_replay.specs.Ending.{ending_by}
 use Rattle.zk_replay.proofs.Beginning.{ready-first, unspent-first, takes-declared, world-first}
 use Rattle.zk_replay.proofs.Ends.{replayed}
+use Rattle.zk_replay.proofs.Lawful.{lawful}
 use Rattle.zk_replay.proofs.run.replay.Goals as goal
 
 pub play_rounds-requires-clause-takes : goal.play_rounds-requires-clause-takes
@@ -37,3 +42,11 @@ returns-clause-replay c =
     c.in_ok-work.ensures.start (world-first s (work_history c.in_ok-work.work) c.in_ok-players.players.items c.in_ok-work.ensures.none c.in_ok-players.ensures)
     so_far.0 so_far.1 c.in_ok-play_rounds.ensures.over
     (c.ending_of-ending.ensures ∙ ap ending_by c.deref.ensures.value) (c.from_vec.ensures ∙ c.into_history.ensures.history) c.in_ok-logs.ensures
+
+pub returns-clause-lawful : goal.returns-clause-lawful
+returns-clause-lawful c =
+    let s = c.args.scenario.now in
+    let legal = subst (λ (h : List (Entry WorkOp WorkReply)). IsLegal work_machine (work_start c.play_rounds.new.service) h) (sym (c.from_vec.ensures ∙ c.into_history.ensures.history)) c.into_history.ensures.legal in
+    let start = c.in_ok-play_rounds.ensures.start ∙ c.in_ok-work.ensures.start in
+    lawful s (record { ending = c.ending_of-ending.result; work = c.from_vec.result; logs = c.in_ok-logs.logs }) c.first_work.ensures.valid (returns-clause-replay c)
+    (subst (λ (t : State). IsLegal work_machine t c.from_vec.result) start legal)
