@@ -1,17 +1,6 @@
 use Rattle.std.specs.Prelude.{ℕ, List, ◌++◌, codes, decimal}
 use Rattle.zk_scenario.specs.declared.refused.Why.{Why}
-use Rattle.zk_scenario.specs.declared.refused.Why.TheVariants.{Header, Line, Order, Number, Name, Limit, Length, Unbuilt}
-
--- the word of a reason
-abbrev pub reason_word : Why → List ℕ
-reason_word Header = codes "header"
-reason_word Line = codes "line"
-reason_word Order = codes "order"
-reason_word Number = codes "number"
-reason_word Name = codes "name"
-reason_word Limit = codes "limit"
-reason_word Length = codes "length"
-reason_word Unbuilt = codes "unbuilt"
+use Rattle.zk_scenario.specs.Reasons.{reason_word}
 
 -- the line of a refusal: which line of the input, and why
 abbrev pub refusal_text : ℕ → Why → List ℕ

@@ -1,7 +1,7 @@
 ghost use Rattle.std.specs.Prelude.{◌≡◌, ◌++◌, OnOk, IfOk, Ok};
 ghost use Rattle.zk_scenario.specs.Grammar.{scenario_of};
 ghost use Rattle.zk_scenario.specs.Spelling.{text_of};
-ghost use Rattle.zk_cli.specs.Refusal.{reason_word, refusal_text};
+ghost use Rattle.zk_cli.specs.Refusal.{refusal_text};
 ghost use Rattle.zk_cli.specs.Answer.{IsRun, IsOutput, status_of};
 ghost use Rattle.zk_cli.specs.Kept.{HistoriesKeepLaws};
 
@@ -65,22 +65,7 @@ fn refusal(alloc: Global, line: u32, why: Why) -> Result<Vec<u8>, NoMemory>
     put(&mut text, b"refused ")?;
     put_decimal(&mut text, u64::from(line))?;
     put(&mut text, b" ")?;
-    put(&mut text, reason_word(why))?;
+    put(&mut text, why.word().as_bytes())?;
     put(&mut text, b"\n")?;
     Ok(text)
-}
-
-fn reason_word(why: Why) -> &'static [u8]
-    ensures { result.now ≡ reason_word why }
-{
-    match why {
-        Why::Header => b"header",
-        Why::Line => b"line",
-        Why::Order => b"order",
-        Why::Number => b"number",
-        Why::Name => b"name",
-        Why::Limit => b"limit",
-        Why::Length => b"length",
-        Why::Unbuilt => b"unbuilt",
-    }
 }

@@ -7,6 +7,7 @@ pub mod Objects
 pub mod Parts
 pub mod Players
 pub mod Reading
+pub mod Reasons
 pub mod Scripts
 pub mod Spelling
 pub mod Text

@@ -1,4 +1,5 @@
-ghost use Rattle.std.specs.Prelude.{◌≡◌};
+ghost use Rattle.std.specs.Prelude.{◌≡◌, Some};
+ghost use Rattle.zk_scenario.specs.Reasons.{reason_word};
 ghost use Rattle.zk_scenario.specs.declared.refused.ScenarioRefused.TheVariants.{NoMemory};
 
 use std::fmt;
@@ -26,9 +27,12 @@ pub enum Why {
     Unbuilt,
 }
 
-impl fmt::Display for Why {
-    fn fmt<W: fmt::Write>(&self, f: &mut fmt::Formatter<W>) -> fmt::Result {
-        f.write_str(match self {
+impl Why {
+    /// The name in lower case.
+    pub fn word(self) -> &'static str
+        ensures { result.now ≡ reason_word self }
+    {
+        match self {
             Why::Header => "header",
             Why::Line => "line",
             Why::Order => "order",
@@ -37,7 +41,15 @@ impl fmt::Display for Why {
             Why::Limit => "limit",
             Why::Length => "length",
             Why::Unbuilt => "unbuilt",
-        })
+        }
+    }
+}
+
+impl fmt::Display for Why {
+    ghost output = { λ why. Some (reason_word why) };
+
+    fn fmt<W: fmt::Write>(&self, f: &mut fmt::Formatter<W>) -> fmt::Result {
+        f.write_str(self.word())
     }
 }
 
