@@ -1,10 +1,9 @@
 -- The world in which nothing was done.
-use Rattle.std.proofs.Common.{◌≡◌, ◌≢◌, ◌⊎◌, ℕ, zero, suc, ◌+◌, ◌<◌, ◌≤◌, Bool, true, false, Option, Some, None, option_to_list, List, [], ◌∷◌, ◌++◌, length, map, All, AllPairs, inl, inr, refl, sym, ap, subst, ◌∙◌, arith, length-append}
+use Rattle.std.proofs.Common.{◌≡◌, ◌≢◌, ◌⊎◌, ℕ, zero, suc, ◌+◌, ◌<◌, ◌≤◌, false, Option, Some, None, option_to_list, List, [], ◌∷◌, ◌++◌, length, All, AllPairs, inl, inr, refl, sym, ap, ◌∙◌, arith, length-append}
 use Rattle.std.specs.List.{slice_get, range_with_len}
 use Rattle.std.proofs.lemmas.Bool.Decides.{nat_tests}
 use Rattle.std.proofs.lemmas.List.Elements.{All-nil, All-cons, All-append, All-weaker}
 use Rattle.std.proofs.lemmas.List.Folds.{list_any_none}
-use Rattle.std.proofs.lemmas.List.{length-map}
 use Rattle.std.proofs.lemmas.List.FromFn.{length-range_with_len, get_or-range_with_len}
 use Rattle.std.proofs.lemmas.List.Sums.{sum_by-le}
 use Rattle.zk_base.specs.declared.ids.Entry.{Entry}
@@ -15,8 +14,7 @@ use Rattle.zk_scenario.proofs.Tables.{length-places}
 use Rattle.zk_scenario.proofs.Valid.{length-players}
 use Rattle.zk_model_work.specs.declared.ops.WorkOp.{WorkOp}
 use Rattle.zk_model_work.specs.declared.ops.WorkReply.{WorkReply}
-use Rattle.zk_model_work.specs.State.{fresh_queues}
-use Rattle.zk_model_work.specs.Machine.{work_machine, is_among}
+use Rattle.zk_model_work.specs.Machine.{work_machine}
 use Rattle.zk_worker.specs.declared.steps.Spot.{Spot}
 use Rattle.zk_worker.specs.declared.steps.TheConstants.{MOST_STEPS}
 use Rattle.zk_worker.specs.Places.{At}
@@ -24,12 +22,14 @@ use Rattle.zk_worker.specs.Protocol.{start_at}
 use Rattle.zk_worker.specs.Follows.{is_spent_at}
 use Rattle.zk_worker.specs.Ranges.{FramesFit}
 use Rattle.zk_worker.proofs.Fits.{start_at-fits}
+use Rattle.zk_worker.specs.declared.steps.Step.TheVariants as steps
+use Rattle.zk_worker.proofs.Ranges.{takes-declared as steps-declared}
 use Rattle.zk_worker.proofs.Starts.{start_at-some, start_at-fresh, IsFresh}
 use Rattle.zk_replay.specs.RoundRobin.{starts, first, is_spent}
 use Rattle.zk_replay.specs.Ready.{IsReady, TakesDeclared}
 use Rattle.zk_replay.specs.Turning.{world}
-use Rattle.zk_replay.specs.Replay.{workers, is_on, work_start_of}
-use Rattle.zk_replay.proofs.Places.{at-end}
+use Rattle.zk_worker.specs.Machines.{workers, work_start_of}
+use Rattle.zk_worker.proofs.Lists.{at-end}
 
 -- there are few threads and queues
 pub few-threads : (s : Parts) → IsValid s → length (places is_thread s.decls) ≤ 64
@@ -64,22 +64,9 @@ starts_more s n at is =
     let next : suc n ≡ n + 1 = omega arith in
     ap (λ (o : Option At). starts s n ++ option_to_list o) (sym is) ∙ ap (starts s) next
 
-length-fresh_queues : (workers : List ℕ) (started : List Bool) → length workers ≡ length started → length (fresh_queues workers started) ≡ length workers
-length-fresh_queues [] started same = refl
-length-fresh_queues (w ∷ ws) [] same = absurd (omega arith)
-length-fresh_queues (w ∷ ws) (b ∷ bs) same = let more = length-fresh_queues ws bs (omega arith) in omega arith
-
--- each worker has its queue's mark whether it is started
-pub same-lengths : (s : Parts) → length (workers s.decls) ≡ length (map (is_on s.decls) (places is_queue s.decls))
-same-lengths s =
-    length-range_with_len (length (places is_thread s.decls)) (length (places is_queue s.decls)) ∙ sym (length-map (places is_queue s.decls) (is_on s.decls))
-
 -- the work service of a scenario takes all that is declared
 pub takes-declared : (s : Parts) → TakesDeclared work_machine (work_start_of s) s.decls
-takes-declared s = λ op fits.
-    let long = length-fresh_queues (workers s.decls) (map (is_on s.decls) (places is_queue s.decls)) (same-lengths s)
-    ∙ length-range_with_len (length (places is_thread s.decls)) (length (places is_queue s.decls)) in
-    subst (λ (n : ℕ). is_among (length (places is_item s.decls)) n op ≡ true) (sym long) fits
+takes-declared s = λ op fits. steps-declared s (steps.Work op) fits
 
 -- what holds of each player that starts holds of all
 starts-all : (P : At → Type 0) (s : Parts) → ((n : ℕ) (at : At) → start_at s n ≡ Some at → P at) → (n : ℕ) → All P (starts s n)

@@ -37,12 +37,14 @@ use Rattle.zk_trace.specs.declared.trace.Ending.TheVariants.{Ended, Stuck, Spent
 use Rattle.zk_trace.specs.declared.trace.Trace.{Trace}
 use Rattle.zk_replay.specs.RoundRobin.{World, or_else, first_possible, chosen, stepped, first, round, rounds, is_spent, IsRun}
 use Rattle.zk_replay.specs.Ready.{IsReady}
-use Rattle.zk_replay.specs.Replay.{work_start_of, all_done, none_waits, ending_of, IsReplay}
+use Rattle.zk_worker.specs.Machines.{work_start_of}
+use Rattle.zk_replay.specs.Replay.{all_done, none_waits, ending_of, IsReplay}
 use Rattle.zk_replay.specs.Ending.{ending_by}
 use Rattle.zk_replay.specs.Tending.{IsIdle, IsWorkers, Tends, IsTended}
-use Rattle.zk_replay.proofs.Places.{none-passes}
+use Rattle.zk_worker.proofs.Lists.{none-passes}
 use Rattle.zk_replay.proofs.Readiness.{ready-stepped}
-use Rattle.zk_replay.proofs.Beginning.{ready-first, first-there, first-players, same-lengths}
+use Rattle.zk_replay.proofs.Beginning.{ready-first, first-there, first-players}
+use Rattle.zk_worker.proofs.Ranges.{same-lengths}
 use Rattle.zk_replay.proofs.Machine.{none-waits-for}
 use Rattle.zk_replay.proofs.Tended.{tended-step, tended-first, worker-of, open-ahead}
 use Rattle.zk_replay.proofs.Still.{first_possible-made, rounds-keep, round-still}

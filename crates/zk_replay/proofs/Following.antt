@@ -1,5 +1,5 @@
 -- The log of each player of a run follows the scenario.
-use Rattle.std.proofs.Common.{◌≡◌, ◌≢◌, ◌⊎◌, ℕ, false, Option, Some, None, List, [], ◌∷◌, ◌++◌, length, map, inl, inr, refl, sym, ap, subst, ◌∙◌}
+use Rattle.std.proofs.Common.{◌≡◌, ◌≢◌, ◌⊎◌, ℕ, false, Option, Some, List, [], ◌∷◌, ◌++◌, length, map, inl, inr, refl, sym, ap, subst, ◌∙◌}
 use Rattle.std.specs.List.{slice_get}
 use Rattle.std.specs.Option.{option_map}
 use Rattle.std.proofs.lemmas.List.{length-set}
@@ -21,9 +21,12 @@ use Rattle.zk_worker.specs.Places.{At}
 use Rattle.zk_worker.specs.Protocol.{IsAhead, attempts, after, start_at}
 use Rattle.zk_worker.specs.Follows.{IsPlayed, made_at}
 use Rattle.zk_worker.proofs.Starts.{start_at-fresh}
-use Rattle.zk_replay.specs.RoundRobin.{World, IsRun, answer_in, chosen, first, stepped, work_after, is_spent}
-use Rattle.zk_replay.specs.Replay.{work_start_of}
-use Rattle.zk_replay.proofs.Places.{slice_get-set, there-behind, known-longer}
+use Rattle.zk_worker.proofs.Made.{answered-at}
+use Rattle.zk_replay.specs.RoundRobin.{World, IsRun, chosen, first, stepped, is_spent}
+use Rattle.zk_worker.specs.Attempt.{answer_in}
+use Rattle.zk_worker.specs.Shown.{work_after}
+use Rattle.zk_worker.specs.Machines.{work_start_of}
+use Rattle.zk_worker.proofs.Lists.{slice_get-set, there-behind, known-longer}
 use Rattle.zk_replay.proofs.Still.{first_possible-made, rounds-keep}
 use Rattle.zk_replay.proofs.Beginning.{first-there, first-players}
 
@@ -80,11 +83,6 @@ following-fresh s number at is = record {
   stands = ap (map (made_at [])) (start_at-fresh s number at is).none_made;
   played = refl;
 }
-
--- a reply names the place behind the history
-pub answered-at : (o : Option WorkReply) (long : ℕ) (reply : WorkReply) (place : ℕ) → option_map (λ (r : WorkReply). step_replies.Work r long) o ≡ Some (step_replies.Work reply place) → long ≡ place
-answered-at None long reply place is = absurd (cc)
-answered-at (Some r) long reply place is = cc
 
 module _ {T : Type 0} (m : Machine T WorkOp WorkReply) (first_state : T) (s : Parts) where
   -- a player that makes no step follows as before

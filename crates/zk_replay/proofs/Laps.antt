@@ -18,7 +18,7 @@ use Rattle.zk_replay.specs.declared.turns.Course.TheVariants.{Still, Goes, Spent
 use Rattle.zk_replay.specs.RoundRobin.{World, chosen, stepped, turn, turn_of, turns, round, rounds, is_spent}
 use Rattle.zk_replay.specs.Ready.{IsReady, all_left}
 use Rattle.zk_replay.specs.Turning.{world, history_with, at_after, Turned, Rounded, WithinRound}
-use Rattle.zk_replay.proofs.Places.{set-there, none-passes, any-set}
+use Rattle.zk_worker.proofs.Lists.{set-there, none-passes, any-set}
 use Rattle.zk_replay.proofs.Readiness.{ready-stepped, left-stepped}
 
 module _ {T : Type 0} (m : Machine T WorkOp WorkReply) (start : T) (s : Parts) where

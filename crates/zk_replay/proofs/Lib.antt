@@ -1,4 +1,3 @@
-pub mod Places
 pub mod Readiness
 pub mod Following
 pub mod Laps

@@ -23,10 +23,11 @@ use Rattle.zk_worker.specs.Follows.{is_spent_at}
 use Rattle.zk_worker.specs.Ranges.{FramesFit, step_fits}
 use Rattle.zk_worker.proofs.Fits.{ahead-fits, after-fits}
 use Rattle.zk_worker.proofs.Numbers.{All-slice_get}
-use Rattle.zk_replay.specs.RoundRobin.{World, stepped, work_after}
+use Rattle.zk_replay.specs.RoundRobin.{World, stepped}
+use Rattle.zk_worker.specs.Shown.{work_after}
 use Rattle.zk_replay.specs.Ready.{IsReady, TakesDeclared, left, all_left}
 use Rattle.zk_replay.specs.Turning.{RangeOf, AreTaken, world}
-use Rattle.zk_replay.proofs.Places.{slice_get-set, sum-set}
+use Rattle.zk_worker.proofs.Lists.{slice_get-set, sum-set}
 
 -- a history is shorter than a history may be
 pub short-work : (s : Parts) (w : World) → IsReady s w → length w.work < 2 ^ 32 - 1

@@ -1,37 +1,17 @@
-use Rattle.std.specs.Prelude.{◌≡◌, ℕ, Bool, false, not, ◌&&◌, if◌then◌else◌, List, length, map, slice_get}
-use Rattle.std.specs.List.{list_all, range_with_len}
-use Rattle.std.specs.Option.{option_map_or}
+use Rattle.std.specs.Prelude.{◌≡◌, Bool, not, ◌&&◌, if◌then◌else◌, List, map}
+use Rattle.std.specs.List.{list_all}
 use Rattle.zk_base.specs.Legal.{state_after}
-use Rattle.zk_scenario.specs.declared.types.Decl.{Decl}
-use Rattle.zk_scenario.specs.declared.types.Decl.TheVariants.{Queue}
 use Rattle.zk_scenario.specs.Parts.{Parts}
-use Rattle.zk_scenario.specs.Players.{places, is_thread, is_queue, is_item}
 use Rattle.zk_model_work.specs.Questions.{is_waiting}
-use Rattle.zk_model_work.specs.State.{State, start_of}
+use Rattle.zk_model_work.specs.State.{State}
 use Rattle.zk_model_work.specs.Machine.{work_machine}
 use Rattle.zk_worker.specs.Places.{At}
 use Rattle.zk_worker.specs.Follows.{is_done, log_of}
 use Rattle.zk_trace.specs.declared.trace.Ending.{Ending}
 use Rattle.zk_trace.specs.declared.trace.Ending.TheVariants.{Ended, Stuck, Spent}
 use Rattle.zk_trace.specs.declared.trace.Trace.{Trace}
+use Rattle.zk_worker.specs.Machines.{work_start_of}
 use Rattle.zk_replay.specs.RoundRobin.{World, IsRun, is_spent}
-
--- the numbers of the workers as players, in the order of their queues
-abbrev pub workers : List Decl → List ℕ
-workers decls = range_with_len (length (places is_thread decls)) (length (places is_queue decls))
-
--- whether a declaration is of a queue that is started at first
-abbrev pub is_started : Decl → Bool
-is_started (Queue name prio on) = on
-is_started decl = false
-
--- whether an object is a queue that is started at first
-abbrev pub is_on : List Decl → ℕ → Bool
-is_on decls object = option_map_or is_started (slice_get decls object) false
-
--- the work service of a scenario in its first state
-abbrev pub work_start_of : Parts → State
-work_start_of s = start_of (length (places is_item s.decls)) (workers s.decls) (map (is_on s.decls) (places is_queue s.decls))
 
 -- no admission waits
 abbrev pub none_waits : State → Bool

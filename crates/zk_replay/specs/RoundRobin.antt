@@ -1,20 +1,19 @@
-use Rattle.std.specs.Prelude.{◌≡◌, ℕ, zero, suc, ◌+◌, Bool, if◌then◌else◌, Option, Some, None, option_to_list, List, [], ◌∷◌, ◌++◌, length, slice_get, slice_set, option_map}
+use Rattle.std.specs.Prelude.{◌≡◌, ℕ, zero, suc, ◌+◌, Bool, if◌then◌else◌, Option, Some, None, option_to_list, List, [], ◌∷◌, ◌++◌, length, slice_get, slice_set}
 use Rattle.std.specs.List.{list_any}
 use Rattle.zk_base.specs.declared.ids.Who.{Who}
 use Rattle.zk_base.specs.declared.ids.Entry.{Entry}
-use Rattle.zk_base.specs.History.{entry}
-use Rattle.zk_base.specs.Legal.{Machine, state_after}
+use Rattle.zk_base.specs.Legal.{Machine}
 use Rattle.zk_scenario.specs.Parts.{Parts}
 use Rattle.zk_scenario.specs.Players.{players}
 use Rattle.zk_model_work.specs.declared.ops.WorkOp.{WorkOp}
 use Rattle.zk_model_work.specs.declared.ops.WorkReply.{WorkReply}
 use Rattle.zk_worker.specs.declared.steps.Step.{Step}
-use Rattle.zk_worker.specs.declared.steps.Step.TheVariants as steps
 use Rattle.zk_worker.specs.declared.steps.StepReply.{StepReply}
-use Rattle.zk_worker.specs.declared.steps.StepReply.TheVariants as step_replies
 use Rattle.zk_worker.specs.Places.{At}
 use Rattle.zk_worker.specs.Protocol.{attempts, after, start_at}
 use Rattle.zk_worker.specs.Follows.{is_spent_at}
+use Rattle.zk_worker.specs.Shown.{work_after}
+use Rattle.zk_worker.specs.Attempt.{answer_in}
 
 -- all that a run has come to: the history of the work service, and where each player stands
 pub record World : Type 0 where
@@ -27,22 +26,14 @@ or_else step None further = further
 or_else step (Some reply) further = Some (step, reply)
 
 module _ {T : Type 0} (m : Machine T WorkOp WorkReply) (start : T) where
-  -- what is answered to a step after a history, if it is possible
-  abbrev pub answer_in : List (Entry WorkOp WorkReply) → Who → Step → Option StepReply
-  answer_in work who (steps.Work op) = option_map (λ reply. step_replies.Work reply (length work)) (m.reply_of (state_after m start work) who op)
-
   -- the first of these attempts that is possible, with its answer
   abbrev pub first_possible : List (Entry WorkOp WorkReply) → Who → List Step → Option (Step × StepReply)
   first_possible work who [] = None
-  first_possible work who (step ∷ more) = or_else step (answer_in work who step) (first_possible work who more)
+  first_possible work who (step ∷ more) = or_else step (answer_in m start work who step) (first_possible work who more)
 
   -- the attempt that a player makes in a turn
   abbrev pub chosen : Parts → List (Entry WorkOp WorkReply) → At → Option (Step × StepReply)
   chosen s work at = first_possible work at.who (attempts s at)
-
--- the history with the entry of a step
-abbrev pub work_after : List (Entry WorkOp WorkReply) → Who → ℕ → Step → StepReply → List (Entry WorkOp WorkReply)
-work_after work who number (steps.Work op) (step_replies.Work reply place) = work ++ entry who number op reply ∷ []
 
 -- the world after a step of the player of this number, if it makes one
 abbrev pub stepped : Parts → World → ℕ → At → Option (Step × StepReply) → World

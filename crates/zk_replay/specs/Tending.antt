@@ -14,7 +14,7 @@ use Rattle.zk_worker.specs.declared.frames.Stage.{Stage}
 use Rattle.zk_worker.specs.declared.frames.Stage.TheVariants.{Start, Runs}
 use Rattle.zk_worker.specs.Places.{At}
 use Rattle.zk_replay.specs.RoundRobin.{World}
-use Rattle.zk_replay.specs.Replay.{workers, work_start_of}
+use Rattle.zk_worker.specs.Machines.{workers, work_start_of}
 
 -- the queue runs nothing
 abbrev pub IsIdle : ℕ → List Admission → Type 0

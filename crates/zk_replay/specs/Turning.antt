@@ -13,7 +13,8 @@ use Rattle.zk_worker.specs.Protocol.{IsAhead, after}
 use Rattle.zk_replay.specs.declared.turns.Turn.{Turn}
 use Rattle.zk_replay.specs.declared.turns.Course.{Course}
 use Rattle.zk_replay.specs.declared.turns.Course.TheVariants.{Still, Goes, Spent}
-use Rattle.zk_replay.specs.RoundRobin.{World, work_after, turn, turns, round, is_spent}
+use Rattle.zk_replay.specs.RoundRobin.{World, turn, turns, round, is_spent}
+use Rattle.zk_worker.specs.Shown.{work_after}
 use Rattle.zk_replay.specs.Ready.{IsReady, all_left}
 
 -- the history after an attempt: with the entry of the step where there was a reply

@@ -3,7 +3,8 @@ ghost use Rattle.zk_base.specs.History.{IsAbove};
 ghost use Rattle.zk_base.specs.Legal.{Machine};
 ghost use Rattle.zk_scenario.specs.Valid.{IsValid};
 ghost use Rattle.zk_worker.specs.Follows.{is_spent_at};
-ghost use Rattle.zk_replay.specs.RoundRobin.{World, answer_in, chosen, turn, round, rounds, is_spent};
+ghost use Rattle.zk_replay.specs.RoundRobin.{World, chosen, turn, round, rounds, is_spent};
+ghost use Rattle.zk_worker.specs.Attempt.{answer_in};
 ghost use Rattle.zk_replay.specs.Ready.{TakesDeclared, IsReady};
 ghost use Rattle.zk_replay.specs.Turning.{history_after, history_with, at_after, RangeOf, AreTaken, world, Turned, Rounded};
 

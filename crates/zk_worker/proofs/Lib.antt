@@ -1,4 +1,9 @@
 pub mod Numbers
+pub mod Lists
 pub mod Moves
 pub mod Starts
 pub mod Fits
+pub mod Ranges
+pub mod Between
+pub mod Made
+pub mod Trying

@@ -32,6 +32,11 @@ is_done [] = true
 is_done (frame ∷ []) = is_between frame.role frame.stage
 is_done frames = false
 
+-- whether a thread is through its script; a worker never is
+abbrev pub is_through : List Frame → Bool
+is_through [] = true
+is_through frames = false
+
 -- whether a player has made all its steps
 abbrev pub is_spent_at : At → Bool
 is_spent_at at = nat_le MOST_STEPS (length at.spots)

@@ -1,6 +1,10 @@
+pub mod Attempt
 pub mod Calls
+pub mod Follows
+pub mod Machines
 pub mod Places
+pub mod Playing
 pub mod Protocol
 pub mod Ranges
+pub mod Shown
 pub mod Stacks
-pub mod Follows

@@ -6,7 +6,9 @@ mod calls;
 mod frames;
 mod log;
 mod player;
+mod playing;
 mod protocol;
+mod services;
 mod stack;
 mod steps;
 
@@ -14,4 +16,6 @@ pub use answers::{Answer, Answered, Answers, Word};
 pub use frames::{Form, Frame, Progress, Role, Stage};
 pub use log::{Log, PlayerState};
 pub use player::Player;
+pub use playing::Stepped;
+pub use services::Services;
 pub use steps::{MOST_ATTEMPTS, MOST_STEPS, Spot, Spots, Step, StepReply};

@@ -1,7 +1,7 @@
 ghost use Rattle.std.specs.Prelude.{◌≡◌, ◌<◌, ◌≤◌, slice_get, reverse, length, IfOk, OnErr, Some};
 ghost use Rattle.zk_scenario.specs.Players.{players, prio_of};
 ghost use Rattle.zk_worker.specs.Protocol.{attempts, after, start_at, starting, role_at, IsAhead};
-ghost use Rattle.zk_worker.specs.Follows.{state_at, log_of, is_done, is_between, is_spent_at};
+ghost use Rattle.zk_worker.specs.Follows.{state_at, log_of, is_done, is_through, is_between, is_spent_at};
 
 use crate::frames::MOST_FRAMES;
 use crate::protocol::spot_of;
@@ -105,6 +105,12 @@ fn is_done(stack: &[Frame]) -> bool
     }
 }
 
+fn is_through(stack: &[Frame]) -> bool
+    ensures { result ≡ is_through (reverse stack.now) }
+{
+    stack.is_empty()
+}
+
 impl Player {
     /// The player of this number, with room for all its steps.
     pub fn new(alloc: Global, scenario: &Scenario, number: u32) -> Result<Player, NoMemory>
@@ -176,6 +182,13 @@ impl Player {
         ensures { result ≡ is_done self.now.frames }
     {
         is_done(&self.stack)
+    }
+
+    /// Whether it is a thread that is through its script.
+    pub fn is_through(&self) -> bool
+        ensures { result ≡ is_through self.now.frames }
+    {
+        is_through(&self.stack)
     }
 
     /// How many steps it has made.

@@ -1,4 +1,4 @@
--- Lists with one place written.
+-- What is at the places of a list that grows, or in which one place is written.
 use Rattle.std.proofs.Common.{◌≡◌, ◌≢◌, ◌⊎◌, ℕ, zero, suc, ◌+◌, ◌<◌, ◌||◌, Bool, true, false, Some, List, [], ◌∷◌, ◌++◌, length, map, set, inl, inr, refl, sym, ap, subst, ◌∙◌, arith}
 use Rattle.std.specs.List.{slice_get, list_any, sum_by}
 use Rattle.std.specs.Option.{option_map}
@@ -50,6 +50,36 @@ module _ {A : Type 0} where
   known-longer f [] ys p b is = absurd (cc)
   known-longer f (x ∷ xs) ys zero b is = is
   known-longer f (x ∷ xs) ys (suc p) b is = known-longer f xs ys p b is
+
+  -- what is known of a place of a longer list was known before, or is known of what was added
+  pub known-back : {B : Type 0} (f : A → B) (xs ys : List A) (p : ℕ) (b : B) → option_map f (slice_get (xs ++ ys) p) ≡ Some b →
+      (option_map f (slice_get xs p) ≡ Some b) ⊎ ((k : ℕ) × (p ≡ length xs + k) × (option_map f (slice_get ys k) ≡ Some b))
+  known-back f [] ys p b is = inr (p, omega arith, is)
+  known-back f (x ∷ xs) ys zero b is = inl is
+  known-back f (x ∷ xs) ys (suc p) b is = further p (known-back f xs ys p b is)
+    where
+      further : (p : ℕ) → (option_map f (slice_get xs p) ≡ Some b) ⊎ ((k : ℕ) × (p ≡ length xs + k) × (option_map f (slice_get ys k) ≡ Some b)) →
+          (option_map f (slice_get xs p) ≡ Some b) ⊎ ((k : ℕ) × (suc p ≡ suc (length xs) + k) × (option_map f (slice_get ys k) ≡ Some b))
+      further p (inl there) = inl there
+      further p (inr added) = inr (added.0, omega (arith, added.1), added.2)
+
+  -- what is known of a place is known of what is there
+  pub known-there : {B : Type 0} (f : A → B) (xs : List A) (p : ℕ) (b : B) → option_map f (slice_get xs p) ≡ Some b → (x : A) × (slice_get xs p ≡ Some x) × (f x ≡ b)
+  known-there f [] p b is = absurd (cc)
+  known-there f (x ∷ xs) zero b is = (x, refl, cc)
+  known-there f (x ∷ xs) (suc p) b is = known-there f xs p b is
+
+  -- what is known of a place of a list with one element more was known before, or is known of this element
+  pub known-end : {B : Type 0} (f : A → B) (xs : List A) (x : A) (p : ℕ) (b : B) → option_map f (slice_get (xs ++ x ∷ []) p) ≡ Some b →
+      (option_map f (slice_get xs p) ≡ Some b) ⊎ ((p ≡ length xs) × (f x ≡ b))
+  known-end f [] x zero b is = inr (refl, cc)
+  known-end f [] x (suc p) b is = absurd (cc)
+  known-end f (y ∷ xs) x zero b is = inl is
+  known-end f (y ∷ xs) x (suc p) b is = further p (known-end f xs x p b is)
+    where
+      further : (p : ℕ) → (option_map f (slice_get xs p) ≡ Some b) ⊎ ((p ≡ length xs) × (f x ≡ b)) → (option_map f (slice_get xs p) ≡ Some b) ⊎ ((suc p ≡ suc (length xs)) × (f x ≡ b))
+      further p (inl there) = inl there
+      further p (inr both) = inr (ap suc both.0, both.1)
 
   -- what is written at a place is there
   pub there-set : (xs : List A) (p : ℕ) (x v : A) → slice_get xs p ≡ Some x → slice_get (set xs p v) p ≡ Some v

@@ -1,0 +1,68 @@
+-- What comes between two moments beside the steps of a player.
+use Rattle.std.proofs.Common.{◌≡◌, ◌≢◌, ◌⊎◌, inl, inr, ℕ, ◌+◌, Bool, true, false, Some, List, [], ◌++◌, length, refl, sym, ap, subst, ◌∙◌}
+use Rattle.std.specs.List.{slice_get}
+use Rattle.std.specs.Option.{option_map}
+use Rattle.std.proofs.lemmas.List.Elements.{All-nil, All-append}
+use Rattle.std.proofs.lemmas.List.{append-nil, append_assoc}
+use Rattle.std.proofs.lemmas.Option.{slice_get_within}
+use Rattle.zk_base.specs.declared.ids.Entry.{Entry}
+use Rattle.zk_model_work.specs.declared.ops.WorkOp.{WorkOp}
+use Rattle.zk_model_work.specs.declared.ops.WorkReply.{WorkReply}
+use Rattle.zk_worker.specs.declared.steps.Spot.{Spot}
+use Rattle.zk_worker.specs.declared.steps.Spot.TheVariants as spots
+use Rattle.zk_worker.specs.Shown.{Shown, step_of, shown_at, ShowsLog, IsLater, AreShort, OthersGrew, Between}
+use Rattle.zk_worker.proofs.Lists.{known-longer, known-back, known-there}
+use Rattle.zk_worker.proofs.Numbers.{All-slice_get}
+
+-- nothing comes between a moment and itself
+pub between-none : (alone : Bool) (number : ℕ) (shown : Shown) → Between alone number shown shown
+between-none true number shown = refl
+between-none false number shown =
+    let P : Entry WorkOp WorkReply → Type 0 = λ e. e.who.number ≢ number in
+    record { more = []; longer = sym (append-nil shown.work); others = All-nil P }
+
+-- what comes between two moments, and then between the second and a third
+pub between-both : (alone : Bool) (number : ℕ) (old mid new : Shown) → Between alone number old mid → Between alone number mid new → Between alone number old new
+between-both true number old mid new first then_ = then_ ∙ first
+between-both false number old mid new first then_ =
+    let P : Entry WorkOp WorkReply → Type 0 = λ e. e.who.number ≢ number in
+    record {
+      more = first.more ++ then_.more;
+      longer = then_.longer ∙ ap (λ (h : List (Entry WorkOp WorkReply)). h ++ then_.more) first.longer ∙ append_assoc old.work first.more then_.more;
+      others = All-append P first.more then_.more first.others then_.others;
+    }
+
+-- histories that have room have it still where nothing came between
+pub short-still : (alone : Bool) (number : ℕ) (old new : Shown) → (alone ≡ true → AreShort old) → Between alone number old new → alone ≡ true → AreShort new
+short-still true number old new short nothing is = subst (λ (s : Shown). AreShort s) (sym nothing) (short is)
+short-still false number old new short others is = absurd (cc)
+
+-- what is shown stays shown
+shown-longer : (number : ℕ) (old new : Shown) (spot : Spot) (b : ℕ × ℕ) → OthersGrew number old.work new.work → shown_at old spot ≡ Some b → shown_at new spot ≡ Some b
+shown-longer number old new (spots.Work place) b grew is =
+    subst (λ (h : List (Entry WorkOp WorkReply)). option_map step_of (slice_get h place) ≡ Some b) (sym grew.longer) (known-longer step_of old.work grew.more place b is)
+
+-- and of this player nothing else is
+shown-back : (number step : ℕ) (old new : Shown) (spot : Spot) → OthersGrew number old.work new.work → shown_at new spot ≡ Some (number, step) → shown_at old spot ≡ Some (number, step)
+shown-back number step old new (spots.Work place) grew is =
+    by_place (known-back step_of old.work grew.more place (number, step) (ap (λ (h : List (Entry WorkOp WorkReply)). option_map step_of (slice_get h place)) (sym grew.longer) ∙ is))
+  where
+    by_place : (option_map step_of (slice_get old.work place) ≡ Some (number, step)) ⊎ ((k : ℕ) × (place ≡ length old.work + k) × (option_map step_of (slice_get grew.more k) ≡ Some (number, step))) →
+        option_map step_of (slice_get old.work place) ≡ Some (number, step)
+    by_place (inl there) = there
+    by_place (inr added) =
+        let P : Entry WorkOp WorkReply → Type 0 = λ e. e.who.number ≢ number in
+        let found = known-there step_of grew.more added.0 (number, step) added.2 in
+        absurd (All-slice_get P grew.more added.0 found.0 found.1 grew.others (ap (λ (b : ℕ × ℕ). b.0) found.2))
+
+-- a log is shown as before
+pub log-still : (alone : Bool) (number : ℕ) (log : List Spot) (old new : Shown) → ShowsLog old number log → Between alone number old new → ShowsLog new number log
+log-still true number log old new shows nothing = subst (λ (s : Shown). ShowsLog s number log) (sym nothing) shows
+log-still false number log old new shows grew = record {
+  each = λ step spot is. shown-longer number old new spot (number, step) grew (shows.each step spot is);
+  no_other = λ step spot is. shows.no_other step spot (shown-back number step old new spot grew is);
+}
+
+-- the next step of a log is above all that are shown of its player
+pub log-later : (number : ℕ) (log : List Spot) (shown : Shown) → ShowsLog shown number log → IsLater shown number (length log)
+log-later number log shown shows = λ step spot is. slice_get_within log step spot (shows.no_other step spot is)

@@ -1,0 +1,105 @@
+-- What is known while the attempts of a player are made in order.
+use Rattle.std.proofs.Common.{◌≡◌, ◌⊎◌, inl, inr, ℕ, zero, suc, ◌+◌, ◌-◌, ◌^◌, ◌<◌, ◌≤◌, Bool, Option, Some, None, Result, List, length, sym, ap, subst, ◌∙◌, arith}
+use Rattle.std.specs.List.{slice_get}
+use Rattle.zk_base.specs.declared.ids.Who.{Who}
+use Rattle.zk_base.specs.declared.errors.NoMemory.{NoMemory}
+use Rattle.zk_base.specs.Causes.{Rose}
+use Rattle.zk_worker.specs.declared.steps.Step.{Step}
+use Rattle.zk_worker.specs.declared.steps.StepReply.{StepReply}
+use Rattle.zk_worker.specs.Machines.{Machines}
+use Rattle.zk_worker.specs.Shown.{Shown, Between}
+use Rattle.zk_worker.specs.Attempt.{Counts, count_at, NoneFell, IsMade, reply_in, Attempted}
+use Rattle.zk_worker.specs.Playing.{WasTried, WereTried, WasFirst, WasNone, Tried}
+use Rattle.zk_worker.proofs.Between.{between-none, between-both}
+
+-- a count that rose has risen still when none fell since
+pub rose-since : (a b c : ℕ) → Rose a b → b ≤ c → c ≤ 2 ^ 64 - 1 → Rose a c
+rose-since a b c (inl less) kept most = inl (omega arith)
+rose-since a b c (inr full) kept most = inr (omega arith)
+
+-- or when none fell before
+pub rose-before : (a b c : ℕ) → a ≤ b → Rose b c → Rose a c
+rose-before a b c kept (inl less) = inl (omega arith)
+rose-before a b c kept (inr full) = inr full
+
+-- what was tried before a moment was tried before a later one
+pub tried-since : (alone : Bool) (m : Machines) (who : Who) (ahead : List Step) (many : ℕ) (old mid new : Shown) (counts counts' counts'' : Counts) →
+    WereTried alone m who ahead many old mid counts counts' → Between alone who.number mid new → NoneFell counts' counts'' → WereTried alone m who ahead many old new counts counts''
+tried-since alone m who ahead many old mid new counts counts' counts'' tried others kept = λ k step below is.
+    let was = tried k step below is in
+    record {
+      found = was.found;
+      since = was.since;
+      until = between-both alone who.number was.found mid new was.until others;
+      impossible = was.impossible;
+      rose = rose-since (count_at counts step) (count_at counts' step) (count_at counts'' step) was.rose (kept step).0 (kept step).1;
+    }
+
+lower-or-last : (k n : ℕ) → k < n + 1 → (k < n) ⊎ (k ≡ n)
+lower-or-last k zero low = inr (omega arith)
+lower-or-last zero (suc n) low = inl (omega arith)
+lower-or-last (suc k) (suc n) low = further (lower-or-last k n (omega arith))
+  where
+    further : (k < n) ⊎ (k ≡ n) → (suc k < suc n) ⊎ (suc k ≡ suc n)
+    further (inl less) = inl (omega arith)
+    further (inr same) = inr (ap suc same)
+
+-- one attempt more was made, and wasn't possible
+pub tried-next : (alone : Bool) (m : Machines) (who : Who) (ahead : List Step) (many : ℕ) (last : Step) (old mid new : Shown) (counts counts' counts'' : Counts) →
+    WereTried alone m who ahead many old mid counts counts' → slice_get ahead many ≡ Some last → Between alone who.number old mid → Between alone who.number mid new →
+    reply_in m new who last ≡ None → Rose (count_at counts' last) (count_at counts'' last) → ((step : Step) → count_at counts step ≤ count_at counts' step) → NoneFell counts' counts'' →
+    WereTried alone m who ahead (many + 1) old new counts counts''
+tried-next alone m who ahead many last old mid new counts counts' counts'' tried is before others impossible rose kept none_fell = λ k step below there.
+    by_place k step there (lower-or-last k many below)
+  where
+    by_place : (k : ℕ) (step : Step) → slice_get ahead k ≡ Some step → (k < many) ⊎ (k ≡ many) → WasTried alone m who old new counts counts'' step
+    by_place k step there (inl earlier) = tried-since alone m who ahead many old mid new counts counts' counts'' tried others none_fell k step earlier there
+    by_place k step there (inr same) =
+        let both : Some last ≡ Some step = sym is ∙ ap (slice_get ahead) (sym same) ∙ there in
+        let one : last ≡ step = cc in
+        subst (λ (x : Step). WasTried alone m who old new counts counts'' x) one (record {
+          found = new;
+          since = between-both alone who.number old mid new before others;
+          until = between-none alone who.number new;
+          impossible = impossible;
+          rose = rose-before (count_at counts last) (count_at counts' last) (count_at counts'' last) (kept last) rose;
+        })
+
+-- an attempt is made, behind those that weren't possible
+pub first-made : (alone : Bool) (m : Machines) (who : Who) (number : ℕ) (ahead : List Step) (many : ℕ) (step : Step) (reply : StepReply) (old mid new : Shown) (counts counts' counts'' : Counts) →
+    WereTried alone m who ahead many old mid counts counts' → slice_get ahead many ≡ Some step → Between alone who.number old mid →
+    IsMade alone m who number step reply mid new → NoneFell counts' counts'' → WasFirst alone m who number ahead step reply old new counts counts''
+first-made alone m who number ahead many step reply old mid new counts counts' counts'' tried is before made none_fell = record {
+  index = many;
+  is_there = is;
+  made = record { found = made.found; since = between-both alone who.number old mid made.found before made.since; replied = made.replied; shown = made.shown };
+  tried = tried-since alone m who ahead many old mid made.found counts counts' counts'' tried made.since none_fell;
+}
+
+-- all attempts were made, and none was possible
+pub none-left : (alone : Bool) (m : Machines) (who : Who) (ahead : List Step) (many : ℕ) (old new : Shown) (counts counts' : Counts) →
+    WereTried alone m who ahead many old new counts counts' → length ahead ≤ many → Between alone who.number old new → WasNone alone m who ahead old new counts counts'
+none-left alone m who ahead many old new counts counts' tried all before = record {
+  others = before;
+  tried = λ k step below there. tried k step (omega arith) there;
+}
+
+-- what came of the attempts, by whether one was made
+pub tried-some : (alone : Bool) (m : Machines) (who : Who) (number : ℕ) (ahead : List Step) (step : Step) (reply : StepReply) (old new : Shown) (counts counts' : Counts) (made : Option (Step × StepReply)) →
+    Tried alone m who number ahead old new counts counts' made → made ≡ Some (step, reply) → WasFirst alone m who number ahead step reply old new counts counts'
+tried-some alone m who number ahead step reply old new counts counts' made tried is =
+    subst (λ (o : Option (Step × StepReply)). Tried alone m who number ahead old new counts counts' o) is tried
+
+pub tried-none : (alone : Bool) (m : Machines) (who : Who) (number : ℕ) (ahead : List Step) (old new : Shown) (counts counts' : Counts) (made : Option (Step × StepReply)) →
+    Tried alone m who number ahead old new counts counts' made → made ≡ None → WasNone alone m who ahead old new counts counts'
+tried-none alone m who number ahead old new counts counts' made tried is =
+    subst (λ (o : Option (Step × StepReply)). Tried alone m who number ahead old new counts counts' o) is tried
+
+-- the same attempt, as the start of the call has its services and its player
+pub attempted-same : (alone alone' : Bool) (m m' : Machines) (who who' : Who) (number number' : ℕ) (step : Step) (old new : Shown) (result : Result (Option StepReply) NoMemory) →
+    alone' ≡ alone → m' ≡ m → who' ≡ who → number' ≡ number → Attempted alone' m' who' number' step old new result → Attempted alone m who number step old new result
+attempted-same alone alone' m m' who who' number number' step old new result same_alone same_m same_who same_number attempted =
+    subst (λ (n : ℕ). Attempted alone m who n step old new result) same_number
+    (subst (λ (w : Who). Attempted alone m w number' step old new result) same_who
+    (subst (λ (x : Machines). Attempted alone x who' number' step old new result) same_m
+    (subst (λ (b : Bool). Attempted b m' who' number' step old new result) same_alone attempted)))

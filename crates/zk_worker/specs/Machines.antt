@@ -1,0 +1,38 @@
+use Rattle.std.specs.Prelude.{ℕ, Bool, false, List, length, map, slice_get}
+use Rattle.std.specs.List.{range_with_len}
+use Rattle.std.specs.Option.{option_map_or}
+use Rattle.zk_base.specs.Legal.{Machine}
+use Rattle.zk_scenario.specs.declared.types.Decl.{Decl}
+use Rattle.zk_scenario.specs.declared.types.Decl.TheVariants.{Queue}
+use Rattle.zk_scenario.specs.Parts.{Parts}
+use Rattle.zk_scenario.specs.Players.{places, is_thread, is_queue, is_item}
+use Rattle.zk_model_work.specs.declared.ops.WorkOp.{WorkOp}
+use Rattle.zk_model_work.specs.declared.ops.WorkReply.{WorkReply}
+use Rattle.zk_model_work.specs.State.{State, start_of}
+use Rattle.zk_model_work.specs.Machine.{work_machine}
+
+-- the numbers of the workers as players, in the order of their queues
+abbrev pub workers : List Decl → List ℕ
+workers decls = range_with_len (length (places is_thread decls)) (length (places is_queue decls))
+
+-- whether a declaration is of a queue that is started at first
+abbrev pub is_started : Decl → Bool
+is_started (Queue name prio on) = on
+is_started decl = false
+
+-- whether an object is a queue that is started at first
+abbrev pub is_on : List Decl → ℕ → Bool
+is_on decls object = option_map_or is_started (slice_get decls object) false
+
+-- the work service of a scenario in its first state
+abbrev pub work_start_of : Parts → State
+work_start_of s = start_of (length (places is_item s.decls)) (workers s.decls) (map (is_on s.decls) (places is_queue s.decls))
+
+-- the machine of each service, and the state that it starts in
+pub record Machines : Type 0 where
+  pub work : Machine State WorkOp WorkReply
+  pub work_start : State
+
+-- the machines of a scenario
+abbrev pub machines_of : Parts → Machines
+machines_of s = record { work = work_machine; work_start = work_start_of s }

@@ -1,0 +1,103 @@
+ghost use Rattle.std.specs.Prelude.{◌≡◌, ℕ, ◌<◌, Bool, true, false, length, IfOk, OnErr};
+ghost use Rattle.zk_base.specs.declared.ids.Who.{Who};
+ghost use Rattle.zk_scenario.specs.Valid.{IsValid};
+ghost use Rattle.zk_worker.specs.Protocol.{attempts, IsAhead};
+ghost use Rattle.zk_worker.specs.Ranges.{FramesFit};
+ghost use Rattle.zk_worker.specs.Machines.{machines_of};
+ghost use Rattle.zk_worker.specs.Shown.{ShowsLog, AreShort, Between};
+ghost use Rattle.zk_worker.specs.Attempt.{takes};
+ghost use Rattle.zk_worker.specs.Playing.{Tried, Does};
+
+use crate::steps::MOST_ATTEMPTS;
+use crate::{Player, Services, Step, StepReply};
+use zk_base::NoMemory;
+use zk_scenario::Scenario;
+
+/// What came of the next step of a player.
+#[derive(Clone, Copy, Debug, PartialEq, Eq)]
+pub enum Stepped {
+    /// The step was made.
+    Did,
+    /// Each attempt of the step was made, and none was possible.
+    NotYet,
+    /// A thread is through its script.
+    Ended,
+    /// The player has made all the steps that it may make.
+    Spent,
+}
+
+/// Makes the attempts of a player in order, up to the first that is possible.
+fn try_ahead<V: Services>(
+    services: &mut V,
+    scenario: &Scenario,
+    player: &Player,
+) -> Result<Option<(Step, StepReply)>, NoMemory>
+    requires served { V.serves services.old player.now.who }
+    requires range { (step : Step) → IsAhead scenario.now player.now step → takes (V.machines services.old) step ≡ true }
+    requires log { ShowsLog (V.shown services.old) player.now.who.number player.now.spots }
+    requires short { V.alone services.old ≡ true → AreShort (V.shown services.old) }
+    ensures tried { IfOk result (λ made.
+        Tried (V.alone services.old) (V.machines services.old) player.now.who (length player.now.spots) (attempts scenario.now player.now)
+        (V.shown services.old) (V.shown services.new) (V.counts services.old) (V.counts services.new) made) }
+    ensures err { OnErr result (Between (V.alone services.old) player.now.who.number (V.shown services.old) (V.shown services.new)) }
+    ensures machines { V.machines services.new ≡ V.machines services.old }
+    ensures serves { (who : Who) → V.serves services.old who → V.serves services.new who }
+    ensures alone { V.alone services.new ≡ V.alone services.old }
+{
+    for index in 0..MOST_ATTEMPTS {
+        let Some(step) = player.ahead(scenario, index) else {
+            return Ok(None);
+        };
+        if let Some(reply) = services.attempt(player.who(), player.steps(), &step)? {
+            return Ok(Some((step, reply)));
+        }
+    }
+    Ok(None)
+}
+
+impl Player {
+    /// Makes the next step on these services: the first of its attempts that is possible.
+    ///
+    /// After want of memory it can be called again.
+    pub fn step<V: Services>(
+        &mut self,
+        scenario: &Scenario,
+        services: &mut V,
+    ) -> Result<Stepped, NoMemory>
+        // The services serve this player of this scenario, and show of it just its log.
+        requires valid { IsValid scenario.now }
+        requires machines { V.machines services.old ≡ machines_of scenario.now }
+        requires served { V.serves services.old self.old.who }
+        requires fits { FramesFit scenario.now.decls self.old.frames }
+        requires log { ShowsLog (V.shown services.old) self.old.who.number self.old.spots }
+        requires short { V.alone services.old ≡ true → AreShort (V.shown services.old) }
+
+        // What was done, by the answer.
+        ensures does { IfOk result (λ stepped.
+            Does (V.alone services.old) (V.machines services.old) scenario.now self.old self.new
+            (V.shown services.old) (V.shown services.new) (V.counts services.old) (V.counts services.new) stepped) }
+        ensures unchanged { OnErr result (self.new ≡ self.old) }
+        ensures err { OnErr result (Between (V.alone services.old) self.old.who.number (V.shown services.old) (V.shown services.new)) }
+
+        // After every answer it can be called again.
+        ensures log { ShowsLog (V.shown services.new) self.new.who.number self.new.spots }
+        ensures fits { FramesFit scenario.now.decls self.new.frames }
+        ensures machines { V.machines services.new ≡ V.machines services.old }
+        ensures serves { (who : Who) → V.serves services.old who → V.serves services.new who }
+        ensures alone { V.alone services.new ≡ V.alone services.old }
+    {
+        if self.is_spent() {
+            return Ok(Stepped::Spent);
+        }
+        if self.is_through() {
+            return Ok(Stepped::Ended);
+        }
+        match try_ahead(services, scenario, self)? {
+            Some((step, reply)) => {
+                self.made(scenario, step, reply);
+                Ok(Stepped::Did)
+            }
+            None => Ok(Stepped::NotYet),
+        }
+    }
+}

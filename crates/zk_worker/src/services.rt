@@ -1,0 +1,49 @@
+ghost use Rattle.std.specs.Prelude.{◌≡◌, ℕ, ◌<◌, Bool, true, None, IfOk};
+ghost use Rattle.zk_base.specs.declared.ids.Who.{Who};
+ghost use Rattle.zk_base.specs.Causes.{Rose};
+ghost use Rattle.zk_worker.specs.Machines.{Machines};
+ghost use Rattle.zk_worker.specs.Shown.{Shown, IsLater, AreShort};
+ghost use Rattle.zk_worker.specs.Attempt.{Counts, count_at, takes, NoneFell, Attempted};
+
+use crate::steps::MOST_STEPS;
+use crate::{Step, StepReply};
+use zk_base::{NoMemory, Who};
+
+/// The services of the kernel, as whoever plays on them sees them.
+pub trait Services {
+    /// The machines that the services are the services of. No call changes them.
+    ghost machines: { Self → Machines };
+
+    /// The players whom they serve. No call changes them.
+    ghost serves: { Self → Who → Type 0 };
+
+    /// Whether nobody else uses them meanwhile. No call changes that.
+    ghost alone: { Self → Bool };
+
+    /// The history that they show of each service.
+    ghost shown: { Self → Shown };
+
+    /// How many attempts were made at each service, as far as they are counted.
+    ghost counts: { Self → Counts };
+
+    /// One attempt of a step: its reply, or nothing where the machine says that it isn't possible.
+    ///
+    /// The number is that of the step among all steps of the player, at whatever service.
+    fn attempt(&mut self, who: Who, number: u32, step: &Step) -> Result<Option<StepReply>, NoMemory>
+        requires served { serves self.old who }
+        requires range { takes (machines self.old) step.now ≡ true }
+        requires number { number < MOST_STEPS }
+        requires later { IsLater (shown self.old) who.number number }
+        requires short { alone self.old ≡ true → AreShort (shown self.old) }
+
+        // The machine's reply at a history shown before, which has grown by others at most, and then one entry more.
+        ensures attempted { Attempted (alone self.old) (machines self.old) who number step.now (shown self.old) (shown self.new) result }
+
+        // The counts, with the one of an attempt that wasn't possible.
+        ensures counts { NoneFell (counts self.old) (counts self.new) }
+        ensures rose { IfOk result (λ reply. reply ≡ None → Rose (count_at (counts self.old) step.now) (count_at (counts self.new) step.now)) }
+
+        ensures machines { machines self.new ≡ machines self.old }
+        ensures serves { (other : Who) → serves self.old other → serves self.new other }
+        ensures alone { alone self.new ≡ alone self.old };
+}
