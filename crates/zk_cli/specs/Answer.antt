@@ -6,12 +6,12 @@ use Rattle.zk_scenario.specs.declared.refused.ScenarioRefused.{ScenarioRefused}
 use Rattle.zk_scenario.specs.declared.refused.ScenarioRefused.TheVariants as refusals
 use Rattle.zk_scenario.specs.Grammar.{scenario_of}
 use Rattle.zk_scenario.specs.Spelling.{text_of}
+use Rattle.zk_worker.specs.Machines.{work_start_of}
 use Rattle.zk_trace.specs.declared.trace.Trace.{Trace}
 use Rattle.zk_trace.specs.declared.trace.Ending.{Ending}
 use Rattle.zk_trace.specs.declared.trace.Ending.TheVariants as endings
 use Rattle.zk_trace.specs.Text.{trace_text}
 use Rattle.zk_replay.specs.Replay.{IsReplay}
-use Rattle.zk_worker.specs.Machines.{work_start_of}
 use Rattle.zk_replay.specs.Lawful.{IsLawful}
 use Rattle.zk_cli.specs.Kept.{KeepsLaws}
 use Rattle.zk_cli.specs.Refusal.{refusal_text}

@@ -1,5 +1,5 @@
 -- The world in which nothing was done.
-use Rattle.std.proofs.Common.{◌≡◌, ◌≢◌, ◌⊎◌, ℕ, zero, suc, ◌+◌, ◌<◌, ◌≤◌, false, Option, Some, None, option_to_list, List, [], ◌∷◌, ◌++◌, length, All, AllPairs, inl, inr, refl, sym, ap, ◌∙◌, arith, length-append}
+use Rattle.std.proofs.Common.{◌≡◌, ◌≢◌, ◌⊎◌, ℕ, zero, suc, ◌+◌, ◌≤◌, false, Option, Some, None, option_to_list, List, [], ◌∷◌, ◌++◌, length, All, AllPairs, inl, inr, refl, sym, ap, ◌∙◌, arith, length-append}
 use Rattle.std.specs.List.{slice_get, range_with_len}
 use Rattle.std.proofs.lemmas.Bool.Decides.{nat_tests}
 use Rattle.std.proofs.lemmas.List.Elements.{All-nil, All-cons, All-append, All-weaker}
@@ -14,6 +14,7 @@ use Rattle.zk_scenario.proofs.Tables.{length-places}
 use Rattle.zk_scenario.proofs.Valid.{length-players}
 use Rattle.zk_model_work.specs.declared.ops.WorkOp.{WorkOp}
 use Rattle.zk_model_work.specs.declared.ops.WorkReply.{WorkReply}
+use Rattle.zk_model_work.specs.State.{State}
 use Rattle.zk_model_work.specs.Machine.{work_machine}
 use Rattle.zk_worker.specs.declared.steps.Spot.{Spot}
 use Rattle.zk_worker.specs.declared.steps.TheConstants.{MOST_STEPS}
@@ -21,15 +22,14 @@ use Rattle.zk_worker.specs.Places.{At}
 use Rattle.zk_worker.specs.Protocol.{start_at}
 use Rattle.zk_worker.specs.Follows.{is_spent_at}
 use Rattle.zk_worker.specs.Ranges.{FramesFit}
+use Rattle.zk_worker.specs.Machines.{Machines, workers}
 use Rattle.zk_worker.proofs.Fits.{start_at-fits}
-use Rattle.zk_worker.specs.declared.steps.Step.TheVariants as steps
-use Rattle.zk_worker.proofs.Ranges.{takes-declared as steps-declared}
+use Rattle.zk_worker.proofs.Between.{log-none}
 use Rattle.zk_worker.proofs.Starts.{start_at-some, start_at-fresh, IsFresh}
-use Rattle.zk_replay.specs.RoundRobin.{starts, first, is_spent}
-use Rattle.zk_replay.specs.Ready.{IsReady, TakesDeclared}
-use Rattle.zk_replay.specs.Turning.{world}
-use Rattle.zk_worker.specs.Machines.{workers, work_start_of}
 use Rattle.zk_worker.proofs.Lists.{at-end}
+use Rattle.zk_replay.specs.RoundRobin.{starts, first, is_spent}
+use Rattle.zk_replay.specs.Ready.{IsReady}
+use Rattle.zk_replay.specs.Turning.{world}
 
 -- there are few threads and queues
 pub few-threads : (s : Parts) → IsValid s → length (places is_thread s.decls) ≤ 64
@@ -63,10 +63,6 @@ pub starts_more : (s : Parts) (n : ℕ) (at : At) → start_at s n ≡ Some at �
 starts_more s n at is =
     let next : suc n ≡ n + 1 = omega arith in
     ap (λ (o : Option At). starts s n ++ option_to_list o) (sym is) ∙ ap (starts s) next
-
--- the work service of a scenario takes all that is declared
-pub takes-declared : (s : Parts) → TakesDeclared work_machine (work_start_of s) s.decls
-takes-declared s = λ op fits. steps-declared s (steps.Work op) fits
 
 -- what holds of each player that starts holds of all
 starts-all : (P : At → Type 0) (s : Parts) → ((n : ℕ) (at : At) → start_at s n ≡ Some at → P at) → (n : ℕ) → All P (starts s n)
@@ -130,7 +126,7 @@ ready-first s valid =
     record {
       few = omega (arith, length-starts s n (omega arith), length-players s.decls, valid.players);
       numbers = numbers-starts s n (omega arith);
-      above = λ p at is. let P : Entry WorkOp WorkReply → Type 0 = λ e. e.who.number ≡ at.who.number → e.step < length at.spots in All-nil P;
+      shows = λ p at is. log-none at.who.number at.spots (start_at-fresh s p at (first-there s p at is)).none_made;
       short = All-weaker None_made Short (λ at le. omega arith) (starts s n) none;
       counted = omega (arith, sum_by-le count 0 (starts s n) none);
       fits = starts-all Fits s (λ k at is. start_at-fits s k at is) n;
@@ -154,3 +150,7 @@ few-workers s valid =
 -- nothing done, and the players as they start, are the first world
 pub world-first : (s : Parts) (work : List (Entry WorkOp WorkReply)) (made : List At) → work ≡ [] → made ≡ starts s (length (players s.decls)) → world work made ≡ first s
 world-first s work made none all = ap (λ (h : List (Entry WorkOp WorkReply)). world h made) none ∙ ap (world []) all
+
+-- the machines of services whose work service starts in this state
+abbrev pub machines_from : State → Machines
+machines_from start = record { work = work_machine; work_start = start }

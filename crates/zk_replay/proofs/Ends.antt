@@ -32,19 +32,19 @@ use Rattle.zk_worker.specs.declared.log.Log.{Log}
 use Rattle.zk_worker.specs.Places.{At}
 use Rattle.zk_worker.specs.Protocol.{attempts, frames_attempts, role_attempts, after}
 use Rattle.zk_worker.specs.Follows.{log_of, is_done, is_between, is_spent_at}
+use Rattle.zk_worker.specs.Machines.{work_start_of}
+use Rattle.zk_worker.proofs.Lists.{none-passes}
+use Rattle.zk_worker.proofs.Ranges.{same-lengths}
 use Rattle.zk_trace.specs.declared.trace.Ending.{Ending}
 use Rattle.zk_trace.specs.declared.trace.Ending.TheVariants.{Ended, Stuck, Spent}
 use Rattle.zk_trace.specs.declared.trace.Trace.{Trace}
 use Rattle.zk_replay.specs.RoundRobin.{World, or_else, first_possible, chosen, stepped, first, round, rounds, is_spent, IsRun}
 use Rattle.zk_replay.specs.Ready.{IsReady}
-use Rattle.zk_worker.specs.Machines.{work_start_of}
 use Rattle.zk_replay.specs.Replay.{all_done, none_waits, ending_of, IsReplay}
 use Rattle.zk_replay.specs.Ending.{ending_by}
 use Rattle.zk_replay.specs.Tending.{IsIdle, IsWorkers, Tends, IsTended}
-use Rattle.zk_worker.proofs.Lists.{none-passes}
 use Rattle.zk_replay.proofs.Readiness.{ready-stepped}
 use Rattle.zk_replay.proofs.Beginning.{ready-first, first-there, first-players}
-use Rattle.zk_worker.proofs.Ranges.{same-lengths}
 use Rattle.zk_replay.proofs.Machine.{none-waits-for}
 use Rattle.zk_replay.proofs.Tended.{tended-step, tended-first, worker-of, open-ahead}
 use Rattle.zk_replay.proofs.Still.{first_possible-made, rounds-keep, round-still}
@@ -69,7 +69,7 @@ good-step s w p at (steps.Work op, step_replies.Work reply place) good unspent i
     let ahead = open-ahead (nat_lt (length at.spots) MOST_STEPS) (frames_attempts s at.frames) made.place (steps.Work op) made.is_there in
     record {
       all_there = length-set w.players p (after s at (steps.Work op) (step_replies.Work reply place)) ∙ good.all_there;
-      ready = ready-stepped s w p at (steps.Work op, step_replies.Work reply place) good.ready is (none-passes is_spent_at w.players p at unspent is);
+      ready = ready-stepped work_machine (work_start_of s) s w p at (steps.Work op, step_replies.Work reply place) good.ready is (none-passes is_spent_at w.players p at unspent is) made.answered;
       state = work_next good.state at.who op;
       tended = tended-step s w good.state p at op reply place made.place good.tended is (good.ready.numbers p at is) ahead possible;
     }
@@ -181,15 +181,11 @@ Trace-same e e' h h' l l' ee eh el =
     (subst (λ (x : Ending). P (record { ending = x; work = h; logs = l })) ee refl))
 
 -- what the code hands out is the trace of the run
-pub replayed : (s : Parts) (start : State) (old w : World) (ending : Ending) (work : List (Entry WorkOp WorkReply)) (logs : List Log) → IsValid s →
-    start ≡ work_start_of s → old ≡ first s → (n : ℕ) → w ≡ rounds work_machine start s n old → round work_machine start s w ≡ w →
+pub replayed : (s : Parts) (old w : World) (ending : Ending) (work : List (Entry WorkOp WorkReply)) (logs : List Log) → IsValid s →
+    old ≡ first s → (n : ℕ) → w ≡ rounds work_machine (work_start_of s) s n old → round work_machine (work_start_of s) s w ≡ w →
     ending ≡ ending_by w.players → work ≡ w.work → logs ≡ map log_of w.players → IsReplay s (record { ending = ending; work = work; logs = logs })
-replayed s start old w ending work logs valid starts begins n so_far over end history log =
-    let run : IsRun work_machine (work_start_of s) s w = (
-      n,
-      so_far ∙ ap (λ (t : State). rounds work_machine t s n old) starts ∙ ap (rounds work_machine (work_start_of s) s n) begins,
-      subst (λ (t : State). round work_machine t s w ≡ w) starts over,
-    ) in
+replayed s old w ending work logs valid begins n so_far over end history log =
+    let run : IsRun work_machine (work_start_of s) s w = (n, so_far ∙ ap (rounds work_machine (work_start_of s) s n) begins, over) in
     (w, run, Trace-same ending (ending_of s w) work w.work logs (map log_of w.players) (end ∙ ending-is s w valid run) history log)
 
 -- each world that a run ends with is ready

@@ -20,13 +20,13 @@ use Rattle.zk_worker.specs.declared.steps.Spot.TheVariants as spots
 use Rattle.zk_worker.specs.Places.{At}
 use Rattle.zk_worker.specs.Protocol.{IsAhead, attempts, after, start_at}
 use Rattle.zk_worker.specs.Follows.{IsPlayed, made_at}
-use Rattle.zk_worker.proofs.Starts.{start_at-fresh}
-use Rattle.zk_worker.proofs.Made.{answered-at}
-use Rattle.zk_replay.specs.RoundRobin.{World, IsRun, chosen, first, stepped, is_spent}
 use Rattle.zk_worker.specs.Attempt.{answer_in}
 use Rattle.zk_worker.specs.Shown.{work_after}
 use Rattle.zk_worker.specs.Machines.{work_start_of}
+use Rattle.zk_worker.proofs.Starts.{start_at-fresh}
+use Rattle.zk_worker.proofs.Made.{answered-at}
 use Rattle.zk_worker.proofs.Lists.{slice_get-set, there-behind, known-longer}
+use Rattle.zk_replay.specs.RoundRobin.{World, IsRun, chosen, first, stepped, is_spent}
 use Rattle.zk_replay.proofs.Still.{first_possible-made, rounds-keep}
 use Rattle.zk_replay.proofs.Beginning.{first-there, first-players}
 

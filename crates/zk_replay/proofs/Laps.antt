@@ -11,14 +11,17 @@ use Rattle.zk_scenario.specs.Parts.{Parts}
 use Rattle.zk_worker.specs.declared.steps.Step.{Step}
 use Rattle.zk_worker.specs.declared.steps.StepReply.{StepReply}
 use Rattle.zk_worker.specs.Places.{At}
+use Rattle.zk_worker.specs.Protocol.{attempts}
+use Rattle.zk_worker.specs.Machines.{Machines}
 use Rattle.zk_worker.specs.Follows.{is_spent_at}
+use Rattle.zk_worker.proofs.Lists.{set-there, none-passes, any-set}
 use Rattle.zk_replay.specs.declared.turns.Turn.{Turn}
 use Rattle.zk_replay.specs.declared.turns.Course.{Course}
 use Rattle.zk_replay.specs.declared.turns.Course.TheVariants.{Still, Goes, Spent}
 use Rattle.zk_replay.specs.RoundRobin.{World, chosen, stepped, turn, turn_of, turns, round, rounds, is_spent}
 use Rattle.zk_replay.specs.Ready.{IsReady, all_left}
 use Rattle.zk_replay.specs.Turning.{world, history_with, at_after, Turned, Rounded, WithinRound}
-use Rattle.zk_worker.proofs.Lists.{set-there, none-passes, any-set}
+use Rattle.zk_replay.proofs.Still.{first_possible-made}
 use Rattle.zk_replay.proofs.Readiness.{ready-stepped, left-stepped}
 
 module _ {T : Type 0} (m : Machine T WorkOp WorkReply) (start : T) (s : Parts) where
@@ -45,7 +48,7 @@ module _ {T : Type 0} (m : Machine T WorkOp WorkReply) (start : T) (s : Parts) w
       let W : World → Type 0 = IsReady s in
       record {
         next = all ∙ ap (stepped s (world work players) p at) (sym choice) ∙ sym (turn-unspent (world work players) p at unspent is);
-        ready = subst W (sym all) (ready_after made);
+        ready = subst W (sym all) (ready_after made choice);
         spent = spent ∙ sym (any-set is_spent_at players p at' unspent (slice_get_within players p at is)) ∙ ap (λ (l : List At). is_spent (world work' l)) (sym written);
         moved = λ moves. subst (λ (w : World). all_left w.players < all_left players) (sym all) (less made (sym moved ∙ moves));
         still = λ rests. all ∙ same made (sym moved ∙ rests);
@@ -54,9 +57,10 @@ module _ {T : Type 0} (m : Machine T WorkOp WorkReply) (start : T) (s : Parts) w
       alone : is_spent_at at ≡ false
       alone = none-passes is_spent_at players p at unspent is
 
-      ready_after : (made : Option (Step × StepReply)) → IsReady s (stepped s (world work players) p at made)
-      ready_after None = ready
-      ready_after (Some made) = ready-stepped s (world work players) p at made ready is alone
+      ready_after : (made : Option (Step × StepReply)) → chosen m start s work at ≡ made → IsReady s (stepped s (world work players) p at made)
+      ready_after None choice = ready
+      ready_after (Some made) choice =
+          ready-stepped m start s (world work players) p at made ready is alone (first_possible-made m start work at.who (attempts s at) made choice).answered
 
       less : (made : Option (Step × StepReply)) → is_some made ≡ true → all_left (stepped s (world work players) p at made).players < all_left players
       less None moves = absurd (cc)
@@ -141,16 +145,15 @@ module _ {T : Type 0} (m : Machine T WorkOp WorkReply) (start : T) (s : Parts) w
   pub rounds-next : (first old new : World) (n : ℕ) → old ≡ rounds m start s n first → new ≡ round m start s old → new ≡ rounds m start s (suc n) first
   rounds-next first old new n so_far next = next ∙ ap (round m start s) so_far
 
--- what a turn leaves doesn't rest on how the first state is written
-pub turned-at : {T : Type 0} (m : Machine T WorkOp WorkReply) (s : Parts) (start start' : T) (old new : World) (p : ℕ) (told : Turn) → start ≡ start' →
-    Turned m start s old new p told → Turned m start' s old new p told
-turned-at {T} m s start start' old new p told same turned = subst (λ (t : T). Turned m t s old new p told) same turned
+-- what a turn leaves, by the machines of the services
+pub turned-at : (m m' : Machines) (s : Parts) (old new : World) (p : ℕ) (result : Result Turn NoMemory) → m ≡ m' →
+    IfOk result (λ told. Turned m.work m.work_start s old new p told) → IfOk result (λ told. Turned m'.work m'.work_start s old new p told)
+turned-at m m' s old new p result same turned = subst (λ (x : Machines). IfOk result (λ told. Turned x.work x.work_start s old new p told)) same turned
 
--- the same of a round, and of how its course is written
-pub rounded-at : {T : Type 0} (m : Machine T WorkOp WorkReply) (s : Parts) (start start' : T) (old new : World) (course course' : Course) → start ≡ start' → course ≡ course' →
-    Rounded m start s old new course → Rounded m start' s old new course'
-rounded-at {T} m s start start' old new course course' same told rounded =
-    subst (λ (t : T). Rounded m t s old new course') same (subst (λ (c : Course). Rounded m start s old new c) told rounded)
+-- what a round leaves doesn't rest on how its course is written
+pub rounded-at : {T : Type 0} (m : Machine T WorkOp WorkReply) (start : T) (s : Parts) (old new : World) (course course' : Course) → course ≡ course' →
+    Rounded m start s old new course → Rounded m start s old new course'
+rounded-at m start s old new course course' told rounded = subst (λ (c : Course). Rounded m start s old new c) told rounded
 
 -- the turns that are left in a round, one by one
 pub within-left : {T : Type 0} (m : Machine T WorkOp WorkReply) (start : T) (s : Parts) (old now : World) (moved : Bool) (k l p : ℕ) → k ≡ l →

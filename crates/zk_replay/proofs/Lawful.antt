@@ -11,6 +11,7 @@ use Rattle.zk_model_work.specs.declared.ops.WorkOp.{WorkOp}
 use Rattle.zk_model_work.specs.declared.ops.WorkReply.{WorkReply}
 use Rattle.zk_model_work.specs.Machine.{work_machine}
 use Rattle.zk_scenario.specs.Parts.{Parts}
+use Rattle.zk_scenario.specs.Valid.{IsValid}
 use Rattle.zk_worker.specs.declared.steps.TheConstants.{MOST_STEPS}
 use Rattle.zk_worker.specs.declared.steps.Step.{Step}
 use Rattle.zk_worker.specs.declared.steps.Step.TheVariants as steps
@@ -23,22 +24,21 @@ use Rattle.zk_worker.specs.declared.log.Log.{Log}
 use Rattle.zk_worker.specs.Places.{At}
 use Rattle.zk_worker.specs.Protocol.{attempts, after}
 use Rattle.zk_worker.specs.Follows.{log_of, made_at, is_done, is_spent_at, Follows}
+use Rattle.zk_worker.specs.Machines.{work_start_of}
+use Rattle.zk_worker.specs.Shown.{step_of}
 use Rattle.zk_worker.proofs.Numbers.{All-slice_get}
 use Rattle.zk_worker.proofs.Starts.{start_at-fresh}
-use Rattle.zk_scenario.specs.Valid.{IsValid}
+use Rattle.zk_worker.proofs.Lists.{or-first, slice_get-set, at-end, there-longer, there-behind, there-mapped, there-set, set-elsewhere, known-longer}
+use Rattle.zk_worker.proofs.Made.{answered-at}
 use Rattle.zk_trace.specs.declared.trace.Ending.TheVariants.{Ended, Stuck, Spent}
 use Rattle.zk_trace.specs.declared.trace.Trace.{Trace}
 use Rattle.zk_replay.specs.RoundRobin.{World, IsRun, chosen, first, stepped, is_spent}
 use Rattle.zk_replay.specs.Replay.{IsReplay, none_waits, all_done, ending_of, trace_of}
-use Rattle.zk_worker.specs.Machines.{work_start_of}
-use Rattle.zk_worker.specs.Shown.{step_of}
 use Rattle.zk_replay.specs.Lawful.{is_spent_state, is_done_state, lawful_ending, IsPlaced, IsLawful}
-use Rattle.zk_worker.proofs.Lists.{or-first, slice_get-set, at-end, there-longer, there-behind, there-mapped, there-set, set-elsewhere, known-longer}
 use Rattle.zk_replay.proofs.Still.{first_possible-made, rounds-keep}
 use Rattle.zk_replay.proofs.Beginning.{first-there}
 use Rattle.zk_replay.proofs.Ends.{run-ready}
 use Rattle.zk_replay.proofs.Following.{run-follows, run-players}
-use Rattle.zk_worker.proofs.Made.{answered-at}
 use Rattle.zk_replay.proofs.Once.{none_goes_on}
 
 -- each step of each player of a world is recorded in exactly one entry

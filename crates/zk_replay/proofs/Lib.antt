@@ -1,6 +1,7 @@
 pub mod Readiness
 pub mod Following
 pub mod Laps
+pub mod Choosing
 pub mod Beginning
 pub mod Ends
 pub mod Machine

@@ -6,8 +6,8 @@ use Rattle.zk_model_work.specs.declared.ops.WorkOp.{WorkOp}
 use Rattle.zk_model_work.specs.declared.ops.WorkReply.{WorkReply}
 use Rattle.zk_model_work.specs.Machine.{work_machine}
 use Rattle.zk_scenario.specs.Parts.{Parts}
-use Rattle.zk_replay.specs.RoundRobin.{World, first, round, rounds, IsRun}
 use Rattle.zk_worker.specs.Machines.{work_start_of}
+use Rattle.zk_replay.specs.RoundRobin.{World, first, round, rounds, IsRun}
 use Rattle.zk_replay.specs.Laws.{HasOneRun, NoneGoesOn}
 use Rattle.zk_replay.proofs.Still.{round-still}
 

@@ -1,17 +1,16 @@
 -- What a run keeps in each turn.
-use Rattle.std.proofs.Common.{◌≡◌, ◌≢◌, ◌⊎◌, ℕ, ◌+◌, ◌-◌, ◌*◌, ◌^◌, ◌<◌, ◌≤◌, true, false, Some, List, [], ◌∷◌, ◌++◌, length, set, All, inl, inr, refl, sym, ap, subst, ◌∙◌, arith, length-append}
+use Rattle.std.proofs.Common.{◌≡◌, ◌≢◌, ◌⊎◌, ℕ, ◌+◌, ◌-◌, ◌*◌, ◌^◌, ◌<◌, ◌≤◌, false, Some, List, [], ◌∷◌, ◌++◌, length, set, inl, inr, refl, sym, ap, subst, ◌∙◌, arith, length-append}
 use Rattle.std.specs.List.{slice_get, sum_by}
 use Rattle.std.proofs.lemmas.Bool.Decides.{nat_tests}
 use Rattle.std.proofs.lemmas.List.{length-set}
 use Rattle.std.proofs.lemmas.List.Sums.{sum_by-le}
-use Rattle.std.proofs.lemmas.List.Elements.{All-nil, All-cons, All-append, All-set, All-weaker}
+use Rattle.std.proofs.lemmas.List.Elements.{All-nil, All-cons, All-set}
 use Rattle.zk_base.specs.declared.ids.Entry.{Entry}
-use Rattle.zk_base.specs.History.{IsAbove, entry}
+use Rattle.zk_base.specs.History.{entry}
 use Rattle.zk_base.specs.Legal.{Machine}
 use Rattle.zk_model_work.specs.declared.ops.WorkOp.{WorkOp}
 use Rattle.zk_model_work.specs.declared.ops.WorkReply.{WorkReply}
 use Rattle.zk_scenario.specs.Parts.{Parts}
-use Rattle.zk_scenario.specs.Valid.{IsValid}
 use Rattle.zk_worker.specs.declared.steps.TheConstants.{MOST_STEPS}
 use Rattle.zk_worker.specs.declared.steps.Step.{Step}
 use Rattle.zk_worker.specs.declared.steps.Step.TheVariants as steps
@@ -20,14 +19,16 @@ use Rattle.zk_worker.specs.declared.steps.StepReply.TheVariants as step_replies
 use Rattle.zk_worker.specs.Places.{At}
 use Rattle.zk_worker.specs.Protocol.{after, spot_of}
 use Rattle.zk_worker.specs.Follows.{is_spent_at}
-use Rattle.zk_worker.specs.Ranges.{FramesFit, step_fits}
-use Rattle.zk_worker.proofs.Fits.{ahead-fits, after-fits}
+use Rattle.zk_worker.specs.Ranges.{FramesFit}
+use Rattle.zk_worker.specs.Attempt.{answer_in}
+use Rattle.zk_worker.specs.Shown.{work_after, shown_after, ShowsLog, OthersGrew}
+use Rattle.zk_worker.proofs.Fits.{after-fits}
+use Rattle.zk_worker.proofs.Between.{log-still}
+use Rattle.zk_worker.proofs.Made.{log-answered}
 use Rattle.zk_worker.proofs.Numbers.{All-slice_get}
-use Rattle.zk_replay.specs.RoundRobin.{World, stepped}
-use Rattle.zk_worker.specs.Shown.{work_after}
-use Rattle.zk_replay.specs.Ready.{IsReady, TakesDeclared, left, all_left}
-use Rattle.zk_replay.specs.Turning.{RangeOf, AreTaken, world}
 use Rattle.zk_worker.proofs.Lists.{slice_get-set, sum-set}
+use Rattle.zk_replay.specs.RoundRobin.{World, stepped}
+use Rattle.zk_replay.specs.Ready.{IsReady, shown_in, left, all_left}
 
 -- a history is shorter than a history may be
 pub short-work : (s : Parts) (w : World) → IsReady s w → length w.work < 2 ^ 32 - 1
@@ -35,16 +36,6 @@ short-work s w ready =
     let count : At → ℕ = λ at. length at.spots in
     let most : sum_by count w.players ≤ length w.players * MOST_STEPS = sum_by-le count MOST_STEPS w.players ready.short in
     omega (arith, ready.few, ready.counted, most)
-
-range-of : {T : Type 0} (m : Machine T WorkOp WorkReply) (start : T) (s : Parts) (step : Step) → TakesDeclared m start s.decls → step_fits s.decls step ≡ true → RangeOf m start step
-range-of m start s (steps.Work op) takes fits = takes op fits
-
--- the attempts of each player are in range
-pub attempts-taken : {T : Type 0} (m : Machine T WorkOp WorkReply) (start : T) (s : Parts) (w : World) (p : ℕ) (at : At) →
-    IsValid s → TakesDeclared m start s.decls → IsReady s w → slice_get w.players p ≡ Some at → AreTaken m start s at
-attempts-taken m start s w p at valid takes ready is =
-    let P : At → Type 0 = λ at. FramesFit s.decls at.frames in
-    λ step ahead. range-of m start s step takes (ahead-fits s at step valid (All-slice_get P w.players p at is ready.fits) ahead)
 
 unspent-short : (at : At) → is_spent_at at ≡ false → length at.spots < MOST_STEPS
 unspent-short at is = grind (arith, nat_tests)
@@ -67,26 +58,27 @@ after-one s at step reply = record {
   fits = after-fits s at step reply;
 }
 
-above-after : (s : Parts) (w : World) (p : ℕ) (at at' : At) (e : Entry WorkOp WorkReply) → IsReady s w → slice_get w.players p ≡ Some at → IsOneMore s at at' →
-    e.who.number ≡ at.who.number → e.step ≡ length at.spots →
-    (q : ℕ) (other : At) → slice_get (set w.players p at') q ≡ Some other → IsAbove (w.work ++ e ∷ []) other.who.number (length other.spots)
-above-after s w p at at' e ready is more number step q other found = by_place (slice_get-set w.players p q at' other found)
-  where
-    by_place : ((q ≡ p) × (other ≡ at')) ⊎ ((q ≢ p) × (slice_get w.players q ≡ Some other)) → IsAbove (w.work ++ e ∷ []) other.who.number (length other.spots)
-    by_place (inl same) =
-        let Old : Entry WorkOp WorkReply → Type 0 = λ f. f.who.number ≡ at.who.number → f.step < length at.spots in
-        let New : Entry WorkOp WorkReply → Type 0 = λ f. f.who.number ≡ at'.who.number → f.step < length at'.spots in
-        let who = ap (λ w. w.number) more.who in
-        let count = more.count in
-        let before : All New w.work = All-weaker Old New (λ f less. λ mine. omega (arith, less (mine ∙ who))) w.work (ready.above p at is) in
-        let here : All New (e ∷ []) = All-cons New e [] (λ mine. omega arith) (All-nil New) in
-        subst (λ (o : At). IsAbove (w.work ++ e ∷ []) o.who.number (length o.spots)) (sym same.1) (All-append New w.work (e ∷ []) before here)
-    by_place (inr apart) =
-        let Same : Entry WorkOp WorkReply → Type 0 = λ f. f.who.number ≡ other.who.number → f.step < length other.spots in
-        let mine = ready.numbers p at is in
-        let theirs = ready.numbers q other apart.1 in
-        let here : All Same (e ∷ []) = All-cons Same e [] (λ same. absurd (apart.0 (sym theirs ∙ sym same ∙ number ∙ mine))) (All-nil Same) in
-        All-append Same w.work (e ∷ []) (ready.above q other apart.1) here
+module _ {T : Type 0} (m : Machine T WorkOp WorkReply) (start : T) where
+  shows-after : (s : Parts) (w : World) (p : ℕ) (at : At) (step : Step) (reply : StepReply) → IsReady s w → slice_get w.players p ≡ Some at → answer_in m start w.work at.who step ≡ Some reply →
+      (q : ℕ) (other : At) → slice_get (set w.players p (after s at step reply)) q ≡ Some other →
+      ShowsLog (shown_after (shown_in w) at.who (length at.spots) step reply) other.who.number other.spots
+  shows-after s w p at step reply ready is answered q other found = by_place (slice_get-set w.players p q (after s at step reply) other found)
+    where
+      by_others : (q ≢ p) → slice_get w.players q ≡ Some other → OthersGrew other.who.number w.work (work_after w.work at.who (length at.spots) step reply)
+      by_others apart there =
+          let e = work_after-is w.work at step reply in
+          let P : Entry WorkOp WorkReply → Type 0 = λ f. f.who.number ≢ other.who.number in
+          let differ : e.0.who.number ≢ other.who.number = λ same. apart (sym (ready.numbers q other there) ∙ sym same ∙ e.1 ∙ ready.numbers p at is) in
+          record { more = e.0 ∷ []; longer = e.3; others = All-cons P e.0 [] differ (All-nil P) }
+
+      by_place : ((q ≡ p) × (other ≡ after s at step reply)) ⊎ ((q ≢ p) × (slice_get w.players q ≡ Some other)) →
+          ShowsLog (shown_after (shown_in w) at.who (length at.spots) step reply) other.who.number other.spots
+      by_place (inl same) =
+          subst (λ (o : At). ShowsLog (shown_after (shown_in w) at.who (length at.spots) step reply) o.who.number o.spots) (sym same.1)
+          (log-answered m start (shown_in w) at.who at.spots step reply (ready.shows p at is) answered)
+      by_place (inr apart) =
+          log-still false other.who.number other.spots (shown_in w) (shown_after (shown_in w) at.who (length at.spots) step reply)
+          (ready.shows q other apart.1) (by_others apart.0 apart.1)
 
 numbers-after : (s : Parts) (w : World) (p : ℕ) (at at' : At) → IsReady s w → slice_get w.players p ≡ Some at → IsOneMore s at at' →
     (q : ℕ) (other : At) → slice_get (set w.players p at') q ≡ Some other → other.who.number ≡ q
@@ -96,25 +88,25 @@ numbers-after s w p at at' ready is more q other found = by_place (slice_get-set
     by_place (inl same) = ap (λ (o : At). o.who.number) same.1 ∙ ap (λ w. w.number) more.who ∙ ready.numbers p at is ∙ sym same.0
     by_place (inr apart) = ready.numbers q other apart.1
 
--- a world that is ready is so after a step of a player that has steps left
-pub ready-stepped : (s : Parts) (w : World) (p : ℕ) (at : At) (made : Step × StepReply) → IsReady s w → slice_get w.players p ≡ Some at → is_spent_at at ≡ false →
-    IsReady s (stepped s w p at (Some made))
-ready-stepped s w p at made ready is unspent =
+-- a world that is ready is so after a step of a player that has steps left, if the machine answers it
+pub ready-stepped : {T : Type 0} (m : Machine T WorkOp WorkReply) (start : T) (s : Parts) (w : World) (p : ℕ) (at : At) (made : Step × StepReply) → IsReady s w → slice_get w.players p ≡ Some at →
+    is_spent_at at ≡ false → answer_in m start w.work at.who made.0 ≡ Some made.1 → IsReady s (stepped s w p at (Some made))
+ready-stepped m start s w p at made ready is unspent answered =
     let at' = after s at made.0 made.1 in
     let more = after-one s at made.0 made.1 in
     let e = work_after-is w.work at made.0 made.1 in
+    let long = ap (λ (h : List (Entry WorkOp WorkReply)). length h) e.3 in
     let count : At → ℕ = λ at. length at.spots in
     let Short : At → Type 0 = λ at. length at.spots ≤ MOST_STEPS in
     let Fits : At → Type 0 = λ at. FramesFit s.decls at.frames in
-    let there : IsReady s (world (w.work ++ e.0 ∷ []) (set w.players p at')) = record {
+    record {
       few = omega (arith, length-set w.players p at', ready.few);
       numbers = numbers-after s w p at at' ready is more;
-      above = above-after s w p at at' e.0 ready is more e.1 e.2;
+      shows = shows-after m start s w p at made.0 made.1 ready is answered;
       short = All-set Short w.players p at' (omega (arith, more.count, unspent-short at unspent)) ready.short;
-      counted = omega (arith, length-append w.work (e.0 ∷ []), ready.counted, sum-set count w.players p at at' is, more.count);
+      counted = omega (arith, long, length-append w.work (e.0 ∷ []), ready.counted, sum-set count w.players p at at' is, more.count);
       fits = All-set Fits w.players p at' (more.fits (All-slice_get Fits w.players p at is ready.fits)) ready.fits;
-    } in
-    subst (λ (work : List (Entry WorkOp WorkReply)). IsReady s (world work (set w.players p at'))) (sym e.3) there
+    }
 
 -- a step leaves fewer steps
 pub left-stepped : (s : Parts) (w : World) (p : ℕ) (at : At) (made : Step × StepReply) → slice_get w.players p ≡ Some at → is_spent_at at ≡ false →

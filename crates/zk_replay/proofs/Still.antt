@@ -13,9 +13,9 @@ use Rattle.zk_worker.specs.declared.steps.Step.TheVariants as steps
 use Rattle.zk_worker.specs.declared.steps.StepReply.{StepReply}
 use Rattle.zk_worker.specs.declared.steps.StepReply.TheVariants as step_replies
 use Rattle.zk_worker.specs.Places.{At}
-use Rattle.zk_replay.specs.RoundRobin.{World, or_else, first_possible, chosen, stepped, turn, turn_of, turns, round, rounds, is_spent}
 use Rattle.zk_worker.specs.Attempt.{answer_in}
 use Rattle.zk_worker.specs.Shown.{work_after}
+use Rattle.zk_replay.specs.RoundRobin.{World, or_else, first_possible, chosen, stepped, turn, turn_of, turns, round, rounds, is_spent}
 
 -- a step that is made is one of the attempts, and was answered so
 pub record IsMade {T : Type 0} (m : Machine T WorkOp WorkReply) (start : T) (work : List (Entry WorkOp WorkReply)) (who : Who) (ahead : List Step) (made : Step × StepReply) : Type 0 where

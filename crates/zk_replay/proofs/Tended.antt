@@ -37,10 +37,10 @@ use Rattle.zk_worker.specs.declared.frames.Form.TheVariants.{One}
 use Rattle.zk_worker.specs.Calls.{form_attempts}
 use Rattle.zk_worker.specs.Places.{At}
 use Rattle.zk_worker.specs.Protocol.{call_attempts, frames_attempts, frames_progress, frames_after, call_progress, run_progress, is_over, settled, entered, first_frame, starting, start_at, after}
-use Rattle.zk_replay.specs.RoundRobin.{World, starts, first, stepped}
 use Rattle.zk_worker.specs.Machines.{workers, work_start_of, is_on}
-use Rattle.zk_replay.specs.Tending.{IsIdle, IsWorkers, IsScript, Tends, IsTended}
 use Rattle.zk_worker.proofs.Lists.{slice_get-set}
+use Rattle.zk_replay.specs.RoundRobin.{World, starts, first, stepped}
+use Rattle.zk_replay.specs.Tending.{IsIdle, IsWorkers, IsScript, Tends, IsTended}
 use Rattle.zk_replay.proofs.Machine.{IsCalled, idle-called, idle-ended, idle-next, begin-told, homes-next, workers-next}
 
 workers-keep : (ds : List Decl) (queue : ℕ) (role : Role) (stage : Stage) (old new : List Admission) → (IsIdle queue old → IsIdle queue new) →

@@ -14,11 +14,11 @@ use Rattle.zk_worker.specs.declared.log.PlayerState.TheVariants as states
 use Rattle.zk_worker.specs.declared.log.Log.{Log}
 use Rattle.zk_worker.specs.Follows.{Follows}
 use Rattle.zk_worker.specs.Shown.{step_of}
+use Rattle.zk_worker.specs.Machines.{work_start_of}
 use Rattle.zk_trace.specs.declared.trace.Ending.{Ending}
 use Rattle.zk_trace.specs.declared.trace.Ending.TheVariants.{Ended, Stuck, Spent}
 use Rattle.zk_trace.specs.declared.trace.Trace.{Trace}
 use Rattle.zk_replay.specs.RoundRobin.{chosen}
-use Rattle.zk_worker.specs.Machines.{work_start_of}
 use Rattle.zk_replay.specs.Replay.{none_waits}
 
 -- each step of each player is recorded in exactly one entry

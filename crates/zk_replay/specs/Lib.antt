@@ -1,3 +1,4 @@
+pub mod Alone
 pub mod RoundRobin
 pub mod Ready
 pub mod Turning

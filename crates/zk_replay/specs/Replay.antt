@@ -7,10 +7,10 @@ use Rattle.zk_model_work.specs.State.{State}
 use Rattle.zk_model_work.specs.Machine.{work_machine}
 use Rattle.zk_worker.specs.Places.{At}
 use Rattle.zk_worker.specs.Follows.{is_done, log_of}
+use Rattle.zk_worker.specs.Machines.{work_start_of}
 use Rattle.zk_trace.specs.declared.trace.Ending.{Ending}
 use Rattle.zk_trace.specs.declared.trace.Ending.TheVariants.{Ended, Stuck, Spent}
 use Rattle.zk_trace.specs.declared.trace.Trace.{Trace}
-use Rattle.zk_worker.specs.Machines.{work_start_of}
 use Rattle.zk_replay.specs.RoundRobin.{World, IsRun, is_spent}
 
 -- no admission waits

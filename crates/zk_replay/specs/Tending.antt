@@ -13,8 +13,8 @@ use Rattle.zk_worker.specs.declared.frames.Role.TheVariants.{Script, Worker}
 use Rattle.zk_worker.specs.declared.frames.Stage.{Stage}
 use Rattle.zk_worker.specs.declared.frames.Stage.TheVariants.{Start, Runs}
 use Rattle.zk_worker.specs.Places.{At}
-use Rattle.zk_replay.specs.RoundRobin.{World}
 use Rattle.zk_worker.specs.Machines.{workers, work_start_of}
+use Rattle.zk_replay.specs.RoundRobin.{World}
 
 -- the queue runs nothing
 abbrev pub IsIdle : ℕ → List Admission → Type 0

@@ -6,21 +6,18 @@ use Rattle.zk_scenario.specs.Parts.{Parts}
 use Rattle.zk_model_work.specs.declared.ops.WorkOp.{WorkOp}
 use Rattle.zk_model_work.specs.declared.ops.WorkReply.{WorkReply}
 use Rattle.zk_worker.specs.declared.steps.Step.{Step}
-use Rattle.zk_worker.specs.declared.steps.Step.TheVariants as steps
 use Rattle.zk_worker.specs.declared.steps.StepReply.{StepReply}
+use Rattle.zk_worker.specs.declared.playing.Stepped.{Stepped}
+use Rattle.zk_worker.specs.declared.playing.Stepped.TheVariants as stepped
 use Rattle.zk_worker.specs.Places.{At}
-use Rattle.zk_worker.specs.Protocol.{IsAhead, after}
+use Rattle.zk_worker.specs.Protocol.{after}
+use Rattle.zk_worker.specs.Machines.{Machines, machines_of}
+use Rattle.zk_worker.specs.Shown.{work_after}
 use Rattle.zk_replay.specs.declared.turns.Turn.{Turn}
 use Rattle.zk_replay.specs.declared.turns.Course.{Course}
 use Rattle.zk_replay.specs.declared.turns.Course.TheVariants.{Still, Goes, Spent}
 use Rattle.zk_replay.specs.RoundRobin.{World, turn, turns, round, is_spent}
-use Rattle.zk_worker.specs.Shown.{work_after}
 use Rattle.zk_replay.specs.Ready.{IsReady, all_left}
-
--- the history after an attempt: with the entry of the step where there was a reply
-abbrev pub history_after : List (Entry WorkOp WorkReply) → Who → ℕ → Step → Option StepReply → List (Entry WorkOp WorkReply)
-history_after work who number step None = work
-history_after work who number step (Some reply) = work_after work who number step reply
 
 -- the history after a turn
 abbrev pub history_with : List (Entry WorkOp WorkReply) → Who → ℕ → Option (Step × StepReply) → List (Entry WorkOp WorkReply)
@@ -32,13 +29,16 @@ abbrev pub at_after : Parts → At → Option (Step × StepReply) → At
 at_after s at None = at
 at_after s at (Some made) = after s at made.0 made.1
 
--- the ids in a step are in range at its service
-abbrev pub RangeOf : {T : Type 0} → Machine T WorkOp WorkReply → T → Step → Type 0
-RangeOf m start (steps.Work op) = m.in_range start op ≡ true
+-- whether a step was made
+abbrev pub did : Stepped → Bool
+did stepped.Did = true
+did answer = false
 
--- the ids in each attempt of a player are in range
-abbrev pub AreTaken : {T : Type 0} → Machine T WorkOp WorkReply → T → Parts → At → Type 0
-AreTaken m start s at = (step : Step) → IsAhead s at step → RangeOf m start step
+-- the services of this scenario, which serve all its players, and which nobody else uses
+pub record IsAlone (alone : Bool) (m : Machines) (s : Parts) (serves : Who → Type 0) : Type 0 where
+  pub is_alone : alone ≡ true
+  pub machines : m ≡ machines_of s
+  pub serves_all : (who : Who) → serves who
 
 -- this history and these players
 abbrev pub world : List (Entry WorkOp WorkReply) → List At → World

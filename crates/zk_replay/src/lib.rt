@@ -2,6 +2,7 @@
 #![tactic(auto)]
 
 mod laws;
+mod plain;
 mod run;
 mod turns;
 

@@ -4,15 +4,16 @@ ghost use Rattle.zk_scenario.specs.Players.{places, players, is_queue};
 ghost use Rattle.zk_scenario.specs.Valid.{IsValid};
 ghost use Rattle.zk_work.specs.Seen.{work_start, work_history};
 ghost use Rattle.zk_worker.specs.Follows.{log_of, is_spent_at};
-ghost use Rattle.zk_replay.specs.RoundRobin.{starts};
 ghost use Rattle.zk_worker.specs.Machines.{workers, is_on, work_start_of};
+ghost use Rattle.zk_replay.specs.RoundRobin.{starts};
 ghost use Rattle.zk_replay.specs.Replay.{all_done, IsReplay};
 ghost use Rattle.zk_replay.specs.Ending.{ending_by};
 ghost use Rattle.zk_replay.specs.Lawful.{IsLawful};
 
+use crate::plain::Plain;
 use crate::turns::play_rounds;
 use std::alloc::Global;
-use zk_base::{NoMemory, Service};
+use zk_base::NoMemory;
 use zk_scenario::{Decl, Scenario};
 use zk_trace::{Ending, History, Logs, Trace};
 use zk_work::Work;
@@ -119,14 +120,15 @@ pub fn replay(alloc: Global, scenario: &Scenario) -> Result<Trace, NoMemory>
     ensures replay { IfOk result (λ trace. IsReplay scenario.now trace) }
     ensures lawful { IfOk result (λ trace. IsLawful scenario.now trace) }
 {
-    let mut work = first_work(alloc, scenario)?;
+    let work = first_work(alloc, scenario)?;
+    let mut services = Plain::new(work);
     let mut players = first_players(alloc, scenario)?;
-    play_rounds(&mut work, scenario, &mut players)?;
+    play_rounds(&mut services, scenario, &mut players)?;
     let ending = ending_of(&players);
     let logs = logs_of(alloc, players)?;
     Ok(Trace {
         ending,
-        work: History::from_vec(work.into_history()),
+        work: History::from_vec(services.into_work()),
         logs,
     })
 }

@@ -1,11 +1,12 @@
 -- What comes between two moments beside the steps of a player.
-use Rattle.std.proofs.Common.{◌≡◌, ◌≢◌, ◌⊎◌, inl, inr, ℕ, ◌+◌, Bool, true, false, Some, List, [], ◌++◌, length, refl, sym, ap, subst, ◌∙◌}
+use Rattle.std.proofs.Common.{◌≡◌, ◌≢◌, ◌⊎◌, ◌∷◌, inl, inr, ℕ, suc, ◌+◌, ◌<◌, Bool, true, false, Some, List, [], ◌++◌, length, refl, sym, ap, subst, ◌∙◌}
 use Rattle.std.specs.List.{slice_get}
 use Rattle.std.specs.Option.{option_map}
-use Rattle.std.proofs.lemmas.List.Elements.{All-nil, All-append}
+use Rattle.std.proofs.lemmas.List.Elements.{All-nil, All-cons, All-append}
 use Rattle.std.proofs.lemmas.List.{append-nil, append_assoc}
 use Rattle.std.proofs.lemmas.Option.{slice_get_within}
 use Rattle.zk_base.specs.declared.ids.Entry.{Entry}
+use Rattle.zk_base.specs.History.{IsAbove}
 use Rattle.zk_model_work.specs.declared.ops.WorkOp.{WorkOp}
 use Rattle.zk_model_work.specs.declared.ops.WorkReply.{WorkReply}
 use Rattle.zk_worker.specs.declared.steps.Spot.{Spot}
@@ -66,3 +67,21 @@ log-still false number log old new shows grew = record {
 -- the next step of a log is above all that are shown of its player
 pub log-later : (number : ℕ) (log : List Spot) (shown : Shown) → ShowsLog shown number log → IsLater shown number (length log)
 log-later number log shown shows = λ step spot is. slice_get_within log step spot (shows.no_other step spot is)
+
+-- no step is shown where none was made
+pub log-none : (number : ℕ) (log : List Spot) → log ≡ [] → ShowsLog (record { work = [] }) number log
+log-none number [] none = record { each = λ step spot is. absurd (cc); no_other = λ step spot is. absurd (nothing_there step spot is) }
+  where
+    nothing_there : (step : ℕ) (spot : Spot) → shown_at (record { work = [] }) spot ≡ Some (number, step) → ⊥
+    nothing_there step (spots.Work place) is = cc
+log-none number (spot ∷ log) none = absurd (cc)
+
+above-all : (h : List (Entry WorkOp WorkReply)) (number next : ℕ) → ((place step : ℕ) → option_map step_of (slice_get h place) ≡ Some (number, step) → step < next) → IsAbove h number next
+above-all [] number next each = let P : Entry WorkOp WorkReply → Type 0 = λ e. e.who.number ≡ number → e.step < next in All-nil P
+above-all (e ∷ h) number next each =
+    let P : Entry WorkOp WorkReply → Type 0 = λ e. e.who.number ≡ number → e.step < next in
+    All-cons P e h (λ mine. each 0 e.step (ap (λ (n : ℕ). Some (n, e.step)) mine)) (above-all h number next (λ place step is. each (suc place) step is))
+
+-- a step above all that are shown of its player is above those of its entries at the work service
+pub above-work : (shown : Shown) (number next : ℕ) → IsLater shown number next → IsAbove shown.work number next
+above-work shown number next later = above-all shown.work number next (λ place step is. later step (spots.Work place) is)

@@ -5,7 +5,7 @@ use Rattle.std.specs.Option.{option_map}
 use Rattle.zk_base.specs.declared.ids.Who.{Who}
 use Rattle.zk_base.specs.declared.ids.Entry.{Entry}
 use Rattle.zk_base.specs.History.{entry}
-use Rattle.zk_base.specs.Legal.{state_after}
+use Rattle.zk_base.specs.Legal.{Machine, state_after}
 use Rattle.zk_scenario.specs.Parts.{Parts}
 use Rattle.zk_model_work.specs.declared.ops.WorkOp.{WorkOp}
 use Rattle.zk_model_work.specs.declared.ops.WorkReply.{WorkReply}
@@ -19,7 +19,7 @@ use Rattle.zk_worker.specs.Places.{At}
 use Rattle.zk_worker.specs.Protocol.{after, spot_of}
 use Rattle.zk_worker.specs.Machines.{Machines}
 use Rattle.zk_worker.specs.Shown.{Shown, step_of, shown_at, shown_after, ShowsLog}
-use Rattle.zk_worker.specs.Attempt.{reply_in, IsMade}
+use Rattle.zk_worker.specs.Attempt.{answer_in, IsMade}
 use Rattle.zk_worker.proofs.Lists.{at-end, there-longer, there-behind, known-longer, known-end}
 use Rattle.zk_worker.proofs.Between.{log-still}
 
@@ -65,11 +65,11 @@ module _ (shown : Shown) (who : Who) (log : List Spot) (op : WorkOp) (reply : Wo
   work-made : ShowsLog longer who.number (log ++ spot ∷ [])
   work-made = record { each = each-step; no_other = no-other-step }
 
--- the log with a step that was answered is shown with its entry
-pub log-made : (m : Machines) (shown : Shown) (who : Who) (log : List Spot) (step : Step) (reply : StepReply) → ShowsLog shown who.number log →
-    reply_in m shown who step ≡ Some reply → ShowsLog (shown_after shown who (length log) step reply) who.number (log ++ spot_of step reply ∷ [])
-log-made m shown who log (steps.Work op) (step_replies.Work reply place) shows replied =
-    let behind = answered-at (m.work.reply_of (state_after m.work m.work_start shown.work) who op) (length shown.work) reply place replied in
+-- the log with a step that the machine answers is shown with its entry
+pub log-answered : {T : Type 0} (m : Machine T WorkOp WorkReply) (start : T) (shown : Shown) (who : Who) (log : List Spot) (step : Step) (reply : StepReply) → ShowsLog shown who.number log →
+    answer_in m start shown.work who step ≡ Some reply → ShowsLog (shown_after shown who (length log) step reply) who.number (log ++ spot_of step reply ∷ [])
+log-answered m start shown who log (steps.Work op) (step_replies.Work reply place) shows answered =
+    let behind = answered-at (m.reply_of (state_after m start shown.work) who op) (length shown.work) reply place answered in
     subst (λ (p : ℕ). ShowsLog (shown_after shown who (length log) (steps.Work op) (step_replies.Work reply place)) who.number (log ++ spots.Work p ∷ [])) behind
     (work-made shown who log op reply shows)
 
@@ -79,4 +79,4 @@ pub log-stepped : (alone : Bool) (m : Machines) (s : Parts) (at at' : At) (step 
 log-stepped alone m s at at' step reply old new shows made next =
     let found = log-still alone at.who.number at.spots old made.found shows made.since in
     subst (λ (a : At). ShowsLog new a.who.number a.spots) (sym next)
-    (subst (λ (x : Shown). ShowsLog x at.who.number (at.spots ++ spot_of step reply ∷ [])) (sym made.shown) (log-made m made.found at.who at.spots step reply found made.replied))
+    (subst (λ (x : Shown). ShowsLog x at.who.number (at.spots ++ spot_of step reply ∷ [])) (sym made.shown) (log-answered m.work m.work_start made.found at.who at.spots step reply found made.replied))

@@ -2,8 +2,8 @@ use Rattle.std.proofs.Common.{◌≡◌, ◌≢◌, ◌∙◌, Bool, List, ℕ, 
 use Rattle.zk_scenario.specs.declared.types.Decl.{Decl}
 use Rattle.zk_scenario.specs.Players.{places, is_thread, is_queue}
 use Rattle.zk_worker.specs.Machines.{is_on}
-use Rattle.zk_replay.proofs.Beginning.{few-items, range_differs, few-workers}
 use Rattle.zk_worker.proofs.Ranges.{same-lengths}
+use Rattle.zk_replay.proofs.Beginning.{few-items, range_differs, few-workers}
 use Rattle.zk_replay.proofs.run.first_work.Goals as goal
 
 pub overflow_cast-items : goal.overflow_cast-items

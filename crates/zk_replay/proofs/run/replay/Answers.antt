@@ -1,52 +1,56 @@
-use Rattle.std.proofs.Common.{◌≡◌, false, List, ap, sym, subst, ◌∙◌}
+use Rattle.std.proofs.Common.{◌≡◌, false, List, refl, ap, sym, subst, ◌∙◌}
 use Rattle.zk_base.specs.declared.ids.Entry.{Entry}
 use Rattle.zk_base.specs.Legal.{IsLegal}
 use Rattle.zk_model_work.specs.declared.ops.WorkOp.{WorkOp}
 use Rattle.zk_model_work.specs.declared.ops.WorkReply.{WorkReply}
-use Rattle.zk_model_work.specs.State.{State}
 use Rattle.zk_model_work.specs.Machine.{work_machine}
-use Rattle.zk_work.specs.Seen.{work_start, work_history}
+use Rattle.zk_worker.specs.Machines.{Machines}
+use Rattle.zk_replay.specs.Alone.{plain_machines, plain_shown}
 use Rattle.zk_replay.specs.RoundRobin.{World, is_spent}
-use Rattle.zk_replay.specs.Ready.{IsReady, TakesDeclared}
+use Rattle.zk_replay.specs.Ready.{IsReady}
 use Rattle.zk_replay.specs.Turning.{world}
 use Rattle.zk_replay.specs.Ending.{ending_by}
-use Rattle.zk_replay.proofs.Beginning.{ready-first, unspent-first, takes-declared, world-first}
+use Rattle.zk_replay.proofs.Beginning.{ready-first, unspent-first, world-first, machines_from}
 use Rattle.zk_replay.proofs.Ends.{replayed}
 use Rattle.zk_replay.proofs.Lawful.{lawful}
 use Rattle.zk_replay.proofs.run.replay.Goals as goal
 
-pub play_rounds-requires-clause-takes : goal.play_rounds-requires-clause-takes
-play_rounds-requires-clause-takes c =
-    let s = c.args.scenario.now in
-    subst (λ (t : State). TakesDeclared work_machine t s.decls) (sym c.in_ok-work.ensures.start) (takes-declared s)
+pub play_rounds-requires-clause-alone : goal.play_rounds-requires-clause-alone
+play_rounds-requires-clause-alone c = record {
+  is_alone = refl;
+  machines = ap machines_from (c.new-services.ensures.start ∙ c.in_ok-work.ensures.start);
+  serves_all = λ who. tt;
+}
 
 pub play_rounds-requires-clause-ready : goal.play_rounds-requires-clause-ready
 play_rounds-requires-clause-ready c =
     let s = c.args.scenario.now in
-    subst (λ (w : World). IsReady s w) (sym (world-first s (work_history c.in_ok-work.work) c.in_ok-players.players.items c.in_ok-work.ensures.none c.in_ok-players.ensures))
+    subst (λ (w : World). IsReady s w)
+    (sym (world-first s (plain_shown c.new-services.result).work c.in_ok-players.players.items (c.new-services.ensures.history ∙ c.in_ok-work.ensures.none) c.in_ok-players.ensures))
     (ready-first s c.first_work.ensures.valid)
 
 pub play_rounds-requires-clause-unspent : goal.play_rounds-requires-clause-unspent
 play_rounds-requires-clause-unspent c =
     let s = c.args.scenario.now in
-    subst (λ (w : World). is_spent w ≡ false) (sym (world-first s (work_history c.in_ok-work.work) c.in_ok-players.players.items c.in_ok-work.ensures.none c.in_ok-players.ensures))
+    subst (λ (w : World). is_spent w ≡ false)
+    (sym (world-first s (plain_shown c.new-services.result).work c.in_ok-players.players.items (c.new-services.ensures.history ∙ c.in_ok-work.ensures.none) c.in_ok-players.ensures))
     (unspent-first s)
 
 pub returns-clause-replay : goal.returns-clause-replay
 returns-clause-replay c =
     let s = c.args.scenario.now in
-    let old = world (work_history c.in_ok-work.work) c.in_ok-players.players.items in
-    let new = world (work_history c.play_rounds.new.service) c.play_rounds.new.players.items in
+    let old = world (plain_shown c.new-services.result).work c.in_ok-players.players.items in
+    let new = world (plain_shown c.play_rounds.new.services).work c.play_rounds.new.players.items in
     let so_far = c.in_ok-play_rounds.ensures.rounds in
-    replayed s (work_start c.in_ok-work.work) old new c.ending_of-ending.result c.from_vec.result c.in_ok-logs.logs c.first_work.ensures.valid
-    c.in_ok-work.ensures.start (world-first s (work_history c.in_ok-work.work) c.in_ok-players.players.items c.in_ok-work.ensures.none c.in_ok-players.ensures)
+    replayed s old new c.ending_of-ending.result c.from_vec.result c.in_ok-logs.logs c.first_work.ensures.valid
+    (world-first s (plain_shown c.new-services.result).work c.in_ok-players.players.items (c.new-services.ensures.history ∙ c.in_ok-work.ensures.none) c.in_ok-players.ensures)
     so_far.0 so_far.1 c.in_ok-play_rounds.ensures.over
-    (c.ending_of-ending.ensures ∙ ap ending_by c.deref.ensures.value) (c.from_vec.ensures ∙ c.into_history.ensures.history) c.in_ok-logs.ensures
+    (c.ending_of-ending.ensures ∙ ap ending_by c.deref.ensures.value) (c.from_vec.ensures ∙ c.into_work.ensures.history) c.in_ok-logs.ensures
 
 pub returns-clause-lawful : goal.returns-clause-lawful
 returns-clause-lawful c =
     let s = c.args.scenario.now in
-    let legal = subst (λ (h : List (Entry WorkOp WorkReply)). IsLegal work_machine (work_start c.play_rounds.new.service) h) (sym (c.from_vec.ensures ∙ c.into_history.ensures.history)) c.into_history.ensures.legal in
-    let start = c.in_ok-play_rounds.ensures.start ∙ c.in_ok-work.ensures.start in
+    let machines = c.play_rounds.ensures.alone.machines in
+    let legal = subst (λ (h : List (Entry WorkOp WorkReply)). IsLegal work_machine (plain_machines c.play_rounds.new.services).work_start h) (sym c.from_vec.ensures) c.into_work.ensures.legal in
     lawful s (record { ending = c.ending_of-ending.result; work = c.from_vec.result; logs = c.in_ok-logs.logs }) c.first_work.ensures.valid (returns-clause-replay c)
-    (subst (λ (t : State). IsLegal work_machine t c.from_vec.result) start legal)
+    (subst (λ (m : Machines). IsLegal work_machine m.work_start c.from_vec.result) machines legal)

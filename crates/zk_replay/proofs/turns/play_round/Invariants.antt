@@ -1,13 +1,14 @@
 use Rattle.std.proofs.Common.{◌≡◌, ◌-◌, vec_len}
-use Rattle.zk_replay.specs.Turning.{world, WithinRound}
+use Rattle.zk_model_work.specs.Machine.{work_machine}
+use Rattle.zk_worker.specs.Machines.{work_start_of}
+use Rattle.zk_replay.specs.Turning.{world, IsAlone, WithinRound}
 use Rattle.zk_replay.proofs.turns.play_round.Given as goal
 
 abbrev pub invariant-loop-number : goal.invariant-loop-number
 invariant-loop-number g l =
-    let start = g.S.Service.start l.initial.service in
     record {
-      kept : g.S.Service.start l.service ≡ start;
+      alone : IsAlone (g.V.Services.alone l.services) (g.V.Services.machines l.services) l.scenario (g.V.Services.serves l.services);
       count : vec_len l.players ≡ l.number-end;
-      within : WithinRound g.S.Service.machine start l.scenario (world (g.S.Service.history l.initial.service) l.initial.players.items)
-          (world (g.S.Service.history l.service) l.players.items) l.moved (l.number-end - l.number) l.number;
+      within : WithinRound work_machine (work_start_of l.scenario) l.scenario (world (g.V.Services.shown l.initial.services).work l.initial.players.items)
+          (world (g.V.Services.shown l.services).work l.players.items) l.moved (l.number-end - l.number) l.number;
     }

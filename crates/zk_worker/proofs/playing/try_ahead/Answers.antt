@@ -1,4 +1,5 @@
 use Rattle.std.proofs.Common.{ℕ, Option, Ok, length, sym, subst, arith, ◌∙◌}
+use Rattle.std.specs.List.{slice_get}
 use Rattle.zk_base.specs.declared.ids.Who.{Who}
 use Rattle.zk_worker.specs.declared.steps.StepReply.{StepReply}
 use Rattle.zk_worker.specs.Protocol.{attempts}
@@ -30,7 +31,7 @@ returns-in-Some-2-clause-tried g c =
     c.who.ensures c.steps.ensures.count c.in_ok-reply.ensures.attempted in
     first-made alone m at.who (length at.spots) (attempts c.args.scenario.now at) c.loop-index.index c.in-Some.step c.in-Some-2.reply old mid new
     (g.V.Services.counts c.args.services.now) (g.V.Services.counts c.loop-index.services) (g.V.Services.counts c.attempt.new.self)
-    c.loop-index.invariant.tried (sym c.in-Some.ensures) c.loop-index.invariant.others
+    c.loop-index.invariant.tried (sym {b = slice_get (attempts c.args.scenario.now at) c.loop-index.index} c.in-Some.ensures) c.loop-index.invariant.others
     (subst (λ (o : Option StepReply). Attempted alone m at.who (length at.spots) c.in-Some.step mid new (Ok o)) c.in-Some-2.is made) c.attempt.ensures.counts
 
 pub loop-index-preserved : goal.loop-index-preserved
@@ -54,5 +55,5 @@ loop-index-preserved g c =
       counts = λ step. omega (arith, was.counts step, (c.attempt.ensures.counts step).0);
       tried = tried-next alone m at.who (attempts c.args.scenario.now at) c.loop-index.index c.in-Some.step old mid new
           (g.V.Services.counts c.args.services.now) (g.V.Services.counts c.loop-index.services) (g.V.Services.counts c.attempt.new.self)
-          was.tried (sym c.in-Some.ensures) was.others not.0 not.1 (c.in_ok-reply.ensures.rose c.in_default-2.is) was.counts c.attempt.ensures.counts;
+          was.tried (sym {b = slice_get (attempts c.args.scenario.now at) c.loop-index.index} c.in-Some.ensures) was.others not.0 not.1 (c.in_ok-reply.ensures.rose c.in_default-2.is) was.counts c.attempt.ensures.counts;
     }
