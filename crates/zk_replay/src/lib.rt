@@ -4,6 +4,8 @@
 mod laws;
 mod plain;
 mod run;
+#[cfg(test)]
+mod tests;
 mod turns;
 
 pub use laws::{none_goes_on, one_run};

@@ -24,6 +24,13 @@ impl Plain {
         Plain { work }
     }
 
+    /// All entries of the work service so far.
+    pub fn work(&self) -> &[Entry<WorkOp, WorkReply>]
+        ensures { result.now ≡ (plain_shown self.now).work }
+    {
+        self.work.history()
+    }
+
     /// All entries of the work service, without taking memory.
     pub fn into_work(self) -> Vec<Entry<WorkOp, WorkReply>>
         ensures history { result.items ≡ (plain_shown self).work }

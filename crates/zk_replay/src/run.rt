@@ -54,7 +54,7 @@ fn started(alloc: Global, decls: &[Decl], queues: &[u32]) -> Result<Vec<bool>, N
 }
 
 /// The work service of a scenario.
-fn first_work(alloc: Global, scenario: &Scenario) -> Result<Work, NoMemory>
+pub fn first_work(alloc: Global, scenario: &Scenario) -> Result<Work, NoMemory>
     ensures start { IfOk result (λ work. work_start work ≡ work_start_of scenario.now) }
     ensures none { IfOk result (λ work. work_history work ≡ []) }
     ensures valid { IsValid scenario.now }

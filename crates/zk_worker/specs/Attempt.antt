@@ -25,6 +25,10 @@ reply_in m shown who step = answer_in m.work m.work_start shown.work who step
 abbrev pub takes : Machines → Step → Bool
 takes m (steps.Work op) = m.work.in_range m.work_start op
 
+-- the same players are served
+abbrev pub SamePlayers : (Who → Type 0) → (Who → Type 0) → Type 0
+SamePlayers old new = (who : Who) → (old who → new who) × (new who → old who)
+
 -- how many attempts were made at each service
 pub record Counts : Type 0 where
   pub work : ℕ

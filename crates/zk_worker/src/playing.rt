@@ -5,7 +5,7 @@ ghost use Rattle.zk_worker.specs.Protocol.{attempts, IsAhead};
 ghost use Rattle.zk_worker.specs.Ranges.{FramesFit};
 ghost use Rattle.zk_worker.specs.Machines.{machines_of};
 ghost use Rattle.zk_worker.specs.Shown.{ShowsLog, AreShort, Between};
-ghost use Rattle.zk_worker.specs.Attempt.{takes};
+ghost use Rattle.zk_worker.specs.Attempt.{takes, SamePlayers};
 ghost use Rattle.zk_worker.specs.Playing.{Tried, Does};
 
 use crate::steps::MOST_ATTEMPTS;
@@ -41,7 +41,7 @@ fn try_ahead<V: Services>(
         (V.shown services.old) (V.shown services.new) (V.counts services.old) (V.counts services.new) made) }
     ensures err { OnErr result (Between (V.alone services.old) player.now.who.number (V.shown services.old) (V.shown services.new)) }
     ensures machines { V.machines services.new ≡ V.machines services.old }
-    ensures serves { (who : Who) → V.serves services.old who → V.serves services.new who }
+    ensures serves { SamePlayers (V.serves services.old) (V.serves services.new) }
     ensures alone { V.alone services.new ≡ V.alone services.old }
 {
     for index in 0..MOST_ATTEMPTS {
@@ -83,7 +83,7 @@ impl Player {
         ensures log { ShowsLog (V.shown services.new) self.new.who.number self.new.spots }
         ensures fits { FramesFit scenario.now.decls self.new.frames }
         ensures machines { V.machines services.new ≡ V.machines services.old }
-        ensures serves { (who : Who) → V.serves services.old who → V.serves services.new who }
+        ensures serves { SamePlayers (V.serves services.old) (V.serves services.new) }
         ensures alone { V.alone services.new ≡ V.alone services.old }
     {
         if self.is_spent() {

@@ -3,7 +3,7 @@ ghost use Rattle.zk_base.specs.declared.ids.Who.{Who};
 ghost use Rattle.zk_base.specs.Causes.{Rose};
 ghost use Rattle.zk_worker.specs.Machines.{Machines};
 ghost use Rattle.zk_worker.specs.Shown.{Shown, IsLater, AreShort};
-ghost use Rattle.zk_worker.specs.Attempt.{Counts, count_at, takes, NoneFell, Attempted};
+ghost use Rattle.zk_worker.specs.Attempt.{Counts, count_at, takes, NoneFell, SamePlayers, Attempted};
 
 use crate::steps::MOST_STEPS;
 use crate::{Step, StepReply};
@@ -36,7 +36,8 @@ pub trait Services {
         requires later { IsLater (shown self.old) who.number number }
         requires short { alone self.old ≡ true → AreShort (shown self.old) }
 
-        // The machine's reply at a history shown before, which has grown by others at most, and then one entry more.
+        // A reply is the machine's at what was shown before, followed by entries of others at most, and its entry comes then.
+        // Else no entry of this player comes, and without a reply the machine says so at what is shown then.
         ensures attempted { Attempted (alone self.old) (machines self.old) who number step.now (shown self.old) (shown self.new) result }
 
         // The counts, with the one of an attempt that wasn't possible.
@@ -44,6 +45,6 @@ pub trait Services {
         ensures rose { IfOk result (λ reply. reply ≡ None → Rose (count_at (counts self.old) step.now) (count_at (counts self.new) step.now)) }
 
         ensures machines { machines self.new ≡ machines self.old }
-        ensures serves { (other : Who) → serves self.old other → serves self.new other }
+        ensures serves { SamePlayers (serves self.old) (serves self.new) }
         ensures alone { alone self.new ≡ alone self.old };
 }

@@ -49,7 +49,7 @@ loop-index-preserved g c =
     let was = c.loop-index.invariant in
     record {
       machines = c.attempt.ensures.machines ∙ was.machines;
-      serves = λ who serves. c.attempt.ensures.serves who (was.serves who serves);
+      serves = λ who. (λ served. (c.attempt.ensures.serves who).0 ((was.serves who).0 served), λ served. (was.serves who).1 ((c.attempt.ensures.serves who).1 served));
       alone = c.attempt.ensures.alone ∙ was.alone;
       others = between-both alone at.who.number old mid new was.others not.0;
       counts = λ step. omega (arith, was.counts step, (c.attempt.ensures.counts step).0);

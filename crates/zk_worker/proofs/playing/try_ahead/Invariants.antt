@@ -1,9 +1,8 @@
 use Rattle.std.proofs.Common.{◌≡◌, ◌≤◌}
-use Rattle.zk_base.specs.declared.ids.Who.{Who}
 use Rattle.zk_worker.specs.declared.steps.Step.{Step}
 use Rattle.zk_worker.specs.Protocol.{attempts}
 use Rattle.zk_worker.specs.Shown.{Between}
-use Rattle.zk_worker.specs.Attempt.{count_at}
+use Rattle.zk_worker.specs.Attempt.{count_at, SamePlayers}
 use Rattle.zk_worker.specs.Playing.{WereTried}
 use Rattle.zk_worker.proofs.playing.try_ahead.Given as goal
 
@@ -14,7 +13,7 @@ invariant-loop-index g l =
     let m = g.V.Services.machines first in
     record {
       machines : g.V.Services.machines l.services ≡ m;
-      serves : (who : Who) → g.V.Services.serves first who → g.V.Services.serves l.services who;
+      serves : SamePlayers (g.V.Services.serves first) (g.V.Services.serves l.services);
       alone : g.V.Services.alone l.services ≡ lone;
       others : Between lone l.player.who.number (g.V.Services.shown first) (g.V.Services.shown l.services);
       counts : (step : Step) → count_at (g.V.Services.counts first) step ≤ count_at (g.V.Services.counts l.services) step;
