@@ -22,7 +22,7 @@ use Rattle.zk_worker.specs.Shown.{Shown, shown_after}
 use Rattle.zk_worker.specs.Attempt.{answer_in, reply_in, Counts}
 use Rattle.zk_worker.specs.Playing.{WereTried, HasStepped, HasWaited, Does}
 use Rattle.zk_replay.specs.RoundRobin.{or_else, first_possible, chosen}
-use Rattle.zk_replay.specs.Turning.{did, history_with, at_after}
+use Rattle.zk_replay.specs.Turning.{did, history_with, at_after, IsTurn}
 
 module _ {T : Type 0} (m : Machine T WorkOp WorkReply) (start : T) (work : List (Entry WorkOp WorkReply)) (who : Who) where
   -- the first of the attempts that is possible is the one that is chosen
@@ -55,12 +55,6 @@ through-none s at through = by_frames at.frames through
     by_frames : (frames : List Frame) → is_through frames ≡ true → cond (nat_lt (length at.spots) MOST_STEPS) (frames_attempts s frames) [] ≡ []
     by_frames [] is = by_room (nat_lt (length at.spots) MOST_STEPS)
     by_frames (frame ∷ below) is = absurd (cc)
-
--- what a turn of a player leaves, and whether it moved
-pub record IsTurn (m : Machines) (s : Parts) (at at' : At) (old new : Shown) (moved : Bool) : Type 0 where
-  pub place : at' ≡ at_after s at (chosen m.work m.work_start s old.work at)
-  pub history : new.work ≡ history_with old.work at.who (length at.spots) (chosen m.work m.work_start s old.work at)
-  pub moves : moved ≡ is_some (chosen m.work m.work_start s old.work at)
 
 module _ (m : Machines) (s : Parts) (at at' : At) (old new : Shown) (counts counts' : Counts) where
   still-turn : chosen m.work m.work_start s old.work at ≡ None → at' ≡ at → new ≡ old → IsTurn m s at at' old new false

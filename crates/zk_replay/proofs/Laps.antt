@@ -13,6 +13,7 @@ use Rattle.zk_worker.specs.declared.steps.StepReply.{StepReply}
 use Rattle.zk_worker.specs.Places.{At}
 use Rattle.zk_worker.specs.Protocol.{attempts}
 use Rattle.zk_worker.specs.Machines.{Machines}
+use Rattle.zk_worker.specs.Shown.{Shown}
 use Rattle.zk_worker.specs.Follows.{is_spent_at}
 use Rattle.zk_worker.proofs.Lists.{set-there, none-passes, any-set}
 use Rattle.zk_replay.specs.declared.turns.Turn.{Turn}
@@ -20,7 +21,7 @@ use Rattle.zk_replay.specs.declared.turns.Course.{Course}
 use Rattle.zk_replay.specs.declared.turns.Course.TheVariants.{Still, Goes, Spent}
 use Rattle.zk_replay.specs.RoundRobin.{World, chosen, stepped, turn, turn_of, turns, round, rounds, is_spent}
 use Rattle.zk_replay.specs.Ready.{IsReady, all_left}
-use Rattle.zk_replay.specs.Turning.{world, history_with, at_after, Turned, Rounded, WithinRound}
+use Rattle.zk_replay.specs.Turning.{world, history_with, at_after, IsTurn, Turned, Rounded, WithinRound}
 use Rattle.zk_replay.proofs.Still.{first_possible-made}
 use Rattle.zk_replay.proofs.Readiness.{ready-stepped, left-stepped}
 
@@ -69,18 +70,6 @@ module _ {T : Type 0} (m : Machine T WorkOp WorkReply) (start : T) (s : Parts) w
       same : (made : Option (Step × StepReply)) → is_some made ≡ false → stepped s (world work players) p at made ≡ world work players
       same None rests = refl
       same (Some made) rests = absurd (cc)
-
-  -- the same, where the code may have had no memory
-  pub turned-if : (result : Result Turn NoMemory) (work work' : List (Entry WorkOp WorkReply)) (players players' : List At) (p : ℕ) (at at' : At) →
-      IsReady s (world work players) → is_spent (world work players) ≡ false → slice_get players p ≡ Some at → players' ≡ set players p at' →
-      IfOk result (λ told. at' ≡ at_after s at (chosen m start s work at)) →
-      IfOk result (λ told. work' ≡ history_with work at.who (length at.spots) (chosen m start s work at)) →
-      IfOk result (λ told. told.moved ≡ is_some (chosen m start s work at)) →
-      IfOk result (λ told. told.spent ≡ is_spent_at at') →
-      IfOk result (λ told. Turned m start s (world work players) (world work' players') p told)
-  turned-if (Ok told) work work' players players' p at at' ready unspent is written place history moved spent =
-      turned-from work work' players players' p at at' told (chosen m start s work at) ready unspent is refl history place written moved spent
-  turned-if (Err e) work work' players players' p at at' ready unspent is written place history moved spent = tt
 
   -- once the run is spent no turn changes it
   pub turns-spent : (w : World) (n p : ℕ) → is_spent w ≡ true → turns m start s w n p ≡ w
@@ -144,6 +133,16 @@ module _ {T : Type 0} (m : Machine T WorkOp WorkReply) (start : T) (s : Parts) w
   -- one round more
   pub rounds-next : (first old new : World) (n : ℕ) → old ≡ rounds m start s n first → new ≡ round m start s old → new ≡ rounds m start s (suc n) first
   rounds-next first old new n so_far next = next ∙ ap (round m start s) so_far
+
+-- the same of a turn in the code, which may have had no memory
+pub turned-if : (m : Machines) (s : Parts) (result : Result Turn NoMemory) (old new : Shown) (players players' : List At) (p : ℕ) (at at' : At) →
+    IsReady s (world old.work players) → is_spent (world old.work players) ≡ false → slice_get players p ≡ Some at → players' ≡ set players p at' →
+    IfOk result (λ told. IsTurn m s at at' old new told.moved) → IfOk result (λ told. told.spent ≡ is_spent_at at') →
+    IfOk result (λ told. Turned m.work m.work_start s (world old.work players) (world new.work players') p told)
+turned-if m s (Ok told) old new players players' p at at' ready unspent is written turn spent =
+    turned-from m.work m.work_start s old.work new.work players players' p at at' told (chosen m.work m.work_start s old.work at) ready unspent is refl
+    turn.history turn.place written turn.moves spent
+turned-if m s (Err e) old new players players' p at at' ready unspent is written turn spent = tt
 
 -- what a turn leaves, by the machines of the services
 pub turned-at : (m m' : Machines) (s : Parts) (old new : World) (p : ℕ) (result : Result Turn NoMemory) → m ≡ m' →

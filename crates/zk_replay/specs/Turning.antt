@@ -1,4 +1,4 @@
-use Rattle.std.specs.Prelude.{◌≡◌, ℕ, ◌<◌, Bool, true, false, Option, Some, None, List}
+use Rattle.std.specs.Prelude.{◌≡◌, ℕ, ◌<◌, Bool, true, false, Option, Some, None, is_some, List, length}
 use Rattle.zk_base.specs.declared.ids.Who.{Who}
 use Rattle.zk_base.specs.declared.ids.Entry.{Entry}
 use Rattle.zk_base.specs.Legal.{Machine}
@@ -12,11 +12,11 @@ use Rattle.zk_worker.specs.declared.playing.Stepped.TheVariants as stepped
 use Rattle.zk_worker.specs.Places.{At}
 use Rattle.zk_worker.specs.Protocol.{after}
 use Rattle.zk_worker.specs.Machines.{Machines, machines_of}
-use Rattle.zk_worker.specs.Shown.{work_after}
+use Rattle.zk_worker.specs.Shown.{Shown, work_after}
 use Rattle.zk_replay.specs.declared.turns.Turn.{Turn}
 use Rattle.zk_replay.specs.declared.turns.Course.{Course}
 use Rattle.zk_replay.specs.declared.turns.Course.TheVariants.{Still, Goes, Spent}
-use Rattle.zk_replay.specs.RoundRobin.{World, turn, turns, round, is_spent}
+use Rattle.zk_replay.specs.RoundRobin.{World, chosen, turn, turns, round, is_spent}
 use Rattle.zk_replay.specs.Ready.{IsReady, all_left}
 
 -- the history after a turn
@@ -29,13 +29,19 @@ abbrev pub at_after : Parts → At → Option (Step × StepReply) → At
 at_after s at None = at
 at_after s at (Some made) = after s at made.0 made.1
 
+-- what a turn of a player leaves, and whether it made a step
+pub record IsTurn (m : Machines) (s : Parts) (at at' : At) (old new : Shown) (moved : Bool) : Type 0 where
+  pub place : at' ≡ at_after s at (chosen m.work m.work_start s old.work at)
+  pub history : new.work ≡ history_with old.work at.who (length at.spots) (chosen m.work m.work_start s old.work at)
+  pub moves : moved ≡ is_some (chosen m.work m.work_start s old.work at)
+
 -- whether a step was made
 abbrev pub did : Stepped → Bool
 did stepped.Did = true
 did answer = false
 
 -- the services of this scenario, which serve all its players, and which nobody else uses
-pub record IsAlone (alone : Bool) (m : Machines) (s : Parts) (serves : Who → Type 0) : Type 0 where
+pub record IsAlone (s : Parts) (alone : Bool) (m : Machines) (serves : Who → Type 0) : Type 0 where
   pub is_alone : alone ≡ true
   pub machines : m ≡ machines_of s
   pub serves_all : (who : Who) → serves who

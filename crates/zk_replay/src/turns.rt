@@ -7,7 +7,7 @@ ghost use Rattle.zk_worker.specs.Machines.{work_start_of};
 ghost use Rattle.zk_worker.specs.Shown.{ShowsLog, AreShort};
 ghost use Rattle.zk_replay.specs.RoundRobin.{World, chosen, turn, round, rounds, is_spent};
 ghost use Rattle.zk_replay.specs.Ready.{IsReady};
-ghost use Rattle.zk_replay.specs.Turning.{did, history_with, at_after, world, IsAlone, Turned, Rounded};
+ghost use Rattle.zk_replay.specs.Turning.{did, world, IsAlone, IsTurn, Turned, Rounded};
 
 use zk_base::NoMemory;
 use zk_scenario::Scenario;
@@ -49,21 +49,16 @@ fn play<V: Services>(
     player: &mut Player,
 ) -> Result<Turn, NoMemory>
     requires valid { IsValid scenario.now }
-    requires alone { IsAlone (V.alone services.old) (V.machines services.old) scenario.now (V.serves services.old) }
+    requires alone { IsAlone scenario.now (V.alone services.old) (V.machines services.old) (V.serves services.old) }
     requires fits { FramesFit scenario.now.decls player.old.frames }
     requires log { ShowsLog (V.shown services.old) player.old.who.number player.old.spots }
     requires short { AreShort (V.shown services.old) }
     requires unspent { is_spent_at player.old ≡ false }
-    ensures player { IfOk result (λ turn.
-        player.new ≡ at_after scenario.now player.old
-        (chosen (V.machines services.old).work (V.machines services.old).work_start scenario.now (V.shown services.old).work player.old)) }
-    ensures history { IfOk result (λ turn.
-        (V.shown services.new).work ≡ history_with (V.shown services.old).work player.old.who (length player.old.spots)
-        (chosen (V.machines services.old).work (V.machines services.old).work_start scenario.now (V.shown services.old).work player.old)) }
-    ensures moved { IfOk result (λ turn.
-        turn.moved ≡ is_some (chosen (V.machines services.old).work (V.machines services.old).work_start scenario.now (V.shown services.old).work player.old)) }
+    ensures turn { IfOk result (λ turn.
+        IsTurn (V.machines services.old) scenario.now player.old player.new
+        (V.shown services.old) (V.shown services.new) turn.moved) }
     ensures spent { IfOk result (λ turn. turn.spent ≡ is_spent_at player.new) }
-    ensures alone { IsAlone (V.alone services.new) (V.machines services.new) scenario.now (V.serves services.new) }
+    ensures alone { IsAlone scenario.now (V.alone services.new) (V.machines services.new) (V.serves services.new) }
 {
     let stepped = player.step(scenario, services)?;
     let moved = did(stepped);
@@ -79,14 +74,15 @@ fn take_turn<V: Services>(
     number: usize,
 ) -> Result<Turn, NoMemory>
     requires valid { IsValid scenario.now }
-    requires alone { IsAlone (V.alone services.old) (V.machines services.old) scenario.now (V.serves services.old) }
+    requires alone { IsAlone scenario.now (V.alone services.old) (V.machines services.old) (V.serves services.old) }
     requires ready { IsReady scenario.now (world (V.shown services.old).work players.old.items) }
     requires unspent { is_spent (world (V.shown services.old).work players.old.items) ≡ false }
     requires number { number < vec_len players.old }
     ensures turned { IfOk result (λ turn.
-        Turned work_machine (work_start_of scenario.now) scenario.now (world (V.shown services.old).work players.old.items)
+        Turned work_machine (work_start_of scenario.now) scenario.now
+        (world (V.shown services.old).work players.old.items)
         (world (V.shown services.new).work players.new.items) number turn) }
-    ensures alone { IsAlone (V.alone services.new) (V.machines services.new) scenario.now (V.serves services.new) }
+    ensures alone { IsAlone scenario.now (V.alone services.new) (V.machines services.new) (V.serves services.new) }
     ensures players { vec_len players.new ≡ vec_len players.old }
 {
     let player = &mut players[number];
@@ -100,13 +96,14 @@ fn play_round<V: Services>(
     players: &mut Vec<Player>,
 ) -> Result<Course, NoMemory>
     requires valid { IsValid scenario.now }
-    requires alone { IsAlone (V.alone services.old) (V.machines services.old) scenario.now (V.serves services.old) }
+    requires alone { IsAlone scenario.now (V.alone services.old) (V.machines services.old) (V.serves services.old) }
     requires ready { IsReady scenario.now (world (V.shown services.old).work players.old.items) }
     requires unspent { is_spent (world (V.shown services.old).work players.old.items) ≡ false }
     ensures rounded { IfOk result (λ course.
-        Rounded work_machine (work_start_of scenario.now) scenario.now (world (V.shown services.old).work players.old.items)
+        Rounded work_machine (work_start_of scenario.now) scenario.now
+        (world (V.shown services.old).work players.old.items)
         (world (V.shown services.new).work players.new.items) course) }
-    ensures alone { IsAlone (V.alone services.new) (V.machines services.new) scenario.now (V.serves services.new) }
+    ensures alone { IsAlone scenario.now (V.alone services.new) (V.machines services.new) (V.serves services.new) }
 {
     let mut moved = false;
     for number in 0..players.len() {
@@ -126,16 +123,17 @@ pub fn play_rounds<V: Services>(
     players: &mut Vec<Player>,
 ) -> Result<(), NoMemory>
     requires valid { IsValid scenario.now }
-    requires alone { IsAlone (V.alone services.old) (V.machines services.old) scenario.now (V.serves services.old) }
+    requires alone { IsAlone scenario.now (V.alone services.old) (V.machines services.old) (V.serves services.old) }
     requires ready { IsReady scenario.now (world (V.shown services.old).work players.old.items) }
     requires unspent { is_spent (world (V.shown services.old).work players.old.items) ≡ false }
     ensures ready { IfOk result (λ _. IsReady scenario.now (world (V.shown services.new).work players.new.items)) }
     ensures rounds { IfOk result (λ _. (n : ℕ) × (world (V.shown services.new).work players.new.items
-        ≡ rounds work_machine (work_start_of scenario.now) scenario.now n (world (V.shown services.old).work players.old.items))) }
+        ≡ rounds work_machine (work_start_of scenario.now) scenario.now n
+        (world (V.shown services.old).work players.old.items))) }
     ensures over { IfOk result (λ _.
         round work_machine (work_start_of scenario.now) scenario.now (world (V.shown services.new).work players.new.items)
         ≡ world (V.shown services.new).work players.new.items) }
-    ensures alone { IsAlone (V.alone services.new) (V.machines services.new) scenario.now (V.serves services.new) }
+    ensures alone { IsAlone scenario.now (V.alone services.new) (V.machines services.new) (V.serves services.new) }
 {
     loop {
         match play_round(services, scenario, players)? {

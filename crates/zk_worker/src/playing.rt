@@ -33,13 +33,16 @@ fn try_ahead<V: Services>(
     player: &Player,
 ) -> Result<Option<(Step, StepReply)>, NoMemory>
     requires served { V.serves services.old player.now.who }
-    requires range { (step : Step) → IsAhead scenario.now player.now step → takes (V.machines services.old) step ≡ true }
+    requires range { (step : Step) → IsAhead scenario.now player.now step →
+        takes (V.machines services.old) step ≡ true }
     requires log { ShowsLog (V.shown services.old) player.now.who.number player.now.spots }
     requires short { V.alone services.old ≡ true → AreShort (V.shown services.old) }
     ensures tried { IfOk result (λ made.
-        Tried (V.alone services.old) (V.machines services.old) player.now.who (length player.now.spots) (attempts scenario.now player.now)
+        Tried (V.alone services.old) (V.machines services.old)
+        player.now.who (length player.now.spots) (attempts scenario.now player.now)
         (V.shown services.old) (V.shown services.new) (V.counts services.old) (V.counts services.new) made) }
-    ensures err { OnErr result (Between (V.alone services.old) player.now.who.number (V.shown services.old) (V.shown services.new)) }
+    ensures err { OnErr result (Between (V.alone services.old) player.now.who.number
+        (V.shown services.old) (V.shown services.new)) }
     ensures machines { V.machines services.new ≡ V.machines services.old }
     ensures serves { SamePlayers (V.serves services.old) (V.serves services.new) }
     ensures alone { V.alone services.new ≡ V.alone services.old }
@@ -77,7 +80,8 @@ impl Player {
             Does (V.alone services.old) (V.machines services.old) scenario.now self.old self.new
             (V.shown services.old) (V.shown services.new) (V.counts services.old) (V.counts services.new) stepped) }
         ensures unchanged { OnErr result (self.new ≡ self.old) }
-        ensures err { OnErr result (Between (V.alone services.old) self.old.who.number (V.shown services.old) (V.shown services.new)) }
+        ensures err { OnErr result (Between (V.alone services.old) self.old.who.number
+            (V.shown services.old) (V.shown services.new)) }
 
         // After every answer it can be called again.
         ensures log { ShowsLog (V.shown services.new) self.new.who.number self.new.spots }

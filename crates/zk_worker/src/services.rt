@@ -38,11 +38,13 @@ pub trait Services {
 
         // A reply is the machine's at what was shown before, followed by entries of others at most, and its entry comes then.
         // Else no entry of this player comes, and without a reply the machine says so at what is shown then.
-        ensures attempted { Attempted (alone self.old) (machines self.old) who number step.now (shown self.old) (shown self.new) result }
+        ensures attempted { Attempted (alone self.old) (machines self.old) who number step.now
+            (shown self.old) (shown self.new) result }
 
         // The counts, with the one of an attempt that wasn't possible.
         ensures counts { NoneFell (counts self.old) (counts self.new) }
-        ensures rose { IfOk result (λ reply. reply ≡ None → Rose (count_at (counts self.old) step.now) (count_at (counts self.new) step.now)) }
+        ensures rose { IfOk result (λ reply. reply ≡ None →
+            Rose (count_at (counts self.old) step.now) (count_at (counts self.new) step.now)) }
 
         ensures machines { machines self.new ≡ machines self.old }
         ensures serves { SamePlayers (serves self.old) (serves self.new) }

@@ -7,7 +7,7 @@ use Rattle.zk_replay.proofs.turns.play_round.Given as goal
 abbrev pub invariant-loop-number : goal.invariant-loop-number
 invariant-loop-number g l =
     record {
-      alone : IsAlone (g.V.Services.alone l.services) (g.V.Services.machines l.services) l.scenario (g.V.Services.serves l.services);
+      alone : IsAlone l.scenario (g.V.Services.alone l.services) (g.V.Services.machines l.services) (g.V.Services.serves l.services);
       count : vec_len l.players ≡ l.number-end;
       within : WithinRound work_machine (work_start_of l.scenario) l.scenario (world (g.V.Services.shown l.initial.services).work l.initial.players.items)
           (world (g.V.Services.shown l.services).work l.players.items) l.moved (l.number-end - l.number) l.number;

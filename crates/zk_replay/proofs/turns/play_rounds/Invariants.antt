@@ -11,7 +11,7 @@ invariant-loop g l =
     let old = world (g.V.Services.shown l.initial.services).work l.initial.players.items in
     let now = world (g.V.Services.shown l.services).work l.players.items in
     record {
-      alone : IsAlone (g.V.Services.alone l.services) (g.V.Services.machines l.services) l.scenario (g.V.Services.serves l.services);
+      alone : IsAlone l.scenario (g.V.Services.alone l.services) (g.V.Services.machines l.services) (g.V.Services.serves l.services);
       ready : IsReady l.scenario now;
       unspent : is_spent now ≡ false;
       so_far : (n : ℕ) × (now ≡ rounds work_machine (work_start_of l.scenario) l.scenario n old);

@@ -38,6 +38,5 @@ returns-clause-turned g c =
     let at = c.index_mut-player.result.now in
     let is : slice_get players.items c.args.number ≡ Some at = slice_get_read players.items (length players.items) c.args.number at refl (omega (arith, c.requires.number, players.ok.0)) c.index_mut-player.ensures.value in
     turned-at m (machines_of s) s old (world (g.V.Services.shown c.play.new.services).work _) c.args.number c.play.result c.requires.alone.machines
-    (turned-if m.work m.work_start s c.play.result
-    (g.V.Services.shown c.args.services.now).work (g.V.Services.shown c.play.new.services).work players.items _ c.args.number at c.play.new.player
-    c.requires.ready c.requires.unspent is refl c.play.ensures.player c.play.ensures.history c.play.ensures.moved c.play.ensures.spent)
+    (turned-if m s c.play.result (g.V.Services.shown c.args.services.now) (g.V.Services.shown c.play.new.services) players.items _ c.args.number at c.play.new.player
+    c.requires.ready c.requires.unspent is refl c.play.ensures.turn c.play.ensures.spent)
