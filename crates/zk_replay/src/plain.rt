@@ -53,6 +53,7 @@ impl Services for Plain {
 
     ghost shown = { plain_shown };
 
+    // Nothing is counted: each count stands at the most that it can be.
     ghost counts = { λ p. record { work = 2 ^ 64 - 1 } };
 
     fn attempt(
