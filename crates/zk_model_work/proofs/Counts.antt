@@ -2,44 +2,42 @@
 use Rattle.std.proofs.Common.{◌≡◌, ℕ, zero, suc, ◌+◌, ◌-◌, ◌^◌, ◌<◌, ◌≤◌, Bool, true, false, ◌&&◌, cond, List, [], ◌∷◌, ◌++◌, length, get_or, take, drop, All, refl, sym, ap, subst, ◌∙◌, arith}
 use Rattle.std.proofs.Math.Seq.{take-append_seam}
 use Rattle.std.proofs.lemmas.List.Elements.{All-nil, All-cons, All-head, All-tail}
-use Rattle.zk_model_work.specs.declared.parts.Admission.{Admission}
 use Rattle.zk_model_work.specs.declared.parts.Queue.{Queue}
-use Rattle.zk_model_work.specs.Questions.{is_empty_and_idle}
 use Rattle.zk_model_work.specs.State.{IsCounted, fresh_queue, fresh_queues}
-use Rattle.zk_model_work.specs.Machine.{start, settle_one, settle_from, settle}
+use Rattle.zk_model_work.specs.Machine.{start, settle_one, settle_from}
 
-pub length-settle_from : (admissions : List Admission) (from : ℕ) (xs : List Queue) → length (settle_from admissions from xs) ≡ length xs
-length-settle_from admissions from [] = refl
-length-settle_from admissions from (x ∷ xs) = ap suc (length-settle_from admissions (from + 1) xs)
+pub length-settle_from : (idle : ℕ → Bool) (from : ℕ) (xs : List Queue) → length (settle_from idle from xs) ≡ length xs
+length-settle_from idle from [] = refl
+length-settle_from idle from (x ∷ xs) = ap suc (length-settle_from idle (from + 1) xs)
 
 -- one draining more at most
-drained-settle_one : (admissions : List Admission) (number n : ℕ) (q : Queue) → q.drained ≤ n → (settle_one admissions number q).drained ≤ n + 1
-drained-settle_one admissions number n q most = at (q.draining && is_empty_and_idle admissions number) where
+drained-settle_one : (idle : ℕ → Bool) (number n : ℕ) (q : Queue) → q.drained ≤ n → (settle_one idle number q).drained ≤ n + 1
+drained-settle_one idle number n q most = at (q.draining && idle number) where
   at : (b : Bool) → (cond b (record q { draining = false; drained = q.drained + 1 }) q).drained ≤ n + 1
   at true = omega arith
   at false = omega arith
 
-drained-settle_from : (admissions : List Admission) (from n : ℕ) (xs : List Queue) → All (λ (q : Queue). q.drained ≤ n) xs → All (λ (q : Queue). q.drained ≤ n + 1) (settle_from admissions from xs)
-drained-settle_from admissions from n [] most = let P : Queue → Type 0 = λ q. q.drained ≤ n + 1 in All-nil P
-drained-settle_from admissions from n (x ∷ xs) most =
+drained-settle_from : (idle : ℕ → Bool) (from n : ℕ) (xs : List Queue) → All (λ (q : Queue). q.drained ≤ n) xs → All (λ (q : Queue). q.drained ≤ n + 1) (settle_from idle from xs)
+drained-settle_from idle from n [] most = let P : Queue → Type 0 = λ q. q.drained ≤ n + 1 in All-nil P
+drained-settle_from idle from n (x ∷ xs) most =
     let Q : Queue → Type 0 = λ q. q.drained ≤ n in
     let P : Queue → Type 0 = λ q. q.drained ≤ n + 1 in
-    All-cons P (settle_one admissions from x) (settle_from admissions (from + 1) xs) (drained-settle_one admissions from n x (All-head Q x xs most)) (drained-settle_from admissions (from + 1) n xs (All-tail Q x xs most))
+    All-cons P (settle_one idle from x) (settle_from idle (from + 1) xs) (drained-settle_one idle from n x (All-head Q x xs most)) (drained-settle_from idle (from + 1) n xs (All-tail Q x xs most))
 
 -- what is written over the whole list stands there afterwards
 whole : (len : ℕ) (old new : List Queue) → len ≡ length old → length new ≡ length old → take len (new ++ drop (length new) old) ≡ new
 whole len old new same long = ap (λ n. take n (new ++ drop (length new) old)) (same ∙ sym long) ∙ take-append_seam new (drop (length new) old)
 
 -- an entry that settles the queues
-pub IsCounted-settle : (entries len : ℕ) (admissions : List Admission) (old new : List Queue) → IsCounted entries old → entries < 2 ^ 32 - 1 → len ≡ length old → new ≡ settle admissions old →
+pub IsCounted-settle : (entries len : ℕ) (idle : ℕ → Bool) (old new : List Queue) → IsCounted entries old → entries < 2 ^ 32 - 1 → len ≡ length old → new ≡ settle_from idle 0 old →
     IsCounted (entries + 1) (take len (new ++ drop (length new) old))
-IsCounted-settle entries len admissions old new was few same said =
-    let long : length new ≡ length old = ap length said ∙ length-settle_from admissions 0 old in
+IsCounted-settle entries len idle old new was few same said =
+    let long : length new ≡ length old = ap length said ∙ length-settle_from idle 0 old in
     let P : List Queue → Type 0 = λ qs. IsCounted (entries + 1) qs in
     let was_few = was.few in
-    let long_settled = length-settle_from admissions 0 old in
-    let counted : IsCounted (entries + 1) (settle admissions old) = record {
-      drained = drained-settle_from admissions 0 entries old was.drained;
+    let long_settled = length-settle_from idle 0 old in
+    let counted : IsCounted (entries + 1) (settle_from idle 0 old) = record {
+      drained = drained-settle_from idle 0 entries old was.drained;
       entries_fit = omega arith;
       few = omega arith;
     } in

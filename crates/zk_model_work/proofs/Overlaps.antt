@@ -9,7 +9,8 @@ use Rattle.std.proofs.lemmas.Option.{slice_get-map, slice_get_within, same_Some}
 use Rattle.zk_base.specs.declared.ids.Who.{Who}
 use Rattle.zk_base.specs.declared.ids.Entry.{Entry}
 use Rattle.zk_base.specs.Legal.{state_after, Replays}
-use Rattle.zk_base.specs.declared.errors.Errno.TheVariants.{Busy, Inval, NoDev}
+use Rattle.zk_base.specs.declared.errors.Errno.{Errno}
+use Rattle.zk_base.specs.declared.errors.Errno.TheVariants.{Busy, Inval}
 use Rattle.zk_model_work.specs.declared.parts.Life.{Life}
 use Rattle.zk_model_work.specs.declared.parts.Life.TheVariants.{Waiting, Running, Ended, Dropped}
 use Rattle.zk_model_work.specs.declared.parts.Admission.{Admission}
@@ -23,7 +24,7 @@ use Rattle.zk_model_work.specs.declared.ops.Submitted.TheVariants.{Already, Fres
 use Rattle.zk_model_work.specs.Lists.{first}
 use Rattle.zk_model_work.specs.Questions.{is_waiting, is_running, is_open, waits_as, runs_as, runs_on, waiting, running, running_queue, last_queue, line, run, is_cancelling}
 use Rattle.zk_model_work.specs.State.{State}
-use Rattle.zk_model_work.specs.Machine.{work_next, work_reply, work_machine, is_chained, target, admission, submission_to, submission_at, submission, submit, set_life, with_life, begin, end_one, drop_one, may_begin, may_end, is_worker, is_started, taken_up}
+use Rattle.zk_model_work.specs.Machine.{work_next, work_reply, work_machine, target, admission, refusal, submission_to, submission_at, submission, submit, set_life, with_life, begin, end_one, drop_one, may_begin, may_end, is_worker, is_started, taken_up}
 use Rattle.zk_model_work.specs.Laws.{IsWorkHistory, ends, NotBegunDuringRun, RunsToItsEnd, EndsBetweenBegins}
 use Rattle.zk_model_work.proofs.Lives.{IsFirst, IsFirst-line, set_life-at, set_life-aside}
 use Rattle.zk_model_work.proofs.Begins.{Begun, Begun-reply, Begun-entry, state_after-append, Replays-rest}
@@ -149,13 +150,10 @@ admission-to true long number queue is = same_Some number queue is
 admission-to false long number queue is = same_Some number queue is
 
 submission_to-admitted : (xs : List Admission) (caller : Option ℕ) (item number : ℕ) (q : Queue) (queue : ℕ) → admitted_to (submission_to xs caller item number q) ≡ Some queue → number ≡ queue
-submission_to-admitted xs caller item number q queue is =
-    let plugged = cond (q.plugged && not q.draining) (Refused Busy) (admission xs item number) in
-    let draining = cond (q.draining && not (is_chained q caller)) (Refused Busy) plugged in
-    let one = past (not q.started) (Refused NoDev) draining queue refl is in
-    let two = past (q.draining && not (is_chained q caller)) (Refused Busy) plugged queue refl one.1 in
-    let three = past (q.plugged && not q.draining) (Refused Busy) (admission xs item number) queue refl two.1 in
-    admission-to (is_some (running xs item)) (length xs) number queue three.1
+submission_to-admitted xs caller item number q queue is = by (refusal caller q) is where
+  by : (r : Option Errno) → admitted_to (option_map_or Refused r (admission xs item number)) ≡ Some queue → number ≡ queue
+  by None is = admission-to (is_some (running xs item)) (length xs) number queue is
+  by (Some cause) is = absurd (cc)
 
 submission_at-admitted : (xs : List Admission) (queues : List Queue) (caller : Option ℕ) (item : ℕ) (o : Option ℕ) (queue : ℕ) → admitted_to (submission_at xs queues caller item o) ≡ Some queue → o ≡ Some queue
 submission_at-admitted xs queues caller item None queue is = absurd (cc)

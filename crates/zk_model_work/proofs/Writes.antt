@@ -1,11 +1,11 @@
 -- A life that is set at a place, and the queues that are settled one after another.
-use Rattle.std.proofs.Common.{◌≡◌, ℕ, zero, suc, ◌+◌, ◌<◌, ◌≤◌, true, List, [], ◌∷◌, ◌++◌, length, map, get_or, set, take, drop, All, refl, sym, ap, subst, ◌∙◌, add-zero, arith}
+use Rattle.std.proofs.Common.{◌≡◌, ℕ, zero, suc, ◌+◌, ◌<◌, ◌≤◌, Bool, true, List, [], ◌∷◌, ◌++◌, length, map, get_or, set, take, drop, All, refl, sym, ap, subst, ◌∙◌, add-zero, arith}
 use Rattle.std.proofs.lemmas.List.{get_or_default}
 use Rattle.std.proofs.lemmas.List.Edits.{map_over_more}
 use Rattle.zk_model_work.specs.declared.parts.Life.{Life}
 use Rattle.zk_model_work.specs.declared.parts.Admission.{Admission}
 use Rattle.zk_model_work.specs.declared.parts.Queue.{Queue}
-use Rattle.zk_model_work.specs.Machine.{with_life, set_life, start, settle_one, settle_from, settle}
+use Rattle.zk_model_work.specs.Machine.{with_life, set_life, start, settle_one, settle_from}
 
 -- a life that is written at a place
 pub set-life : (xs : List Admission) (n : ℕ) (d : Admission) (life : Life) → n < length xs → set xs n (with_life life (get_or xs n d)) ≡ set_life xs n life
@@ -40,41 +40,41 @@ mapped-more {X} f xs ys i d y within long so_far said =
     ap (λ (v : X). set ys i v) said ∙ map_over_more f xs ys i x within so_far here
 
 -- the queue at the place that the settling has come to is the first one's still
-pub get_or-settled : (admissions : List Admission) (from : ℕ) (xs : List Queue) (n : ℕ) (d : Queue) → n < length xs → get_or (take n (settle_from admissions from xs) ++ drop n xs) n d ≡ get_or xs n d
-get_or-settled admissions from [] n d within = absurd (omega arith)
-get_or-settled admissions from (x ∷ xs) zero d within = refl
-get_or-settled admissions from (x ∷ xs) (suc n) d within = get_or-settled admissions (from + 1) xs n d (omega arith)
+pub get_or-settled : (idle : ℕ → Bool) (from : ℕ) (xs : List Queue) (n : ℕ) (d : Queue) → n < length xs → get_or (take n (settle_from idle from xs) ++ drop n xs) n d ≡ get_or xs n d
+get_or-settled idle from [] n d within = absurd (omega arith)
+get_or-settled idle from (x ∷ xs) zero d within = refl
+get_or-settled idle from (x ∷ xs) (suc n) d within = get_or-settled idle (from + 1) xs n d (omega arith)
 
-settled-suc : (admissions : List Admission) (from : ℕ) (xs : List Queue) (n : ℕ) (d : Queue) → n < length xs →
-    set (take n (settle_from admissions from xs) ++ drop n xs) n (settle_one admissions (from + n) (get_or xs n d)) ≡ take (suc n) (settle_from admissions from xs) ++ drop (suc n) xs
-settled-suc admissions from [] n d within = absurd (omega arith)
-settled-suc admissions from (x ∷ xs) zero d within = ap (λ m. settle_one admissions m x ∷ xs) (add-zero from)
-settled-suc admissions from (x ∷ xs) (suc n) d within =
+settled-suc : (idle : ℕ → Bool) (from : ℕ) (xs : List Queue) (n : ℕ) (d : Queue) → n < length xs →
+    set (take n (settle_from idle from xs) ++ drop n xs) n (settle_one idle (from + n) (get_or xs n d)) ≡ take (suc n) (settle_from idle from xs) ++ drop (suc n) xs
+settled-suc idle from [] n d within = absurd (omega arith)
+settled-suc idle from (x ∷ xs) zero d within = ap (λ m. settle_one idle m x ∷ xs) (add-zero from)
+settled-suc idle from (x ∷ xs) (suc n) d within =
     let number : from + suc n ≡ (from + 1) + n = omega arith in
-    let rest = settled-suc admissions (from + 1) xs n d (omega arith) in
-    let here = settle_one admissions from x in
-    ap (λ m. here ∷ set (take n (settle_from admissions (from + 1) xs) ++ drop n xs) n (settle_one admissions m (get_or xs n d))) number ∙ ap (λ (qs : List Queue). here ∷ qs) rest
+    let rest = settled-suc idle (from + 1) xs n d (omega arith) in
+    let here = settle_one idle from x in
+    ap (λ m. here ∷ set (take n (settle_from idle (from + 1) xs) ++ drop n xs) n (settle_one idle m (get_or xs n d))) number ∙ ap (λ (qs : List Queue). here ∷ qs) rest
 
 -- one more queue is settled in its place
-pub settled-more : (admissions : List Admission) (xs ys : List Queue) (n : ℕ) (d y : Queue) → n < length xs → ys ≡ take n (settle admissions xs) ++ drop n xs → y ≡ settle_one admissions n (get_or ys n d) →
-    set ys n y ≡ take (n + 1) (settle admissions xs) ++ drop (n + 1) xs
-settled-more admissions xs ys n d y within so_far said =
-    let same : get_or ys n d ≡ get_or xs n d = ap (λ (qs : List Queue). get_or qs n d) so_far ∙ get_or-settled admissions 0 xs n d within in
+pub settled-more : (idle : ℕ → Bool) (xs ys : List Queue) (n : ℕ) (d y : Queue) → n < length xs → ys ≡ take n (settle_from idle 0 xs) ++ drop n xs → y ≡ settle_one idle n (get_or ys n d) →
+    set ys n y ≡ take (n + 1) (settle_from idle 0 xs) ++ drop (n + 1) xs
+settled-more idle xs ys n d y within so_far said =
+    let same : get_or ys n d ≡ get_or xs n d = ap (λ (qs : List Queue). get_or qs n d) so_far ∙ get_or-settled idle 0 xs n d within in
     let number : n ≡ 0 + n = omega arith in
-    let value : y ≡ settle_one admissions (0 + n) (get_or xs n d) = said ∙ ap (λ q. settle_one admissions n q) same ∙ ap (λ m. settle_one admissions m (get_or xs n d)) number in
+    let value : y ≡ settle_one idle (0 + n) (get_or xs n d) = said ∙ ap (λ q. settle_one idle n q) same ∙ ap (λ m. settle_one idle m (get_or xs n d)) number in
     let next : n + 1 ≡ suc n = omega arith in
-    ap (λ (qs : List Queue). set qs n y) so_far ∙ ap (λ q. set (take n (settle admissions xs) ++ drop n xs) n q) value ∙ settled-suc admissions 0 xs n d within
-    ∙ ap (λ m. take m (settle admissions xs) ++ drop m xs) (sym next)
+    ap (λ (qs : List Queue). set qs n y) so_far ∙ ap (λ q. set (take n (settle_from idle 0 xs) ++ drop n xs) n q) value ∙ settled-suc idle 0 xs n d within
+    ∙ ap (λ m. take m (settle_from idle 0 xs) ++ drop m xs) (sym next)
 
 -- at the end all are settled
-pub settled-all : (admissions : List Admission) (from : ℕ) (xs : List Queue) (n : ℕ) → n ≡ length xs → take n (settle_from admissions from xs) ++ drop n xs ≡ settle_from admissions from xs
-settled-all admissions from [] zero all = refl
-settled-all admissions from [] (suc n) all = absurd (omega arith)
-settled-all admissions from (x ∷ xs) zero all = absurd (omega arith)
-settled-all admissions from (x ∷ xs) (suc n) all = ap (λ (qs : List Queue). settle_one admissions from x ∷ qs) (settled-all admissions (from + 1) xs n (omega arith))
+pub settled-all : (idle : ℕ → Bool) (from : ℕ) (xs : List Queue) (n : ℕ) → n ≡ length xs → take n (settle_from idle from xs) ++ drop n xs ≡ settle_from idle from xs
+settled-all idle from [] zero all = refl
+settled-all idle from [] (suc n) all = absurd (omega arith)
+settled-all idle from (x ∷ xs) zero all = absurd (omega arith)
+settled-all idle from (x ∷ xs) (suc n) all = ap (λ (qs : List Queue). settle_one idle from x ∷ qs) (settled-all idle (from + 1) xs n (omega arith))
 
 -- what holds of each queue holds of the one that is settled next
-pub settled-next : (P : Queue → Type 0) (admissions : List Admission) (xs ys : List Queue) (n : ℕ) (d : Queue) → n < length xs → ys ≡ take n (settle admissions xs) ++ drop n xs → All P xs → P (get_or ys n d)
-settled-next P admissions xs ys n d within so_far all =
-    let same : get_or ys n d ≡ get_or xs n d = ap (λ (qs : List Queue). get_or qs n d) so_far ∙ get_or-settled admissions 0 xs n d within in
+pub settled-next : (P : Queue → Type 0) (idle : ℕ → Bool) (xs ys : List Queue) (n : ℕ) (d : Queue) → n < length xs → ys ≡ take n (settle_from idle 0 xs) ++ drop n xs → All P xs → P (get_or ys n d)
+settled-next P idle xs ys n d within so_far all =
+    let same : get_or ys n d ≡ get_or xs n d = ap (λ (qs : List Queue). get_or qs n d) so_far ∙ get_or-settled idle 0 xs n d within in
     subst P (sym same) (all n d within)

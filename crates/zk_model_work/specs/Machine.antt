@@ -1,6 +1,7 @@
 use Rattle.std.specs.Prelude.{ℕ, zero, suc, ◌+◌, Bool, true, false, not, nat_lt, ◌==◌, ◌&&◌, if◌then◌else◌, Option, Some, None, is_some, is_none, option_map, option_and_then, option_to_list, List, [], ◌∷◌, ◌++◌, length, map, slice_get}
 use Rattle.std.specs.Option.{option_map_or, option_or}
 use Rattle.zk_base.specs.declared.ids.Who.{Who}
+use Rattle.zk_base.specs.declared.errors.Errno.{Errno}
 use Rattle.zk_base.specs.declared.errors.Errno.TheVariants.{Busy, Inval, NoDev}
 use Rattle.zk_base.specs.Legal.{Machine}
 use Rattle.zk_model_work.specs.declared.ops.WorkOp.{WorkOp}
@@ -32,13 +33,16 @@ target admissions item named = option_or (running_queue admissions item) (option
 abbrev pub admission : List Admission → ℕ → ℕ → Submitted
 admission admissions item number = if is_some (running admissions item) then Rerun (length admissions) number else Fresh (length admissions) number
 
--- whether this queue takes the item: not before it is started, while it drains from its own worker alone, and not while it is plugged and doesn't drain
+-- why a queue takes no submission of this caller, if it takes none: not before it is started, while it drains from its own worker alone, and not while it is plugged and doesn't drain
+abbrev pub refusal : Option ℕ → Queue → Option Errno
+refusal caller queue =
+    if not queue.started then Some NoDev else
+    if queue.draining && not (is_chained queue caller) then Some Busy else
+    if queue.plugged && not queue.draining then Some Busy else None
+
+-- whether this queue takes the item
 abbrev pub submission_to : List Admission → Option ℕ → ℕ → ℕ → Queue → Submitted
-submission_to admissions caller item number queue =
-    if not queue.started then Refused NoDev else
-    if queue.draining && not (is_chained queue caller) then Refused Busy else
-    if queue.plugged && not queue.draining then Refused Busy else
-    admission admissions item number
+submission_to admissions caller item number queue = option_map_or Refused (refusal caller queue) (admission admissions item number)
 
 -- whether there is a queue to go to, and it takes the item
 abbrev pub submission_at : List Admission → List Queue → Option ℕ → ℕ → Option ℕ → Submitted
@@ -100,19 +104,18 @@ disarm arms item = map (disarm_one item) arms
 abbrev pub mark : List Admission → List ℕ → ℕ → List ℕ
 mark admissions marks item = marks ++ option_to_list (running admissions item)
 
--- a queue of this number that drains, and is empty and idle, has drained once more
-abbrev pub settle_one : List Admission → ℕ → Queue → Queue
-settle_one admissions number queue =
-    if queue.draining && is_empty_and_idle admissions number then record queue { draining = false; drained = queue.drained + 1 } else queue
+-- a queue of this number that drains, where it is idle, has drained once more
+abbrev pub settle_one : (ℕ → Bool) → ℕ → Queue → Queue
+settle_one is_idle number queue = if queue.draining && is_idle number then record queue { draining = false; drained = queue.drained + 1 } else queue
 
--- the draining of each queue from this number on ends, where it is empty and idle
-abbrev pub settle_from : List Admission → ℕ → List Queue → List Queue
-settle_from admissions number [] = []
-settle_from admissions number (queue ∷ queues) = settle_one admissions number queue ∷ settle_from admissions (number + 1) queues
+-- the draining of each queue from this number on ends, where it is idle
+abbrev pub settle_from : (ℕ → Bool) → ℕ → List Queue → List Queue
+settle_from is_idle number [] = []
+settle_from is_idle number (queue ∷ queues) = settle_one is_idle number queue ∷ settle_from is_idle (number + 1) queues
 
 -- the draining of each queue ends, where it is empty and idle
 abbrev pub settle : List Admission → List Queue → List Queue
-settle admissions queues = settle_from admissions 0 queues
+settle admissions queues = settle_from (is_empty_and_idle admissions) 0 queues
 
 -- the state after a cancel of the item: its waiting admission dropped, its arm disarmed, its run marked, and what has drained settled
 abbrev pub cancel : State → ℕ → State

@@ -1,5 +1,5 @@
 ghost use Rattle.std.specs.Prelude.{◌≡◌, Some, None};
-ghost use Rattle.zk_model_work.specs.Machine.{is_chained, target, admission, submission_to, submission_at, submission, taken_up, may_begin, may_end, start_reply};
+ghost use Rattle.zk_model_work.specs.Machine.{is_chained, target, admission, refusal, submission_to, submission_at, submission, taken_up, may_begin, may_end, start_reply};
 
 use crate::{
     Admission, Queue, Submitted, WorkReply, first_in_line, is_cancelling, is_started, is_worker,
@@ -37,6 +37,22 @@ fn admission(admissions: &[Admission], item: u32, number: u32) -> Submitted
     }
 }
 
+/// Why the queue takes no submission of this caller, if it takes none. A caller is a player, or nobody.
+pub fn refusal(queue: &Queue, caller: Option<u32>) -> Option<Errno>
+    ensures { result ≡ refusal caller queue.now }
+{
+    if !queue.started {
+        return Some(Errno::NoDev);
+    }
+    if queue.draining && !is_chained(queue, caller) {
+        return Some(Errno::Busy);
+    }
+    if queue.plugged && !queue.draining {
+        return Some(Errno::Busy);
+    }
+    None
+}
+
 /// The answer of the queue that the item goes to.
 fn submission_to(
     admissions: &[Admission],
@@ -47,16 +63,10 @@ fn submission_to(
 ) -> Submitted
     ensures { result ≡ submission_to admissions.now caller item number queue.now }
 {
-    if !queue.started {
-        return Submitted::Refused(Errno::NoDev);
+    match refusal(queue, caller) {
+        Some(errno) => Submitted::Refused(errno),
+        None => admission(admissions, item, number),
     }
-    if queue.draining && !is_chained(queue, caller) {
-        return Submitted::Refused(Errno::Busy);
-    }
-    if queue.plugged && !queue.draining {
-        return Submitted::Refused(Errno::Busy);
-    }
-    admission(admissions, item, number)
 }
 
 /// The answer at the queue of this number, if there is one.

@@ -1,5 +1,5 @@
 ghost use Rattle.std.specs.Prelude.{◌≡◌, ◌+◌, ◌-◌, ◌^◌, ◌<◌, ◌++◌, length, All, option_to_list};
-ghost use Rattle.zk_model_work.specs.Questions.{running, runs_on, waits_as, arms_item};
+ghost use Rattle.zk_model_work.specs.Questions.{running, runs_on, waits_as, arms_item, is_empty_and_idle};
 ghost use Rattle.zk_model_work.specs.Machine.{set_life, begin, end_run, drop_waiting, disarm, start, settle_one, settle, end_one, drop_one, disarm_one};
 
 use crate::{Admission, Arm, Fate, Life, Queue, first_in_line, is_empty_and_idle};
@@ -105,7 +105,7 @@ pub fn start(queues: &mut [Queue], number: u32)
 /// The queue, drained once more if it drains, and is empty and idle.
 fn settle_one(admissions: &[Admission], number: u32, queue: Queue) -> Queue
     requires { queue.drained < 2 ^ 64 - 1 }
-    ensures { result ≡ settle_one admissions.now number queue }
+    ensures { result ≡ settle_one (is_empty_and_idle admissions.now) number queue }
 {
     if queue.draining && is_empty_and_idle(admissions, number) {
         Queue {

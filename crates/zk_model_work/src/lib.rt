@@ -10,7 +10,7 @@ mod parts;
 mod questions;
 mod state;
 
-pub use answers::{may_begin, may_end, start_reply, submission, taken_up};
+pub use answers::{may_begin, may_end, refusal, start_reply, submission, taken_up};
 pub use busy::{BusyFlags, flags, united};
 pub use changes::{begin, disarm, drop_waiting, end_run, set_life, settle, start};
 pub use laws::{begins_in_order, cancel_holds, never_overlaps, runs_once};

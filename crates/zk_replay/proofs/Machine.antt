@@ -7,6 +7,7 @@ use Rattle.std.proofs.lemmas.Bool.Decides.{nat_tests}
 use Rattle.std.proofs.lemmas.List.Elements.{All-nil, All-cons, All-head, All-tail, All-push}
 use Rattle.std.proofs.lemmas.Option.{slice_get_within, slice_get-map}
 use Rattle.zk_base.specs.declared.ids.Who.{Who}
+use Rattle.zk_base.specs.declared.errors.Errno.{Errno}
 use Rattle.zk_base.specs.declared.errors.Errno.TheVariants as errors
 use Rattle.zk_model_work.specs.declared.parts.Life.{Life}
 use Rattle.zk_model_work.specs.declared.parts.Life.TheVariants.{Waiting, Running, Ended, Dropped}
@@ -21,7 +22,7 @@ use Rattle.zk_model_work.specs.declared.ops.WorkReply.TheVariants.{Run}
 use Rattle.zk_model_work.specs.Lists.{places_from, first as first_of}
 use Rattle.zk_model_work.specs.Questions.{is_waiting, waits_for, waits_as, runs_on, running, waiting, is_cancelling, run, line, is_empty_and_idle}
 use Rattle.zk_model_work.specs.State.{State}
-use Rattle.zk_model_work.specs.Machine.{work_reply, work_next, is_chained, admission, submission, submission_at, submission_to, target, submit, set_life, with_life, begin, end_one, end_run, drop_one, drop_waiting, start, settle_from, is_worker, may_begin, taken_up}
+use Rattle.zk_model_work.specs.Machine.{work_reply, work_next, refusal, admission, submission, submission_at, submission_to, target, submit, set_life, with_life, begin, end_one, end_run, drop_one, drop_waiting, start, settle_from, is_worker, may_begin, taken_up}
 use Rattle.zk_replay.specs.Tending.{IsIdle}
 
 -- a submission that admits goes to one of so many queues
@@ -40,10 +41,10 @@ admission-home admissions item number many less =
     cond-home many (is_some (running admissions item)) (Rerun (length admissions) number) (Fresh (length admissions) number) less less
 
 submission_to-home : (admissions : List Admission) (caller : Option ℕ) (item number : ℕ) (queue : Queue) (many : ℕ) → number < many → Home many (submission_to admissions caller item number queue)
-submission_to-home admissions caller item number queue many less =
-    cond-home many (not queue.started) (Refused errors.NoDev) _ tt
-    (cond-home many (queue.draining && not (is_chained queue caller)) (Refused errors.Busy) _ tt
-    (cond-home many (queue.plugged && not queue.draining) (Refused errors.Busy) _ tt (admission-home admissions item number many less)))
+submission_to-home admissions caller item number queue many less = by (refusal caller queue) where
+  by : (r : Option Errno) → Home many (option_map_or Refused r (admission admissions item number))
+  by None = admission-home admissions item number many less
+  by (Some cause) = tt
 
 submission_at-home : (admissions : List Admission) (queues : List Queue) (caller : Option ℕ) (item : ℕ) (to : Option ℕ) → Home (length queues) (submission_at admissions queues caller item to)
 submission_at-home admissions queues caller item None = tt
@@ -130,11 +131,11 @@ homes-next many st who (ops.End queue) long all =
     let P : Admission → Type 0 = λ a. a.queue < many in
     map-all P (end_one queue) (λ a less. cond-keeps P (runs_on queue a) (with_life Ended a) a less less) st.admissions all
 
-settle-workers : (admissions : List Admission) (n : ℕ) (queues : List Queue) → map (λ queue. queue.worker) (settle_from admissions n queues) ≡ map (λ queue. queue.worker) queues
-settle-workers admissions n [] = refl
-settle-workers admissions n (queue ∷ queues) =
-    ap (λ (w : ℕ). w ∷ map (λ (q : Queue). q.worker) (settle_from admissions (n + 1) queues)) (worker-kept queue (queue.draining && is_empty_and_idle admissions n))
-    ∙ ap (λ (l : List ℕ). queue.worker ∷ l) (settle-workers admissions (n + 1) queues)
+settle-workers : (idle : ℕ → Bool) (n : ℕ) (queues : List Queue) → map (λ queue. queue.worker) (settle_from idle n queues) ≡ map (λ queue. queue.worker) queues
+settle-workers idle n [] = refl
+settle-workers idle n (queue ∷ queues) =
+    ap (λ (w : ℕ). w ∷ map (λ (q : Queue). q.worker) (settle_from idle (n + 1) queues)) (worker-kept queue (queue.draining && idle n))
+    ∙ ap (λ (l : List ℕ). queue.worker ∷ l) (settle-workers idle (n + 1) queues)
   where
     worker-kept : (queue : Queue) (b : Bool) → (cond b (record queue { draining = false; drained = queue.drained + 1 }) queue).worker ≡ queue.worker
     worker-kept queue true = refl
@@ -148,10 +149,10 @@ start-workers (queue ∷ queues) (suc number) = ap (λ (l : List ℕ). queue.wor
 -- each queue keeps its worker
 pub workers-next : (st : State) (who : Who) (op : WorkOp) → map (λ queue. queue.worker) (work_next st who op).queues ≡ map (λ queue. queue.worker) st.queues
 workers-next st who (ops.Submit item named) = refl
-workers-next st who (ops.Cancel item) = settle-workers (drop_waiting st.admissions item) 0 st.queues
+workers-next st who (ops.Cancel item) = settle-workers (is_empty_and_idle (drop_waiting st.admissions item)) 0 st.queues
 workers-next st who (ops.Start queue) = start-workers st.queues queue
 workers-next st who (ops.Begin queue) = refl
-workers-next st who (ops.End queue) = settle-workers (end_run st.admissions queue) 0 st.queues
+workers-next st who (ops.End queue) = settle-workers (is_empty_and_idle (end_run st.admissions queue)) 0 st.queues
 
 -- the worker of a queue, by its number as a player
 pub IsWorkerOf : State → ℕ → ℕ → Type 0

@@ -16,7 +16,7 @@ use Rattle.zk_model_work.specs.declared.ops.Submitted.TheVariants.{Already, Fres
 use Rattle.zk_model_work.specs.declared.ops.WorkReply.{WorkReply}
 use Rattle.zk_model_work.specs.declared.ops.WorkReply.TheVariants.{Done}
 use Rattle.zk_model_work.specs.Lists.{first}
-use Rattle.zk_model_work.specs.Questions.{is_running, waits_as, runs_on, run, line}
+use Rattle.zk_model_work.specs.Questions.{is_running, waits_as, runs_on, run, line, is_empty_and_idle}
 use Rattle.zk_model_work.specs.State.{State}
 use Rattle.zk_model_work.specs.Machine.{work_reply, work_next, in_range, is_among, is_worker, submission, submit, set_life, with_life, begin, end_one, end_run, drop_one, drop_waiting}
 use Rattle.zk_model_work.proofs.Counts.{length-settle_from, length-start}
@@ -33,10 +33,10 @@ counts s who (End queue) = refl
 -- what is in range stays so
 pub ranges : (s : State) (who : Who) (op : WorkOp) → in_range (work_next s who op) ≡ in_range s
 ranges s who (Submit item named) = refl
-ranges s who (Cancel item) = ap (is_among s.items) (length-settle_from (drop_waiting s.admissions item) 0 s.queues)
+ranges s who (Cancel item) = ap (is_among s.items) (length-settle_from (is_empty_and_idle (drop_waiting s.admissions item)) 0 s.queues)
 ranges s who (Start queue) = ap (is_among s.items) (length-start s.queues queue)
 ranges s who (Begin queue) = refl
-ranges s who (End queue) = ap (is_among s.items) (length-settle_from (end_run s.admissions queue) 0 s.queues)
+ranges s who (End queue) = ap (is_among s.items) (length-settle_from (is_empty_and_idle (end_run s.admissions queue)) 0 s.queues)
 
 -- one for an admission that runs
 abbrev runs : Admission → ℕ

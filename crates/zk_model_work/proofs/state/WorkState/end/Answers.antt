@@ -1,5 +1,6 @@
 use Rattle.std.proofs.Common.{◌≡◌, ap, ◌∙◌, arith}
 use Rattle.zk_model_work.specs.State.{State}
+use Rattle.zk_model_work.specs.Questions.{is_empty_and_idle}
 use Rattle.zk_model_work.specs.Machine.{settle}
 use Rattle.zk_model_work.proofs.Counts.{IsCounted-settle}
 use Rattle.zk_model_work.proofs.state.WorkState.end.Goals as goal
@@ -10,4 +11,4 @@ invariant_of-self c =
     let admissions = c.deref-3.result.now in
     let count : inside.entries ≡ c.args.self.now.entries = ap (λ (s : State). s.entries) c.self.view_is in
     let settled = c.settle.ensures ∙ ap (settle admissions) c.deref_mut-2.ensures.value in
-    IsCounted-settle inside.entries inside.queues.len admissions inside.queues.items c.settle.new.queues c.self.invariant (omega arith) inside.queues.ok.0 settled
+    IsCounted-settle inside.entries inside.queues.len (is_empty_and_idle admissions) inside.queues.items c.settle.new.queues c.self.invariant (omega arith) inside.queues.ok.0 settled
