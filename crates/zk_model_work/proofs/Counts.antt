@@ -28,20 +28,34 @@ drained-settle_from idle from n (x ∷ xs) most =
 whole : (len : ℕ) (old new : List Queue) → len ≡ length old → length new ≡ length old → take len (new ++ drop (length new) old) ≡ new
 whole len old new same long = ap (λ n. take n (new ++ drop (length new) old)) (same ∙ sym long) ∙ take-append_seam new (drop (length new) old)
 
--- an entry that settles the queues
+-- an entry that leaves the queues
+pub IsCounted-more : (entries : ℕ) (qs : List Queue) → IsCounted entries qs → entries < 2 ^ 32 - 1 → IsCounted (entries + 1) qs
+IsCounted-more entries qs was few =
+    let was_few = was.few in
+    record {
+      drained = λ k d within. let one = was.drained k d within in omega arith;
+      entries_fit = omega arith;
+      few = omega arith;
+    }
+
+-- an entry that settles them
+pub IsCounted-settled : (entries : ℕ) (idle : ℕ → Bool) (qs : List Queue) → IsCounted entries qs → entries < 2 ^ 32 - 1 → IsCounted (entries + 1) (settle_from idle 0 qs)
+IsCounted-settled entries idle qs was few =
+    let was_few = was.few in
+    let long = length-settle_from idle 0 qs in
+    record {
+      drained = drained-settle_from idle 0 entries qs was.drained;
+      entries_fit = omega arith;
+      few = omega arith;
+    }
+
+-- and writes them in their places
 pub IsCounted-settle : (entries len : ℕ) (idle : ℕ → Bool) (old new : List Queue) → IsCounted entries old → entries < 2 ^ 32 - 1 → len ≡ length old → new ≡ settle_from idle 0 old →
     IsCounted (entries + 1) (take len (new ++ drop (length new) old))
 IsCounted-settle entries len idle old new was few same said =
     let long : length new ≡ length old = ap length said ∙ length-settle_from idle 0 old in
     let P : List Queue → Type 0 = λ qs. IsCounted (entries + 1) qs in
-    let was_few = was.few in
-    let long_settled = length-settle_from idle 0 old in
-    let counted : IsCounted (entries + 1) (settle_from idle 0 old) = record {
-      drained = drained-settle_from idle 0 entries old was.drained;
-      entries_fit = omega arith;
-      few = omega arith;
-    } in
-    subst P (sym (whole len old new same long ∙ said)) counted
+    subst P (sym (whole len old new same long ∙ said)) (IsCounted-settled entries idle old was few)
 
 pub length-start : (qs : List Queue) (n : ℕ) → length (start qs n) ≡ length qs
 length-start [] n = refl
@@ -63,19 +77,23 @@ drained-start (q ∷ qs) (suc number) n most =
     All-cons P q (start qs number) (omega arith) (drained-start qs number n (All-tail Q q qs most))
 
 -- an entry that starts a queue
+pub IsCounted-started : (entries number : ℕ) (qs : List Queue) → IsCounted entries qs → entries < 2 ^ 32 - 1 → IsCounted (entries + 1) (start qs number)
+IsCounted-started entries number qs was few =
+    let was_few = was.few in
+    let long = length-start qs number in
+    record {
+      drained = drained-start qs number entries was.drained;
+      entries_fit = omega arith;
+      few = omega arith;
+    }
+
+-- and writes it in its place
 pub IsCounted-start : (entries len number : ℕ) (old new : List Queue) → IsCounted entries old → entries < 2 ^ 32 - 1 → len ≡ length old → new ≡ start old number →
     IsCounted (entries + 1) (take len (new ++ drop (length new) old))
 IsCounted-start entries len number old new was few same said =
     let long : length new ≡ length old = ap length said ∙ length-start old number in
     let P : List Queue → Type 0 = λ qs. IsCounted (entries + 1) qs in
-    let was_few = was.few in
-    let long_started = length-start old number in
-    let counted : IsCounted (entries + 1) (start old number) = record {
-      drained = drained-start old number entries was.drained;
-      entries_fit = omega arith;
-      few = omega arith;
-    } in
-    subst P (sym (whole len old new same long ∙ said)) counted
+    subst P (sym (whole len old new same long ∙ said)) (IsCounted-started entries number old was few)
 
 -- one queue more
 pub fresh_queues-more : (workers : List ℕ) (started : List Bool) (n w : ℕ) (on : Bool) → n < length workers → length workers ≡ length started →

@@ -4,5 +4,5 @@ pub mod Lines
 pub mod Lives
 pub mod Weights
 pub mod Writes
-mod Overlaps
-mod Cancels
+pub mod Overlaps
+pub mod Cancels

@@ -24,7 +24,7 @@ use Rattle.zk_model_work.specs.declared.ops.Submitted.TheVariants.{Already, Fres
 use Rattle.zk_model_work.specs.Lists.{first}
 use Rattle.zk_model_work.specs.Questions.{is_waiting, is_running, is_open, waits_as, runs_as, runs_on, waiting, running, running_queue, last_queue, line, run, is_cancelling}
 use Rattle.zk_model_work.specs.State.{State}
-use Rattle.zk_model_work.specs.Machine.{work_next, work_reply, work_machine, target, admission, refusal, submission_to, submission_at, submission, submit, set_life, with_life, begin, end_one, drop_one, may_begin, may_end, is_worker, is_started, taken_up}
+use Rattle.zk_model_work.specs.Machine.{work_next, work_reply, work_machine, target, admission, refusal, submission_to, submission_at, submission, admitted_to, submit, set_life, with_life, begin, end_one, drop_one, may_begin, may_end, is_worker, is_started, taken_up}
 use Rattle.zk_model_work.specs.Laws.{IsWorkHistory, ends, NotBegunDuringRun, RunsToItsEnd, EndsBetweenBegins}
 use Rattle.zk_model_work.proofs.Lives.{IsFirst, IsFirst-line, set_life-at, set_life-aside}
 use Rattle.zk_model_work.proofs.Begins.{Begun, Begun-reply, Begun-entry, state_after-append, Replays-rest}
@@ -37,13 +37,13 @@ waiting-running Running w r = false≢true w
 waiting-running Ended w r = false≢true w
 waiting-running Dropped w r = false≢true w
 
-open-waiting : (life : Life) → is_waiting life ≡ true → is_open life ≡ true
+pub open-waiting : (life : Life) → is_waiting life ≡ true → is_open life ≡ true
 open-waiting Waiting w = refl
 open-waiting Running w = absurd (cc)
 open-waiting Ended w = absurd (cc)
 open-waiting Dropped w = absurd (cc)
 
-open-running : (life : Life) → is_running life ≡ true → is_open life ≡ true
+pub open-running : (life : Life) → is_running life ≡ true → is_open life ≡ true
 open-running Waiting r = absurd (cc)
 open-running Running r = refl
 open-running Ended r = absurd (cc)
@@ -75,7 +75,7 @@ position-none p (x ∷ xs) zero a none at = ap p (sym (same_Some x a at)) ∙ (f
 position-none p (x ∷ xs) (suc n) a none at = position-none p xs n a (fails_at_front (p x) (position_or_len p xs) (length xs) none).1 at
 
 -- the first that passes is of this queue, where each that passes is
-found_queue : (p : Admission → Bool) (xs : List Admission) (queue n : ℕ) (a : Admission) → ((m : ℕ) (b : Admission) → slice_get xs m ≡ Some b → p b ≡ true → b.queue ≡ queue) →
+pub found_queue : (p : Admission → Bool) (xs : List Admission) (queue n : ℕ) (a : Admission) → ((m : ℕ) (b : Admission) → slice_get xs m ≡ Some b → p b ≡ true → b.queue ≡ queue) →
     slice_get xs n ≡ Some a → p a ≡ true → option_map (λ (b : Admission). b.queue) (find p xs) ≡ Some queue
 found_queue p [] queue n a each at passes = absurd (cc)
 found_queue p (x ∷ xs) queue n a each at passes = by (p x) refl n at (λ k there. found_queue p xs queue k a (λ m b at_m. each (suc m) b at_m) there passes) where
@@ -129,18 +129,6 @@ pushed (y ∷ ys) x (suc n) b at = up (pushed ys x n b at) where
   up (inl old) = inl old
   up (inr new) = inr (ap suc new.0, new.1)
 
--- the queue that an answer admits to
-abbrev pub admitted_to : Submitted → Option ℕ
-admitted_to (Fresh number queue) = Some queue
-admitted_to (Rerun number queue) = Some queue
-admitted_to answer = None
-
-pub submit-admitted : (xs : List Admission) (item : ℕ) (answer : Submitted) → submit xs item answer ≡ option_map_or (λ queue. xs ++ record { item = item; queue = queue; life = Waiting } ∷ []) (admitted_to answer) xs
-submit-admitted xs item Already = refl
-submit-admitted xs item (Fresh number queue) = refl
-submit-admitted xs item (Rerun number queue) = refl
-submit-admitted xs item (Refused cause) = refl
-
 past : (b : Bool) (x y : Submitted) (queue : ℕ) → admitted_to x ≡ None → admitted_to (cond b x y) ≡ Some queue → (b ≡ false) × (admitted_to y ≡ Some queue)
 past true x y queue none is = absurd (cc)
 past false x y queue none is = (refl, is)
@@ -162,6 +150,17 @@ submission_at-admitted xs queues caller item (Some number) queue is = by (slice_
   by None is = absurd (cc)
   by (Some q) is = ap Some (submission_to-admitted xs caller item number q queue is)
 
+-- there is such a queue
+submission_at-within : (xs : List Admission) (queues : List Queue) (caller : Option ℕ) (item : ℕ) (o : Option ℕ) (queue : ℕ) → admitted_to (submission_at xs queues caller item o) ≡ Some queue → queue < length queues
+submission_at-within xs queues caller item None queue is = absurd (cc)
+submission_at-within xs queues caller item (Some number) queue is = by (slice_get queues number) refl is where
+  by : (q : Option Queue) → slice_get queues number ≡ q → admitted_to (option_map_or (submission_to xs caller item number) q (Refused Inval)) ≡ Some queue → queue < length queues
+  by None there is = absurd (cc)
+  by (Some q) there is =
+      let same = submission_to-admitted xs caller item number q queue is in
+      let within = slice_get_within queues number q there in
+      omega arith
+
 -- a submission that admits finds the item neither cancelled nor waiting, and goes to its target
 pub record Admits (xs : List Admission) (marks : List ℕ) (item : ℕ) (named : Option ℕ) (queue : ℕ) : Type 0 where
   pub not_cancelling : is_cancelling xs marks item ≡ false
@@ -175,6 +174,14 @@ submission-admits xs marks queues caller item named queue is =
     let one = past (is_cancelling xs marks item) (Refused Busy) (cond (is_some (waiting xs item)) Already at) queue refl is in
     let two = past (is_some (waiting xs item)) Already at queue refl one.1 in
     record { not_cancelling = one.0; not_waiting = two.0; target_is = submission_at-admitted xs queues caller item (target xs item named) queue two.1 }
+
+pub submission-within : (xs : List Admission) (marks : List ℕ) (queues : List Queue) (caller : Option ℕ) (item : ℕ) (named : Option ℕ) (queue : ℕ) →
+    admitted_to (submission xs marks queues caller item named) ≡ Some queue → queue < length queues
+submission-within xs marks queues caller item named queue is =
+    let at = submission_at xs queues caller item (target xs item named) in
+    let one = past (is_cancelling xs marks item) (Refused Busy) (cond (is_some (waiting xs item)) Already at) queue refl is in
+    let two = past (is_some (waiting xs item)) Already at queue refl one.1 in
+    submission_at-within xs queues caller item (target xs item named) queue two.1
 
 is_none-None : {A : Type 0} (o : Option A) → is_some o ≡ false → o ≡ None
 is_none-None None is = refl

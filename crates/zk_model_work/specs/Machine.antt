@@ -56,11 +56,15 @@ submission admissions marks queues caller item named =
     if is_some (waiting admissions item) then Already else
     submission_at admissions queues caller item (target admissions item named)
 
+-- the queue that an answer admits to, if it admits
+abbrev pub admitted_to : Submitted → Option ℕ
+admitted_to (Fresh number queue) = Some queue
+admitted_to (Rerun number queue) = Some queue
+admitted_to answer = None
+
 -- the admissions after a submission with this answer: one more where it was admitted
 abbrev pub submit : List Admission → ℕ → Submitted → List Admission
-submit admissions item (Fresh number queue) = admissions ++ record { item = item; queue = queue; life = Waiting } ∷ []
-submit admissions item (Rerun number queue) = admissions ++ record { item = item; queue = queue; life = Waiting } ∷ []
-submit admissions item _ = admissions
+submit admissions item answer = option_map_or (λ queue. admissions ++ record { item = item; queue = queue; life = Waiting } ∷ []) (admitted_to answer) admissions
 
 -- the admission with another life
 abbrev pub with_life : Life → Admission → Admission

@@ -83,12 +83,14 @@ admit o item queue number = record o { lines = set o.lines queue (line o queue +
 abbrev pub drop_item : Open → ℕ → Open
 drop_item o item = record o { lines = map (without item) o.lines }
 
+-- the lowest of a line, where nothing runs
+abbrev pub if_free : Option Ticket → Option Ticket → Option Ticket
+if_free None lowest = lowest
+if_free (Some ticket) lowest = None
+
 -- what the queue may begin: the lowest of its line, where it runs nothing
 abbrev pub next : Open → ℕ → Option Ticket
-next o queue = if_free (run o queue) (first (line o queue)) where
-  if_free : Option Ticket → Option Ticket → Option Ticket
-  if_free None lowest = lowest
-  if_free (Some ticket) lowest = None
+next o queue = if_free (run o queue) (first (line o queue))
 
 -- the queue runs what waited with this ticket
 abbrev pub begun : Open → ℕ → Ticket → Open

@@ -1,0 +1,10 @@
+pub mod Asked
+pub mod Cancelling
+pub mod Changes
+pub mod Fresh
+pub mod Homes
+pub mod Replies
+pub mod Sound
+pub mod Standing
+pub mod Steps
+pub mod Tickets

@@ -1,17 +1,81 @@
-use Rattle.std.specs.Prelude.{◌≡◌, ℕ, ◌+◌, Bool, true, false, not, count_by}
+use Rattle.std.specs.Prelude.{◌≡◌, ℕ, ◌+◌, ◌<◌, ◌≤◌, Bool, true, false, not, Option, Some, None, option_to_list, List, [], length, count_by, slice_get, slice_index_or, All}
 use Rattle.zk_model_work.specs.declared.ops.WorkOp.{WorkOp}
 use Rattle.zk_model_work.specs.declared.ops.WorkOp.TheVariants.{End}
-use Rattle.zk_model_work.specs.Questions.{is_running}
-use Rattle.zk_model_work.specs.State.{State}
+use Rattle.zk_model_work.specs.declared.parts.Admission.{Admission}
+use Rattle.zk_model_work.specs.declared.parts.Queue.{Queue}
+use Rattle.zk_model_work.specs.Questions.{is_waiting, is_running, is_open, waits_as, waits_for, runs_on, last_queue, is_cancelling, passes_at}
+use Rattle.zk_model_work.specs.State.{State, IsCounted}
+use Rattle.zk_queue.specs.declared.ticket.Ticket.{Ticket}
+use Rattle.zk_queue.specs.Open.{Open, line, run, marks_of, IsAbove}
+use Rattle.zk_work.specs.Tickets.{tickets}
 
--- what a contract sees of the engine: the state that it keeps, and how many changes it takes without memory
+-- what a contract sees of the engine: the ticks, the entries and the admissions so far, how many runs are open, the queue of each item's last admission, the open admissions, and the queues
 pub record Kept : Type 0 where
-  pub state : State
-  pub room : ℕ
+  pub time : ℕ
+  pub entries : ℕ
+  pub made : ℕ
+  pub running : ℕ
+  pub last : List (Option ℕ)
+  pub active : Open
+  pub queues : List Queue
 
--- the engine stands for the state that it keeps
-abbrev pub StandsFor : Kept → State → Type 0
-StandsFor kept s = kept.state ≡ s
+-- the queue of the item's last admission
+abbrev pub last_of : Kept → ℕ → Option ℕ
+last_of k item = slice_index_or k.last item None
+
+-- the admission of this number was made, and waits no longer
+abbrev pub is_past_waiting : List Admission → ℕ → Bool
+is_past_waiting admissions number = passes_at (λ a. not (is_waiting a.life)) admissions number
+
+-- what holds of the admissions and marks of every state that a history leads to
+pub record IsSound (items : ℕ) (admissions : List Admission) (marks : List ℕ) : Type 0 where
+  -- there are so many items
+  pub known : (number : ℕ) (a : Admission) → slice_get admissions number ≡ Some a → a.item < items
+  -- an item waits at most once
+  pub once : (item : ℕ) → count_by (waits_as item) admissions ≤ 1
+  -- an admission that waits or runs is to the queue of its item's last one
+  pub home : (number : ℕ) (a : Admission) → slice_get admissions number ≡ Some a → is_open a.life ≡ true → last_queue admissions a.item ≡ Some a.queue
+  -- what a cancel has marked doesn't wait
+  pub marked : All (λ number. is_past_waiting admissions number ≡ true) marks
+
+-- the open admissions have a place for each item and each queue
+pub record IsShaped (o : Open) : Type 0 where
+  pub marks : length o.marks ≡ o.items
+  pub lines : length o.lines ≡ o.queues
+  pub runs : length o.runs ≡ o.queues
+
+-- what holds of all that the engine keeps
+pub record IsWhole (k : Kept) : Type 0 where
+  pub counted : IsCounted k.entries k.queues
+  pub fewer : k.made ≤ k.entries
+  pub fewest : k.running ≤ k.made
+  pub items : length k.last ≡ k.active.items
+  pub queues : length k.queues ≡ k.active.queues
+  pub shaped : IsShaped k.active
+  -- the next number is above those of all that wait
+  pub above : IsAbove k.made k.active
+  pub busy : (queue : ℕ) (t : Ticket) → run k.active queue ≡ Some t → 0 < k.running
+  pub known : (queue : ℕ) (t : Ticket) → run k.active queue ≡ Some t → t.item < k.active.items
+
+-- the engine stands for a state: what it keeps is what answers need of the state's lists
+pub record StandsFor (k : Kept) (s : State) : Type 0 where
+  pub whole : IsWhole k
+  pub time : k.time ≡ s.time
+  pub entries : k.entries ≡ s.entries
+  pub items : k.active.items ≡ s.items
+  pub queues : k.queues ≡ s.queues
+  -- no item is armed, and no player waits for the work service: no operation brings either
+  pub arms : s.arms ≡ []
+  pub waits : s.waits ≡ []
+  pub made : k.made ≡ length s.admissions
+  pub running : k.running ≡ count_by (λ a. is_running a.life) s.admissions
+  pub last : (item : ℕ) → last_of k item ≡ last_queue s.admissions item
+  -- each queue has the tickets of what waits for it, and of what it runs
+  pub lines : (queue : ℕ) → line k.active queue ≡ tickets (waits_for queue) s.admissions
+  pub runs : (queue : ℕ) → option_to_list (run k.active queue) ≡ tickets (runs_on queue) s.admissions
+  -- an item is marked where it is being cancelled
+  pub marks : (item : ℕ) → marks_of k.active item ≡ record { cancelling = is_cancelling s.admissions s.marks item; delayed = false; flushing = false }
+  pub sound : IsSound s.items s.admissions s.marks
 
 -- the entries still to come that end something: one for each run, and one for each wait that isn't answered
 abbrev pub work_owed : State → ℕ

@@ -1,53 +1,60 @@
-ghost use Rattle.std.specs.Prelude.{◌≡◌, ◌+◌, ◌-◌, ◌^◌, ◌<◌, ◌≤◌, true, false, length, AllPairs, ◌≢◌, Some, IsOk, IfOk, OnErr};
-ghost use Rattle.zk_model_work.specs.State.{start_of};
-ghost use Rattle.zk_model_work.specs.Machine.{work_reply, work_machine, after_reply, flags_of};
-ghost use Rattle.zk_work.specs.Kept.{StandsFor, work_owed, work_closes};
+ghost use Rattle.std.specs.Prelude.{◌≡◌, ℕ, ◌+◌, ◌-◌, ◌^◌, ◌<◌, ◌≤◌, true, length, AllPairs, ◌≢◌, None, replicate, IfOk};
+ghost use Rattle.zk_model_work.specs.State.{State, start_of};
+ghost use Rattle.zk_model_work.specs.Machine.{is_among, admitted_to};
+ghost use Rattle.zk_queue.specs.Open.{is_running};
+ghost use Rattle.zk_work.specs.Kept.{IsWhole, StandsFor};
+ghost use Rattle.zk_work.specs.Engine.{target_of, admission_of, answer_at, answer_of, MayAdmit, admitted, reply_of, after_reply};
 
+use crate::active::{busy_with, cancel, settle};
 use bitflags::Flags;
 use std::alloc::Global;
 use std::marker::Model;
-use zk_base::{Engine, NoMemory, Who};
+use zk_base::{Engine, Errno, NoMemory, Who};
 use zk_model_work::{
-    Admission, Arm, Queue, Wait, WorkOp, WorkReply, WorkState, begin, disarm, drop_waiting,
-    end_run, flags, fresh_queues, mark, may_begin, may_end, settle, start, start_reply, submission,
-    submit, taken_up,
+    BusyFlags, Queue, Submitted, WorkOp, WorkReply, WorkState, fresh_queues, is_worker, refusal,
+    start, start_reply,
 };
+use zk_queue::Queues;
 
-/// What the work service computes and keeps: all lists of its state, as they are.
+/// What the work service computes and keeps: the open admissions, and of all others only how many
+/// there were, and to which queue the last one of each item was.
 #[derive(Drop)]
 pub struct WorkEngine {
     time: u64,
     entries: u64,
-    items: u32,
-    admissions: Vec<Admission>,
-    arms: Vec<Arm>,
-    marks: Vec<u64>,
-    waits: Vec<Wait>,
+    // How many admissions were made: the number of the next one.
+    made: u64,
+    // How many of them run.
+    running: u64,
+    // The queue of each item's last admission. An item that runs, runs there.
+    last: Vec<Option<u32>>,
+    active: Queues,
     queues: Vec<Queue>,
 }
 
 impl Model for WorkEngine {
-    ghost use Rattle.std.specs.Prelude.{◌-◌, min, vec_len, vec_capacity};
-    ghost use Rattle.zk_model_work.specs.State.{State, IsCounted};
     ghost use Rattle.zk_work.specs.Kept.{Kept};
 
     ghost Value = { Kept };
 
     ghost view = { λ a. record {
-      state = record {
-        time = a.time;
-        entries = a.entries;
-        items = a.items;
-        admissions = a.admissions.items;
-        arms = a.arms.items;
-        marks = a.marks.items;
-        waits = a.waits.items;
-        queues = a.queues.items;
-      };
-      room = min (vec_capacity a.admissions - vec_len a.admissions) (vec_capacity a.marks - vec_len a.marks);
+      time = a.time;
+      entries = a.entries;
+      made = a.made;
+      running = a.running;
+      last = a.last.items;
+      active = a.active;
+      queues = a.queues.items;
     } };
+}
 
-    ghost invariant = { λ a. IsCounted a.entries a.queues.items };
+/// No queue for each item.
+fn no_queues(alloc: Global, items: u32) -> Result<Vec<Option<u32>>, NoMemory>
+    ensures { IfOk result (λ last. last.items ≡ replicate items None) }
+{
+    let mut last = Vec::new(alloc);
+    last.resize(items as usize, None)?;
+    Ok(last)
 }
 
 impl WorkEngine {
@@ -62,84 +69,119 @@ impl WorkEngine {
         requires differ { AllPairs (λ a b. a ≢ b) workers.now }
         requires queues { length workers.now ≤ 8 }
         requires items { items ≤ 256 }
-        ensures { IfOk result (λ e. e.state ≡ start_of items workers.now started.now) }
+        ensures { IfOk result (λ e. StandsFor e (start_of items workers.now started.now)) }
     {
         let queues = fresh_queues(alloc, workers, started)?;
+        let active = Queues::new(alloc, items, workers.len() as u32)?;
+        let last = no_queues(alloc, items)?;
         Ok(WorkEngine {
             time: 0,
             entries: 0,
-            items,
-            admissions: Vec::new(alloc),
-            arms: Vec::new(alloc),
-            marks: Vec::new(alloc),
-            waits: Vec::new(alloc),
+            made: 0,
+            running: 0,
+            last,
+            active,
             queues,
         })
     }
 
-    fn submit(
-        &mut self,
-        who: Who,
-        item: u32,
-        named: Option<u32>,
-    ) -> Result<Option<WorkReply>, NoMemory>
-        requires { self.old.state.entries < 2 ^ 32 - 1 }
-        ensures reply { IfOk result (λ reply.
-            reply ≡ work_reply self.old.state who (WorkOp.Submit item named)) }
-        ensures next { IfOk result (λ reply.
-            self.new.state ≡ after_reply self.old.state who (WorkOp.Submit item named) reply) }
-        ensures unchanged { OnErr result (self.new.state ≡ self.old.state) }
-        ensures roomy { 3 ≤ self.old.room → IsOk result }
-        ensures room { self.old.room ≤ self.new.room + 3 }
+    /// The queue that a submission goes to.
+    fn target(&self, item: u32, runs: bool, named: Option<u32>) -> Option<u32>
+        requires { item < length self.now.last }
+        ensures { result ≡ target_of self.now item runs named }
     {
-        let answer = submission(
-            &self.admissions,
-            &self.marks,
-            &self.queues,
-            Some(who.number),
-            item,
-            named,
-        );
-        submit(&mut self.admissions, item, answer)?;
-        self.entries += 1;
-        Ok(Some(WorkReply::Sub(answer)))
+        let last = self.last[item as usize];
+        if runs { last } else { named.or(last) }
     }
 
-    fn begin(&mut self, who: Who, queue: u32) -> Option<WorkReply>
-        requires { self.old.state.entries < 2 ^ 32 - 1 }
-        ensures reply { result ≡ work_reply self.old.state who (WorkOp.Begin queue) }
-        ensures next { self.new.state ≡ after_reply self.old.state who (WorkOp.Begin queue) result }
-        ensures room { self.new.room ≡ self.old.room }
+    /// The answer where the item is admitted.
+    fn admission(&self, runs: bool, number: u32) -> Submitted
+        ensures { result ≡ admission_of self.now runs number }
     {
-        if !may_begin(&self.admissions, &self.queues, who, queue) {
-            return None;
+        if runs {
+            Submitted::Rerun(self.made, number)
+        } else {
+            Submitted::Fresh(self.made, number)
         }
-        let reply = taken_up(&self.admissions, queue)?;
-        begin(&mut self.admissions, queue);
-        self.entries += 1;
-        Some(reply)
     }
 
-    fn end(&mut self, who: Who, queue: u32) -> Option<WorkReply>
-        requires { self.old.state.entries < 2 ^ 32 - 1 }
-        ensures reply { result ≡ work_reply self.old.state who (WorkOp.End queue) }
-        ensures next { self.new.state ≡ after_reply self.old.state who (WorkOp.End queue) result }
-        ensures room { self.new.room ≡ self.old.room }
+    /// The answer at the queue that the submission goes to.
+    fn answer_at(&self, caller: Option<u32>, runs: bool, to: Option<u32>) -> Submitted
+        ensures { result ≡ answer_at self.now caller runs to }
     {
-        if !may_end(&self.admissions, &self.queues, who, queue) {
-            return None;
+        let Some(number) = to else {
+            return Submitted::Refused(Errno::Inval);
+        };
+        match self.queues.get(number as usize) {
+            None => Submitted::Refused(Errno::Inval),
+            Some(queue) => match refusal(queue, caller) {
+                Some(errno) => Submitted::Refused(errno),
+                None => self.admission(runs, number),
+            },
         }
-        end_run(&mut self.admissions, queue);
-        settle(&self.admissions, &mut self.queues);
+    }
+
+    /// The answer to a submission of the item by this player, or by nobody.
+    fn answer(&self, caller: Option<u32>, item: u32, named: Option<u32>) -> Submitted
+        requires whole { IsWhole self.now }
+        requires item { item < self.now.active.items }
+        ensures answer { result ≡ answer_of self.now caller item named }
+        ensures admits { (queue : ℕ) → admitted_to result ≡ Some queue → MayAdmit self.now item queue }
+    {
+        let busy = busy_with(&self.active, item);
+        if busy.cancelling {
+            return Submitted::Refused(Errno::Busy);
+        }
+        if busy.waits {
+            return Submitted::Already;
+        }
+        self.answer_at(caller, busy.runs, self.target(item, busy.runs, named))
+    }
+
+    /// One more admission.
+    fn admit(&mut self, item: u32, queue: u32)
+        requires whole { IsWhole self.old }
+        requires item { item < self.old.active.items }
+        requires may { MayAdmit self.old item queue }
+        ensures { self.new ≡ admitted self.old item queue }
+    {
+        self.active.admit(item, queue, self.made);
+        self.last[item as usize] = Some(queue);
+        self.made += 1;
+    }
+
+    fn submit(&mut self, who: Who, item: u32, named: Option<u32>) -> Option<WorkReply>
+        requires whole { IsWhole self.old }
+        requires item { item < self.old.active.items }
+        ensures reply { result ≡ reply_of self.old who (WorkOp.Submit item named) }
+        ensures next { self.new ≡ after_reply self.old who (WorkOp.Submit item named) result }
+    {
+        let answer = self.answer(Some(who.number), item, named);
+        match answer {
+            Submitted::Fresh(_, queue) => self.admit(item, queue),
+            Submitted::Rerun(_, queue) => self.admit(item, queue),
+            _ => {}
+        }
         self.entries += 1;
-        Some(WorkReply::Done)
+        Some(WorkReply::Sub(answer))
+    }
+
+    fn cancel(&mut self, who: Who, item: u32) -> Option<WorkReply>
+        requires whole { IsWhole self.old }
+        requires item { item < self.old.active.items }
+        ensures reply { result ≡ reply_of self.old who (WorkOp.Cancel item) }
+        ensures next { self.new ≡ after_reply self.old who (WorkOp.Cancel item) result }
+    {
+        cancel(&mut self.active, item);
+        settle(&self.active, &mut self.queues);
+        self.entries += 1;
+        Some(WorkReply::Flags(self.active.flags(item).bits()))
     }
 
     fn start(&mut self, who: Who, queue: u32) -> Option<WorkReply>
-        requires { self.old.state.entries < 2 ^ 32 - 1 }
-        ensures reply { result ≡ work_reply self.old.state who (WorkOp.Start queue) }
-        ensures next { self.new.state ≡ after_reply self.old.state who (WorkOp.Start queue) result }
-        ensures room { self.new.room ≡ self.old.room }
+        requires whole { IsWhole self.old }
+        ensures reply { result ≡ reply_of self.old who (WorkOp.Start queue) }
+        ensures next { self.new ≡ after_reply self.old who (WorkOp.Start queue) result }
     {
         let reply = start_reply(&self.queues, queue);
         start(&mut self.queues, queue);
@@ -147,42 +189,51 @@ impl WorkEngine {
         Some(reply)
     }
 
-    fn cancel(&mut self, who: Who, item: u32) -> Result<Option<WorkReply>, NoMemory>
-        requires { self.old.state.entries < 2 ^ 32 - 1 }
-        ensures reply { IfOk result (λ reply.
-            reply ≡ Some (WorkReply.Flags (flags_of self.new.state item))) }
-        ensures next { IfOk result (λ reply.
-            self.new.state ≡ after_reply self.old.state who (WorkOp.Cancel item) reply) }
-        ensures unchanged { OnErr result (self.new.state ≡ self.old.state) }
-        ensures roomy { 3 ≤ self.old.room → IsOk result }
-        ensures room { self.old.room ≤ self.new.room + 3 }
+    fn begin(&mut self, who: Who, queue: u32) -> Option<WorkReply>
+        requires whole { IsWhole self.old }
+        requires queue { queue < self.old.active.queues }
+        ensures reply { result ≡ reply_of self.old who (WorkOp.Begin queue) }
+        ensures next { self.new ≡ after_reply self.old who (WorkOp.Begin queue) result }
     {
-        mark(&self.admissions, &mut self.marks, item)?;
-        drop_waiting(&mut self.admissions, item);
-        disarm(&mut self.arms, item);
-        settle(&self.admissions, &mut self.queues);
+        if !is_worker(&self.queues, queue, who.number) {
+            return None;
+        }
+        let (item, number) = self.active.begin(queue)?;
+        self.running += 1;
         self.entries += 1;
-        let flags = flags(&self.admissions, &self.marks, &self.arms, &self.waits, item);
-        Ok(Some(WorkReply::Flags(flags.bits())))
+        Some(WorkReply::Run(item, number))
+    }
+
+    fn end(&mut self, who: Who, queue: u32) -> Option<WorkReply>
+        requires whole { IsWhole self.old }
+        requires queue { queue < self.old.active.queues }
+        ensures reply { result ≡ reply_of self.old who (WorkOp.End queue) }
+        ensures next { self.new ≡ after_reply self.old who (WorkOp.End queue) result }
+    {
+        if !is_worker(&self.queues, queue, who.number) {
+            return None;
+        }
+        let (item, _) = self.active.end(queue)?;
+        self.active.mark(item, BusyFlags::empty());
+        settle(&self.active, &mut self.queues);
+        self.running -= 1;
+        self.entries += 1;
+        Some(WorkReply::Done)
     }
 
     /// One operation.
-    fn one(&mut self, who: Who, op: &WorkOp) -> Result<Option<WorkReply>, NoMemory>
-        requires { self.old.state.entries < 2 ^ 32 - 1 }
-        ensures reply { IfOk result (λ reply. reply ≡ work_reply self.old.state who op.now) }
-        ensures next { IfOk result (λ reply.
-            self.new.state ≡ after_reply self.old.state who op.now reply) }
-        ensures unchanged { OnErr result (self.new.state ≡ self.old.state) }
-        ensures closing { work_closes op.now ≡ true → IsOk result }
-        ensures roomy { 3 ≤ self.old.room → IsOk result }
-        ensures room { self.old.room ≤ self.new.room + 3 }
+    fn one(&mut self, who: Who, op: &WorkOp) -> Option<WorkReply>
+        requires whole { IsWhole self.old }
+        requires range { is_among self.old.active.items self.old.active.queues op.now ≡ true }
+        ensures reply { result ≡ reply_of self.old who op.now }
+        ensures next { self.new ≡ after_reply self.old who op.now result }
     {
         match *op {
             WorkOp::Submit(item, named) => self.submit(who, item, named),
             WorkOp::Cancel(item) => self.cancel(who, item),
-            WorkOp::Start(queue) => Ok(self.start(who, queue)),
-            WorkOp::Begin(queue) => Ok(self.begin(who, queue)),
-            WorkOp::End(queue) => Ok(self.end(who, queue)),
+            WorkOp::Start(queue) => self.start(who, queue),
+            WorkOp::Begin(queue) => self.begin(who, queue),
+            WorkOp::End(queue) => self.end(who, queue),
         }
     }
 }
@@ -194,14 +245,14 @@ impl Engine for WorkEngine {
 
     type State = WorkState;
 
-    ghost use Rattle.std.specs.Prelude.{false};
+    ghost use Rattle.std.specs.Prelude.{false, ◌^◌, ◌-◌};
     ghost use Rattle.zk_model_work.specs.Machine.{work_machine};
     ghost use Rattle.zk_work.specs.Kept.{StandsFor, work_owed, work_closes};
     ghost use Rattle.zk_work.specs.Laws.{counts, ranges, adds, gives};
 
     ghost stands_for = { StandsFor };
 
-    ghost room = { λ e. e.room };
+    ghost room = { λ e. 2 ^ 64 - 1 };
 
     ghost machine = { work_machine };
 
@@ -214,7 +265,7 @@ impl Engine for WorkEngine {
     ghost grows = { λ op. false };
 
     fn step(&mut self, who: Who, op: &WorkOp) -> Result<Option<(WorkReply, WorkReply)>, NoMemory> {
-        match self.one(who, op)? {
+        match self.one(who, op) {
             None => Ok(None),
             Some(reply) => Ok(Some((reply, reply))),
         }
@@ -225,25 +276,15 @@ impl Engine for WorkEngine {
     }
 
     fn owed(&self) -> u64 {
-        let runs = self
-            .admissions
-            .iter()
-            .filter(|a| a.life.is_running())
-            .count();
-        let waits = self.waits.iter().filter(|w| !w.answered).count();
-        runs as u64 + waits as u64
+        self.running
     }
 
     fn reserve(&mut self) -> Result<(), NoMemory> {
-        self.admissions.reserve(3)?;
-        self.marks.reserve(3)?;
         Ok(())
     }
 
     fn room(&self) -> u64 {
-        let admissions = self.admissions.capacity() - self.admissions.len();
-        let marks = self.marks.capacity() - self.marks.len();
-        admissions.min(marks) as u64
+        u64::MAX
     }
 
     ghost counts = { counts };

@@ -1,6 +1,7 @@
 //! The work service: all items and queues of a scenario, with their history.
 #![tactic(auto)]
 
+mod active;
 mod engine;
 mod work;
 

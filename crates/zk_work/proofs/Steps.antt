@@ -1,0 +1,116 @@
+-- Each operation of the engine is a step of the machine.
+use Rattle.std.proofs.Common.{◌≡◌, ℕ, ◌+◌, ◌-◌, ◌^◌, ◌<◌, Bool, true, false, cond, ltb, Option, Some, None, option_map, List, [], ◌∷◌, ◌++◌, length, refl, sym, ap, subst, ◌∙◌, arith}
+use Rattle.std.specs.Cmp.{first_so}
+use Rattle.std.specs.Option.{option_map_or}
+use Rattle.std.proofs.lemmas.Bool.{ltb-true}
+use Rattle.zk_base.specs.declared.ids.Who.{Who}
+use Rattle.zk_model_work.specs.declared.ops.WorkOp.{WorkOp}
+use Rattle.zk_model_work.specs.declared.ops.WorkOp.TheVariants.{Submit, Cancel, Start, Begin, End}
+use Rattle.zk_model_work.specs.declared.ops.Submitted.{Submitted}
+use Rattle.zk_model_work.specs.declared.ops.WorkReply.{WorkReply}
+use Rattle.zk_model_work.specs.declared.ops.WorkReply.TheVariants.{Sub, Flags, Done, Run}
+use Rattle.zk_model_work.specs.declared.parts.Life.TheVariants.{Waiting, Running}
+use Rattle.zk_model_work.specs.declared.parts.Queue.{Queue}
+use Rattle.zk_model_work.specs.Lists.{first}
+use Rattle.zk_model_work.specs.Questions.{waits_for, line}
+use Rattle.zk_model_work.specs.State.{State}
+use Rattle.zk_model_work.specs.Machine.{admitted_to, submission, set_life, start_reply, is_worker, cancel, work_reply, work_next, is_among}
+use Rattle.zk_model_work.proofs.Lines.{first_of_places}
+use Rattle.zk_model_work.proofs.Overlaps.{submission-admits, submission-within}
+use Rattle.zk_queue.specs.declared.ticket.Ticket.{Ticket}
+use Rattle.zk_queue.specs.Open as active
+use Rattle.zk_work.specs.Kept.{Kept, StandsFor}
+use Rattle.zk_work.specs.Engine.{admitted, cancelled, settled, reply_of, entered}
+use Rattle.zk_work.proofs.Tickets.{position-first}
+use Rattle.zk_work.proofs.Replies.{flags-same, answer-same, begin-same, end-same}
+use Rattle.zk_work.proofs.Standing.{admitted-stands, counted-stands, start-stands, cancel-stands, begin-stands, end-stands}
+
+-- the items and queues of an operation are those that there are
+pub ranges-same : (k : Kept) (s : State) (op : WorkOp) → StandsFor k s → is_among k.active.items k.active.queues op ≡ is_among s.items (length s.queues) op
+ranges-same k s op st =
+    ap (λ n. is_among n k.active.queues op) st.items ∙ ap (λ n. is_among s.items n op) (sym st.whole.queues ∙ ap length st.queues)
+
+-- the reply
+pub reply-same : (k : Kept) (s : State) (who : Who) (op : WorkOp) → StandsFor k s → is_among s.items (length s.queues) op ≡ true → s.entries < 2 ^ 32 - 1 → reply_of k who op ≡ work_reply s who op
+reply-same k s who (Submit item named) st range few = ap (λ (a : Submitted). Some (Sub a)) (answer-same k s st (Some who.number) item named)
+reply-same k s who (Cancel item) st range few =
+    let after = cancel-stands k s item st (ltb-true item s.items range) few in
+    ap (λ n. Some (Flags n)) (flags-same (record (settled k (cancelled k.active item)) { entries = k.entries + 1 }) (record (cancel s item) { entries = s.entries + 1 }) after item)
+reply-same k s who (Start queue) st range few = ap (λ (qs : List Queue). Some (start_reply qs queue)) st.queues
+reply-same k s who (Begin queue) st range few = begin-same k s st who queue
+reply-same k s who (End queue) st range few = end-same k s st who queue
+
+chosen : (b : Bool) (o : Option WorkReply) (reply : WorkReply) → cond b o None ≡ Some reply → o ≡ Some reply
+chosen true o reply is = is
+chosen false o reply is = absurd (cc)
+
+-- the state
+pub next-stands : (k : Kept) (s : State) (who : Who) (op : WorkOp) (reply : WorkReply) → StandsFor k s → is_among s.items (length s.queues) op ≡ true → s.entries < 2 ^ 32 - 1 → reply_of k who op ≡ Some reply →
+    StandsFor (entered k who op) (work_next s who op)
+next-stands k s who (Submit item named) reply st range few is =
+    subst (λ (a : Submitted). StandsFor (record (option_map_or (admitted k item) (admitted_to a) k) { entries = k.entries + 1 }) (work_next s who (Submit item named)))
+    (sym (answer-same k s st (Some who.number) item named)) (by (admitted_to answer) refl) where
+      answer : Submitted
+      answer = submission s.admissions s.marks s.queues (Some who.number) item named
+
+      item_in : item < s.items
+      item_in = ltb-true item s.items (first_so (ltb item s.items) (option_map_or (λ queue. ltb queue (length s.queues)) named true) range)
+
+      by : (to : Option ℕ) → admitted_to answer ≡ to →
+          StandsFor (record (option_map_or (admitted k item) to k) { entries = k.entries + 1 })
+          (record s { admissions = option_map_or (λ queue. s.admissions ++ record { item = item; queue = queue; life = Waiting } ∷ []) to s.admissions; entries = s.entries + 1 })
+      by None is = counted-stands k s st few
+      by (Some queue) is =
+          admitted-stands k s item queue named st (submission-admits s.admissions s.marks s.queues (Some who.number) item named queue is) item_in
+          (submission-within s.admissions s.marks s.queues (Some who.number) item named queue is) few
+next-stands k s who (Cancel item) reply st range few is = cancel-stands k s item st (ltb-true item s.items range) few
+next-stands k s who (Start queue) reply st range few is = start-stands k s queue st few
+next-stands k s who (Begin queue) reply st range few is =
+    by (active.run k.active queue) (first (active.line k.active queue)) refl refl
+    (chosen (is_worker k.queues queue who.number) (option_map (λ (t : Ticket). Run t.item t.number) (active.next k.active queue)) reply is) where
+      lowest : (t : Ticket) → first (active.line k.active queue) ≡ Some t → first (line s.admissions queue) ≡ Some t.number
+      lowest t is =
+          sym (first_of_places (waits_for queue) s.admissions) ∙ position-first (waits_for queue) s.admissions
+          ∙ ap (λ (ts : List Ticket). option_map (λ (t : Ticket). t.number) (first ts)) (sym (st.lines queue)) ∙ ap (option_map (λ (t : Ticket). t.number)) is
+
+      by : (r l : Option Ticket) → active.run k.active queue ≡ r → first (active.line k.active queue) ≡ l → option_map (λ (t : Ticket). Run t.item t.number) (active.if_free r l) ≡ Some reply →
+          StandsFor (record k { active = option_map_or (active.begun k.active queue) (active.if_free r l) k.active; running = k.running + 1; entries = k.entries + 1 })
+          (record s { admissions = option_map_or (λ number. set_life s.admissions number Running) (first (line s.admissions queue)) s.admissions; entries = s.entries + 1 })
+      by None None idle none is = absurd (cc)
+      by (Some t) l idle none is = absurd (cc)
+      by None (Some t) idle first_is is =
+          subst (λ (o : Option ℕ). StandsFor (record k { active = active.begun k.active queue t; running = k.running + 1; entries = k.entries + 1 })
+          (record s { admissions = option_map_or (λ number. set_life s.admissions number Running) o s.admissions; entries = s.entries + 1 })) (sym (lowest t first_is))
+          (begin-stands k s queue t st (ltb-true queue (length s.queues) range) few idle first_is)
+next-stands k s who (End queue) reply st range few is =
+    by (active.run k.active queue) refl (chosen (is_worker k.queues queue who.number) (option_map (λ (t : Ticket). Done) (active.run k.active queue)) reply is) where
+      by : (r : Option Ticket) → active.run k.active queue ≡ r → option_map (λ (t : Ticket). Done) r ≡ Some reply →
+          StandsFor (record (option_map_or (λ (t : Ticket). record (settled k (active.mark (active.end k.active queue) t.item 0)) { running = k.running - 1 }) r k) { entries = k.entries + 1 }) (work_next s who (End queue))
+      by None run is = absurd (cc)
+      by (Some t) run is = end-stands k s queue t st (ltb-true queue (length s.queues) range) few run
+
+-- what is asked where an operation is tried
+abbrev pub Ready : Kept → WorkOp → Type 0
+Ready k op = (s : State) × StandsFor k s × (is_among s.items (length s.queues) op ≡ true) × (s.entries < 2 ^ 32 - 1)
+
+among : (k : Kept) (s : State) (op : WorkOp) → Ready k op → StandsFor k s → is_among s.items (length s.queues) op ≡ true
+among k s op ready st = sym (ranges-same k s op st) ∙ ranges-same k ready.0 op ready.1 ∙ ready.2
+
+short : (k : Kept) (s : State) (op : WorkOp) → Ready k op → StandsFor k s → s.entries < 2 ^ 32 - 1
+short k s op ready st =
+    let one = st.entries in
+    let other = ready.1.entries in
+    let few = ready.3 in
+    omega arith
+
+-- an operation that isn't possible
+pub refused : (k : Kept) (s : State) (who : Who) (op : WorkOp) → Ready k op → StandsFor k s → reply_of k who op ≡ None → work_reply s who op ≡ None
+refused k s who op ready st is = sym (reply-same k s who op st (among k s op ready st) (short k s op ready st)) ∙ is
+
+-- one that is possible
+pub stepped : (k : Kept) (s : State) (who : Who) (op : WorkOp) (reply : WorkReply) → Ready k op → StandsFor k s → reply_of k who op ≡ Some reply →
+    (work_reply s who op ≡ Some reply) × StandsFor (entered k who op) (work_next s who op)
+stepped k s who op reply ready st is =
+    let in_range = among k s op ready st in
+    let few = short k s op ready st in
+    (sym (reply-same k s who op st in_range few) ∙ is, next-stands k s who op reply st in_range few is)
