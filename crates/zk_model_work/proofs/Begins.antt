@@ -13,16 +13,16 @@ use Rattle.zk_model_work.specs.declared.parts.Life.{Life}
 use Rattle.zk_model_work.specs.declared.parts.Life.TheVariants.{Waiting, Running, Ended, Dropped}
 use Rattle.zk_model_work.specs.declared.parts.Admission.{Admission}
 use Rattle.zk_model_work.specs.declared.ops.WorkOp.{WorkOp}
-use Rattle.zk_model_work.specs.declared.ops.WorkOp.TheVariants.{Submit, Cancel, Start, Begin, End}
+use Rattle.zk_model_work.specs.declared.ops.WorkOp.TheVariants.{Submit, Cancel, Start, DrainStart, DrainDone, Unplug, Begin, End}
 use Rattle.zk_model_work.specs.declared.ops.WorkReply.{WorkReply}
-use Rattle.zk_model_work.specs.declared.ops.WorkReply.TheVariants.{Sub, Flags, Done, Run}
+use Rattle.zk_model_work.specs.declared.ops.WorkReply.TheVariants.{Sub, Flags, Number, Done, Run}
 use Rattle.zk_model_work.specs.declared.ops.WorkReply.TheVariants as replies
 use Rattle.zk_model_work.specs.declared.ops.Submitted.{Submitted}
 use Rattle.zk_model_work.specs.declared.ops.Submitted.TheVariants.{Already, Fresh, Rerun, Refused}
 use Rattle.zk_model_work.specs.Lists.{first}
-use Rattle.zk_model_work.specs.Questions.{is_waiting, is_running, is_open, waits_as, runs_on, line}
+use Rattle.zk_model_work.specs.Questions.{is_waiting, is_running, is_open, waits_as, runs_on, line, is_empty_and_idle}
 use Rattle.zk_model_work.specs.State.{State}
-use Rattle.zk_model_work.specs.Machine.{work_next, work_reply, work_machine, submission, submit, set_life, with_life, begin, end_one, drop_one, cancel, flags_of, taken_up, may_begin, may_end, is_started, start_reply}
+use Rattle.zk_model_work.specs.Machine.{work_next, work_reply, work_machine, submission, submit, set_life, with_life, begin, end_one, drop_one, cancel, flags_of, taken_up, may_begin, may_end, may_drain_done, is_started, is_plugged, start_reply, drain_reply, unplug_reply}
 use Rattle.zk_model_work.specs.Laws.{IsWorkHistory, hands_out, begins, admission_after, EachBegunOnce, DroppedNeverBegun, RunOrDropped, NoneWaitsBefore, BeginsRise}
 use Rattle.zk_model_work.proofs.Lives.{Kept, Kept-after, IsFirst, IsFirst-line, set_life-at, set_life-aside}
 
@@ -139,6 +139,14 @@ handed-start : (n : ℕ) (was : Bool) → handed n (cond was replies.Already Don
 handed-start n true = refl
 handed-start n false = refl
 
+handed-drain : (n : ℕ) (idle : Bool) → handed n (cond idle (Number 0) replies.Wait) ≡ 0
+handed-drain n true = refl
+handed-drain n false = refl
+
+handed-unplug : (n : ℕ) (was : Bool) → handed n (cond was Done replies.Already) ≡ 0
+handed-unplug n true = refl
+handed-unplug n false = refl
+
 -- each entry counts
 step-begun : (s : State) (who : Who) (op : WorkOp) (reply : WorkReply) (n : ℕ) → work_reply s who op ≡ Some reply → handed n reply + begun (slice_get s.admissions n) ≡ begun (slice_get (work_next s who op).admissions n)
 step-begun s who (Submit item named) reply n is =
@@ -152,6 +160,15 @@ step-begun s who (Cancel item) reply n is =
     omega arith
 step-begun s who (Start queue) reply n is =
     let out : handed n reply ≡ 0 = ap (handed n) (sym (same_Some (start_reply s.queues queue) reply is)) ∙ handed-start n (is_started s.queues queue) in
+    omega arith
+step-begun s who (DrainStart queue plug) reply n is =
+    let out : handed n reply ≡ 0 = ap (handed n) (sym (same_Some (drain_reply (is_empty_and_idle s.admissions queue)) reply is)) ∙ handed-drain n (is_empty_and_idle s.admissions queue) in
+    omega arith
+step-begun s who (DrainDone place) reply n is =
+    let out : handed n reply ≡ 0 = ap (handed n) (sym (same_Some (Number 1) reply (chosen (may_drain_done s.queues s.waits who place) (Some (Number 1)) reply is))) in
+    omega arith
+step-begun s who (Unplug queue) reply n is =
+    let out : handed n reply ≡ 0 = ap (handed n) (sym (same_Some (unplug_reply s.queues queue) reply is)) ∙ handed-unplug n (is_plugged s.queues queue) in
     omega arith
 step-begun s who (Begin queue) reply n is = step-begun_reply s.admissions queue n reply (Begun-reply s who queue reply is)
 step-begun s who (End queue) reply n is =

@@ -16,7 +16,7 @@ use Rattle.zk_model_work.specs.declared.parts.Life.{Life}
 use Rattle.zk_model_work.specs.declared.parts.Life.TheVariants.{Waiting, Running, Dropped}
 use Rattle.zk_model_work.specs.declared.parts.Admission.{Admission}
 use Rattle.zk_model_work.specs.declared.ops.WorkOp.{WorkOp}
-use Rattle.zk_model_work.specs.declared.ops.WorkOp.TheVariants.{Submit, Cancel, Start, Begin, End}
+use Rattle.zk_model_work.specs.declared.ops.WorkOp.TheVariants.{Submit, Cancel, Start, DrainStart, DrainDone, Unplug, Begin, End}
 use Rattle.zk_model_work.specs.declared.ops.WorkReply.{WorkReply}
 use Rattle.zk_model_work.specs.declared.ops.WorkReply.TheVariants as replies
 use Rattle.zk_model_work.specs.declared.ops.Submitted.{Submitted}
@@ -58,6 +58,9 @@ Marked-next : (s : State) (who : Who) (op : WorkOp) (number : ℕ) → Marked nu
 Marked-next s who (Submit item named) number marked = marked
 Marked-next s who (Cancel item) number marked = Marked-more number s.marks (option_to_list (running s.admissions item)) marked
 Marked-next s who (Start queue) number marked = marked
+Marked-next s who (DrainStart queue plug) number marked = marked
+Marked-next s who (DrainDone place) number marked = marked
+Marked-next s who (Unplug queue) number marked = marked
 Marked-next s who (Begin queue) number marked = marked
 Marked-next s who (End queue) number marked = marked
 
@@ -145,6 +148,9 @@ new-next s who (Submit other named) item number it n b at past item_is =
     false≢true (sym (ap is_admitted refused) ∙ new.1)
 new-next s who (Cancel other) item number it n b at past item_is = none-new s.admissions (drop_waiting s.admissions other) n b (length-mapped (drop_one other) s.admissions) at past
 new-next s who (Start queue) item number it n b at past item_is = none-new s.admissions s.admissions n b refl at past
+new-next s who (DrainStart queue plug) item number it n b at past item_is = none-new s.admissions s.admissions n b refl at past
+new-next s who (DrainDone place) item number it n b at past item_is = none-new s.admissions s.admissions n b refl at past
+new-next s who (Unplug queue) item number it n b at past item_is = none-new s.admissions s.admissions n b refl at past
 new-next s who (Begin queue) item number it n b at past item_is = none-new s.admissions (begin s.admissions queue) n b (length-begin s.admissions queue) at past
 new-next s who (End queue) item number it n b at past item_is = none-new s.admissions (end_run s.admissions queue) n b (length-mapped (end_one queue) s.admissions) at past
 
@@ -238,6 +244,9 @@ not_admitted s who (Submit other named) reply item number it is = by (eqb_tells 
   by (inr other_one) = ap (λ b. b && says_admitted reply) other_one.0
 not_admitted s who (Cancel other) reply item number it is = refl
 not_admitted s who (Start queue) reply item number it is = refl
+not_admitted s who (DrainStart queue plug) reply item number it is = refl
+not_admitted s who (DrainDone place) reply item number it is = refl
+not_admitted s who (Unplug queue) reply item number it is = refl
 not_admitted s who (Begin queue) reply item number it is = refl
 not_admitted s who (End queue) reply item number it is = refl
 

@@ -1,10 +1,12 @@
 -- How often a queue has drained stays below the number of entries, and the queues that a state begins with.
-use Rattle.std.proofs.Common.{◌≡◌, ℕ, zero, suc, ◌+◌, ◌-◌, ◌^◌, ◌<◌, ◌≤◌, Bool, true, false, ◌&&◌, cond, List, [], ◌∷◌, ◌++◌, length, get_or, take, drop, All, refl, sym, ap, subst, ◌∙◌, arith}
+use Rattle.std.proofs.Common.{◌≡◌, ℕ, zero, suc, ◌+◌, ◌-◌, ◌^◌, ◌<◌, ◌≤◌, Bool, true, false, not, ◌&&◌, cond, List, [], ◌∷◌, ◌++◌, length, get_or, take, drop, All, refl, sym, ap, subst, ◌∙◌, arith}
 use Rattle.std.proofs.Math.Seq.{take-append_seam}
 use Rattle.std.proofs.lemmas.List.Elements.{All-nil, All-cons, All-head, All-tail}
 use Rattle.zk_model_work.specs.declared.parts.Queue.{Queue}
+use Rattle.zk_model_work.specs.declared.parts.Change.{Change}
+use Rattle.zk_model_work.specs.declared.parts.Change.TheVariants as changes
 use Rattle.zk_model_work.specs.State.{IsCounted, fresh_queue, fresh_queues}
-use Rattle.zk_model_work.specs.Machine.{start, settle_one, settle_from}
+use Rattle.zk_model_work.specs.Machine.{changed_queue, change, change_where, drain, settle_one, settle_from}
 
 pub length-settle_from : (idle : ℕ → Bool) (from : ℕ) (xs : List Queue) → length (settle_from idle from xs) ≡ length xs
 length-settle_from idle from [] = refl
@@ -57,43 +59,62 @@ IsCounted-settle entries len idle old new was few same said =
     let P : List Queue → Type 0 = λ qs. IsCounted (entries + 1) qs in
     subst P (sym (whole len old new same long ∙ said)) (IsCounted-settled entries idle old was few)
 
-pub length-start : (qs : List Queue) (n : ℕ) → length (start qs n) ≡ length qs
-length-start [] n = refl
-length-start (q ∷ qs) zero = refl
-length-start (q ∷ qs) (suc n) = ap suc (length-start qs n)
+pub length-change : (c : Change) (qs : List Queue) (n : ℕ) → length (change c qs n) ≡ length qs
+length-change c [] n = refl
+length-change c (q ∷ qs) zero = refl
+length-change c (q ∷ qs) (suc n) = ap suc (length-change c qs n)
 
--- a start drains nothing
-drained-start : (qs : List Queue) (number n : ℕ) → All (λ (q : Queue). q.drained ≤ n) qs → All (λ (q : Queue). q.drained ≤ n + 1) (start qs number)
-drained-start [] number n most = let P : Queue → Type 0 = λ q. q.drained ≤ n + 1 in All-nil P
-drained-start (q ∷ qs) zero n most =
-    let Q : Queue → Type 0 = λ q. q.drained ≤ n in
-    let P : Queue → Type 0 = λ q. q.drained ≤ n + 1 in
-    let here = All-head Q q qs most in
-    All-cons P (record q { started = true }) qs (omega arith) (λ k d within. let one = All-tail Q q qs most k d within in omega arith)
-drained-start (q ∷ qs) (suc number) n most =
-    let Q : Queue → Type 0 = λ q. q.drained ≤ n in
-    let P : Queue → Type 0 = λ q. q.drained ≤ n + 1 in
-    let here = All-head Q q qs most in
-    All-cons P q (start qs number) (omega arith) (drained-start qs number n (All-tail Q q qs most))
+-- no change counts a draining
+drained-changed : (c : Change) (q : Queue) → (changed_queue c q).drained ≡ q.drained
+drained-changed changes.Start q = refl
+drained-changed changes.Plug q = refl
+drained-changed changes.Unplug q = refl
+drained-changed changes.Drain q = refl
 
--- an entry that starts a queue
-pub IsCounted-started : (entries number : ℕ) (qs : List Queue) → IsCounted entries qs → entries < 2 ^ 32 - 1 → IsCounted (entries + 1) (start qs number)
-IsCounted-started entries number qs was few =
+drained-change : (c : Change) (qs : List Queue) (number n : ℕ) → All (λ (q : Queue). q.drained ≤ n) qs → All (λ (q : Queue). q.drained ≤ n) (change c qs number)
+drained-change c [] number n most = most
+drained-change c (q ∷ qs) zero n most =
+    let P : Queue → Type 0 = λ q. q.drained ≤ n in
+    let here = All-head P q qs most in
+    let same = drained-changed c q in
+    All-cons P (changed_queue c q) qs (omega arith) (All-tail P q qs most)
+drained-change c (q ∷ qs) (suc number) n most =
+    let P : Queue → Type 0 = λ q. q.drained ≤ n in
+    All-cons P q (change c qs number) (All-head P q qs most) (drained-change c qs number n (All-tail P q qs most))
+
+-- a change of a queue
+pub IsCounted-change : (c : Change) (entries number : ℕ) (qs : List Queue) → IsCounted entries qs → IsCounted entries (change c qs number)
+IsCounted-change c entries number qs was =
     let was_few = was.few in
-    let long = length-start qs number in
-    record {
-      drained = drained-start qs number entries was.drained;
-      entries_fit = omega arith;
-      few = omega arith;
-    }
+    let long = length-change c qs number in
+    record { drained = drained-change c qs number entries was.drained; entries_fit = was.entries_fit; few = omega arith }
+
+-- an entry that changes a queue
+pub IsCounted-changed : (c : Change) (entries number : ℕ) (qs : List Queue) → IsCounted entries qs → entries < 2 ^ 32 - 1 → IsCounted (entries + 1) (change c qs number)
+IsCounted-changed c entries number qs was few = IsCounted-more entries (change c qs number) (IsCounted-change c entries number qs was) few
+
+change-where-counted : (asked : Bool) (c : Change) (entries number : ℕ) (qs : List Queue) → IsCounted entries qs → IsCounted entries (change_where asked c qs number)
+change-where-counted true c entries number qs was = IsCounted-change c entries number qs was
+change-where-counted false c entries number qs was = was
+
+pub length-change_where : (asked : Bool) (c : Change) (qs : List Queue) (n : ℕ) → length (change_where asked c qs n) ≡ length qs
+length-change_where true c qs n = length-change c qs n
+length-change_where false c qs n = refl
+
+-- the start of a drain
+pub length-drain : (idle plug : Bool) (qs : List Queue) (n : ℕ) → length (drain idle plug qs n) ≡ length qs
+length-drain idle plug qs n = length-change_where (not idle) changes.Drain (change_where plug changes.Plug qs n) n ∙ length-change_where plug changes.Plug qs n
+
+pub IsCounted-drain : (idle plug : Bool) (entries number : ℕ) (qs : List Queue) → IsCounted entries qs → IsCounted entries (drain idle plug qs number)
+IsCounted-drain idle plug entries number qs was =
+    change-where-counted (not idle) changes.Drain entries number (change_where plug changes.Plug qs number) (change-where-counted plug changes.Plug entries number qs was)
 
 -- and writes it in its place
-pub IsCounted-start : (entries len number : ℕ) (old new : List Queue) → IsCounted entries old → entries < 2 ^ 32 - 1 → len ≡ length old → new ≡ start old number →
+pub IsCounted-written : (entries len : ℕ) (old new : List Queue) → IsCounted entries new → entries < 2 ^ 32 - 1 → len ≡ length old → length new ≡ length old →
     IsCounted (entries + 1) (take len (new ++ drop (length new) old))
-IsCounted-start entries len number old new was few same said =
-    let long : length new ≡ length old = ap length said ∙ length-start old number in
+IsCounted-written entries len old new now few same long =
     let P : List Queue → Type 0 = λ qs. IsCounted (entries + 1) qs in
-    subst P (sym (whole len old new same long ∙ said)) (IsCounted-started entries number old was few)
+    subst P (sym (whole len old new same long)) (IsCounted-more entries new now few)
 
 -- one queue more
 pub fresh_queues-more : (workers : List ℕ) (started : List Bool) (n w : ℕ) (on : Bool) → n < length workers → length workers ≡ length started →

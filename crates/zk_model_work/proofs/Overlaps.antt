@@ -16,15 +16,15 @@ use Rattle.zk_model_work.specs.declared.parts.Life.TheVariants.{Waiting, Running
 use Rattle.zk_model_work.specs.declared.parts.Admission.{Admission}
 use Rattle.zk_model_work.specs.declared.parts.Queue.{Queue}
 use Rattle.zk_model_work.specs.declared.ops.WorkOp.{WorkOp}
-use Rattle.zk_model_work.specs.declared.ops.WorkOp.TheVariants.{Submit, Cancel, Start, Begin, End}
+use Rattle.zk_model_work.specs.declared.ops.WorkOp.TheVariants.{Submit, Cancel, Start, DrainStart, DrainDone, Unplug, Begin, End}
 use Rattle.zk_model_work.specs.declared.ops.WorkReply.{WorkReply}
 use Rattle.zk_model_work.specs.declared.ops.WorkReply.TheVariants as replies
 use Rattle.zk_model_work.specs.declared.ops.Submitted.{Submitted}
 use Rattle.zk_model_work.specs.declared.ops.Submitted.TheVariants.{Already, Fresh, Rerun, Refused}
 use Rattle.zk_model_work.specs.Lists.{first}
-use Rattle.zk_model_work.specs.Questions.{is_waiting, is_running, is_open, waits_as, runs_as, runs_on, waiting, running, running_queue, last_queue, line, run, is_cancelling}
+use Rattle.zk_model_work.specs.Questions.{is_waiting, is_running, is_open, waits_as, runs_as, runs_on, waiting, running, running_queue, last_queue, line, run, is_empty_and_idle, is_cancelling}
 use Rattle.zk_model_work.specs.State.{State}
-use Rattle.zk_model_work.specs.Machine.{work_next, work_reply, work_machine, target, admission, refusal, submission_to, submission_at, submission, admitted_to, submit, set_life, with_life, begin, end_one, drop_one, may_begin, may_end, is_worker, is_started, taken_up}
+use Rattle.zk_model_work.specs.Machine.{work_next, work_reply, work_machine, target, admission, refusal, submission_to, submission_at, submission, admitted_to, submit, set_life, with_life, begin, end_one, drop_one, may_begin, may_end, may_drain_done, is_worker, is_started, is_plugged, taken_up}
 use Rattle.zk_model_work.specs.Laws.{IsWorkHistory, ends, NotBegunDuringRun, RunsToItsEnd, EndsBetweenBegins}
 use Rattle.zk_model_work.proofs.Lives.{IsFirst, IsFirst-line, set_life-at, set_life-aside}
 use Rattle.zk_model_work.proofs.Begins.{Begun, Begun-reply, Begun-entry, state_after-append, Replays-rest}
@@ -310,6 +310,9 @@ Ordered-next s who (Submit item named) reply is ordered =
     (λ queue to. submission-admits s.admissions s.marks s.queues (Some who.number) item named queue to) ordered
 Ordered-next s who (Cancel item) reply is ordered = Ordered-map (drop_one item) (kept-drop_one item) s.admissions ordered
 Ordered-next s who (Start queue) reply is ordered = ordered
+Ordered-next s who (DrainStart queue plug) reply is ordered = ordered
+Ordered-next s who (DrainDone place) reply is ordered = ordered
+Ordered-next s who (Unplug queue) reply is ordered = ordered
 Ordered-next s who (Begin queue) reply is ordered = Ordered-begin s.admissions queue reply (Begun-reply s who queue reply is) (idle-begin s who queue reply is) ordered
 Ordered-next s who (End queue) reply is ordered = Ordered-map (end_one queue) (kept-end_one queue) s.admissions ordered
 
@@ -328,6 +331,18 @@ is_begin s who (Start queue) item number is = absurd (not_started (is_started s.
   not_started : (b : Bool) → Some (cond b replies.Already replies.Done) ≡ Some (replies.Run item number) → ⊥
   not_started true is = cc
   not_started false is = cc
+is_begin s who (DrainStart queue plug) item number is = absurd (not_waiting (is_empty_and_idle s.admissions queue) is) where
+  not_waiting : (b : Bool) → Some (cond b (replies.Number 0) replies.Wait) ≡ Some (replies.Run item number) → ⊥
+  not_waiting true is = cc
+  not_waiting false is = cc
+is_begin s who (DrainDone place) item number is = absurd (not_drained (may_drain_done s.queues s.waits who place) is) where
+  not_drained : (b : Bool) → cond b (Some (replies.Number 1)) None ≡ Some (replies.Run item number) → ⊥
+  not_drained true is = cc
+  not_drained false is = cc
+is_begin s who (Unplug queue) item number is = absurd (not_unplugged (is_plugged s.queues queue) is) where
+  not_unplugged : (b : Bool) → Some (cond b replies.Done replies.Already) ≡ Some (replies.Run item number) → ⊥
+  not_unplugged true is = cc
+  not_unplugged false is = cc
 is_begin s who (Begin queue) item number is = (queue, refl)
 is_begin s who (End queue) item number is = absurd (not_ended (may_end s.admissions s.queues who queue) is) where
   not_ended : (b : Bool) → cond b (Some replies.Done) None ≡ Some (replies.Run item number) → ⊥
@@ -435,6 +450,9 @@ still-next s who (Submit item named) n a runs goes_on at = still-submit s.admiss
 still-next s who (Cancel item) n a runs goes_on at =
     still-map (drop_one item) s.admissions n a (still-cond (waits_as item a) a Dropped (not_both (eqb a.item item) (is_waiting a.life) (running-not a.life runs))) at
 still-next s who (Start queue) n a runs goes_on at = at
+still-next s who (DrainStart queue plug) n a runs goes_on at = at
+still-next s who (DrainDone place) n a runs goes_on at = at
+still-next s who (Unplug queue) n a runs goes_on at = at
 still-next s who (Begin queue) n a runs goes_on at = still-begin s.admissions queue n a runs at
 still-next s who (End queue) n a runs goes_on at =
     still-map (end_one queue) s.admissions n a (still-cond (runs_on queue a) a Ended (not_first (eqb a.queue queue) (is_running a.life) goes_on)) at

@@ -1,11 +1,12 @@
 -- A life that is set at a place, and the queues that are settled one after another.
-use Rattle.std.proofs.Common.{◌≡◌, ℕ, zero, suc, ◌+◌, ◌<◌, ◌≤◌, Bool, true, List, [], ◌∷◌, ◌++◌, length, map, get_or, set, take, drop, All, refl, sym, ap, subst, ◌∙◌, add-zero, arith}
+use Rattle.std.proofs.Common.{◌≡◌, ℕ, zero, suc, ◌+◌, ◌<◌, ◌≤◌, Bool, List, [], ◌∷◌, ◌++◌, length, map, get_or, set, take, drop, All, refl, sym, ap, subst, ◌∙◌, add-zero, arith}
 use Rattle.std.proofs.lemmas.List.{get_or_default}
 use Rattle.std.proofs.lemmas.List.Edits.{map_over_more}
 use Rattle.zk_model_work.specs.declared.parts.Life.{Life}
 use Rattle.zk_model_work.specs.declared.parts.Admission.{Admission}
 use Rattle.zk_model_work.specs.declared.parts.Queue.{Queue}
-use Rattle.zk_model_work.specs.Machine.{with_life, set_life, start, settle_one, settle_from}
+use Rattle.zk_model_work.specs.declared.parts.Change.{Change}
+use Rattle.zk_model_work.specs.Machine.{with_life, set_life, changed_queue, change, settle_one, settle_from}
 
 -- a life that is written at a place
 pub set-life : (xs : List Admission) (n : ℕ) (d : Admission) (life : Life) → n < length xs → set xs n (with_life life (get_or xs n d)) ≡ set_life xs n life
@@ -19,17 +20,17 @@ set_life-past [] n life past = refl
 set_life-past (a ∷ rest) zero life past = absurd (omega arith)
 set_life-past (a ∷ rest) (suc n) life past = ap (λ (xs : List Admission). a ∷ xs) (set_life-past rest n life (omega arith))
 
--- a queue that is started at a place
-pub set-start : (qs : List Queue) (n : ℕ) (d : Queue) → n < length qs → set qs n (record (get_or qs n d) { started = true }) ≡ start qs n
-set-start [] n d within = absurd (omega arith)
-set-start (q ∷ rest) zero d within = refl
-set-start (q ∷ rest) (suc n) d within = ap (λ (qs : List Queue). q ∷ qs) (set-start rest n d (omega arith))
+-- a queue that is changed at a place
+pub set-change : (c : Change) (qs : List Queue) (n : ℕ) (d : Queue) → n < length qs → set qs n (changed_queue c (get_or qs n d)) ≡ change c qs n
+set-change c [] n d within = absurd (omega arith)
+set-change c (q ∷ rest) zero d within = refl
+set-change c (q ∷ rest) (suc n) d within = ap (λ (qs : List Queue). q ∷ qs) (set-change c rest n d (omega arith))
 
--- past the end there is nothing to start
-pub start-past : (qs : List Queue) (n : ℕ) → length qs ≤ n → qs ≡ start qs n
-start-past [] n past = refl
-start-past (q ∷ rest) zero past = absurd (omega arith)
-start-past (q ∷ rest) (suc n) past = ap (λ (qs : List Queue). q ∷ qs) (start-past rest n (omega arith))
+-- past the end there is nothing to change
+pub change-past : (c : Change) (qs : List Queue) (n : ℕ) → length qs ≤ n → qs ≡ change c qs n
+change-past c [] n past = refl
+change-past c (q ∷ rest) zero past = absurd (omega arith)
+change-past c (q ∷ rest) (suc n) past = ap (λ (qs : List Queue). q ∷ qs) (change-past c rest n (omega arith))
 
 -- one more element of a list is mapped in its place
 pub mapped-more : {X : Type 0} (f : X → X) (xs ys : List X) (i : ℕ) (d y : X) → i < length xs → length ys ≡ length xs → ys ≡ map f (take i xs) ++ drop i xs → y ≡ f (get_or ys i d) →

@@ -1,22 +1,28 @@
 use Rattle.std.specs.Prelude.{ℕ, zero, suc, ◌+◌, Bool, true, false, not, nat_lt, ◌==◌, ◌&&◌, if◌then◌else◌, Option, Some, None, is_some, is_none, option_map, option_and_then, option_to_list, List, [], ◌∷◌, ◌++◌, length, map, slice_get}
+use Rattle.std.specs.List.{list_any}
 use Rattle.std.specs.Option.{option_map_or, option_or}
 use Rattle.zk_base.specs.declared.ids.Who.{Who}
 use Rattle.zk_base.specs.declared.errors.Errno.{Errno}
 use Rattle.zk_base.specs.declared.errors.Errno.TheVariants.{Busy, Inval, NoDev}
 use Rattle.zk_base.specs.Legal.{Machine}
 use Rattle.zk_model_work.specs.declared.ops.WorkOp.{WorkOp}
-use Rattle.zk_model_work.specs.declared.ops.WorkOp.TheVariants.{Submit, Cancel, Start, Begin, End}
+use Rattle.zk_model_work.specs.declared.ops.WorkOp.TheVariants.{Submit, Cancel, Start, DrainStart, DrainDone, Unplug, Begin, End}
 use Rattle.zk_model_work.specs.declared.ops.Submitted.{Submitted}
 use Rattle.zk_model_work.specs.declared.ops.Submitted.TheVariants.{Already, Fresh, Rerun, Refused}
 use Rattle.zk_model_work.specs.declared.ops.WorkReply.{WorkReply}
-use Rattle.zk_model_work.specs.declared.ops.WorkReply.TheVariants.{Sub, Flags, Done, Run}
+use Rattle.zk_model_work.specs.declared.ops.WorkReply.TheVariants.{Sub, Flags, Number, Done, Run}
 use Rattle.zk_model_work.specs.declared.ops.WorkReply.TheVariants as replies
 use Rattle.zk_model_work.specs.declared.parts.Life.{Life}
 use Rattle.zk_model_work.specs.declared.parts.Life.TheVariants.{Waiting, Running, Ended, Dropped}
 use Rattle.zk_model_work.specs.declared.parts.Admission.{Admission}
 use Rattle.zk_model_work.specs.declared.parts.Fate.TheVariants.{Disarmed}
 use Rattle.zk_model_work.specs.declared.parts.Arm.{Arm}
+use Rattle.zk_model_work.specs.declared.parts.Awaited.{Awaited}
+use Rattle.zk_model_work.specs.declared.parts.Awaited.TheVariants.{Drain}
+use Rattle.zk_model_work.specs.declared.parts.Wait.{Wait}
 use Rattle.zk_model_work.specs.declared.parts.Queue.{Queue}
+use Rattle.zk_model_work.specs.declared.parts.Change.{Change}
+use Rattle.zk_model_work.specs.declared.parts.Change.TheVariants as changes
 use Rattle.zk_model_work.specs.Lists.{first}
 use Rattle.zk_model_work.specs.State.{State}
 use Rattle.zk_model_work.specs.Questions.{waits_as, runs_on, arms_item, waiting, running, running_queue, last_queue, line, run, is_empty_and_idle, is_cancelling, flags}
@@ -133,11 +139,65 @@ end s queue =
     let admissions = end_run s.admissions queue in
     record s { admissions = admissions; queues = settle admissions s.queues }
 
--- the queue of this number, if there is one, is started
-abbrev pub start : List Queue → ℕ → List Queue
-start [] number = []
-start (queue ∷ queues) zero = record queue { started = true } ∷ queues
-start (queue ∷ queues) (suc number) = queue ∷ start queues number
+-- a queue after a change of it
+abbrev pub changed_queue : Change → Queue → Queue
+changed_queue changes.Start queue = record queue { started = true }
+changed_queue changes.Plug queue = record queue { plugged = true }
+changed_queue changes.Unplug queue = record queue { plugged = false }
+changed_queue changes.Drain queue = record queue { draining = true }
+
+-- the queue of this number, if there is one, is changed so
+abbrev pub change : Change → List Queue → ℕ → List Queue
+change c [] number = []
+change c (queue ∷ queues) zero = changed_queue c queue ∷ queues
+change c (queue ∷ queues) (suc number) = queue ∷ change c queues number
+
+-- the queue of this number is changed so, where this is so
+abbrev pub change_where : Bool → Change → List Queue → ℕ → List Queue
+change_where asked c queues number = if asked then change c queues number else queues
+
+-- how many drainings of the queue have ended
+abbrev pub drained_of : List Queue → ℕ → ℕ
+drained_of queues number = option_map_or (λ queue. queue.drained) (slice_get queues number) 0
+
+-- the wait of a player for one more draining of the queue to end
+abbrev pub drain_wait : State → Who → ℕ → Wait
+drain_wait s who queue = record { place = s.entries; player = who.number; awaited = Drain queue (drained_of s.queues queue); answered = false }
+
+-- the queue after the start of a drain: plugged where that was asked, and draining unless it is idle
+abbrev pub drain : Bool → Bool → List Queue → ℕ → List Queue
+drain idle plug queues number = change_where (not idle) changes.Drain (change_where plug changes.Plug queues number) number
+
+-- the waits with one more, unless there is nothing to wait for
+abbrev pub wait_unless : Bool → List Wait → Wait → List Wait
+wait_unless idle waits w = if idle then waits else waits ++ w ∷ []
+
+-- the state after the start of a drain, in which the player waits unless the queue is empty and idle
+abbrev pub drain_start : State → Who → ℕ → Bool → State
+drain_start s who queue plug =
+    let idle = is_empty_and_idle s.admissions queue in
+    record s { queues = drain idle plug s.queues queue; waits = wait_unless idle s.waits (drain_wait s who queue) }
+
+-- what a drain awaits has come: more drainings of its queue have ended than it names
+abbrev pub has_drained : List Queue → Awaited → Bool
+has_drained queues (Drain queue count) = nat_lt count (drained_of queues queue)
+has_drained queues awaited = false
+
+-- it is the player's wait of this place, and isn't answered yet
+abbrev pub is_unanswered : ℕ → ℕ → Wait → Bool
+is_unanswered place player w = (w.place == place) && (w.player == player) && not w.answered
+
+-- the player waits since this place for a drain that is over
+abbrev pub may_drain_done : List Queue → List Wait → Who → ℕ → Bool
+may_drain_done queues waits who place = list_any (λ w. is_unanswered place who.number w && has_drained queues w.awaited) waits
+
+-- a wait, answered where it is of this place
+abbrev pub answer_one : ℕ → Wait → Wait
+answer_one place w = if w.place == place then record w { answered = true } else w
+
+-- the wait of this place is answered
+abbrev pub answer : List Wait → ℕ → List Wait
+answer waits place = map (answer_one place) waits
 
 -- the flags of an item in a state
 abbrev pub flags_of : State → ℕ → ℕ
@@ -164,15 +224,30 @@ may_end admissions queues who queue = is_worker queues queue who.number && is_so
 abbrev pub is_started : List Queue → ℕ → Bool
 is_started queues number = option_map_or (λ queue. queue.started) (slice_get queues number) false
 
+-- the queue of this number is plugged
+abbrev pub is_plugged : List Queue → ℕ → Bool
+is_plugged queues number = option_map_or (λ queue. queue.plugged) (slice_get queues number) false
+
 -- whether a start finds the queue started
 abbrev pub start_reply : List Queue → ℕ → WorkReply
 start_reply queues number = if is_started queues number then replies.Already else Done
+
+-- whether an unplug finds the queue plugged
+abbrev pub unplug_reply : List Queue → ℕ → WorkReply
+unplug_reply queues number = if is_plugged queues number then Done else replies.Already
+
+-- whether a drain has to wait: it hasn't where the queue is idle
+abbrev pub drain_reply : Bool → WorkReply
+drain_reply idle = if idle then Number 0 else replies.Wait
 
 -- the reply to each operation, where it is possible
 abbrev pub work_reply : State → Who → WorkOp → Option WorkReply
 work_reply s who (Submit item named) = Some (Sub (submission s.admissions s.marks s.queues (Some who.number) item named))
 work_reply s who (Cancel item) = Some (Flags (flags_of (cancel s item) item))
 work_reply s who (Start queue) = Some (start_reply s.queues queue)
+work_reply s who (DrainStart queue plug) = Some (drain_reply (is_empty_and_idle s.admissions queue))
+work_reply s who (DrainDone place) = if may_drain_done s.queues s.waits who place then Some (Number 1) else None
+work_reply s who (Unplug queue) = Some (unplug_reply s.queues queue)
 work_reply s who (Begin queue) = if may_begin s.admissions s.queues who queue then taken_up s.admissions queue else None
 work_reply s who (End queue) = if may_end s.admissions s.queues who queue then Some Done else None
 
@@ -180,7 +255,10 @@ work_reply s who (End queue) = if may_end s.admissions s.queues who queue then S
 abbrev pub changed : State → Who → WorkOp → State
 changed s who (Submit item named) = record s { admissions = submit s.admissions item (submission s.admissions s.marks s.queues (Some who.number) item named) }
 changed s who (Cancel item) = cancel s item
-changed s who (Start queue) = record s { queues = start s.queues queue }
+changed s who (Start queue) = record s { queues = change changes.Start s.queues queue }
+changed s who (DrainStart queue plug) = drain_start s who queue plug
+changed s who (DrainDone place) = record s { waits = answer s.waits place }
+changed s who (Unplug queue) = record s { queues = change changes.Unplug s.queues queue }
 changed s who (Begin queue) = record s { admissions = begin s.admissions queue }
 changed s who (End queue) = end s queue
 
@@ -197,6 +275,9 @@ abbrev pub is_among : ℕ → ℕ → WorkOp → Bool
 is_among items queues (Submit item named) = nat_lt item items && option_map_or (λ queue. nat_lt queue queues) named true
 is_among items queues (Cancel item) = nat_lt item items
 is_among items queues (Start queue) = nat_lt queue queues
+is_among items queues (DrainStart queue plug) = nat_lt queue queues
+is_among items queues (DrainDone place) = true
+is_among items queues (Unplug queue) = nat_lt queue queues
 is_among items queues (Begin queue) = nat_lt queue queues
 is_among items queues (End queue) = nat_lt queue queues
 

@@ -1,9 +1,10 @@
 ghost use Rattle.std.specs.Prelude.{◌≡◌, Some, None};
-ghost use Rattle.zk_model_work.specs.Machine.{is_chained, target, admission, refusal, submission_to, submission_at, submission, taken_up, may_begin, may_end, start_reply};
+ghost use Rattle.zk_model_work.specs.Machine.{is_chained, target, admission, refusal, submission_to, submission_at, submission, taken_up, may_begin, may_end, start_reply, drain_reply, unplug_reply, may_drain_done};
 
 use crate::{
-    Admission, Queue, Submitted, WorkReply, first_in_line, is_cancelling, is_started, is_worker,
-    last_queue, run, running, running_queue, waiting,
+    Admission, Queue, Submitted, Wait, WorkReply, first_in_line, has_drained, is_cancelling,
+    is_plugged, is_started, is_unanswered, is_worker, last_queue, run, running, running_queue,
+    waiting,
 };
 use zk_base::{Errno, Who};
 
@@ -146,4 +147,33 @@ pub fn start_reply(queues: &[Queue], queue: u32) -> WorkReply
     } else {
         WorkReply::Done
     }
+}
+
+/// What the start of a drain is answered: whether it has to wait. It hasn't where the queue is idle.
+pub fn drain_reply(idle: bool) -> WorkReply
+    ensures { result ≡ drain_reply idle }
+{
+    if idle {
+        WorkReply::Number(0)
+    } else {
+        WorkReply::Wait
+    }
+}
+
+/// What an unplug of this queue is answered: whether it was plugged before.
+pub fn unplug_reply(queues: &[Queue], queue: u32) -> WorkReply
+    ensures { result ≡ unplug_reply queues.now queue }
+{
+    if is_plugged(queues, queue) {
+        WorkReply::Done
+    } else {
+        WorkReply::Already
+    }
+}
+
+/// Whether the player waits since this place for a drain that is over.
+pub fn may_drain_done(queues: &[Queue], waits: &[Wait], who: Who, place: u64) -> bool
+    ensures { result ≡ may_drain_done queues.now waits.now who place }
+{
+    waits.iter().any(|w| is_unanswered(*w, place, who.number) && has_drained(queues, w.awaited))
 }

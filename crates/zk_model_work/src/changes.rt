@@ -1,8 +1,8 @@
 ghost use Rattle.std.specs.Prelude.{◌≡◌, ◌+◌, ◌-◌, ◌^◌, ◌<◌, ◌++◌, length, All, option_to_list};
 ghost use Rattle.zk_model_work.specs.Questions.{running, runs_on, waits_as, arms_item, is_empty_and_idle};
-ghost use Rattle.zk_model_work.specs.Machine.{set_life, begin, end_run, drop_waiting, disarm, start, settle_one, settle, end_one, drop_one, disarm_one};
+ghost use Rattle.zk_model_work.specs.Machine.{set_life, begin, end_run, drop_waiting, disarm, changed_queue, change, drain, answer_one, answer, settle_one, settle, end_one, drop_one, disarm_one};
 
-use crate::{Admission, Arm, Fate, Life, Queue, first_in_line, is_empty_and_idle};
+use crate::{Admission, Arm, Change, Fate, Life, Queue, Wait, first_in_line, is_empty_and_idle};
 
 /// The admission, ended if the queue runs it.
 fn end_one(admission: Admission, queue: u32) -> Admission
@@ -92,13 +92,39 @@ pub fn begin(admissions: &mut [Admission], queue: u32)
     }
 }
 
-/// The queue of this number, if there is one, is started.
-pub fn start(queues: &mut [Queue], number: u32)
-    ensures { queues.new ≡ start queues.old number }
+/// The queue after a change of it.
+fn changed_queue(queue: Queue, how: Change) -> Queue
+    ensures { result ≡ changed_queue how queue }
+{
+    let mut queue = queue;
+    match how {
+        Change::Start => queue.started = true,
+        Change::Plug => queue.plugged = true,
+        Change::Unplug => queue.plugged = false,
+        Change::Drain => queue.draining = true,
+    }
+    queue
+}
+
+/// The queue of this number, if there is one, is changed so.
+pub fn change(queues: &mut [Queue], number: u32, how: Change)
+    ensures { queues.new ≡ change how queues.old number }
 {
     let number = number as usize;
     if number < queues.len() {
-        queues[number].started = true;
+        queues[number] = changed_queue(queues[number], how);
+    }
+}
+
+/// The queue of this number, after the start of a drain.
+pub fn drain(queues: &mut [Queue], number: u32, idle: bool, plug: bool)
+    ensures { queues.new ≡ drain idle plug queues.old number }
+{
+    if plug {
+        change(queues, number, Change::Plug);
+    }
+    if !idle {
+        change(queues, number, Change::Drain);
     }
 }
 
@@ -126,5 +152,28 @@ pub fn settle(admissions: &[Admission], queues: &mut [Queue])
 {
     for number in 0..queues.len() {
         queues[number] = settle_one(admissions, number as u32, queues[number]);
+    }
+}
+
+/// The wait, answered where it is of this place.
+fn answer_one(wait: Wait, place: u64) -> Wait
+    ensures { result ≡ answer_one place wait }
+{
+    if wait.place == place {
+        Wait {
+            answered: true,
+            ..wait
+        }
+    } else {
+        wait
+    }
+}
+
+/// The wait of this place is answered.
+pub fn answer(waits: &mut [Wait], place: u64)
+    ensures { waits.new ≡ answer waits.old place }
+{
+    for index in 0..waits.len() {
+        waits[index] = answer_one(waits[index], place);
     }
 }

@@ -10,6 +10,12 @@ pub enum WorkOp {
     Cancel(u32),
     /// Starts a queue, so that it takes items. Zephyr's `k_work_queue_start`.
     Start(u32),
+    /// Starts a drain of a queue, which is plugged too where this is true. Zephyr's `k_work_queue_drain`.
+    DrainStart(u32, bool),
+    /// The drain that was started by the caller at this place of the history is over.
+    DrainDone(u64),
+    /// Takes a plug away, so that the queue takes items again. Zephyr's `k_work_queue_unplug`.
+    Unplug(u32),
     /// The queue's worker takes up the next admission.
     Begin(u32),
     /// The queue's worker has played the handler to its end.
@@ -36,6 +42,10 @@ pub enum WorkReply {
     Sub(Submitted),
     /// The busy flags of an item, below 32: 1 running, 2 cancelling, 4 queued, 8 delayed, 16 flushing.
     Flags(u8),
+    /// It isn't over yet: the caller waits for its end.
+    Wait,
+    /// A number. Of a drain 0 where nothing had to be awaited, and 1 once it is over.
+    Number(u64),
     /// Done, with nothing to say of it.
     Done,
     /// Nothing was done, since it was done before.

@@ -113,3 +113,16 @@ pub struct Queue {
     /// How many drainings of it have ended.
     pub drained: u64,
 }
+
+/// What an operation changes of a queue.
+#[derive(Clone, Copy, Debug)]
+pub enum Change {
+    /// It takes items from now on.
+    Start,
+    /// It takes no items but while it drains.
+    Plug,
+    /// It isn't plugged any more.
+    Unplug,
+    /// It drains until nothing of it waits or runs.
+    Drain,
+}

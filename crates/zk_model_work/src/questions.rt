@@ -2,7 +2,7 @@ ghost use Rattle.std.specs.Prelude.{◌≡◌, ◌+◌, option_map, position};
 ghost use Rattle.std.specs.Option.{option_map_or};
 ghost use Rattle.zk_model_work.specs.Lists.{first};
 ghost use Rattle.zk_model_work.specs.Questions.{waiting, running, running_queue, last_queue, line, run, is_empty_and_idle, is_cancelling, armed, is_flushing, waits_as, runs_as, is_open_as, waits_for, flushes, passes_at};
-ghost use Rattle.zk_model_work.specs.Machine.{is_worker, is_started};
+ghost use Rattle.zk_model_work.specs.Machine.{is_worker, is_started, is_plugged, drained_of, has_drained, is_unanswered};
 
 use crate::{Admission, Arm, Awaited, Queue, Wait};
 
@@ -97,6 +97,43 @@ pub fn is_started(queues: &[Queue], number: u32) -> bool
         None => false,
         Some(queue) => queue.started,
     }
+}
+
+/// Whether this queue is plugged.
+pub fn is_plugged(queues: &[Queue], number: u32) -> bool
+    ensures { result ≡ is_plugged queues.now number }
+{
+    match queues.get(number as usize) {
+        None => false,
+        Some(queue) => queue.plugged,
+    }
+}
+
+/// How many drainings of this queue have ended.
+pub fn drained_of(queues: &[Queue], number: u32) -> u64
+    ensures { result ≡ drained_of queues.now number }
+{
+    match queues.get(number as usize) {
+        None => 0,
+        Some(queue) => queue.drained,
+    }
+}
+
+/// Whether this is a drain that is over.
+pub fn has_drained(queues: &[Queue], awaited: Awaited) -> bool
+    ensures { result ≡ has_drained queues.now awaited }
+{
+    match awaited {
+        Awaited::Drain(queue, count) => count < drained_of(queues, queue),
+        _ => false,
+    }
+}
+
+/// Whether this is the player's wait of this place, and isn't answered yet.
+pub fn is_unanswered(wait: Wait, place: u64, player: u32) -> bool
+    ensures { result ≡ is_unanswered place player wait }
+{
+    wait.place == place && wait.player == player && !wait.answered
 }
 
 /// Whether the admission of this number is a running one of the item.

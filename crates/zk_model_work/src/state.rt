@@ -1,10 +1,12 @@
 ghost use Rattle.std.specs.Prelude.{◌≡◌, ◌≢◌, ◌+◌, ◌-◌, ◌^◌, ◌<◌, ◌≤◌, length, vec_len, vec_capacity, AllPairs, Some, IsOk, IfOk, OnOk, OnErr};
 ghost use Rattle.zk_model_work.specs.State.{State, start_of, fresh_queues};
-ghost use Rattle.zk_model_work.specs.Machine.{work_reply, after_reply, submit, mark, flags_of};
+ghost use Rattle.zk_model_work.specs.Machine.{work_reply, after_reply, submit, mark, wait_unless, flags_of};
 
 use crate::{
-    Admission, Arm, Life, Queue, Submitted, Wait, WorkOp, WorkReply, begin, disarm, drop_waiting,
-    end_run, flags, may_begin, may_end, running, settle, start, start_reply, submission, taken_up,
+    Admission, Arm, Awaited, Change, Life, Queue, Submitted, Wait, WorkOp, WorkReply, answer,
+    begin, change, disarm, drain, drain_reply, drained_of, drop_waiting, end_run, flags,
+    is_empty_and_idle, may_begin, may_drain_done, may_end, running, settle, start_reply,
+    submission, taken_up, unplug_reply,
 };
 use bitflags::Flags;
 use std::alloc::Global;
@@ -84,6 +86,22 @@ pub fn mark(admissions: &[Admission], marks: &mut Vec<u64>, item: u32) -> Result
             Ok(())
         }
     }
+}
+
+/// One wait more, unless there is nothing to wait for.
+pub fn wait_unless(idle: bool, waits: &mut Vec<Wait>, wait: Wait) -> Result<(), NoMemory>
+    ensures ok { OnOk result (waits.new.items ≡ wait_unless idle waits.old.items wait) }
+    ensures err { OnErr result (waits.new.items ≡ waits.old.items) }
+
+    // Memory: one place of it is enough.
+    ensures roomy { vec_len waits.old < vec_capacity waits.old → IsOk result }
+    ensures len { vec_len waits.new ≤ vec_len waits.old + 1 }
+    ensures capacity { vec_capacity waits.old ≤ vec_capacity waits.new }
+{
+    if !idle {
+        waits.push(wait)?;
+    }
+    Ok(())
 }
 
 /// The queues of these workers, none of them used yet.
@@ -197,7 +215,57 @@ impl WorkState {
         ensures next { self.new ≡ after_reply self.old who (WorkOp.Start queue) result }
     {
         let reply = start_reply(&self.queues, queue);
-        start(&mut self.queues, queue);
+        change(&mut self.queues, queue, Change::Start);
+        self.entries += 1;
+        Some(reply)
+    }
+
+    fn drain_start(
+        &mut self,
+        who: Who,
+        queue: u32,
+        plug: bool,
+    ) -> Result<Option<WorkReply>, NoMemory>
+        requires { self.old.entries < 2 ^ 32 - 1 }
+        ensures reply { IfOk result (λ reply.
+            reply ≡ work_reply self.old who (WorkOp.DrainStart queue plug)) }
+        ensures next { IfOk result (λ reply.
+            self.new ≡ after_reply self.old who (WorkOp.DrainStart queue plug) reply) }
+        ensures unchanged { OnErr result (self.new ≡ self.old) }
+    {
+        let idle = is_empty_and_idle(&self.admissions, queue);
+        let wait = Wait {
+            place: self.entries,
+            player: who.number,
+            awaited: Awaited::Drain(queue, drained_of(&self.queues, queue)),
+            answered: false,
+        };
+        wait_unless(idle, &mut self.waits, wait)?;
+        drain(&mut self.queues, queue, idle, plug);
+        self.entries += 1;
+        Ok(Some(drain_reply(idle)))
+    }
+
+    fn drain_done(&mut self, who: Who, place: u64) -> Option<WorkReply>
+        requires { self.old.entries < 2 ^ 32 - 1 }
+        ensures reply { result ≡ work_reply self.old who (WorkOp.DrainDone place) }
+        ensures next { self.new ≡ after_reply self.old who (WorkOp.DrainDone place) result }
+    {
+        if !may_drain_done(&self.queues, &self.waits, who, place) {
+            return None;
+        }
+        answer(&mut self.waits, place);
+        self.entries += 1;
+        Some(WorkReply::Number(1))
+    }
+
+    fn unplug(&mut self, who: Who, queue: u32) -> Option<WorkReply>
+        requires { self.old.entries < 2 ^ 32 - 1 }
+        ensures reply { result ≡ work_reply self.old who (WorkOp.Unplug queue) }
+        ensures next { self.new ≡ after_reply self.old who (WorkOp.Unplug queue) result }
+    {
+        let reply = unplug_reply(&self.queues, queue);
+        change(&mut self.queues, queue, Change::Unplug);
         self.entries += 1;
         Some(reply)
     }
@@ -237,6 +305,9 @@ pub fn work_next(
         WorkOp::Submit(item, named) => state.submit(who, item, named),
         WorkOp::Cancel(item) => state.cancel(who, item),
         WorkOp::Start(queue) => Ok(state.start(who, queue)),
+        WorkOp::DrainStart(queue, plug) => state.drain_start(who, queue, plug),
+        WorkOp::DrainDone(place) => Ok(state.drain_done(who, place)),
+        WorkOp::Unplug(queue) => Ok(state.unplug(who, queue)),
         WorkOp::Begin(queue) => Ok(state.begin(who, queue)),
         WorkOp::End(queue) => Ok(state.end(who, queue)),
     }

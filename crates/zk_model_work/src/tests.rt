@@ -1,6 +1,6 @@
 ghost use Rattle.std.specs.Prelude.{◌+◌, ◌<◌, ◌≤◌, length, IfOk};
 
-use crate::WorkOp::{Begin, Cancel, End, Start, Submit};
+use crate::WorkOp::{Begin, Cancel, DrainDone, DrainStart, End, Start, Submit, Unplug};
 use crate::{WorkOp, WorkReply, WorkState, work_next};
 use std::alloc::Global;
 use std::process::Abort;
@@ -75,6 +75,52 @@ fn starts(rt: HostRuntime) -> Result<(), Fail> {
             (3, Begin(1), "Some(Run(0, 0))"),
             (3, Start(1), "Some(Already)"),
             (3, End(1), "Some(Done)"),
+        ],
+    )
+}
+
+/// Two players drain one queue, and its handler still submits.
+#[test]
+fn drains(rt: HostRuntime) -> Result<(), Fail> {
+    play(
+        &rt,
+        rt.alloc(),
+        &[
+            (0, Submit(0, Some(0)), "Some(Sub(Fresh(0, 0)))"),
+            (0, DrainStart(0, false), "Some(Wait)"),
+            (1, DrainStart(0, false), "Some(Wait)"),
+            (1, Submit(1, Some(0)), "Some(Sub(Refused(Busy)))"),
+            (2, Begin(0), "Some(Run(0, 0))"),
+            (2, Submit(1, Some(0)), "Some(Sub(Fresh(1, 0)))"),
+            (2, End(0), "Some(Done)"),
+            (0, DrainDone(1), "None"),
+            (0, Cancel(1), "Some(Flags(0))"),
+            (1, DrainDone(1), "None"),
+            (0, DrainDone(1), "Some(Number(1))"),
+            (0, DrainDone(1), "None"),
+        ],
+    )
+}
+
+/// A plug outlives its drain, and a drain of an idle queue doesn't wait.
+#[test]
+fn plugs(rt: HostRuntime) -> Result<(), Fail> {
+    play(
+        &rt,
+        rt.alloc(),
+        &[
+            (0, DrainStart(1, false), "Some(Number(0))"),
+            (0, DrainStart(0, true), "Some(Number(0))"),
+            (0, Submit(0, Some(0)), "Some(Sub(Refused(Busy)))"),
+            (0, Unplug(0), "Some(Done)"),
+            (0, Unplug(0), "Some(Already)"),
+            (0, Submit(0, Some(0)), "Some(Sub(Fresh(0, 0)))"),
+            (0, DrainStart(0, true), "Some(Wait)"),
+            (2, Begin(0), "Some(Run(0, 0))"),
+            (1, Unplug(0), "Some(Done)"),
+            (2, End(0), "Some(Done)"),
+            (0, DrainDone(6), "Some(Number(1))"),
+            (0, Submit(0, None), "Some(Sub(Fresh(1, 0)))"),
         ],
     )
 }

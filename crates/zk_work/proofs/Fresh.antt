@@ -4,11 +4,12 @@ use Rattle.std.proofs.lemmas.Bool.Decides.{leb_tells}
 use Rattle.std.proofs.lemmas.List.{get_or_past, length-replicate, get_or-replicate}
 use Rattle.std.proofs.lemmas.List.Elements.{All-replicate, All-nil}
 use Rattle.zk_model_work.specs.declared.parts.Queue.{Queue}
+use Rattle.zk_model_work.specs.declared.parts.Wait.{Wait}
 use Rattle.zk_model_work.specs.State.{fresh_queues, start_of}
 use Rattle.zk_model_work.proofs.Counts.{IsCounted-fresh, length-fresh_queues}
 use Rattle.zk_queue.specs.declared.ticket.Ticket.{Ticket}
 use Rattle.zk_queue.specs.Open as active
-use Rattle.zk_work.specs.Kept.{Kept, StandsFor}
+use Rattle.zk_work.specs.Kept.{Kept, is_drain, StandsFor}
 use Rattle.zk_work.proofs.Sound.{IsSound-fresh}
 
 -- all places of a list alike, and the same beyond
@@ -20,7 +21,7 @@ alike {A} n i a = by (leb_tells n i) where
 
 -- nothing waits, runs or is marked
 pub fresh-stands : (items : ℕ) (workers : List ℕ) (started : List Bool) → length workers ≡ length started → length workers ≤ 8 →
-    StandsFor (record { time = 0; entries = 0; made = 0; running = 0; last = replicate items None; active = active.nothing_open items (length workers); queues = fresh_queues workers started })
+    StandsFor (record { time = 0; entries = 0; made = 0; running = 0; last = replicate items None; active = active.nothing_open items (length workers); waits = []; queues = fresh_queues workers started })
     (start_of items workers started)
 fresh-stands items workers started same few =
     let long = length-fresh_queues workers started same in
@@ -46,6 +47,7 @@ fresh-stands items workers started same few =
       queues = refl;
       arms = refl;
       waits = refl;
+      drains = All-nil (λ (w : Wait). is_drain w.awaited ≡ true);
       made = refl;
       running = refl;
       last = λ i. alike items i None;
@@ -58,11 +60,12 @@ fresh-stands items workers started same few =
       none t is = cc
 
 -- made of parts that are as said
-pub fresh_is : (items : ℕ) (workers : List ℕ) (started : List Bool) (last : List (Option ℕ)) (o : active.Open) (queues : List Queue) →
-    last ≡ replicate items None → o ≡ active.nothing_open items (length workers) → queues ≡ fresh_queues workers started →
-    StandsFor (record { time = 0; entries = 0; made = 0; running = 0; last = replicate items None; active = active.nothing_open items (length workers); queues = fresh_queues workers started }) (start_of items workers started) →
-    StandsFor (record { time = 0; entries = 0; made = 0; running = 0; last = last; active = o; queues = queues }) (start_of items workers started)
-fresh_is items workers started last o queues last_is o_is queues_are stands =
-    let K : List (Option ℕ) → active.Open → List Queue → Kept = λ l o q. record { time = 0; entries = 0; made = 0; running = 0; last = l; active = o; queues = q } in
+pub fresh_is : (items : ℕ) (workers : List ℕ) (started : List Bool) (waits : List Wait) (last : List (Option ℕ)) (o : active.Open) (queues : List Queue) →
+    waits ≡ [] → last ≡ replicate items None → o ≡ active.nothing_open items (length workers) → queues ≡ fresh_queues workers started →
+    StandsFor (record { time = 0; entries = 0; made = 0; running = 0; last = replicate items None; active = active.nothing_open items (length workers); waits = []; queues = fresh_queues workers started }) (start_of items workers started) →
+    StandsFor (record { time = 0; entries = 0; made = 0; running = 0; last = last; active = o; waits = waits; queues = queues }) (start_of items workers started)
+fresh_is items workers started waits last o queues none last_is o_is queues_are stands =
+    let K : List Wait → List (Option ℕ) → active.Open → List Queue → Kept = λ ws l o q. record { time = 0; entries = 0; made = 0; running = 0; last = l; active = o; waits = ws; queues = q } in
     let S : Kept → Type 0 = λ k. StandsFor k (start_of items workers started) in
-    subst (λ l. S (K l o queues)) (sym last_is) (subst (λ o. S (K (replicate items None) o queues)) (sym o_is) (subst (λ qs. S (K (replicate items None) (active.nothing_open items (length workers)) qs)) (sym queues_are) stands))
+    subst (λ ws. S (K ws last o queues)) (sym none) (subst (λ l. S (K [] l o queues)) (sym last_is) (subst (λ o. S (K [] (replicate items None) o queues)) (sym o_is)
+    (subst (λ qs. S (K [] (replicate items None) (active.nothing_open items (length workers)) qs)) (sym queues_are) stands)))

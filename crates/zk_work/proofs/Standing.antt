@@ -1,31 +1,35 @@
 -- After each operation the engine stands for the machine's next state.
+use Rattle.zk_base.specs.declared.ids.Who.{Who}
 use Rattle.std.proofs.Common.{◌≡◌, ℕ, zero, suc, ◌+◌, ◌-◌, ◌^◌, ◌<◌, ◌≤◌, ◌⊎◌, inl, inr, ◌≢◌, Bool, true, false, not, ◌&&◌, cond, eqb, ◌==◌, Option, Some, None, is_some, option_map, option_to_list, List, [], ◌∷◌, ◌++◌, length, length-append, map, get_or, set, slice_get, count_by, All, refl, sym, ap, subst, ◌∙◌, arith}
 use Rattle.std.specs.Cmp.{first_so, second_so}
 use Rattle.std.proofs.Math.ListN.{get_or-map}
 use Rattle.std.proofs.lemmas.Bool.{eqb-true, eq-eqb, false≢true}
 use Rattle.std.proofs.lemmas.Bool.Decides.{eqb_tells}
 use Rattle.std.proofs.lemmas.List.{get_or-set_same, get_or-set_other, length-set, length-map, append-nil}
-use Rattle.std.proofs.lemmas.List.Elements.{All-set, All-append, All-cons, All-nil, All-weaker}
+use Rattle.std.proofs.lemmas.List.Elements.{All-set, All-append, All-cons, All-nil, All-weaker, All-map, filter-append}
 use Rattle.std.proofs.lemmas.List.Sums.{count_by-le-length}
 use Rattle.std.proofs.lemmas.Option.{slice_get-map, same_Some}
 use Rattle.zk_model_work.specs.declared.parts.Life.TheVariants.{Waiting, Running, Ended}
 use Rattle.zk_model_work.specs.declared.parts.Admission.{Admission}
 use Rattle.zk_model_work.specs.declared.parts.Queue.{Queue}
+use Rattle.zk_model_work.specs.declared.parts.Change.{Change}
+use Rattle.zk_model_work.specs.declared.parts.Awaited.TheVariants.{Drain}
+use Rattle.zk_model_work.specs.declared.parts.Wait.{Wait}
 use Rattle.zk_model_work.specs.declared.parts.Arm.{Arm}
 use Rattle.zk_model_work.specs.Lists.{first}
 use Rattle.zk_model_work.specs.Questions.{is_waiting, is_running, waits_as, runs_as, waits_for, runs_on, running, last_queue, line, run, is_empty_and_idle, is_cancelling}
 use Rattle.zk_model_work.specs.State.{State}
-use Rattle.zk_model_work.specs.Machine.{with_life, set_life, drop_one, end_one, settle_from, start, end, cancel, disarm}
-use Rattle.zk_model_work.proofs.Counts.{IsCounted-more, IsCounted-settled, IsCounted-started, length-settle_from, length-start}
+use Rattle.zk_model_work.specs.Machine.{with_life, set_life, drop_one, end_one, settle_from, end, cancel, disarm, change, drain, drain_start, drain_wait, drained_of, wait_unless, answer_one, answer}
+use Rattle.zk_model_work.proofs.Counts.{IsCounted-more, IsCounted-settled, IsCounted-changed, IsCounted-drain, length-settle_from, length-change, length-drain}
 use Rattle.zk_model_work.proofs.Overlaps.{Admits, open-running}
 use Rattle.zk_queue.specs.declared.ticket.Ticket.{Ticket}
 use Rattle.zk_queue.specs.Line.{without}
 use Rattle.zk_queue.specs.Open as active
 use Rattle.zk_queue.specs.Open.{Open, IsAbove}
 use Rattle.zk_queue.proofs.Numbers.{IsAbove-drop}
-use Rattle.zk_work.specs.Kept.{Kept, IsSound, StandsFor}
+use Rattle.zk_work.specs.Kept.{Kept, IsSound, StandsFor, unanswered, is_drain}
 use Rattle.zk_work.specs.Tickets.{tickets}
-use Rattle.zk_work.specs.Engine.{admitted, cancelled, settled}
+use Rattle.zk_work.specs.Engine.{admitted, cancelled, settled, wait_of, drained, without_place}
 use Rattle.zk_work.proofs.Tickets.{ticket, first_stands, Stands, tickets-push, tickets-map, tickets-map_none, tickets-one, count-push, count-map, count-some}
 use Rattle.zk_work.proofs.Changes.{is_nil, length-nil, idle-tickets, without-drop, without-begin, runs-begin, runs-begin_other, runs_on-drop, runs_on-end, runs_on-end_other, running-drop, running-begin, running-end, waits_for-end, item-drop, queue-drop, item-end, queue-end}
 use Rattle.zk_work.proofs.Homes.{last-push, last-map, last-set_life}
@@ -62,7 +66,7 @@ settle-same f g n (q ∷ qs) same =
     ∙ ap (λ (rest : List Queue). cond (q.draining && g n) (record q { draining = false; drained = q.drained + 1 }) q ∷ rest) (settle-same f g (n + 1) qs same)
 
 -- a queue is idle alike
-idle-same : (o : Open) (xs : List Admission) (queue : ℕ) → active.line o queue ≡ tickets (waits_for queue) xs → option_to_list (active.run o queue) ≡ tickets (runs_on queue) xs →
+pub idle-same : (o : Open) (xs : List Admission) (queue : ℕ) → active.line o queue ≡ tickets (waits_for queue) xs → option_to_list (active.run o queue) ≡ tickets (runs_on queue) xs →
     active.is_idle o queue ≡ is_empty_and_idle xs queue
 idle-same o xs queue line run =
     none (active.run o queue) (length (active.line o queue) == 0)
@@ -107,6 +111,7 @@ admitted-stands k s item queue named st admits item_in queue_in few =
       queues = st.queues;
       arms = st.arms;
       waits = st.waits;
+      drains = st.drains;
       made = (let long = length-append xs (a ∷ []) in omega arith);
       running = (let more = count-push (λ (a : Admission). is_running a.life) xs a in omega arith);
       last = λ i. last i (eqb_tells item i) (omega arith);
@@ -176,6 +181,7 @@ counted-stands k s st few =
       queues = st.queues;
       arms = st.arms;
       waits = st.waits;
+      drains = st.drains;
       made = st.made;
       running = st.running;
       last = st.last;
@@ -185,20 +191,20 @@ counted-stands k s st few =
       sound = st.sound;
     }
 
--- a start
-pub start-stands : (k : Kept) (s : State) (queue : ℕ) → StandsFor k s → s.entries < 2 ^ 32 - 1 →
-    StandsFor (record k { queues = start k.queues queue; entries = k.entries + 1 }) (record s { queues = start s.queues queue; entries = s.entries + 1 })
-start-stands k s queue st few =
+-- a change of a queue
+pub change-stands : (c : Change) (k : Kept) (s : State) (queue : ℕ) → StandsFor k s → s.entries < 2 ^ 32 - 1 →
+    StandsFor (record k { queues = change c k.queues queue; entries = k.entries + 1 }) (record s { queues = change c s.queues queue; entries = s.entries + 1 })
+change-stands c k s queue st few =
     let w = st.whole in
     let entries = st.entries in
     let fewer = w.fewer in
     record {
       whole = record {
-        counted = IsCounted-started k.entries queue k.queues w.counted (omega arith);
+        counted = IsCounted-changed c k.entries queue k.queues w.counted (omega arith);
         fewer = omega arith;
         fewest = w.fewest;
         items = w.items;
-        queues = length-start k.queues queue ∙ w.queues;
+        queues = length-change c k.queues queue ∙ w.queues;
         shaped = w.shaped;
         above = w.above;
         busy = w.busy;
@@ -207,9 +213,134 @@ start-stands k s queue st few =
       time = st.time;
       entries = ap (λ n. n + 1) st.entries;
       items = st.items;
-      queues = ap (λ (qs : List Queue). start qs queue) st.queues;
+      queues = ap (λ (qs : List Queue). change c qs queue) st.queues;
       arms = st.arms;
       waits = st.waits;
+      drains = st.drains;
+      made = st.made;
+      running = st.running;
+      last = st.last;
+      lines = st.lines;
+      runs = st.runs;
+      marks = st.marks;
+      sound = st.sound;
+    }
+
+-- the start of a drain, by what it finds
+drain-stands_of : (idle plug : Bool) (w : Wait) (k : Kept) (s : State) (queue : ℕ) → StandsFor k s → s.entries < 2 ^ 32 - 1 → w.answered ≡ false → is_drain w.awaited ≡ true →
+    StandsFor (record k { queues = drain idle plug k.queues queue; waits = wait_unless idle k.waits w; entries = k.entries + 1 })
+    (record s { queues = drain idle plug s.queues queue; waits = wait_unless idle s.waits w; entries = s.entries + 1 })
+drain-stands_of idle plug w k s queue st few still drains =
+    let wh = st.whole in
+    let entries = st.entries in
+    let fewer = wh.fewer in
+    record {
+      whole = record {
+        counted = IsCounted-more k.entries (drain idle plug k.queues queue) (IsCounted-drain idle plug k.entries queue k.queues wh.counted) (omega arith);
+        fewer = omega arith;
+        fewest = wh.fewest;
+        items = wh.items;
+        queues = length-drain idle plug k.queues queue ∙ wh.queues;
+        shaped = wh.shaped;
+        above = wh.above;
+        busy = wh.busy;
+        known = wh.known;
+      };
+      time = st.time;
+      entries = ap (λ n. n + 1) st.entries;
+      items = st.items;
+      queues = ap (λ (qs : List Queue). drain idle plug qs queue) st.queues;
+      arms = st.arms;
+      waits = more idle;
+      drains = all idle;
+      made = st.made;
+      running = st.running;
+      last = st.last;
+      lines = st.lines;
+      runs = st.runs;
+      marks = st.marks;
+      sound = st.sound;
+    } where
+      more : (b : Bool) → wait_unless b k.waits w ≡ unanswered (wait_unless b s.waits w)
+      more true = st.waits
+      more false =
+          ap (λ (ws : List Wait). ws ++ w ∷ []) st.waits
+          ∙ sym (filter-append (λ (w : Wait). not w.answered) s.waits (w ∷ []) ∙ ap (λ b. unanswered s.waits ++ cond (not b) (w ∷ []) []) still)
+
+      all : (b : Bool) → All (λ (w : Wait). is_drain w.awaited ≡ true) (wait_unless b s.waits w)
+      all true = st.drains
+      all false =
+          let P : Wait → Type 0 = λ w. is_drain w.awaited ≡ true in
+          All-append P s.waits (w ∷ []) st.drains (All-cons P w [] drains (All-nil P))
+
+-- the start of a drain
+pub drain-stands : (k : Kept) (s : State) (who : Who) (queue : ℕ) (plug : Bool) → StandsFor k s → s.entries < 2 ^ 32 - 1 →
+    StandsFor (record (drained k who queue plug) { entries = k.entries + 1 }) (record (drain_start s who queue plug) { entries = s.entries + 1 })
+drain-stands k s who queue plug st few =
+    let idle = idle-same k.active s.admissions queue (st.lines queue) (st.runs queue) in
+    let place : wait_of k who queue ≡ drain_wait s who queue =
+    ap (λ n. record { place = n; player = who.number; awaited = Drain queue (drained_of k.queues queue); answered = false }) st.entries
+    ∙ ap (λ (qs : List Queue). record { place = s.entries; player = who.number; awaited = Drain queue (drained_of qs queue); answered = false }) st.queues in
+    let T : Bool → Wait → Kept = λ b w. record k { queues = drain b plug k.queues queue; waits = wait_unless b k.waits w; entries = k.entries + 1 } in
+    let S : State = record (drain_start s who queue plug) { entries = s.entries + 1 } in
+    subst (λ b. StandsFor (T b (wait_of k who queue)) S) (sym idle)
+    (subst (λ w. StandsFor (T (is_empty_and_idle s.admissions queue) w) S) (sym place)
+    (drain-stands_of (is_empty_and_idle s.admissions queue) plug (drain_wait s who queue) k s queue st few refl refl))
+
+-- a wait that is answered waits no longer
+answered-forgotten : (place : ℕ) (ws : List Wait) → without_place place (unanswered ws) ≡ unanswered (answer ws place)
+answered-forgotten place [] = refl
+answered-forgotten place (w ∷ ws) = by (w.place == place) w.answered refl refl (answered-forgotten place ws) where
+  rest : List Wait
+  rest = unanswered ws
+
+  after : List Wait
+  after = unanswered (answer ws place)
+
+  apart : (b : Bool) → (w.place == place) ≡ b → without_place place (w ∷ rest) ≡ cond (not b) (w ∷ without_place place rest) (without_place place rest)
+  apart b is = ap (λ c. cond (not c) (w ∷ without_place place rest) (without_place place rest)) is
+
+  by : (b c : Bool) → (w.place == place) ≡ b → w.answered ≡ c → without_place place rest ≡ after →
+      without_place place (cond (not c) (w ∷ rest) rest) ≡ cond (not (cond b (record w { answered = true }) w).answered) (cond b (record w { answered = true }) w ∷ after) after
+  by true true at is same = same
+  by true false at is same = apart true at ∙ same
+  by false true at is same = same ∙ sym (ap (λ d. cond (not d) (w ∷ after) after) is)
+  by false false at is same = apart false at ∙ ap (λ (ws : List Wait). w ∷ ws) same ∙ sym (ap (λ d. cond (not d) (w ∷ after) after) is)
+
+still_drains : (place : ℕ) (ws : List Wait) → All (λ (w : Wait). is_drain w.awaited ≡ true) ws → All (λ (w : Wait). is_drain w.awaited ≡ true) (answer ws place)
+still_drains place ws all =
+    All-map (λ (w : Wait). is_drain w.awaited ≡ true) (answer_one place) ws
+    (All-weaker (λ (w : Wait). is_drain w.awaited ≡ true) (λ (w : Wait). is_drain (answer_one place w).awaited ≡ true) (λ (w : Wait) is. still w (w.place == place) is) ws all) where
+      still : (w : Wait) (b : Bool) → is_drain w.awaited ≡ true → is_drain (cond b (record w { answered = true }) w).awaited ≡ true
+      still w true is = is
+      still w false is = is
+
+-- the end of a drain
+pub answer-stands : (k : Kept) (s : State) (place : ℕ) → StandsFor k s → s.entries < 2 ^ 32 - 1 →
+    StandsFor (record k { waits = without_place place k.waits; entries = k.entries + 1 }) (record s { waits = answer s.waits place; entries = s.entries + 1 })
+answer-stands k s place st few =
+    let w = st.whole in
+    let entries = st.entries in
+    let fewer = w.fewer in
+    record {
+      whole = record {
+        counted = IsCounted-more k.entries k.queues w.counted (omega arith);
+        fewer = omega arith;
+        fewest = w.fewest;
+        items = w.items;
+        queues = w.queues;
+        shaped = w.shaped;
+        above = w.above;
+        busy = w.busy;
+        known = w.known;
+      };
+      time = st.time;
+      entries = ap (λ n. n + 1) st.entries;
+      items = st.items;
+      queues = st.queues;
+      arms = st.arms;
+      waits = ap (without_place place) st.waits ∙ answered-forgotten place s.waits;
+      drains = still_drains place s.waits st.drains;
       made = st.made;
       running = st.running;
       last = st.last;
@@ -258,6 +389,7 @@ cancel-stands k s item st item_in few =
       queues = ap (settle_from (active.is_idle o) 0) st.queues ∙ settle-same (active.is_idle o) (is_empty_and_idle ys) 0 s.queues (λ q. idle-same o ys q (lines q) (runs q));
       arms = ap (λ (arms : List Arm). disarm arms item) st.arms;
       waits = st.waits;
+      drains = st.drains;
       made = st.made ∙ sym (length-map xs (drop_one item));
       running = st.running ∙ sym (count-map (λ (a : Admission). is_running a.life) (drop_one item) xs (running-drop item));
       last = λ i. st.last i ∙ sym (last-map i (drop_one item) xs (item-drop item) (queue-drop item));
@@ -363,6 +495,7 @@ begin-stands k s queue t st queue_in few idle lowest =
       queues = st.queues;
       arms = st.arms;
       waits = st.waits;
+      drains = st.drains;
       made = omega arith;
       running = new_running;
       last = λ i. st.last i ∙ sym (last-set_life i xs t.number Running);
@@ -461,6 +594,7 @@ end-stands k s queue t st queue_in few run =
       queues = ap (settle_from (active.is_idle o) 0) st.queues ∙ settle-same (active.is_idle o) (is_empty_and_idle ys) 0 s.queues (λ q. idle-same o ys q (lines q) (runs q (eqb_tells q queue) within));
       arms = st.arms;
       waits = st.waits;
+      drains = st.drains;
       made = st.made ∙ sym (length-map xs (end_one queue));
       running = new_running;
       last = λ i. st.last i ∙ sym (last-map i (end_one queue) xs (item-end queue) (queue-end queue));

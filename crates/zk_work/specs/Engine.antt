@@ -1,14 +1,17 @@
-use Rattle.std.specs.Prelude.{◌≡◌, ℕ, ◌+◌, ◌-◌, ◌<◌, Bool, false, if◌then◌else◌, Option, Some, None, is_some, option_map, set, slice_get}
+use Rattle.std.specs.Prelude.{◌≡◌, ℕ, ◌+◌, ◌-◌, ◌<◌, Bool, false, not, ◌==◌, if◌then◌else◌, Option, Some, None, is_some, option_map, List, filter, set, slice_get}
 use Rattle.std.specs.Option.{option_map_or, option_or}
 use Rattle.zk_base.specs.declared.ids.Who.{Who}
 use Rattle.zk_base.specs.declared.errors.Errno.TheVariants.{Busy, Inval}
 use Rattle.zk_model_work.specs.declared.ops.WorkOp.{WorkOp}
-use Rattle.zk_model_work.specs.declared.ops.WorkOp.TheVariants.{Submit, Cancel, Start, Begin, End}
+use Rattle.zk_model_work.specs.declared.ops.WorkOp.TheVariants.{Submit, Cancel, Start, DrainStart, DrainDone, Unplug, Begin, End}
+use Rattle.zk_model_work.specs.declared.parts.Change.TheVariants as changes
+use Rattle.zk_model_work.specs.declared.parts.Awaited.TheVariants.{Drain}
+use Rattle.zk_model_work.specs.declared.parts.Wait.{Wait}
 use Rattle.zk_model_work.specs.declared.ops.Submitted.{Submitted}
 use Rattle.zk_model_work.specs.declared.ops.Submitted.TheVariants.{Already, Fresh, Rerun, Refused}
 use Rattle.zk_model_work.specs.declared.ops.WorkReply.{WorkReply}
-use Rattle.zk_model_work.specs.declared.ops.WorkReply.TheVariants.{Sub, Flags, Done, Run}
-use Rattle.zk_model_work.specs.Machine.{refusal, admitted_to, settle_from, start, start_reply, is_worker}
+use Rattle.zk_model_work.specs.declared.ops.WorkReply.TheVariants.{Sub, Flags, Number, Done, Run}
+use Rattle.zk_model_work.specs.Machine.{refusal, admitted_to, settle_from, change, drain, drained_of, wait_unless, may_drain_done, start_reply, drain_reply, unplug_reply, is_worker}
 use Rattle.zk_queue.specs.Open.{Open, is_running, is_queued, is_idle, run, next, flags, marks_of, mark, admit, drop_item, begin, end}
 use Rattle.zk_work.specs.Kept.{Kept, last_of}
 
@@ -57,11 +60,28 @@ settled k o = record k { active = o; queues = settle_from (is_idle o) 0 k.queues
 abbrev pub ended : Kept → ℕ → Kept
 ended k queue = option_map_or (λ t. record (settled k (mark (end k.active queue) t.item 0)) { running = k.running - 1 }) (run k.active queue) k
 
+-- the wait of a player for one more draining of the queue to end
+abbrev pub wait_of : Kept → Who → ℕ → Wait
+wait_of k who queue = record { place = k.entries; player = who.number; awaited = Drain queue (drained_of k.queues queue); answered = false }
+
+-- after the start of a drain, for which the player waits unless the queue is idle
+abbrev pub drained : Kept → Who → ℕ → Bool → Kept
+drained k who queue plug =
+    let idle = is_idle k.active queue in
+    record k { queues = drain idle plug k.queues queue; waits = wait_unless idle k.waits (wait_of k who queue) }
+
+-- the waits of other places
+abbrev pub without_place : ℕ → List Wait → List Wait
+without_place place waits = filter (λ w. not (w.place == place)) waits
+
 -- the reply to each operation, where it is possible
 abbrev pub reply_of : Kept → Who → WorkOp → Option WorkReply
 reply_of k who (Submit item named) = Some (Sub (answer_of k (Some who.number) item named))
 reply_of k who (Cancel item) = Some (Flags (flags (cancelled k.active item) item))
 reply_of k who (Start queue) = Some (start_reply k.queues queue)
+reply_of k who (DrainStart queue plug) = Some (drain_reply (is_idle k.active queue))
+reply_of k who (DrainDone place) = if may_drain_done k.queues k.waits who place then Some (Number 1) else None
+reply_of k who (Unplug queue) = Some (unplug_reply k.queues queue)
 reply_of k who (Begin queue) = if is_worker k.queues queue who.number then option_map (λ t. Run t.item t.number) (next k.active queue) else None
 reply_of k who (End queue) = if is_worker k.queues queue who.number then option_map (λ t. Done) (run k.active queue) else None
 
@@ -69,7 +89,10 @@ reply_of k who (End queue) = if is_worker k.queues queue who.number then option_
 abbrev pub change_of : Kept → Who → WorkOp → Kept
 change_of k who (Submit item named) = submitted k item (answer_of k (Some who.number) item named)
 change_of k who (Cancel item) = settled k (cancelled k.active item)
-change_of k who (Start queue) = record k { queues = start k.queues queue }
+change_of k who (Start queue) = record k { queues = change changes.Start k.queues queue }
+change_of k who (DrainStart queue plug) = drained k who queue plug
+change_of k who (DrainDone place) = record k { waits = without_place place k.waits }
+change_of k who (Unplug queue) = record k { queues = change changes.Unplug k.queues queue }
 change_of k who (Begin queue) = record k { active = begin k.active queue; running = k.running + 1 }
 change_of k who (End queue) = ended k queue
 

@@ -1,7 +1,10 @@
-use Rattle.std.specs.Prelude.{◌≡◌, ℕ, ◌+◌, ◌<◌, ◌≤◌, Bool, true, false, not, Option, Some, None, option_to_list, List, [], length, count_by, slice_get, slice_index_or, All}
+use Rattle.std.specs.Prelude.{◌≡◌, ℕ, ◌+◌, ◌<◌, ◌≤◌, Bool, true, false, not, Option, Some, None, option_to_list, List, [], length, filter, count_by, slice_get, slice_index_or, All}
 use Rattle.zk_model_work.specs.declared.ops.WorkOp.{WorkOp}
-use Rattle.zk_model_work.specs.declared.ops.WorkOp.TheVariants.{End}
+use Rattle.zk_model_work.specs.declared.ops.WorkOp.TheVariants.{DrainDone, End}
 use Rattle.zk_model_work.specs.declared.parts.Admission.{Admission}
+use Rattle.zk_model_work.specs.declared.parts.Awaited.{Awaited}
+use Rattle.zk_model_work.specs.declared.parts.Awaited.TheVariants.{Drain}
+use Rattle.zk_model_work.specs.declared.parts.Wait.{Wait}
 use Rattle.zk_model_work.specs.declared.parts.Queue.{Queue}
 use Rattle.zk_model_work.specs.Questions.{is_waiting, is_running, is_open, waits_as, waits_for, runs_on, last_queue, is_cancelling, passes_at}
 use Rattle.zk_model_work.specs.State.{State, IsCounted}
@@ -9,7 +12,7 @@ use Rattle.zk_queue.specs.declared.ticket.Ticket.{Ticket}
 use Rattle.zk_queue.specs.Open.{Open, line, run, marks_of, IsAbove}
 use Rattle.zk_work.specs.Tickets.{tickets}
 
--- what a contract sees of the engine: the ticks, the entries and the admissions so far, how many runs are open, the queue of each item's last admission, the open admissions, and the queues
+-- what the engine keeps: the ticks, the entries and the admissions so far, how many runs are open, the queue of each item's last admission, the open admissions, the waits that aren't answered, and the queues
 pub record Kept : Type 0 where
   pub time : ℕ
   pub entries : ℕ
@@ -17,7 +20,13 @@ pub record Kept : Type 0 where
   pub running : ℕ
   pub last : List (Option ℕ)
   pub active : Open
+  pub waits : List Wait
   pub queues : List Queue
+
+-- what a contract sees of the engine: what it keeps, and how many changes it takes without memory
+pub record Held : Type 0 where
+  pub kept : Kept
+  pub room : ℕ
 
 -- the queue of the item's last admission
 abbrev pub last_of : Kept → ℕ → Option ℕ
@@ -37,6 +46,15 @@ pub record IsSound (items : ℕ) (admissions : List Admission) (marks : List ℕ
   pub home : (number : ℕ) (a : Admission) → slice_get admissions number ≡ Some a → is_open a.life ≡ true → last_queue admissions a.item ≡ Some a.queue
   -- what a cancel has marked doesn't wait
   pub marked : All (λ number. is_past_waiting admissions number ≡ true) marks
+
+-- the waits that aren't answered
+abbrev pub unanswered : List Wait → List Wait
+unanswered waits = filter (λ w. not w.answered) waits
+
+-- it is a wait for the end of a draining
+abbrev pub is_drain : Awaited → Bool
+is_drain (Drain queue count) = true
+is_drain awaited = false
 
 -- the open admissions have a place for each item and each queue
 pub record IsShaped (o : Open) : Type 0 where
@@ -64,9 +82,11 @@ pub record StandsFor (k : Kept) (s : State) : Type 0 where
   pub entries : k.entries ≡ s.entries
   pub items : k.active.items ≡ s.items
   pub queues : k.queues ≡ s.queues
-  -- no item is armed, and no player waits for the work service: no operation brings either
+  -- no item is armed: no operation brings that
   pub arms : s.arms ≡ []
-  pub waits : s.waits ≡ []
+  -- the waits that aren't answered, each of them for the end of a drain
+  pub waits : k.waits ≡ unanswered s.waits
+  pub drains : All (λ w. is_drain w.awaited ≡ true) s.waits
   pub made : k.made ≡ length s.admissions
   pub running : k.running ≡ count_by (λ a. is_running a.life) s.admissions
   pub last : (item : ℕ) → last_of k item ≡ last_queue s.admissions item
@@ -81,7 +101,8 @@ pub record StandsFor (k : Kept) (s : State) : Type 0 where
 abbrev pub work_owed : State → ℕ
 work_owed s = count_by (λ a. is_running a.life) s.admissions + count_by (λ w. not w.answered) s.waits
 
--- the end of a run is such an entry
+-- the end of a run and of a wait are such entries
 abbrev pub work_closes : WorkOp → Bool
+work_closes (DrainDone place) = true
 work_closes (End queue) = true
 work_closes _ = false

@@ -1,7 +1,7 @@
 -- The laws of the engine, over all states and operations.
-use Rattle.std.proofs.Common.{◌≡◌, ℕ, zero, suc, ◌+◌, ◌≤◌, Bool, true, false, not, cond, eqb, ltb, ◌&&◌, Option, Some, None, is_some, List, [], ◌∷◌, length, map, sum_by, refl, ap, arith}
-use Rattle.std.specs.Cmp.{second_so}
-use Rattle.std.specs.List.{position, position_or_len}
+use Rattle.std.proofs.Common.{◌≡◌, ℕ, zero, suc, ◌+◌, ◌≤◌, Bool, true, false, not, cond, eqb, ltb, ◌==◌, ◌&&◌, ◌||◌, Option, Some, None, is_some, List, [], ◌∷◌, length, map, sum_by, refl, ap, arith}
+use Rattle.std.specs.Cmp.{first_so, second_so}
+use Rattle.std.specs.List.{position, position_or_len, list_any}
 use Rattle.std.specs.Option.{option_map_or}
 use Rattle.std.proofs.lemmas.List.Sums.{sum_by-cons, sum_by_push}
 use Rattle.std.proofs.lemmas.Bool.Decides.{nat_tests}
@@ -9,17 +9,20 @@ use Rattle.zk_base.specs.declared.ids.Who.{Who}
 use Rattle.zk_model_work.specs.declared.parts.Life.{Life}
 use Rattle.zk_model_work.specs.declared.parts.Life.TheVariants.{Waiting, Running, Ended, Dropped}
 use Rattle.zk_model_work.specs.declared.parts.Admission.{Admission}
+use Rattle.zk_model_work.specs.declared.parts.Wait.{Wait}
+use Rattle.zk_model_work.specs.declared.parts.Queue.{Queue}
+use Rattle.zk_model_work.specs.declared.parts.Change.TheVariants as changes
 use Rattle.zk_model_work.specs.declared.ops.WorkOp.{WorkOp}
-use Rattle.zk_model_work.specs.declared.ops.WorkOp.TheVariants.{Submit, Cancel, Start, Begin, End}
+use Rattle.zk_model_work.specs.declared.ops.WorkOp.TheVariants.{Submit, Cancel, Start, DrainStart, DrainDone, Unplug, Begin, End}
 use Rattle.zk_model_work.specs.declared.ops.Submitted.{Submitted}
 use Rattle.zk_model_work.specs.declared.ops.Submitted.TheVariants.{Already, Fresh, Rerun, Refused}
 use Rattle.zk_model_work.specs.declared.ops.WorkReply.{WorkReply}
-use Rattle.zk_model_work.specs.declared.ops.WorkReply.TheVariants.{Done}
+use Rattle.zk_model_work.specs.declared.ops.WorkReply.TheVariants.{Number, Done}
 use Rattle.zk_model_work.specs.Lists.{first}
 use Rattle.zk_model_work.specs.Questions.{is_running, waits_as, runs_on, run, line, is_empty_and_idle}
 use Rattle.zk_model_work.specs.State.{State}
-use Rattle.zk_model_work.specs.Machine.{work_reply, work_next, in_range, is_among, is_worker, submission, submit, set_life, with_life, begin, end_one, end_run, drop_one, drop_waiting}
-use Rattle.zk_model_work.proofs.Counts.{length-settle_from, length-start}
+use Rattle.zk_model_work.specs.Machine.{work_reply, work_next, in_range, is_among, is_worker, submission, submit, set_life, with_life, begin, end_one, end_run, drop_one, drop_waiting, drain_wait, wait_unless, answer_one, is_unanswered, has_drained, may_drain_done}
+use Rattle.zk_model_work.proofs.Counts.{length-settle_from, length-change, length-drain}
 use Rattle.zk_work.specs.Kept.{work_owed, work_closes}
 
 -- each entry is counted
@@ -27,6 +30,9 @@ pub counts : (s : State) (who : Who) (op : WorkOp) → (work_next s who op).entr
 counts s who (Submit item named) = refl
 counts s who (Cancel item) = refl
 counts s who (Start queue) = refl
+counts s who (DrainStart queue plug) = refl
+counts s who (DrainDone place) = refl
+counts s who (Unplug queue) = refl
 counts s who (Begin queue) = refl
 counts s who (End queue) = refl
 
@@ -34,7 +40,10 @@ counts s who (End queue) = refl
 pub ranges : (s : State) (who : Who) (op : WorkOp) → in_range (work_next s who op) ≡ in_range s
 ranges s who (Submit item named) = refl
 ranges s who (Cancel item) = ap (is_among s.items) (length-settle_from (is_empty_and_idle (drop_waiting s.admissions item)) 0 s.queues)
-ranges s who (Start queue) = ap (is_among s.items) (length-start s.queues queue)
+ranges s who (Start queue) = ap (is_among s.items) (length-change changes.Start s.queues queue)
+ranges s who (DrainStart queue plug) = ap (is_among s.items) (length-drain (is_empty_and_idle s.admissions queue) plug s.queues queue)
+ranges s who (DrainDone place) = refl
+ranges s who (Unplug queue) = ap (is_among s.items) (length-change changes.Unplug s.queues queue)
 ranges s who (Begin queue) = refl
 ranges s who (End queue) = ap (is_among s.items) (length-settle_from (is_empty_and_idle (end_run s.admissions queue)) 0 s.queues)
 
@@ -116,11 +125,59 @@ runs_where_possible true true reply possible = refl
 runs_where_possible true false reply possible = absurd (cc)
 runs_where_possible false found reply possible = absurd (cc)
 
+-- one for a wait that isn't answered
+abbrev waits_still : Wait → ℕ
+waits_still w = cond (not w.answered) 1 0
+
+-- the same sum, where the one that passes is found by a test of all
+sum_by-map_any : {A : Type 0} (w : A → ℕ) (f : A → A) (passes : A → Bool) → ((x : A) → w (f x) ≤ w x) → ((x : A) → passes x ≡ true → 1 + w (f x) ≤ w x) →
+    (xs : List A) → list_any passes xs ≡ true → 1 + sum_by w (map f xs) ≤ sum_by w xs
+sum_by-map_any w f passes less one [] found = absurd (cc)
+sum_by-map_any w f passes less one (x ∷ xs) found =
+    let rest = sum_by-map w f less xs in
+    let taken = here_or_behind (passes x) (list_any passes xs) (w (f x)) (w x) (sum_by w (map f xs)) (sum_by w xs) (less x) (one x) rest (sum_by-map_any w f passes less one xs) found in
+    omega (arith, sum_by-cons w x xs, sum_by-cons w (f x) (map f xs)) where
+      here_or_behind : (b c : Bool) (v v_before r r_before : ℕ) → v ≤ v_before → (b ≡ true → 1 + v ≤ v_before) → r ≤ r_before → (c ≡ true → 1 + r ≤ r_before) → (b || c) ≡ true → 1 + (v + r) ≤ v_before + r_before
+      here_or_behind true c v v_before r r_before less here rest behind found = let one = here refl in omega arith
+      here_or_behind false c v v_before r r_before less here rest behind found = let one = behind found in omega arith
+
+owed-wait_unless : (idle : Bool) (ws : List Wait) (w : Wait) → sum_by waits_still (wait_unless idle ws w) ≤ sum_by waits_still ws + 1
+owed-wait_unless true ws w = omega arith
+owed-wait_unless false ws w =
+    let most = at_most (not w.answered) in
+    omega (arith, sum_by_push waits_still ws w) where
+      at_most : (b : Bool) → cond b 1 0 ≤ 1
+      at_most true = omega arith
+      at_most false = omega arith
+
+owed-answer_one : (place : ℕ) (w : Wait) → waits_still (answer_one place w) ≤ waits_still w
+owed-answer_one place w = by (eqb w.place place) where
+  by : (b : Bool) → waits_still (cond b (record w { answered = true }) w) ≤ waits_still w
+  by true = omega arith
+  by false = omega arith
+
+owed-answered : (qs : List Queue) (place player : ℕ) (w : Wait) → (is_unanswered place player w && has_drained qs w.awaited) ≡ true → 1 + waits_still (answer_one place w) ≤ waits_still w
+owed-answered qs place player w is =
+    let unanswered = first_so (is_unanswered place player w) (has_drained qs w.awaited) is in
+    let both = first_so ((w.place == place) && (w.player == player)) (not w.answered) unanswered in
+    let at = first_so (w.place == place) (w.player == player) both in
+    let before : waits_still w ≡ 1 = ap (λ b. cond b 1 0) (second_so ((w.place == place) && (w.player == player)) (not w.answered) unanswered) in
+    let after : waits_still (answer_one place w) ≡ 0 = ap (λ b. waits_still (cond b (record w { answered = true }) w)) at in
+    omega arith
+
+-- the end of a wait is possible where one is over
+drained_where_possible : (found : Bool) → is_some (cond found (Some (Number 1)) None) ≡ true → found ≡ true
+drained_where_possible true possible = refl
+drained_where_possible false possible = absurd (cc)
+
 -- an operation adds at most two owed entries
 pub adds : (s : State) (who : Who) (op : WorkOp) → work_owed (work_next s who op) ≤ work_owed s + 2
 adds s who (Submit item named) = omega (arith, owed-submit s.admissions item (submission s.admissions s.marks s.queues (Some who.number) item named))
 adds s who (Cancel item) = omega (arith, sum_by-map runs (drop_one item) (owed-drop_one item) s.admissions)
 adds s who (Start queue) = omega arith
+adds s who (DrainStart queue plug) = omega (arith, owed-wait_unless (is_empty_and_idle s.admissions queue) s.waits (drain_wait s who queue))
+adds s who (DrainDone place) = omega (arith, sum_by-map waits_still (answer_one place) (owed-answer_one place) s.waits)
+adds s who (Unplug queue) = omega arith
 adds s who (Begin queue) = omega (arith, owed-begin s.admissions queue)
 adds s who (End queue) = omega (arith, sum_by-map runs (end_one queue) (owed-end_one queue) s.admissions)
 
@@ -129,6 +186,11 @@ pub gives : (s : State) (who : Who) (op : WorkOp) → work_closes op ≡ true �
 gives s who (Submit item named) closes possible = absurd (cc)
 gives s who (Cancel item) closes possible = absurd (cc)
 gives s who (Start queue) closes possible = absurd (cc)
+gives s who (DrainStart queue plug) closes possible = absurd (cc)
+gives s who (DrainDone place) closes possible =
+    let found = drained_where_possible (may_drain_done s.queues s.waits who place) possible in
+    omega (arith, sum_by-map_any waits_still (answer_one place) (λ w. is_unanswered place who.number w && has_drained s.queues w.awaited) (owed-answer_one place) (owed-answered s.queues place who.number) s.waits found)
+gives s who (Unplug queue) closes possible = absurd (cc)
 gives s who (Begin queue) closes possible = absurd (cc)
 gives s who (End queue) closes possible =
     let found = runs_where_possible (is_worker s.queues queue who.number) (is_some (run s.admissions queue)) Done possible in

@@ -1,18 +1,20 @@
-ghost use Rattle.std.specs.Prelude.{◌≡◌, ℕ, ◌+◌, ◌-◌, ◌^◌, ◌<◌, ◌≤◌, true, length, AllPairs, ◌≢◌, None, replicate, IfOk};
+ghost use Rattle.std.specs.Prelude.{◌≡◌, ℕ, ◌+◌, ◌-◌, ◌^◌, ◌<◌, ◌≤◌, true, length, AllPairs, ◌≢◌, None, replicate, IsOk, IfOk, OnErr};
 ghost use Rattle.zk_model_work.specs.State.{State, start_of};
 ghost use Rattle.zk_model_work.specs.Machine.{is_among, admitted_to};
 ghost use Rattle.zk_queue.specs.Open.{is_running};
-ghost use Rattle.zk_work.specs.Kept.{IsWhole, StandsFor};
+ghost use Rattle.zk_work.specs.Kept.{IsWhole, StandsFor, work_closes};
 ghost use Rattle.zk_work.specs.Engine.{target_of, admission_of, answer_at, answer_of, MayAdmit, admitted, reply_of, after_reply};
 
 use crate::active::{busy_with, cancel, settle};
+use crate::waits::forget;
 use bitflags::Flags;
 use std::alloc::Global;
 use std::marker::Model;
 use zk_base::{Engine, Errno, NoMemory, Who};
 use zk_model_work::{
-    BusyFlags, Queue, Submitted, WorkOp, WorkReply, WorkState, fresh_queues, is_worker, refusal,
-    start, start_reply,
+    Awaited, BusyFlags, Change, Queue, Submitted, Wait, WorkOp, WorkReply, WorkState, change,
+    drain, drain_reply, drained_of, fresh_queues, is_worker, may_drain_done, refusal, start_reply,
+    unplug_reply, wait_unless,
 };
 use zk_queue::Queues;
 
@@ -29,23 +31,32 @@ pub struct WorkEngine {
     // The queue of each item's last admission. An item that runs, runs there.
     last: Vec<Option<u32>>,
     active: Queues,
+    // The waits that aren't answered.
+    waits: Vec<Wait>,
     queues: Vec<Queue>,
 }
 
 impl Model for WorkEngine {
-    ghost use Rattle.zk_work.specs.Kept.{Kept};
+    ghost use Rattle.std.specs.Prelude.{◌-◌, ◌^◌, ◌≤◌, vec_len, vec_capacity};
+    ghost use Rattle.zk_work.specs.Kept.{Kept, Held};
 
-    ghost Value = { Kept };
+    ghost Value = { Held };
 
     ghost view = { λ a. record {
-      time = a.time;
-      entries = a.entries;
-      made = a.made;
-      running = a.running;
-      last = a.last.items;
-      active = a.active;
-      queues = a.queues.items;
+      kept = record {
+        time = a.time;
+        entries = a.entries;
+        made = a.made;
+        running = a.running;
+        last = a.last.items;
+        active = a.active;
+        waits = a.waits.items;
+        queues = a.queues.items;
+      };
+      room = vec_capacity a.waits - vec_len a.waits;
     } };
+
+    ghost invariant = { λ a. a.running ≤ 2 ^ 32 };
 }
 
 /// No queue for each item.
@@ -69,7 +80,7 @@ impl WorkEngine {
         requires differ { AllPairs (λ a b. a ≢ b) workers.now }
         requires queues { length workers.now ≤ 8 }
         requires items { items ≤ 256 }
-        ensures { IfOk result (λ e. StandsFor e (start_of items workers.now started.now)) }
+        ensures { IfOk result (λ e. StandsFor e.kept (start_of items workers.now started.now)) }
     {
         let queues = fresh_queues(alloc, workers, started)?;
         let active = Queues::new(alloc, items, workers.len() as u32)?;
@@ -81,14 +92,15 @@ impl WorkEngine {
             running: 0,
             last,
             active,
+            waits: Vec::new(alloc),
             queues,
         })
     }
 
     /// The queue that a submission goes to.
     fn target(&self, item: u32, runs: bool, named: Option<u32>) -> Option<u32>
-        requires { item < length self.now.last }
-        ensures { result ≡ target_of self.now item runs named }
+        requires { item < length self.now.kept.last }
+        ensures { result ≡ target_of self.now.kept item runs named }
     {
         let last = self.last[item as usize];
         if runs { last } else { named.or(last) }
@@ -96,7 +108,7 @@ impl WorkEngine {
 
     /// The answer where the item is admitted.
     fn admission(&self, runs: bool, number: u32) -> Submitted
-        ensures { result ≡ admission_of self.now runs number }
+        ensures { result ≡ admission_of self.now.kept runs number }
     {
         if runs {
             Submitted::Rerun(self.made, number)
@@ -107,7 +119,7 @@ impl WorkEngine {
 
     /// The answer at the queue that the submission goes to.
     fn answer_at(&self, caller: Option<u32>, runs: bool, to: Option<u32>) -> Submitted
-        ensures { result ≡ answer_at self.now caller runs to }
+        ensures { result ≡ answer_at self.now.kept caller runs to }
     {
         let Some(number) = to else {
             return Submitted::Refused(Errno::Inval);
@@ -123,10 +135,10 @@ impl WorkEngine {
 
     /// The answer to a submission of the item by this player, or by nobody.
     fn answer(&self, caller: Option<u32>, item: u32, named: Option<u32>) -> Submitted
-        requires whole { IsWhole self.now }
-        requires item { item < self.now.active.items }
-        ensures answer { result ≡ answer_of self.now caller item named }
-        ensures admits { (queue : ℕ) → admitted_to result ≡ Some queue → MayAdmit self.now item queue }
+        requires whole { IsWhole self.now.kept }
+        requires item { item < self.now.kept.active.items }
+        ensures answer { result ≡ answer_of self.now.kept caller item named }
+        ensures admits { (queue : ℕ) → admitted_to result ≡ Some queue → MayAdmit self.now.kept item queue }
     {
         let busy = busy_with(&self.active, item);
         if busy.cancelling {
@@ -140,10 +152,11 @@ impl WorkEngine {
 
     /// One more admission.
     fn admit(&mut self, item: u32, queue: u32)
-        requires whole { IsWhole self.old }
-        requires item { item < self.old.active.items }
-        requires may { MayAdmit self.old item queue }
-        ensures { self.new ≡ admitted self.old item queue }
+        requires whole { IsWhole self.old.kept }
+        requires item { item < self.old.kept.active.items }
+        requires may { MayAdmit self.old.kept item queue }
+        ensures next { self.new.kept ≡ admitted self.old.kept item queue }
+        ensures room { self.new.room ≡ self.old.room }
     {
         self.active.admit(item, queue, self.made);
         self.last[item as usize] = Some(queue);
@@ -151,10 +164,11 @@ impl WorkEngine {
     }
 
     fn submit(&mut self, who: Who, item: u32, named: Option<u32>) -> Option<WorkReply>
-        requires whole { IsWhole self.old }
-        requires item { item < self.old.active.items }
-        ensures reply { result ≡ reply_of self.old who (WorkOp.Submit item named) }
-        ensures next { self.new ≡ after_reply self.old who (WorkOp.Submit item named) result }
+        requires whole { IsWhole self.old.kept }
+        requires item { item < self.old.kept.active.items }
+        ensures reply { result ≡ reply_of self.old.kept who (WorkOp.Submit item named) }
+        ensures next { self.new.kept ≡ after_reply self.old.kept who (WorkOp.Submit item named) result }
+        ensures room { self.new.room ≡ self.old.room }
     {
         let answer = self.answer(Some(who.number), item, named);
         match answer {
@@ -167,10 +181,11 @@ impl WorkEngine {
     }
 
     fn cancel(&mut self, who: Who, item: u32) -> Option<WorkReply>
-        requires whole { IsWhole self.old }
-        requires item { item < self.old.active.items }
-        ensures reply { result ≡ reply_of self.old who (WorkOp.Cancel item) }
-        ensures next { self.new ≡ after_reply self.old who (WorkOp.Cancel item) result }
+        requires whole { IsWhole self.old.kept }
+        requires item { item < self.old.kept.active.items }
+        ensures reply { result ≡ reply_of self.old.kept who (WorkOp.Cancel item) }
+        ensures next { self.new.kept ≡ after_reply self.old.kept who (WorkOp.Cancel item) result }
+        ensures room { self.new.room ≡ self.old.room }
     {
         cancel(&mut self.active, item);
         settle(&self.active, &mut self.queues);
@@ -178,22 +193,79 @@ impl WorkEngine {
         Some(WorkReply::Flags(self.active.flags(item).bits()))
     }
 
+    fn drain_start(
+        &mut self,
+        who: Who,
+        queue: u32,
+        plug: bool,
+    ) -> Result<Option<WorkReply>, NoMemory>
+        requires whole { IsWhole self.old.kept }
+        requires queue { queue < self.old.kept.active.queues }
+        ensures reply { IfOk result (λ reply.
+            reply ≡ reply_of self.old.kept who (WorkOp.DrainStart queue plug)) }
+        ensures next { IfOk result (λ reply.
+            self.new.kept ≡ after_reply self.old.kept who (WorkOp.DrainStart queue plug) reply) }
+        ensures unchanged { OnErr result (self.new.kept ≡ self.old.kept) }
+        ensures roomy { 3 ≤ self.old.room → IsOk result }
+        ensures room { self.old.room ≤ self.new.room + 3 }
+    {
+        let idle = self.active.is_idle(queue);
+        let wait = Wait {
+            place: self.entries,
+            player: who.number,
+            awaited: Awaited::Drain(queue, drained_of(&self.queues, queue)),
+            answered: false,
+        };
+        wait_unless(idle, &mut self.waits, wait)?;
+        drain(&mut self.queues, queue, idle, plug);
+        self.entries += 1;
+        Ok(Some(drain_reply(idle)))
+    }
+
+    fn drain_done(&mut self, who: Who, place: u64) -> Option<WorkReply>
+        requires whole { IsWhole self.old.kept }
+        ensures reply { result ≡ reply_of self.old.kept who (WorkOp.DrainDone place) }
+        ensures next { self.new.kept ≡ after_reply self.old.kept who (WorkOp.DrainDone place) result }
+        ensures room { self.old.room ≤ self.new.room }
+    {
+        if !may_drain_done(&self.queues, &self.waits, who, place) {
+            return None;
+        }
+        forget(&mut self.waits, place);
+        self.entries += 1;
+        Some(WorkReply::Number(1))
+    }
+
+    fn unplug(&mut self, who: Who, queue: u32) -> Option<WorkReply>
+        requires whole { IsWhole self.old.kept }
+        ensures reply { result ≡ reply_of self.old.kept who (WorkOp.Unplug queue) }
+        ensures next { self.new.kept ≡ after_reply self.old.kept who (WorkOp.Unplug queue) result }
+        ensures room { self.new.room ≡ self.old.room }
+    {
+        let reply = unplug_reply(&self.queues, queue);
+        change(&mut self.queues, queue, Change::Unplug);
+        self.entries += 1;
+        Some(reply)
+    }
+
     fn start(&mut self, who: Who, queue: u32) -> Option<WorkReply>
-        requires whole { IsWhole self.old }
-        ensures reply { result ≡ reply_of self.old who (WorkOp.Start queue) }
-        ensures next { self.new ≡ after_reply self.old who (WorkOp.Start queue) result }
+        requires whole { IsWhole self.old.kept }
+        ensures reply { result ≡ reply_of self.old.kept who (WorkOp.Start queue) }
+        ensures next { self.new.kept ≡ after_reply self.old.kept who (WorkOp.Start queue) result }
+        ensures room { self.new.room ≡ self.old.room }
     {
         let reply = start_reply(&self.queues, queue);
-        start(&mut self.queues, queue);
+        change(&mut self.queues, queue, Change::Start);
         self.entries += 1;
         Some(reply)
     }
 
     fn begin(&mut self, who: Who, queue: u32) -> Option<WorkReply>
-        requires whole { IsWhole self.old }
-        requires queue { queue < self.old.active.queues }
-        ensures reply { result ≡ reply_of self.old who (WorkOp.Begin queue) }
-        ensures next { self.new ≡ after_reply self.old who (WorkOp.Begin queue) result }
+        requires whole { IsWhole self.old.kept }
+        requires queue { queue < self.old.kept.active.queues }
+        ensures reply { result ≡ reply_of self.old.kept who (WorkOp.Begin queue) }
+        ensures next { self.new.kept ≡ after_reply self.old.kept who (WorkOp.Begin queue) result }
+        ensures room { self.new.room ≡ self.old.room }
     {
         if !is_worker(&self.queues, queue, who.number) {
             return None;
@@ -205,10 +277,11 @@ impl WorkEngine {
     }
 
     fn end(&mut self, who: Who, queue: u32) -> Option<WorkReply>
-        requires whole { IsWhole self.old }
-        requires queue { queue < self.old.active.queues }
-        ensures reply { result ≡ reply_of self.old who (WorkOp.End queue) }
-        ensures next { self.new ≡ after_reply self.old who (WorkOp.End queue) result }
+        requires whole { IsWhole self.old.kept }
+        requires queue { queue < self.old.kept.active.queues }
+        ensures reply { result ≡ reply_of self.old.kept who (WorkOp.End queue) }
+        ensures next { self.new.kept ≡ after_reply self.old.kept who (WorkOp.End queue) result }
+        ensures room { self.new.room ≡ self.old.room }
     {
         if !is_worker(&self.queues, queue, who.number) {
             return None;
@@ -222,18 +295,26 @@ impl WorkEngine {
     }
 
     /// One operation.
-    fn one(&mut self, who: Who, op: &WorkOp) -> Option<WorkReply>
-        requires whole { IsWhole self.old }
-        requires range { is_among self.old.active.items self.old.active.queues op.now ≡ true }
-        ensures reply { result ≡ reply_of self.old who op.now }
-        ensures next { self.new ≡ after_reply self.old who op.now result }
+    fn one(&mut self, who: Who, op: &WorkOp) -> Result<Option<WorkReply>, NoMemory>
+        requires whole { IsWhole self.old.kept }
+        requires range { is_among self.old.kept.active.items self.old.kept.active.queues op.now ≡ true }
+        ensures reply { IfOk result (λ reply. reply ≡ reply_of self.old.kept who op.now) }
+        ensures next { IfOk result (λ reply.
+            self.new.kept ≡ after_reply self.old.kept who op.now reply) }
+        ensures unchanged { OnErr result (self.new.kept ≡ self.old.kept) }
+        ensures closing { work_closes op.now ≡ true → IsOk result }
+        ensures roomy { 3 ≤ self.old.room → IsOk result }
+        ensures room { self.old.room ≤ self.new.room + 3 }
     {
         match *op {
-            WorkOp::Submit(item, named) => self.submit(who, item, named),
-            WorkOp::Cancel(item) => self.cancel(who, item),
-            WorkOp::Start(queue) => self.start(who, queue),
-            WorkOp::Begin(queue) => self.begin(who, queue),
-            WorkOp::End(queue) => self.end(who, queue),
+            WorkOp::Submit(item, named) => Ok(self.submit(who, item, named)),
+            WorkOp::Cancel(item) => Ok(self.cancel(who, item)),
+            WorkOp::Start(queue) => Ok(self.start(who, queue)),
+            WorkOp::DrainStart(queue, plug) => self.drain_start(who, queue, plug),
+            WorkOp::DrainDone(place) => Ok(self.drain_done(who, place)),
+            WorkOp::Unplug(queue) => Ok(self.unplug(who, queue)),
+            WorkOp::Begin(queue) => Ok(self.begin(who, queue)),
+            WorkOp::End(queue) => Ok(self.end(who, queue)),
         }
     }
 }
@@ -245,14 +326,14 @@ impl Engine for WorkEngine {
 
     type State = WorkState;
 
-    ghost use Rattle.std.specs.Prelude.{false, ◌^◌, ◌-◌};
+    ghost use Rattle.std.specs.Prelude.{false};
     ghost use Rattle.zk_model_work.specs.Machine.{work_machine};
     ghost use Rattle.zk_work.specs.Kept.{StandsFor, work_owed, work_closes};
     ghost use Rattle.zk_work.specs.Laws.{counts, ranges, adds, gives};
 
-    ghost stands_for = { StandsFor };
+    ghost stands_for = { λ e. StandsFor e.kept };
 
-    ghost room = { λ e. 2 ^ 64 - 1 };
+    ghost room = { λ e. e.room };
 
     ghost machine = { work_machine };
 
@@ -265,26 +346,27 @@ impl Engine for WorkEngine {
     ghost grows = { λ op. false };
 
     fn step(&mut self, who: Who, op: &WorkOp) -> Result<Option<(WorkReply, WorkReply)>, NoMemory> {
-        match self.one(who, op) {
+        match self.one(who, op)? {
             None => Ok(None),
             Some(reply) => Ok(Some((reply, reply))),
         }
     }
 
     fn is_closing(&self, _who: Who, op: &WorkOp) -> bool {
-        matches!(op, WorkOp::End(_))
+        matches!(op, WorkOp::DrainDone(_) | WorkOp::End(_))
     }
 
     fn owed(&self) -> u64 {
-        self.running
+        self.running + self.waits.len() as u64
     }
 
     fn reserve(&mut self) -> Result<(), NoMemory> {
+        self.waits.reserve(3)?;
         Ok(())
     }
 
     fn room(&self) -> u64 {
-        u64::MAX
+        (self.waits.capacity() - self.waits.len()) as u64
     }
 
     ghost counts = { counts };

@@ -3,6 +3,7 @@
 
 mod active;
 mod engine;
+mod waits;
 mod work;
 
 pub use engine::WorkEngine;

@@ -3,6 +3,6 @@ use Rattle.zk_work.proofs.engine.WorkEngine.new.Goals as goal
 
 pub returns : goal.returns
 returns c =
-    fresh_is c.args.items c.args.workers.now c.args.started.now _ _ _
-    (c.in_ok-last.ensures) (c.in_ok-active.ensures) (c.in_ok-queues.ensures)
+    fresh_is c.args.items c.args.workers.now c.args.started.now _ _ _ _
+    c.new-2.ensures.items (c.in_ok-last.ensures) (c.in_ok-active.ensures) (c.in_ok-queues.ensures)
     (fresh-stands c.args.items c.args.workers.now c.args.started.now c.requires.same c.requires.queues)
