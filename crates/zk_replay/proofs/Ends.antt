@@ -27,7 +27,7 @@ use Rattle.zk_worker.specs.declared.frames.Frame.{Frame}
 use Rattle.zk_worker.specs.declared.frames.Role.{Role}
 use Rattle.zk_worker.specs.declared.frames.Role.TheVariants.{Script, Worker}
 use Rattle.zk_worker.specs.declared.frames.Stage.{Stage}
-use Rattle.zk_worker.specs.declared.frames.Stage.TheVariants.{Start, Runs}
+use Rattle.zk_worker.specs.declared.frames.Stage.TheVariants.{Start, Runs, Waits}
 use Rattle.zk_worker.specs.declared.log.Log.{Log}
 use Rattle.zk_worker.specs.Places.{At}
 use Rattle.zk_worker.specs.Protocol.{attempts, frames_attempts, role_attempts, after}
@@ -96,6 +96,7 @@ done-ahead s queue (frame ∷ []) admissions tends done = by_role frame.role fra
         (role_attempts s role next stage ≡ steps.Work (ops.Begin queue) ∷ []) × IsIdle queue admissions
     by_role (Worker object) next Start tends done = (ap (λ (q : ℕ). steps.Work (ops.Begin q) ∷ []) tends.0, tends.1)
     by_role (Worker object) next Runs tends done = absurd (cc)
+    by_role (Worker object) next (Waits place) tends done = absurd tends
     by_role (Script owner) next stage tends done = absurd tends
 
 answer-none : (r : Option WorkReply) (long : ℕ) (step : Step) → or_else step (option_map (λ x. step_replies.Work x long) r) None ≡ None → r ≡ None

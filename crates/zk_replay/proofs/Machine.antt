@@ -13,6 +13,8 @@ use Rattle.zk_model_work.specs.declared.parts.Life.{Life}
 use Rattle.zk_model_work.specs.declared.parts.Life.TheVariants.{Waiting, Running, Ended, Dropped}
 use Rattle.zk_model_work.specs.declared.parts.Admission.{Admission}
 use Rattle.zk_model_work.specs.declared.parts.Queue.{Queue}
+use Rattle.zk_model_work.specs.declared.parts.Change.{Change}
+use Rattle.zk_model_work.specs.declared.parts.Change.TheVariants as changes
 use Rattle.zk_model_work.specs.declared.ops.WorkOp.{WorkOp}
 use Rattle.zk_model_work.specs.declared.ops.WorkOp.TheVariants as ops
 use Rattle.zk_model_work.specs.declared.ops.Submitted.{Submitted}
@@ -22,7 +24,7 @@ use Rattle.zk_model_work.specs.declared.ops.WorkReply.TheVariants.{Run}
 use Rattle.zk_model_work.specs.Lists.{places_from, first as first_of}
 use Rattle.zk_model_work.specs.Questions.{is_waiting, waits_for, waits_as, runs_on, running, waiting, is_cancelling, run, line, is_empty_and_idle}
 use Rattle.zk_model_work.specs.State.{State}
-use Rattle.zk_model_work.specs.Machine.{work_reply, work_next, refusal, admission, submission, submission_at, submission_to, target, submit, set_life, with_life, begin, end_one, end_run, drop_one, drop_waiting, start, settle_from, is_worker, may_begin, taken_up}
+use Rattle.zk_model_work.specs.Machine.{work_reply, work_next, refusal, admission, submission, submission_at, submission_to, target, submit, set_life, with_life, begin, end_one, end_run, drop_one, drop_waiting, changed_queue, change, change_where, settle_from, is_worker, may_begin, taken_up}
 use Rattle.zk_replay.specs.Tending.{IsIdle}
 
 -- a submission that admits goes to one of so many queues
@@ -125,6 +127,9 @@ homes-next many st who (ops.Cancel item) long all =
     let P : Admission → Type 0 = λ a. a.queue < many in
     map-all P (drop_one item) (λ a less. cond-keeps P (waits_as item a) (with_life Dropped a) a less less) st.admissions all
 homes-next many st who (ops.Start queue) long all = all
+homes-next many st who (ops.DrainStart queue plug) long all = all
+homes-next many st who (ops.DrainDone place) long all = all
+homes-next many st who (ops.Unplug queue) long all = all
 homes-next many st who (ops.Begin queue) long all =
     let P : Admission → Type 0 = λ a. a.queue < many in begin-all P st.admissions queue (λ a waits less. less) all
 homes-next many st who (ops.End queue) long all =
@@ -141,16 +146,31 @@ settle-workers idle n (queue ∷ queues) =
     worker-kept queue true = refl
     worker-kept queue false = refl
 
-start-workers : (queues : List Queue) (number : ℕ) → map (λ queue. queue.worker) (start queues number) ≡ map (λ queue. queue.worker) queues
-start-workers [] number = refl
-start-workers (queue ∷ queues) zero = refl
-start-workers (queue ∷ queues) (suc number) = ap (λ (l : List ℕ). queue.worker ∷ l) (start-workers queues number)
+changed-worker : (c : Change) (queue : Queue) → (changed_queue c queue).worker ≡ queue.worker
+changed-worker changes.Start queue = refl
+changed-worker changes.Plug queue = refl
+changed-worker changes.Unplug queue = refl
+changed-worker changes.Drain queue = refl
+
+change-workers : (c : Change) (queues : List Queue) (number : ℕ) → map (λ queue. queue.worker) (change c queues number) ≡ map (λ queue. queue.worker) queues
+change-workers c [] number = refl
+change-workers c (queue ∷ queues) zero = ap (λ (w : ℕ). w ∷ map (λ (q : Queue). q.worker) queues) (changed-worker c queue)
+change-workers c (queue ∷ queues) (suc number) = ap (λ (l : List ℕ). queue.worker ∷ l) (change-workers c queues number)
+
+change_where-workers : (asked : Bool) (c : Change) (queues : List Queue) (number : ℕ) → map (λ queue. queue.worker) (change_where asked c queues number) ≡ map (λ queue. queue.worker) queues
+change_where-workers true c queues number = change-workers c queues number
+change_where-workers false c queues number = refl
 
 -- each queue keeps its worker
 pub workers-next : (st : State) (who : Who) (op : WorkOp) → map (λ queue. queue.worker) (work_next st who op).queues ≡ map (λ queue. queue.worker) st.queues
 workers-next st who (ops.Submit item named) = refl
 workers-next st who (ops.Cancel item) = settle-workers (is_empty_and_idle (drop_waiting st.admissions item)) 0 st.queues
-workers-next st who (ops.Start queue) = start-workers st.queues queue
+workers-next st who (ops.Start queue) = change-workers changes.Start st.queues queue
+workers-next st who (ops.DrainStart queue plug) =
+    change_where-workers (not (is_empty_and_idle st.admissions queue)) changes.Drain (change_where plug changes.Plug st.queues queue) queue
+    ∙ change_where-workers plug changes.Plug st.queues queue
+workers-next st who (ops.DrainDone place) = refl
+workers-next st who (ops.Unplug queue) = change-workers changes.Unplug st.queues queue
 workers-next st who (ops.Begin queue) = refl
 workers-next st who (ops.End queue) = settle-workers (is_empty_and_idle (end_run st.admissions queue)) 0 st.queues
 
@@ -179,6 +199,9 @@ abbrev pub IsCalled : WorkOp → Type 0
 IsCalled (ops.Submit item named) = Unit {0}
 IsCalled (ops.Cancel item) = Unit {0}
 IsCalled (ops.Start queue) = Unit {0}
+IsCalled (ops.DrainStart queue plug) = Unit {0}
+IsCalled (ops.DrainDone place) = Unit {0}
+IsCalled (ops.Unplug queue) = Unit {0}
 IsCalled (ops.Begin queue) = ⊥
 IsCalled (ops.End queue) = ⊥
 
@@ -192,6 +215,9 @@ idle-called st who (ops.Cancel item) queue called idle =
     let P : Admission → Type 0 = λ a. runs_on queue a ≡ false in
     map-all P (drop_one item) (λ a none. cond-keeps P (waits_as item a) (with_life Dropped a) a (and_right (eqb a.queue queue) false refl) none) st.admissions idle
 idle-called st who (ops.Start queue') queue called idle = idle
+idle-called st who (ops.DrainStart queue' plug) queue called idle = idle
+idle-called st who (ops.DrainDone place) queue called idle = idle
+idle-called st who (ops.Unplug queue') queue called idle = idle
 idle-called st who (ops.Begin queue') queue called idle = absurd called
 idle-called st who (ops.End queue') queue called idle = absurd called
 
@@ -232,6 +258,9 @@ pub idle-next : (st : State) (who : Who) (op : WorkOp) (reply : WorkReply) (queu
 idle-next st who (ops.Submit item named) reply queue worker is other made idle = idle-called st who (ops.Submit item named) queue tt idle
 idle-next st who (ops.Cancel item) reply queue worker is other made idle = idle-called st who (ops.Cancel item) queue tt idle
 idle-next st who (ops.Start queue') reply queue worker is other made idle = idle
+idle-next st who (ops.DrainStart queue' plug) reply queue worker is other made idle = idle
+idle-next st who (ops.DrainDone place) reply queue worker is other made idle = idle
+idle-next st who (ops.Unplug queue') reply queue worker is other made idle = idle
 idle-next st who (ops.Begin queue') reply queue worker is other made idle =
     let P : Admission → Type 0 = λ a. runs_on queue a ≡ false in
     begin-all P st.admissions queue' (λ a waits none. and_left (eqb a.queue queue) true (apart a (and_parts (eqb a.queue queue') (is_waiting a.life) waits).0)) idle

@@ -18,7 +18,9 @@ use Rattle.zk_scenario.specs.Players.{places_from, places, players, is_thread, i
 use Rattle.zk_scenario.proofs.Valid.{count_by-cons}
 use Rattle.zk_model_work.specs.declared.ops.WorkOp.{WorkOp}
 use Rattle.zk_model_work.specs.declared.ops.WorkOp.TheVariants as ops
+use Rattle.zk_model_work.specs.declared.ops.Submitted.{Submitted}
 use Rattle.zk_model_work.specs.declared.ops.WorkReply.{WorkReply}
+use Rattle.zk_model_work.specs.declared.ops.WorkReply.TheVariants.{Sub, Flags, Wait, Number, Done, Already, Run}
 use Rattle.zk_model_work.specs.declared.parts.Admission.{Admission}
 use Rattle.zk_model_work.specs.declared.parts.Queue.{Queue}
 use Rattle.zk_model_work.specs.Questions.{runs_on}
@@ -32,9 +34,13 @@ use Rattle.zk_worker.specs.declared.frames.TheConstants.{MOST_FRAMES}
 use Rattle.zk_worker.specs.declared.frames.Role.{Role}
 use Rattle.zk_worker.specs.declared.frames.Role.TheVariants.{Script, Worker}
 use Rattle.zk_worker.specs.declared.frames.Stage.{Stage}
-use Rattle.zk_worker.specs.declared.frames.Stage.TheVariants.{Start, Runs}
-use Rattle.zk_worker.specs.declared.frames.Form.TheVariants.{One}
-use Rattle.zk_worker.specs.Calls.{form_attempts}
+use Rattle.zk_worker.specs.declared.frames.Stage.TheVariants.{Start, Runs, Waits}
+use Rattle.zk_worker.specs.declared.frames.Closing.{Closing}
+use Rattle.zk_worker.specs.declared.frames.Closing.TheVariants as closings
+use Rattle.zk_worker.specs.declared.frames.Form.TheVariants.{One, Pair}
+use Rattle.zk_worker.specs.declared.answers.Word.{Word}
+use Rattle.zk_worker.specs.declared.answers.Word.TheVariants as words
+use Rattle.zk_worker.specs.Calls.{closing_step, form_attempts, opening_progress, form_progress}
 use Rattle.zk_worker.specs.Places.{At}
 use Rattle.zk_worker.specs.Protocol.{call_attempts, frames_attempts, frames_progress, frames_after, call_progress, run_progress, is_over, settled, entered, first_frame, starting, start_at, after}
 use Rattle.zk_worker.specs.Machines.{workers, work_start_of, is_on}
@@ -47,6 +53,7 @@ workers-keep : (ds : List Decl) (queue : ℕ) (role : Role) (stage : Stage) (old
     IsWorkers ds queue role stage old → IsWorkers ds queue role stage new
 workers-keep ds queue (Worker object) Start old new keeps tends = (tends.0, keeps tends.1)
 workers-keep ds queue (Worker object) Runs old new keeps tends = tends
+workers-keep ds queue (Worker object) (Waits place) old new keeps tends = absurd tends
 workers-keep ds queue (Script owner) stage old new keeps tends = absurd tends
 
 -- what leaves a queue idle leaves it tended
@@ -107,6 +114,8 @@ own-run s st who queue (Worker object) next Runs op reply place k tends is made 
     subst (λ (q : ℕ). IsIdle q (work_next st who (ops.End (number_of s.decls object))).admissions) tends (idle-ended (number_of s.decls object) st.admissions) in
     (tends, subst (λ (o : WorkOp). IsIdle queue (work_next st who o).admissions) ends idle)
 
+own-run s st who queue (Worker object) next (Waits since) op reply place k tends is made = absurd tends
+
 -- the scripts of a worker after a step of the innermost one
 own-script : (s : Parts) (st : State) (who : Who) (queue : ℕ) (frame next : Frame) (below : List Frame) (op : WorkOp) (reply : WorkReply) (place k : ℕ) (call : Option Call) →
     IsScript frame.role → Tends s.decls queue (next ∷ below) st.admissions → slice_get (call_attempts s.decls call frame.stage) k ≡ Some (steps.Work op) →
@@ -121,6 +130,30 @@ own-script s st who queue frame next below op reply place k call script tends is
     called_by : (made : WorkOp) (stage : Stage) → IsCalled made → slice_get (form_attempts (One (steps.Work made)) stage) k ≡ Some (steps.Work op) → IsCalled op
     called_by made Start called is = let step = only (steps.Work made) (steps.Work op) k is in let same : made ≡ op = cc in subst (λ (o : WorkOp). IsCalled o) same called
     called_by made Runs called is = absurd (cc)
+    called_by made (Waits since) called is = absurd (cc)
+
+    waits : IsCalled op → (stage : Stage) → Tends s.decls queue (record frame { stage = stage } ∷ next ∷ below) (work_next st who op).admissions
+    waits called stage = (script, tends-keep s.decls queue (next ∷ below) st.admissions (work_next st who op).admissions (idle-called st who op queue called) tends)
+
+    -- a call that may wait, by what its first step was answered
+    opened : (word : Word) (reply : WorkReply) → IsCalled op → Tends s.decls queue (frames_after s (frame ∷ next ∷ below) (opening_progress word (step_replies.Work reply place))) (work_next st who op).admissions
+    opened word (Sub submitted) called = over called
+    opened word (Flags flags) called = over called
+    opened word Wait called = waits called (Waits place)
+    opened word (Number number) called = over called
+    opened word Done called = over called
+    opened word Already called = over called
+    opened word (Run item number) called = over called
+
+    closed : (closing : Closing) (since : ℕ) → slice_get (closing_step closing since ∷ []) k ≡ Some (steps.Work op) → IsCalled op
+    closed closings.Drain since is = let step = only (steps.Work (ops.DrainDone since)) (steps.Work op) k is in let same : ops.DrainDone since ≡ op = cc in subst (λ (o : WorkOp). IsCalled o) same tt
+
+    pair : (word : Word) (first : WorkOp) (closing : Closing) (stage : Stage) → IsCalled first → slice_get (form_attempts (Pair (steps.Work first) closing) stage) k ≡ Some (steps.Work op) →
+        Tends s.decls queue (frames_after s (frame ∷ next ∷ below) (form_progress word (Pair (steps.Work first) closing) stage (steps.Work op) (step_replies.Work reply place))) (work_next st who op).admissions
+    pair word first closing Start called is =
+        let step = only (steps.Work first) (steps.Work op) k is in let same : first ≡ op = cc in opened word reply (subst (λ (o : WorkOp). IsCalled o) same called)
+    pair word first closing Runs called is = absurd (cc)
+    pair word first closing (Waits since) called is = over (closed closing since is)
 
     by_call : (call : Option Call) → slice_get (call_attempts s.decls call frame.stage) k ≡ Some (steps.Work op) →
         Tends s.decls queue (frames_after s (frame ∷ next ∷ below) (call_progress s.decls call frame.stage (steps.Work op) (step_replies.Work reply place))) (work_next st who op).admissions
@@ -128,6 +161,8 @@ own-script s st who queue frame next below op reply place k call script tends is
     by_call (Some (calls.Submit item named)) is = over (called_by (ops.Submit _ _) frame.stage tt is)
     by_call (Some (calls.Cancel item)) is = over (called_by (ops.Cancel _) frame.stage tt is)
     by_call (Some (calls.Start named)) is = over (called_by (ops.Start _) frame.stage tt is)
+    by_call (Some (calls.Drain named plug)) is = pair words.Drain (ops.DrainStart _ plug) closings.Drain frame.stage tt is
+    by_call (Some (calls.Unplug named)) is = over (called_by (ops.Unplug _) frame.stage tt is)
 
 -- a worker tends its queue after each step of its own
 pub tends-own : (s : Parts) (st : State) (who : Who) (queue : ℕ) (frames : List Frame) (op : WorkOp) (reply : WorkReply) (place k : ℕ) →

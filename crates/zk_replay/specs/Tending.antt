@@ -11,7 +11,7 @@ use Rattle.zk_worker.specs.declared.frames.Frame.{Frame}
 use Rattle.zk_worker.specs.declared.frames.Role.{Role}
 use Rattle.zk_worker.specs.declared.frames.Role.TheVariants.{Script, Worker}
 use Rattle.zk_worker.specs.declared.frames.Stage.{Stage}
-use Rattle.zk_worker.specs.declared.frames.Stage.TheVariants.{Start, Runs}
+use Rattle.zk_worker.specs.declared.frames.Stage.TheVariants.{Start, Runs, Waits}
 use Rattle.zk_worker.specs.Places.{At}
 use Rattle.zk_worker.specs.Machines.{workers, work_start_of}
 use Rattle.zk_replay.specs.RoundRobin.{World}
@@ -24,6 +24,7 @@ IsIdle queue admissions = All (λ a. runs_on queue a ≡ false) admissions
 abbrev pub IsWorkers : List Decl → ℕ → Role → Stage → List Admission → Type 0
 IsWorkers decls queue (Worker object) Start admissions = (number_of decls object ≡ queue) × IsIdle queue admissions
 IsWorkers decls queue (Worker object) Runs admissions = number_of decls object ≡ queue
+IsWorkers decls queue (Worker object) (Waits place) admissions = ⊥
 IsWorkers decls queue (Script owner) stage admissions = ⊥
 
 -- it is a script that is open

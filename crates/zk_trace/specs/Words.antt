@@ -1,4 +1,4 @@
-use Rattle.std.specs.Prelude.{ℕ, ◌==◌, if◌then◌else◌, Option, Some, None, List, [], ◌∷◌, ◌++◌, codes, decimal}
+use Rattle.std.specs.Prelude.{ℕ, Bool, true, false, ◌==◌, if◌then◌else◌, Option, Some, None, List, [], ◌∷◌, ◌++◌, codes, decimal}
 use Rattle.std.specs.Int.RustNames.{bit_and}
 use Rattle.zk_base.specs.declared.errors.Errno.{Errno}
 use Rattle.zk_base.specs.declared.errors.Errno.TheVariants.{Busy, Again, Inval, NoDev, NoMsg, Already, Fault}
@@ -60,11 +60,19 @@ abbrev pub named_queue : List Decl → Option ℕ → List ℕ
 named_queue decls None = codes "-"
 named_queue decls (Some queue) = queue_name decls queue
 
+-- whether a queue is plugged with its drain
+abbrev pub mode_word : Bool → List ℕ
+mode_word true = codes "plug"
+mode_word false = codes "open"
+
 -- an operation of the work service
 abbrev pub op_text : List Decl → WorkOp → List ℕ
 op_text decls (ops.Submit item queue) = codes "submit " ++ item_name decls item ++ spaced (named_queue decls queue)
 op_text decls (ops.Cancel item) = codes "cancel " ++ item_name decls item
 op_text decls (ops.Start queue) = codes "start " ++ queue_name decls queue
+op_text decls (ops.DrainStart queue plug) = codes "drainstart " ++ queue_name decls queue ++ spaced (mode_word plug)
+op_text decls (ops.DrainDone place) = codes "draindone " ++ decimal place
+op_text decls (ops.Unplug queue) = codes "unplug " ++ queue_name decls queue
 op_text decls (ops.Begin queue) = codes "begin " ++ queue_name decls queue
 op_text decls (ops.End queue) = codes "end " ++ queue_name decls queue
 
@@ -79,6 +87,8 @@ submitted_text decls (submissions.Refused errno) = errno_word errno
 abbrev pub reply_text : List Decl → WorkReply → List ℕ
 reply_text decls (replies.Sub submitted) = submitted_text decls submitted
 reply_text decls (replies.Flags flags) = flags_word flags
+reply_text decls replies.Wait = codes "wait"
+reply_text decls (replies.Number number) = decimal number
 reply_text decls replies.Done = codes "ok"
 reply_text decls replies.Already = codes "already"
 reply_text decls (replies.Run item admission) = item_name decls item ++ spaced (admission_word admission)
@@ -88,6 +98,8 @@ abbrev pub call_word : Word → List ℕ
 call_word words.Submit = codes "submit"
 call_word words.Cancel = codes "cancel"
 call_word words.Start = codes "start"
+call_word words.Drain = codes "drain"
+call_word words.Unplug = codes "unplug"
 
 -- the answer of a call
 abbrev pub answer_text : Answer → List ℕ

@@ -1,10 +1,10 @@
-ghost use Rattle.std.specs.Prelude.{◌≡◌, ◌++◌, OnOk};
+ghost use Rattle.std.specs.Prelude.{◌≡◌, ◌++◌, decimal, OnOk};
 ghost use Rattle.zk_trace.specs.Names.{queue_name};
 ghost use Rattle.zk_trace.specs.Words.{spaced, admission_word, named_queue, op_text, submitted_text, reply_text};
 ghost use Rattle.zk_trace.specs.Text.{entry_line};
 
 use crate::names::{item_name, player_name, queue_name};
-use crate::words::{errno_word, put_admission, put_flags, put_spaced};
+use crate::words::{errno_word, mode_word, put_admission, put_flags, put_spaced};
 use zk_base::{Entry, NoMemory, put, put_decimal};
 use zk_model_work::{Submitted, WorkOp, WorkReply};
 use zk_scenario::Scenario;
@@ -34,6 +34,9 @@ fn put_op(out: &mut Vec<u8>, scenario: &Scenario, op: WorkOp) -> Result<(), NoMe
         WorkOp::Submit(item, queue) => put_submit(out, scenario, item, queue),
         WorkOp::Cancel(item) => put_named(out, b"cancel ", item_name(scenario, item)),
         WorkOp::Start(queue) => put_named(out, b"start ", queue_name(scenario, queue)),
+        WorkOp::DrainStart(queue, plug) => put_drain(out, scenario, queue, plug),
+        WorkOp::DrainDone(place) => put_placed(out, b"draindone ", place),
+        WorkOp::Unplug(queue) => put_named(out, b"unplug ", queue_name(scenario, queue)),
         WorkOp::Begin(queue) => put_named(out, b"begin ", queue_name(scenario, queue)),
         WorkOp::End(queue) => put_named(out, b"end ", queue_name(scenario, queue)),
     }
@@ -44,6 +47,26 @@ fn put_named(out: &mut Vec<u8>, word: &[u8], name: &[u8]) -> Result<(), NoMemory
 {
     put(out, word)?;
     put(out, name)
+}
+
+fn put_placed(out: &mut Vec<u8>, word: &[u8], place: u64) -> Result<(), NoMemory>
+    ensures { OnOk result (out.new.items ≡ out.old.items ++ (word.now ++ decimal place)) }
+{
+    put(out, word)?;
+    put_decimal(out, place)
+}
+
+fn put_drain(
+    out: &mut Vec<u8>,
+    scenario: &Scenario,
+    queue: u32,
+    plug: bool,
+) -> Result<(), NoMemory>
+    ensures { OnOk result (out.new.items ≡ out.old.items ++ op_text scenario.now.decls (WorkOp.DrainStart queue plug)) }
+{
+    put(out, b"drainstart ")?;
+    put(out, queue_name(scenario, queue))?;
+    put_spaced(out, mode_word(plug))
 }
 
 fn put_submit(
@@ -74,6 +97,8 @@ fn put_reply(out: &mut Vec<u8>, scenario: &Scenario, reply: WorkReply) -> Result
     match reply {
         WorkReply::Sub(submitted) => put_submitted(out, scenario, submitted),
         WorkReply::Flags(flags) => put_flags(out, flags),
+        WorkReply::Wait => put(out, b"wait"),
+        WorkReply::Number(number) => put_decimal(out, number),
         WorkReply::Done => put(out, b"ok"),
         WorkReply::Already => put(out, b"already"),
         WorkReply::Run(item, admission) => put_run(out, scenario, item, admission),

@@ -1,6 +1,6 @@
 ghost use Rattle.std.specs.Prelude.{◌≡◌, ◌++◌, ◌==◌, OnOk};
 ghost use Rattle.std.specs.Int.RustNames.{bit_and};
-ghost use Rattle.zk_trace.specs.Words.{spaced, ending_word, errno_word, admission_word, flag_letter, flag_letters, flags_word, call_word, answer_text, state_word};
+ghost use Rattle.zk_trace.specs.Words.{spaced, ending_word, errno_word, admission_word, flag_letter, flag_letters, flags_word, mode_word, call_word, answer_text, state_word};
 
 use crate::Ending;
 use zk_base::{Errno, NoMemory, put, put_decimal};
@@ -75,6 +75,12 @@ fn put_letter(out: &mut Vec<u8>, flags: u8, flag: u8, letter: u8) -> Result<(), 
     put(out, &[letter])
 }
 
+pub fn mode_word(plug: bool) -> &'static [u8]
+    ensures { result.now ≡ mode_word plug }
+{
+    if plug { b"plug" } else { b"open" }
+}
+
 pub fn call_word(word: Word) -> &'static [u8]
     ensures { result.now ≡ call_word word }
 {
@@ -82,6 +88,8 @@ pub fn call_word(word: Word) -> &'static [u8]
         Word::Submit => b"submit",
         Word::Cancel => b"cancel",
         Word::Start => b"start",
+        Word::Drain => b"drain",
+        Word::Unplug => b"unplug",
     }
 }
 

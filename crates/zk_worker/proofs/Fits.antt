@@ -10,7 +10,7 @@ use Rattle.zk_scenario.specs.declared.types.Decl.{Decl}
 use Rattle.zk_scenario.specs.declared.types.Decl.TheVariants.{Thread, Queue, Item}
 use Rattle.zk_scenario.specs.declared.types.Ref.TheVariants.{Known}
 use Rattle.zk_scenario.specs.declared.types.Call.{Call}
-use Rattle.zk_scenario.specs.declared.types.Call.TheVariants.{Submit, Cancel, Start}
+use Rattle.zk_scenario.specs.declared.types.Call.TheVariants.{Submit, Cancel, Start, Drain, Unplug}
 use Rattle.zk_scenario.specs.Players.{places, players, is_queue, is_item, number_of, calls_of}
 use Rattle.zk_scenario.specs.Objects.{is_at}
 use Rattle.zk_scenario.specs.Parts.{Parts}
@@ -21,15 +21,17 @@ use Rattle.zk_worker.specs.declared.steps.TheConstants.{MOST_STEPS}
 use Rattle.zk_worker.specs.declared.steps.Step.{Step}
 use Rattle.zk_worker.specs.declared.steps.StepReply.{StepReply}
 use Rattle.zk_worker.specs.declared.frames.Frame.{Frame}
+use Rattle.zk_worker.specs.declared.frames.Closing.{Closing}
+use Rattle.zk_worker.specs.declared.frames.Closing.TheVariants as closings
 use Rattle.zk_worker.specs.declared.frames.Form.{Form}
-use Rattle.zk_worker.specs.declared.frames.Form.TheVariants.{One}
+use Rattle.zk_worker.specs.declared.frames.Form.TheVariants.{One, Pair}
 use Rattle.zk_worker.specs.declared.frames.Stage.{Stage}
 use Rattle.zk_worker.specs.declared.frames.Stage.TheVariants as stages
 use Rattle.zk_worker.specs.declared.frames.Role.{Role}
 use Rattle.zk_worker.specs.declared.frames.Role.TheVariants as roles
 use Rattle.zk_worker.specs.declared.frames.Progress.{Progress}
 use Rattle.zk_worker.specs.declared.frames.Progress.TheVariants.{Goes, Answers, Enters}
-use Rattle.zk_worker.specs.Calls.{form_of, form_attempts}
+use Rattle.zk_worker.specs.Calls.{form_of, closing_step, form_attempts}
 use Rattle.zk_worker.specs.Places.{At}
 use Rattle.zk_worker.specs.Protocol.{worker_attempts, call_attempts, role_attempts, frames_attempts, IsAhead, after, frames_after, frames_progress, entered, first_frame, role_at, starting, start_at}
 use Rattle.zk_worker.specs.Ranges.{step_fits, role_fits, FramesFit}
@@ -51,6 +53,7 @@ queue-fits decls object is =
 -- the step that a fitting call makes fits
 FormFits : List Decl → Form → Type 0
 FormFits decls (One step) = step_fits decls step ≡ true
+FormFits decls (Pair opening closing) = step_fits decls opening ≡ true
 
 form_of-fits : (decls : List Decl) (call : Call) → call_fits decls call ≡ true → FormFits decls (form_of decls call)
 unfolding FormFits
@@ -62,6 +65,8 @@ form_of-fits decls (Submit (Known item) (Some (Known queue))) fits =
     (item-fits decls item both.0) (queue-fits decls queue both.1)
 form_of-fits decls (Cancel (Known item)) fits = item-fits decls item fits
 form_of-fits decls (Start (Known queue)) fits = queue-fits decls queue fits
+form_of-fits decls (Drain (Known queue) plug) fits = queue-fits decls queue fits
+form_of-fits decls (Unplug (Known queue)) fits = queue-fits decls queue fits
 
 only : (x y : Step) (k : ℕ) → slice_get (x ∷ []) k ≡ Some y → x ≡ y
 only x y zero is = cc
@@ -73,6 +78,13 @@ form_attempts-fit : (decls : List Decl) (form : Form) (stage : Stage) (k : ℕ) 
 unfolding FormFits
 form_attempts-fit decls (One first) stages.Start k step fits is = subst (λ s. step_fits decls s ≡ true) (only first step k is) fits
 form_attempts-fit decls (One first) stages.Runs k step fits is = absurd (cc)
+form_attempts-fit decls (One first) (stages.Waits place) k step fits is = absurd (cc)
+form_attempts-fit decls (Pair opening closing) stages.Start k step fits is = subst (λ s. step_fits decls s ≡ true) (only opening step k is) fits
+form_attempts-fit decls (Pair opening closing) stages.Runs k step fits is = absurd (cc)
+form_attempts-fit decls (Pair opening closing) (stages.Waits place) k step fits is =
+    subst (λ s. step_fits decls s ≡ true) (only (closing_step closing place) step k is) (closing-fits closing) where
+      closing-fits : (closing : Closing) → step_fits decls (closing_step closing place) ≡ true
+      closing-fits closings.Drain = refl
 
 call_attempts-fit : (decls : List Decl) (call : Option Call) (stage : Stage) (k : ℕ) (step : Step) →
     option_map_or (call_fits decls) call true ≡ true → slice_get (call_attempts decls call stage) k ≡ Some step → step_fits decls step ≡ true
@@ -88,6 +100,7 @@ worker_attempts-fit : (decls : List Decl) (queue : ℕ) (stage : Stage) (k : ℕ
     nat_lt queue (length (places is_queue decls)) ≡ true → slice_get (worker_attempts queue stage) k ≡ Some step → step_fits decls step ≡ true
 worker_attempts-fit decls queue stages.Start k step fits is = subst (λ s. step_fits decls s ≡ true) (only _ step k is) fits
 worker_attempts-fit decls queue stages.Runs k step fits is = subst (λ s. step_fits decls s ≡ true) (only _ step k is) fits
+worker_attempts-fit decls queue (stages.Waits place) k step fits is = absurd (cc)
 
 role_attempts-fit : (s : Parts) (role : Role) (next : ℕ) (stage : Stage) (k : ℕ) (step : Step) → IsValid s →
     role_fits s.decls role ≡ true → slice_get (role_attempts s role next stage) k ≡ Some step → step_fits s.decls step ≡ true

@@ -15,9 +15,9 @@ use Rattle.zk_worker.specs.declared.frames.Progress.TheVariants.{Goes, Answers, 
 use Rattle.zk_worker.specs.declared.frames.Role.{Role}
 use Rattle.zk_worker.specs.declared.frames.Role.TheVariants.{Script, Worker}
 use Rattle.zk_worker.specs.declared.frames.Stage.{Stage}
-use Rattle.zk_worker.specs.declared.frames.Stage.TheVariants.{Start, Runs}
+use Rattle.zk_worker.specs.declared.frames.Stage.TheVariants.{Start, Runs, Waits}
 use Rattle.zk_worker.specs.declared.frames.Form.{Form}
-use Rattle.zk_worker.specs.declared.frames.Form.TheVariants.{One}
+use Rattle.zk_worker.specs.declared.frames.Form.TheVariants.{One, Pair}
 use Rattle.zk_worker.specs.Places.{At}
 use Rattle.zk_worker.specs.Calls.{form_of, form_attempts}
 use Rattle.zk_scenario.specs.declared.types.Call.{Call}
@@ -117,6 +117,10 @@ IsRoomy-moved s frames frames' answers answers' spots spots' spot number progres
 form_attempts-few : (form : Form) (stage : Stage) → length (form_attempts form stage) ≤ 1
 form_attempts-few (One step) Start = omega arith
 form_attempts-few (One step) Runs = omega arith
+form_attempts-few (One step) (Waits place) = omega arith
+form_attempts-few (Pair opening closing) Start = omega arith
+form_attempts-few (Pair opening closing) Runs = omega arith
+form_attempts-few (Pair opening closing) (Waits place) = omega arith
 
 frames_attempts-few : (s : Parts) (frames : List Frame) → length (frames_attempts s frames) ≤ 1
 frames_attempts-few s [] = omega arith
@@ -130,6 +134,7 @@ frames_attempts-few s (frame ∷ below) = role_few s frame.role frame.next frame
     role_few s (Script owner) next stage = call_few s (slice_get (calls_of s.scripts owner) next) stage
     role_few s (Worker queue) next Start = omega arith
     role_few s (Worker queue) next Runs = omega arith
+    role_few s (Worker queue) next (Waits place) = omega arith
 
 -- a player has few attempts at a time
 pub attempts-few : (s : Parts) (at : At) → length (attempts s at) ≤ MOST_ATTEMPTS

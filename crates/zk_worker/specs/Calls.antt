@@ -19,12 +19,14 @@ use Rattle.zk_worker.specs.declared.answers.Answer.{Answer}
 use Rattle.zk_worker.specs.declared.answers.Answer.TheVariants.{Number, Flags, Refused}
 use Rattle.zk_worker.specs.declared.answers.Word.{Word}
 use Rattle.zk_worker.specs.declared.answers.Word.TheVariants as words
+use Rattle.zk_worker.specs.declared.frames.Closing.{Closing}
+use Rattle.zk_worker.specs.declared.frames.Closing.TheVariants as closings
 use Rattle.zk_worker.specs.declared.frames.Form.{Form}
-use Rattle.zk_worker.specs.declared.frames.Form.TheVariants.{One}
+use Rattle.zk_worker.specs.declared.frames.Form.TheVariants.{One, Pair}
 use Rattle.zk_worker.specs.declared.frames.Stage.{Stage}
-use Rattle.zk_worker.specs.declared.frames.Stage.TheVariants.{Start}
+use Rattle.zk_worker.specs.declared.frames.Stage.TheVariants.{Start, Waits}
 use Rattle.zk_worker.specs.declared.frames.Progress.{Progress}
-use Rattle.zk_worker.specs.declared.frames.Progress.TheVariants.{Answers}
+use Rattle.zk_worker.specs.declared.frames.Progress.TheVariants.{Goes, Answers}
 
 -- an object that a call names, by its number among those of its kind
 abbrev pub ref_number : List Decl → Ref → ℕ
@@ -35,12 +37,16 @@ abbrev pub form_of : List Decl → Call → Form
 form_of decls (calls.Submit item queue) = One (steps.Work (ops.Submit (ref_number decls item) (option_map (ref_number decls) queue)))
 form_of decls (calls.Cancel item) = One (steps.Work (ops.Cancel (ref_number decls item)))
 form_of decls (calls.Start queue) = One (steps.Work (ops.Start (ref_number decls queue)))
+form_of decls (calls.Drain queue plug) = Pair (steps.Work (ops.DrainStart (ref_number decls queue) plug)) closings.Drain
+form_of decls (calls.Unplug queue) = One (steps.Work (ops.Unplug (ref_number decls queue)))
 
 -- which call it is
 abbrev pub word_of : Call → Word
 word_of (calls.Submit item queue) = words.Submit
 word_of (calls.Cancel item) = words.Cancel
 word_of (calls.Start queue) = words.Start
+word_of (calls.Drain queue plug) = words.Drain
+word_of (calls.Unplug queue) = words.Unplug
 
 -- what a submission answers
 abbrev pub submission_answer : Submitted → Answer
@@ -53,6 +59,7 @@ submission_answer (submissions.Refused errno) = Refused errno
 abbrev pub work_answer : WorkReply → Answer
 work_answer (replies.Sub submitted) = submission_answer submitted
 work_answer (replies.Flags flags) = Flags flags
+work_answer (replies.Number number) = Number number
 work_answer replies.Already = Refused Already
 work_answer reply = Number 0
 
@@ -60,11 +67,24 @@ work_answer reply = Number 0
 abbrev pub answer_of : StepReply → Answer
 answer_of (step_replies.Work reply place) = work_answer reply
 
+-- the step that ends a wait begun by the entry of this place
+abbrev pub closing_step : Closing → ℕ → Step
+closing_step closings.Drain place = steps.Work (ops.DrainDone place)
+
 -- the next attempts of a call, in order
 abbrev pub form_attempts : Form → Stage → List Step
 form_attempts (One step) Start = step ∷ []
+form_attempts (Pair opening closing) Start = opening ∷ []
+form_attempts (Pair opening closing) (Waits place) = closing_step closing place ∷ []
 form_attempts form stage = []
+
+-- what the reply to the first of two steps does to its call: it waits, or is answered
+abbrev pub opening_progress : Word → StepReply → Progress
+opening_progress word (step_replies.Work replies.Wait place) = Goes (Waits place)
+opening_progress word reply = Answers word (answer_of reply)
 
 -- what the reply to a step does to its call
 abbrev pub form_progress : Word → Form → Stage → Step → StepReply → Progress
 form_progress word (One step) stage made reply = Answers word (answer_of reply)
+form_progress word (Pair opening closing) Start made reply = opening_progress word reply
+form_progress word (Pair opening closing) stage made reply = Answers word (answer_of reply)

@@ -29,6 +29,7 @@ use Rattle.zk_worker.specs.Places.{At}
 abbrev pub worker_attempts : ℕ → Stage → List Step
 worker_attempts queue Start = steps.Work (ops.Begin queue) ∷ []
 worker_attempts queue Runs = steps.Work (ops.End queue) ∷ []
+worker_attempts queue stage = []
 
 -- the next attempts of a script, at its next call
 abbrev pub call_attempts : List Decl → Option Call → Stage → List Step

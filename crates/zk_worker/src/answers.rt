@@ -4,7 +4,7 @@ use zk_base::{Errno, Listed};
 #[derive(Clone, Copy, Debug)]
 pub enum Answer {
     /// A number. Of a submission 0 where the item was queued already, 1 where it was admitted, and 2 where it was admitted
-    /// while it runs.
+    /// while it runs. Of a drain 0 where it didn't have to wait, and 1 where it did.
     Number(u64),
     /// The busy flags of an item, below 32.
     Flags(u8),
@@ -18,6 +18,8 @@ pub enum Word {
     Submit,
     Cancel,
     Start,
+    Drain,
+    Unplug,
 }
 
 /// A call that has its answer.

@@ -1,7 +1,7 @@
 ghost use Rattle.std.specs.Prelude.{◌≡◌, slice_get, option_map};
-ghost use Rattle.zk_worker.specs.Calls.{ref_number, form_of, word_of, submission_answer, work_answer, answer_of, form_attempts, form_progress};
+ghost use Rattle.zk_worker.specs.Calls.{ref_number, form_of, word_of, submission_answer, work_answer, answer_of, closing_step, form_attempts, opening_progress, form_progress};
 
-use crate::{Answer, Form, Progress, Stage, Step, StepReply, Word};
+use crate::{Answer, Closing, Form, Progress, Stage, Step, StepReply, Word};
 use zk_base::Errno;
 use zk_model_work::{Submitted, WorkOp, WorkReply};
 use zk_scenario::{Call, Ref, Scenario};
@@ -33,6 +33,11 @@ pub fn form_of(scenario: &Scenario, call: Call) -> Form
         ))),
         Call::Cancel(item) => Form::One(Step::Work(WorkOp::Cancel(ref_number(scenario, item)))),
         Call::Start(queue) => Form::One(Step::Work(WorkOp::Start(ref_number(scenario, queue)))),
+        Call::Drain(queue, plug) => Form::Pair(
+            Step::Work(WorkOp::DrainStart(ref_number(scenario, queue), plug)),
+            Closing::Drain,
+        ),
+        Call::Unplug(queue) => Form::One(Step::Work(WorkOp::Unplug(ref_number(scenario, queue)))),
     }
 }
 
@@ -44,6 +49,8 @@ pub fn word_of(call: Call) -> Word
         Call::Submit(_, _) => Word::Submit,
         Call::Cancel(_) => Word::Cancel,
         Call::Start(_) => Word::Start,
+        Call::Drain(_, _) => Word::Drain,
+        Call::Unplug(_) => Word::Unplug,
     }
 }
 
@@ -64,6 +71,7 @@ fn work_answer(reply: WorkReply) -> Answer
     match reply {
         WorkReply::Sub(submitted) => submission_answer(submitted),
         WorkReply::Flags(flags) => Answer::Flags(flags),
+        WorkReply::Number(number) => Answer::Number(number),
         WorkReply::Already => Answer::Refused(Errno::Already),
         _ => Answer::Number(0),
     }
@@ -76,13 +84,36 @@ fn answer_of(reply: StepReply) -> Answer
     work_answer(reply)
 }
 
+/// The step that ends a wait begun by the entry of this place.
+fn closing_step(closing: Closing, place: u64) -> Step
+    ensures { result ≡ closing_step closing place }
+{
+    match closing {
+        Closing::Drain => Step::Work(WorkOp::DrainDone(place)),
+    }
+}
+
 /// The attempt of this index among the next attempts of a call.
 pub fn form_ahead(form: Form, stage: Stage, index: u32) -> Option<Step>
     ensures { result ≡ slice_get (form_attempts form stage) index }
 {
     match (form, stage) {
         (Form::One(step), Stage::Start) if index == 0 => Some(step),
+        (Form::Pair(opening, _), Stage::Start) if index == 0 => Some(opening),
+        (Form::Pair(_, closing), Stage::Waits(place)) if index == 0 => {
+            Some(closing_step(closing, place))
+        }
         _ => None,
+    }
+}
+
+/// What the reply to the first of two steps does to its call.
+fn opening_progress(word: Word, reply: StepReply) -> Progress
+    ensures { result ≡ opening_progress word reply }
+{
+    match reply {
+        StepReply::Work(WorkReply::Wait, place) => Progress::Goes(Stage::Waits(place)),
+        _ => Progress::Answers(word, answer_of(reply)),
     }
 }
 
@@ -90,13 +121,14 @@ pub fn form_ahead(form: Form, stage: Stage, index: u32) -> Option<Step>
 pub fn form_progress(
     word: Word,
     form: Form,
-    _stage: Stage,
+    stage: Stage,
     _made: Step,
     reply: StepReply,
 ) -> Progress
-    ensures { result ≡ form_progress word form _stage _made reply }
+    ensures { result ≡ form_progress word form stage _made reply }
 {
-    match form {
-        Form::One(_) => Progress::Answers(word, answer_of(reply)),
+    match (form, stage) {
+        (Form::Pair(_, _), Stage::Start) => opening_progress(word, reply),
+        _ => Progress::Answers(word, answer_of(reply)),
     }
 }

@@ -8,6 +8,15 @@ pub const MOST_FRAMES: usize = 18;
 pub enum Form {
     /// One step, whose reply it answers.
     One(Step),
+    /// One step, whose reply it answers unless it has to wait, and then the step that ends the wait.
+    Pair(Step, Closing),
+}
+
+/// The step that ends a wait, by the place of the entry that began it.
+#[derive(Clone, Copy, Debug)]
+pub enum Closing {
+    /// The end of a drain.
+    Drain,
 }
 
 /// How far a call or a run has come.
@@ -17,6 +26,8 @@ pub enum Stage {
     Start,
     /// A worker has taken up an item and hasn't ended it.
     Runs,
+    /// A call waits since the entry at this place of its service.
+    Waits(u64),
 }
 
 /// What is played.

@@ -13,7 +13,7 @@ mod stack;
 mod steps;
 
 pub use answers::{Answer, Answered, Answers, Word};
-pub use frames::{Form, Frame, Progress, Role, Stage};
+pub use frames::{Closing, Form, Frame, Progress, Role, Stage};
 pub use log::{Log, PlayerState};
 pub use player::Player;
 pub use playing::Stepped;
