@@ -7,7 +7,7 @@ use Rattle.std.proofs.lemmas.List.{append-nil}
 use Rattle.std.proofs.lemmas.List.Folds.{list_all-append}
 use Rattle.std.proofs.lemmas.List.Quantifiers.{position-Some}
 use Rattle.std.proofs.lemmas.List.Sums.{sum_by-append}
-use Rattle.std.proofs.lemmas.Option.{none-some, slice_get_past, slice_get_within}
+use Rattle.std.proofs.lemmas.Option.{none-some, same_Some, slice_get_past, slice_get_within}
 use Rattle.zk_scenario.specs.declared.types.Decl.{Decl}
 use Rattle.zk_scenario.specs.declared.types.Decl.TheVariants as decl
 use Rattle.zk_scenario.specs.declared.types.Call.{Call}
@@ -25,7 +25,7 @@ use Rattle.zk_scenario.specs.Players.{plays_script, is_thread, is_queue, is_item
 use Rattle.zk_scenario.specs.Reading.{Reading, all_scripts, declared, begun, with_call, called, parts_of}
 use Rattle.zk_scenario.specs.Scripts.{script_of}
 use Rattle.zk_scenario.specs.Valid.{IsValid, OneEach, call_fits, script_fits, player_count, call_count}
-use Rattle.zk_scenario.specs.Verdict.{named, names, is_taken, has_begun, has_script, is_unbuilt, is_misplaced, is_out_of_range, is_misnamed, is_past_limit, verdict, object, ref, after}
+use Rattle.zk_scenario.specs.Verdict.{named, names, is_taken, has_begun, has_script, is_unbuilt, is_misplaced, is_out_of_range, is_misnamed, is_past_limit, verdict, object, ref, call_of, after}
 use Rattle.zk_scenario.proofs.Lists.{slice_get-append_left, slice_get-push, count_by-push, position-push}
 use Rattle.zk_scenario.proofs.Played.{script_of-push}
 
@@ -204,7 +204,26 @@ IsValid-after r f e valid = by_form f (Passes-verdict r f e) where
   by_form (form.Start queue) p =
       let named_queue = not-false (names is_queue r.decls queue) p.well_named in
       called_fits r (call.Start (ref r.decls queue)) valid p.placed (at_object is_queue r.decls (named r.decls queue) named_queue) p.within
+  by_form (form.Drain queue plug) p =
+      let named_queue = not-false (names is_queue r.decls queue) p.well_named in
+      called_fits r (call.Drain (ref r.decls queue) plug) valid p.placed (at_object is_queue r.decls (named r.decls queue) named_queue) p.within
+  by_form (form.Unplug queue) p =
+      let named_queue = not-false (names is_queue r.decls queue) p.well_named in
+      called_fits r (call.Unplug (ref r.decls queue)) valid p.placed (at_object is_queue r.decls (named r.decls queue) named_queue) p.within
   by_form form.End p = subst (λ ss. IsValid (record { decls = r.decls; scripts = ss })) (sym (append-nil (all_scripts r))) valid
+
+-- a line that stands for a call is that call in the open script
+pub after-call_of : (r : Reading) (f : Form) (c : Call) → call_of r.decls f ≡ Some c → after r f ≡ called r c
+after-call_of r (form.Thread name prio user) c e = absurd (cc)
+after-call_of r (form.Queue name prio on) c e = absurd (cc)
+after-call_of r (form.Item name) c e = absurd (cc)
+after-call_of r (form.Script owner) c e = absurd (cc)
+after-call_of r (form.Submit item queue) c e = ap (called r) (same_Some _ _ e)
+after-call_of r (form.Cancel item) c e = ap (called r) (same_Some _ _ e)
+after-call_of r (form.Start queue) c e = ap (called r) (same_Some _ _ e)
+after-call_of r (form.Drain queue plug) c e = ap (called r) (same_Some _ _ e)
+after-call_of r (form.Unplug queue) c e = ap (called r) (same_Some _ _ e)
+after-call_of r form.End c e = absurd (cc)
 
 -- the name of a new object isn't reserved, and no other's
 pub untaken : (decls : List Decl) (name : Named) → is_taken decls name ≡ false → IsUnreserved name × (object_of decls (named_text name) ≡ None)
@@ -230,6 +249,8 @@ IsPlain-verdict r f e = by_form f (Passes-verdict r f e) where
       (unreserved-names is_item r.decls item both.0, unreserved-names is_queue r.decls queue both.1)
   by_form (form.Cancel item) p = unreserved-names is_item r.decls item (not-false (names is_item r.decls item) p.well_named)
   by_form (form.Start queue) p = unreserved-names is_queue r.decls queue (not-false (names is_queue r.decls queue) p.well_named)
+  by_form (form.Drain queue plug) p = unreserved-names is_queue r.decls queue (not-false (names is_queue r.decls queue) p.well_named)
+  by_form (form.Unplug queue) p = unreserved-names is_queue r.decls queue (not-false (names is_queue r.decls queue) p.well_named)
   by_form form.End p = tt
 
 -- the same, where what was read after is given by an equation

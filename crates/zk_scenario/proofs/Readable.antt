@@ -7,12 +7,12 @@ use Rattle.zk_base.specs.Names.{is_name}
 use Rattle.zk_scenario.specs.declared.form.Named.{Named}
 use Rattle.zk_scenario.specs.declared.form.Named.TheVariants.{Plain, Reserved}
 use Rattle.zk_scenario.specs.declared.form.Form.{Form}
-use Rattle.zk_scenario.specs.declared.form.Form.TheVariants.{Thread, Queue, Item, Script, Submit, Cancel, Start, End}
+use Rattle.zk_scenario.specs.declared.form.Form.TheVariants.{Thread, Queue, Item, Script, Submit, Cancel, Start, Drain, Unplug, End}
 use Rattle.zk_scenario.specs.declared.form.Line.TheVariants.{Formed}
 use Rattle.zk_scenario.specs.Words.{words_of}
 use Rattle.zk_scenario.specs.Numbers.{priority_of, IsPriority}
-use Rattle.zk_scenario.specs.Text.{line_text, mode_text, state_text}
-use Rattle.zk_scenario.specs.Forms.{named_of, mode_of, state_of, line_of_words, line_of, named_text, form_words, IsNamed, CanBeSpelled}
+use Rattle.zk_scenario.specs.Text.{line_text, mode_text, state_text, plug_text}
+use Rattle.zk_scenario.specs.Forms.{named_of, mode_of, state_of, plug_of, line_of_words, line_of, named_text, form_words, IsNamed, CanBeSpelled}
 use Rattle.zk_scenario.proofs.Numerals.{priority_of-signed_decimal}
 use Rattle.zk_scenario.proofs.Unspaced.{is_unspaced, words_of-line_text, is_unspaced-name, is_unspaced-signed_decimal}
 
@@ -33,6 +33,10 @@ state_of-text : (on : Bool) → state_of (state_text on) ≡ Some on
 state_of-text true = refl
 state_of-text false = refl
 
+plug_of-text : (plug : Bool) → plug_of (plug_text plug) ≡ Some plug
+plug_of-text true = refl
+plug_of-text false = refl
+
 -- the parts of a form have no spaces
 unspaced_name : (name : Named) → IsNamed name → is_unspaced (named_text name) ≡ true
 unspaced_name (Plain name) named = is_unspaced-name name named
@@ -50,6 +54,10 @@ unspaced_state : (on : Bool) → is_unspaced (state_text on) ≡ true
 unspaced_state true = refl
 unspaced_state false = refl
 
+unspaced_plug : (plug : Bool) → is_unspaced (plug_text plug) ≡ true
+unspaced_plug true = refl
+unspaced_plug false = refl
+
 -- what the words of a form say
 line_of_words-form : (form : Form) → CanBeSpelled form → line_of_words (form_words form) ≡ Formed form
 line_of_words-form (Thread name prio user) fine =
@@ -65,6 +73,8 @@ line_of_words-form (Submit item (Some queue)) fine =
     let i = named_of-name item fine.0 in let q = named_of-name queue fine.1 in simp (i, q)
 line_of_words-form (Cancel item) fine = let i = named_of-name item fine in simp i
 line_of_words-form (Start queue) fine = let q = named_of-name queue fine in simp q
+line_of_words-form (Drain queue plug) fine = let q = named_of-name queue fine in let m = plug_of-text plug in simp (q, m)
+line_of_words-form (Unplug queue) fine = let q = named_of-name queue fine in simp q
 line_of_words-form End fine = refl
 
 -- the words of a form are those of its line
@@ -80,6 +90,8 @@ words_of-form (Submit item (Some queue)) fine =
     words_of-line_text _ _ refl (unspaced_name item fine.0, (unspaced_name queue fine.1, tt))
 words_of-form (Cancel item) fine = words_of-line_text _ _ refl (unspaced_name item fine, tt)
 words_of-form (Start queue) fine = words_of-line_text _ _ refl (unspaced_name queue fine, tt)
+words_of-form (Drain queue plug) fine = words_of-line_text _ _ refl (unspaced_name queue fine, (unspaced_plug plug, tt))
+words_of-form (Unplug queue) fine = words_of-line_text _ _ refl (unspaced_name queue fine, tt)
 words_of-form End fine = words_of-line_text _ _ refl tt
 
 -- the text of a form whose names are names and whose numbers are in range is read as that form

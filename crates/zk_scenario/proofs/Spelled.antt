@@ -9,15 +9,15 @@ use Rattle.zk_base.specs.Names.{is_name, is_spelled}
 use Rattle.zk_scenario.specs.declared.form.Named.{Named}
 use Rattle.zk_scenario.specs.declared.form.Named.TheVariants.{Plain, Reserved}
 use Rattle.zk_scenario.specs.declared.form.Form.{Form}
-use Rattle.zk_scenario.specs.declared.form.Form.TheVariants.{Thread, Queue, Item, Script, Submit, Cancel, Start, End}
+use Rattle.zk_scenario.specs.declared.form.Form.TheVariants.{Thread, Queue, Item, Script, Submit, Cancel, Start, Drain, Unplug, End}
 use Rattle.zk_scenario.specs.declared.form.Line.TheVariants.{Unbuilt, Misspelled, Formed}
 use Rattle.zk_scenario.specs.declared.keyword.Keyword.{Keyword}
 use Rattle.zk_scenario.specs.declared.keyword.Keyword.TheVariants as keyword
 use Rattle.zk_scenario.specs.Words.{words_of}
 use Rattle.zk_scenario.specs.Numbers.{priority_of}
 use Rattle.zk_scenario.specs.Keywords.{keywords, keyword_text, keyword_of, is_unbuilt}
-use Rattle.zk_scenario.specs.Text.{line_text, mode_text, state_text}
-use Rattle.zk_scenario.specs.Forms.{named_of, one_of, mode_of, state_of, made_of_two, made_of_three, thread_form, queue_form, item_form, script_form, submit_form, cancel_form, start_form, end_form, form_of, formed, formless, line_after, line_of_words, line_of, named_text, form_words, IsUnreserved, IsPlain, IsNamed, CanBeSpelled}
+use Rattle.zk_scenario.specs.Text.{line_text, mode_text, state_text, plug_text}
+use Rattle.zk_scenario.specs.Forms.{named_of, one_of, mode_of, state_of, plug_of, made_of_two, made_of_three, thread_form, queue_form, item_form, script_form, submit_form, cancel_form, start_form, drain_form, unplug_form, end_form, form_of, formed, formless, line_after, line_of_words, line_of, named_text, form_words, IsUnreserved, IsPlain, IsNamed, CanBeSpelled}
 use Rattle.zk_scenario.proofs.Numerals.{priority_spelled}
 
 plain_same : (word name : List ℕ) → Plain word ≡ Plain name → word ≡ name
@@ -58,6 +58,10 @@ mode_spelled word false said = one_of_spelled _ _ word false said
 state_spelled : (word : List ℕ) (on : Bool) → state_of word ≡ Some on → word ≡ state_text on
 state_spelled word true said = one_of_spelled _ _ word true said
 state_spelled word false said = one_of_spelled _ _ word false said
+
+plug_spelled : (word : List ℕ) (plug : Bool) → plug_of word ≡ Some plug → word ≡ plug_text plug
+plug_spelled word true said = one_of_spelled _ _ word true said
+plug_spelled word false said = one_of_spelled _ _ word false said
 
 -- the words are those of the form, which is one that can be spelled
 abbrev Spells : List (List ℕ) → Form → Type 0
@@ -148,6 +152,24 @@ start_spelled (queue ∷ []) form said plain =
     (λ fine. let i = named_spelled queue part.0 part.1 fine in (cc, i.1)) plain
 start_spelled (queue ∷ more ∷ words) form said plain = absurd (cc)
 
+drain_spelled : (words : List (List ℕ)) (form : Form) → drain_form words ≡ Some form → IsPlain form → Spells (codes "drain" ∷ words) form
+drain_spelled [] form said plain = absurd (cc)
+drain_spelled (queue ∷ []) form said plain = absurd (cc)
+drain_spelled (queue ∷ mode ∷ []) form said plain =
+    let parts = two_parts Drain (named_of queue) (plug_of mode) form said in
+    subst (λ (f : Form). IsPlain f → Spells (codes "drain" ∷ queue ∷ mode ∷ []) f) parts.4
+    (λ fine. let q = named_spelled queue parts.0 parts.2 fine in
+    let m = plug_spelled mode parts.1 parts.3 in (cc, q.1)) plain
+drain_spelled (queue ∷ mode ∷ more ∷ words) form said plain = absurd (cc)
+
+unplug_spelled : (words : List (List ℕ)) (form : Form) → unplug_form words ≡ Some form → IsPlain form → Spells (codes "unplug" ∷ words) form
+unplug_spelled [] form said plain = absurd (cc)
+unplug_spelled (queue ∷ []) form said plain =
+    let part = one_part Unplug (named_of queue) form said in
+    subst (λ (f : Form). IsPlain f → Spells (codes "unplug" ∷ queue ∷ []) f) part.2
+    (λ fine. let q = named_spelled queue part.0 part.1 fine in (cc, q.1)) plain
+unplug_spelled (queue ∷ more ∷ words) form said plain = absurd (cc)
+
 end_spelled : (words : List (List ℕ)) (form : Form) → end_form words ≡ Some form → IsPlain form → Spells (codes "end" ∷ words) form
 end_spelled [] form said plain = subst (λ (f : Form). Spells (codes "end" ∷ []) f) (same_Some End form said) (refl, tt)
 end_spelled (more ∷ words) form said plain = absurd (cc)
@@ -161,6 +183,8 @@ form_spelled keyword.Script words form said plain = script_spelled words form sa
 form_spelled keyword.Submit words form said plain = submit_spelled words form said plain
 form_spelled keyword.Cancel words form said plain = cancel_spelled words form said plain
 form_spelled keyword.Start words form said plain = start_spelled words form said plain
+form_spelled keyword.Drain words form said plain = drain_spelled words form said plain
+form_spelled keyword.Unplug words form said plain = unplug_spelled words form said plain
 form_spelled keyword.End words form said plain = end_spelled words form said plain
 
 -- what a search finds passes its test

@@ -4,7 +4,7 @@ use Rattle.zk_base.specs.Names.{is_name, is_spelled}
 use Rattle.zk_scenario.specs.declared.form.Named.{Named}
 use Rattle.zk_scenario.specs.declared.form.Named.TheVariants.{Plain, Reserved}
 use Rattle.zk_scenario.specs.declared.form.Form.{Form}
-use Rattle.zk_scenario.specs.declared.form.Form.TheVariants.{Thread, Queue, Item, Script, Submit, Cancel, Start, End}
+use Rattle.zk_scenario.specs.declared.form.Form.TheVariants.{Thread, Queue, Item, Script, Submit, Cancel, Start, Drain, Unplug, End}
 use Rattle.zk_scenario.specs.declared.form.Line.{Line}
 use Rattle.zk_scenario.specs.declared.form.Line.TheVariants.{Unbuilt, Misspelled, Formed}
 use Rattle.zk_scenario.specs.declared.keyword.Keyword.{Keyword}
@@ -12,7 +12,7 @@ use Rattle.zk_scenario.specs.declared.keyword.Keyword.TheVariants as keyword
 use Rattle.zk_scenario.specs.Words.{words_of}
 use Rattle.zk_scenario.specs.Numbers.{priority_of, IsPriority}
 use Rattle.zk_scenario.specs.Keywords.{keyword_of, is_unbuilt}
-use Rattle.zk_scenario.specs.Text.{thread_words, queue_words, item_words, script_words, submit_words, cancel_words, start_words, end_words}
+use Rattle.zk_scenario.specs.Text.{thread_words, queue_words, item_words, script_words, submit_words, cancel_words, start_words, drain_words, unplug_words, end_words}
 
 -- a word where a name is asked for
 abbrev pub named_of : List ℕ → Option Named
@@ -30,6 +30,10 @@ mode_of = one_of (codes "user") (codes "super")
 -- a queue's first state: true for a started one
 abbrev pub state_of : List ℕ → Option Bool
 state_of = one_of (codes "on") (codes "off")
+
+-- a drain's mode: true for one that plugs the queue
+abbrev pub plug_of : List ℕ → Option Bool
+plug_of = one_of (codes "plug") (codes "open")
 
 -- what is made of two parts, where each is spelled
 abbrev pub made_of_two : {A B C : Type 0} → (A → B → C) → Option A → Option B → Option C
@@ -77,6 +81,16 @@ abbrev pub start_form : List (List ℕ) → Option Form
 start_form (queue ∷ []) = option_map Start (named_of queue)
 start_form _ = None
 
+-- drain QUEUE MODE
+abbrev pub drain_form : List (List ℕ) → Option Form
+drain_form (queue ∷ mode ∷ []) = made_of_two Drain (named_of queue) (plug_of mode)
+drain_form _ = None
+
+-- unplug QUEUE
+abbrev pub unplug_form : List (List ℕ) → Option Form
+unplug_form (queue ∷ []) = option_map Unplug (named_of queue)
+unplug_form _ = None
+
 -- end
 abbrev pub end_form : List (List ℕ) → Option Form
 end_form [] = Some End
@@ -91,6 +105,8 @@ form_of keyword.Script words = script_form words
 form_of keyword.Submit words = submit_form words
 form_of keyword.Cancel words = cancel_form words
 form_of keyword.Start words = start_form words
+form_of keyword.Drain words = drain_form words
+form_of keyword.Unplug words = unplug_form words
 form_of keyword.End words = end_form words
 
 -- a form, or a wrong spelling where there is none
@@ -130,6 +146,8 @@ form_words (Script owner) = script_words (named_text owner)
 form_words (Submit item queue) = submit_words (named_text item) (option_map named_text queue)
 form_words (Cancel item) = cancel_words (named_text item)
 form_words (Start queue) = start_words (named_text queue)
+form_words (Drain queue plug) = drain_words (named_text queue) plug
+form_words (Unplug queue) = unplug_words (named_text queue)
 form_words End = end_words
 
 -- a name that isn't reserved
@@ -146,6 +164,8 @@ IsPlain (Script owner) = IsUnreserved owner
 IsPlain (Submit item queue) = IsUnreserved item × IfSome queue IsUnreserved
 IsPlain (Cancel item) = IsUnreserved item
 IsPlain (Start queue) = IsUnreserved queue
+IsPlain (Drain queue plug) = IsUnreserved queue
+IsPlain (Unplug queue) = IsUnreserved queue
 IsPlain End = Unit {0}
 
 -- a word that is a name
@@ -162,4 +182,6 @@ CanBeSpelled (Script owner) = IsNamed owner
 CanBeSpelled (Submit item queue) = IsNamed item × IfSome queue IsNamed
 CanBeSpelled (Cancel item) = IsNamed item
 CanBeSpelled (Start queue) = IsNamed queue
+CanBeSpelled (Drain queue plug) = IsNamed queue
+CanBeSpelled (Unplug queue) = IsNamed queue
 CanBeSpelled End = Unit {0}

@@ -16,6 +16,11 @@ abbrev pub state_text : Bool → List ℕ
 state_text true = codes "on"
 state_text false = codes "off"
 
+-- whether a queue is plugged with its drain
+abbrev pub plug_text : Bool → List ℕ
+plug_text true = codes "plug"
+plug_text false = codes "open"
+
 -- the declaration of a thread
 abbrev pub thread_words : List ℕ → ℤ → Bool → List (List ℕ)
 thread_words name prio user = codes "thread" ∷ name ∷ signed_decimal prio ∷ mode_text user ∷ []
@@ -43,6 +48,14 @@ cancel_words item = codes "cancel" ∷ item ∷ []
 -- the start of a queue
 abbrev pub start_words : List ℕ → List (List ℕ)
 start_words queue = codes "start" ∷ queue ∷ []
+
+-- the drain of a queue
+abbrev pub drain_words : List ℕ → Bool → List (List ℕ)
+drain_words queue plug = codes "drain" ∷ queue ∷ plug_text plug ∷ []
+
+-- the unplugging of a queue
+abbrev pub unplug_words : List ℕ → List (List ℕ)
+unplug_words queue = codes "unplug" ∷ queue ∷ []
 
 -- the end of a script
 abbrev pub end_words : List (List ℕ)

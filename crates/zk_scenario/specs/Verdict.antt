@@ -4,11 +4,12 @@ use Rattle.zk_scenario.specs.declared.types.Decl.{Decl}
 use Rattle.zk_scenario.specs.declared.types.Decl.TheVariants as decl
 use Rattle.zk_scenario.specs.declared.types.Ref.{Ref}
 use Rattle.zk_scenario.specs.declared.types.Ref.TheVariants.{Known}
+use Rattle.zk_scenario.specs.declared.types.Call.{Call}
 use Rattle.zk_scenario.specs.declared.types.Call.TheVariants as call
 use Rattle.zk_scenario.specs.declared.form.Named.{Named}
 use Rattle.zk_scenario.specs.declared.form.Named.TheVariants.{Plain, Reserved}
 use Rattle.zk_scenario.specs.declared.form.Form.{Form}
-use Rattle.zk_scenario.specs.declared.form.Form.TheVariants.{Thread, Queue, Item, Script, Submit, Cancel, Start, End}
+use Rattle.zk_scenario.specs.declared.form.Form.TheVariants.{Thread, Queue, Item, Script, Submit, Cancel, Start, Drain, Unplug, End}
 use Rattle.zk_scenario.specs.declared.refused.Why.{Why}
 use Rattle.zk_scenario.specs.declared.refused.Why.TheVariants as why
 use Rattle.zk_scenario.specs.Forms.{named_text}
@@ -54,6 +55,8 @@ is_misplaced r (Script owner) = is_some r.current || has_script r owner
 is_misplaced r (Submit item queue) = not (is_some r.current)
 is_misplaced r (Cancel item) = not (is_some r.current)
 is_misplaced r (Start queue) = not (is_some r.current)
+is_misplaced r (Drain queue plug) = not (is_some r.current)
+is_misplaced r (Unplug queue) = not (is_some r.current)
 is_misplaced r End = not (is_some r.current)
 
 -- whether a number of the line is out of its range
@@ -65,6 +68,8 @@ is_out_of_range (Script owner) = false
 is_out_of_range (Submit item queue) = false
 is_out_of_range (Cancel item) = false
 is_out_of_range (Start queue) = false
+is_out_of_range (Drain queue plug) = false
+is_out_of_range (Unplug queue) = false
 is_out_of_range End = false
 
 -- whether a name of the line is declared twice, reserved, not declared, or of the wrong kind
@@ -77,6 +82,8 @@ is_misnamed decls (Submit item None) = not (names is_item decls item)
 is_misnamed decls (Submit item (Some queue)) = not (names is_item decls item && names is_queue decls queue)
 is_misnamed decls (Cancel item) = not (names is_item decls item)
 is_misnamed decls (Start queue) = not (names is_queue decls queue)
+is_misnamed decls (Drain queue plug) = not (names is_queue decls queue)
+is_misnamed decls (Unplug queue) = not (names is_queue decls queue)
 is_misnamed decls End = false
 
 -- whether the line passes a limit
@@ -88,6 +95,8 @@ is_past_limit r (Script owner) = false
 is_past_limit r (Submit item queue) = nat_le 4096 (call_count (all_scripts r))
 is_past_limit r (Cancel item) = nat_le 4096 (call_count (all_scripts r))
 is_past_limit r (Start queue) = nat_le 4096 (call_count (all_scripts r))
+is_past_limit r (Drain queue plug) = nat_le 4096 (call_count (all_scripts r))
+is_past_limit r (Unplug queue) = nat_le 4096 (call_count (all_scripts r))
 is_past_limit r End = false
 
 -- the first reason that applies to a line behind these, if there is one
@@ -107,6 +116,19 @@ object decls name = unwrap_or (named decls name) 0
 abbrev pub ref : List Decl → Named → Ref
 ref decls name = Known (object decls name)
 
+-- the call that a line stands for, if it is one
+abbrev pub call_of : List Decl → Form → Option Call
+call_of decls (Thread name prio user) = None
+call_of decls (Queue name prio on) = None
+call_of decls (Item name) = None
+call_of decls (Script owner) = None
+call_of decls (Submit item queue) = Some (call.Submit (ref decls item) (option_map (ref decls) queue))
+call_of decls (Cancel item) = Some (call.Cancel (ref decls item))
+call_of decls (Start queue) = Some (call.Start (ref decls queue))
+call_of decls (Drain queue plug) = Some (call.Drain (ref decls queue) plug)
+call_of decls (Unplug queue) = Some (call.Unplug (ref decls queue))
+call_of decls End = None
+
 -- what the lines said with one line more, to which no reason applies
 abbrev pub after : Reading → Form → Reading
 after r (Thread name prio user) = declared r (decl.Thread (named_text name) (unwrap_or prio (pos 0)) user)
@@ -116,4 +138,6 @@ after r (Script owner) = begun r (record { owner = object r.decls owner; calls =
 after r (Submit item queue) = called r (call.Submit (ref r.decls item) (option_map (ref r.decls) queue))
 after r (Cancel item) = called r (call.Cancel (ref r.decls item))
 after r (Start queue) = called r (call.Start (ref r.decls queue))
+after r (Drain queue plug) = called r (call.Drain (ref r.decls queue) plug)
+after r (Unplug queue) = called r (call.Unplug (ref r.decls queue))
 after r End = closed r

@@ -1,5 +1,5 @@
 ghost use Rattle.std.specs.Prelude.{◌≡◌, ◌∷◌};
-ghost use Rattle.zk_scenario.specs.Forms.{named_of, mode_of, state_of, thread_form, queue_form, item_form, script_form, submit_form, cancel_form, start_form, end_form, form_of, formless, line_of};
+ghost use Rattle.zk_scenario.specs.Forms.{named_of, mode_of, state_of, plug_of, thread_form, queue_form, item_form, script_form, submit_form, cancel_form, start_form, drain_form, unplug_form, end_form, form_of, formless, line_of};
 
 use crate::keyword::{Keyword, is_unbuilt, keyword_of};
 use crate::numbers::priority_of;
@@ -25,6 +25,9 @@ pub enum Form {
     Submit(Named, Option<Named>),
     Cancel(Named),
     Start(Named),
+    /// The queue, and whether the drain plugs it.
+    Drain(Named, bool),
+    Unplug(Named),
     End,
 }
 
@@ -76,6 +79,8 @@ fn form_of(keyword: Keyword, words: &mut Words<'_>) -> Option<Form>
         Keyword::Submit => submit_form(words),
         Keyword::Cancel => cancel_form(words),
         Keyword::Start => start_form(words),
+        Keyword::Drain => drain_form(words),
+        Keyword::Unplug => unplug_form(words),
         Keyword::End => end_form(words),
     }
 }
@@ -157,6 +162,27 @@ fn start_form(words: &mut Words<'_>) -> Option<Form>
     Some(Form::Start(named_of(queue)?))
 }
 
+fn drain_form(words: &mut Words<'_>) -> Option<Form>
+    ensures { result ≡ drain_form words.old }
+{
+    let queue = words.next()?;
+    let mode = words.next()?;
+    if words.next().is_some() {
+        return None;
+    }
+    Some(Form::Drain(named_of(queue)?, plug_of(mode)?))
+}
+
+fn unplug_form(words: &mut Words<'_>) -> Option<Form>
+    ensures { result ≡ unplug_form words.old }
+{
+    let queue = words.next()?;
+    if words.next().is_some() {
+        return None;
+    }
+    Some(Form::Unplug(named_of(queue)?))
+}
+
 fn end_form(words: &mut Words<'_>) -> Option<Form>
     ensures { result ≡ end_form words.old }
 {
@@ -199,6 +225,19 @@ fn state_of(word: &[u8]) -> Option<bool>
         return Some(true);
     }
     if word == b"off".as_slice() {
+        Some(false)
+    } else {
+        None
+    }
+}
+
+fn plug_of(word: &[u8]) -> Option<bool>
+    ensures { result ≡ plug_of word.now }
+{
+    if word == b"plug".as_slice() {
+        return Some(true);
+    }
+    if word == b"open".as_slice() {
         Some(false)
     } else {
         None

@@ -13,6 +13,8 @@ pub enum Keyword {
     Submit,
     Cancel,
     Start,
+    Drain,
+    Unplug,
     End,
 }
 
@@ -40,6 +42,12 @@ pub fn keyword_of(word: &[u8]) -> Option<Keyword>
     }
     if word == b"start".as_slice() {
         return Some(Keyword::Start);
+    }
+    if word == b"drain".as_slice() {
+        return Some(Keyword::Drain);
+    }
+    if word == b"unplug".as_slice() {
+        return Some(Keyword::Unplug);
     }
     if word == b"end".as_slice() {
         return Some(Keyword::End);
@@ -80,8 +88,6 @@ fn is_unbuilt_work_call(word: &[u8]) -> bool
         || word == b"reschedule".as_slice()
         || word == b"remaining".as_slice()
         || word == b"busy".as_slice()
-        || word == b"drain".as_slice()
-        || word == b"unplug".as_slice()
         || word == b"tick".as_slice()
 }
 

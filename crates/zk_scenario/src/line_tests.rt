@@ -1,6 +1,6 @@
 use crate::{
-    Form, Line, Named, line_of, number_of, put_cancel, put_end, put_item, put_queue, put_script,
-    put_start, put_submit, put_thread,
+    Form, Line, Named, line_of, number_of, put_cancel, put_drain, put_end, put_item, put_queue,
+    put_script, put_start, put_submit, put_thread, put_unplug,
 };
 use std::test::Fail;
 use zk_base::NoMemory;
@@ -22,6 +22,8 @@ fn put_form(out: &mut Vec<u8>, form: &Form) -> Result<(), NoMemory> {
         Form::Submit(Named::Plain(item), None) => put_submit(out, item.bytes(), None),
         Form::Cancel(Named::Plain(item)) => put_cancel(out, item.bytes()),
         Form::Start(Named::Plain(queue)) => put_start(out, queue.bytes()),
+        Form::Drain(Named::Plain(queue), plug) => put_drain(out, queue.bytes(), *plug),
+        Form::Unplug(Named::Plain(queue)) => put_unplug(out, queue.bytes()),
         Form::End => put_end(out),
         Form::Thread(Named::Plain(_), None, _) | Form::Queue(Named::Plain(_), None, _) => put_item(
             out, b"number",
@@ -90,6 +92,30 @@ fn tells_forms_from_misspellings(rt: HostRuntime) -> Result<(), Fail> {
         ("submit i0 q0 q1", "item misspelled"),
         ("end now", "item misspelled"),
         ("end ", "item misspelled"),
+    ];
+    for (line, told) in table {
+        let mut out = Vec::new(rt.alloc());
+        put_line(&mut out, line.as_bytes())?;
+        assert_eq!(rt; out.as_slice(), told.as_bytes(), "at {line}");
+    }
+    Ok(())
+}
+
+#[test]
+fn tells_drains_and_unplugs(rt: HostRuntime) -> Result<(), Fail> {
+    let table: [(&str, &str); 12] = [
+        ("drain q0 plug", "drain q0 plug"),
+        ("drain open open", "drain open open"),
+        ("unplug q0", "unplug q0"),
+        ("drain work plug", "item reserved"),
+        ("unplug again", "item reserved"),
+        ("drain q0", "item misspelled"),
+        ("drain q0 on", "item misspelled"),
+        ("drain q0  plug", "item misspelled"),
+        ("drain q0 plug open", "item misspelled"),
+        ("unplug", "item misspelled"),
+        ("unplug q0 q1", "item misspelled"),
+        ("unplug q0 ", "item misspelled"),
     ];
     for (line, told) in table {
         let mut out = Vec::new(rt.alloc());

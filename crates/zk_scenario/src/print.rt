@@ -1,6 +1,6 @@
 ghost use Rattle.std.specs.Prelude.{◌≡◌, ◌∷◌, ◌++◌, OnOk, option_map};
 ghost use Rattle.std.specs.Fmt.{signed_decimal};
-ghost use Rattle.zk_scenario.specs.Text.{line_text, mode_text, state_text, thread_words, queue_words, item_words, script_words, submit_words, cancel_words, start_words, end_words};
+ghost use Rattle.zk_scenario.specs.Text.{line_text, mode_text, state_text, plug_text, thread_words, queue_words, item_words, script_words, submit_words, cancel_words, start_words, drain_words, unplug_words, end_words};
 
 use itoa::Buffer;
 use zk_base::{NoMemory, put};
@@ -73,6 +73,23 @@ pub fn put_start(out: &mut Vec<u8>, queue: &[u8]) -> Result<(), NoMemory>
     put_next_word(out, queue)
 }
 
+/// The drain of a queue, and whether it plugs it.
+pub fn put_drain(out: &mut Vec<u8>, queue: &[u8], plug: bool) -> Result<(), NoMemory>
+    ensures { OnOk result (out.new.items ≡ out.old.items ++ line_text (drain_words queue.now plug)) }
+{
+    put(out, b"drain")?;
+    put_next_word(out, queue)?;
+    put_next_word(out, plug_text(plug))
+}
+
+/// The unplugging of a queue.
+pub fn put_unplug(out: &mut Vec<u8>, queue: &[u8]) -> Result<(), NoMemory>
+    ensures { OnOk result (out.new.items ≡ out.old.items ++ line_text (unplug_words queue.now)) }
+{
+    put(out, b"unplug")?;
+    put_next_word(out, queue)
+}
+
 /// The end of a script.
 pub fn put_end(out: &mut Vec<u8>) -> Result<(), NoMemory>
     ensures { OnOk result (out.new.items ≡ out.old.items ++ line_text end_words) }
@@ -104,4 +121,10 @@ fn state_text(on: bool) -> &'static [u8]
     ensures { result.now ≡ state_text on }
 {
     if on { b"on" } else { b"off" }
+}
+
+fn plug_text(plug: bool) -> &'static [u8]
+    ensures { result.now ≡ plug_text plug }
+{
+    if plug { b"plug" } else { b"open" }
 }

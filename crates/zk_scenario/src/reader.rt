@@ -5,14 +5,14 @@ ghost use Rattle.zk_scenario.specs.Objects.{object_of};
 ghost use Rattle.zk_scenario.specs.Players.{name_of};
 ghost use Rattle.zk_scenario.specs.Reading.{start, declared, begun, called, closed, with_call, parts_of};
 ghost use Rattle.zk_scenario.specs.Valid.{IsValid};
-ghost use Rattle.zk_scenario.specs.Verdict.{has_begun, has_script, is_misplaced, is_past_limit, verdict, after};
+ghost use Rattle.zk_scenario.specs.Verdict.{has_begun, has_script, is_misplaced, is_past_limit, verdict, call_of, after};
 
 use crate::form::{Form, Line, Named, line_of};
 use crate::objects::Objects;
 use crate::refused::Why;
 use crate::scripts::Scripts;
 use crate::types::{Call, Decl, Script};
-use crate::verdict::{is_misnamed, is_out_of_range, is_unbuilt, named, object, reference};
+use crate::verdict::{call_of, is_misnamed, is_out_of_range, is_unbuilt, named, object};
 use std::alloc::Global;
 use std::marker::Model;
 use zk_base::{Listed, Name, NoMemory};
@@ -88,6 +88,8 @@ impl Reader {
             Form::Submit(_, _) => !self.current.is_some(),
             Form::Cancel(_) => !self.current.is_some(),
             Form::Start(_) => !self.current.is_some(),
+            Form::Drain(_, _) => !self.current.is_some(),
+            Form::Unplug(_) => !self.current.is_some(),
             Form::End => !self.current.is_some(),
         }
     }
@@ -107,6 +109,8 @@ impl Reader {
             Form::Submit(_, _) => MOST_CALLS <= self.calls,
             Form::Cancel(_) => MOST_CALLS <= self.calls,
             Form::Start(_) => MOST_CALLS <= self.calls,
+            Form::Drain(_, _) => MOST_CALLS <= self.calls,
+            Form::Unplug(_) => MOST_CALLS <= self.calls,
             Form::End => false,
         }
     }
@@ -212,24 +216,21 @@ impl Reader {
                 self.begin(alloc, owner);
                 Ok(())
             }
-            Form::Submit(item, None) => {
-                let item = reference(&self.objects, item);
-                self.call(Call::Submit(item, None))
-            }
-            Form::Submit(item, Some(queue)) => {
-                let item = reference(&self.objects, item);
-                let queue = reference(&self.objects, queue);
-                self.call(Call::Submit(item, Some(queue)))
-            }
-            Form::Cancel(item) => {
-                let item = reference(&self.objects, item);
-                self.call(Call::Cancel(item))
-            }
-            Form::Start(queue) => {
-                let queue = reference(&self.objects, queue);
-                self.call(Call::Start(queue))
-            }
             Form::End => self.end(),
+            _ => self.accept_call(form),
+        }
+    }
+
+    /// Takes a call to which no reason applies.
+    fn accept_call(&mut self, form: &Form) -> Result<(), NoMemory>
+        requires call { IsSome (call_of self.old.decls form.now) }
+        requires passes { verdict self.old form.now ≡ None }
+        ensures { OnOk result (self.new ≡ after self.old form.now) }
+    {
+        let _valid = &self.calls;
+        match call_of(&self.objects, form) {
+            Some(call) => self.call(call),
+            None => unreachable!(),
         }
     }
 

@@ -69,7 +69,7 @@ fn refuses_what_stands_in_the_wrong_place(rt: HostRuntime) -> Result<(), Fail> {
         (HEADER, early, "2 unbuilt"),
         (
             FRONT,
-            "thread t 16 user\n|thread main 0 user\n|drain q0 plug\n",
+            "thread t 16 user\n|thread main 0 user\n|busy q0\n",
             "5 unbuilt",
         ),
         (BEHIND, "thread t 0 user\n|flush i0\n", "7 unbuilt"),
@@ -131,6 +131,43 @@ fn refuses_what_is_misnamed(rt: HostRuntime) -> Result<(), Fail> {
             FRONT,
             "queue q1 0 off\nscript i0\nstart q1\nsubmit i0 q1\nend\nscript main\nend\n",
             "read",
+        ),
+    ];
+    for (before, lines, said) in table {
+        assert!(rt; told(rt.alloc(), before, lines, said)?, "at {lines}");
+    }
+    Ok(())
+}
+
+#[test]
+fn reads_drains_and_unplugs(rt: HostRuntime) -> Result<(), Fail> {
+    let whole = "drain q0 plug\nend\n|drain q0 open\nunplug q0\nend\n|unplug q0\nend\n";
+    let other = "queue open 0 off\nscript i0\ndrain open open\nunplug open\nend\n";
+    let drains =
+        "drain\n|drain q0\n|drain q0 shut\n|drain q0 plug open\n|drain plug q0\n|drain q0 Plug\n";
+    let spaces = "drain  q0 plug\n|drain q0  open\n|drain q0 open \n|unplug  q0\n|unplug q0 \n";
+    let unplugs = "unplug\n|unplug q0 q0\n|unplug q0 plug\n|unplug Q0\n|unplug q0|drain q0 plug";
+    let table: [(&str, &str, &str); 9] = [
+        (INSIDE, whole, "read"),
+        (FRONT, other, "read"),
+        (INSIDE, drains, "6 line"),
+        (INSIDE, spaces, "6 line"),
+        (INSIDE, unplugs, "6 line"),
+        (
+            FRONT,
+            "drain q0 plug\n|drain nosuch open\n|unplug q0\n|unplug i0\n",
+            "5 order",
+        ),
+        (BEHIND, "drain q0 open\n|unplug work\n", "7 order"),
+        (
+            INSIDE,
+            "drain nosuch plug\n|drain i0 open\n|drain main plug\n|drain work open\n",
+            "6 name",
+        ),
+        (
+            INSIDE,
+            "unplug nosuch\n|unplug i0\n|unplug main\n|unplug clock\n",
+            "6 name",
         ),
     ];
     for (before, lines, said) in table {

@@ -5,7 +5,8 @@ ghost use Rattle.zk_scenario.specs.Spelling.{decl_words, decl_line, name_at, ref
 ghost use Rattle.zk_scenario.specs.Text.{line_text, script_words, end_words};
 
 use crate::print::{
-    put_cancel, put_end, put_item, put_queue, put_script, put_start, put_submit, put_thread,
+    put_cancel, put_drain, put_end, put_item, put_queue, put_script, put_start, put_submit,
+    put_thread, put_unplug,
 };
 use crate::{Call, Decl, Ref, Scenario, Script};
 use std::alloc::Global;
@@ -118,6 +119,8 @@ fn put_call_words(out: &mut Vec<u8>, decls: &[Decl], call: &Call) -> Result<(), 
         }
         Call::Cancel(item) => put_cancel(out, ref_name(decls, item)),
         Call::Start(queue) => put_start(out, ref_name(decls, queue)),
+        Call::Drain(queue, plug) => put_drain(out, ref_name(decls, queue), *plug),
+        Call::Unplug(queue) => put_unplug(out, ref_name(decls, queue)),
     }
 }
 

@@ -27,6 +27,10 @@ pub enum Call {
     Cancel(Ref),
     /// A queue. Zephyr's `k_work_queue_start`.
     Start(Ref),
+    /// A queue, and whether it is plugged with the drain. Zephyr's `k_work_queue_drain`.
+    Drain(Ref, bool),
+    /// A queue. Zephyr's `k_work_queue_unplug`.
+    Unplug(Ref),
 }
 
 /// The calls that an object makes, in order: those of a thread, or those of an item's handler.

@@ -2,10 +2,10 @@ ghost use Rattle.std.specs.Prelude.{◌≡◌, ◌+◌, length, option_map};
 ghost use Rattle.zk_scenario.specs.Objects.{is_at};
 ghost use Rattle.zk_scenario.specs.Players.{plays_script, is_queue, is_item};
 ghost use Rattle.zk_scenario.specs.Valid.{player_count};
-ghost use Rattle.zk_scenario.specs.Verdict.{named, names, is_taken, is_unbuilt, is_out_of_range, is_misnamed, object, ref};
+ghost use Rattle.zk_scenario.specs.Verdict.{named, names, is_taken, is_unbuilt, is_out_of_range, is_misnamed, object, ref, call_of};
 
 use crate::objects::Objects;
-use crate::{Decl, Form, Named, Ref};
+use crate::{Call, Decl, Form, Named, Ref};
 
 /// The object that a word names.
 pub fn named(objects: &Objects, name: &Named) -> Option<u32>
@@ -25,10 +25,32 @@ pub fn object(objects: &Objects, name: &Named) -> u32
 }
 
 /// The object of a name that is known to be declared, as a call names it.
-pub fn reference(objects: &Objects, name: &Named) -> Ref
+fn reference(objects: &Objects, name: &Named) -> Ref
     ensures { result ≡ ref objects.now name.now }
 {
     Ref::Known(object(objects, name))
+}
+
+/// The call that a line stands for, if it is one, where its names are known to be declared.
+pub fn call_of(objects: &Objects, form: &Form) -> Option<Call>
+    ensures { result ≡ call_of objects.now form.now }
+{
+    match form {
+        Form::Thread(_, _, _) => None,
+        Form::Queue(_, _, _) => None,
+        Form::Item(_) => None,
+        Form::Script(_) => None,
+        Form::Submit(item, None) => Some(Call::Submit(reference(objects, item), None)),
+        Form::Submit(item, Some(queue)) => {
+            let queue = reference(objects, queue);
+            Some(Call::Submit(reference(objects, item), Some(queue)))
+        }
+        Form::Cancel(item) => Some(Call::Cancel(reference(objects, item))),
+        Form::Start(queue) => Some(Call::Start(reference(objects, queue))),
+        Form::Drain(queue, plug) => Some(Call::Drain(reference(objects, queue), *plug)),
+        Form::Unplug(queue) => Some(Call::Unplug(reference(objects, queue))),
+        Form::End => None,
+    }
 }
 
 /// Whether the grammar has the line, and the program can't play it yet.
@@ -43,6 +65,8 @@ pub fn is_unbuilt(form: &Form) -> bool
         Form::Submit(_, _) => false,
         Form::Cancel(_) => false,
         Form::Start(_) => false,
+        Form::Drain(_, _) => false,
+        Form::Unplug(_) => false,
         Form::End => false,
     }
 }
@@ -59,6 +83,8 @@ pub fn is_out_of_range(form: &Form) -> bool
         Form::Submit(_, _) => false,
         Form::Cancel(_) => false,
         Form::Start(_) => false,
+        Form::Drain(_, _) => false,
+        Form::Unplug(_) => false,
         Form::End => false,
     }
 }
@@ -78,6 +104,8 @@ pub fn is_misnamed(objects: &Objects, form: &Form) -> bool
         }
         Form::Cancel(item) => !names_item(objects, item),
         Form::Start(queue) => !names_queue(objects, queue),
+        Form::Drain(queue, _) => !names_queue(objects, queue),
+        Form::Unplug(queue) => !names_queue(objects, queue),
         Form::End => false,
     }
 }

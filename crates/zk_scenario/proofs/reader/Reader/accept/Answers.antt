@@ -14,15 +14,3 @@ declare-requires-in-Item-clause-valid c = IsValid-after-is _ _ _ c.args.form.now
 
 pub begin-requires-clause-valid : goal.begin-requires-clause-valid
 begin-requires-clause-valid c = IsValid-after-is _ _ (begun c.args.self.now (record { owner = c.object-owner.result; calls = [] })) c.args.form.now c.self.view_is c.self.invariant.valid c.requires (search rules)
-
-pub call-requires-clause-valid : goal.call-requires-clause-valid
-call-requires-clause-valid c = IsValid-after-is _ _ _ c.args.form.now c.self.view_is c.self.invariant.valid c.requires (search rules)
-
-pub call-requires-in-Submit-default-Some-clause-valid : goal.call-requires-in-Submit-default-Some-clause-valid
-call-requires-in-Submit-default-Some-clause-valid c = IsValid-after-is _ _ _ c.args.form.now c.self.view_is c.self.invariant.valid c.requires (search rules)
-
-pub call-requires-in-Cancel-clause-valid : goal.call-requires-in-Cancel-clause-valid
-call-requires-in-Cancel-clause-valid c = IsValid-after-is _ _ _ c.args.form.now c.self.view_is c.self.invariant.valid c.requires (search rules)
-
-pub call-requires-in-Start-clause-valid : goal.call-requires-in-Start-clause-valid
-call-requires-in-Start-clause-valid c = IsValid-after-is _ _ _ c.args.form.now c.self.view_is c.self.invariant.valid c.requires (search rules)
