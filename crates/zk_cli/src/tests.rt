@@ -58,6 +58,58 @@ const ROWS: [(&str, &str, &str); 8] = [
     ),
 ];
 
+/// Drains, each with its status and its trace.
+const DRAINS: [(&str, Status, &str, &str); 8] = [
+    (
+        "a drain with a plug, and a chained submission",
+        Status::Success,
+        "script t0\nsubmit w0 q0\ndrain q0 plug\nsubmit w1 q0\nunplug q0\nunplug q0\nend\nscript t1\nstart q0\nsubmit w2 q0\nend\nscript w0\nsubmit w1 q0\nend\n",
+        "zt 1\nended\nservice work\nt0.0 submit w0 q0 = 1 a0 q0\nt1.0 start q0 = already\nq0.0 begin q0 = w0 a0\nt0.1 drainstart q0 plug = wait\nt1.1 submit w2 q0 = busy\nq0.1 submit w1 q0 = 1 a1 q0\nq0.2 end q0 = ok\nq0.3 begin q0 = w1 a1\nq0.4 end q0 = ok\nt0.2 draindone 3 = 1\nt0.3 submit w1 q0 = busy\nt0.4 unplug q0 = ok\nt0.5 unplug q0 = already\nplayer t0 done\n0 submit = 1\n2 drain = 1\n3 submit = busy\n4 unplug = 0\n5 unplug = already\nplayer t1 done\n0 start = already\n1 submit = busy\nplayer q0 done\n1 submit = 1\n",
+    ),
+    (
+        "a handler that drains its own queue",
+        Status::Stuck,
+        "script t0\nsubmit w0 q0\nend\nscript w0\ndrain q0 open\nend\n",
+        "zt 1\nstuck\nservice work\nt0.0 submit w0 q0 = 1 a0 q0\nq0.0 begin q0 = w0 a0\nq0.1 drainstart q0 open = wait\nplayer t0 done\n0 submit = 1\nplayer t1 done\nplayer q0 open\n",
+    ),
+    (
+        "two drainers of one queue",
+        Status::Success,
+        "script t0\nsubmit w0 q0\ndrain q0 open\nsubmit w1 q0\nend\nscript t1\ndrain q0 open\nsubmit w2 q0\nend\nscript w0\nstart q0\nend\n",
+        "zt 1\nended\nservice work\nt0.0 submit w0 q0 = 1 a0 q0\nt1.0 drainstart q0 open = wait\nq0.0 begin q0 = w0 a0\nt0.1 drainstart q0 open = wait\nq0.1 start q0 = already\nq0.2 end q0 = ok\nt0.2 draindone 3 = 1\nt1.1 draindone 1 = 1\nt0.3 submit w1 q0 = 1 a1 q0\nt1.2 submit w2 q0 = 1 a2 q0\nq0.3 begin q0 = w1 a1\nq0.4 end q0 = ok\nq0.5 begin q0 = w2 a2\nq0.6 end q0 = ok\nplayer t0 done\n0 submit = 1\n2 drain = 1\n3 submit = 1\nplayer t1 done\n1 drain = 1\n2 submit = 1\nplayer q0 done\n1 start = already\n",
+    ),
+    (
+        "a drain of an idle queue that is plugged",
+        Status::Success,
+        "script t0\ndrain q0 plug\ndrain q0 plug\nsubmit w0 q0\nend\n",
+        "zt 1\nended\nservice work\nt0.0 drainstart q0 plug = 0\nt0.1 drainstart q0 plug = 0\nt0.2 submit w0 q0 = busy\nplayer t0 done\n0 drain = 0\n1 drain = 0\n2 submit = busy\nplayer t1 done\nplayer q0 done\n",
+    ),
+    (
+        "a drain of a queue that is off",
+        Status::Success,
+        "queue q2 0 off\nscript t0\ndrain q2 plug\nstart q2\nsubmit w0 q2\nunplug q2\nsubmit w0 q2\nend\n",
+        "zt 1\nended\nservice work\nt0.0 drainstart q2 plug = 0\nt0.1 start q2 = ok\nt0.2 submit w0 q2 = busy\nt0.3 unplug q2 = ok\nt0.4 submit w0 q2 = 1 a0 q2\nq2.0 begin q2 = w0 a0\nq2.1 end q2 = ok\nplayer t0 done\n0 drain = 0\n1 start = 0\n2 submit = busy\n3 unplug = 0\n4 submit = 1\nplayer t1 done\nplayer q0 done\nplayer q2 done\n",
+    ),
+    (
+        "a drain in a handler of another queue",
+        Status::Success,
+        "queue q1 0 on\nscript t0\nsubmit w0 q0\nsubmit w1 q1\nend\nscript w0\ndrain q1 open\nsubmit w1 q1\nend\nscript w1\nstart q1\nstart q1\nend\n",
+        "zt 1\nended\nservice work\nt0.0 submit w0 q0 = 1 a0 q0\nq0.0 begin q0 = w0 a0\nt0.1 submit w1 q1 = 1 a1 q1\nq0.1 drainstart q1 open = wait\nq1.0 begin q1 = w1 a1\nq1.1 start q1 = already\nq1.2 start q1 = already\nq1.3 end q1 = ok\nq0.2 draindone 3 = 1\nq0.3 submit w1 q1 = 1 a2 q1\nq1.4 begin q1 = w1 a2\nq0.4 end q0 = ok\nq1.5 start q1 = already\nq1.6 start q1 = already\nq1.7 end q1 = ok\nplayer t0 done\n0 submit = 1\n1 submit = 1\nplayer t1 done\nplayer q0 done\n2 drain = 1\n3 submit = 1\nplayer q1 done\n1 start = already\n2 start = already\n5 start = already\n6 start = already\n",
+    ),
+    (
+        "an unplug while the queue drains",
+        Status::Success,
+        "script t0\nsubmit w0 q0\ndrain q0 plug\nsubmit w1 q0\nend\nscript t1\nstart q0\nunplug q0\nsubmit w2 q0\nend\nscript w0\nstart q0\nend\n",
+        "zt 1\nended\nservice work\nt0.0 submit w0 q0 = 1 a0 q0\nt1.0 start q0 = already\nq0.0 begin q0 = w0 a0\nt0.1 drainstart q0 plug = wait\nt1.1 unplug q0 = ok\nq0.1 start q0 = already\nt1.2 submit w2 q0 = busy\nq0.2 end q0 = ok\nt0.2 draindone 3 = 1\nt0.3 submit w1 q0 = 1 a1 q0\nq0.3 begin q0 = w1 a1\nq0.4 end q0 = ok\nplayer t0 done\n0 submit = 1\n2 drain = 1\n3 submit = 1\nplayer t1 done\n0 start = already\n1 unplug = 0\n2 submit = busy\nplayer q0 done\n1 start = already\n",
+    ),
+    (
+        "a drop that ends a drain",
+        Status::Success,
+        "script t0\nsubmit w0 q0\nsubmit w1 q0\ncancel w0\ndrain q0 open\nend\nscript t1\nstart q0\nstart q0\nstart q0\ncancel w1\nend\nscript w0\nstart q0\nend\n",
+        "zt 1\nended\nservice work\nt0.0 submit w0 q0 = 1 a0 q0\nt1.0 start q0 = already\nq0.0 begin q0 = w0 a0\nt0.1 submit w1 q0 = 1 a1 q0\nt1.1 start q0 = already\nq0.1 start q0 = already\nt0.2 cancel w0 = rc\nt1.2 start q0 = already\nq0.2 end q0 = ok\nt0.3 drainstart q0 open = wait\nt1.3 cancel w1 = -\nt0.4 draindone 9 = 1\nplayer t0 done\n0 submit = 1\n1 submit = 1\n2 cancel = rc\n4 drain = 1\nplayer t1 done\n0 start = already\n1 start = already\n2 start = already\n3 cancel = -\nplayer q0 done\n1 start = already\n",
+    ),
+];
+
 fn words_of(rt: &HostRuntime, words: &[&str]) -> Result<Vec<String>, Fail> {
     let mut made = Vec::new(rt.alloc());
     for word in words {
@@ -89,6 +141,18 @@ fn rows_print_their_traces(rt: HostRuntime) -> Result<(), Fail> {
         let input = joined(&rt, &[FRONT, scripts])?;
         let (status, output) = outcome(&rt, &["replay"], &input)?;
         assert_eq!(rt; status, Status::Success, "{name}");
+        let wanted = joined(&rt, &[FRONT, scripts, trace])?;
+        assert!(rt; output.as_slice() == wanted.as_slice(), "{name}");
+    }
+    Ok(())
+}
+
+#[test]
+fn drains_print_their_traces(rt: HostRuntime) -> Result<(), Fail> {
+    for (name, status, scripts, trace) in DRAINS {
+        let input = joined(&rt, &[FRONT, scripts])?;
+        let (got, output) = outcome(&rt, &["replay"], &input)?;
+        assert_eq!(rt; got, status, "{name}");
         let wanted = joined(&rt, &[FRONT, scripts, trace])?;
         assert!(rt; output.as_slice() == wanted.as_slice(), "{name}");
     }

@@ -31,10 +31,16 @@ fn put_op(out: &mut Vec<u8>, scenario: &Scenario, op: WorkOp) -> Result<(), NoMe
     ensures { OnOk result (out.new.items ≡ out.old.items ++ op_text scenario.now.decls op) }
 {
     match op {
-        WorkOp::Submit(item, queue) => put_submit(out, scenario, item, queue),
+        WorkOp::Submit(item, queue) => {
+            let queue = named_queue(scenario, queue);
+            put_named_spaced(out, b"submit ", item_name(scenario, item), queue)
+        }
         WorkOp::Cancel(item) => put_named(out, b"cancel ", item_name(scenario, item)),
         WorkOp::Start(queue) => put_named(out, b"start ", queue_name(scenario, queue)),
-        WorkOp::DrainStart(queue, plug) => put_drain(out, scenario, queue, plug),
+        WorkOp::DrainStart(queue, plug) => {
+            let mode = mode_word(plug);
+            put_named_spaced(out, b"drainstart ", queue_name(scenario, queue), mode)
+        }
         WorkOp::DrainDone(place) => put_placed(out, b"draindone ", place),
         WorkOp::Unplug(queue) => put_named(out, b"unplug ", queue_name(scenario, queue)),
         WorkOp::Begin(queue) => put_named(out, b"begin ", queue_name(scenario, queue)),
@@ -56,30 +62,17 @@ fn put_placed(out: &mut Vec<u8>, word: &[u8], place: u64) -> Result<(), NoMemory
     put_decimal(out, place)
 }
 
-fn put_drain(
+fn put_named_spaced(
     out: &mut Vec<u8>,
-    scenario: &Scenario,
-    queue: u32,
-    plug: bool,
+    word: &[u8],
+    name: &[u8],
+    last: &[u8],
 ) -> Result<(), NoMemory>
-    ensures { OnOk result (out.new.items ≡ out.old.items ++ op_text scenario.now.decls (WorkOp.DrainStart queue plug)) }
+    ensures { OnOk result (out.new.items ≡ out.old.items ++ (word.now ++ name.now ++ spaced last.now)) }
 {
-    put(out, b"drainstart ")?;
-    put(out, queue_name(scenario, queue))?;
-    put_spaced(out, mode_word(plug))
-}
-
-fn put_submit(
-    out: &mut Vec<u8>,
-    scenario: &Scenario,
-    item: u32,
-    queue: Option<u32>,
-) -> Result<(), NoMemory>
-    ensures { OnOk result (out.new.items ≡ out.old.items ++ op_text scenario.now.decls (WorkOp.Submit item queue)) }
-{
-    put(out, b"submit ")?;
-    put(out, item_name(scenario, item))?;
-    put_spaced(out, named_queue(scenario, queue))
+    put(out, word)?;
+    put(out, name)?;
+    put_spaced(out, last)
 }
 
 fn named_queue(scenario: &Scenario, queue: Option<u32>) -> &[u8]
