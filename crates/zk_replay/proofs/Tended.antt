@@ -18,7 +18,6 @@ use Rattle.zk_scenario.specs.Players.{places_from, places, players, is_thread, i
 use Rattle.zk_scenario.proofs.Valid.{count_by-cons}
 use Rattle.zk_model_work.specs.declared.ops.WorkOp.{WorkOp}
 use Rattle.zk_model_work.specs.declared.ops.WorkOp.TheVariants as ops
-use Rattle.zk_model_work.specs.declared.ops.Submitted.{Submitted}
 use Rattle.zk_model_work.specs.declared.ops.WorkReply.{WorkReply}
 use Rattle.zk_model_work.specs.declared.ops.WorkReply.TheVariants.{Sub, Flags, Wait, Number, Done, Already, Run}
 use Rattle.zk_model_work.specs.declared.parts.Admission.{Admission}
