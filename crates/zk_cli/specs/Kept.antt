@@ -1,18 +1,19 @@
-use Rattle.std.specs.Prelude.{◌≡◌, ℕ, ◌<◌, ◌≤◌, ◌⊎◌, true, false, count_by, Some, List, [], ◌∷◌, ◌++◌}
+use Rattle.std.specs.Prelude.{◌≡◌, ℕ, ◌<◌, ◌≤◌, ◌⊎◌, Bool, true, false, count_by, Some, List, [], ◌∷◌, ◌++◌, length}
 use Rattle.std.specs.List.{list_any}
 use Rattle.zk_base.specs.declared.ids.Entry.{Entry}
 use Rattle.zk_model_work.specs.declared.ops.WorkOp.{WorkOp}
-use Rattle.zk_model_work.specs.declared.ops.WorkOp.TheVariants.{Begin, Cancel}
+use Rattle.zk_model_work.specs.declared.ops.WorkOp.TheVariants.{Begin, Cancel, DrainStart, DrainDone}
 use Rattle.zk_model_work.specs.declared.ops.WorkReply.{WorkReply}
 use Rattle.zk_model_work.specs.declared.ops.WorkReply.TheVariants.{Run}
 use Rattle.zk_model_work.specs.declared.parts.Life.{Life}
 use Rattle.zk_model_work.specs.declared.parts.Life.TheVariants.{Running, Ended, Dropped}
 use Rattle.zk_model_work.specs.declared.parts.Admission.{Admission}
+use Rattle.zk_model_work.specs.declared.parts.Queue.{Queue}
 use Rattle.zk_model_work.specs.Questions.{is_waiting, is_open}
 use Rattle.zk_model_work.specs.State.{State}
-use Rattle.zk_model_work.specs.Laws.{IsWorkHistory, begins, ends, admission_after, life_after, running_after, made_after}
+use Rattle.zk_model_work.specs.Laws.{IsFreshHistory, begins, ends, admission_after, life_after, running_after, made_after, queue_after, admits_to, drained_after, rests_after}
 
--- what the laws say of one work history: each admission is run or dropped, once, in the order of its queue; an item never overlaps itself; what is begun of an item after a cancel was admitted after the cancellation was complete
+-- what the laws say of one work history: each admission is run or dropped, once, in the order of its queue; an item never overlaps itself; what is begun of an item after a cancel was admitted after the cancellation was complete; and a drain and a plug hold
 pub record KeepsLaws (start : State) (h : List (Entry WorkOp WorkReply)) : Type 0 where
   -- each admission is begun at most once
   pub once : (number : ℕ) → count_by (begins number) h ≤ 1
@@ -32,7 +33,19 @@ pub record KeepsLaws (start : State) (h : List (Entry WorkOp WorkReply)) : Type 
   pub completed : (front during between rest : List (Entry WorkOp WorkReply)) (e later : Entry WorkOp WorkReply) (item run number : ℕ) → h ≡ front ++ e ∷ (during ++ (between ++ later ∷ rest)) →
       e.op ≡ Cancel item → running_after start front item ≡ Some run → life_after start (front ++ e ∷ during) run ≡ Some Running → later.reply ≡ Run item number →
       made_after start (front ++ e ∷ during) ≤ number
+  -- while a queue drains, each admission to it is made by its own worker
+  pub own : (front rest : List (Entry WorkOp WorkReply)) (e : Entry WorkOp WorkReply) (queue : ℕ) (q : Queue) → h ≡ front ++ e ∷ rest →
+      queue_after start front queue ≡ Some q → q.draining ≡ true → admits_to e.reply ≡ Some queue → e.who.number ≡ q.worker
+  -- a drain that had to wait is told to be done only after a draining of its queue has ended
+  pub drained : (front between rest : List (Entry WorkOp WorkReply)) (first done : Entry WorkOp WorkReply) (queue : ℕ) (plug : Bool) → h ≡ front ++ first ∷ (between ++ done ∷ rest) →
+      first.op ≡ DrainStart queue plug → done.op ≡ DrainDone (length front) → drained_after start front queue < drained_after start (front ++ first ∷ between) queue
+  -- a draining ends at an entry that leaves its queue empty and idle
+  pub rests : (front rest : List (Entry WorkOp WorkReply)) (e : Entry WorkOp WorkReply) (queue : ℕ) → h ≡ front ++ e ∷ rest →
+      drained_after start front queue < drained_after start (front ++ e ∷ []) queue → rests_after start (front ++ e ∷ []) queue ≡ true
+  -- while a queue is plugged and doesn't drain, no admission to it is made
+  pub plugged : (front rest : List (Entry WorkOp WorkReply)) (e : Entry WorkOp WorkReply) (queue : ℕ) (q : Queue) → h ≡ front ++ e ∷ rest →
+      queue_after start front queue ≡ Some q → q.plugged ≡ true → q.draining ≡ false → admits_to e.reply ≡ Some queue → ⊥
 
--- every work history keeps them
+-- every work history of a service in which nobody waits at first, and no queue drains or is plugged, keeps them
 abbrev pub HistoriesKeepLaws : Type 0
-HistoriesKeepLaws = (start : State) (h : List (Entry WorkOp WorkReply)) → IsWorkHistory start h → KeepsLaws start h
+HistoriesKeepLaws = (start : State) (h : List (Entry WorkOp WorkReply)) → IsFreshHistory start h → KeepsLaws start h

@@ -7,7 +7,9 @@ ghost use Rattle.zk_cli.specs.Kept.{HistoriesKeepLaws};
 
 use std::alloc::Global;
 use zk_base::{NoMemory, Status, put, put_decimal};
-use zk_model_work::{begins_in_order, cancel_holds, never_overlaps, runs_once};
+use zk_model_work::{
+    begins_in_order, cancel_holds, drain_holds, never_overlaps, plug_holds, runs_once,
+};
 use zk_replay::replay;
 use zk_scenario::{Scenario, ScenarioRefused, Why, read_scenario};
 use zk_trace::{Ending, put_trace};
@@ -44,6 +46,8 @@ fn histories_keep_laws()
     begins_in_order();
     never_overlaps();
     cancel_holds();
+    drain_holds();
+    plug_holds();
 }
 
 /// The status of a run with this ending.

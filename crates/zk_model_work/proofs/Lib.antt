@@ -6,3 +6,4 @@ pub mod Weights
 pub mod Writes
 pub mod Overlaps
 pub mod Cancels
+pub mod Drains

@@ -137,7 +137,7 @@ admission-to : (b : Bool) (long number queue : ℕ) → admitted_to (cond b (Rer
 admission-to true long number queue is = same_Some number queue is
 admission-to false long number queue is = same_Some number queue is
 
-submission_to-admitted : (xs : List Admission) (caller : Option ℕ) (item number : ℕ) (q : Queue) (queue : ℕ) → admitted_to (submission_to xs caller item number q) ≡ Some queue → number ≡ queue
+pub submission_to-admitted : (xs : List Admission) (caller : Option ℕ) (item number : ℕ) (q : Queue) (queue : ℕ) → admitted_to (submission_to xs caller item number q) ≡ Some queue → number ≡ queue
 submission_to-admitted xs caller item number q queue is = by (refusal caller q) is where
   by : (r : Option Errno) → admitted_to (option_map_or Refused r (admission xs item number)) ≡ Some queue → number ≡ queue
   by None is = admission-to (is_some (running xs item)) (length xs) number queue is

@@ -1,9 +1,9 @@
-use Rattle.std.specs.Prelude.{◌≡◌, ℕ, ◌<◌, ◌≤◌, ◌⊎◌, Bool, true, false, ◌==◌, ◌&&◌, count_by, Option, Some, option_map, List, [], ◌∷◌, ◌++◌, length, slice_get}
+use Rattle.std.specs.Prelude.{◌≡◌, ℕ, ◌<◌, ◌≤◌, ◌⊎◌, Bool, true, false, ◌==◌, ◌&&◌, count_by, Option, Some, None, option_map, List, [], ◌∷◌, ◌++◌, length, slice_get, All}
 use Rattle.std.specs.List.{list_any}
 use Rattle.zk_base.specs.declared.ids.Entry.{Entry}
 use Rattle.zk_base.specs.Legal.{state_after, IsLegal}
 use Rattle.zk_model_work.specs.declared.ops.WorkOp.{WorkOp}
-use Rattle.zk_model_work.specs.declared.ops.WorkOp.TheVariants.{Submit, Cancel, Begin, End}
+use Rattle.zk_model_work.specs.declared.ops.WorkOp.TheVariants.{Submit, Cancel, DrainStart, DrainDone, Begin, End}
 use Rattle.zk_model_work.specs.declared.ops.WorkReply.{WorkReply}
 use Rattle.zk_model_work.specs.declared.ops.WorkReply.TheVariants.{Sub, Run}
 use Rattle.zk_model_work.specs.declared.ops.Submitted.{Submitted}
@@ -11,9 +11,10 @@ use Rattle.zk_model_work.specs.declared.ops.Submitted.TheVariants.{Fresh, Rerun}
 use Rattle.zk_model_work.specs.declared.parts.Life.{Life}
 use Rattle.zk_model_work.specs.declared.parts.Life.TheVariants.{Running, Ended, Dropped}
 use Rattle.zk_model_work.specs.declared.parts.Admission.{Admission}
-use Rattle.zk_model_work.specs.Questions.{is_waiting, is_open, running}
+use Rattle.zk_model_work.specs.declared.parts.Queue.{Queue}
+use Rattle.zk_model_work.specs.Questions.{is_waiting, is_open, is_empty_and_idle, running}
 use Rattle.zk_model_work.specs.State.{State}
-use Rattle.zk_model_work.specs.Machine.{work_machine}
+use Rattle.zk_model_work.specs.Machine.{admitted_to, drained_of, work_machine}
 
 -- a history that the work machine lets stand from a state in which nothing was admitted
 pub record IsWorkHistory (start : State) (h : List (Entry WorkOp WorkReply)) : Type 0 where
@@ -129,3 +130,58 @@ BegunMadeAfterRun = (start : State) (front during between rest : List (Entry Wor
     IsWorkHistory start (front ++ e ∷ (during ++ (between ++ later ∷ rest))) →
     e.op ≡ Cancel item → running_after start front item ≡ Some run → life_after start (front ++ e ∷ during) run ≡ Some Running → later.reply ≡ Run item number →
     made_after start (front ++ e ∷ during) ≤ number
+
+-- a work history from a state in which nobody waits, no queue drains, and none is plugged
+pub record IsFreshHistory (start : State) (h : List (Entry WorkOp WorkReply)) : Type 0 where
+  pub work : IsWorkHistory start h
+  pub first : start.entries ≡ 0
+  pub waits : start.waits ≡ []
+  pub undrained : All (λ q. (q.draining ≡ false) × (q.plugged ≡ false)) start.queues
+
+-- the queue of this number after a history
+abbrev pub queue_after : State → List (Entry WorkOp WorkReply) → ℕ → Option Queue
+queue_after start h queue = slice_get (state_after work_machine start h).queues queue
+
+-- the queue that a reply says an item was admitted to
+abbrev pub admits_to : WorkReply → Option ℕ
+admits_to (Sub answer) = admitted_to answer
+admits_to _ = None
+
+-- no admission to the queue waits or runs after a history
+abbrev pub rests_after : State → List (Entry WorkOp WorkReply) → ℕ → Bool
+rests_after start h queue = is_empty_and_idle (state_after work_machine start h).admissions queue
+
+-- how many drainings of the queue have ended after a history
+abbrev pub drained_after : State → List (Entry WorkOp WorkReply) → ℕ → ℕ
+drained_after start h queue = drained_of (state_after work_machine start h).queues queue
+
+-- while a queue drains, each admission to it is made by its own worker
+abbrev pub DrainAdmitsItsOwn : Type 0
+DrainAdmitsItsOwn = (start : State) (front rest : List (Entry WorkOp WorkReply)) (e : Entry WorkOp WorkReply) (queue : ℕ) (q : Queue) → IsWorkHistory start (front ++ e ∷ rest) →
+    queue_after start front queue ≡ Some q → q.draining ≡ true → admits_to e.reply ≡ Some queue → e.who.number ≡ q.worker
+
+-- while a queue is plugged and doesn't drain, no admission to it is made
+abbrev pub PluggedAdmitsNone : Type 0
+PluggedAdmitsNone = (start : State) (front rest : List (Entry WorkOp WorkReply)) (e : Entry WorkOp WorkReply) (queue : ℕ) (q : Queue) → IsWorkHistory start (front ++ e ∷ rest) →
+    queue_after start front queue ≡ Some q → q.plugged ≡ true → q.draining ≡ false → admits_to e.reply ≡ Some queue → ⊥
+
+-- a queue drains only as long as something of it waits or runs
+abbrev pub DrainsUntilItRests : Type 0
+DrainsUntilItRests = (start : State) (h : List (Entry WorkOp WorkReply)) (queue : ℕ) (q : Queue) → IsFreshHistory start h →
+    queue_after start h queue ≡ Some q → q.draining ≡ true → rests_after start h queue ≡ false
+
+-- a queue that is plugged and doesn't drain is empty and idle
+abbrev pub PluggedRests : Type 0
+PluggedRests = (start : State) (h : List (Entry WorkOp WorkReply)) (queue : ℕ) (q : Queue) → IsFreshHistory start h →
+    queue_after start h queue ≡ Some q → q.plugged ≡ true → q.draining ≡ false → rests_after start h queue ≡ true
+
+-- a draining ends at an entry that leaves the queue empty and idle, and nowhere else are its drainings counted
+abbrev pub DrainEndsAtRest : Type 0
+DrainEndsAtRest = (start : State) (front : List (Entry WorkOp WorkReply)) (e : Entry WorkOp WorkReply) (queue : ℕ) →
+    drained_after start front queue < drained_after start (front ++ e ∷ []) queue → rests_after start (front ++ e ∷ []) queue ≡ true
+
+-- a drain that had to wait is told to be done only after a draining of its queue has ended
+abbrev pub DrainDoneAfterItsEnd : Type 0
+DrainDoneAfterItsEnd = (start : State) (front between rest : List (Entry WorkOp WorkReply)) (first done : Entry WorkOp WorkReply) (queue : ℕ) (plug : Bool) →
+    IsFreshHistory start (front ++ first ∷ (between ++ done ∷ rest)) → first.op ≡ DrainStart queue plug → done.op ≡ DrainDone (length front) →
+    drained_after start front queue < drained_after start (front ++ first ∷ between) queue

@@ -1,4 +1,4 @@
-ghost use Rattle.zk_model_work.specs.Laws.{EachBegunOnce, DroppedNeverBegun, RunOrDropped, NoneWaitsBefore, BeginsRise, RunsToItsEnd, NotBegunDuringRun, EndsBetweenBegins, NoneAdmittedDuringCancel, BegunMadeAfterCancel, BegunMadeAfterRun};
+ghost use Rattle.zk_model_work.specs.Laws.{EachBegunOnce, DroppedNeverBegun, RunOrDropped, NoneWaitsBefore, BeginsRise, RunsToItsEnd, NotBegunDuringRun, EndsBetweenBegins, NoneAdmittedDuringCancel, BegunMadeAfterCancel, BegunMadeAfterRun, DrainAdmitsItsOwn, DrainsUntilItRests, DrainEndsAtRest, DrainDoneAfterItsEnd, PluggedAdmitsNone, PluggedRests};
 
 /// Of every legal work history: each admission is run at most once, and one that was dropped never.
 pub fn runs_once()
@@ -28,4 +28,21 @@ pub fn cancel_holds()
     ensures admits { NoneAdmittedDuringCancel }
     ensures after { BegunMadeAfterCancel }
     ensures run { BegunMadeAfterRun }
+{}
+
+/// Of every legal work history: a draining goes on until nothing of its queue waits or runs, and ends
+/// there. Meanwhile only the queue's own worker submits to it, and no drain that waits is told to be
+/// done before.
+pub fn drain_holds()
+    ensures own { DrainAdmitsItsOwn }
+    ensures until { DrainsUntilItRests }
+    ensures ends { DrainEndsAtRest }
+    ensures done { DrainDoneAfterItsEnd }
+{}
+
+/// Of every legal work history: a queue that is plugged and doesn't drain takes nothing, and nothing of
+/// it waits or runs.
+pub fn plug_holds()
+    ensures none { PluggedAdmitsNone }
+    ensures rests { PluggedRests }
 {}

@@ -16,7 +16,7 @@ pub use answers::{
 };
 pub use busy::{BusyFlags, flags, united};
 pub use changes::{answer, begin, change, disarm, drain, drop_waiting, end_run, set_life, settle};
-pub use laws::{begins_in_order, cancel_holds, never_overlaps, runs_once};
+pub use laws::{begins_in_order, cancel_holds, drain_holds, never_overlaps, plug_holds, runs_once};
 pub use ops::{Submitted, WorkOp, WorkReply};
 pub use parts::{Admission, Arm, Awaited, Change, Fate, Life, Queue, Wait};
 pub use questions::{

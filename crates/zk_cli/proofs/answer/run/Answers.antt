@@ -1,6 +1,7 @@
 use Rattle.std.proofs.Common.{ℕ, List, ◌++◌, refl, sym, ap, ◌∙◌, subst}
 use Rattle.zk_base.specs.declared.errors.Status.{Status}
 use Rattle.zk_trace.specs.Text.{trace_text}
+use Rattle.zk_model_work.proofs.Drains.{undrained-fresh}
 use Rattle.zk_cli.specs.Answer.{IsOutput}
 use Rattle.zk_cli.proofs.Ways.{output-run}
 use Rattle.zk_cli.proofs.answer.run.Goals as goal
@@ -16,7 +17,12 @@ returns c =
       spelled = c.requires.spelled;
       run = run;
       lawful = c.in_ok-trace.ensures.lawful;
-      laws = c.histories_keep_laws.ensures _ trace.work (record { fresh = refl; legal = c.in_ok-trace.ensures.lawful.legal });
+      laws = c.histories_keep_laws.ensures _ trace.work (record {
+        work = record { fresh = refl; legal = c.in_ok-trace.ensures.lawful.legal };
+        first = refl;
+        waits = refl;
+        undrained = undrained-fresh _ _;
+      });
       ends = refl;
       printed = c.in_ok-put_trace.ensures ∙ ap (λ (text : List ℕ). text ++ trace_text c.args.scenario.now trace) c.requires.spelled;
     }))
