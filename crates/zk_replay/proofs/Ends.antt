@@ -12,7 +12,9 @@ use Rattle.zk_model_work.specs.declared.ops.WorkOp.{WorkOp}
 use Rattle.zk_model_work.specs.declared.ops.WorkOp.TheVariants as ops
 use Rattle.zk_model_work.specs.declared.ops.WorkReply.{WorkReply}
 use Rattle.zk_model_work.specs.declared.parts.Admission.{Admission}
-use Rattle.zk_model_work.specs.Questions.{is_waiting, waits_for}
+use Rattle.zk_model_work.specs.declared.parts.Life.{Life}
+use Rattle.zk_model_work.specs.declared.parts.Life.TheVariants.{Waiting, Running, Ended, Dropped}
+use Rattle.zk_model_work.specs.Questions.{is_waiting, is_running, is_open, waits_for, runs_on}
 use Rattle.zk_model_work.specs.State.{State}
 use Rattle.zk_model_work.specs.Machine.{work_machine, work_reply, work_next}
 use Rattle.zk_scenario.specs.Parts.{Parts}
@@ -34,14 +36,16 @@ use Rattle.zk_worker.specs.Protocol.{attempts, frames_attempts, role_attempts, a
 use Rattle.zk_worker.specs.Follows.{log_of, is_done, is_between, is_spent_at}
 use Rattle.zk_worker.specs.Machines.{work_start_of}
 use Rattle.zk_worker.proofs.Lists.{none-passes}
+use Rattle.zk_worker.proofs.Numbers.{All-slice_get}
 use Rattle.zk_worker.proofs.Ranges.{same-lengths}
 use Rattle.zk_trace.specs.declared.trace.Ending.{Ending}
-use Rattle.zk_trace.specs.declared.trace.Ending.TheVariants.{Ended, Stuck, Spent}
+use Rattle.zk_trace.specs.declared.trace.Ending.TheVariants as endings
 use Rattle.zk_trace.specs.declared.trace.Trace.{Trace}
 use Rattle.zk_replay.specs.RoundRobin.{World, or_else, first_possible, chosen, stepped, first, round, rounds, is_spent, IsRun}
 use Rattle.zk_replay.specs.Ready.{IsReady}
-use Rattle.zk_replay.specs.Replay.{all_done, none_waits, ending_of, IsReplay}
+use Rattle.zk_replay.specs.Replay.{all_done, none_waits, ending_of, trace_of, IsReplay}
 use Rattle.zk_replay.specs.Ending.{ending_by}
+use Rattle.zk_replay.specs.Over.{IsOver}
 use Rattle.zk_replay.specs.Tending.{IsIdle, IsWorkers, Tends, IsTended}
 use Rattle.zk_replay.proofs.Readiness.{ready-stepped}
 use Rattle.zk_replay.proofs.Beginning.{ready-first, first-there, first-players}
@@ -129,15 +133,34 @@ there-is [] p within = absurd (omega arith)
 there-is (x ∷ xs) zero within = (x, refl)
 there-is (x ∷ xs) (suc p) within = there-is xs p (omega arith)
 
+not-here : (b c : Bool) → b ≡ true → (b && c) ≡ false → c ≡ false
+not-here true c is none = none
+not-here false c is none = absurd (cc)
+
+not-open : (life : Life) → is_waiting life ≡ false → is_running life ≡ false → is_open life ≡ false
+not-open Waiting waits runs = absurd (cc)
+not-open Running waits runs = absurd (cc)
+not-open Ended waits runs = refl
+not-open Dropped waits runs = refl
+
 module _ (s : Parts) (w : World) (good : IsGood s w) (still : round work_machine (work_start_of s) s w ≡ w) (unspent : is_spent w ≡ false) (done : all_done w.players ≡ true) where
+  -- the worker of a queue, which stands between two runs
+  worker-at : (queue : ℕ) → queue < length (places is_queue s.decls) → (at : At) × (slice_get w.players (length (places is_thread s.decls) + queue) ≡ Some at)
+  worker-at queue within = there-is w.players (length (places is_thread s.decls) + queue) (omega (arith, good.all_there))
+
+  between : (queue : ℕ) (within : queue < length (places is_queue s.decls)) →
+      (frames_attempts s (worker-at queue within).0.frames ≡ steps.Work (ops.Begin queue) ∷ []) × IsIdle queue good.state.admissions
+  between queue within =
+      let there = worker-at queue within in
+      let is_done_at = all-at (λ at. is_done at.frames) w.players (length (places is_thread s.decls) + queue) there.0 done there.1 in
+      done-ahead s queue there.0.frames good.state.admissions (good.tended.tended queue there.0 there.1 within) is_done_at
+
   none-for : (queue : ℕ) → queue < length (places is_queue s.decls) → All (λ a. waits_for queue a ≡ false) good.state.admissions
   none-for queue within =
       let threads = length (places is_thread s.decls) in
-      let there = there-is w.players (threads + queue) (omega (arith, good.all_there)) in
+      let there = worker-at queue within in
       let at = there.0 in
-      let is_done_at = all-at (λ at. is_done at.frames) w.players (threads + queue) at done there.1 in
-      let tends = good.tended.tended queue at there.1 within in
-      let only = done-ahead s queue at.frames good.state.admissions tends is_done_at in
+      let only = between queue within in
       let none = round-still work_machine (work_start_of s) s w still unspent (threads + queue) at (omega (arith, good.all_there)) there.1 in
       let ahead : attempts s at ≡ steps.Work (ops.Begin queue) ∷ [] =
       ap (λ b. cond b (frames_attempts s at.frames) []) (short-unspent at (none-passes is_spent_at w.players (threads + queue) at unspent there.1)) ∙ only.0 in
@@ -152,18 +175,30 @@ module _ (s : Parts) (w : World) (good : IsGood s w) (still : round work_machine
   ended : none_waits (state_after work_machine (work_start_of s) w.work) ≡ true
   ended = subst (λ (t : State). none_waits t ≡ true) good.tended.after (none-wait (length (places is_queue s.decls)) good.state.admissions good.tended.homes none-for)
 
+  -- and none runs
+  over-at : (number : ℕ) (a : Admission) → slice_get good.state.admissions number ≡ Some a → is_open a.life ≡ false
+  over-at number a is =
+      let Home : Admission → Type 0 = λ b. b.queue < length (places is_queue s.decls) in
+      let Waits : Admission → Type 0 = λ b. waits_for a.queue b ≡ false in
+      let Runs : Admission → Type 0 = λ b. runs_on a.queue b ≡ false in
+      let within = All-slice_get Home good.state.admissions number a is good.tended.homes in
+      let here = eq-eqb a.queue a.queue refl in
+      not-open a.life
+      (not-here (eqb a.queue a.queue) (is_waiting a.life) here (All-slice_get Waits good.state.admissions number a is (none-for a.queue within)))
+      (not-here (eqb a.queue a.queue) (is_running a.life) here (All-slice_get Runs good.state.admissions number a is (between a.queue within).1))
+
 ending-good : (s : Parts) (w : World) → IsGood s w → round work_machine (work_start_of s) s w ≡ w → ending_by w.players ≡ ending_of s w
 ending-good s w good still = by_spent (is_spent w) refl
   where
     waits : Bool
     waits = none_waits (state_after work_machine (work_start_of s) w.work)
 
-    by_done : (b : Bool) → is_spent w ≡ false → all_done w.players ≡ b → cond b Ended Stuck ≡ cond (b && none_waits (state_after work_machine (work_start_of s) w.work)) Ended Stuck
-    by_done true unspent done = sym (ap (λ c. cond c Ended Stuck) (ended s w good still unspent done))
+    by_done : (b : Bool) → is_spent w ≡ false → all_done w.players ≡ b → cond b endings.Ended endings.Stuck ≡ cond (b && none_waits (state_after work_machine (work_start_of s) w.work)) endings.Ended endings.Stuck
+    by_done true unspent done = sym (ap (λ c. cond c endings.Ended endings.Stuck) (ended s w good still unspent done))
     by_done false unspent done = refl
 
-    by_spent : (b : Bool) → is_spent w ≡ b → cond b Spent (cond (all_done w.players) Ended Stuck)
-        ≡ cond b Spent (cond (all_done w.players && none_waits (state_after work_machine (work_start_of s) w.work)) Ended Stuck)
+    by_spent : (b : Bool) → is_spent w ≡ b → cond b endings.Spent (cond (all_done w.players) endings.Ended endings.Stuck)
+        ≡ cond b endings.Spent (cond (all_done w.players && none_waits (state_after work_machine (work_start_of s) w.work)) endings.Ended endings.Stuck)
     by_spent true spent = refl
     by_spent false unspent = by_done (all_done w.players) unspent refl
 
@@ -192,3 +227,24 @@ replayed s old w ending work logs valid begins n so_far over end history log =
 -- each world that a run ends with is ready
 pub run-ready : (s : Parts) (w : World) → IsValid s → IsRun work_machine (work_start_of s) s w → IsReady s w
 run-ready s w valid run = let good = subst (λ (v : World). IsGood s v) (sym run.1) (good-rounds s run.0 valid) in good.ready
+
+-- what an ending says of the players
+ended-parts : (spent done waits : Bool) → cond spent endings.Spent (cond (done && waits) endings.Ended endings.Stuck) ≡ endings.Ended → (spent ≡ false) × (done ≡ true)
+ended-parts true done waits is = absurd (cc)
+ended-parts false true waits is = (refl, refl)
+ended-parts false false waits is = absurd (cc)
+
+life-closed : (o : Option Admission) (life : Life) → ((a : Admission) → o ≡ Some a → is_open a.life ≡ false) → option_map (λ a. a.life) o ≡ Some life → is_open life ≡ false
+life-closed None life each is = absurd (cc)
+life-closed (Some a) life each is = let same : a.life ≡ life = cc in subst (λ (l : Life). is_open l ≡ false) same (each a refl)
+
+run-over : (s : Parts) (w : World) → IsValid s → IsRun work_machine (work_start_of s) s w → IsOver s (trace_of s w)
+run-over s w valid run ends number life is =
+    let good = subst (λ (v : World). IsGood s v) (sym run.1) (good-rounds s run.0 valid) in
+    let parts = ended-parts (is_spent w) (all_done w.players) (none_waits (state_after work_machine (work_start_of s) w.work)) ends in
+    life-closed (slice_get (state_after work_machine (work_start_of s) w.work).admissions number) life
+    (λ a there. over-at s w good run.2 parts.0 parts.1 number a (ap (λ (t : State). slice_get t.admissions number) good.tended.after ∙ there)) is
+
+-- where the trace of a run has ended, none of its admissions waits or runs
+pub over : (s : Parts) (t : Trace) → IsValid s → IsReplay s t → IsOver s t
+over s t valid run = subst (λ (x : Trace). IsOver s x) (sym run.2) (run-over s run.0 valid run.1)

@@ -112,7 +112,6 @@ own-run s st who queue (Worker object) next Runs op reply place k tends is made 
     let idle : IsIdle queue (work_next st who (ops.End (number_of s.decls object))).admissions =
     subst (λ (q : ℕ). IsIdle q (work_next st who (ops.End (number_of s.decls object))).admissions) tends (idle-ended (number_of s.decls object) st.admissions) in
     (tends, subst (λ (o : WorkOp). IsIdle queue (work_next st who o).admissions) ends idle)
-
 own-run s st who queue (Worker object) next (Waits since) op reply place k tends is made = absurd tends
 
 -- the scripts of a worker after a step of the innermost one

@@ -7,3 +7,4 @@ pub mod Ending
 pub mod Tending
 pub mod Laws
 pub mod Lawful
+pub mod Over

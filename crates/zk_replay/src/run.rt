@@ -9,6 +9,7 @@ ghost use Rattle.zk_replay.specs.RoundRobin.{starts};
 ghost use Rattle.zk_replay.specs.Replay.{all_done, IsReplay};
 ghost use Rattle.zk_replay.specs.Ending.{ending_by};
 ghost use Rattle.zk_replay.specs.Lawful.{IsLawful};
+ghost use Rattle.zk_replay.specs.Over.{IsOver};
 
 use crate::plain::Plain;
 use crate::turns::play_rounds;
@@ -119,6 +120,7 @@ fn ending_of(players: &[Player]) -> Ending
 pub fn replay(alloc: Global, scenario: &Scenario) -> Result<Trace, NoMemory>
     ensures replay { IfOk result (λ trace. IsReplay scenario.now trace) }
     ensures lawful { IfOk result (λ trace. IsLawful scenario.now trace) }
+    ensures over { IfOk result (λ trace. IsOver scenario.now trace) }
 {
     let work = first_work(alloc, scenario)?;
     let mut services = Plain::new(work);

@@ -23,6 +23,7 @@ returns c =
         waits = refl;
         undrained = undrained-fresh _ _;
       });
+      over = c.in_ok-trace.ensures.over;
       ends = refl;
       printed = c.in_ok-put_trace.ensures ∙ ap (λ (text : List ℕ). text ++ trace_text c.args.scenario.now trace) c.requires.spelled;
     }))

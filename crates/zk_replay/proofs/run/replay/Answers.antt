@@ -11,7 +11,7 @@ use Rattle.zk_replay.specs.Ready.{IsReady}
 use Rattle.zk_replay.specs.Turning.{world}
 use Rattle.zk_replay.specs.Ending.{ending_by}
 use Rattle.zk_replay.proofs.Beginning.{ready-first, unspent-first, world-first, machines_from}
-use Rattle.zk_replay.proofs.Ends.{replayed}
+use Rattle.zk_replay.proofs.Ends.{replayed, over}
 use Rattle.zk_replay.proofs.Lawful.{lawful}
 use Rattle.zk_replay.proofs.run.replay.Goals as goal
 
@@ -54,3 +54,7 @@ returns-clause-lawful c =
     let legal = subst (λ (h : List (Entry WorkOp WorkReply)). IsLegal work_machine (plain_machines c.play_rounds.new.services).work_start h) (sym c.from_vec.ensures) c.into_work.ensures.legal in
     lawful s (record { ending = c.ending_of-ending.result; work = c.from_vec.result; logs = c.in_ok-logs.logs }) c.first_work.ensures.valid (returns-clause-replay c)
     (subst (λ (m : Machines). IsLegal work_machine m.work_start c.from_vec.result) machines legal)
+
+pub returns-clause-over : goal.returns-clause-over
+returns-clause-over c =
+    over c.args.scenario.now (record { ending = c.ending_of-ending.result; work = c.from_vec.result; logs = c.in_ok-logs.logs }) c.first_work.ensures.valid (returns-clause-replay c)
