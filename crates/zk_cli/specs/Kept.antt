@@ -1,19 +1,19 @@
-use Rattle.std.specs.Prelude.{◌≡◌, ℕ, ◌<◌, ◌≤◌, ◌⊎◌, Bool, true, false, count_by, Some, List, [], ◌∷◌, ◌++◌, length}
+use Rattle.std.specs.Prelude.{◌≡◌, ℕ, ◌<◌, ◌≤◌, ◌⊎◌, Bool, true, false, count_by, Some, option_map, List, [], ◌∷◌, ◌++◌, length}
 use Rattle.std.specs.List.{list_any}
 use Rattle.zk_base.specs.declared.ids.Entry.{Entry}
 use Rattle.zk_model_work.specs.declared.ops.WorkOp.{WorkOp}
-use Rattle.zk_model_work.specs.declared.ops.WorkOp.TheVariants.{Begin, Cancel, DrainStart, DrainDone}
+use Rattle.zk_model_work.specs.declared.ops.WorkOp.TheVariants.{Begin, CancelStart, CancelDone, FlushStart, FlushDone, DrainStart, DrainDone}
 use Rattle.zk_model_work.specs.declared.ops.WorkReply.{WorkReply}
-use Rattle.zk_model_work.specs.declared.ops.WorkReply.TheVariants.{Run}
+use Rattle.zk_model_work.specs.declared.ops.WorkReply.TheVariants.{WaitFor, Run}
 use Rattle.zk_model_work.specs.declared.parts.Life.{Life}
 use Rattle.zk_model_work.specs.declared.parts.Life.TheVariants.{Running, Ended, Dropped}
 use Rattle.zk_model_work.specs.declared.parts.Admission.{Admission}
 use Rattle.zk_model_work.specs.declared.parts.Queue.{Queue}
 use Rattle.zk_model_work.specs.Questions.{is_waiting, is_open}
 use Rattle.zk_model_work.specs.State.{State}
-use Rattle.zk_model_work.specs.Laws.{IsFreshHistory, begins, ends, admission_after, life_after, running_after, made_after, queue_after, admits_to, drained_after, rests_after}
+use Rattle.zk_model_work.specs.Laws.{IsFreshHistory, Cancels, begins, ends, admission_after, life_after, running_after, made_after, queue_after, admits_to, drained_after, rests_after}
 
--- what the laws say of one work history: each admission is run or dropped, once, in the order of its queue; an item never overlaps itself; what is begun of an item after a cancel was admitted after the cancellation was complete; and a drain and a plug hold
+-- what the laws say of one work history: each admission is run or dropped, once, in the order of its queue; an item never overlaps itself; what is begun of an item after a cancel was admitted after the cancellation was complete; a sync cancel, a flush, a drain and a plug hold
 pub record KeepsLaws (start : State) (h : List (Entry WorkOp WorkReply)) : Type 0 where
   -- each admission is begun at most once
   pub once : (number : ℕ) → count_by (begins number) h ≤ 1
@@ -28,11 +28,17 @@ pub record KeepsLaws (start : State) (h : List (Entry WorkOp WorkReply)) : Type 
       first.op ≡ Begin queue → first.reply ≡ Run item number → second.reply ≡ Run item next → list_any (λ e. ends queue e.op) between ≡ true
   -- a begin of an item after a cancel is of an admission made after the cancel
   pub cancelled : (front between rest : List (Entry WorkOp WorkReply)) (e later : Entry WorkOp WorkReply) (item number : ℕ) → h ≡ front ++ e ∷ (between ++ later ∷ rest) →
-      e.op ≡ Cancel item → later.reply ≡ Run item number → made_after start (front ++ e ∷ []) ≤ number
+      Cancels item e.op → later.reply ≡ Run item number → made_after start (front ++ e ∷ []) ≤ number
   -- and, where the cancel found a run, of one made after the end of that run
   pub completed : (front during between rest : List (Entry WorkOp WorkReply)) (e later : Entry WorkOp WorkReply) (item run number : ℕ) → h ≡ front ++ e ∷ (during ++ (between ++ later ∷ rest)) →
-      e.op ≡ Cancel item → running_after start front item ≡ Some run → life_after start (front ++ e ∷ during) run ≡ Some Running → later.reply ≡ Run item number →
+      Cancels item e.op → running_after start front item ≡ Some run → life_after start (front ++ e ∷ during) run ≡ Some Running → later.reply ≡ Run item number →
       made_after start (front ++ e ∷ during) ≤ number
+  -- a sync cancel that found a run is told to be done only after that run has ended
+  pub answered : (front between rest : List (Entry WorkOp WorkReply)) (first done : Entry WorkOp WorkReply) (item run : ℕ) → h ≡ front ++ first ∷ (between ++ done ∷ rest) →
+      first.op ≡ CancelStart item → running_after start front item ≡ Some run → done.op ≡ CancelDone (length front) → life_after start (front ++ first ∷ between) run ≡ Some Ended
+  -- a flush is told to be done only after the admission that it waits for has ended or was dropped
+  pub flushed : (front between rest : List (Entry WorkOp WorkReply)) (first done : Entry WorkOp WorkReply) (item number : ℕ) → h ≡ front ++ first ∷ (between ++ done ∷ rest) →
+      first.op ≡ FlushStart item → first.reply ≡ WaitFor number → done.op ≡ FlushDone (length front) → option_map is_open (life_after start (front ++ first ∷ between) number) ≡ Some false
   -- while a queue drains, each admission to it is made by its own worker
   pub own : (front rest : List (Entry WorkOp WorkReply)) (e : Entry WorkOp WorkReply) (queue : ℕ) (q : Queue) → h ≡ front ++ e ∷ rest →
       queue_after start front queue ≡ Some q → q.draining ≡ true → admits_to e.reply ≡ Some queue → e.who.number ≡ q.worker

@@ -8,7 +8,7 @@ ghost use Rattle.zk_cli.specs.Kept.{HistoriesKeepLaws};
 use std::alloc::Global;
 use zk_base::{NoMemory, Status, put, put_decimal};
 use zk_model_work::{
-    begins_in_order, cancel_holds, drain_holds, never_overlaps, plug_holds, runs_once,
+    begins_in_order, cancel_holds, drain_holds, flush_holds, never_overlaps, plug_holds, runs_once,
 };
 use zk_replay::replay;
 use zk_scenario::{Scenario, ScenarioRefused, Why, read_scenario};
@@ -46,6 +46,7 @@ fn histories_keep_laws()
     begins_in_order();
     never_overlaps();
     cancel_holds();
+    flush_holds();
     drain_holds();
     plug_holds();
 }

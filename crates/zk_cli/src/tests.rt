@@ -110,6 +110,70 @@ const DRAINS: [(&str, Status, &str, &str); 8] = [
     ),
 ];
 
+/// Sync cancels and flushes, each with its status and its trace.
+const WAITS: [(&str, Status, &str, &str); 10] = [
+    (
+        "a sync cancel during the run",
+        Status::Success,
+        "queue q1 0 on\nscript t0\nsubmit w0 q0\ncancelsync w0\nend\nscript w0\nsubmit w0\nend\n",
+        "zt 1\nended\nservice work\nt0.0 submit w0 q0 = 1 a0 q0\nq0.0 begin q0 = w0 a0\nt0.1 cancelstart w0 = wait\nq0.1 submit w0 - = busy\nq0.2 end q0 = ok\nt0.2 canceldone 2 = true\nplayer t0 done\n0 submit = 1\n2 cancelsync = true\nplayer t1 done\nplayer q0 done\n1 submit = busy\nplayer q1 done\n",
+    ),
+    (
+        "a flush waits for the second run",
+        Status::Success,
+        "queue q1 0 on\nscript t0\nsubmit w0 q0\nsubmit w0 q0\nflush w0\nend\nscript w0\nstart q0\nstart q0\nend\n",
+        "zt 1\nended\nservice work\nt0.0 submit w0 q0 = 1 a0 q0\nq0.0 begin q0 = w0 a0\nt0.1 submit w0 q0 = 2 a1 q0\nq0.1 start q0 = already\nt0.2 flushstart w0 = wait a1\nq0.2 start q0 = already\nq0.3 end q0 = ok\nq0.4 begin q0 = w0 a1\nq0.5 start q0 = already\nq0.6 start q0 = already\nq0.7 end q0 = ok\nt0.3 flushdone 4 = true\nplayer t0 done\n0 submit = 1\n1 submit = 2\n3 flush = true\nplayer t1 done\nplayer q0 done\n1 start = already\n2 start = already\n5 start = already\n6 start = already\nplayer q1 done\n",
+    ),
+    (
+        "a resubmission between the completion and the answer",
+        Status::Success,
+        "queue q1 0 on\nscript t0\nsubmit w0 q0\nstart q0\nstart q0\nsubmit w0 q0\nend\nscript t1\nstart q0\ncancelsync w0\nend\nscript w0\nstart q0\nend\n",
+        "zt 1\nended\nservice work\nt0.0 submit w0 q0 = 1 a0 q0\nt1.0 start q0 = already\nq0.0 begin q0 = w0 a0\nt0.1 start q0 = already\nt1.1 cancelstart w0 = wait\nq0.1 start q0 = already\nt0.2 start q0 = already\nq0.2 end q0 = ok\nt0.3 submit w0 q0 = 1 a1 q0\nt1.2 canceldone 4 = true\nq0.3 begin q0 = w0 a1\nq0.4 start q0 = already\nq0.5 end q0 = ok\nplayer t0 done\n0 submit = 1\n1 start = already\n2 start = already\n3 submit = 1\nplayer t1 done\n0 start = already\n2 cancelsync = true\nplayer q0 done\n1 start = already\n4 start = already\nplayer q1 done\n",
+    ),
+    (
+        "a handler that cancels itself and waits",
+        Status::Stuck,
+        "script t0\nsubmit w0 q0\nend\nscript w0\ncancelsync w0\nend\n",
+        "zt 1\nstuck\nservice work\nt0.0 submit w0 q0 = 1 a0 q0\nq0.0 begin q0 = w0 a0\nq0.1 cancelstart w0 = wait\nplayer t0 done\n0 submit = 1\nplayer t1 done\nplayer q0 open\n",
+    ),
+    (
+        "a handler that flushes itself",
+        Status::Stuck,
+        "script t0\nsubmit w0 q0\nend\nscript w0\nflush w0\nend\n",
+        "zt 1\nstuck\nservice work\nt0.0 submit w0 q0 = 1 a0 q0\nq0.0 begin q0 = w0 a0\nq0.1 flushstart w0 = wait a0\nplayer t0 done\n0 submit = 1\nplayer t1 done\nplayer q0 open\n",
+    ),
+    (
+        "two handlers that flush each other",
+        Status::Stuck,
+        "queue q1 0 on\nscript t0\nsubmit w0 q0\nsubmit w1 q1\nend\nscript w0\nflush w1\nend\nscript w1\nflush w0\nend\n",
+        "zt 1\nstuck\nservice work\nt0.0 submit w0 q0 = 1 a0 q0\nq0.0 begin q0 = w0 a0\nt0.1 submit w1 q1 = 1 a1 q1\nq0.1 flushstart w1 = wait a1\nq1.0 begin q1 = w1 a1\nq1.1 flushstart w0 = wait a0\nplayer t0 done\n0 submit = 1\n1 submit = 1\nplayer t1 done\nplayer q0 open\nplayer q1 open\n",
+    ),
+    (
+        "nothing to cancel and nothing to flush",
+        Status::Success,
+        "script t0\ncancelsync w0\nflush w0\nend\n",
+        "zt 1\nended\nservice work\nt0.0 cancelstart w0 = false\nt0.1 flushstart w0 = false\nplayer t0 done\n0 cancelsync = false\n1 flush = false\nplayer t1 done\nplayer q0 done\n",
+    ),
+    (
+        "a sync cancel of what waits",
+        Status::Success,
+        "script t0\nsubmit w1 q0\nsubmit w0 q0\ncancelsync w0\nend\n",
+        "zt 1\nended\nservice work\nt0.0 submit w1 q0 = 1 a0 q0\nq0.0 begin q0 = w1 a0\nt0.1 submit w0 q0 = 1 a1 q0\nq0.1 end q0 = ok\nt0.2 cancelstart w0 = true\nplayer t0 done\n0 submit = 1\n1 submit = 1\n2 cancelsync = true\nplayer t1 done\nplayer q0 done\n",
+    ),
+    (
+        "a drop releases a flush",
+        Status::Success,
+        "script t0\nsubmit w1 q0\nsubmit w0 q0\nflush w0\nend\nscript t1\nstart q0\nstart q0\ncancel w0\nend\nscript w1\nstart q0\nstart q0\nstart q0\nend\n",
+        "zt 1\nended\nservice work\nt0.0 submit w1 q0 = 1 a0 q0\nt1.0 start q0 = already\nq0.0 begin q0 = w1 a0\nt0.1 submit w0 q0 = 1 a1 q0\nt1.1 start q0 = already\nq0.1 start q0 = already\nt0.2 flushstart w0 = wait a1\nt1.2 cancel w0 = -\nq0.2 start q0 = already\nt0.3 flushdone 6 = true\nq0.3 start q0 = already\nq0.4 end q0 = ok\nplayer t0 done\n0 submit = 1\n1 submit = 1\n3 flush = true\nplayer t1 done\n0 start = already\n1 start = already\n2 cancel = -\nplayer q0 done\n1 start = already\n2 start = already\n3 start = already\n",
+    ),
+    (
+        "a cancel of what is being flushed",
+        Status::Success,
+        "script t0\nsubmit w0 q0\nflush w0\nend\nscript t1\nstart q0\nstart q0\ncancel w0\nend\nscript w0\nstart q0\nstart q0\nstart q0\nend\n",
+        "zt 1\nended\nservice work\nt0.0 submit w0 q0 = 1 a0 q0\nt1.0 start q0 = already\nq0.0 begin q0 = w0 a0\nt0.1 flushstart w0 = wait a0\nt1.1 start q0 = already\nq0.1 start q0 = already\nt1.2 cancel w0 = rcf\nq0.2 start q0 = already\nq0.3 start q0 = already\nq0.4 end q0 = ok\nt0.2 flushdone 3 = true\nplayer t0 done\n0 submit = 1\n2 flush = true\nplayer t1 done\n0 start = already\n1 start = already\n2 cancel = rcf\nplayer q0 done\n1 start = already\n2 start = already\n3 start = already\n",
+    ),
+];
+
 fn words_of(rt: &HostRuntime, words: &[&str]) -> Result<Vec<String>, Fail> {
     let mut made = Vec::new(rt.alloc());
     for word in words {
@@ -150,6 +214,18 @@ fn rows_print_their_traces(rt: HostRuntime) -> Result<(), Fail> {
 #[test]
 fn drains_print_their_traces(rt: HostRuntime) -> Result<(), Fail> {
     for (name, status, scripts, trace) in DRAINS {
+        let input = joined(&rt, &[FRONT, scripts])?;
+        let (got, output) = outcome(&rt, &["replay"], &input)?;
+        assert_eq!(rt; got, status, "{name}");
+        let wanted = joined(&rt, &[FRONT, scripts, trace])?;
+        assert!(rt; output.as_slice() == wanted.as_slice(), "{name}");
+    }
+    Ok(())
+}
+
+#[test]
+fn sync_cancels_and_flushes_print_their_traces(rt: HostRuntime) -> Result<(), Fail> {
+    for (name, status, scripts, trace) in WAITS {
         let input = joined(&rt, &[FRONT, scripts])?;
         let (got, output) = outcome(&rt, &["replay"], &input)?;
         assert_eq!(rt; got, status, "{name}");

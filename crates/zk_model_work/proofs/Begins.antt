@@ -1,5 +1,5 @@
 -- How often an admission is begun, and in what order.
-use Rattle.std.proofs.Common.{◌≡◌, ℕ, zero, suc, ◌+◌, ◌<◌, ◌≤◌, ◌≢◌, ◌⊎◌, inl, inr, Bool, true, false, ◌&&◌, cond, eqb, Option, Some, None, option_map, List, [], ◌∷◌, ◌++◌, get_or, slice_get, count_by, refl, sym, ap, ◌∙◌, arith}
+use Rattle.std.proofs.Common.{◌≡◌, ℕ, zero, suc, ◌+◌, ◌<◌, ◌≤◌, ◌≢◌, ◌⊎◌, inl, inr, Bool, true, false, ◌&&◌, cond, eqb, Option, Some, None, is_some, option_map, List, [], ◌∷◌, ◌++◌, get_or, slice_get, count_by, refl, sym, ap, ◌∙◌, arith}
 use Rattle.std.specs.Cmp.{first_so, second_so}
 use Rattle.std.specs.Option.{option_map_or, option_and_then}
 use Rattle.std.proofs.lemmas.Bool.{eqb-true, eq-eqb, false≢true}
@@ -12,17 +12,18 @@ use Rattle.zk_base.specs.Legal.{state_after, Replays}
 use Rattle.zk_model_work.specs.declared.parts.Life.{Life}
 use Rattle.zk_model_work.specs.declared.parts.Life.TheVariants.{Waiting, Running, Ended, Dropped}
 use Rattle.zk_model_work.specs.declared.parts.Admission.{Admission}
+use Rattle.zk_model_work.specs.declared.parts.Closing.TheVariants as closings
 use Rattle.zk_model_work.specs.declared.ops.WorkOp.{WorkOp}
-use Rattle.zk_model_work.specs.declared.ops.WorkOp.TheVariants.{Submit, Cancel, Start, DrainStart, DrainDone, Unplug, Begin, End}
+use Rattle.zk_model_work.specs.declared.ops.WorkOp.TheVariants.{Submit, Cancel, CancelStart, CancelDone, FlushStart, FlushDone, Start, DrainStart, DrainDone, Unplug, Begin, End}
 use Rattle.zk_model_work.specs.declared.ops.WorkReply.{WorkReply}
-use Rattle.zk_model_work.specs.declared.ops.WorkReply.TheVariants.{Sub, Flags, Number, Done, Run}
+use Rattle.zk_model_work.specs.declared.ops.WorkReply.TheVariants.{Sub, Flags, Truth, WaitFor, Number, Done, Run}
 use Rattle.zk_model_work.specs.declared.ops.WorkReply.TheVariants as replies
 use Rattle.zk_model_work.specs.declared.ops.Submitted.{Submitted}
 use Rattle.zk_model_work.specs.declared.ops.Submitted.TheVariants.{Already, Fresh, Rerun, Refused}
 use Rattle.zk_model_work.specs.Lists.{first}
-use Rattle.zk_model_work.specs.Questions.{is_waiting, is_running, is_open, waits_as, runs_on, line, is_empty_and_idle}
+use Rattle.zk_model_work.specs.Questions.{is_waiting, is_running, is_open, waits_as, runs_on, running, line, is_empty_and_idle}
 use Rattle.zk_model_work.specs.State.{State}
-use Rattle.zk_model_work.specs.Machine.{work_next, work_reply, work_machine, submission, submit, set_life, with_life, begin, end_one, drop_one, cancel, flags_of, taken_up, may_begin, may_end, may_drain_done, is_started, is_plugged, start_reply, drain_reply, unplug_reply}
+use Rattle.zk_model_work.specs.Machine.{work_next, work_reply, work_machine, submission, submit, set_life, with_life, begin, end_one, drop_one, cancel, flags_of, taken_up, may_begin, may_end, may_close, flushed, cancel_start_reply, flush_start_reply, is_started, is_plugged, start_reply, drain_reply, unplug_reply}
 use Rattle.zk_model_work.specs.Laws.{IsWorkHistory, hands_out, begins, admission_after, EachBegunOnce, DroppedNeverBegun, RunOrDropped, NoneWaitsBefore, BeginsRise}
 use Rattle.zk_model_work.proofs.Lives.{Kept, Kept-after, IsFirst, IsFirst-line, set_life-at, set_life-aside}
 
@@ -139,6 +140,15 @@ handed-start : (n : ℕ) (was : Bool) → handed n (cond was replies.Already Don
 handed-start n true = refl
 handed-start n false = refl
 
+handed-cancel : (n : ℕ) (none runs : Bool) → handed n (cond none (Truth false) (cond runs replies.Wait (Truth true))) ≡ 0
+handed-cancel n true runs = refl
+handed-cancel n false true = refl
+handed-cancel n false false = refl
+
+handed-flush : (n : ℕ) (o : Option ℕ) → handed n (option_map_or WaitFor o (Truth false)) ≡ 0
+handed-flush n None = refl
+handed-flush n (Some number) = refl
+
 handed-drain : (n : ℕ) (idle : Bool) → handed n (cond idle (Number 0) replies.Wait) ≡ 0
 handed-drain n true = refl
 handed-drain n false = refl
@@ -158,6 +168,20 @@ step-begun s who (Cancel item) reply n is =
     let out : handed n reply ≡ 0 = ap (handed n) (sym (same_Some (Flags (flags_of (cancel s item) item)) reply is)) in
     let same = ap begun (slice_get-map (drop_one item) s.admissions n) ∙ begun-map (drop_one item) (begun-drop_one item) (slice_get s.admissions n) in
     omega arith
+step-begun s who (CancelStart item) reply n is =
+    let out : handed n reply ≡ 0 =
+    ap (handed n) (sym (same_Some (cancel_start_reply (flags_of s item) (is_some (running s.admissions item))) reply is)) ∙ handed-cancel n (eqb (flags_of s item) 0) (is_some (running s.admissions item)) in
+    let same = ap begun (slice_get-map (drop_one item) s.admissions n) ∙ begun-map (drop_one item) (begun-drop_one item) (slice_get s.admissions n) in
+    omega arith
+step-begun s who (CancelDone place) reply n is =
+    let out : handed n reply ≡ 0 = ap (handed n) (sym (same_Some (Truth true) reply (chosen (may_close s closings.Cancel who place) (Some (Truth true)) reply is))) in
+    omega arith
+step-begun s who (FlushStart item) reply n is =
+    let out : handed n reply ≡ 0 = ap (handed n) (sym (same_Some (flush_start_reply (flushed s.admissions item)) reply is)) ∙ handed-flush n (flushed s.admissions item) in
+    omega arith
+step-begun s who (FlushDone place) reply n is =
+    let out : handed n reply ≡ 0 = ap (handed n) (sym (same_Some (Truth true) reply (chosen (may_close s closings.Flush who place) (Some (Truth true)) reply is))) in
+    omega arith
 step-begun s who (Start queue) reply n is =
     let out : handed n reply ≡ 0 = ap (handed n) (sym (same_Some (start_reply s.queues queue) reply is)) ∙ handed-start n (is_started s.queues queue) in
     omega arith
@@ -165,7 +189,7 @@ step-begun s who (DrainStart queue plug) reply n is =
     let out : handed n reply ≡ 0 = ap (handed n) (sym (same_Some (drain_reply (is_empty_and_idle s.admissions queue)) reply is)) ∙ handed-drain n (is_empty_and_idle s.admissions queue) in
     omega arith
 step-begun s who (DrainDone place) reply n is =
-    let out : handed n reply ≡ 0 = ap (handed n) (sym (same_Some (Number 1) reply (chosen (may_drain_done s.queues s.waits who place) (Some (Number 1)) reply is))) in
+    let out : handed n reply ≡ 0 = ap (handed n) (sym (same_Some (Number 1) reply (chosen (may_close s closings.Drain who place) (Some (Number 1)) reply is))) in
     omega arith
 step-begun s who (Unplug queue) reply n is =
     let out : handed n reply ≡ 0 = ap (handed n) (sym (same_Some (unplug_reply s.queues queue) reply is)) ∙ handed-unplug n (is_plugged s.queues queue) in

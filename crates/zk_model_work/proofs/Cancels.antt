@@ -16,7 +16,7 @@ use Rattle.zk_model_work.specs.declared.parts.Life.{Life}
 use Rattle.zk_model_work.specs.declared.parts.Life.TheVariants.{Waiting, Running, Dropped}
 use Rattle.zk_model_work.specs.declared.parts.Admission.{Admission}
 use Rattle.zk_model_work.specs.declared.ops.WorkOp.{WorkOp}
-use Rattle.zk_model_work.specs.declared.ops.WorkOp.TheVariants.{Submit, Cancel, Start, DrainStart, DrainDone, Unplug, Begin, End}
+use Rattle.zk_model_work.specs.declared.ops.WorkOp.TheVariants.{Submit, Cancel, CancelStart, CancelDone, FlushStart, FlushDone, Start, DrainStart, DrainDone, Unplug, Begin, End}
 use Rattle.zk_model_work.specs.declared.ops.WorkReply.{WorkReply}
 use Rattle.zk_model_work.specs.declared.ops.WorkReply.TheVariants as replies
 use Rattle.zk_model_work.specs.declared.ops.Submitted.{Submitted}
@@ -25,7 +25,7 @@ use Rattle.zk_model_work.specs.Lists.{first}
 use Rattle.zk_model_work.specs.Questions.{is_waiting, is_running, is_open, waits_as, runs_as, line, waiting, running, passes_at, is_cancelling}
 use Rattle.zk_model_work.specs.State.{State}
 use Rattle.zk_model_work.specs.Machine.{work_next, work_reply, work_machine, submission, submission_at, target, submit, drop_one, drop_waiting, set_life, with_life, begin, end_one, end_run}
-use Rattle.zk_model_work.specs.Laws.{made_after, submits, is_admitted, says_admitted, NoneAdmittedDuringCancel, BegunMadeAfterCancel, BegunMadeAfterRun}
+use Rattle.zk_model_work.specs.Laws.{made_after, submits, is_admitted, says_admitted, Cancels, NoneAdmittedDuringCancel, BegunMadeAfterCancel, BegunMadeAfterRun}
 use Rattle.zk_model_work.proofs.Lives.{Keeps, Kept, Kept-next, Kept-after}
 use Rattle.zk_model_work.proofs.Begins.{alive, state_after-append, Replays-rest}
 use Rattle.zk_model_work.proofs.Overlaps.{runs-open, pushed, second_of, and-true, running-not, not_both, still-map, still-cond, Handed-entry}
@@ -57,6 +57,10 @@ Marked-last number marks passes is =
 Marked-next : (s : State) (who : Who) (op : WorkOp) (number : ℕ) → Marked number s.marks → Marked number (work_next s who op).marks
 Marked-next s who (Submit item named) number marked = marked
 Marked-next s who (Cancel item) number marked = Marked-more number s.marks (option_to_list (running s.admissions item)) marked
+Marked-next s who (CancelStart item) number marked = Marked-more number s.marks (option_to_list (running s.admissions item)) marked
+Marked-next s who (CancelDone place) number marked = marked
+Marked-next s who (FlushStart item) number marked = marked
+Marked-next s who (FlushDone place) number marked = marked
 Marked-next s who (Start queue) number marked = marked
 Marked-next s who (DrainStart queue plug) number marked = marked
 Marked-next s who (DrainDone place) number marked = marked
@@ -147,6 +151,10 @@ new-next s who (Submit other named) item number it n b at past item_is =
     let refused : answer ≡ Refused Busy = ap (λ i. submission s.admissions s.marks s.queues (Some who.number) i named) same ∙ refused-Cancelled s who item number named it in
     false≢true (sym (ap is_admitted refused) ∙ new.1)
 new-next s who (Cancel other) item number it n b at past item_is = none-new s.admissions (drop_waiting s.admissions other) n b (length-mapped (drop_one other) s.admissions) at past
+new-next s who (CancelStart other) item number it n b at past item_is = none-new s.admissions (drop_waiting s.admissions other) n b (length-mapped (drop_one other) s.admissions) at past
+new-next s who (CancelDone place) item number it n b at past item_is = none-new s.admissions s.admissions n b refl at past
+new-next s who (FlushStart other) item number it n b at past item_is = none-new s.admissions s.admissions n b refl at past
+new-next s who (FlushDone place) item number it n b at past item_is = none-new s.admissions s.admissions n b refl at past
 new-next s who (Start queue) item number it n b at past item_is = none-new s.admissions s.admissions n b refl at past
 new-next s who (DrainStart queue plug) item number it n b at past item_is = none-new s.admissions s.admissions n b refl at past
 new-next s who (DrainDone place) item number it n b at past item_is = none-new s.admissions s.admissions n b refl at past
@@ -223,12 +231,23 @@ Cancelled-cancel s who item number found =
       runs = runs;
     }
 
-NoneWaits-entry : (s : State) (who : Who) (op : WorkOp) (item : ℕ) → op ≡ Cancel item → NoneWaits item (work_next s who op).admissions
-NoneWaits-entry s who op item is = subst (λ (o : WorkOp). NoneWaits item (work_next s who o).admissions) (sym is) (NoneWaits-cancel s who item)
+-- a sync cancel does the same
+Cancelled-start : (s : State) (who : Who) (item number : ℕ) → running s.admissions item ≡ Some number → Cancelled (work_next s who (CancelStart item)) item number
+Cancelled-start s who item number found =
+    let it = Cancelled-cancel s who item number found in
+    record { marked = it.marked; run = it.run; there = it.there; item_is = it.item_is; runs = it.runs }
 
-During-entry : (s : State) (who : Who) (op : WorkOp) (item number : ℕ) → op ≡ Cancel item → running s.admissions item ≡ Some number → During (work_next s who op) item number
+pub NoneWaits-entry : (s : State) (who : Who) (op : WorkOp) (item : ℕ) → Cancels item op → NoneWaits item (work_next s who op).admissions
+NoneWaits-entry s who op item (inl is) = subst (λ (o : WorkOp). NoneWaits item (work_next s who o).admissions) (sym is) (NoneWaits-cancel s who item)
+NoneWaits-entry s who op item (inr is) = subst (λ (o : WorkOp). NoneWaits item (work_next s who o).admissions) (sym is) (NoneWaits-cancel s who item)
+
+Cancelled-entry : (s : State) (who : Who) (op : WorkOp) (item number : ℕ) → Cancels item op → running s.admissions item ≡ Some number → Cancelled (work_next s who op) item number
+Cancelled-entry s who op item number (inl is) found = subst (λ (o : WorkOp). Cancelled (work_next s who o) item number) (sym is) (Cancelled-cancel s who item number found)
+Cancelled-entry s who op item number (inr is) found = subst (λ (o : WorkOp). Cancelled (work_next s who o) item number) (sym is) (Cancelled-start s who item number found)
+
+During-entry : (s : State) (who : Who) (op : WorkOp) (item number : ℕ) → Cancels item op → running s.admissions item ≡ Some number → During (work_next s who op) item number
 During-entry s who op item number is found = record {
-  cancelled = subst (λ (o : WorkOp). Cancelled (work_next s who o) item number) (sym is) (Cancelled-cancel s who item number found);
+  cancelled = Cancelled-entry s who op item number is found;
   none = NoneWaits-entry s who op item is;
 }
 
@@ -243,6 +262,10 @@ not_admitted s who (Submit other named) reply item number it is = by (eqb_tells 
       not_both (eqb other item) (says_admitted reply) (ap says_admitted said)
   by (inr other_one) = ap (λ b. b && says_admitted reply) other_one.0
 not_admitted s who (Cancel other) reply item number it is = refl
+not_admitted s who (CancelStart other) reply item number it is = refl
+not_admitted s who (CancelDone place) reply item number it is = refl
+not_admitted s who (FlushStart other) reply item number it is = refl
+not_admitted s who (FlushDone place) reply item number it is = refl
 not_admitted s who (Start queue) reply item number it is = refl
 not_admitted s who (DrainStart queue plug) reply item number it is = refl
 not_admitted s who (DrainDone place) reply item number it is = refl

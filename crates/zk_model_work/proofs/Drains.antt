@@ -2,7 +2,7 @@
 use Rattle.std.proofs.Common.{◌≡◌, ℕ, zero, suc, ◌+◌, ◌<◌, ◌≢◌, ◌⊎◌, inl, inr, Bool, true, false, not, ◌&&◌, ◌||◌, cond, eqb, ◌==◌, Option, Some, None, is_some, option_map, List, [], ◌∷◌, ◌++◌, length, map, get_or, slice_get, All, refl, sym, ap, subst, ◌∙◌, add-zero, arith}
 use Rattle.std.specs.Cmp.{first_so, second_so}
 use Rattle.std.specs.List.{list_all, list_any}
-use Rattle.std.specs.Option.{option_map_or}
+use Rattle.std.specs.Option.{option_map_or, IfSome}
 use Rattle.std.proofs.lemmas.Bool.{eqb-true, false≢true, ltb-true}
 use Rattle.std.proofs.lemmas.List.Elements.{All-nil, All-cons, All-head, All-tail, All-append, All-map, All-weaker}
 use Rattle.std.proofs.lemmas.List.Folds.{list_all-append}
@@ -19,19 +19,21 @@ use Rattle.zk_model_work.specs.declared.parts.Awaited.{Awaited}
 use Rattle.zk_model_work.specs.declared.parts.Awaited.TheVariants as awaiteds
 use Rattle.zk_model_work.specs.declared.parts.Wait.{Wait}
 use Rattle.zk_model_work.specs.declared.parts.Queue.{Queue}
+use Rattle.zk_model_work.specs.declared.parts.Closing.{Closing}
+use Rattle.zk_model_work.specs.declared.parts.Closing.TheVariants as closings
 use Rattle.zk_model_work.specs.declared.parts.Change.{Change}
 use Rattle.zk_model_work.specs.declared.parts.Change.TheVariants as changes
 use Rattle.zk_model_work.specs.declared.ops.WorkOp.{WorkOp}
-use Rattle.zk_model_work.specs.declared.ops.WorkOp.TheVariants.{Submit, Cancel, Start, DrainStart, DrainDone, Unplug, Begin, End}
+use Rattle.zk_model_work.specs.declared.ops.WorkOp.TheVariants.{Submit, Cancel, CancelStart, CancelDone, FlushStart, FlushDone, Start, DrainStart, DrainDone, Unplug, Begin, End}
 use Rattle.zk_model_work.specs.declared.ops.Submitted.{Submitted}
 use Rattle.zk_model_work.specs.declared.ops.Submitted.TheVariants.{Already, Refused}
 use Rattle.zk_model_work.specs.declared.ops.WorkReply.{WorkReply}
 use Rattle.zk_model_work.specs.declared.ops.WorkReply.TheVariants as replies
 use Rattle.zk_model_work.specs.Lists.{first}
-use Rattle.zk_model_work.specs.Questions.{is_waiting, is_open, waits_as, runs_on, is_open_at, is_empty_and_idle, is_cancelling, waiting, line}
+use Rattle.zk_model_work.specs.Questions.{is_waiting, is_open, waits_as, runs_on, is_open_at, is_ended, passes_at, is_empty_and_idle, is_cancelling, waiting, line, running}
 use Rattle.zk_model_work.specs.State.{State, fresh_queue, fresh_queues}
-use Rattle.zk_model_work.specs.Machine.{is_chained, target, admission, refusal, submission_to, submission_at, submission, admitted_to, submit, with_life, set_life, begin, end_one, end_run, drop_one, drop_waiting, settle_one, settle_from, settle, changed_queue, change, change_where, drained_of, drain_wait, drain, wait_unless, has_drained, is_unanswered, may_drain_done, answer_one, answer, is_started, is_plugged, start_reply, unplug_reply, drain_reply, may_begin, may_end, taken_up, work_reply, work_next, work_machine}
-use Rattle.zk_model_work.specs.Laws.{IsFreshHistory, admits_to, DrainAdmitsItsOwn, PluggedAdmitsNone, DrainsUntilItRests, PluggedRests, DrainEndsAtRest, DrainDoneAfterItsEnd}
+use Rattle.zk_model_work.specs.Machine.{is_chained, target, admission, refusal, submission_to, submission_at, submission, admitted_to, submit, with_life, set_life, begin, end_one, end_run, drop_one, drop_waiting, settle_one, settle_from, settle, changed_queue, change, change_where, drained_of, drain_wait, drain, is_unanswered, answer_one, is_started, is_plugged, start_reply, unplug_reply, drain_reply, may_begin, may_end, taken_up, work_reply, work_next, work_machine, wait_for, awaiting, cancel_wait, flushed, flush_wait, has_come, closes, may_close, answer_where, answered_waits, cancel_start_reply, flush_start_reply, flags_of}
+use Rattle.zk_model_work.specs.Laws.{IsFreshHistory, admits_to, DrainAdmitsItsOwn, PluggedAdmitsNone, DrainsUntilItRests, PluggedRests, DrainEndsAtRest, DrainDoneAfterItsEnd, CancelDoneAfterRun, FlushDoneAfterItsEnd}
 use Rattle.zk_model_work.proofs.Lives.{IsFirst-line}
 use Rattle.zk_model_work.proofs.Begins.{state_after-append, Replays-rest}
 use Rattle.zk_model_work.proofs.Overlaps.{submission_to-admitted}
@@ -88,9 +90,19 @@ entry-took s who (Submit item named) reply queue is admits =
     let answer = submission s.admissions s.marks s.queues (Some who.number) item named in
     took s.admissions s.marks s.queues (Some who.number) item named queue (ap admits_to (same_Some (replies.Sub answer) reply is) ∙ admits)
 entry-took s who (Cancel item) reply queue is admits = absurd (told true _ reply queue refl is admits)
+entry-took s who (CancelStart item) reply queue is admits =
+    absurd (told true (cancel_start_reply (flags_of s item) (is_some (running s.admissions item))) reply queue
+    (none_if (eqb (flags_of s item) 0) (replies.Truth false) (cond (is_some (running s.admissions item)) replies.Wait (replies.Truth true)) refl
+    (none_if (is_some (running s.admissions item)) replies.Wait (replies.Truth true) refl refl)) is admits)
+entry-took s who (CancelDone place) reply queue is admits = absurd (told (may_close s closings.Cancel who place) (replies.Truth true) reply queue refl is admits)
+entry-took s who (FlushStart item) reply queue is admits = absurd (told true (flush_start_reply (flushed s.admissions item)) reply queue (none_flush (flushed s.admissions item)) is admits) where
+  none_flush : (o : Option ℕ) → admits_to (option_map_or replies.WaitFor o (replies.Truth false)) ≡ None
+  none_flush None = refl
+  none_flush (Some n) = refl
+entry-took s who (FlushDone place) reply queue is admits = absurd (told (may_close s closings.Flush who place) (replies.Truth true) reply queue refl is admits)
 entry-took s who (Start q) reply queue is admits = absurd (told true (start_reply s.queues q) reply queue (none_if (is_started s.queues q) replies.Already replies.Done refl refl) is admits)
 entry-took s who (DrainStart q plug) reply queue is admits = absurd (told true (drain_reply (is_empty_and_idle s.admissions q)) reply queue (none_if (is_empty_and_idle s.admissions q) (replies.Number 0) replies.Wait refl refl) is admits)
-entry-took s who (DrainDone place) reply queue is admits = absurd (told (may_drain_done s.queues s.waits who place) (replies.Number 1) reply queue refl is admits)
+entry-took s who (DrainDone place) reply queue is admits = absurd (told (may_close s closings.Drain who place) (replies.Number 1) reply queue refl is admits)
 entry-took s who (Unplug q) reply queue is admits = absurd (told true (unplug_reply s.queues q) reply queue (none_if (is_plugged s.queues q) replies.Done replies.Already refl refl) is admits)
 entry-took s who (Begin q) reply queue is admits = absurd (by (may_begin s.admissions s.queues who q) is) where
   by : (b : Bool) → cond b (taken_up s.admissions q) None ≡ Some reply → ⊥
@@ -326,6 +338,10 @@ AllKeep-next s who (Submit item named) keep =
     keeps-submit s who item (submission s.admissions s.marks s.queues (Some who.number) item named)
     (λ queue is. took s.admissions s.marks s.queues (Some who.number) item named queue is) keep
 AllKeep-next s who (Cancel item) keep = keeps-settle s (drop_waiting s.admissions item) (λ queue rests. rests-drop s.admissions item queue rests) keep
+AllKeep-next s who (CancelStart item) keep = keeps-settle s (drop_waiting s.admissions item) (λ queue rests. rests-drop s.admissions item queue rests) keep
+AllKeep-next s who (CancelDone place) keep = λ queue q at. keep queue q at
+AllKeep-next s who (FlushStart item) keep = λ queue q at. keep queue q at
+AllKeep-next s who (FlushDone place) keep = λ queue q at. keep queue q at
 AllKeep-next s who (Start k) keep = keeps-change changes.Start s.admissions s.queues k (λ q keeps. calm changes.Start s.admissions k q refl (λ p. p) keeps) keep
 AllKeep-next s who (DrainStart k plug) keep = keeps-drain (is_empty_and_idle s.admissions k) plug s.admissions s.queues k refl keep
 AllKeep-next s who (DrainDone place) keep = λ queue q at. keep queue q at
@@ -397,6 +413,10 @@ drained-drain idle plug qs k queue = drained-where (not idle) changes.Drain (cha
 counted-next : (s : State) (who : Who) (op : WorkOp) (queue : ℕ) → drained_of s.queues queue < drained_of (work_next s who op).queues queue → is_empty_and_idle (work_next s who op).admissions queue ≡ true
 counted-next s who (Submit item named) queue more = absurd (omega arith)
 counted-next s who (Cancel item) queue more = counted-settle s.queues (drop_waiting s.admissions item) queue more
+counted-next s who (CancelStart item) queue more = counted-settle s.queues (drop_waiting s.admissions item) queue more
+counted-next s who (CancelDone place) queue more = absurd (omega arith)
+counted-next s who (FlushStart item) queue more = absurd (omega arith)
+counted-next s who (FlushDone place) queue more = absurd (omega arith)
 counted-next s who (Start k) queue more = let same = drained-change changes.Start s.queues k queue in absurd (omega arith)
 counted-next s who (DrainStart k plug) queue more = let same = drained-drain (is_empty_and_idle s.admissions k) plug s.queues k queue in absurd (omega arith)
 counted-next s who (DrainDone place) queue more = absurd (omega arith)
@@ -416,6 +436,10 @@ drain_ends_at_rest start front e queue more =
 entries-next : (s : State) (who : Who) (op : WorkOp) → (work_next s who op).entries ≡ s.entries + 1
 entries-next s who (Submit item named) = refl
 entries-next s who (Cancel item) = refl
+entries-next s who (CancelStart item) = refl
+entries-next s who (CancelDone place) = refl
+entries-next s who (FlushStart item) = refl
+entries-next s who (FlushDone place) = refl
 entries-next s who (Start k) = refl
 entries-next s who (DrainStart k plug) = refl
 entries-next s who (DrainDone place) = refl
@@ -430,28 +454,43 @@ entries-after s (e ∷ es) =
     let rest = entries-after (work_next s e.who e.op) es in
     omega arith
 
-place-answered : (place : ℕ) (w : Wait) → (answer_one place w).place ≡ w.place
-place-answered place w = by (w.place == place) where
-  by : (b : Bool) → (cond b (record w { answered = true }) w).place ≡ w.place
-  by true = refl
-  by false = refl
+place-answered : (so : Bool) (w : Wait) → (answer_where so w).place ≡ w.place
+place-answered true w = refl
+place-answered false w = refl
 
-awaited-answered : (place : ℕ) (w : Wait) → (answer_one place w).awaited ≡ w.awaited
-awaited-answered place w = by (w.place == place) where
-  by : (b : Bool) → (cond b (record w { answered = true }) w).awaited ≡ w.awaited
-  by true = refl
-  by false = refl
+awaited-answered : (so : Bool) (w : Wait) → (answer_where so w).awaited ≡ w.awaited
+awaited-answered true w = refl
+awaited-answered false w = refl
+
+more-waits : (P : Wait → Type 0) (ws : List Wait) (o : Option Wait) → IfSome o P → All P ws → All P (awaiting ws o)
+more-waits P ws None new all = All-append P ws [] all (All-nil P)
+more-waits P ws (Some w) new all = All-append P ws (w ∷ []) all (All-cons P w [] new (All-nil P))
+
+waits-answered : (P : Wait → Type 0) (s : State) (closing : Closing) (who : Who) (place : ℕ) → ((so : Bool) (w : Wait) → P w → P (answer_where so w)) → All P s.waits → All P (answered_waits s closing who place)
+waits-answered P s closing who place answered all =
+    All-map P (answer_one s.admissions s.queues closing who place) s.waits
+    (All-weaker P (λ (w : Wait). P (answer_one s.admissions s.queues closing who place w)) (λ w. answered (closes s.admissions s.queues closing who place w) w) s.waits all)
 
 -- what holds of each wait, of a new one and of an answered one, holds after an entry
-waits-next : (P : Wait → Type 0) (s : State) (who : Who) (op : WorkOp) → ((place : ℕ) (w : Wait) → P w → P (answer_one place w)) → ((queue : ℕ) → P (drain_wait s who queue)) → All P s.waits → All P (work_next s who op).waits
+waits-next : (P : Wait → Type 0) (s : State) (who : Who) (op : WorkOp) → ((so : Bool) (w : Wait) → P w → P (answer_where so w)) → ((awaited : Awaited) → P (wait_for s.entries who awaited)) → All P s.waits → All P (work_next s who op).waits
 waits-next P s who (Submit item named) answered new all = all
 waits-next P s who (Cancel item) answered new all = all
+waits-next P s who (CancelStart item) answered new all = more-waits P s.waits (cancel_wait s who item) (by (running s.admissions item)) all where
+  by : (o : Option ℕ) → IfSome (option_map (λ number. wait_for s.entries who (awaiteds.Cancel number)) o) P
+  by None = tt
+  by (Some number) = new (awaiteds.Cancel number)
+waits-next P s who (CancelDone place) answered new all = waits-answered P s closings.Cancel who place answered all
+waits-next P s who (FlushStart item) answered new all = more-waits P s.waits (flush_wait s who item) (by (flushed s.admissions item)) all where
+  by : (o : Option ℕ) → IfSome (option_map (λ number. wait_for s.entries who (awaiteds.Flush number)) o) P
+  by None = tt
+  by (Some number) = new (awaiteds.Flush number)
+waits-next P s who (FlushDone place) answered new all = waits-answered P s closings.Flush who place answered all
 waits-next P s who (Start k) answered new all = all
-waits-next P s who (DrainStart k plug) answered new all = by (is_empty_and_idle s.admissions k) where
-  by : (idle : Bool) → All P (wait_unless idle s.waits (drain_wait s who k))
-  by true = all
-  by false = All-append P s.waits (drain_wait s who k ∷ []) all (All-cons P (drain_wait s who k) [] (new k) (All-nil P))
-waits-next P s who (DrainDone place) answered new all = All-map P (answer_one place) s.waits (All-weaker P (λ (w : Wait). P (answer_one place w)) (answered place) s.waits all)
+waits-next P s who (DrainStart k plug) answered new all = more-waits P s.waits (drain_wait (is_empty_and_idle s.admissions k) s who k) (by (is_empty_and_idle s.admissions k)) all where
+  by : (idle : Bool) → IfSome (drain_wait idle s who k) P
+  by true = tt
+  by false = new (awaiteds.Drain k (drained_of s.queues k))
+waits-next P s who (DrainDone place) answered new all = waits-answered P s closings.Drain who place answered all
 waits-next P s who (Unplug k) answered new all = all
 waits-next P s who (Begin k) answered new all = all
 waits-next P s who (End k) answered new all = all
@@ -461,8 +500,8 @@ earlier-next : (s : State) (who : Who) (op : WorkOp) → All (λ (w : Wait). w.p
 earlier-next s who op all =
     let next = entries-next s who op in
     waits-next (λ (w : Wait). w.place < (work_next s who op).entries) s who op
-    (λ place w less. let same = place-answered place w in omega arith)
-    (λ queue. omega arith)
+    (λ so w less. let same = place-answered so w in omega arith)
+    (λ awaited. omega arith)
     (All-weaker (λ (w : Wait). w.place < s.entries) (λ (w : Wait). w.place < (work_next s who op).entries) (λ w less. omega arith) s.waits all)
 
 earlier-after : (s : State) (h : List (Entry WorkOp WorkReply)) → All (λ (w : Wait). w.place < s.entries) s.waits → All (λ (w : Wait). w.place < (state_after work_machine s h).entries) (state_after work_machine s h).waits
@@ -473,8 +512,8 @@ earlier-after s (e ∷ es) all = earlier-after (work_next s e.who e.op) es (earl
 named-next : (s : State) (who : Who) (op : WorkOp) (p : ℕ) (a : Awaited) → p < s.entries → All (λ (w : Wait). w.place ≡ p → w.awaited ≡ a) s.waits → All (λ (w : Wait). w.place ≡ p → w.awaited ≡ a) (work_next s who op).waits
 named-next s who op p a below all =
     waits-next (λ (w : Wait). w.place ≡ p → w.awaited ≡ a) s who op
-    (λ place w named at. awaited-answered place w ∙ named (sym (place-answered place w) ∙ at))
-    (λ queue at. absurd (omega arith))
+    (λ so w named at. awaited-answered so w ∙ named (sym (place-answered so w) ∙ at))
+    (λ awaited at. absurd (omega arith))
     all
 
 named-after : (s : State) (h : List (Entry WorkOp WorkReply)) (p : ℕ) (a : Awaited) → p < s.entries → All (λ (w : Wait). w.place ≡ p → w.awaited ≡ a) s.waits →
@@ -484,18 +523,23 @@ named-after s (e ∷ es) p a below all =
     let next = entries-next s e.who e.op in
     named-after (work_next s e.who e.op) es p a (omega arith) (named-next s e.who e.op p a below all)
 
--- the start of a drain names what it waits for
+-- an entry that begins a wait names what it is for
+named-more : (s : State) (who : Who) (a : Awaited) (o : Option Wait) → IfSome o (λ w. w.awaited ≡ a) → All (λ (w : Wait). w.place < s.entries) s.waits →
+    All (λ (w : Wait). w.place ≡ s.entries → w.awaited ≡ a) (awaiting s.waits o)
+named-more s who a o new earlier =
+    more-waits (λ (w : Wait). w.place ≡ s.entries → w.awaited ≡ a) s.waits o (named o new)
+    (All-weaker (λ (w : Wait). w.place < s.entries) (λ (w : Wait). w.place ≡ s.entries → w.awaited ≡ a) (λ w less at. absurd (omega arith)) s.waits earlier) where
+      named : (o : Option Wait) → IfSome o (λ w. w.awaited ≡ a) → IfSome o (λ w. w.place ≡ s.entries → w.awaited ≡ a)
+      named None new = tt
+      named (Some w) new = λ at. new
+
 named-start : (s : State) (who : Who) (queue : ℕ) (plug : Bool) → All (λ (w : Wait). w.place < s.entries) s.waits →
     All (λ (w : Wait). w.place ≡ s.entries → w.awaited ≡ awaiteds.Drain queue (drained_of s.queues queue)) (work_next s who (DrainStart queue plug)).waits
-named-start s who queue plug earlier = by (is_empty_and_idle s.admissions queue) where
-  old : All (λ (w : Wait). w.place ≡ s.entries → w.awaited ≡ awaiteds.Drain queue (drained_of s.queues queue)) s.waits
-  old = All-weaker (λ (w : Wait). w.place < s.entries) (λ (w : Wait). w.place ≡ s.entries → w.awaited ≡ awaiteds.Drain queue (drained_of s.queues queue)) (λ w less at. absurd (omega arith)) s.waits earlier
-
-  by : (idle : Bool) → All (λ (w : Wait). w.place ≡ s.entries → w.awaited ≡ awaiteds.Drain queue (drained_of s.queues queue)) (wait_unless idle s.waits (drain_wait s who queue))
-  by true = old
-  by false =
-      let Q : Wait → Type 0 = λ w. w.place ≡ s.entries → w.awaited ≡ awaiteds.Drain queue (drained_of s.queues queue) in
-      All-append Q s.waits (drain_wait s who queue ∷ []) old (All-cons Q (drain_wait s who queue) [] (λ at. refl) (All-nil Q))
+named-start s who queue plug earlier =
+    named-more s who (awaiteds.Drain queue (drained_of s.queues queue)) (drain_wait (is_empty_and_idle s.admissions queue) s who queue) (by (is_empty_and_idle s.admissions queue)) earlier where
+      by : (idle : Bool) → IfSome (drain_wait idle s who queue) (λ w. w.awaited ≡ awaiteds.Drain queue (drained_of s.queues queue))
+      by true = tt
+      by false = refl
 
 -- a wait that passes a test, of which something holds
 found-wait : (P : Wait → Type 0) (test : Wait → Bool) (ws : List Wait) → list_any test ws ≡ true → All P ws → (w : Wait) × (P w) × (test w ≡ true)
@@ -505,42 +549,117 @@ found-wait P test (w ∷ ws) found all = by (test w) refl found (λ rest. found-
   by true is found further = (w, All-head P w ws all, is)
   by false is found further = further found
 
-may-done : (t : State) (who : Who) (place : ℕ) (reply : WorkReply) → work_reply t who (DrainDone place) ≡ Some reply → may_drain_done t.queues t.waits who place ≡ true
-may-done t who place reply is = by (may_drain_done t.queues t.waits who place) is where
-  by : (b : Bool) → cond b (Some (replies.Number 1)) None ≡ Some reply → b ≡ true
-  by true is = refl
-  by false is = absurd (cc)
+may-done : (possible : Bool) (said reply : WorkReply) → cond possible (Some said) None ≡ Some reply → possible ≡ true
+may-done true said reply is = refl
+may-done false said reply is = absurd (cc)
 
--- what the end of a drain says of the drainings of its queue
-drained-more : (t : State) (who : Who) (p queue count : ℕ) (reply : WorkReply) → work_reply t who (DrainDone p) ≡ Some reply → All (λ (w : Wait). w.place ≡ p → w.awaited ≡ awaiteds.Drain queue count) t.waits → count < drained_of t.queues queue
-drained-more t who p queue count reply is named =
-    let test : Wait → Bool = λ w. is_unanswered p who.number w && has_drained t.queues w.awaited in
-    let it = found-wait (λ (w : Wait). w.place ≡ p → w.awaited ≡ awaiteds.Drain queue count) test t.waits (may-done t who p reply is) named in
-    let unanswered = first_so (is_unanswered p who.number it.0) (has_drained t.queues it.0.awaited) it.2 in
+-- what a player waited for since a place has come where it ends that wait
+come-by : (t : State) (closing : Closing) (who : Who) (p : ℕ) (a : Awaited) → may_close t closing who p ≡ true → All (λ (w : Wait). w.place ≡ p → w.awaited ≡ a) t.waits → has_come t.admissions t.queues closing a ≡ true
+come-by t closing who p a may named =
+    let it = found-wait (λ (w : Wait). w.place ≡ p → w.awaited ≡ a) (closes t.admissions t.queues closing who p) t.waits may named in
+    let unanswered = first_so (is_unanswered p who.number it.0) (has_come t.admissions t.queues closing it.0.awaited) it.2 in
     let both = first_so ((it.0.place == p) && (it.0.player == who.number)) (not it.0.answered) unanswered in
     let at = eqb-true it.0.place p (first_so (it.0.place == p) (it.0.player == who.number) both) in
-    let come = second_so (is_unanswered p who.number it.0) (has_drained t.queues it.0.awaited) it.2 in
-    ltb-true count (drained_of t.queues queue) (ap (has_drained t.queues) (sym (it.1 at)) ∙ come)
+    ap (has_come t.admissions t.queues closing) (sym (it.1 at)) ∙ second_so (is_unanswered p who.number it.0) (has_come t.admissions t.queues closing it.0.awaited) it.2
+
+-- what is known of two entries, of which the later one ends the wait that the earlier one began
+record Closed (start : State) (front between : List (Entry WorkOp WorkReply)) (first done : Entry WorkOp WorkReply) (a : Awaited) : Type 0 where
+  pub place : (state_after work_machine start front).entries ≡ length front
+  pub earlier : All (λ (w : Wait). w.place < (state_after work_machine start front).entries) (state_after work_machine start front).waits
+  pub replays : work_reply (state_after work_machine (work_next (state_after work_machine start front) first.who first.op) between) done.who done.op ≡ Some done.reply
+
+closed-entries : (start : State) (front between rest : List (Entry WorkOp WorkReply)) (first done : Entry WorkOp WorkReply) (a : Awaited) → IsFreshHistory start (front ++ first ∷ (between ++ done ∷ rest)) → Closed start front between first done a
+closed-entries start front between rest first_one done a fresh =
+    let c = work_next (state_after work_machine start front) first_one.who first_one.op in
+    let zero_first = fresh.first in
+    let long = entries-after start front in
+    record {
+      place = omega arith;
+      earlier = earlier-after start front (subst (All (λ (w : Wait). w.place < start.entries)) (sym fresh.waits) (All-nil (λ (w : Wait). w.place < start.entries)));
+      replays = (Replays-rest c between (done ∷ rest) (Replays-rest start front (first_one ∷ (between ++ done ∷ rest)) fresh.work.legal.0).1).0;
+    }
+
+-- what the earlier one awaits has come before the later one
+come-before : (start : State) (front between : List (Entry WorkOp WorkReply)) (first done : Entry WorkOp WorkReply) (a : Awaited) (closing : Closing) (said : WorkReply) → Closed start front between first done a →
+    All (λ (w : Wait). w.place ≡ (state_after work_machine start front).entries → w.awaited ≡ a) (work_next (state_after work_machine start front) first.who first.op).waits →
+    ((t : State) (who : Who) (place : ℕ) → place ≡ length front → work_reply t who done.op ≡ cond (may_close t closing who place) (Some said) None) →
+    has_come (state_after work_machine (work_next (state_after work_machine start front) first.who first.op) between).admissions
+    (state_after work_machine (work_next (state_after work_machine start front) first.who first.op) between).queues closing a ≡ true
+come-before start front between first_one done a closing said it named reply =
+    let s = state_after work_machine start front in
+    let c = work_next s first_one.who first_one.op in
+    let t = state_after work_machine c between in
+    let next = entries-next s first_one.who first_one.op in
+    let later = named-after c between s.entries a (omega arith) named in
+    come-by t closing done.who s.entries a (may-done (may_close t closing done.who s.entries) said done.reply (sym (reply t done.who s.entries it.place) ∙ it.replays)) later
 
 pub drain_done_after_its_end : DrainDoneAfterItsEnd
 drain_done_after_its_end start front between rest first_one done queue plug fresh starts dones =
     let s = state_after work_machine start front in
-    let c = work_next s first_one.who first_one.op in
-    let t = state_after work_machine c between in
-    let zero_first = fresh.first in
-    let long = entries-after start front in
-    let place : s.entries ≡ length front = omega arith in
-    let replays = (Replays-rest c between (done ∷ rest) (Replays-rest start front (first_one ∷ (between ++ done ∷ rest)) fresh.work.legal.0).1).0 in
-    let none : All (λ (w : Wait). w.place < start.entries) start.waits = subst (All (λ (w : Wait). w.place < start.entries)) (sym fresh.waits) (All-nil (λ (w : Wait). w.place < start.entries)) in
-    let earlier = earlier-after start front none in
-    let A : Awaited = awaiteds.Drain queue (drained_of s.queues queue) in
-    let named : All (λ (w : Wait). w.place ≡ s.entries → w.awaited ≡ A) c.waits =
-    subst (λ (o : WorkOp). All (λ (w : Wait). w.place ≡ s.entries → w.awaited ≡ A) (work_next s first_one.who o).waits) (sym starts) (named-start s first_one.who queue plug earlier) in
-    let next = entries-next s first_one.who first_one.op in
-    let later = named-after c between s.entries A (omega arith) named in
-    let reply : work_reply t done.who (DrainDone s.entries) ≡ Some done.reply = ap (λ n. work_reply t done.who (DrainDone n)) place ∙ ap (work_reply t done.who) (sym dones) ∙ replays in
-    let more = drained-more t done.who s.entries queue (drained_of s.queues queue) done.reply reply later in
-    subst (λ (u : State). drained_of s.queues queue < drained_of u.queues queue) (sym (state_after-append start front (first_one ∷ between))) more
+    let a : Awaited = awaiteds.Drain queue (drained_of s.queues queue) in
+    let it = closed-entries start front between rest first_one done a fresh in
+    let named = subst (λ (o : WorkOp). All (λ (w : Wait). w.place ≡ s.entries → w.awaited ≡ a) (work_next s first_one.who o).waits) (sym starts) (named-start s first_one.who queue plug it.earlier) in
+    let t = state_after work_machine (work_next s first_one.who first_one.op) between in
+    let come = come-before start front between first_one done a closings.Drain (replies.Number 1) it named
+    (λ u who place same. ap (work_reply u who) (dones ∙ ap DrainDone (sym same))) in
+    subst (λ (u : State). drained_of s.queues queue < drained_of u.queues queue) (sym (state_after-append start front (first_one ∷ between)))
+    (ltb-true (drained_of s.queues queue) (drained_of t.queues queue) come)
+
+-- an admission of which a test of its life holds
+life-where : (p : Life → Bool) (xs : List Admission) (n : ℕ) → passes_at (λ (a : Admission). p a.life) xs n ≡ true → (life : Life) × (option_map (λ (a : Admission). a.life) (slice_get xs n) ≡ Some life) × (p life ≡ true)
+life-where p xs n is = by (slice_get xs n) is where
+  by : (o : Option Admission) → option_map_or (λ (a : Admission). p a.life) o false ≡ true → (life : Life) × (option_map (λ (a : Admission). a.life) o ≡ Some life) × (p life ≡ true)
+  by None is = absurd (cc)
+  by (Some a) is = (a.life, refl, is)
+
+only-ended : (life : Life) → is_ended life ≡ true → life ≡ Ended
+only-ended Waiting is = absurd (cc)
+only-ended Running is = absurd (cc)
+only-ended Ended is = refl
+only-ended Dropped is = absurd (cc)
+
+not-open : (life : Life) → not (is_open life) ≡ true → is_open life ≡ false
+not-open Waiting is = absurd (cc)
+not-open Running is = absurd (cc)
+not-open Ended is = refl
+not-open Dropped is = refl
+
+pub cancel_done_after_run : CancelDoneAfterRun
+cancel_done_after_run start front between rest first_one done item run fresh starts found dones =
+    let s = state_after work_machine start front in
+    let a : Awaited = awaiteds.Cancel run in
+    let it = closed-entries start front between rest first_one done a fresh in
+    let new : IfSome (cancel_wait s first_one.who item) (λ w. w.awaited ≡ a) =
+    subst (λ (o : Option ℕ). IfSome (option_map (λ number. wait_for s.entries first_one.who (awaiteds.Cancel number)) o) (λ w. w.awaited ≡ a)) (sym found) refl in
+    let named = subst (λ (o : WorkOp). All (λ (w : Wait). w.place ≡ s.entries → w.awaited ≡ a) (work_next s first_one.who o).waits) (sym starts) (named-more s first_one.who a (cancel_wait s first_one.who item) new it.earlier) in
+    let t = state_after work_machine (work_next s first_one.who first_one.op) between in
+    let come = come-before start front between first_one done a closings.Cancel (replies.Truth true) it named
+    (λ u who place same. ap (work_reply u who) (dones ∙ ap CancelDone (sym same))) in
+    let life = life-where is_ended t.admissions run come in
+    ap (λ (u : State). option_map (λ (a : Admission). a.life) (slice_get u.admissions run)) (state_after-append start front (first_one ∷ between)) ∙ life.1 ∙ ap Some (only-ended life.0 life.2)
+
+pub flush_done_after_its_end : FlushDoneAfterItsEnd
+flush_done_after_its_end start front between rest first_one done item number fresh starts said dones =
+    let s = state_after work_machine start front in
+    let a : Awaited = awaiteds.Flush number in
+    let it = closed-entries start front between rest first_one done a fresh in
+    let replied : work_reply s first_one.who (FlushStart item) ≡ Some first_one.reply =
+    ap (work_reply s first_one.who) (sym starts) ∙ (Replays-rest start front (first_one ∷ (between ++ done ∷ rest)) fresh.work.legal.0).0 in
+    let found : flushed s.admissions item ≡ Some number = names (flushed s.admissions item) (same_Some (flush_start_reply (flushed s.admissions item)) first_one.reply replied ∙ said) in
+    let new : IfSome (flush_wait s first_one.who item) (λ w. w.awaited ≡ a) =
+    subst (λ (o : Option ℕ). IfSome (option_map (λ number. wait_for s.entries first_one.who (awaiteds.Flush number)) o) (λ w. w.awaited ≡ a)) (sym found) refl in
+    let named = subst (λ (o : WorkOp). All (λ (w : Wait). w.place ≡ s.entries → w.awaited ≡ a) (work_next s first_one.who o).waits) (sym starts) (named-more s first_one.who a (flush_wait s first_one.who item) new it.earlier) in
+    let t = state_after work_machine (work_next s first_one.who first_one.op) between in
+    let come = come-before start front between first_one done a closings.Flush (replies.Truth true) it named
+    (λ u who place same. ap (work_reply u who) (dones ∙ ap FlushDone (sym same))) in
+    let life = life-where (λ (l : Life). not (is_open l)) t.admissions number come in
+    ap (λ (u : State). option_map is_open (option_map (λ (a : Admission). a.life) (slice_get u.admissions number))) (state_after-append start front (first_one ∷ between))
+    ∙ ap (option_map is_open) life.1 ∙ ap Some (not-open life.0 life.2) where
+      names : (o : Option ℕ) → option_map_or replies.WaitFor o (replies.Truth false) ≡ replies.WaitFor number → o ≡ Some number
+      names None is = absurd (cc)
+      names (Some n) is = ap Some (same n is) where
+        same : (n : ℕ) → replies.WaitFor n ≡ replies.WaitFor number → n ≡ number
+        same n is = cc
 
 -- no queue drains or is plugged at first
 pub undrained-fresh : (workers : List ℕ) (started : List Bool) → All (λ (q : Queue). (q.draining ≡ false) × (q.plugged ≡ false)) (fresh_queues workers started)

@@ -14,7 +14,7 @@ use Rattle.zk_model_work.specs.declared.parts.Life.{Life}
 use Rattle.zk_model_work.specs.declared.parts.Life.TheVariants.{Waiting, Running, Ended, Dropped}
 use Rattle.zk_model_work.specs.declared.parts.Admission.{Admission}
 use Rattle.zk_model_work.specs.declared.ops.WorkOp.{WorkOp}
-use Rattle.zk_model_work.specs.declared.ops.WorkOp.TheVariants.{Submit, Cancel, Start, DrainStart, DrainDone, Unplug, Begin, End}
+use Rattle.zk_model_work.specs.declared.ops.WorkOp.TheVariants.{Submit, Cancel, CancelStart, CancelDone, FlushStart, FlushDone, Start, DrainStart, DrainDone, Unplug, Begin, End}
 use Rattle.zk_model_work.specs.declared.ops.WorkReply.{WorkReply}
 use Rattle.zk_model_work.specs.declared.ops.Submitted.{Submitted}
 use Rattle.zk_model_work.specs.declared.ops.Submitted.TheVariants.{Already, Fresh, Rerun, Refused}
@@ -145,6 +145,10 @@ Kept-begin xs queue = by (first (line xs queue)) refl where
 pub Kept-next : (s : State) (who : Who) (op : WorkOp) → Kept s.admissions (work_next s who op).admissions
 Kept-next s who (Submit item named) = Kept-submit s.admissions item (submission s.admissions s.marks s.queues (Some who.number) item named)
 Kept-next s who (Cancel item) = Kept-map (drop_one item) (Keeps-drop_one item) s.admissions
+Kept-next s who (CancelStart item) = Kept-map (drop_one item) (Keeps-drop_one item) s.admissions
+Kept-next s who (CancelDone place) = Kept-refl s.admissions
+Kept-next s who (FlushStart item) = Kept-refl s.admissions
+Kept-next s who (FlushDone place) = Kept-refl s.admissions
 Kept-next s who (Start queue) = Kept-refl s.admissions
 Kept-next s who (DrainStart queue plug) = Kept-refl s.admissions
 Kept-next s who (DrainDone place) = Kept-refl s.admissions

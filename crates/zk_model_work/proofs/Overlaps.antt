@@ -15,8 +15,9 @@ use Rattle.zk_model_work.specs.declared.parts.Life.{Life}
 use Rattle.zk_model_work.specs.declared.parts.Life.TheVariants.{Waiting, Running, Ended, Dropped}
 use Rattle.zk_model_work.specs.declared.parts.Admission.{Admission}
 use Rattle.zk_model_work.specs.declared.parts.Queue.{Queue}
+use Rattle.zk_model_work.specs.declared.parts.Closing.TheVariants as closings
 use Rattle.zk_model_work.specs.declared.ops.WorkOp.{WorkOp}
-use Rattle.zk_model_work.specs.declared.ops.WorkOp.TheVariants.{Submit, Cancel, Start, DrainStart, DrainDone, Unplug, Begin, End}
+use Rattle.zk_model_work.specs.declared.ops.WorkOp.TheVariants.{Submit, Cancel, CancelStart, CancelDone, FlushStart, FlushDone, Start, DrainStart, DrainDone, Unplug, Begin, End}
 use Rattle.zk_model_work.specs.declared.ops.WorkReply.{WorkReply}
 use Rattle.zk_model_work.specs.declared.ops.WorkReply.TheVariants as replies
 use Rattle.zk_model_work.specs.declared.ops.Submitted.{Submitted}
@@ -24,7 +25,7 @@ use Rattle.zk_model_work.specs.declared.ops.Submitted.TheVariants.{Already, Fres
 use Rattle.zk_model_work.specs.Lists.{first}
 use Rattle.zk_model_work.specs.Questions.{is_waiting, is_running, is_open, waits_as, runs_as, runs_on, waiting, running, running_queue, last_queue, line, run, is_empty_and_idle, is_cancelling}
 use Rattle.zk_model_work.specs.State.{State}
-use Rattle.zk_model_work.specs.Machine.{work_next, work_reply, work_machine, target, admission, refusal, submission_to, submission_at, submission, admitted_to, submit, set_life, with_life, begin, end_one, drop_one, may_begin, may_end, may_drain_done, is_worker, is_started, is_plugged, taken_up}
+use Rattle.zk_model_work.specs.Machine.{work_next, work_reply, work_machine, target, admission, refusal, submission_to, submission_at, submission, admitted_to, submit, set_life, with_life, begin, end_one, drop_one, may_begin, may_end, may_close, flushed, flags_of, cancel_start_reply, is_worker, is_started, is_plugged, taken_up}
 use Rattle.zk_model_work.specs.Laws.{IsWorkHistory, ends, NotBegunDuringRun, RunsToItsEnd, EndsBetweenBegins}
 use Rattle.zk_model_work.proofs.Lives.{IsFirst, IsFirst-line, set_life-at, set_life-aside}
 use Rattle.zk_model_work.proofs.Begins.{Begun, Begun-reply, Begun-entry, state_after-append, Replays-rest}
@@ -309,6 +310,10 @@ Ordered-next s who (Submit item named) reply is ordered =
     Ordered-submit s.admissions s.marks item named (submission s.admissions s.marks s.queues (Some who.number) item named)
     (λ queue to. submission-admits s.admissions s.marks s.queues (Some who.number) item named queue to) ordered
 Ordered-next s who (Cancel item) reply is ordered = Ordered-map (drop_one item) (kept-drop_one item) s.admissions ordered
+Ordered-next s who (CancelStart item) reply is ordered = Ordered-map (drop_one item) (kept-drop_one item) s.admissions ordered
+Ordered-next s who (CancelDone place) reply is ordered = ordered
+Ordered-next s who (FlushStart item) reply is ordered = ordered
+Ordered-next s who (FlushDone place) reply is ordered = ordered
 Ordered-next s who (Start queue) reply is ordered = ordered
 Ordered-next s who (DrainStart queue plug) reply is ordered = ordered
 Ordered-next s who (DrainDone place) reply is ordered = ordered
@@ -331,11 +336,30 @@ is_begin s who (Start queue) item number is = absurd (not_started (is_started s.
   not_started : (b : Bool) → Some (cond b replies.Already replies.Done) ≡ Some (replies.Run item number) → ⊥
   not_started true is = cc
   not_started false is = cc
+is_begin s who (CancelStart item') item number is = absurd (not_cancelled (flags_of s item') (is_some (running s.admissions item')) is) where
+  not_cancelled : (flags : ℕ) (runs : Bool) → Some (cancel_start_reply flags runs) ≡ Some (replies.Run item number) → ⊥
+  not_cancelled flags runs is = by (eqb flags 0) runs is where
+    by : (none runs : Bool) → Some (cond none (replies.Truth false) (cond runs replies.Wait (replies.Truth true))) ≡ Some (replies.Run item number) → ⊥
+    by true runs is = cc
+    by false true is = cc
+    by false false is = cc
+is_begin s who (CancelDone place) item number is = absurd (not_done (may_close s closings.Cancel who place) is) where
+  not_done : (b : Bool) → cond b (Some (replies.Truth true)) None ≡ Some (replies.Run item number) → ⊥
+  not_done true is = cc
+  not_done false is = cc
+is_begin s who (FlushStart item') item number is = absurd (not_flushed (flushed s.admissions item') is) where
+  not_flushed : (o : Option ℕ) → Some (option_map_or replies.WaitFor o (replies.Truth false)) ≡ Some (replies.Run item number) → ⊥
+  not_flushed None is = cc
+  not_flushed (Some n) is = cc
+is_begin s who (FlushDone place) item number is = absurd (not_done (may_close s closings.Flush who place) is) where
+  not_done : (b : Bool) → cond b (Some (replies.Truth true)) None ≡ Some (replies.Run item number) → ⊥
+  not_done true is = cc
+  not_done false is = cc
 is_begin s who (DrainStart queue plug) item number is = absurd (not_waiting (is_empty_and_idle s.admissions queue) is) where
   not_waiting : (b : Bool) → Some (cond b (replies.Number 0) replies.Wait) ≡ Some (replies.Run item number) → ⊥
   not_waiting true is = cc
   not_waiting false is = cc
-is_begin s who (DrainDone place) item number is = absurd (not_drained (may_drain_done s.queues s.waits who place) is) where
+is_begin s who (DrainDone place) item number is = absurd (not_drained (may_close s closings.Drain who place) is) where
   not_drained : (b : Bool) → cond b (Some (replies.Number 1)) None ≡ Some (replies.Run item number) → ⊥
   not_drained true is = cc
   not_drained false is = cc
@@ -449,6 +473,11 @@ still-next : (s : State) (who : Who) (op : WorkOp) (n : ℕ) (a : Admission) →
 still-next s who (Submit item named) n a runs goes_on at = still-submit s.admissions item (submission s.admissions s.marks s.queues (Some who.number) item named) n a at
 still-next s who (Cancel item) n a runs goes_on at =
     still-map (drop_one item) s.admissions n a (still-cond (waits_as item a) a Dropped (not_both (eqb a.item item) (is_waiting a.life) (running-not a.life runs))) at
+still-next s who (CancelStart item) n a runs goes_on at =
+    still-map (drop_one item) s.admissions n a (still-cond (waits_as item a) a Dropped (not_both (eqb a.item item) (is_waiting a.life) (running-not a.life runs))) at
+still-next s who (CancelDone place) n a runs goes_on at = at
+still-next s who (FlushStart item) n a runs goes_on at = at
+still-next s who (FlushDone place) n a runs goes_on at = at
 still-next s who (Start queue) n a runs goes_on at = at
 still-next s who (DrainStart queue plug) n a runs goes_on at = at
 still-next s who (DrainDone place) n a runs goes_on at = at

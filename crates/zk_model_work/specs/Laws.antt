@@ -3,9 +3,9 @@ use Rattle.std.specs.List.{list_any}
 use Rattle.zk_base.specs.declared.ids.Entry.{Entry}
 use Rattle.zk_base.specs.Legal.{state_after, IsLegal}
 use Rattle.zk_model_work.specs.declared.ops.WorkOp.{WorkOp}
-use Rattle.zk_model_work.specs.declared.ops.WorkOp.TheVariants.{Submit, Cancel, DrainStart, DrainDone, Begin, End}
+use Rattle.zk_model_work.specs.declared.ops.WorkOp.TheVariants.{Submit, Cancel, CancelStart, CancelDone, FlushStart, FlushDone, DrainStart, DrainDone, Begin, End}
 use Rattle.zk_model_work.specs.declared.ops.WorkReply.{WorkReply}
-use Rattle.zk_model_work.specs.declared.ops.WorkReply.TheVariants.{Sub, Run}
+use Rattle.zk_model_work.specs.declared.ops.WorkReply.TheVariants.{Sub, WaitFor, Run}
 use Rattle.zk_model_work.specs.declared.ops.Submitted.{Submitted}
 use Rattle.zk_model_work.specs.declared.ops.Submitted.TheVariants.{Fresh, Rerun}
 use Rattle.zk_model_work.specs.declared.parts.Life.{Life}
@@ -108,6 +108,10 @@ abbrev pub says_admitted : WorkReply → Bool
 says_admitted (Sub submitted) = is_admitted submitted
 says_admitted _ = false
 
+-- it is a cancel of the item, one that waits or one that doesn't
+abbrev pub Cancels : ℕ → WorkOp → Type 0
+Cancels item op = (op ≡ Cancel item) ⊎ (op ≡ CancelStart item)
+
 -- the entry makes an admission of the item
 abbrev pub admits : ℕ → Entry WorkOp WorkReply → Bool
 admits item e = submits item e.op && says_admitted e.reply
@@ -116,19 +120,19 @@ admits item e = submits item e.op && says_admitted e.reply
 abbrev pub NoneAdmittedDuringCancel : Type 0
 NoneAdmittedDuringCancel = (start : State) (front during rest : List (Entry WorkOp WorkReply)) (e next : Entry WorkOp WorkReply) (item run : ℕ) →
     IsWorkHistory start (front ++ e ∷ (during ++ next ∷ rest)) →
-    e.op ≡ Cancel item → running_after start front item ≡ Some run → life_after start (front ++ e ∷ during) run ≡ Some Running → admits item next ≡ false
+    Cancels item e.op → running_after start front item ≡ Some run → life_after start (front ++ e ∷ during) run ≡ Some Running → admits item next ≡ false
 
 -- each begin of an item after a cancel of it is of an admission made after the cancel
 abbrev pub BegunMadeAfterCancel : Type 0
 BegunMadeAfterCancel = (start : State) (front between rest : List (Entry WorkOp WorkReply)) (e later : Entry WorkOp WorkReply) (item number : ℕ) →
     IsWorkHistory start (front ++ e ∷ (between ++ later ∷ rest)) →
-    e.op ≡ Cancel item → later.reply ≡ Run item number → made_after start (front ++ e ∷ []) ≤ number
+    Cancels item e.op → later.reply ≡ Run item number → made_after start (front ++ e ∷ []) ≤ number
 
 -- and, where the cancel found a run, of an admission made after the end of that run
 abbrev pub BegunMadeAfterRun : Type 0
 BegunMadeAfterRun = (start : State) (front during between rest : List (Entry WorkOp WorkReply)) (e later : Entry WorkOp WorkReply) (item run number : ℕ) →
     IsWorkHistory start (front ++ e ∷ (during ++ (between ++ later ∷ rest))) →
-    e.op ≡ Cancel item → running_after start front item ≡ Some run → life_after start (front ++ e ∷ during) run ≡ Some Running → later.reply ≡ Run item number →
+    Cancels item e.op → running_after start front item ≡ Some run → life_after start (front ++ e ∷ during) run ≡ Some Running → later.reply ≡ Run item number →
     made_after start (front ++ e ∷ during) ≤ number
 
 -- a work history from a state in which nobody waits, no queue drains, and none is plugged
@@ -185,3 +189,15 @@ abbrev pub DrainDoneAfterItsEnd : Type 0
 DrainDoneAfterItsEnd = (start : State) (front between rest : List (Entry WorkOp WorkReply)) (first done : Entry WorkOp WorkReply) (queue : ℕ) (plug : Bool) →
     IsFreshHistory start (front ++ first ∷ (between ++ done ∷ rest)) → first.op ≡ DrainStart queue plug → done.op ≡ DrainDone (length front) →
     drained_after start front queue < drained_after start (front ++ first ∷ between) queue
+
+-- a sync cancel that found a run is told to be done only after that run has ended
+abbrev pub CancelDoneAfterRun : Type 0
+CancelDoneAfterRun = (start : State) (front between rest : List (Entry WorkOp WorkReply)) (first done : Entry WorkOp WorkReply) (item run : ℕ) →
+    IsFreshHistory start (front ++ first ∷ (between ++ done ∷ rest)) → first.op ≡ CancelStart item → running_after start front item ≡ Some run → done.op ≡ CancelDone (length front) →
+    life_after start (front ++ first ∷ between) run ≡ Some Ended
+
+-- a flush that waits for an admission is told to be done only after that admission has ended or was dropped
+abbrev pub FlushDoneAfterItsEnd : Type 0
+FlushDoneAfterItsEnd = (start : State) (front between rest : List (Entry WorkOp WorkReply)) (first done : Entry WorkOp WorkReply) (item number : ℕ) →
+    IsFreshHistory start (front ++ first ∷ (between ++ done ∷ rest)) → first.op ≡ FlushStart item → first.reply ≡ WaitFor number → done.op ≡ FlushDone (length front) →
+    option_map is_open (life_after start (front ++ first ∷ between) number) ≡ Some false

@@ -6,11 +6,11 @@ use Rattle.zk_base.specs.declared.errors.Errno.{Errno}
 use Rattle.zk_base.specs.declared.errors.Errno.TheVariants.{Busy, Inval, NoDev}
 use Rattle.zk_base.specs.Legal.{Machine}
 use Rattle.zk_model_work.specs.declared.ops.WorkOp.{WorkOp}
-use Rattle.zk_model_work.specs.declared.ops.WorkOp.TheVariants.{Submit, Cancel, Start, DrainStart, DrainDone, Unplug, Begin, End}
+use Rattle.zk_model_work.specs.declared.ops.WorkOp.TheVariants.{Submit, Cancel, CancelStart, CancelDone, FlushStart, FlushDone, Start, DrainStart, DrainDone, Unplug, Begin, End}
 use Rattle.zk_model_work.specs.declared.ops.Submitted.{Submitted}
 use Rattle.zk_model_work.specs.declared.ops.Submitted.TheVariants.{Already, Fresh, Rerun, Refused}
 use Rattle.zk_model_work.specs.declared.ops.WorkReply.{WorkReply}
-use Rattle.zk_model_work.specs.declared.ops.WorkReply.TheVariants.{Sub, Flags, Number, Done, Run}
+use Rattle.zk_model_work.specs.declared.ops.WorkReply.TheVariants.{Sub, Flags, Truth, WaitFor, Number, Done, Run}
 use Rattle.zk_model_work.specs.declared.ops.WorkReply.TheVariants as replies
 use Rattle.zk_model_work.specs.declared.parts.Life.{Life}
 use Rattle.zk_model_work.specs.declared.parts.Life.TheVariants.{Waiting, Running, Ended, Dropped}
@@ -18,14 +18,16 @@ use Rattle.zk_model_work.specs.declared.parts.Admission.{Admission}
 use Rattle.zk_model_work.specs.declared.parts.Fate.TheVariants.{Disarmed}
 use Rattle.zk_model_work.specs.declared.parts.Arm.{Arm}
 use Rattle.zk_model_work.specs.declared.parts.Awaited.{Awaited}
-use Rattle.zk_model_work.specs.declared.parts.Awaited.TheVariants.{Drain}
+use Rattle.zk_model_work.specs.declared.parts.Awaited.TheVariants as awaiteds
 use Rattle.zk_model_work.specs.declared.parts.Wait.{Wait}
 use Rattle.zk_model_work.specs.declared.parts.Queue.{Queue}
+use Rattle.zk_model_work.specs.declared.parts.Closing.{Closing}
+use Rattle.zk_model_work.specs.declared.parts.Closing.TheVariants as closings
 use Rattle.zk_model_work.specs.declared.parts.Change.{Change}
 use Rattle.zk_model_work.specs.declared.parts.Change.TheVariants as changes
 use Rattle.zk_model_work.specs.Lists.{first}
 use Rattle.zk_model_work.specs.State.{State}
-use Rattle.zk_model_work.specs.Questions.{waits_as, runs_on, arms_item, waiting, running, running_queue, last_queue, line, run, is_empty_and_idle, is_cancelling, flags}
+use Rattle.zk_model_work.specs.Questions.{is_open, is_ended, passes_at, waits_as, runs_on, arms_item, waiting, running, running_queue, last_queue, line, run, is_empty_and_idle, is_cancelling, flags}
 
 -- the caller, where there is one, is the queue's worker
 abbrev pub is_chained : Queue → Option ℕ → Bool
@@ -160,44 +162,82 @@ change_where asked c queues number = if asked then change c queues number else q
 abbrev pub drained_of : List Queue → ℕ → ℕ
 drained_of queues number = option_map_or (λ queue. queue.drained) (slice_get queues number) 0
 
--- the wait of a player for one more draining of the queue to end
-abbrev pub drain_wait : State → Who → ℕ → Wait
-drain_wait s who queue = record { place = s.entries; player = who.number; awaited = Drain queue (drained_of s.queues queue); answered = false }
+-- the wait of a player that begins with the entry of this place
+abbrev pub wait_for : ℕ → Who → Awaited → Wait
+wait_for place who awaited = record { place = place; player = who.number; awaited = awaited; answered = false }
+
+-- the waits with one more, where there is something to wait for
+abbrev pub awaiting : List Wait → Option Wait → List Wait
+awaiting waits w = waits ++ option_to_list w
+
+-- the wait for the end of the run that a cancel finds
+abbrev pub cancel_wait : State → Who → ℕ → Option Wait
+cancel_wait s who item = option_map (λ number. wait_for s.entries who (awaiteds.Cancel number)) (running s.admissions item)
+
+-- the state after the start of a sync cancel: that of a cancel, in which the player waits where the item runs
+abbrev pub cancel_start : State → Who → ℕ → State
+cancel_start s who item = record (cancel s item) { waits = awaiting s.waits (cancel_wait s who item) }
+
+-- the admission that a flush waits for: the item's waiting one, else its running one
+abbrev pub flushed : List Admission → ℕ → Option ℕ
+flushed admissions item = option_or (waiting admissions item) (running admissions item)
+
+-- the wait for the end of that admission
+abbrev pub flush_wait : State → Who → ℕ → Option Wait
+flush_wait s who item = option_map (λ number. wait_for s.entries who (awaiteds.Flush number)) (flushed s.admissions item)
+
+-- the state after the start of a flush, in which the player waits where an admission of the item waits or runs
+abbrev pub flush_start : State → Who → ℕ → State
+flush_start s who item = record s { waits = awaiting s.waits (flush_wait s who item) }
+
+-- the wait for one more draining of the queue to end, unless it is idle
+abbrev pub drain_wait : Bool → State → Who → ℕ → Option Wait
+drain_wait idle s who queue = if idle then None else Some (wait_for s.entries who (awaiteds.Drain queue (drained_of s.queues queue)))
 
 -- the queue after the start of a drain: plugged where that was asked, and draining unless it is idle
 abbrev pub drain : Bool → Bool → List Queue → ℕ → List Queue
 drain idle plug queues number = change_where (not idle) changes.Drain (change_where plug changes.Plug queues number) number
 
--- the waits with one more, unless there is nothing to wait for
-abbrev pub wait_unless : Bool → List Wait → Wait → List Wait
-wait_unless idle waits w = if idle then waits else waits ++ w ∷ []
-
 -- the state after the start of a drain, in which the player waits unless the queue is empty and idle
 abbrev pub drain_start : State → Who → ℕ → Bool → State
 drain_start s who queue plug =
     let idle = is_empty_and_idle s.admissions queue in
-    record s { queues = drain idle plug s.queues queue; waits = wait_unless idle s.waits (drain_wait s who queue) }
+    record s { queues = drain idle plug s.queues queue; waits = awaiting s.waits (drain_wait idle s who queue) }
 
--- what a drain awaits has come: more drainings of its queue have ended than it names
-abbrev pub has_drained : List Queue → Awaited → Bool
-has_drained queues (Drain queue count) = nat_lt count (drained_of queues queue)
-has_drained queues awaited = false
+-- what is awaited has come: the run that a sync cancel found has ended; the admission of a flush neither waits nor runs; more drainings of the queue have ended than a drain names
+abbrev pub has_come : List Admission → List Queue → Closing → Awaited → Bool
+has_come admissions queues closings.Cancel (awaiteds.Cancel number) = passes_at (λ a. is_ended a.life) admissions number
+has_come admissions queues closings.Flush (awaiteds.Flush number) = passes_at (λ a. not (is_open a.life)) admissions number
+has_come admissions queues closings.Drain (awaiteds.Drain queue count) = nat_lt count (drained_of queues queue)
+has_come admissions queues closing awaited = false
 
 -- it is the player's wait of this place, and isn't answered yet
 abbrev pub is_unanswered : ℕ → ℕ → Wait → Bool
 is_unanswered place player w = (w.place == place) && (w.player == player) && not w.answered
 
--- the player waits since this place for a drain that is over
-abbrev pub may_drain_done : List Queue → List Wait → Who → ℕ → Bool
-may_drain_done queues waits who place = list_any (λ w. is_unanswered place who.number w && has_drained queues w.awaited) waits
+-- it is the player's unanswered wait of this place, and what it awaits has come
+abbrev pub closes : List Admission → List Queue → Closing → Who → ℕ → Wait → Bool
+closes admissions queues closing who place w = is_unanswered place who.number w && has_come admissions queues closing w.awaited
 
--- a wait, answered where it is of this place
-abbrev pub answer_one : ℕ → Wait → Wait
-answer_one place w = if w.place == place then record w { answered = true } else w
+-- there is such a wait
+abbrev pub may_close : State → Closing → Who → ℕ → Bool
+may_close s closing who place = list_any (closes s.admissions s.queues closing who place) s.waits
 
--- the wait of this place is answered
-abbrev pub answer : List Wait → ℕ → List Wait
-answer waits place = map (answer_one place) waits
+-- a wait, answered where this is so
+abbrev pub answer_where : Bool → Wait → Wait
+answer_where so w = if so then record w { answered = true } else w
+
+-- a wait, answered where it is the one that this ends
+abbrev pub answer_one : List Admission → List Queue → Closing → Who → ℕ → Wait → Wait
+answer_one admissions queues closing who place w = answer_where (closes admissions queues closing who place w) w
+
+-- the waits after an operation that ends one
+abbrev pub answered_waits : State → Closing → Who → ℕ → List Wait
+answered_waits s closing who place = map (answer_one s.admissions s.queues closing who place) s.waits
+
+-- the state after an entry that ends a wait
+abbrev pub closed : State → Closing → Who → ℕ → State
+closed s closing who place = record s { waits = answered_waits s closing who place; entries = s.entries + 1 }
 
 -- the flags of an item in a state
 abbrev pub flags_of : State → ℕ → ℕ
@@ -236,6 +276,16 @@ start_reply queues number = if is_started queues number then replies.Already els
 abbrev pub unplug_reply : List Queue → ℕ → WorkReply
 unplug_reply queues number = if is_plugged queues number then Done else replies.Already
 
+-- what a sync cancel is answered, by the flags before it: false where there were none, else whether a run has to be awaited
+abbrev pub cancel_start_reply : ℕ → Bool → WorkReply
+cancel_start_reply flags runs =
+    if flags == 0 then Truth false else
+    if runs then replies.Wait else Truth true
+
+-- what a flush is answered: the admission that it waits for, if there is one
+abbrev pub flush_start_reply : Option ℕ → WorkReply
+flush_start_reply number = option_map_or WaitFor number (Truth false)
+
 -- whether a drain has to wait: it hasn't where the queue is idle
 abbrev pub drain_reply : Bool → WorkReply
 drain_reply idle = if idle then Number 0 else replies.Wait
@@ -244,9 +294,13 @@ drain_reply idle = if idle then Number 0 else replies.Wait
 abbrev pub work_reply : State → Who → WorkOp → Option WorkReply
 work_reply s who (Submit item named) = Some (Sub (submission s.admissions s.marks s.queues (Some who.number) item named))
 work_reply s who (Cancel item) = Some (Flags (flags_of (cancel s item) item))
+work_reply s who (CancelStart item) = Some (cancel_start_reply (flags_of s item) (is_some (running s.admissions item)))
+work_reply s who (CancelDone place) = if may_close s closings.Cancel who place then Some (Truth true) else None
+work_reply s who (FlushStart item) = Some (flush_start_reply (flushed s.admissions item))
+work_reply s who (FlushDone place) = if may_close s closings.Flush who place then Some (Truth true) else None
 work_reply s who (Start queue) = Some (start_reply s.queues queue)
 work_reply s who (DrainStart queue plug) = Some (drain_reply (is_empty_and_idle s.admissions queue))
-work_reply s who (DrainDone place) = if may_drain_done s.queues s.waits who place then Some (Number 1) else None
+work_reply s who (DrainDone place) = if may_close s closings.Drain who place then Some (Number 1) else None
 work_reply s who (Unplug queue) = Some (unplug_reply s.queues queue)
 work_reply s who (Begin queue) = if may_begin s.admissions s.queues who queue then taken_up s.admissions queue else None
 work_reply s who (End queue) = if may_end s.admissions s.queues who queue then Some Done else None
@@ -255,9 +309,13 @@ work_reply s who (End queue) = if may_end s.admissions s.queues who queue then S
 abbrev pub changed : State → Who → WorkOp → State
 changed s who (Submit item named) = record s { admissions = submit s.admissions item (submission s.admissions s.marks s.queues (Some who.number) item named) }
 changed s who (Cancel item) = cancel s item
+changed s who (CancelStart item) = cancel_start s who item
+changed s who (CancelDone place) = record s { waits = answered_waits s closings.Cancel who place }
+changed s who (FlushStart item) = flush_start s who item
+changed s who (FlushDone place) = record s { waits = answered_waits s closings.Flush who place }
 changed s who (Start queue) = record s { queues = change changes.Start s.queues queue }
 changed s who (DrainStart queue plug) = drain_start s who queue plug
-changed s who (DrainDone place) = record s { waits = answer s.waits place }
+changed s who (DrainDone place) = record s { waits = answered_waits s closings.Drain who place }
 changed s who (Unplug queue) = record s { queues = change changes.Unplug s.queues queue }
 changed s who (Begin queue) = record s { admissions = begin s.admissions queue }
 changed s who (End queue) = end s queue
@@ -274,6 +332,10 @@ after_reply s who op reply = if is_some reply then work_next s who op else s
 abbrev pub is_among : ℕ → ℕ → WorkOp → Bool
 is_among items queues (Submit item named) = nat_lt item items && option_map_or (λ queue. nat_lt queue queues) named true
 is_among items queues (Cancel item) = nat_lt item items
+is_among items queues (CancelStart item) = nat_lt item items
+is_among items queues (CancelDone place) = true
+is_among items queues (FlushStart item) = nat_lt item items
+is_among items queues (FlushDone place) = true
 is_among items queues (Start queue) = nat_lt queue queues
 is_among items queues (DrainStart queue plug) = nat_lt queue queues
 is_among items queues (DrainDone place) = true

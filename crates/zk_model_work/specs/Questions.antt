@@ -2,7 +2,7 @@ use Rattle.std.specs.Prelude.{ℕ, ◌+◌, Bool, true, false, not, ◌==◌, �
 use Rattle.std.specs.List.{list_any, list_all}
 use Rattle.std.specs.Option.{option_map_or}
 use Rattle.zk_model_work.specs.declared.parts.Life.{Life}
-use Rattle.zk_model_work.specs.declared.parts.Life.TheVariants.{Waiting, Running}
+use Rattle.zk_model_work.specs.declared.parts.Life.TheVariants.{Waiting, Running, Ended}
 use Rattle.zk_model_work.specs.declared.parts.Admission.{Admission}
 use Rattle.zk_model_work.specs.declared.parts.Fate.{Fate}
 use Rattle.zk_model_work.specs.declared.parts.Fate.TheVariants.{Live}
@@ -27,6 +27,11 @@ abbrev pub is_open : Life → Bool
 is_open Waiting = true
 is_open Running = true
 is_open _ = false
+
+-- its run is over
+abbrev pub is_ended : Life → Bool
+is_ended Ended = true
+is_ended _ = false
 
 -- it is still to expire
 abbrev pub is_live : Fate → Bool

@@ -1,8 +1,8 @@
 ghost use Rattle.std.specs.Prelude.{◌≡◌, Some, None};
-ghost use Rattle.zk_model_work.specs.Machine.{is_chained, target, admission, refusal, submission_to, submission_at, submission, taken_up, may_begin, may_end, start_reply, drain_reply, unplug_reply, may_drain_done};
+ghost use Rattle.zk_model_work.specs.Machine.{is_chained, target, admission, refusal, submission_to, submission_at, submission, taken_up, may_begin, may_end, start_reply, drain_reply, unplug_reply, cancel_start_reply, flush_start_reply, closes};
 
 use crate::{
-    Admission, Queue, Submitted, Wait, WorkReply, first_in_line, has_drained, is_cancelling,
+    Admission, Closing, Queue, Submitted, Wait, WorkReply, first_in_line, has_come, is_cancelling,
     is_plugged, is_started, is_unanswered, is_worker, last_queue, run, running, running_queue,
     waiting,
 };
@@ -171,9 +171,40 @@ pub fn unplug_reply(queues: &[Queue], queue: u32) -> WorkReply
     }
 }
 
-/// Whether the player waits since this place for a drain that is over.
-pub fn may_drain_done(queues: &[Queue], waits: &[Wait], who: Who, place: u64) -> bool
-    ensures { result ≡ may_drain_done queues.now waits.now who place }
+/// Whether this is the player's unanswered wait of this place, and what it awaits has come.
+pub fn closes(
+    admissions: &[Admission],
+    queues: &[Queue],
+    closing: Closing,
+    who: Who,
+    place: u64,
+    wait: Wait,
+) -> bool
+    ensures { result ≡ closes admissions.now queues.now closing who place wait }
 {
-    waits.iter().any(|w| is_unanswered(*w, place, who.number) && has_drained(queues, w.awaited))
+    is_unanswered(wait, place, who.number) && has_come(admissions, queues, closing, wait.awaited)
+}
+
+/// What a sync cancel is answered, by the item's busy flags before it and by whether the item runs.
+pub fn cancel_start_reply(flags: u8, runs: bool) -> WorkReply
+    ensures { result ≡ cancel_start_reply flags runs }
+{
+    if flags == 0 {
+        return WorkReply::Truth(false);
+    }
+    if runs {
+        WorkReply::Wait
+    } else {
+        WorkReply::Truth(true)
+    }
+}
+
+/// What a flush is answered: the number of the admission that it waits for, if there is one.
+pub fn flush_start_reply(number: Option<u64>) -> WorkReply
+    ensures { result ≡ flush_start_reply number }
+{
+    match number {
+        Some(number) => WorkReply::WaitFor(number),
+        None => WorkReply::Truth(false),
+    }
 }

@@ -1,8 +1,12 @@
-ghost use Rattle.std.specs.Prelude.{◌≡◌, ◌+◌, ◌-◌, ◌^◌, ◌<◌, ◌++◌, length, All, option_to_list};
+ghost use Rattle.std.specs.Prelude.{◌≡◌, ◌+◌, ◌-◌, ◌^◌, ◌<◌, ◌++◌, length, map, All, option_to_list};
 ghost use Rattle.zk_model_work.specs.Questions.{running, runs_on, waits_as, arms_item, is_empty_and_idle};
-ghost use Rattle.zk_model_work.specs.Machine.{set_life, begin, end_run, drop_waiting, disarm, changed_queue, change, drain, answer_one, answer, settle_one, settle, end_one, drop_one, disarm_one};
+ghost use Rattle.zk_model_work.specs.Machine.{set_life, begin, end_run, drop_waiting, disarm, changed_queue, change, drain, answer_where, answer_one, settle_one, settle, end_one, drop_one, disarm_one};
 
-use crate::{Admission, Arm, Change, Fate, Life, Queue, Wait, first_in_line, is_empty_and_idle};
+use crate::{
+    Admission, Arm, Change, Closing, Fate, Life, Queue, Wait, closes, first_in_line,
+    is_empty_and_idle,
+};
+use zk_base::Who;
 
 /// The admission, ended if the queue runs it.
 fn end_one(admission: Admission, queue: u32) -> Admission
@@ -155,11 +159,11 @@ pub fn settle(admissions: &[Admission], queues: &mut [Queue])
     }
 }
 
-/// The wait, answered where it is of this place.
-fn answer_one(wait: Wait, place: u64) -> Wait
-    ensures { result ≡ answer_one place wait }
+/// The wait, answered where this is so.
+fn answer_where(so: bool, wait: Wait) -> Wait
+    ensures { result ≡ answer_where so wait }
 {
-    if wait.place == place {
+    if so {
         Wait {
             answered: true,
             ..wait
@@ -169,11 +173,19 @@ fn answer_one(wait: Wait, place: u64) -> Wait
     }
 }
 
-/// The wait of this place is answered.
-pub fn answer(waits: &mut [Wait], place: u64)
-    ensures { waits.new ≡ answer waits.old place }
+/// The waits that a closing operation ends are answered.
+pub fn answer(
+    admissions: &[Admission],
+    queues: &[Queue],
+    waits: &mut [Wait],
+    closing: Closing,
+    who: Who,
+    place: u64,
+)
+    ensures { waits.new ≡ map (answer_one admissions.now queues.now closing who place) waits.old }
 {
     for index in 0..waits.len() {
-        waits[index] = answer_one(waits[index], place);
+        let so = closes(admissions, queues, closing, who, place, waits[index]);
+        waits[index] = answer_where(so, waits[index]);
     }
 }

@@ -1,4 +1,4 @@
-ghost use Rattle.zk_model_work.specs.Laws.{EachBegunOnce, DroppedNeverBegun, RunOrDropped, NoneWaitsBefore, BeginsRise, RunsToItsEnd, NotBegunDuringRun, EndsBetweenBegins, NoneAdmittedDuringCancel, BegunMadeAfterCancel, BegunMadeAfterRun, DrainAdmitsItsOwn, DrainsUntilItRests, DrainEndsAtRest, DrainDoneAfterItsEnd, PluggedAdmitsNone, PluggedRests};
+ghost use Rattle.zk_model_work.specs.Laws.{EachBegunOnce, DroppedNeverBegun, RunOrDropped, NoneWaitsBefore, BeginsRise, RunsToItsEnd, NotBegunDuringRun, EndsBetweenBegins, NoneAdmittedDuringCancel, BegunMadeAfterCancel, BegunMadeAfterRun, CancelDoneAfterRun, FlushDoneAfterItsEnd, DrainAdmitsItsOwn, DrainsUntilItRests, DrainEndsAtRest, DrainDoneAfterItsEnd, PluggedAdmitsNone, PluggedRests};
 
 /// Of every legal work history: each admission is run at most once, and one that was dropped never.
 pub fn runs_once()
@@ -23,11 +23,18 @@ pub fn never_overlaps()
 
 /// Of every legal work history: a cancel completes at the end of the run that it found, or at once
 /// where it found none. Until then no admission of its item is made, and what is begun of the item
-/// later was admitted after that.
+/// later was admitted after that. A sync cancel is told to be done only after the end of the run.
 pub fn cancel_holds()
     ensures admits { NoneAdmittedDuringCancel }
     ensures after { BegunMadeAfterCancel }
     ensures run { BegunMadeAfterRun }
+    ensures done { CancelDoneAfterRun }
+{}
+
+/// Of every legal work history: a flush is told to be done only after the admission that it waits for
+/// has ended or was dropped.
+pub fn flush_holds()
+    ensures done { FlushDoneAfterItsEnd }
 {}
 
 /// Of every legal work history: a draining goes on until nothing of its queue waits or runs, and ends

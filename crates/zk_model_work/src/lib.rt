@@ -11,20 +11,22 @@ mod questions;
 mod state;
 
 pub use answers::{
-    drain_reply, may_begin, may_drain_done, may_end, refusal, start_reply, submission, taken_up,
-    unplug_reply,
+    cancel_start_reply, closes, drain_reply, flush_start_reply, may_begin, may_end, refusal,
+    start_reply, submission, taken_up, unplug_reply,
 };
 pub use busy::{BusyFlags, flags, united};
 pub use changes::{answer, begin, change, disarm, drain, drop_waiting, end_run, set_life, settle};
-pub use laws::{begins_in_order, cancel_holds, drain_holds, never_overlaps, plug_holds, runs_once};
-pub use ops::{Submitted, WorkOp, WorkReply};
-pub use parts::{Admission, Arm, Awaited, Change, Fate, Life, Queue, Wait};
-pub use questions::{
-    armed, drained_of, first_in_line, has_drained, is_cancelling, is_empty_and_idle, is_flushing,
-    is_plugged, is_started, is_unanswered, is_worker, last_queue, run, running, running_queue,
-    waiting,
+pub use laws::{
+    begins_in_order, cancel_holds, drain_holds, flush_holds, never_overlaps, plug_holds, runs_once,
 };
-pub use state::{WorkState, fresh_queues, mark, submit, wait_unless, work_next};
+pub use ops::{Submitted, WorkOp, WorkReply};
+pub use parts::{Admission, Arm, Awaited, Change, Closing, Fate, Life, Queue, Wait};
+pub use questions::{
+    armed, drained_of, first_in_line, flushed, has_come, is_cancelling, is_empty_and_idle,
+    is_flushing, is_plugged, is_started, is_unanswered, is_worker, last_queue, run, running,
+    running_queue, waiting,
+};
+pub use state::{WorkState, fresh_queues, mark, put_wait, submit, wait_for, work_next};
 
 #[cfg(test)]
 mod tests;

@@ -8,6 +8,14 @@ pub enum WorkOp {
     Submit(u32, Option<u32>),
     /// Cancels an item without waiting. Zephyr's `k_work_cancel`.
     Cancel(u32),
+    /// Starts a cancel of an item that waits for the end of its run. Zephyr's `k_work_cancel_sync`.
+    CancelStart(u32),
+    /// The run that the caller's sync cancel found, started at this place of the history, has ended.
+    CancelDone(u64),
+    /// Starts a flush of an item. Zephyr's `k_work_flush`.
+    FlushStart(u32),
+    /// What the caller's flush waits for, started at this place of the history, has ended or was dropped.
+    FlushDone(u64),
     /// Starts a queue, so that it takes items. Zephyr's `k_work_queue_start`.
     Start(u32),
     /// Starts a drain of a queue, which is plugged too where this is true. Zephyr's `k_work_queue_drain`.
@@ -42,8 +50,12 @@ pub enum WorkReply {
     Sub(Submitted),
     /// The busy flags of an item, below 32: 1 running, 2 cancelling, 4 queued, 8 delayed, 16 flushing.
     Flags(u8),
+    /// Of a sync cancel and of a flush: whether there was something to cancel, to flush.
+    Truth(bool),
     /// It isn't over yet: the caller waits for its end.
     Wait,
+    /// The caller waits for the end of the admission of this number.
+    WaitFor(u64),
     /// A number. Of a drain 0 where nothing had to be awaited, and 1 once it is over.
     Number(u64),
     /// Done, with nothing to say of it.

@@ -1,5 +1,5 @@
 ghost use Rattle.std.specs.Prelude.{◌≡◌};
-ghost use Rattle.zk_model_work.specs.Questions.{is_waiting, is_running, is_open, is_live};
+ghost use Rattle.zk_model_work.specs.Questions.{is_waiting, is_running, is_open, is_ended, is_live};
 
 /// What has become of an admission so far.
 #[derive(Clone, Copy, Debug)]
@@ -27,6 +27,13 @@ impl Life {
         ensures { result ≡ is_running self }
     {
         matches!(self, Life::Running)
+    }
+
+    /// Whether its run is over.
+    pub fn is_ended(self) -> bool
+        ensures { result ≡ is_ended self }
+    {
+        matches!(self, Life::Ended)
     }
 
     /// Whether it is still to run, or runs.
@@ -124,5 +131,16 @@ pub enum Change {
     /// It isn't plugged any more.
     Unplug,
     /// It drains until nothing of it waits or runs.
+    Drain,
+}
+
+/// Which kind of wait an operation ends.
+#[derive(Clone, Copy, Debug)]
+pub enum Closing {
+    /// That of a sync cancel.
+    Cancel,
+    /// That of a flush.
+    Flush,
+    /// That of a drain.
     Drain,
 }

@@ -2,9 +2,9 @@ ghost use Rattle.std.specs.Prelude.{◌≡◌, ◌+◌, option_map, position};
 ghost use Rattle.std.specs.Option.{option_map_or};
 ghost use Rattle.zk_model_work.specs.Lists.{first};
 ghost use Rattle.zk_model_work.specs.Questions.{waiting, running, running_queue, last_queue, line, run, is_empty_and_idle, is_cancelling, armed, is_flushing, waits_as, runs_as, is_open_as, waits_for, flushes, passes_at};
-ghost use Rattle.zk_model_work.specs.Machine.{is_worker, is_started, is_plugged, drained_of, has_drained, is_unanswered};
+ghost use Rattle.zk_model_work.specs.Machine.{is_worker, flushed, is_started, is_plugged, drained_of, has_come, is_unanswered};
 
-use crate::{Admission, Arm, Awaited, Queue, Wait};
+use crate::{Admission, Arm, Awaited, Closing, Queue, Wait};
 
 /// The number of the item's waiting admission.
 pub fn waiting(admissions: &[Admission], item: u32) -> Option<usize>
@@ -79,6 +79,13 @@ pub fn is_empty_and_idle(admissions: &[Admission], queue: u32) -> bool
         .all(|a| !(a.queue == queue && a.life.is_open()))
 }
 
+/// The number of the admission that a flush of the item waits for.
+pub fn flushed(admissions: &[Admission], item: u32) -> Option<usize>
+    ensures { result ≡ flushed admissions.now item }
+{
+    waiting(admissions, item).or(running(admissions, item))
+}
+
 /// Whether this player is the queue's worker.
 pub fn is_worker(queues: &[Queue], number: u32, player: u32) -> bool
     ensures { result ≡ is_worker queues.now number player }
@@ -119,12 +126,25 @@ pub fn drained_of(queues: &[Queue], number: u32) -> u64
     }
 }
 
-/// Whether this is a drain that is over.
-pub fn has_drained(queues: &[Queue], awaited: Awaited) -> bool
-    ensures { result ≡ has_drained queues.now awaited }
+/// Whether what is awaited has come, where it is of this kind.
+pub fn has_come(
+    admissions: &[Admission],
+    queues: &[Queue],
+    closing: Closing,
+    awaited: Awaited,
+) -> bool
+    ensures { result ≡ has_come admissions.now queues.now closing awaited }
 {
-    match awaited {
-        Awaited::Drain(queue, count) => count < drained_of(queues, queue),
+    match (closing, awaited) {
+        (Closing::Cancel, Awaited::Cancel(number)) => match admissions.get(number as usize) {
+            None => false,
+            Some(a) => a.life.is_ended(),
+        },
+        (Closing::Flush, Awaited::Flush(number)) => match admissions.get(number as usize) {
+            None => false,
+            Some(a) => !a.life.is_open(),
+        },
+        (Closing::Drain, Awaited::Drain(queue, count)) => count < drained_of(queues, queue),
         _ => false,
     }
 }

@@ -1,12 +1,12 @@
-ghost use Rattle.std.specs.Prelude.{◌≡◌, ◌≢◌, ◌+◌, ◌-◌, ◌^◌, ◌<◌, ◌≤◌, length, vec_len, vec_capacity, AllPairs, Some, IsOk, IfOk, OnOk, OnErr};
+ghost use Rattle.std.specs.Prelude.{◌≡◌, ◌≢◌, ◌+◌, ◌-◌, ◌^◌, ◌<◌, ◌≤◌, length, vec_len, vec_capacity, AllPairs, Some, None, if◌then◌else◌, IsOk, IfOk, OnOk, OnErr};
 ghost use Rattle.zk_model_work.specs.State.{State, start_of, fresh_queues};
-ghost use Rattle.zk_model_work.specs.Machine.{work_reply, after_reply, submit, mark, wait_unless, flags_of};
+ghost use Rattle.zk_model_work.specs.Machine.{work_reply, after_reply, submit, mark, wait_for, awaiting, may_close, closed, flags_of};
 
 use crate::{
-    Admission, Arm, Awaited, Change, Life, Queue, Submitted, Wait, WorkOp, WorkReply, answer,
-    begin, change, disarm, drain, drain_reply, drained_of, drop_waiting, end_run, flags,
-    is_empty_and_idle, may_begin, may_drain_done, may_end, running, settle, start_reply,
-    submission, taken_up, unplug_reply,
+    Admission, Arm, Awaited, Change, Closing, Life, Queue, Submitted, Wait, WorkOp, WorkReply,
+    answer, begin, cancel_start_reply, change, closes, disarm, drain, drain_reply, drained_of,
+    drop_waiting, end_run, flags, flush_start_reply, flushed, is_empty_and_idle, may_begin,
+    may_end, running, settle, start_reply, submission, taken_up, unplug_reply,
 };
 use bitflags::Flags;
 use std::alloc::Global;
@@ -88,9 +88,21 @@ pub fn mark(admissions: &[Admission], marks: &mut Vec<u64>, item: u32) -> Result
     }
 }
 
-/// One wait more, unless there is nothing to wait for.
-pub fn wait_unless(idle: bool, waits: &mut Vec<Wait>, wait: Wait) -> Result<(), NoMemory>
-    ensures ok { OnOk result (waits.new.items ≡ wait_unless idle waits.old.items wait) }
+/// The wait of a player that begins with the entry of this place.
+pub fn wait_for(place: u64, who: Who, awaited: Awaited) -> Wait
+    ensures { result ≡ wait_for place who awaited }
+{
+    Wait {
+        place,
+        player: who.number,
+        awaited,
+        answered: false,
+    }
+}
+
+/// One wait more, where there is something to wait for.
+pub fn put_wait(waits: &mut Vec<Wait>, wait: Option<Wait>) -> Result<(), NoMemory>
+    ensures ok { OnOk result (waits.new.items ≡ awaiting waits.old.items wait) }
     ensures err { OnErr result (waits.new.items ≡ waits.old.items) }
 
     // Memory: one place of it is enough.
@@ -98,7 +110,7 @@ pub fn wait_unless(idle: bool, waits: &mut Vec<Wait>, wait: Wait) -> Result<(), 
     ensures len { vec_len waits.new ≤ vec_len waits.old + 1 }
     ensures capacity { vec_capacity waits.old ≤ vec_capacity waits.new }
 {
-    if !idle {
+    if let Some(wait) = wait {
         waits.push(wait)?;
     }
     Ok(())
@@ -234,29 +246,87 @@ impl WorkState {
         ensures unchanged { OnErr result (self.new ≡ self.old) }
     {
         let idle = is_empty_and_idle(&self.admissions, queue);
-        let wait = Wait {
-            place: self.entries,
-            player: who.number,
-            awaited: Awaited::Drain(queue, drained_of(&self.queues, queue)),
-            answered: false,
+        let wait = if idle {
+            None
+        } else {
+            let drained = drained_of(&self.queues, queue);
+            Some(wait_for(self.entries, who, Awaited::Drain(queue, drained)))
         };
-        wait_unless(idle, &mut self.waits, wait)?;
+        put_wait(&mut self.waits, wait)?;
         drain(&mut self.queues, queue, idle, plug);
         self.entries += 1;
         Ok(Some(drain_reply(idle)))
     }
 
-    fn drain_done(&mut self, who: Who, place: u64) -> Option<WorkReply>
+    fn cancel_start(&mut self, who: Who, item: u32) -> Result<Option<WorkReply>, NoMemory>
         requires { self.old.entries < 2 ^ 32 - 1 }
-        ensures reply { result ≡ work_reply self.old who (WorkOp.DrainDone place) }
-        ensures next { self.new ≡ after_reply self.old who (WorkOp.DrainDone place) result }
+        ensures reply { IfOk result (λ reply.
+            reply ≡ work_reply self.old who (WorkOp.CancelStart item)) }
+        ensures next { IfOk result (λ reply.
+            self.new ≡ after_reply self.old who (WorkOp.CancelStart item) reply) }
+        ensures unchanged { OnErr result (self.new ≡ self.old) }
     {
-        if !may_drain_done(&self.queues, &self.waits, who, place) {
-            return None;
-        }
-        answer(&mut self.waits, place);
+        let flags = flags(&self.admissions, &self.marks, &self.arms, &self.waits, item);
+        let run = running(&self.admissions, item).map(|number| number as u64);
+        let wait = match run {
+            Some(number) => Some(wait_for(self.entries, who, Awaited::Cancel(number))),
+            None => None,
+        };
+        self.marks.reserve(1)?;
+        self.waits.reserve(1)?;
+        mark(&self.admissions, &mut self.marks, item)?;
+        put_wait(&mut self.waits, wait)?;
+        drop_waiting(&mut self.admissions, item);
+        disarm(&mut self.arms, item);
+        settle(&self.admissions, &mut self.queues);
         self.entries += 1;
-        Some(WorkReply::Number(1))
+        Ok(Some(cancel_start_reply(flags.bits(), run.is_some())))
+    }
+
+    fn flush_start(&mut self, who: Who, item: u32) -> Result<Option<WorkReply>, NoMemory>
+        requires { self.old.entries < 2 ^ 32 - 1 }
+        ensures reply { IfOk result (λ reply.
+            reply ≡ work_reply self.old who (WorkOp.FlushStart item)) }
+        ensures next { IfOk result (λ reply.
+            self.new ≡ after_reply self.old who (WorkOp.FlushStart item) reply) }
+        ensures unchanged { OnErr result (self.new ≡ self.old) }
+    {
+        let number = flushed(&self.admissions, item).map(|number| number as u64);
+        let wait = match number {
+            Some(number) => Some(wait_for(self.entries, who, Awaited::Flush(number))),
+            None => None,
+        };
+        put_wait(&mut self.waits, wait)?;
+        self.entries += 1;
+        Ok(Some(flush_start_reply(number)))
+    }
+
+    /// Whether the player may end its wait of this place.
+    fn may_close(&self, closing: Closing, who: Who, place: u64) -> bool
+        ensures { result ≡ may_close self.now closing who place }
+    {
+        self.waits.iter().any(|w| closes(&self.admissions, &self.queues, closing, who, place, *w))
+    }
+
+    /// Ends a wait of the player, if what it awaits has come.
+    fn close(&mut self, closing: Closing, who: Who, place: u64) -> bool
+        requires { self.old.entries < 2 ^ 32 - 1 }
+        ensures may { result ≡ may_close self.old closing who place }
+        ensures next { self.new ≡ (if result then closed self.old closing who place else self.old) }
+    {
+        if !self.may_close(closing, who, place) {
+            return false;
+        }
+        answer(
+            &self.admissions,
+            &self.queues,
+            &mut self.waits,
+            closing,
+            who,
+            place,
+        );
+        self.entries += 1;
+        true
     }
 
     fn unplug(&mut self, who: Who, queue: u32) -> Option<WorkReply>
@@ -288,6 +358,13 @@ impl WorkState {
     }
 }
 
+/// This reply, where the operation is possible.
+fn reply_if(possible: bool, reply: WorkReply) -> Option<WorkReply>
+    ensures { result ≡ (if possible then Some reply else None) }
+{
+    if possible { Some(reply) } else { None }
+}
+
 /// One operation of the work machine: its reply and its next state.
 ///
 /// `None` says that the operation isn't possible now.
@@ -304,9 +381,22 @@ pub fn work_next(
     match *op {
         WorkOp::Submit(item, named) => state.submit(who, item, named),
         WorkOp::Cancel(item) => state.cancel(who, item),
+        WorkOp::CancelStart(item) => state.cancel_start(who, item),
+        WorkOp::CancelDone(place) => Ok(reply_if(
+            state.close(Closing::Cancel, who, place),
+            WorkReply::Truth(true),
+        )),
+        WorkOp::FlushStart(item) => state.flush_start(who, item),
+        WorkOp::FlushDone(place) => Ok(reply_if(
+            state.close(Closing::Flush, who, place),
+            WorkReply::Truth(true),
+        )),
         WorkOp::Start(queue) => Ok(state.start(who, queue)),
         WorkOp::DrainStart(queue, plug) => state.drain_start(who, queue, plug),
-        WorkOp::DrainDone(place) => Ok(state.drain_done(who, place)),
+        WorkOp::DrainDone(place) => Ok(reply_if(
+            state.close(Closing::Drain, who, place),
+            WorkReply::Number(1),
+        )),
         WorkOp::Unplug(queue) => Ok(state.unplug(who, queue)),
         WorkOp::Begin(queue) => Ok(state.begin(who, queue)),
         WorkOp::End(queue) => Ok(state.end(who, queue)),

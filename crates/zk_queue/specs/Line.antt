@@ -6,6 +6,10 @@ use Rattle.zk_queue.specs.declared.ticket.Ticket.{Ticket}
 abbrev pub is_of : ℕ → Ticket → Bool
 is_of item t = t.item == item
 
+-- the ticket has this number
+abbrev pub has_number : ℕ → Ticket → Bool
+has_number number t = t.number == number
+
 -- the line without the item's first ticket
 abbrev pub without : ℕ → List Ticket → List Ticket
 without item [] = []

@@ -1,4 +1,4 @@
-use Rattle.std.specs.Prelude.{ℕ, ◌+◌, ◌<◌, Bool, false, ◌==◌, ◌&&◌, Option, Some, None, is_some, is_none, List, [], ◌∷◌, ◌++◌, length, map, set, replicate, slice_index_or, All}
+use Rattle.std.specs.Prelude.{ℕ, ◌+◌, ◌<◌, Bool, false, ◌==◌, ◌&&◌, ◌||◌, Option, Some, None, is_some, is_none, option_map, option_and_then, position, List, [], ◌∷◌, ◌++◌, length, map, set, replicate, slice_index_or, All}
 use Rattle.std.specs.Int.RustNames.{bit_and}
 use Rattle.std.specs.List.{list_any}
 use Rattle.std.specs.Option.{option_map_or}
@@ -6,7 +6,7 @@ use Rattle.zk_model_work.specs.Lists.{first}
 use Rattle.zk_model_work.specs.Questions.{weight}
 use Rattle.zk_queue.specs.declared.ticket.Ticket.{Ticket}
 use Rattle.zk_queue.specs.declared.marks.Marks.{Marks}
-use Rattle.zk_queue.specs.Line.{is_of, without, number_among}
+use Rattle.zk_queue.specs.Line.{is_of, has_number, without, number_among}
 
 -- the open admissions: how many items and queues there are, what waits for each queue, lowest number first, what each queue runs, and the marks of each item
 pub record Open : Type 0 where
@@ -48,6 +48,18 @@ is_run_of item run = option_map_or (is_of item) run false
 -- a queue runs the item
 abbrev pub is_running : Open → ℕ → Bool
 is_running o item = list_any (is_run_of item) o.runs
+
+-- the number of the item's admission that a queue runs
+abbrev pub running : Open → ℕ → Option ℕ
+running o item = option_and_then (λ queue. option_map (λ t. t.number) (run o queue)) (position (is_run_of item) o.runs)
+
+-- the run has this number
+abbrev pub runs_number : ℕ → Option Ticket → Bool
+runs_number number run = option_map_or (has_number number) run false
+
+-- the admission of this number waits or runs
+abbrev pub is_open : Open → ℕ → Bool
+is_open o number = list_any (runs_number number) o.runs || list_any (list_any (has_number number)) o.lines
 
 -- the number of the admission by which the item waits
 abbrev pub waiting : Open → ℕ → Option ℕ

@@ -1,6 +1,7 @@
 ghost use Rattle.std.specs.Prelude.{◌≡◌, ◌+◌, ◌<◌, ◌≤◌, ◌==◌, [], ◌∷◌, ◌++◌, length, drop, position, IfOk, vec_len};
+ghost use Rattle.std.specs.List.{list_any};
 ghost use Rattle.zk_model_work.specs.Lists.{first};
-ghost use Rattle.zk_queue.specs.Line.{is_of, without, number_in};
+ghost use Rattle.zk_queue.specs.Line.{is_of, has_number, without, number_in};
 
 use crate::Ticket;
 use std::alloc::Global;
@@ -45,6 +46,13 @@ impl Line {
         self.tickets.is_empty()
     }
 
+    /// Whether one of them has this number.
+    pub fn has_number(&self, number: u64) -> bool
+        ensures { result ≡ list_any (has_number number) self.now.tickets }
+    {
+        self.tickets.iter().any(|t| t.number == number)
+    }
+
     /// One more at the end.
     pub fn push(&mut self, ticket: Ticket)
         requires { length self.old.tickets < self.old.capacity }
@@ -62,6 +70,14 @@ impl Line {
         ensures { result ≡ first self.now.tickets }
     {
         self.tickets.first().copied()
+    }
+
+    /// The number of the item's first ticket.
+    pub fn number_of(&self, item: u32) -> Option<u64>
+        ensures { result ≡ number_in item self.now.tickets }
+    {
+        let place = place(&self.tickets, item)?;
+        Some(self.tickets[place].number)
     }
 
     /// Takes the item's first ticket out, and says its number.

@@ -1,5 +1,5 @@
 ghost use Rattle.std.specs.Prelude.{◌≡◌, ◌<◌, false, option_map, All, IfOk, IfSome};
-ghost use Rattle.zk_queue.specs.Open.{nothing_open, line, run, is_queued, IsAbove, flags, is_idle, mark, admit, waiting, drop_item, next, begin, end, pair_of};
+ghost use Rattle.zk_queue.specs.Open.{nothing_open, line, run, is_queued, IsAbove, flags, is_idle, mark, admit, running, waiting, is_open, drop_item, next, begin, end, pair_of};
 
 use crate::copies::copies;
 use crate::waiting::Waiting;
@@ -75,6 +75,30 @@ impl Queues {
             marks.delayed,
             marks.flushing,
         )
+    }
+
+    /// The number of the admission by which the item waits, if it waits.
+    pub fn waiting(&self, item: u32) -> Option<u64>
+        requires { item < self.now.items }
+        ensures { result ≡ waiting self.now item }
+    {
+        self.waiting.number(item)
+    }
+
+    /// The number of the item's admission that a queue runs, if one does.
+    pub fn running(&self, item: u32) -> Option<u64>
+        ensures { result ≡ running self.now item }
+    {
+        let queue = runs::queue_of(&self.runs, item)?;
+        let ticket = self.runs[queue]?;
+        Some(ticket.number)
+    }
+
+    /// Whether the admission of this number waits or runs.
+    pub fn is_open(&self, number: u64) -> bool
+        ensures { result ≡ is_open self.now number }
+    {
+        runs::has_number(&self.runs, number) || self.waiting.has_number(number)
     }
 
     /// Marks the item as cancelling, delayed and flushing where these flags are set, and only there.

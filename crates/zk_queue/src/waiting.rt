@@ -1,6 +1,7 @@
 ghost use Rattle.std.specs.Prelude.{◌≡◌, ◌<◌, ◌==◌, None, [], ◌∷◌, ◌++◌, length, map, replicate, set, slice_index_or, is_some, All, IfOk, IfSome};
+ghost use Rattle.std.specs.List.{list_any};
 ghost use Rattle.zk_model_work.specs.Lists.{first};
-ghost use Rattle.zk_queue.specs.Line.{without, number_among};
+ghost use Rattle.zk_queue.specs.Line.{has_number, without, number_among};
 
 use crate::Ticket;
 use crate::copies::copies;
@@ -43,6 +44,13 @@ fn empty_lines(alloc: Global, capacity: usize, queues: u32) -> Result<Vec<Line>,
     Ok(lines)
 }
 
+/// Whether one of these lines has this number.
+fn has_number(lines: &[Line], number: u64) -> bool
+    ensures { result ≡ list_any (λ line. list_any (has_number number) line.tickets) lines.now }
+{
+    lines.iter().any(|line| line.has_number(number))
+}
+
 impl Waiting {
     /// Nothing waits, of so many items, for so many queues.
     pub fn new(alloc: Global, items: u32, queues: u32) -> Result<Waiting, NoMemory>
@@ -59,6 +67,23 @@ impl Waiting {
         ensures { result ≡ is_some (number_among item self.now.lines) }
     {
         self.places[item as usize].is_some()
+    }
+
+    /// The number of the admission by which the item waits, if it waits.
+    pub fn number(&self, item: u32) -> Option<u64>
+        requires { item < self.now.items }
+        ensures { result ≡ number_among item self.now.lines }
+    {
+        let queue = self.places[item as usize]?;
+        let line = &self.lines[queue as usize];
+        line.number_of(item)
+    }
+
+    /// Whether the admission of this number waits.
+    pub fn has_number(&self, number: u64) -> bool
+        ensures { result ≡ list_any (list_any (has_number number)) self.now.lines }
+    {
+        has_number(&self.lines, number)
     }
 
     /// Whether nothing waits for the queue.

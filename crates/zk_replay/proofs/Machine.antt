@@ -117,15 +117,23 @@ cond-keeps : (P : Admission → Type 0) (b : Bool) (x y : Admission) → P x →
 cond-keeps P true x y hx hy = hx
 cond-keeps P false x y hx hy = hy
 
+-- a drop leaves each admission at its queue
+homes-dropped : (many : ℕ) (st : State) (item : ℕ) → All (λ a. a.queue < many) st.admissions → All (λ a. a.queue < many) (drop_waiting st.admissions item)
+homes-dropped many st item all =
+    let P : Admission → Type 0 = λ a. a.queue < many in
+    map-all P (drop_one item) (λ a less. cond-keeps P (waits_as item a) (with_life Dropped a) a less less) st.admissions all
+
 -- each admission stays one to a queue
 pub homes-next : (many : ℕ) (st : State) (who : Who) (op : WorkOp) → length st.queues ≡ many → All (λ a. a.queue < many) st.admissions → All (λ a. a.queue < many) (work_next st who op).admissions
 homes-next many st who (ops.Submit item named) long all =
     let P : Admission → Type 0 = λ a. a.queue < many in
     let answer = submission st.admissions st.marks st.queues (Some who.number) item named in
     submit-all P st.admissions item many answer (subst (λ (n : ℕ). Home n answer) long (submission-home st.admissions st.marks st.queues (Some who.number) item named)) (λ queue less. less) all
-homes-next many st who (ops.Cancel item) long all =
-    let P : Admission → Type 0 = λ a. a.queue < many in
-    map-all P (drop_one item) (λ a less. cond-keeps P (waits_as item a) (with_life Dropped a) a less less) st.admissions all
+homes-next many st who (ops.Cancel item) long all = homes-dropped many st item all
+homes-next many st who (ops.CancelStart item) long all = homes-dropped many st item all
+homes-next many st who (ops.CancelDone place) long all = all
+homes-next many st who (ops.FlushStart item) long all = all
+homes-next many st who (ops.FlushDone place) long all = all
 homes-next many st who (ops.Start queue) long all = all
 homes-next many st who (ops.DrainStart queue plug) long all = all
 homes-next many st who (ops.DrainDone place) long all = all
@@ -165,6 +173,10 @@ change_where-workers false c queues number = refl
 pub workers-next : (st : State) (who : Who) (op : WorkOp) → map (λ queue. queue.worker) (work_next st who op).queues ≡ map (λ queue. queue.worker) st.queues
 workers-next st who (ops.Submit item named) = refl
 workers-next st who (ops.Cancel item) = settle-workers (is_empty_and_idle (drop_waiting st.admissions item)) 0 st.queues
+workers-next st who (ops.CancelStart item) = settle-workers (is_empty_and_idle (drop_waiting st.admissions item)) 0 st.queues
+workers-next st who (ops.CancelDone place) = refl
+workers-next st who (ops.FlushStart item) = refl
+workers-next st who (ops.FlushDone place) = refl
 workers-next st who (ops.Start queue) = change-workers changes.Start st.queues queue
 workers-next st who (ops.DrainStart queue plug) =
     change_where-workers (not (is_empty_and_idle st.admissions queue)) changes.Drain (change_where plug changes.Plug st.queues queue) queue
@@ -198,6 +210,10 @@ begins-as st who queue reply is =
 abbrev pub IsCalled : WorkOp → Type 0
 IsCalled (ops.Submit item named) = Unit {0}
 IsCalled (ops.Cancel item) = Unit {0}
+IsCalled (ops.CancelStart item) = Unit {0}
+IsCalled (ops.CancelDone place) = Unit {0}
+IsCalled (ops.FlushStart item) = Unit {0}
+IsCalled (ops.FlushDone place) = Unit {0}
 IsCalled (ops.Start queue) = Unit {0}
 IsCalled (ops.DrainStart queue plug) = Unit {0}
 IsCalled (ops.DrainDone place) = Unit {0}
@@ -205,15 +221,23 @@ IsCalled (ops.Unplug queue) = Unit {0}
 IsCalled (ops.Begin queue) = ⊥
 IsCalled (ops.End queue) = ⊥
 
+-- a drop starts no run
+idle-dropped : (st : State) (item queue : ℕ) → IsIdle queue st.admissions → IsIdle queue (drop_waiting st.admissions item)
+idle-dropped st item queue idle =
+    let P : Admission → Type 0 = λ a. runs_on queue a ≡ false in
+    map-all P (drop_one item) (λ a none. cond-keeps P (waits_as item a) (with_life Dropped a) a (and_right (eqb a.queue queue) false refl) none) st.admissions idle
+
 -- no call starts a run
 pub idle-called : (st : State) (who : Who) (op : WorkOp) (queue : ℕ) → IsCalled op → IsIdle queue st.admissions → IsIdle queue (work_next st who op).admissions
 idle-called st who (ops.Submit item named) queue called idle =
     let P : Admission → Type 0 = λ a. runs_on queue a ≡ false in
     submit-all P st.admissions item (length st.queues) (submission st.admissions st.marks st.queues (Some who.number) item named)
     (submission-home st.admissions st.marks st.queues (Some who.number) item named) (λ q less. and_right (eqb q queue) false refl) idle
-idle-called st who (ops.Cancel item) queue called idle =
-    let P : Admission → Type 0 = λ a. runs_on queue a ≡ false in
-    map-all P (drop_one item) (λ a none. cond-keeps P (waits_as item a) (with_life Dropped a) a (and_right (eqb a.queue queue) false refl) none) st.admissions idle
+idle-called st who (ops.Cancel item) queue called idle = idle-dropped st item queue idle
+idle-called st who (ops.CancelStart item) queue called idle = idle-dropped st item queue idle
+idle-called st who (ops.CancelDone place) queue called idle = idle
+idle-called st who (ops.FlushStart item) queue called idle = idle
+idle-called st who (ops.FlushDone place) queue called idle = idle
 idle-called st who (ops.Start queue') queue called idle = idle
 idle-called st who (ops.DrainStart queue' plug) queue called idle = idle
 idle-called st who (ops.DrainDone place) queue called idle = idle
@@ -257,6 +281,10 @@ pub idle-next : (st : State) (who : Who) (op : WorkOp) (reply : WorkReply) (queu
     work_reply st who op ≡ Some reply → IsIdle queue st.admissions → IsIdle queue (work_next st who op).admissions
 idle-next st who (ops.Submit item named) reply queue worker is other made idle = idle-called st who (ops.Submit item named) queue tt idle
 idle-next st who (ops.Cancel item) reply queue worker is other made idle = idle-called st who (ops.Cancel item) queue tt idle
+idle-next st who (ops.CancelStart item) reply queue worker is other made idle = idle-called st who (ops.CancelStart item) queue tt idle
+idle-next st who (ops.CancelDone place) reply queue worker is other made idle = idle
+idle-next st who (ops.FlushStart item) reply queue worker is other made idle = idle
+idle-next st who (ops.FlushDone place) reply queue worker is other made idle = idle
 idle-next st who (ops.Start queue') reply queue worker is other made idle = idle
 idle-next st who (ops.DrainStart queue' plug) reply queue worker is other made idle = idle
 idle-next st who (ops.DrainDone place) reply queue worker is other made idle = idle

@@ -19,7 +19,7 @@ use Rattle.zk_scenario.proofs.Valid.{count_by-cons}
 use Rattle.zk_model_work.specs.declared.ops.WorkOp.{WorkOp}
 use Rattle.zk_model_work.specs.declared.ops.WorkOp.TheVariants as ops
 use Rattle.zk_model_work.specs.declared.ops.WorkReply.{WorkReply}
-use Rattle.zk_model_work.specs.declared.ops.WorkReply.TheVariants.{Sub, Flags, Wait, Number, Done, Already, Run}
+use Rattle.zk_model_work.specs.declared.ops.WorkReply.TheVariants.{Sub, Flags, Truth, Wait, WaitFor, Number, Done, Already, Run}
 use Rattle.zk_model_work.specs.declared.parts.Admission.{Admission}
 use Rattle.zk_model_work.specs.declared.parts.Queue.{Queue}
 use Rattle.zk_model_work.specs.Questions.{runs_on}
@@ -137,13 +137,17 @@ own-script s st who queue frame next below op reply place k call script tends is
     opened : (word : Word) (reply : WorkReply) → IsCalled op → Tends s.decls queue (frames_after s (frame ∷ next ∷ below) (opening_progress word (step_replies.Work reply place))) (work_next st who op).admissions
     opened word (Sub submitted) called = over called
     opened word (Flags flags) called = over called
+    opened word (Truth so) called = over called
     opened word Wait called = waits called (Waits place)
+    opened word (WaitFor number) called = waits called (Waits place)
     opened word (Number number) called = over called
     opened word Done called = over called
     opened word Already called = over called
     opened word (Run item number) called = over called
 
     closed : (closing : Closing) (since : ℕ) → slice_get (closing_step closing since ∷ []) k ≡ Some (steps.Work op) → IsCalled op
+    closed closings.Cancel since is = let step = only (steps.Work (ops.CancelDone since)) (steps.Work op) k is in let same : ops.CancelDone since ≡ op = cc in subst (λ (o : WorkOp). IsCalled o) same tt
+    closed closings.Flush since is = let step = only (steps.Work (ops.FlushDone since)) (steps.Work op) k is in let same : ops.FlushDone since ≡ op = cc in subst (λ (o : WorkOp). IsCalled o) same tt
     closed closings.Drain since is = let step = only (steps.Work (ops.DrainDone since)) (steps.Work op) k is in let same : ops.DrainDone since ≡ op = cc in subst (λ (o : WorkOp). IsCalled o) same tt
 
     pair : (word : Word) (first : WorkOp) (closing : Closing) (stage : Stage) → IsCalled first → slice_get (form_attempts (Pair (steps.Work first) closing) stage) k ≡ Some (steps.Work op) →
@@ -158,6 +162,8 @@ own-script s st who queue frame next below op reply place k call script tends is
     by_call None is = absurd (cc)
     by_call (Some (calls.Submit item named)) is = over (called_by (ops.Submit _ _) frame.stage tt is)
     by_call (Some (calls.Cancel item)) is = over (called_by (ops.Cancel _) frame.stage tt is)
+    by_call (Some (calls.CancelSync item)) is = pair words.CancelSync (ops.CancelStart _) closings.Cancel frame.stage tt is
+    by_call (Some (calls.Flush item)) is = pair words.Flush (ops.FlushStart _) closings.Flush frame.stage tt is
     by_call (Some (calls.Start named)) is = over (called_by (ops.Start _) frame.stage tt is)
     by_call (Some (calls.Drain named plug)) is = pair words.Drain (ops.DrainStart _ plug) closings.Drain frame.stage tt is
     by_call (Some (calls.Unplug named)) is = over (called_by (ops.Unplug _) frame.stage tt is)

@@ -201,6 +201,12 @@ IsValid-after r f e valid = by_form f (Passes-verdict r f e) where
   by_form (form.Cancel item) p =
       let named_item = not-false (names is_item r.decls item) p.well_named in
       called_fits r (call.Cancel (ref r.decls item)) valid p.placed (at_object is_item r.decls (named r.decls item) named_item) p.within
+  by_form (form.CancelSync item) p =
+      let named_item = not-false (names is_item r.decls item) p.well_named in
+      called_fits r (call.CancelSync (ref r.decls item)) valid p.placed (at_object is_item r.decls (named r.decls item) named_item) p.within
+  by_form (form.Flush item) p =
+      let named_item = not-false (names is_item r.decls item) p.well_named in
+      called_fits r (call.Flush (ref r.decls item)) valid p.placed (at_object is_item r.decls (named r.decls item) named_item) p.within
   by_form (form.Start queue) p =
       let named_queue = not-false (names is_queue r.decls queue) p.well_named in
       called_fits r (call.Start (ref r.decls queue)) valid p.placed (at_object is_queue r.decls (named r.decls queue) named_queue) p.within
@@ -220,6 +226,8 @@ after-call_of r (form.Item name) c e = absurd (cc)
 after-call_of r (form.Script owner) c e = absurd (cc)
 after-call_of r (form.Submit item queue) c e = ap (called r) (same_Some _ _ e)
 after-call_of r (form.Cancel item) c e = ap (called r) (same_Some _ _ e)
+after-call_of r (form.CancelSync item) c e = ap (called r) (same_Some _ _ e)
+after-call_of r (form.Flush item) c e = ap (called r) (same_Some _ _ e)
 after-call_of r (form.Start queue) c e = ap (called r) (same_Some _ _ e)
 after-call_of r (form.Drain queue plug) c e = ap (called r) (same_Some _ _ e)
 after-call_of r (form.Unplug queue) c e = ap (called r) (same_Some _ _ e)
@@ -248,6 +256,8 @@ IsPlain-verdict r f e = by_form f (Passes-verdict r f e) where
       let both = and_parts (names is_item r.decls item) (names is_queue r.decls queue) (not-false (names is_item r.decls item && names is_queue r.decls queue) p.well_named) in
       (unreserved-names is_item r.decls item both.0, unreserved-names is_queue r.decls queue both.1)
   by_form (form.Cancel item) p = unreserved-names is_item r.decls item (not-false (names is_item r.decls item) p.well_named)
+  by_form (form.CancelSync item) p = unreserved-names is_item r.decls item (not-false (names is_item r.decls item) p.well_named)
+  by_form (form.Flush item) p = unreserved-names is_item r.decls item (not-false (names is_item r.decls item) p.well_named)
   by_form (form.Start queue) p = unreserved-names is_queue r.decls queue (not-false (names is_queue r.decls queue) p.well_named)
   by_form (form.Drain queue plug) p = unreserved-names is_queue r.decls queue (not-false (names is_queue r.decls queue) p.well_named)
   by_form (form.Unplug queue) p = unreserved-names is_queue r.decls queue (not-false (names is_queue r.decls queue) p.well_named)

@@ -7,7 +7,7 @@ use Rattle.zk_base.specs.Names.{is_name}
 use Rattle.zk_scenario.specs.declared.form.Named.{Named}
 use Rattle.zk_scenario.specs.declared.form.Named.TheVariants.{Plain, Reserved}
 use Rattle.zk_scenario.specs.declared.form.Form.{Form}
-use Rattle.zk_scenario.specs.declared.form.Form.TheVariants.{Thread, Queue, Item, Script, Submit, Cancel, Start, Drain, Unplug, End}
+use Rattle.zk_scenario.specs.declared.form.Form.TheVariants.{Thread, Queue, Item, Script, Submit, Cancel, CancelSync, Flush, Start, Drain, Unplug, End}
 use Rattle.zk_scenario.specs.declared.form.Line.TheVariants.{Formed}
 use Rattle.zk_scenario.specs.Words.{words_of}
 use Rattle.zk_scenario.specs.Numbers.{priority_of, IsPriority}
@@ -72,6 +72,8 @@ line_of_words-form (Submit item None) fine = let i = named_of-name item fine.0 i
 line_of_words-form (Submit item (Some queue)) fine =
     let i = named_of-name item fine.0 in let q = named_of-name queue fine.1 in simp (i, q)
 line_of_words-form (Cancel item) fine = let i = named_of-name item fine in simp i
+line_of_words-form (CancelSync item) fine = let i = named_of-name item fine in simp i
+line_of_words-form (Flush item) fine = let i = named_of-name item fine in simp i
 line_of_words-form (Start queue) fine = let q = named_of-name queue fine in simp q
 line_of_words-form (Drain queue plug) fine = let q = named_of-name queue fine in let m = plug_of-text plug in simp (q, m)
 line_of_words-form (Unplug queue) fine = let q = named_of-name queue fine in simp q
@@ -89,6 +91,8 @@ words_of-form (Submit item None) fine = words_of-line_text _ _ refl (unspaced_na
 words_of-form (Submit item (Some queue)) fine =
     words_of-line_text _ _ refl (unspaced_name item fine.0, (unspaced_name queue fine.1, tt))
 words_of-form (Cancel item) fine = words_of-line_text _ _ refl (unspaced_name item fine, tt)
+words_of-form (CancelSync item) fine = words_of-line_text _ _ refl (unspaced_name item fine, tt)
+words_of-form (Flush item) fine = words_of-line_text _ _ refl (unspaced_name item fine, tt)
 words_of-form (Start queue) fine = words_of-line_text _ _ refl (unspaced_name queue fine, tt)
 words_of-form (Drain queue plug) fine = words_of-line_text _ _ refl (unspaced_name queue fine, (unspaced_plug plug, tt))
 words_of-form (Unplug queue) fine = words_of-line_text _ _ refl (unspaced_name queue fine, tt)

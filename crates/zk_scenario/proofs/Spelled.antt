@@ -9,7 +9,7 @@ use Rattle.zk_base.specs.Names.{is_name, is_spelled}
 use Rattle.zk_scenario.specs.declared.form.Named.{Named}
 use Rattle.zk_scenario.specs.declared.form.Named.TheVariants.{Plain, Reserved}
 use Rattle.zk_scenario.specs.declared.form.Form.{Form}
-use Rattle.zk_scenario.specs.declared.form.Form.TheVariants.{Thread, Queue, Item, Script, Submit, Cancel, Start, Drain, Unplug, End}
+use Rattle.zk_scenario.specs.declared.form.Form.TheVariants.{Thread, Queue, Item, Script, Submit, Cancel, CancelSync, Flush, Start, Drain, Unplug, End}
 use Rattle.zk_scenario.specs.declared.form.Line.TheVariants.{Unbuilt, Misspelled, Formed}
 use Rattle.zk_scenario.specs.declared.keyword.Keyword.{Keyword}
 use Rattle.zk_scenario.specs.declared.keyword.Keyword.TheVariants as keyword
@@ -17,7 +17,7 @@ use Rattle.zk_scenario.specs.Words.{words_of}
 use Rattle.zk_scenario.specs.Numbers.{priority_of}
 use Rattle.zk_scenario.specs.Keywords.{keywords, keyword_text, keyword_of, is_unbuilt}
 use Rattle.zk_scenario.specs.Text.{line_text, mode_text, state_text, plug_text}
-use Rattle.zk_scenario.specs.Forms.{named_of, one_of, mode_of, state_of, plug_of, made_of_two, made_of_three, thread_form, queue_form, item_form, script_form, submit_form, cancel_form, start_form, drain_form, unplug_form, end_form, form_of, formed, formless, line_after, line_of_words, line_of, named_text, form_words, IsUnreserved, IsPlain, IsNamed, CanBeSpelled}
+use Rattle.zk_scenario.specs.Forms.{named_of, one_of, mode_of, state_of, plug_of, made_of_two, made_of_three, thread_form, queue_form, item_form, script_form, submit_form, cancel_form, cancel_sync_form, flush_form, start_form, drain_form, unplug_form, end_form, form_of, formed, formless, line_after, line_of_words, line_of, named_text, form_words, IsUnreserved, IsPlain, IsNamed, CanBeSpelled}
 use Rattle.zk_scenario.proofs.Numerals.{priority_spelled}
 
 plain_same : (word name : List ℕ) → Plain word ≡ Plain name → word ≡ name
@@ -144,6 +144,22 @@ cancel_spelled (item ∷ []) form said plain =
     (λ fine. let i = named_spelled item part.0 part.1 fine in (cc, i.1)) plain
 cancel_spelled (item ∷ more ∷ words) form said plain = absurd (cc)
 
+cancel_sync_spelled : (words : List (List ℕ)) (form : Form) → cancel_sync_form words ≡ Some form → IsPlain form → Spells (codes "cancelsync" ∷ words) form
+cancel_sync_spelled [] form said plain = absurd (cc)
+cancel_sync_spelled (item ∷ []) form said plain =
+    let part = one_part CancelSync (named_of item) form said in
+    subst (λ (f : Form). IsPlain f → Spells (codes "cancelsync" ∷ item ∷ []) f) part.2
+    (λ fine. let i = named_spelled item part.0 part.1 fine in (cc, i.1)) plain
+cancel_sync_spelled (item ∷ more ∷ words) form said plain = absurd (cc)
+
+flush_spelled : (words : List (List ℕ)) (form : Form) → flush_form words ≡ Some form → IsPlain form → Spells (codes "flush" ∷ words) form
+flush_spelled [] form said plain = absurd (cc)
+flush_spelled (item ∷ []) form said plain =
+    let part = one_part Flush (named_of item) form said in
+    subst (λ (f : Form). IsPlain f → Spells (codes "flush" ∷ item ∷ []) f) part.2
+    (λ fine. let i = named_spelled item part.0 part.1 fine in (cc, i.1)) plain
+flush_spelled (item ∷ more ∷ words) form said plain = absurd (cc)
+
 start_spelled : (words : List (List ℕ)) (form : Form) → start_form words ≡ Some form → IsPlain form → Spells (codes "start" ∷ words) form
 start_spelled [] form said plain = absurd (cc)
 start_spelled (queue ∷ []) form said plain =
@@ -182,6 +198,8 @@ form_spelled keyword.Item words form said plain = item_spelled words form said p
 form_spelled keyword.Script words form said plain = script_spelled words form said plain
 form_spelled keyword.Submit words form said plain = submit_spelled words form said plain
 form_spelled keyword.Cancel words form said plain = cancel_spelled words form said plain
+form_spelled keyword.CancelSync words form said plain = cancel_sync_spelled words form said plain
+form_spelled keyword.Flush words form said plain = flush_spelled words form said plain
 form_spelled keyword.Start words form said plain = start_spelled words form said plain
 form_spelled keyword.Drain words form said plain = drain_spelled words form said plain
 form_spelled keyword.Unplug words form said plain = unplug_spelled words form said plain

@@ -31,7 +31,7 @@ use Rattle.zk_scenario.specs.Parts.{Parts}
 use Rattle.zk_scenario.specs.Players.{plays_script, is_queue, is_item, name_of}
 use Rattle.zk_scenario.specs.Reading.{Reading, start, with_call, called, closed}
 use Rattle.zk_scenario.specs.Spelling.{decl_line, name_at, ref_name, call_line, begun_lines, script_lines, body_lines, lines_of, lines_text, text_of}
-use Rattle.zk_scenario.specs.Text.{line_text, script_words, submit_words, cancel_words, start_words, drain_words, unplug_words, end_words}
+use Rattle.zk_scenario.specs.Text.{line_text, script_words, submit_words, cancel_words, cancel_sync_words, flush_words, start_words, drain_words, unplug_words, end_words}
 use Rattle.zk_scenario.specs.Verdict.{names, verdict, object, ref, after}
 use Rattle.zk_scenario.proofs.Kept.{Passes, Passes-verdict, IsPlain-verdict, nothing_begun, is_some-none, is_some-some, or_none}
 use Rattle.zk_scenario.proofs.Spelled.{line_spelled}
@@ -122,6 +122,10 @@ read-after r f e = by_form f (Passes-verdict r f e) where
       read_call (call.Submit (ref r.decls item) (Some (ref r.decls queue))) _ p.placed (item_line item (Some queue) both.0 (ap Some (name_at-object is_queue r.decls queue both.1)))
   by_form (form.Cancel item) p =
       read_call (call.Cancel (ref r.decls item)) _ p.placed (ap (λ name. line_text (cancel_words name)) (name_at-object is_item r.decls item (not-false (names is_item r.decls item) p.well_named)))
+  by_form (form.CancelSync item) p =
+      read_call (call.CancelSync (ref r.decls item)) _ p.placed (ap (λ name. line_text (cancel_sync_words name)) (name_at-object is_item r.decls item (not-false (names is_item r.decls item) p.well_named)))
+  by_form (form.Flush item) p =
+      read_call (call.Flush (ref r.decls item)) _ p.placed (ap (λ name. line_text (flush_words name)) (name_at-object is_item r.decls item (not-false (names is_item r.decls item) p.well_named)))
   by_form (form.Start queue) p =
       read_call (call.Start (ref r.decls queue)) _ p.placed (ap (λ name. line_text (start_words name)) (name_at-object is_queue r.decls queue (not-false (names is_queue r.decls queue) p.well_named)))
   by_form (form.Drain queue plug) p =

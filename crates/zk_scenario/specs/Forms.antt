@@ -4,7 +4,7 @@ use Rattle.zk_base.specs.Names.{is_name, is_spelled}
 use Rattle.zk_scenario.specs.declared.form.Named.{Named}
 use Rattle.zk_scenario.specs.declared.form.Named.TheVariants.{Plain, Reserved}
 use Rattle.zk_scenario.specs.declared.form.Form.{Form}
-use Rattle.zk_scenario.specs.declared.form.Form.TheVariants.{Thread, Queue, Item, Script, Submit, Cancel, Start, Drain, Unplug, End}
+use Rattle.zk_scenario.specs.declared.form.Form.TheVariants.{Thread, Queue, Item, Script, Submit, Cancel, CancelSync, Flush, Start, Drain, Unplug, End}
 use Rattle.zk_scenario.specs.declared.form.Line.{Line}
 use Rattle.zk_scenario.specs.declared.form.Line.TheVariants.{Unbuilt, Misspelled, Formed}
 use Rattle.zk_scenario.specs.declared.keyword.Keyword.{Keyword}
@@ -12,7 +12,7 @@ use Rattle.zk_scenario.specs.declared.keyword.Keyword.TheVariants as keyword
 use Rattle.zk_scenario.specs.Words.{words_of}
 use Rattle.zk_scenario.specs.Numbers.{priority_of, IsPriority}
 use Rattle.zk_scenario.specs.Keywords.{keyword_of, is_unbuilt}
-use Rattle.zk_scenario.specs.Text.{thread_words, queue_words, item_words, script_words, submit_words, cancel_words, start_words, drain_words, unplug_words, end_words}
+use Rattle.zk_scenario.specs.Text.{thread_words, queue_words, item_words, script_words, submit_words, cancel_words, cancel_sync_words, flush_words, start_words, drain_words, unplug_words, end_words}
 
 -- a word where a name is asked for
 abbrev pub named_of : List ℕ → Option Named
@@ -76,6 +76,16 @@ abbrev pub cancel_form : List (List ℕ) → Option Form
 cancel_form (item ∷ []) = option_map Cancel (named_of item)
 cancel_form _ = None
 
+-- cancelsync ITEM
+abbrev pub cancel_sync_form : List (List ℕ) → Option Form
+cancel_sync_form (item ∷ []) = option_map CancelSync (named_of item)
+cancel_sync_form _ = None
+
+-- flush ITEM
+abbrev pub flush_form : List (List ℕ) → Option Form
+flush_form (item ∷ []) = option_map Flush (named_of item)
+flush_form _ = None
+
 -- start QUEUE
 abbrev pub start_form : List (List ℕ) → Option Form
 start_form (queue ∷ []) = option_map Start (named_of queue)
@@ -104,6 +114,8 @@ form_of keyword.Item words = item_form words
 form_of keyword.Script words = script_form words
 form_of keyword.Submit words = submit_form words
 form_of keyword.Cancel words = cancel_form words
+form_of keyword.CancelSync words = cancel_sync_form words
+form_of keyword.Flush words = flush_form words
 form_of keyword.Start words = start_form words
 form_of keyword.Drain words = drain_form words
 form_of keyword.Unplug words = unplug_form words
@@ -145,6 +157,8 @@ form_words (Item name) = item_words (named_text name)
 form_words (Script owner) = script_words (named_text owner)
 form_words (Submit item queue) = submit_words (named_text item) (option_map named_text queue)
 form_words (Cancel item) = cancel_words (named_text item)
+form_words (CancelSync item) = cancel_sync_words (named_text item)
+form_words (Flush item) = flush_words (named_text item)
 form_words (Start queue) = start_words (named_text queue)
 form_words (Drain queue plug) = drain_words (named_text queue) plug
 form_words (Unplug queue) = unplug_words (named_text queue)
@@ -163,6 +177,8 @@ IsPlain (Item name) = IsUnreserved name
 IsPlain (Script owner) = IsUnreserved owner
 IsPlain (Submit item queue) = IsUnreserved item × IfSome queue IsUnreserved
 IsPlain (Cancel item) = IsUnreserved item
+IsPlain (CancelSync item) = IsUnreserved item
+IsPlain (Flush item) = IsUnreserved item
 IsPlain (Start queue) = IsUnreserved queue
 IsPlain (Drain queue plug) = IsUnreserved queue
 IsPlain (Unplug queue) = IsUnreserved queue
@@ -181,6 +197,8 @@ CanBeSpelled (Item name) = IsNamed name
 CanBeSpelled (Script owner) = IsNamed owner
 CanBeSpelled (Submit item queue) = IsNamed item × IfSome queue IsNamed
 CanBeSpelled (Cancel item) = IsNamed item
+CanBeSpelled (CancelSync item) = IsNamed item
+CanBeSpelled (Flush item) = IsNamed item
 CanBeSpelled (Start queue) = IsNamed queue
 CanBeSpelled (Drain queue plug) = IsNamed queue
 CanBeSpelled (Unplug queue) = IsNamed queue

@@ -2,7 +2,7 @@ use Rattle.std.specs.Prelude.{ℕ, Bool, ◌||◌, List, [], ◌∷◌, Option, 
 use Rattle.std.specs.List.{list_any}
 use Rattle.std.specs.Str.{bytes_eq}
 use Rattle.zk_scenario.specs.declared.keyword.Keyword.{Keyword}
-use Rattle.zk_scenario.specs.declared.keyword.Keyword.TheVariants.{Thread, Queue, Item, Script, Submit, Cancel, Start, Drain, Unplug, End}
+use Rattle.zk_scenario.specs.declared.keyword.Keyword.TheVariants.{Thread, Queue, Item, Script, Submit, Cancel, CancelSync, Flush, Start, Drain, Unplug, End}
 
 -- the first word of a form
 abbrev pub keyword_text : Keyword → List ℕ
@@ -12,14 +12,20 @@ keyword_text Item = codes "item"
 keyword_text Script = codes "script"
 keyword_text Submit = codes "submit"
 keyword_text Cancel = codes "cancel"
+keyword_text CancelSync = codes "cancelsync"
+keyword_text Flush = codes "flush"
 keyword_text Start = codes "start"
 keyword_text Drain = codes "drain"
 keyword_text Unplug = codes "unplug"
 keyword_text End = codes "end"
 
+-- the first words of the calls that are built
+abbrev pub call_keywords : List Keyword
+call_keywords = Submit ∷ Cancel ∷ CancelSync ∷ Flush ∷ Start ∷ Drain ∷ Unplug ∷ []
+
 -- the first words of the forms that are built
 abbrev pub keywords : List Keyword
-keywords = Thread ∷ Queue ∷ Item ∷ Script ∷ Submit ∷ Cancel ∷ Start ∷ Drain ∷ Unplug ∷ End ∷ []
+keywords = Thread ∷ Queue ∷ Item ∷ Script ∷ End ∷ call_keywords
 
 -- the form that a line's first word announces
 abbrev pub keyword_of : List ℕ → Option Keyword
@@ -33,8 +39,7 @@ unbuilt_declarations =
 -- the calls to items, queues and the clock that aren't built
 abbrev pub unbuilt_work_calls : List (List ℕ)
 unbuilt_work_calls =
-    codes "cancelsync" ∷ codes "flush" ∷ codes "schedule" ∷ codes "reschedule" ∷ codes "remaining"
-    ∷ codes "busy" ∷ codes "tick" ∷ []
+    codes "schedule" ∷ codes "reschedule" ∷ codes "remaining" ∷ codes "busy" ∷ codes "tick" ∷ []
 
 -- the calls to semaphores and message queues that aren't built
 abbrev pub unbuilt_wait_calls : List (List ℕ)

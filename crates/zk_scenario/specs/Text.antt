@@ -45,6 +45,14 @@ submit_words item queue = codes "submit" ∷ item ∷ option_to_list queue
 abbrev pub cancel_words : List ℕ → List (List ℕ)
 cancel_words item = codes "cancel" ∷ item ∷ []
 
+-- the cancellation of an item, and the wait for its end
+abbrev pub cancel_sync_words : List ℕ → List (List ℕ)
+cancel_sync_words item = codes "cancelsync" ∷ item ∷ []
+
+-- the wait for what is submitted of an item
+abbrev pub flush_words : List ℕ → List (List ℕ)
+flush_words item = codes "flush" ∷ item ∷ []
+
 -- the start of a queue
 abbrev pub start_words : List ℕ → List (List ℕ)
 start_words queue = codes "start" ∷ queue ∷ []

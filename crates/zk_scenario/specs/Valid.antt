@@ -3,7 +3,7 @@ use Rattle.std.specs.List.{list_all, sum_by}
 use Rattle.zk_scenario.specs.declared.types.Decl.{Decl}
 use Rattle.zk_scenario.specs.declared.types.Ref.TheVariants.{Known}
 use Rattle.zk_scenario.specs.declared.types.Call.{Call}
-use Rattle.zk_scenario.specs.declared.types.Call.TheVariants.{Submit, Cancel, Start, Drain, Unplug}
+use Rattle.zk_scenario.specs.declared.types.Call.TheVariants.{Submit, Cancel, CancelSync, Flush, Start, Drain, Unplug}
 use Rattle.zk_scenario.specs.declared.types.Script.{Script}
 use Rattle.zk_scenario.specs.Objects.{is_at}
 use Rattle.zk_scenario.specs.Parts.{Parts}
@@ -15,6 +15,8 @@ abbrev pub call_fits : List Decl → Call → Bool
 call_fits decls (Submit (Known item) None) = is_at is_item decls item
 call_fits decls (Submit (Known item) (Some (Known queue))) = is_at is_item decls item && is_at is_queue decls queue
 call_fits decls (Cancel (Known item)) = is_at is_item decls item
+call_fits decls (CancelSync (Known item)) = is_at is_item decls item
+call_fits decls (Flush (Known item)) = is_at is_item decls item
 call_fits decls (Start (Known queue)) = is_at is_queue decls queue
 call_fits decls (Drain (Known queue) plug) = is_at is_queue decls queue
 call_fits decls (Unplug (Known queue)) = is_at is_queue decls queue

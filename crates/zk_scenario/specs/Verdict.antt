@@ -9,7 +9,7 @@ use Rattle.zk_scenario.specs.declared.types.Call.TheVariants as call
 use Rattle.zk_scenario.specs.declared.form.Named.{Named}
 use Rattle.zk_scenario.specs.declared.form.Named.TheVariants.{Plain, Reserved}
 use Rattle.zk_scenario.specs.declared.form.Form.{Form}
-use Rattle.zk_scenario.specs.declared.form.Form.TheVariants.{Thread, Queue, Item, Script, Submit, Cancel, Start, Drain, Unplug, End}
+use Rattle.zk_scenario.specs.declared.form.Form.TheVariants.{Thread, Queue, Item, Script, Submit, Cancel, CancelSync, Flush, Start, Drain, Unplug, End}
 use Rattle.zk_scenario.specs.declared.refused.Why.{Why}
 use Rattle.zk_scenario.specs.declared.refused.Why.TheVariants as why
 use Rattle.zk_scenario.specs.Forms.{named_text}
@@ -54,6 +54,8 @@ is_misplaced r (Item name) = has_begun r
 is_misplaced r (Script owner) = is_some r.current || has_script r owner
 is_misplaced r (Submit item queue) = not (is_some r.current)
 is_misplaced r (Cancel item) = not (is_some r.current)
+is_misplaced r (CancelSync item) = not (is_some r.current)
+is_misplaced r (Flush item) = not (is_some r.current)
 is_misplaced r (Start queue) = not (is_some r.current)
 is_misplaced r (Drain queue plug) = not (is_some r.current)
 is_misplaced r (Unplug queue) = not (is_some r.current)
@@ -67,6 +69,8 @@ is_out_of_range (Item name) = false
 is_out_of_range (Script owner) = false
 is_out_of_range (Submit item queue) = false
 is_out_of_range (Cancel item) = false
+is_out_of_range (CancelSync item) = false
+is_out_of_range (Flush item) = false
 is_out_of_range (Start queue) = false
 is_out_of_range (Drain queue plug) = false
 is_out_of_range (Unplug queue) = false
@@ -81,6 +85,8 @@ is_misnamed decls (Script owner) = not (names plays_script decls owner)
 is_misnamed decls (Submit item None) = not (names is_item decls item)
 is_misnamed decls (Submit item (Some queue)) = not (names is_item decls item && names is_queue decls queue)
 is_misnamed decls (Cancel item) = not (names is_item decls item)
+is_misnamed decls (CancelSync item) = not (names is_item decls item)
+is_misnamed decls (Flush item) = not (names is_item decls item)
 is_misnamed decls (Start queue) = not (names is_queue decls queue)
 is_misnamed decls (Drain queue plug) = not (names is_queue decls queue)
 is_misnamed decls (Unplug queue) = not (names is_queue decls queue)
@@ -94,6 +100,8 @@ is_past_limit r (Item name) = nat_le 256 (count_by is_item r.decls)
 is_past_limit r (Script owner) = false
 is_past_limit r (Submit item queue) = nat_le 4096 (call_count (all_scripts r))
 is_past_limit r (Cancel item) = nat_le 4096 (call_count (all_scripts r))
+is_past_limit r (CancelSync item) = nat_le 4096 (call_count (all_scripts r))
+is_past_limit r (Flush item) = nat_le 4096 (call_count (all_scripts r))
 is_past_limit r (Start queue) = nat_le 4096 (call_count (all_scripts r))
 is_past_limit r (Drain queue plug) = nat_le 4096 (call_count (all_scripts r))
 is_past_limit r (Unplug queue) = nat_le 4096 (call_count (all_scripts r))
@@ -124,6 +132,8 @@ call_of decls (Item name) = None
 call_of decls (Script owner) = None
 call_of decls (Submit item queue) = Some (call.Submit (ref decls item) (option_map (ref decls) queue))
 call_of decls (Cancel item) = Some (call.Cancel (ref decls item))
+call_of decls (CancelSync item) = Some (call.CancelSync (ref decls item))
+call_of decls (Flush item) = Some (call.Flush (ref decls item))
 call_of decls (Start queue) = Some (call.Start (ref decls queue))
 call_of decls (Drain queue plug) = Some (call.Drain (ref decls queue) plug)
 call_of decls (Unplug queue) = Some (call.Unplug (ref decls queue))
@@ -137,6 +147,8 @@ after r (Item name) = declared r (decl.Item (named_text name))
 after r (Script owner) = begun r (record { owner = object r.decls owner; calls = [] })
 after r (Submit item queue) = called r (call.Submit (ref r.decls item) (option_map (ref r.decls) queue))
 after r (Cancel item) = called r (call.Cancel (ref r.decls item))
+after r (CancelSync item) = called r (call.CancelSync (ref r.decls item))
+after r (Flush item) = called r (call.Flush (ref r.decls item))
 after r (Start queue) = called r (call.Start (ref r.decls queue))
 after r (Drain queue plug) = called r (call.Drain (ref r.decls queue) plug)
 after r (Unplug queue) = called r (call.Unplug (ref r.decls queue))

@@ -1,5 +1,5 @@
 ghost use Rattle.std.specs.Prelude.{◌≡◌, ◌∷◌};
-ghost use Rattle.zk_scenario.specs.Forms.{named_of, mode_of, state_of, plug_of, thread_form, queue_form, item_form, script_form, submit_form, cancel_form, start_form, drain_form, unplug_form, end_form, form_of, formless, line_of};
+ghost use Rattle.zk_scenario.specs.Forms.{named_of, mode_of, state_of, plug_of, thread_form, queue_form, item_form, script_form, submit_form, cancel_form, cancel_sync_form, flush_form, start_form, drain_form, unplug_form, end_form, form_of, formless, line_of};
 
 use crate::keyword::{Keyword, is_unbuilt, keyword_of};
 use crate::numbers::priority_of;
@@ -24,6 +24,8 @@ pub enum Form {
     Script(Named),
     Submit(Named, Option<Named>),
     Cancel(Named),
+    CancelSync(Named),
+    Flush(Named),
     Start(Named),
     /// The queue, and whether the drain plugs it.
     Drain(Named, bool),
@@ -78,6 +80,8 @@ fn form_of(keyword: Keyword, words: &mut Words<'_>) -> Option<Form>
         Keyword::Script => script_form(words),
         Keyword::Submit => submit_form(words),
         Keyword::Cancel => cancel_form(words),
+        Keyword::CancelSync => cancel_sync_form(words),
+        Keyword::Flush => flush_form(words),
         Keyword::Start => start_form(words),
         Keyword::Drain => drain_form(words),
         Keyword::Unplug => unplug_form(words),
@@ -150,6 +154,26 @@ fn cancel_form(words: &mut Words<'_>) -> Option<Form>
         return None;
     }
     Some(Form::Cancel(named_of(item)?))
+}
+
+fn cancel_sync_form(words: &mut Words<'_>) -> Option<Form>
+    ensures { result ≡ cancel_sync_form words.old }
+{
+    let item = words.next()?;
+    if words.next().is_some() {
+        return None;
+    }
+    Some(Form::CancelSync(named_of(item)?))
+}
+
+fn flush_form(words: &mut Words<'_>) -> Option<Form>
+    ensures { result ≡ flush_form words.old }
+{
+    let item = words.next()?;
+    if words.next().is_some() {
+        return None;
+    }
+    Some(Form::Flush(named_of(item)?))
 }
 
 fn start_form(words: &mut Words<'_>) -> Option<Form>

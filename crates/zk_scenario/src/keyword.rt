@@ -1,7 +1,7 @@
-ghost use Rattle.std.specs.Prelude.{◌≡◌};
+ghost use Rattle.std.specs.Prelude.{◌≡◌, find};
 ghost use Rattle.std.specs.List.{list_any};
 ghost use Rattle.std.specs.Str.{bytes_eq};
-ghost use Rattle.zk_scenario.specs.Keywords.{keyword_of, is_unbuilt, unbuilt_declarations, unbuilt_work_calls, unbuilt_wait_calls, unbuilt_signal_calls, unbuilt_bus_calls, unbuilt_table_calls};
+ghost use Rattle.zk_scenario.specs.Keywords.{keyword_text, call_keywords, keyword_of, is_unbuilt, unbuilt_declarations, unbuilt_work_calls, unbuilt_wait_calls, unbuilt_signal_calls, unbuilt_bus_calls, unbuilt_table_calls};
 
 /// The first word of a form that is built.
 #[derive(Clone, Copy, Debug)]
@@ -12,6 +12,8 @@ pub enum Keyword {
     Script,
     Submit,
     Cancel,
+    CancelSync,
+    Flush,
     Start,
     Drain,
     Unplug,
@@ -34,11 +36,27 @@ pub fn keyword_of(word: &[u8]) -> Option<Keyword>
     if word == b"script".as_slice() {
         return Some(Keyword::Script);
     }
+    if word == b"end".as_slice() {
+        return Some(Keyword::End);
+    }
+    call_keyword_of(word)
+}
+
+/// The call that a line's first word announces.
+fn call_keyword_of(word: &[u8]) -> Option<Keyword>
+    ensures { result ≡ find (λ k. bytes_eq word.now (keyword_text k)) call_keywords }
+{
     if word == b"submit".as_slice() {
         return Some(Keyword::Submit);
     }
     if word == b"cancel".as_slice() {
         return Some(Keyword::Cancel);
+    }
+    if word == b"cancelsync".as_slice() {
+        return Some(Keyword::CancelSync);
+    }
+    if word == b"flush".as_slice() {
+        return Some(Keyword::Flush);
     }
     if word == b"start".as_slice() {
         return Some(Keyword::Start);
@@ -48,9 +66,6 @@ pub fn keyword_of(word: &[u8]) -> Option<Keyword>
     }
     if word == b"unplug".as_slice() {
         return Some(Keyword::Unplug);
-    }
-    if word == b"end".as_slice() {
-        return Some(Keyword::End);
     }
     None
 }
@@ -82,9 +97,7 @@ fn is_unbuilt_declaration(word: &[u8]) -> bool
 fn is_unbuilt_work_call(word: &[u8]) -> bool
     ensures { result ≡ list_any (bytes_eq word.now) unbuilt_work_calls }
 {
-    word == b"cancelsync".as_slice()
-        || word == b"flush".as_slice()
-        || word == b"schedule".as_slice()
+    word == b"schedule".as_slice()
         || word == b"reschedule".as_slice()
         || word == b"remaining".as_slice()
         || word == b"busy".as_slice()

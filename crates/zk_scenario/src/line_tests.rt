@@ -1,6 +1,6 @@
 use crate::{
-    Form, Line, Named, line_of, number_of, put_cancel, put_drain, put_end, put_item, put_queue,
-    put_script, put_start, put_submit, put_thread, put_unplug,
+    Form, Line, Named, line_of, number_of, put_cancel, put_cancel_sync, put_drain, put_end,
+    put_flush, put_item, put_queue, put_script, put_start, put_submit, put_thread, put_unplug,
 };
 use std::test::Fail;
 use zk_base::NoMemory;
@@ -21,6 +21,8 @@ fn put_form(out: &mut Vec<u8>, form: &Form) -> Result<(), NoMemory> {
         }
         Form::Submit(Named::Plain(item), None) => put_submit(out, item.bytes(), None),
         Form::Cancel(Named::Plain(item)) => put_cancel(out, item.bytes()),
+        Form::CancelSync(Named::Plain(item)) => put_cancel_sync(out, item.bytes()),
+        Form::Flush(Named::Plain(item)) => put_flush(out, item.bytes()),
         Form::Start(Named::Plain(queue)) => put_start(out, queue.bytes()),
         Form::Drain(Named::Plain(queue), plug) => put_drain(out, queue.bytes(), *plug),
         Form::Unplug(Named::Plain(queue)) => put_unplug(out, queue.bytes()),
@@ -116,6 +118,29 @@ fn tells_drains_and_unplugs(rt: HostRuntime) -> Result<(), Fail> {
         ("unplug", "item misspelled"),
         ("unplug q0 q1", "item misspelled"),
         ("unplug q0 ", "item misspelled"),
+    ];
+    for (line, told) in table {
+        let mut out = Vec::new(rt.alloc());
+        put_line(&mut out, line.as_bytes())?;
+        assert_eq!(rt; out.as_slice(), told.as_bytes(), "at {line}");
+    }
+    Ok(())
+}
+
+#[test]
+fn tells_the_calls_that_wait(rt: HostRuntime) -> Result<(), Fail> {
+    let table: [(&str, &str); 11] = [
+        ("cancelsync i0", "cancelsync i0"),
+        ("flush i0", "flush i0"),
+        ("cancelsync wait", "item reserved"),
+        ("flush table", "item reserved"),
+        ("cancelsync", "item misspelled"),
+        ("cancelsync i0 i1", "item misspelled"),
+        ("cancelsync  i0", "item misspelled"),
+        ("cancel sync i0", "item misspelled"),
+        ("flush", "item misspelled"),
+        ("flush i0 q0", "item misspelled"),
+        ("flush i0 ", "item misspelled"),
     ];
     for (line, told) in table {
         let mut out = Vec::new(rt.alloc());

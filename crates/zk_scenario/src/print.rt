@@ -1,6 +1,6 @@
 ghost use Rattle.std.specs.Prelude.{◌≡◌, ◌∷◌, ◌++◌, OnOk, option_map};
 ghost use Rattle.std.specs.Fmt.{signed_decimal};
-ghost use Rattle.zk_scenario.specs.Text.{line_text, mode_text, state_text, plug_text, thread_words, queue_words, item_words, script_words, submit_words, cancel_words, start_words, drain_words, unplug_words, end_words};
+ghost use Rattle.zk_scenario.specs.Text.{line_text, mode_text, state_text, plug_text, thread_words, queue_words, item_words, script_words, submit_words, cancel_words, cancel_sync_words, flush_words, start_words, drain_words, unplug_words, end_words};
 
 use itoa::Buffer;
 use zk_base::{NoMemory, put};
@@ -62,6 +62,22 @@ pub fn put_cancel(out: &mut Vec<u8>, item: &[u8]) -> Result<(), NoMemory>
     ensures { OnOk result (out.new.items ≡ out.old.items ++ line_text (cancel_words item.now)) }
 {
     put(out, b"cancel")?;
+    put_next_word(out, item)
+}
+
+/// The cancellation of an item, and the wait for its end.
+pub fn put_cancel_sync(out: &mut Vec<u8>, item: &[u8]) -> Result<(), NoMemory>
+    ensures { OnOk result (out.new.items ≡ out.old.items ++ line_text (cancel_sync_words item.now)) }
+{
+    put(out, b"cancelsync")?;
+    put_next_word(out, item)
+}
+
+/// The wait for what is submitted of an item.
+pub fn put_flush(out: &mut Vec<u8>, item: &[u8]) -> Result<(), NoMemory>
+    ensures { OnOk result (out.new.items ≡ out.old.items ++ line_text (flush_words item.now)) }
+{
+    put(out, b"flush")?;
     put_next_word(out, item)
 }
 

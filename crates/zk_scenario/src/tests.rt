@@ -72,7 +72,7 @@ fn refuses_what_stands_in_the_wrong_place(rt: HostRuntime) -> Result<(), Fail> {
             "thread t 16 user\n|thread main 0 user\n|busy q0\n",
             "5 unbuilt",
         ),
-        (BEHIND, "thread t 0 user\n|flush i0\n", "7 unbuilt"),
+        (BEHIND, "thread t 0 user\n|remaining i0\n", "7 unbuilt"),
         (FRONT, "script i0\nend\nscript i0\n", "7 order"),
         (FRONT, "end\n|submit i0\n|cancel nosuch\n", "5 order"),
         (
@@ -167,6 +167,42 @@ fn reads_drains_and_unplugs(rt: HostRuntime) -> Result<(), Fail> {
         (
             INSIDE,
             "unplug nosuch\n|unplug i0\n|unplug main\n|unplug clock\n",
+            "6 name",
+        ),
+    ];
+    for (before, lines, said) in table {
+        assert!(rt; told(rt.alloc(), before, lines, said)?, "at {lines}");
+    }
+    Ok(())
+}
+
+#[test]
+fn reads_the_calls_that_wait(rt: HostRuntime) -> Result<(), Fail> {
+    let whole = "cancelsync i0\nend\n|flush i0\nend\n|flush i0\ncancelsync i0\nflush i0\nend\n";
+    let other = "item flush\nscript i0\nflush flush\ncancelsync flush\nend\n";
+    let cancels = "cancelsync\n|cancelsync i0 i0\n|cancelsync I0\n|cancel sync i0\n|cancelsync i0";
+    let flushes = "flush\n|flush i0 q0\n|flush 0\n|flush i0\r\n|flush i0";
+    let spaces = "cancelsync  i0\n|cancelsync i0 \n|flush  i0\n|flush i0 \n| flush i0\n";
+    let table: [(&str, &str, &str); 9] = [
+        (INSIDE, whole, "read"),
+        (FRONT, other, "read"),
+        (INSIDE, cancels, "6 line"),
+        (INSIDE, flushes, "6 line"),
+        (INSIDE, spaces, "6 line"),
+        (
+            FRONT,
+            "cancelsync i0\n|flush i0\n|flush nosuch\n",
+            "5 order",
+        ),
+        (BEHIND, "cancelsync q0\n|flush work\n", "7 order"),
+        (
+            INSIDE,
+            "cancelsync nosuch\n|cancelsync q0\n|cancelsync main\n|cancelsync again\n",
+            "6 name",
+        ),
+        (
+            INSIDE,
+            "flush nosuch\n|flush q0\n|flush main\n|flush nomsg\n",
             "6 name",
         ),
     ];

@@ -25,6 +25,10 @@ pub enum Call {
     Submit(Ref, Option<Ref>),
     /// Zephyr's `k_work_cancel`.
     Cancel(Ref),
+    /// Zephyr's `k_work_cancel_sync`.
+    CancelSync(Ref),
+    /// Zephyr's `k_work_flush`.
+    Flush(Ref),
     /// A queue. Zephyr's `k_work_queue_start`.
     Start(Ref),
     /// A queue, and whether it is plugged with the drain. Zephyr's `k_work_queue_drain`.

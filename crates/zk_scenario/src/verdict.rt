@@ -46,6 +46,8 @@ pub fn call_of(objects: &Objects, form: &Form) -> Option<Call>
             Some(Call::Submit(reference(objects, item), Some(queue)))
         }
         Form::Cancel(item) => Some(Call::Cancel(reference(objects, item))),
+        Form::CancelSync(item) => Some(Call::CancelSync(reference(objects, item))),
+        Form::Flush(item) => Some(Call::Flush(reference(objects, item))),
         Form::Start(queue) => Some(Call::Start(reference(objects, queue))),
         Form::Drain(queue, plug) => Some(Call::Drain(reference(objects, queue), *plug)),
         Form::Unplug(queue) => Some(Call::Unplug(reference(objects, queue))),
@@ -64,6 +66,8 @@ pub fn is_unbuilt(form: &Form) -> bool
         Form::Script(_) => false,
         Form::Submit(_, _) => false,
         Form::Cancel(_) => false,
+        Form::CancelSync(_) => false,
+        Form::Flush(_) => false,
         Form::Start(_) => false,
         Form::Drain(_, _) => false,
         Form::Unplug(_) => false,
@@ -82,6 +86,8 @@ pub fn is_out_of_range(form: &Form) -> bool
         Form::Script(_) => false,
         Form::Submit(_, _) => false,
         Form::Cancel(_) => false,
+        Form::CancelSync(_) => false,
+        Form::Flush(_) => false,
         Form::Start(_) => false,
         Form::Drain(_, _) => false,
         Form::Unplug(_) => false,
@@ -103,6 +109,8 @@ pub fn is_misnamed(objects: &Objects, form: &Form) -> bool
             !(names_item(objects, item) && names_queue(objects, queue))
         }
         Form::Cancel(item) => !names_item(objects, item),
+        Form::CancelSync(item) => !names_item(objects, item),
+        Form::Flush(item) => !names_item(objects, item),
         Form::Start(queue) => !names_queue(objects, queue),
         Form::Drain(queue, _) => !names_queue(objects, queue),
         Form::Unplug(queue) => !names_queue(objects, queue),

@@ -55,6 +55,11 @@ flag_letters flags = flag_letter flags 1 114 ++ flag_letter flags 2 99 ++ flag_l
 abbrev pub flags_word : ℕ → List ℕ
 flags_word flags = (if flags == 0 then codes "-" else flag_letters flags)
 
+-- a truth value
+abbrev pub truth_word : Bool → List ℕ
+truth_word true = codes "true"
+truth_word false = codes "false"
+
 -- the queue that a submission names, and a dash for none
 abbrev pub named_queue : List Decl → Option ℕ → List ℕ
 named_queue decls None = codes "-"
@@ -69,6 +74,10 @@ mode_word false = codes "open"
 abbrev pub op_text : List Decl → WorkOp → List ℕ
 op_text decls (ops.Submit item queue) = codes "submit " ++ item_name decls item ++ spaced (named_queue decls queue)
 op_text decls (ops.Cancel item) = codes "cancel " ++ item_name decls item
+op_text decls (ops.CancelStart item) = codes "cancelstart " ++ item_name decls item
+op_text decls (ops.CancelDone place) = codes "canceldone " ++ decimal place
+op_text decls (ops.FlushStart item) = codes "flushstart " ++ item_name decls item
+op_text decls (ops.FlushDone place) = codes "flushdone " ++ decimal place
 op_text decls (ops.Start queue) = codes "start " ++ queue_name decls queue
 op_text decls (ops.DrainStart queue plug) = codes "drainstart " ++ queue_name decls queue ++ spaced (mode_word plug)
 op_text decls (ops.DrainDone place) = codes "draindone " ++ decimal place
@@ -83,11 +92,17 @@ submitted_text decls (submissions.Fresh admission queue) = codes "1 " ++ admissi
 submitted_text decls (submissions.Rerun admission queue) = codes "2 " ++ admission_word admission ++ spaced (queue_name decls queue)
 submitted_text decls (submissions.Refused errno) = errno_word errno
 
+-- a wait for the end of an admission
+abbrev pub wait_for_text : ℕ → List ℕ
+wait_for_text admission = codes "wait " ++ admission_word admission
+
 -- a reply of the work service
 abbrev pub reply_text : List Decl → WorkReply → List ℕ
 reply_text decls (replies.Sub submitted) = submitted_text decls submitted
 reply_text decls (replies.Flags flags) = flags_word flags
+reply_text decls (replies.Truth truth) = truth_word truth
 reply_text decls replies.Wait = codes "wait"
+reply_text decls (replies.WaitFor admission) = wait_for_text admission
 reply_text decls (replies.Number number) = decimal number
 reply_text decls replies.Done = codes "ok"
 reply_text decls replies.Already = codes "already"
@@ -97,6 +112,8 @@ reply_text decls (replies.Run item admission) = item_name decls item ++ spaced (
 abbrev pub call_word : Word → List ℕ
 call_word words.Submit = codes "submit"
 call_word words.Cancel = codes "cancel"
+call_word words.CancelSync = codes "cancelsync"
+call_word words.Flush = codes "flush"
 call_word words.Start = codes "start"
 call_word words.Drain = codes "drain"
 call_word words.Unplug = codes "unplug"
@@ -105,6 +122,7 @@ call_word words.Unplug = codes "unplug"
 abbrev pub answer_text : Answer → List ℕ
 answer_text (answers.Number number) = decimal number
 answer_text (answers.Flags flags) = flags_word flags
+answer_text (answers.Truth truth) = truth_word truth
 answer_text (answers.Refused errno) = errno_word errno
 
 -- how a player stands

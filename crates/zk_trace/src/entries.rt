@@ -1,10 +1,10 @@
 ghost use Rattle.std.specs.Prelude.{◌≡◌, ◌++◌, decimal, OnOk};
 ghost use Rattle.zk_trace.specs.Names.{queue_name};
-ghost use Rattle.zk_trace.specs.Words.{spaced, admission_word, named_queue, op_text, submitted_text, reply_text};
+ghost use Rattle.zk_trace.specs.Words.{spaced, admission_word, named_queue, op_text, submitted_text, wait_for_text, reply_text};
 ghost use Rattle.zk_trace.specs.Text.{entry_line};
 
 use crate::names::{item_name, player_name, queue_name};
-use crate::words::{errno_word, mode_word, put_admission, put_flags, put_spaced};
+use crate::words::{errno_word, mode_word, put_admission, put_flags, put_spaced, truth_word};
 use zk_base::{Entry, NoMemory, put, put_decimal};
 use zk_model_work::{Submitted, WorkOp, WorkReply};
 use zk_scenario::Scenario;
@@ -36,6 +36,10 @@ fn put_op(out: &mut Vec<u8>, scenario: &Scenario, op: WorkOp) -> Result<(), NoMe
             put_named_spaced(out, b"submit ", item_name(scenario, item), queue)
         }
         WorkOp::Cancel(item) => put_named(out, b"cancel ", item_name(scenario, item)),
+        WorkOp::CancelStart(item) => put_named(out, b"cancelstart ", item_name(scenario, item)),
+        WorkOp::CancelDone(place) => put_placed(out, b"canceldone ", place),
+        WorkOp::FlushStart(item) => put_named(out, b"flushstart ", item_name(scenario, item)),
+        WorkOp::FlushDone(place) => put_placed(out, b"flushdone ", place),
         WorkOp::Start(queue) => put_named(out, b"start ", queue_name(scenario, queue)),
         WorkOp::DrainStart(queue, plug) => {
             let mode = mode_word(plug);
@@ -90,12 +94,21 @@ fn put_reply(out: &mut Vec<u8>, scenario: &Scenario, reply: WorkReply) -> Result
     match reply {
         WorkReply::Sub(submitted) => put_submitted(out, scenario, submitted),
         WorkReply::Flags(flags) => put_flags(out, flags),
+        WorkReply::Truth(truth) => put(out, truth_word(truth)),
         WorkReply::Wait => put(out, b"wait"),
+        WorkReply::WaitFor(admission) => put_wait_for(out, admission),
         WorkReply::Number(number) => put_decimal(out, number),
         WorkReply::Done => put(out, b"ok"),
         WorkReply::Already => put(out, b"already"),
         WorkReply::Run(item, admission) => put_run(out, scenario, item, admission),
     }
+}
+
+fn put_wait_for(out: &mut Vec<u8>, admission: u64) -> Result<(), NoMemory>
+    ensures { OnOk result (out.new.items ≡ out.old.items ++ wait_for_text admission) }
+{
+    put(out, b"wait ")?;
+    put_admission(out, admission)
 }
 
 fn put_run(

@@ -1,6 +1,6 @@
 ghost use Rattle.std.specs.Prelude.{◌≡◌, ◌++◌, ◌==◌, OnOk};
 ghost use Rattle.std.specs.Int.RustNames.{bit_and};
-ghost use Rattle.zk_trace.specs.Words.{spaced, ending_word, errno_word, admission_word, flag_letter, flag_letters, flags_word, mode_word, call_word, answer_text, state_word};
+ghost use Rattle.zk_trace.specs.Words.{spaced, ending_word, errno_word, admission_word, flag_letter, flag_letters, flags_word, truth_word, mode_word, call_word, answer_text, state_word};
 
 use crate::Ending;
 use zk_base::{Errno, NoMemory, put, put_decimal};
@@ -75,6 +75,12 @@ fn put_letter(out: &mut Vec<u8>, flags: u8, flag: u8, letter: u8) -> Result<(), 
     put(out, &[letter])
 }
 
+pub fn truth_word(truth: bool) -> &'static [u8]
+    ensures { result.now ≡ truth_word truth }
+{
+    if truth { b"true" } else { b"false" }
+}
+
 pub fn mode_word(plug: bool) -> &'static [u8]
     ensures { result.now ≡ mode_word plug }
 {
@@ -87,6 +93,8 @@ pub fn call_word(word: Word) -> &'static [u8]
     match word {
         Word::Submit => b"submit",
         Word::Cancel => b"cancel",
+        Word::CancelSync => b"cancelsync",
+        Word::Flush => b"flush",
         Word::Start => b"start",
         Word::Drain => b"drain",
         Word::Unplug => b"unplug",
@@ -100,6 +108,7 @@ pub fn put_answer(out: &mut Vec<u8>, answer: Answer) -> Result<(), NoMemory>
     match answer {
         Answer::Number(number) => put_decimal(out, number),
         Answer::Flags(flags) => put_flags(out, flags),
+        Answer::Truth(truth) => put(out, truth_word(truth)),
         Answer::Refused(errno) => put(out, errno_word(errno)),
     }
 }

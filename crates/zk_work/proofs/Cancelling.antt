@@ -25,7 +25,7 @@ passes-push p [] a (suc m) none = refl
 passes-push p (x ∷ xs) a zero none = refl
 passes-push p (x ∷ xs) a (suc m) none = passes-push p xs a m none
 
-still-push : (p : Admission → Bool) (xs : List Admission) (a : Admission) (m : ℕ) → passes_at p xs m ≡ true → passes_at p (xs ++ a ∷ []) m ≡ true
+pub still-push : (p : Admission → Bool) (xs : List Admission) (a : Admission) (m : ℕ) → passes_at p xs m ≡ true → passes_at p (xs ++ a ∷ []) m ≡ true
 still-push p [] a m is = absurd (cc)
 still-push p (x ∷ xs) a zero is = is
 still-push p (x ∷ xs) a (suc m) is = still-push p xs a m is
@@ -41,7 +41,7 @@ still-or : (p : Admission → Bool) (f : Admission → Admission) (o : Option Ad
 still-or p f None still is = absurd (cc)
 still-or p f (Some a) still is = still a is
 
-still-map : (p : Admission → Bool) (f : Admission → Admission) (xs : List Admission) (m : ℕ) → ((a : Admission) → p a ≡ true → p (f a) ≡ true) → passes_at p xs m ≡ true → passes_at p (map f xs) m ≡ true
+pub still-map : (p : Admission → Bool) (f : Admission → Admission) (xs : List Admission) (m : ℕ) → ((a : Admission) → p a ≡ true → p (f a) ≡ true) → passes_at p xs m ≡ true → passes_at p (map f xs) m ≡ true
 still-map p f xs m still is = ap (λ (o : Option Admission). option_map_or p o false) (slice_get-map f xs m) ∙ still-or p f (slice_get xs m) still is
 
 at-or : (p : Admission → Bool) (xs : List Admission) (m : ℕ) (a : Admission) → slice_get xs m ≡ Some a → passes_at p xs m ≡ p a
@@ -56,7 +56,7 @@ apart : (xs : List Admission) (n m : ℕ) (a : Admission) → slice_get xs n ≡
 apart xs n m a at waits past same =
     not-waiting (is_waiting a.life) waits (sym (at-or (λ (a : Admission). not (is_waiting a.life)) xs m a (ap (slice_get xs) (sym same) ∙ at)) ∙ past)
 
-passes-set_life : (p : Admission → Bool) (xs : List Admission) (n m : ℕ) → n ≢ m → passes_at p (set_life xs n Running) m ≡ passes_at p xs m
+pub passes-set_life : (p : Admission → Bool) (xs : List Admission) (n m : ℕ) → n ≢ m → passes_at p (set_life xs n Running) m ≡ passes_at p xs m
 passes-set_life p xs n m differ = ap (λ (o : Option Admission). option_map_or p o false) (set_life-aside xs n m Running differ)
 
 -- marks that pass alike

@@ -9,7 +9,7 @@ use Rattle.zk_model_work.specs.State.{fresh_queues, start_of}
 use Rattle.zk_model_work.proofs.Counts.{IsCounted-fresh, length-fresh_queues}
 use Rattle.zk_queue.specs.declared.ticket.Ticket.{Ticket}
 use Rattle.zk_queue.specs.Open as active
-use Rattle.zk_work.specs.Kept.{Kept, is_drain, StandsFor}
+use Rattle.zk_work.specs.Kept.{Kept, is_there, StandsFor}
 use Rattle.zk_work.proofs.Sound.{IsSound-fresh}
 
 -- all places of a list alike, and the same beyond
@@ -47,7 +47,7 @@ fresh-stands items workers started same few =
       queues = refl;
       arms = refl;
       waits = refl;
-      drains = All-nil (λ (w : Wait). is_drain w.awaited ≡ true);
+      there = All-nil (λ (w : Wait). is_there [] w.awaited w.answered ≡ true);
       made = refl;
       running = refl;
       last = λ i. alike items i None;

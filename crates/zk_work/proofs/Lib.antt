@@ -8,3 +8,6 @@ pub mod Sound
 pub mod Standing
 pub mod Steps
 pub mod Tickets
+pub mod Numbers
+pub mod There
+pub mod Awaiting

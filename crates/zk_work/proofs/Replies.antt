@@ -1,46 +1,31 @@
 -- The engine answers what the machine does in each state that it stands for.
-use Rattle.std.proofs.Common.{◌≡◌, ℕ, suc, ◌+◌, Bool, true, false, ◌&&◌, cond, eqb, Option, Some, None, is_some, is_none, option_map, option_and_then, option_to_list, List, [], ◌∷◌, find, slice_get, refl, sym, ap, ◌∙◌, arith, All, filter, get_or, not, ◌==◌}
+use Rattle.std.proofs.Common.{◌≡◌, ℕ, suc, Bool, true, false, ◌&&◌, cond, eqb, Option, Some, None, is_some, is_none, option_map, option_and_then, option_to_list, List, [], ◌∷◌, find, slice_get, refl, sym, ap, ◌∙◌, arith}
 use Rattle.std.specs.Cmp.{first_so, second_so}
-use Rattle.std.specs.List.{list_any}
 use Rattle.std.specs.Option.{option_map_or, option_or}
 use Rattle.std.proofs.lemmas.Bool.{eqb-true}
-use Rattle.std.proofs.lemmas.List.Folds.{list_any_none}
-use Rattle.std.proofs.lemmas.Map.Views.{any-filter_same}
 use Rattle.std.proofs.lemmas.Option.{same_Some}
 use Rattle.zk_base.specs.declared.ids.Who.{Who}
 use Rattle.zk_base.specs.declared.errors.Errno.TheVariants.{Busy, Inval}
 use Rattle.zk_model_work.specs.declared.parts.Admission.{Admission}
 use Rattle.zk_model_work.specs.declared.parts.Queue.{Queue}
-use Rattle.zk_model_work.specs.declared.parts.Arm.{Arm}
-use Rattle.zk_model_work.specs.declared.parts.Awaited.{Awaited}
-use Rattle.zk_model_work.specs.declared.parts.Awaited.TheVariants.{Cancel, Flush, Drain}
-use Rattle.zk_model_work.specs.declared.parts.Wait.{Wait}
 use Rattle.zk_model_work.specs.declared.ops.Submitted.{Submitted}
 use Rattle.zk_model_work.specs.declared.ops.Submitted.TheVariants.{Already, Fresh, Rerun, Refused}
 use Rattle.zk_model_work.specs.declared.ops.WorkReply.{WorkReply}
-use Rattle.zk_model_work.specs.declared.ops.WorkReply.TheVariants.{Number, Done, Run}
+use Rattle.zk_model_work.specs.declared.ops.WorkReply.TheVariants.{Done, Run}
 use Rattle.zk_model_work.specs.Lists.{first}
-use Rattle.zk_model_work.specs.Questions.{is_running, runs_as, waits_for, runs_on, waiting, running, running_queue, last_queue, line, run, is_cancelling, armed, is_flushing, flushes, weight}
+use Rattle.zk_model_work.specs.Questions.{is_running, runs_as, waits_for, runs_on, waiting, running, running_queue, last_queue, line, run, is_cancelling}
 use Rattle.zk_model_work.specs.State.{State}
-use Rattle.zk_model_work.specs.Machine.{target, admission, refusal, submission_to, submission_at, submission, flags_of, taken_up, may_begin, may_end, may_drain_done, is_unanswered, has_drained, is_worker}
+use Rattle.zk_model_work.specs.Machine.{target, admission, refusal, submission_to, submission_at, submission, taken_up, may_begin, may_end, is_worker}
 use Rattle.zk_model_work.proofs.Lines.{first_of_places}
 use Rattle.zk_model_work.proofs.Overlaps.{position-none, found_queue, open-running}
 use Rattle.zk_queue.specs.declared.ticket.Ticket.{Ticket}
 use Rattle.zk_queue.specs.declared.marks.Marks.{Marks}
 use Rattle.zk_queue.specs.Open as active
-use Rattle.zk_work.specs.Kept.{Kept, last_of, unanswered, is_drain, IsSound, StandsFor}
+use Rattle.zk_work.specs.Kept.{Kept, last_of, IsSound, StandsFor}
 use Rattle.zk_work.specs.Tickets.{tickets}
 use Rattle.zk_work.specs.Engine.{target_of, admission_of, answer_at, answer_of}
 use Rattle.zk_work.proofs.Tickets.{position-first, first_stands}
 use Rattle.zk_work.proofs.Asked.{found, queued, runs_now}
-
--- where each wait is for a drain, no item is being flushed
-none_flushed : (xs : List Admission) (waits : List Wait) (item : ℕ) → All (λ w. is_drain w.awaited ≡ true) waits → is_flushing xs waits item ≡ false
-none_flushed xs waits item drains = list_any_none (λ (w : Wait). flushes xs item w.awaited) waits (λ k d within. no_flush (get_or waits k d).awaited (drains k d within)) where
-  no_flush : (a : Awaited) → is_drain a ≡ true → flushes xs item a ≡ false
-  no_flush (Cancel number) is = refl
-  no_flush (Flush number) is = absurd (cc)
-  no_flush (Drain queue count) is = refl
 
 module _ (k : Kept) (s : State) (st : StandsFor k s) where
   pub is_queued : (item : ℕ) → active.is_queued k.active item ≡ is_some (waiting s.admissions item)
@@ -51,19 +36,6 @@ module _ (k : Kept) (s : State) (st : StandsFor k s) where
 
   pub cancels : (item : ℕ) → (active.marks_of k.active item).cancelling ≡ is_cancelling s.admissions s.marks item
   cancels item = ap (λ (m : Marks). m.cancelling) (st.marks item)
-
-  -- the busy flags
-  pub flags-same : (item : ℕ) → active.flags k.active item ≡ flags_of s item
-  flags-same item =
-      let m = active.marks_of k.active item in
-      let is_delayed : m.delayed ≡ is_some (armed s.arms item) = ap (λ (m : Marks). m.delayed) (st.marks item) ∙ sym (ap (λ (arms : List Arm). is_some (armed arms item)) st.arms) in
-      let is_flushed : m.flushing ≡ is_flushing s.admissions s.waits item = ap (λ (m : Marks). m.flushing) (st.marks item) ∙ sym (none_flushed s.admissions s.waits item st.drains) in
-      let five : Bool → Bool → Bool → Bool → Bool → ℕ = λ a b c d e. weight 1 a + weight 2 b + weight 4 c + weight 8 d + weight 16 e in
-      ap (λ a. five a m.cancelling (active.is_queued k.active item) m.delayed m.flushing) (runs_item item)
-      ∙ ap (λ b. five (is_some (running s.admissions item)) b (active.is_queued k.active item) m.delayed m.flushing) (cancels item)
-      ∙ ap (λ c. five (is_some (running s.admissions item)) (is_cancelling s.admissions s.marks item) c m.delayed m.flushing) (is_queued item)
-      ∙ ap (λ d. five (is_some (running s.admissions item)) (is_cancelling s.admissions s.marks item) (is_some (waiting s.admissions item)) d m.flushing) is_delayed
-      ∙ ap (five (is_some (running s.admissions item)) (is_cancelling s.admissions s.marks item) (is_some (waiting s.admissions item)) (is_some (armed s.arms item))) is_flushed
 
 find-none : (p : Admission → Bool) (xs : List Admission) → ((m : ℕ) (a : Admission) → slice_get xs m ≡ Some a → p a ≡ false) → find p xs ≡ None
 find-none p [] none = refl
@@ -176,16 +148,3 @@ end-same k s st who queue =
       by None false = refl
       by (Some t) true = refl
       by (Some t) false = refl
-
--- a drain that is over
-may_done : (qs : List Queue) (waits : List Wait) (who : Who) (place : ℕ) → may_drain_done qs (unanswered waits) who place ≡ may_drain_done qs waits who place
-may_done qs waits who place = any_filter (λ (w : Wait). not w.answered) (λ w. is_unanswered place who.number w && has_drained qs w.awaited) waits
-    (λ w is. second_so ((w.place == place) && (w.player == who.number)) (not w.answered) (first_so (is_unanswered place who.number w) (has_drained qs w.awaited) is)) where
-      any_filter : (q p : Wait → Bool) (ws : List Wait) → ((w : Wait) → p w ≡ true → q w ≡ true) → list_any p (filter q ws) ≡ list_any p ws
-      any_filter q p ws so = any-filter_same p q true so ws
-
-pub drain_done-same : (k : Kept) (s : State) (st : StandsFor k s) (who : Who) (place : ℕ) →
-    cond (may_drain_done k.queues k.waits who place) (Some (Number 1)) None ≡ cond (may_drain_done s.queues s.waits who place) (Some (Number 1)) None
-drain_done-same k s st who place =
-    ap (λ b. cond b (Some (Number 1)) None)
-    (ap (λ (qs : List Queue). may_drain_done qs k.waits who place) st.queues ∙ ap (λ (ws : List Wait). may_drain_done s.queues ws who place) st.waits ∙ may_done s.queues s.waits who place)

@@ -6,7 +6,7 @@ use Rattle.std.proofs.Math.ListN.{get_or-map}
 use Rattle.std.proofs.lemmas.Bool.{eqb-true, eq-eqb, false≢true}
 use Rattle.std.proofs.lemmas.Bool.Decides.{eqb_tells}
 use Rattle.std.proofs.lemmas.List.{get_or-set_same, get_or-set_other, length-set, length-map, append-nil}
-use Rattle.std.proofs.lemmas.List.Elements.{All-set, All-append, All-cons, All-nil, All-weaker, All-map, filter-append}
+use Rattle.std.proofs.lemmas.List.Elements.{All-set, All-append, All-cons, All-nil, All-weaker, filter-append}
 use Rattle.std.proofs.lemmas.List.Sums.{count_by-le-length}
 use Rattle.std.proofs.lemmas.Option.{slice_get-map, same_Some}
 use Rattle.zk_model_work.specs.declared.parts.Life.TheVariants.{Waiting, Running, Ended}
@@ -19,7 +19,7 @@ use Rattle.zk_model_work.specs.declared.parts.Arm.{Arm}
 use Rattle.zk_model_work.specs.Lists.{first}
 use Rattle.zk_model_work.specs.Questions.{is_waiting, is_running, waits_as, runs_as, waits_for, runs_on, running, last_queue, line, run, is_empty_and_idle, is_cancelling}
 use Rattle.zk_model_work.specs.State.{State}
-use Rattle.zk_model_work.specs.Machine.{with_life, set_life, drop_one, end_one, settle_from, end, cancel, disarm, change, drain, drain_start, drain_wait, drained_of, wait_unless, answer_one, answer}
+use Rattle.zk_model_work.specs.Machine.{with_life, set_life, drop_one, end_one, settle_from, end, cancel, disarm, change, drain, drain_start, drain_wait, drained_of, wait_for, awaiting}
 use Rattle.zk_model_work.proofs.Counts.{IsCounted-more, IsCounted-settled, IsCounted-changed, IsCounted-drain, length-settle_from, length-change, length-drain}
 use Rattle.zk_model_work.proofs.Overlaps.{Admits, open-running}
 use Rattle.zk_queue.specs.declared.ticket.Ticket.{Ticket}
@@ -27,15 +27,17 @@ use Rattle.zk_queue.specs.Line.{without}
 use Rattle.zk_queue.specs.Open as active
 use Rattle.zk_queue.specs.Open.{Open, IsAbove}
 use Rattle.zk_queue.proofs.Numbers.{IsAbove-drop}
-use Rattle.zk_work.specs.Kept.{Kept, IsSound, StandsFor, unanswered, is_drain}
+use Rattle.zk_work.specs.Kept.{Kept, IsSound, StandsFor, unanswered, is_there}
 use Rattle.zk_work.specs.Tickets.{tickets}
-use Rattle.zk_work.specs.Engine.{admitted, cancelled, settled, wait_of, drained, without_place}
+use Rattle.zk_work.specs.Engine.{admitted, cancelled, settled, drained}
+use Rattle.zk_work.specs.Engine as engine
 use Rattle.zk_work.proofs.Tickets.{ticket, first_stands, Stands, tickets-push, tickets-map, tickets-map_none, tickets-one, count-push, count-map, count-some}
 use Rattle.zk_work.proofs.Changes.{is_nil, length-nil, idle-tickets, without-drop, without-begin, runs-begin, runs-begin_other, runs_on-drop, runs_on-end, runs_on-end_other, running-drop, running-begin, running-end, waits_for-end, item-drop, queue-drop, item-end, queue-end}
 use Rattle.zk_work.proofs.Homes.{last-push, last-map, last-set_life}
 use Rattle.zk_work.proofs.Cancelling.{remarked, cancelling-push, cancelling-begin, cancelling-end_other, cancelling-none, cancelling-cancel, cancelling-cancel_none, cancelling-cancel_other}
 use Rattle.zk_work.proofs.Sound.{IsSound-push, IsSound-cancel, IsSound-end, IsSound-begin}
 use Rattle.zk_work.proofs.Replies.{runs_item}
+use Rattle.zk_work.proofs.There.{AllThere, there-later, Later-push, Later-drop, Later-begin, Later-end}
 
 abbrev Same : ℕ → ℕ → Type 0
 Same i j = ((eqb i j ≡ true) × (i ≡ j)) ⊎ ((eqb i j ≡ false) × (i ≢ j))
@@ -111,7 +113,7 @@ admitted-stands k s item queue named st admits item_in queue_in few =
       queues = st.queues;
       arms = st.arms;
       waits = st.waits;
-      drains = st.drains;
+      there = there-later xs (xs ++ a ∷ []) s.waits (Later-push xs a) st.there;
       made = (let long = length-append xs (a ∷ []) in omega arith);
       running = (let more = count-push (λ (a : Admission). is_running a.life) xs a in omega arith);
       last = λ i. last i (eqb_tells item i) (omega arith);
@@ -181,7 +183,7 @@ counted-stands k s st few =
       queues = st.queues;
       arms = st.arms;
       waits = st.waits;
-      drains = st.drains;
+      there = st.there;
       made = st.made;
       running = st.running;
       last = st.last;
@@ -216,7 +218,7 @@ change-stands c k s queue st few =
       queues = ap (λ (qs : List Queue). change c qs queue) st.queues;
       arms = st.arms;
       waits = st.waits;
-      drains = st.drains;
+      there = st.there;
       made = st.made;
       running = st.running;
       last = st.last;
@@ -226,11 +228,54 @@ change-stands c k s queue st few =
       sound = st.sound;
     }
 
--- the start of a drain, by what it finds
-drain-stands_of : (idle plug : Bool) (w : Wait) (k : Kept) (s : State) (queue : ℕ) → StandsFor k s → s.entries < 2 ^ 32 - 1 → w.answered ≡ false → is_drain w.awaited ≡ true →
-    StandsFor (record k { queues = drain idle plug k.queues queue; waits = wait_unless idle k.waits w; entries = k.entries + 1 })
-    (record s { queues = drain idle plug s.queues queue; waits = wait_unless idle s.waits w; entries = s.entries + 1 })
-drain-stands_of idle plug w k s queue st few still drains =
+-- what holds of all waits, after one more
+there-more : (xs : List Admission) (ws : List Wait) (o : Option Wait) → ((w : Wait) → o ≡ Some w → is_there xs w.awaited w.answered ≡ true) → AllThere xs ws → AllThere xs (awaiting ws o)
+there-more xs ws None here all = let P : Wait → Type 0 = λ w. is_there xs w.awaited w.answered ≡ true in All-append P ws [] all (All-nil P)
+there-more xs ws (Some w) here all = let P : Wait → Type 0 = λ w. is_there xs w.awaited w.answered ≡ true in All-append P ws (w ∷ []) all (All-cons P w [] (here w refl) (All-nil P))
+
+-- one wait more, which isn't answered
+unanswered-more : (ws : List Wait) (o : Option Wait) → ((w : Wait) → o ≡ Some w → w.answered ≡ false) → awaiting (unanswered ws) o ≡ unanswered (awaiting ws o)
+unanswered-more ws None still = append-nil (unanswered ws) ∙ sym (ap unanswered (append-nil ws))
+unanswered-more ws (Some w) still =
+    sym (filter-append (λ (w : Wait). not w.answered) ws (w ∷ []) ∙ ap (λ b. unanswered ws ++ cond (not b) (w ∷ []) []) (still w refl))
+
+-- one wait more
+pub waits-stand : (o : Option Wait) (k : Kept) (s : State) → StandsFor k s → ((w : Wait) → o ≡ Some w → w.answered ≡ false) → ((w : Wait) → o ≡ Some w → is_there s.admissions w.awaited w.answered ≡ true) →
+    StandsFor (record k { waits = awaiting k.waits o }) (record s { waits = awaiting s.waits o })
+waits-stand o k s st still there =
+    let w = st.whole in
+    record {
+      whole = record {
+        counted = w.counted;
+        fewer = w.fewer;
+        fewest = w.fewest;
+        items = w.items;
+        queues = w.queues;
+        shaped = w.shaped;
+        above = w.above;
+        busy = w.busy;
+        known = w.known;
+      };
+      time = st.time;
+      entries = st.entries;
+      items = st.items;
+      queues = st.queues;
+      arms = st.arms;
+      waits = ap (λ (ws : List Wait). awaiting ws o) st.waits ∙ unanswered-more s.waits o still;
+      there = there-more s.admissions s.waits o there st.there;
+      made = st.made;
+      running = st.running;
+      last = st.last;
+      lines = st.lines;
+      runs = st.runs;
+      marks = st.marks;
+      sound = st.sound;
+    }
+
+-- the queues after the start of a drain
+drains-stand : (idle plug : Bool) (k : Kept) (s : State) (queue : ℕ) → StandsFor k s → s.entries < 2 ^ 32 - 1 →
+    StandsFor (record k { queues = drain idle plug k.queues queue; entries = k.entries + 1 }) (record s { queues = drain idle plug s.queues queue; entries = s.entries + 1 })
+drains-stand idle plug k s queue st few =
     let wh = st.whole in
     let entries = st.entries in
     let fewer = wh.fewer in
@@ -251,96 +296,8 @@ drain-stands_of idle plug w k s queue st few still drains =
       items = st.items;
       queues = ap (λ (qs : List Queue). drain idle plug qs queue) st.queues;
       arms = st.arms;
-      waits = more idle;
-      drains = all idle;
-      made = st.made;
-      running = st.running;
-      last = st.last;
-      lines = st.lines;
-      runs = st.runs;
-      marks = st.marks;
-      sound = st.sound;
-    } where
-      more : (b : Bool) → wait_unless b k.waits w ≡ unanswered (wait_unless b s.waits w)
-      more true = st.waits
-      more false =
-          ap (λ (ws : List Wait). ws ++ w ∷ []) st.waits
-          ∙ sym (filter-append (λ (w : Wait). not w.answered) s.waits (w ∷ []) ∙ ap (λ b. unanswered s.waits ++ cond (not b) (w ∷ []) []) still)
-
-      all : (b : Bool) → All (λ (w : Wait). is_drain w.awaited ≡ true) (wait_unless b s.waits w)
-      all true = st.drains
-      all false =
-          let P : Wait → Type 0 = λ w. is_drain w.awaited ≡ true in
-          All-append P s.waits (w ∷ []) st.drains (All-cons P w [] drains (All-nil P))
-
--- the start of a drain
-pub drain-stands : (k : Kept) (s : State) (who : Who) (queue : ℕ) (plug : Bool) → StandsFor k s → s.entries < 2 ^ 32 - 1 →
-    StandsFor (record (drained k who queue plug) { entries = k.entries + 1 }) (record (drain_start s who queue plug) { entries = s.entries + 1 })
-drain-stands k s who queue plug st few =
-    let idle = idle-same k.active s.admissions queue (st.lines queue) (st.runs queue) in
-    let place : wait_of k who queue ≡ drain_wait s who queue =
-    ap (λ n. record { place = n; player = who.number; awaited = Drain queue (drained_of k.queues queue); answered = false }) st.entries
-    ∙ ap (λ (qs : List Queue). record { place = s.entries; player = who.number; awaited = Drain queue (drained_of qs queue); answered = false }) st.queues in
-    let T : Bool → Wait → Kept = λ b w. record k { queues = drain b plug k.queues queue; waits = wait_unless b k.waits w; entries = k.entries + 1 } in
-    let S : State = record (drain_start s who queue plug) { entries = s.entries + 1 } in
-    subst (λ b. StandsFor (T b (wait_of k who queue)) S) (sym idle)
-    (subst (λ w. StandsFor (T (is_empty_and_idle s.admissions queue) w) S) (sym place)
-    (drain-stands_of (is_empty_and_idle s.admissions queue) plug (drain_wait s who queue) k s queue st few refl refl))
-
--- a wait that is answered waits no longer
-answered-forgotten : (place : ℕ) (ws : List Wait) → without_place place (unanswered ws) ≡ unanswered (answer ws place)
-answered-forgotten place [] = refl
-answered-forgotten place (w ∷ ws) = by (w.place == place) w.answered refl refl (answered-forgotten place ws) where
-  rest : List Wait
-  rest = unanswered ws
-
-  after : List Wait
-  after = unanswered (answer ws place)
-
-  apart : (b : Bool) → (w.place == place) ≡ b → without_place place (w ∷ rest) ≡ cond (not b) (w ∷ without_place place rest) (without_place place rest)
-  apart b is = ap (λ c. cond (not c) (w ∷ without_place place rest) (without_place place rest)) is
-
-  by : (b c : Bool) → (w.place == place) ≡ b → w.answered ≡ c → without_place place rest ≡ after →
-      without_place place (cond (not c) (w ∷ rest) rest) ≡ cond (not (cond b (record w { answered = true }) w).answered) (cond b (record w { answered = true }) w ∷ after) after
-  by true true at is same = same
-  by true false at is same = apart true at ∙ same
-  by false true at is same = same ∙ sym (ap (λ d. cond (not d) (w ∷ after) after) is)
-  by false false at is same = apart false at ∙ ap (λ (ws : List Wait). w ∷ ws) same ∙ sym (ap (λ d. cond (not d) (w ∷ after) after) is)
-
-still_drains : (place : ℕ) (ws : List Wait) → All (λ (w : Wait). is_drain w.awaited ≡ true) ws → All (λ (w : Wait). is_drain w.awaited ≡ true) (answer ws place)
-still_drains place ws all =
-    All-map (λ (w : Wait). is_drain w.awaited ≡ true) (answer_one place) ws
-    (All-weaker (λ (w : Wait). is_drain w.awaited ≡ true) (λ (w : Wait). is_drain (answer_one place w).awaited ≡ true) (λ (w : Wait) is. still w (w.place == place) is) ws all) where
-      still : (w : Wait) (b : Bool) → is_drain w.awaited ≡ true → is_drain (cond b (record w { answered = true }) w).awaited ≡ true
-      still w true is = is
-      still w false is = is
-
--- the end of a drain
-pub answer-stands : (k : Kept) (s : State) (place : ℕ) → StandsFor k s → s.entries < 2 ^ 32 - 1 →
-    StandsFor (record k { waits = without_place place k.waits; entries = k.entries + 1 }) (record s { waits = answer s.waits place; entries = s.entries + 1 })
-answer-stands k s place st few =
-    let w = st.whole in
-    let entries = st.entries in
-    let fewer = w.fewer in
-    record {
-      whole = record {
-        counted = IsCounted-more k.entries k.queues w.counted (omega arith);
-        fewer = omega arith;
-        fewest = w.fewest;
-        items = w.items;
-        queues = w.queues;
-        shaped = w.shaped;
-        above = w.above;
-        busy = w.busy;
-        known = w.known;
-      };
-      time = st.time;
-      entries = ap (λ n. n + 1) st.entries;
-      items = st.items;
-      queues = st.queues;
-      arms = st.arms;
-      waits = ap (without_place place) st.waits ∙ answered-forgotten place s.waits;
-      drains = still_drains place s.waits st.drains;
+      waits = st.waits;
+      there = st.there;
       made = st.made;
       running = st.running;
       last = st.last;
@@ -349,6 +306,31 @@ answer-stands k s place st few =
       marks = st.marks;
       sound = st.sound;
     }
+
+-- the wait of a drain isn't answered, and needs nothing to be there
+drain_wait-new : (idle : Bool) (s : State) (who : Who) (queue : ℕ) (w : Wait) → drain_wait idle s who queue ≡ Some w → (w.answered ≡ false) × (is_there s.admissions w.awaited w.answered ≡ true)
+drain_wait-new true s who queue w is = absurd (cc)
+drain_wait-new false s who queue w is =
+    let same = same_Some (wait_for s.entries who (Drain queue (drained_of s.queues queue))) w is in
+    (sym (ap (λ (v : Wait). v.answered) same), subst (λ (v : Wait). is_there s.admissions v.awaited v.answered ≡ true) same refl)
+
+-- the start of a drain
+pub drain-stands : (k : Kept) (s : State) (who : Who) (queue : ℕ) (plug : Bool) → StandsFor k s → s.entries < 2 ^ 32 - 1 →
+    StandsFor (record (drained k who queue plug) { entries = k.entries + 1 }) (record (drain_start s who queue plug) { entries = s.entries + 1 })
+drain-stands k s who queue plug st few =
+    let idle = idle-same k.active s.admissions queue (st.lines queue) (st.runs queue) in
+    let i = is_empty_and_idle s.admissions queue in
+    let new = drain_wait-new i s who queue in
+    let S : State = record (drain_start s who queue plug) { entries = s.entries + 1 } in
+    let T : Bool → Option Wait → Kept = λ b o. record k { queues = drain b plug k.queues queue; waits = awaiting k.waits o; entries = k.entries + 1 } in
+    let wait : engine.drain_wait (active.is_idle k.active queue) k who queue ≡ drain_wait i s who queue =
+    ap (λ b. cond b None (Some (wait_for k.entries who (Drain queue (drained_of k.queues queue))))) idle
+    ∙ ap (λ n. cond i None (Some (wait_for n who (Drain queue (drained_of k.queues queue))))) st.entries
+    ∙ ap (λ (qs : List Queue). cond i None (Some (wait_for s.entries who (Drain queue (drained_of qs queue))))) st.queues in
+    subst (λ o. StandsFor (T (active.is_idle k.active queue) o) S) (sym wait)
+    (subst (λ b. StandsFor (T b (drain_wait i s who queue)) S) (sym idle)
+    (waits-stand (drain_wait i s who queue) (record k { queues = drain i plug k.queues queue; entries = k.entries + 1 }) (record s { queues = drain i plug s.queues queue; entries = s.entries + 1 })
+    (drains-stand i plug k s queue st few) (λ w is. (new w is).0) (λ w is. (new w is).1)))
 
 kept-cond : {A B : Type 0} (f : A → B) (b : Bool) (x y : A) → f x ≡ f y → f (cond b x y) ≡ f y
 kept-cond f true x y same = same
@@ -389,7 +371,7 @@ cancel-stands k s item st item_in few =
       queues = ap (settle_from (active.is_idle o) 0) st.queues ∙ settle-same (active.is_idle o) (is_empty_and_idle ys) 0 s.queues (λ q. idle-same o ys q (lines q) (runs q));
       arms = ap (λ (arms : List Arm). disarm arms item) st.arms;
       waits = st.waits;
-      drains = st.drains;
+      there = there-later xs ys s.waits (Later-drop item xs) st.there;
       made = st.made ∙ sym (length-map xs (drop_one item));
       running = st.running ∙ sym (count-map (λ (a : Admission). is_running a.life) (drop_one item) xs (running-drop item));
       last = λ i. st.last i ∙ sym (last-map i (drop_one item) xs (item-drop item) (queue-drop item));
@@ -495,7 +477,7 @@ begin-stands k s queue t st queue_in few idle lowest =
       queues = st.queues;
       arms = st.arms;
       waits = st.waits;
-      drains = st.drains;
+      there = there-later xs ys s.waits (Later-begin xs t.number a there waits) st.there;
       made = omega arith;
       running = new_running;
       last = λ i. st.last i ∙ sym (last-set_life i xs t.number Running);
@@ -594,7 +576,7 @@ end-stands k s queue t st queue_in few run =
       queues = ap (settle_from (active.is_idle o) 0) st.queues ∙ settle-same (active.is_idle o) (is_empty_and_idle ys) 0 s.queues (λ q. idle-same o ys q (lines q) (runs q (eqb_tells q queue) within));
       arms = st.arms;
       waits = st.waits;
-      drains = st.drains;
+      there = there-later xs ys s.waits (Later-end queue xs) st.there;
       made = st.made ∙ sym (length-map xs (end_one queue));
       running = new_running;
       last = λ i. st.last i ∙ sym (last-map i (end_one queue) xs (item-end queue) (queue-end queue));

@@ -1,21 +1,22 @@
 -- Each operation of the engine is a step of the machine.
-use Rattle.std.proofs.Common.{◌≡◌, ℕ, ◌+◌, ◌-◌, ◌^◌, ◌<◌, Bool, true, false, cond, ltb, Option, Some, None, option_map, List, [], ◌∷◌, ◌++◌, length, refl, sym, ap, subst, ◌∙◌, arith}
+use Rattle.std.proofs.Common.{◌≡◌, ℕ, ◌+◌, ◌-◌, ◌^◌, ◌<◌, Bool, true, false, cond, ltb, Option, Some, None, is_some, option_map, List, [], ◌∷◌, ◌++◌, length, refl, sym, ap, subst, ◌∙◌, arith}
 use Rattle.std.specs.Cmp.{first_so}
 use Rattle.std.specs.Option.{option_map_or}
 use Rattle.std.proofs.lemmas.Bool.{ltb-true}
 use Rattle.zk_base.specs.declared.ids.Who.{Who}
 use Rattle.zk_model_work.specs.declared.ops.WorkOp.{WorkOp}
-use Rattle.zk_model_work.specs.declared.ops.WorkOp.TheVariants.{Submit, Cancel, Start, DrainStart, DrainDone, Unplug, Begin, End}
+use Rattle.zk_model_work.specs.declared.ops.WorkOp.TheVariants.{Submit, Cancel, CancelStart, CancelDone, FlushStart, FlushDone, Start, DrainStart, DrainDone, Unplug, Begin, End}
 use Rattle.zk_model_work.specs.declared.ops.Submitted.{Submitted}
 use Rattle.zk_model_work.specs.declared.ops.WorkReply.{WorkReply}
-use Rattle.zk_model_work.specs.declared.ops.WorkReply.TheVariants.{Sub, Flags, Done, Run}
+use Rattle.zk_model_work.specs.declared.ops.WorkReply.TheVariants.{Sub, Flags, Truth, Number, Done, Run}
+use Rattle.zk_model_work.specs.declared.parts.Closing.TheVariants as closings
 use Rattle.zk_model_work.specs.declared.parts.Life.TheVariants.{Waiting, Running}
 use Rattle.zk_model_work.specs.declared.parts.Change.TheVariants as changes
 use Rattle.zk_model_work.specs.declared.parts.Queue.{Queue}
 use Rattle.zk_model_work.specs.Lists.{first}
 use Rattle.zk_model_work.specs.Questions.{waits_for, line}
 use Rattle.zk_model_work.specs.State.{State}
-use Rattle.zk_model_work.specs.Machine.{admitted_to, submission, set_life, start_reply, drain_reply, unplug_reply, is_worker, cancel, work_reply, work_next, is_among}
+use Rattle.zk_model_work.specs.Machine.{admitted_to, submission, set_life, flags_of, cancel_start_reply, flush_start_reply, start_reply, drain_reply, unplug_reply, is_worker, cancel, work_reply, work_next, is_among}
 use Rattle.zk_model_work.proofs.Lines.{first_of_places}
 use Rattle.zk_model_work.proofs.Overlaps.{submission-admits, submission-within}
 use Rattle.zk_queue.specs.declared.ticket.Ticket.{Ticket}
@@ -23,8 +24,9 @@ use Rattle.zk_queue.specs.Open as active
 use Rattle.zk_work.specs.Kept.{Kept, StandsFor}
 use Rattle.zk_work.specs.Engine.{admitted, cancelled, settled, reply_of, entered}
 use Rattle.zk_work.proofs.Tickets.{position-first}
-use Rattle.zk_work.proofs.Replies.{flags-same, answer-same, begin-same, end-same, drain_done-same}
-use Rattle.zk_work.proofs.Standing.{admitted-stands, idle-same, counted-stands, change-stands, drain-stands, answer-stands, cancel-stands, begin-stands, end-stands}
+use Rattle.zk_work.proofs.Replies.{answer-same, begin-same, end-same}
+use Rattle.zk_work.proofs.Awaiting.{flags-same, runs_by, flushed-same, may_close-same, closed-stands, flush_start-stands, cancel_start-stands}
+use Rattle.zk_work.proofs.Standing.{admitted-stands, idle-same, counted-stands, change-stands, drain-stands, cancel-stands, begin-stands, end-stands}
 
 -- the items and queues of an operation are those that there are
 pub ranges-same : (k : Kept) (s : State) (op : WorkOp) → StandsFor k s → is_among k.active.items k.active.queues op ≡ is_among s.items (length s.queues) op
@@ -37,9 +39,14 @@ reply-same k s who (Submit item named) st range few = ap (λ (a : Submitted). So
 reply-same k s who (Cancel item) st range few =
     let after = cancel-stands k s item st (ltb-true item s.items range) few in
     ap (λ n. Some (Flags n)) (flags-same (record (settled k (cancelled k.active item)) { entries = k.entries + 1 }) (record (cancel s item) { entries = s.entries + 1 }) after item)
+reply-same k s who (CancelStart item) st range few =
+    ap (λ n. Some (cancel_start_reply n (is_some (active.running k.active item)))) (flags-same k s st item) ∙ ap (λ (o : Option ℕ). Some (cancel_start_reply (flags_of s item) (is_some o))) (runs_by k s st item)
+reply-same k s who (CancelDone place) st range few = ap (λ b. cond b (Some (Truth true)) None) (may_close-same k s st closings.Cancel who place)
+reply-same k s who (FlushStart item) st range few = ap (λ (o : Option ℕ). Some (flush_start_reply o)) (flushed-same k s st item)
+reply-same k s who (FlushDone place) st range few = ap (λ b. cond b (Some (Truth true)) None) (may_close-same k s st closings.Flush who place)
 reply-same k s who (Start queue) st range few = ap (λ (qs : List Queue). Some (start_reply qs queue)) st.queues
 reply-same k s who (DrainStart queue plug) st range few = ap (λ b. Some (drain_reply b)) (idle-same k.active s.admissions queue (st.lines queue) (st.runs queue))
-reply-same k s who (DrainDone place) st range few = drain_done-same k s st who place
+reply-same k s who (DrainDone place) st range few = ap (λ b. cond b (Some (Number 1)) None) (may_close-same k s st closings.Drain who place)
 reply-same k s who (Unplug queue) st range few = ap (λ (qs : List Queue). Some (unplug_reply qs queue)) st.queues
 reply-same k s who (Begin queue) st range few = begin-same k s st who queue
 reply-same k s who (End queue) st range few = end-same k s st who queue
@@ -68,9 +75,13 @@ next-stands k s who (Submit item named) reply st range few is =
           admitted-stands k s item queue named st (submission-admits s.admissions s.marks s.queues (Some who.number) item named queue is) item_in
           (submission-within s.admissions s.marks s.queues (Some who.number) item named queue is) few
 next-stands k s who (Cancel item) reply st range few is = cancel-stands k s item st (ltb-true item s.items range) few
+next-stands k s who (CancelStart item) reply st range few is = cancel_start-stands k s st who item (ltb-true item s.items range) few
+next-stands k s who (CancelDone place) reply st range few is = closed-stands k s st closings.Cancel who place few
+next-stands k s who (FlushStart item) reply st range few is = flush_start-stands k s st who item few
+next-stands k s who (FlushDone place) reply st range few is = closed-stands k s st closings.Flush who place few
 next-stands k s who (Start queue) reply st range few is = change-stands changes.Start k s queue st few
 next-stands k s who (DrainStart queue plug) reply st range few is = drain-stands k s who queue plug st few
-next-stands k s who (DrainDone place) reply st range few is = answer-stands k s place st few
+next-stands k s who (DrainDone place) reply st range few is = closed-stands k s st closings.Drain who place few
 next-stands k s who (Unplug queue) reply st range few is = change-stands changes.Unplug k s queue st few
 next-stands k s who (Begin queue) reply st range few is =
     by (active.run k.active queue) (first (active.line k.active queue)) refl refl

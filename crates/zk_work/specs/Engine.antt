@@ -1,18 +1,24 @@
-use Rattle.std.specs.Prelude.{◌≡◌, ℕ, ◌+◌, ◌-◌, ◌<◌, Bool, false, not, ◌==◌, if◌then◌else◌, Option, Some, None, is_some, option_map, List, filter, set, slice_get}
+use Rattle.std.specs.Prelude.{◌≡◌, ℕ, ◌+◌, ◌-◌, ◌<◌, Bool, true, false, not, nat_lt, ◌==◌, ◌&&◌, ◌||◌, if◌then◌else◌, Option, Some, None, is_some, option_map, List, filter, set, slice_get}
+use Rattle.std.specs.List.{list_any}
 use Rattle.std.specs.Option.{option_map_or, option_or}
+use Rattle.zk_model_work.specs.Questions.{weight}
 use Rattle.zk_base.specs.declared.ids.Who.{Who}
 use Rattle.zk_base.specs.declared.errors.Errno.TheVariants.{Busy, Inval}
 use Rattle.zk_model_work.specs.declared.ops.WorkOp.{WorkOp}
-use Rattle.zk_model_work.specs.declared.ops.WorkOp.TheVariants.{Submit, Cancel, Start, DrainStart, DrainDone, Unplug, Begin, End}
+use Rattle.zk_model_work.specs.declared.ops.WorkOp.TheVariants as ops
 use Rattle.zk_model_work.specs.declared.parts.Change.TheVariants as changes
-use Rattle.zk_model_work.specs.declared.parts.Awaited.TheVariants.{Drain}
+use Rattle.zk_model_work.specs.declared.parts.Awaited.{Awaited}
+use Rattle.zk_model_work.specs.declared.parts.Awaited.TheVariants.{Cancel, Flush, Drain}
+use Rattle.zk_model_work.specs.declared.parts.Closing.{Closing}
+use Rattle.zk_model_work.specs.declared.parts.Closing.TheVariants as closings
 use Rattle.zk_model_work.specs.declared.parts.Wait.{Wait}
+use Rattle.zk_model_work.specs.declared.parts.Queue.{Queue}
 use Rattle.zk_model_work.specs.declared.ops.Submitted.{Submitted}
 use Rattle.zk_model_work.specs.declared.ops.Submitted.TheVariants.{Already, Fresh, Rerun, Refused}
 use Rattle.zk_model_work.specs.declared.ops.WorkReply.{WorkReply}
-use Rattle.zk_model_work.specs.declared.ops.WorkReply.TheVariants.{Sub, Flags, Number, Done, Run}
-use Rattle.zk_model_work.specs.Machine.{refusal, admitted_to, settle_from, change, drain, drained_of, wait_unless, may_drain_done, start_reply, drain_reply, unplug_reply, is_worker}
-use Rattle.zk_queue.specs.Open.{Open, is_running, is_queued, is_idle, run, next, flags, marks_of, mark, admit, drop_item, begin, end}
+use Rattle.zk_model_work.specs.declared.ops.WorkReply.TheVariants.{Sub, Flags, Truth, Number, Done, Run}
+use Rattle.zk_model_work.specs.Machine.{refusal, admitted_to, settle_from, change, drain, drained_of, wait_for, awaiting, is_unanswered, cancel_start_reply, flush_start_reply, start_reply, drain_reply, unplug_reply, is_worker}
+use Rattle.zk_queue.specs.Open.{Open, is_running, is_queued, is_idle, is_open, run, next, running, waiting, marks_of, mark, admit, drop_item, begin, end}
 use Rattle.zk_work.specs.Kept.{Kept, last_of}
 
 -- the queue that a submission goes to: where the item runs, that of its last admission, which is where it runs; else the named one, else that of its last admission
@@ -60,41 +66,106 @@ settled k o = record k { active = o; queues = settle_from (is_idle o) 0 k.queues
 abbrev pub ended : Kept → ℕ → Kept
 ended k queue = option_map_or (λ t. record (settled k (mark (end k.active queue) t.item 0)) { running = k.running - 1 }) (run k.active queue) k
 
--- the wait of a player for one more draining of the queue to end
-abbrev pub wait_of : Kept → Who → ℕ → Wait
-wait_of k who queue = record { place = k.entries; player = who.number; awaited = Drain queue (drained_of k.queues queue); answered = false }
+-- it is this number
+abbrev pub is_number : ℕ → Option ℕ → Bool
+is_number number o = option_map_or (λ n. n == number) o false
+
+-- the wait is a flush of one of these, the item's waiting and its running admission
+abbrev pub flushes : Option ℕ → Option ℕ → Awaited → Bool
+flushes waits runs (Flush number) = is_number number waits || is_number number runs
+flushes waits runs _ = false
+
+-- the item is being flushed
+abbrev pub is_flushing : Open → List Wait → ℕ → Bool
+is_flushing o waits item = list_any (λ w. flushes (waiting o item) (running o item) w.awaited) waits
+
+-- the busy flags of the item: no item is delayed
+abbrev pub flags_of : Kept → ℕ → ℕ
+flags_of k item =
+    weight 1 (is_running k.active item) + weight 2 (marks_of k.active item).cancelling + weight 4 (is_queued k.active item) + weight 8 false + weight 16 (is_flushing k.active k.waits item)
+
+-- what is awaited has come: a run that a sync cancel found, and what a flush waits for, is open no longer; more drainings of the queue have ended than a drain names
+abbrev pub has_come : Open → List Queue → Closing → Awaited → Bool
+has_come o queues closings.Cancel (Cancel number) = not (is_open o number)
+has_come o queues closings.Flush (Flush number) = not (is_open o number)
+has_come o queues closings.Drain (Drain queue count) = nat_lt count (drained_of queues queue)
+has_come o queues closing awaited = false
+
+-- it is the player's wait of this place, and what it awaits has come
+abbrev pub closes : Open → List Queue → Closing → Who → ℕ → Wait → Bool
+closes o queues closing who place w = is_unanswered place who.number w && has_come o queues closing w.awaited
+
+-- there is such a wait
+abbrev pub may_close : Kept → Closing → Who → ℕ → Bool
+may_close k closing who place = list_any (closes k.active k.queues closing who place) k.waits
+
+-- the waits without those that this ends
+abbrev pub left_waits : Open → List Queue → List Wait → Closing → Who → ℕ → List Wait
+left_waits o queues waits closing who place = filter (λ w. not (closes o queues closing who place w)) waits
+
+-- the engine after the end of a wait
+abbrev pub closed : Kept → Closing → Who → ℕ → Kept
+closed k closing who place = record k { waits = left_waits k.active k.queues k.waits closing who place }
+
+-- the wait for the end of the run that a cancel finds
+abbrev pub cancel_wait : Kept → Who → ℕ → Option Wait
+cancel_wait k who item = option_map (λ number. wait_for k.entries who (Cancel number)) (running k.active item)
+
+-- the admission that a flush waits for: the item's waiting one, else its running one
+abbrev pub flushed : Open → ℕ → Option ℕ
+flushed o item = option_or (waiting o item) (running o item)
+
+-- the wait for the end of that admission
+abbrev pub flush_wait : Kept → Who → ℕ → Option Wait
+flush_wait k who item = option_map (λ number. wait_for k.entries who (Flush number)) (flushed k.active item)
+
+-- the wait for one more draining of the queue to end, unless it is idle
+abbrev pub drain_wait : Bool → Kept → Who → ℕ → Option Wait
+drain_wait idle k who queue = if idle then None else Some (wait_for k.entries who (Drain queue (drained_of k.queues queue)))
+
+-- after the start of a sync cancel: a cancel, in which the player waits where the item runs
+abbrev pub cancel_started : Kept → Who → ℕ → Kept
+cancel_started k who item = record (settled k (cancelled k.active item)) { waits = awaiting k.waits (cancel_wait k who item) }
+
+-- after the start of a flush, in which the player waits where an admission of the item waits or runs
+abbrev pub flush_started : Kept → Who → ℕ → Kept
+flush_started k who item = record k { waits = awaiting k.waits (flush_wait k who item) }
 
 -- after the start of a drain, for which the player waits unless the queue is idle
 abbrev pub drained : Kept → Who → ℕ → Bool → Kept
 drained k who queue plug =
     let idle = is_idle k.active queue in
-    record k { queues = drain idle plug k.queues queue; waits = wait_unless idle k.waits (wait_of k who queue) }
-
--- the waits of other places
-abbrev pub without_place : ℕ → List Wait → List Wait
-without_place place waits = filter (λ w. not (w.place == place)) waits
+    record k { queues = drain idle plug k.queues queue; waits = awaiting k.waits (drain_wait idle k who queue) }
 
 -- the reply to each operation, where it is possible
 abbrev pub reply_of : Kept → Who → WorkOp → Option WorkReply
-reply_of k who (Submit item named) = Some (Sub (answer_of k (Some who.number) item named))
-reply_of k who (Cancel item) = Some (Flags (flags (cancelled k.active item) item))
-reply_of k who (Start queue) = Some (start_reply k.queues queue)
-reply_of k who (DrainStart queue plug) = Some (drain_reply (is_idle k.active queue))
-reply_of k who (DrainDone place) = if may_drain_done k.queues k.waits who place then Some (Number 1) else None
-reply_of k who (Unplug queue) = Some (unplug_reply k.queues queue)
-reply_of k who (Begin queue) = if is_worker k.queues queue who.number then option_map (λ t. Run t.item t.number) (next k.active queue) else None
-reply_of k who (End queue) = if is_worker k.queues queue who.number then option_map (λ t. Done) (run k.active queue) else None
+reply_of k who (ops.Submit item named) = Some (Sub (answer_of k (Some who.number) item named))
+reply_of k who (ops.Cancel item) = Some (Flags (flags_of (settled k (cancelled k.active item)) item))
+reply_of k who (ops.CancelStart item) = Some (cancel_start_reply (flags_of k item) (is_some (running k.active item)))
+reply_of k who (ops.CancelDone place) = if may_close k closings.Cancel who place then Some (Truth true) else None
+reply_of k who (ops.FlushStart item) = Some (flush_start_reply (flushed k.active item))
+reply_of k who (ops.FlushDone place) = if may_close k closings.Flush who place then Some (Truth true) else None
+reply_of k who (ops.Start queue) = Some (start_reply k.queues queue)
+reply_of k who (ops.DrainStart queue plug) = Some (drain_reply (is_idle k.active queue))
+reply_of k who (ops.DrainDone place) = if may_close k closings.Drain who place then Some (Number 1) else None
+reply_of k who (ops.Unplug queue) = Some (unplug_reply k.queues queue)
+reply_of k who (ops.Begin queue) = if is_worker k.queues queue who.number then option_map (λ t. Run t.item t.number) (next k.active queue) else None
+reply_of k who (ops.End queue) = if is_worker k.queues queue who.number then option_map (λ t. Done) (run k.active queue) else None
 
 -- what each operation changes, where it is possible
 abbrev pub change_of : Kept → Who → WorkOp → Kept
-change_of k who (Submit item named) = submitted k item (answer_of k (Some who.number) item named)
-change_of k who (Cancel item) = settled k (cancelled k.active item)
-change_of k who (Start queue) = record k { queues = change changes.Start k.queues queue }
-change_of k who (DrainStart queue plug) = drained k who queue plug
-change_of k who (DrainDone place) = record k { waits = without_place place k.waits }
-change_of k who (Unplug queue) = record k { queues = change changes.Unplug k.queues queue }
-change_of k who (Begin queue) = record k { active = begin k.active queue; running = k.running + 1 }
-change_of k who (End queue) = ended k queue
+change_of k who (ops.Submit item named) = submitted k item (answer_of k (Some who.number) item named)
+change_of k who (ops.Cancel item) = settled k (cancelled k.active item)
+change_of k who (ops.CancelStart item) = cancel_started k who item
+change_of k who (ops.CancelDone place) = closed k closings.Cancel who place
+change_of k who (ops.FlushStart item) = flush_started k who item
+change_of k who (ops.FlushDone place) = closed k closings.Flush who place
+change_of k who (ops.Start queue) = record k { queues = change changes.Start k.queues queue }
+change_of k who (ops.DrainStart queue plug) = drained k who queue plug
+change_of k who (ops.DrainDone place) = closed k closings.Drain who place
+change_of k who (ops.Unplug queue) = record k { queues = change changes.Unplug k.queues queue }
+change_of k who (ops.Begin queue) = record k { active = begin k.active queue; running = k.running + 1 }
+change_of k who (ops.End queue) = ended k queue
 
 -- the engine after an entry, which is counted
 abbrev pub entered : Kept → Who → WorkOp → Kept

@@ -1,9 +1,11 @@
-use Rattle.std.specs.Prelude.{◌≡◌, ℕ, ◌+◌, ◌<◌, ◌≤◌, Bool, true, false, not, Option, Some, None, option_to_list, List, [], length, filter, count_by, slice_get, slice_index_or, All}
+use Rattle.std.specs.Prelude.{◌≡◌, ℕ, ◌+◌, ◌<◌, ◌≤◌, Bool, true, false, not, ◌&&◌, Option, Some, None, option_to_list, List, [], length, filter, count_by, slice_get, slice_index_or, All}
 use Rattle.zk_model_work.specs.declared.ops.WorkOp.{WorkOp}
-use Rattle.zk_model_work.specs.declared.ops.WorkOp.TheVariants.{DrainDone, End}
+use Rattle.zk_model_work.specs.declared.ops.WorkOp.TheVariants.{CancelDone, FlushDone, DrainDone, End}
+use Rattle.zk_model_work.specs.declared.parts.Life.{Life}
+use Rattle.zk_model_work.specs.declared.parts.Life.TheVariants.{Running, Ended}
 use Rattle.zk_model_work.specs.declared.parts.Admission.{Admission}
 use Rattle.zk_model_work.specs.declared.parts.Awaited.{Awaited}
-use Rattle.zk_model_work.specs.declared.parts.Awaited.TheVariants.{Drain}
+use Rattle.zk_model_work.specs.declared.parts.Awaited.TheVariants.{Cancel, Flush, Drain}
 use Rattle.zk_model_work.specs.declared.parts.Wait.{Wait}
 use Rattle.zk_model_work.specs.declared.parts.Queue.{Queue}
 use Rattle.zk_model_work.specs.Questions.{is_waiting, is_running, is_open, waits_as, waits_for, runs_on, last_queue, is_cancelling, passes_at}
@@ -51,10 +53,17 @@ pub record IsSound (items : ℕ) (admissions : List Admission) (marks : List ℕ
 abbrev pub unanswered : List Wait → List Wait
 unanswered waits = filter (λ w. not w.answered) waits
 
--- it is a wait for the end of a draining
-abbrev pub is_drain : Awaited → Bool
-is_drain (Drain queue count) = true
-is_drain awaited = false
+-- its run has begun
+abbrev pub is_begun : Life → Bool
+is_begun Running = true
+is_begun Ended = true
+is_begun _ = false
+
+-- what is awaited is there: the run that a sync cancel found has begun; the admission of a flush was made, and is over where the flush is answered
+abbrev pub is_there : List Admission → Awaited → Bool → Bool
+is_there admissions (Cancel number) answered = passes_at (λ a. is_begun a.life) admissions number
+is_there admissions (Flush number) answered = passes_at (λ a. not (answered && is_open a.life)) admissions number
+is_there admissions (Drain queue count) answered = true
 
 -- the open admissions have a place for each item and each queue
 pub record IsShaped (o : Open) : Type 0 where
@@ -84,9 +93,9 @@ pub record StandsFor (k : Kept) (s : State) : Type 0 where
   pub queues : k.queues ≡ s.queues
   -- no item is armed: no operation brings that
   pub arms : s.arms ≡ []
-  -- the waits that aren't answered, each of them for the end of a drain
+  -- the waits that aren't answered; and what each wait is for is there
   pub waits : k.waits ≡ unanswered s.waits
-  pub drains : All (λ w. is_drain w.awaited ≡ true) s.waits
+  pub there : All (λ w. is_there s.admissions w.awaited w.answered ≡ true) s.waits
   pub made : k.made ≡ length s.admissions
   pub running : k.running ≡ count_by (λ a. is_running a.life) s.admissions
   pub last : (item : ℕ) → last_of k item ≡ last_queue s.admissions item
@@ -103,6 +112,8 @@ work_owed s = count_by (λ a. is_running a.life) s.admissions + count_by (λ w. 
 
 -- the end of a run and of a wait are such entries
 abbrev pub work_closes : WorkOp → Bool
+work_closes (CancelDone place) = true
+work_closes (FlushDone place) = true
 work_closes (DrainDone place) = true
 work_closes (End queue) = true
 work_closes _ = false

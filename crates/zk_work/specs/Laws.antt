@@ -3,6 +3,7 @@ use Rattle.std.proofs.Common.{◌≡◌, ℕ, zero, suc, ◌+◌, ◌≤◌, Boo
 use Rattle.std.specs.Cmp.{first_so, second_so}
 use Rattle.std.specs.List.{position, position_or_len, list_any}
 use Rattle.std.specs.Option.{option_map_or}
+use Rattle.std.proofs.lemmas.List.{append-nil}
 use Rattle.std.proofs.lemmas.List.Sums.{sum_by-cons, sum_by_push}
 use Rattle.std.proofs.lemmas.Bool.Decides.{nat_tests}
 use Rattle.zk_base.specs.declared.ids.Who.{Who}
@@ -11,17 +12,19 @@ use Rattle.zk_model_work.specs.declared.parts.Life.TheVariants.{Waiting, Running
 use Rattle.zk_model_work.specs.declared.parts.Admission.{Admission}
 use Rattle.zk_model_work.specs.declared.parts.Wait.{Wait}
 use Rattle.zk_model_work.specs.declared.parts.Queue.{Queue}
+use Rattle.zk_model_work.specs.declared.parts.Closing.{Closing}
+use Rattle.zk_model_work.specs.declared.parts.Closing.TheVariants as closings
 use Rattle.zk_model_work.specs.declared.parts.Change.TheVariants as changes
 use Rattle.zk_model_work.specs.declared.ops.WorkOp.{WorkOp}
-use Rattle.zk_model_work.specs.declared.ops.WorkOp.TheVariants.{Submit, Cancel, Start, DrainStart, DrainDone, Unplug, Begin, End}
+use Rattle.zk_model_work.specs.declared.ops.WorkOp.TheVariants.{Submit, Cancel, CancelStart, CancelDone, FlushStart, FlushDone, Start, DrainStart, DrainDone, Unplug, Begin, End}
 use Rattle.zk_model_work.specs.declared.ops.Submitted.{Submitted}
 use Rattle.zk_model_work.specs.declared.ops.Submitted.TheVariants.{Already, Fresh, Rerun, Refused}
 use Rattle.zk_model_work.specs.declared.ops.WorkReply.{WorkReply}
-use Rattle.zk_model_work.specs.declared.ops.WorkReply.TheVariants.{Number, Done}
+use Rattle.zk_model_work.specs.declared.ops.WorkReply.TheVariants.{Truth, Number, Done}
 use Rattle.zk_model_work.specs.Lists.{first}
 use Rattle.zk_model_work.specs.Questions.{is_running, waits_as, runs_on, run, line, is_empty_and_idle}
 use Rattle.zk_model_work.specs.State.{State}
-use Rattle.zk_model_work.specs.Machine.{work_reply, work_next, in_range, is_among, is_worker, submission, submit, set_life, with_life, begin, end_one, end_run, drop_one, drop_waiting, drain_wait, wait_unless, answer_one, is_unanswered, has_drained, may_drain_done}
+use Rattle.zk_model_work.specs.Machine.{work_reply, work_next, in_range, is_among, is_worker, submission, submit, set_life, with_life, begin, end_one, end_run, drop_one, drop_waiting, cancel_wait, flush_wait, drain_wait, awaiting, answer_where, answer_one, is_unanswered, has_come, closes, may_close}
 use Rattle.zk_model_work.proofs.Counts.{length-settle_from, length-change, length-drain}
 use Rattle.zk_work.specs.Kept.{work_owed, work_closes}
 
@@ -29,6 +32,10 @@ use Rattle.zk_work.specs.Kept.{work_owed, work_closes}
 pub counts : (s : State) (who : Who) (op : WorkOp) → (work_next s who op).entries ≡ s.entries + 1
 counts s who (Submit item named) = refl
 counts s who (Cancel item) = refl
+counts s who (CancelStart item) = refl
+counts s who (CancelDone place) = refl
+counts s who (FlushStart item) = refl
+counts s who (FlushDone place) = refl
 counts s who (Start queue) = refl
 counts s who (DrainStart queue plug) = refl
 counts s who (DrainDone place) = refl
@@ -40,6 +47,10 @@ counts s who (End queue) = refl
 pub ranges : (s : State) (who : Who) (op : WorkOp) → in_range (work_next s who op) ≡ in_range s
 ranges s who (Submit item named) = refl
 ranges s who (Cancel item) = ap (is_among s.items) (length-settle_from (is_empty_and_idle (drop_waiting s.admissions item)) 0 s.queues)
+ranges s who (CancelStart item) = ap (is_among s.items) (length-settle_from (is_empty_and_idle (drop_waiting s.admissions item)) 0 s.queues)
+ranges s who (CancelDone place) = refl
+ranges s who (FlushStart item) = refl
+ranges s who (FlushDone place) = refl
 ranges s who (Start queue) = ap (is_among s.items) (length-change changes.Start s.queues queue)
 ranges s who (DrainStart queue plug) = ap (is_among s.items) (length-drain (is_empty_and_idle s.admissions queue) plug s.queues queue)
 ranges s who (DrainDone place) = refl
@@ -141,42 +152,56 @@ sum_by-map_any w f passes less one (x ∷ xs) found =
       here_or_behind true c v v_before r r_before less here rest behind found = let one = here refl in omega arith
       here_or_behind false c v v_before r r_before less here rest behind found = let one = behind found in omega arith
 
-owed-wait_unless : (idle : Bool) (ws : List Wait) (w : Wait) → sum_by waits_still (wait_unless idle ws w) ≤ sum_by waits_still ws + 1
-owed-wait_unless true ws w = omega arith
-owed-wait_unless false ws w =
+owed-awaiting : (ws : List Wait) (w : Option Wait) → sum_by waits_still (awaiting ws w) ≤ sum_by waits_still ws + 1
+owed-awaiting ws None =
+    let same : sum_by waits_still (awaiting ws None) ≡ sum_by waits_still ws = ap (sum_by waits_still) (append-nil ws) in
+    omega arith
+owed-awaiting ws (Some w) =
     let most = at_most (not w.answered) in
     omega (arith, sum_by_push waits_still ws w) where
       at_most : (b : Bool) → cond b 1 0 ≤ 1
       at_most true = omega arith
       at_most false = omega arith
 
-owed-answer_one : (place : ℕ) (w : Wait) → waits_still (answer_one place w) ≤ waits_still w
-owed-answer_one place w = by (eqb w.place place) where
-  by : (b : Bool) → waits_still (cond b (record w { answered = true }) w) ≤ waits_still w
-  by true = omega arith
-  by false = omega arith
+owed-answer_where : (b : Bool) (w : Wait) → waits_still (answer_where b w) ≤ waits_still w
+owed-answer_where true w = omega arith
+owed-answer_where false w = omega arith
 
-owed-answered : (qs : List Queue) (place player : ℕ) (w : Wait) → (is_unanswered place player w && has_drained qs w.awaited) ≡ true → 1 + waits_still (answer_one place w) ≤ waits_still w
-owed-answered qs place player w is =
-    let unanswered = first_so (is_unanswered place player w) (has_drained qs w.awaited) is in
-    let both = first_so ((w.place == place) && (w.player == player)) (not w.answered) unanswered in
-    let at = first_so (w.place == place) (w.player == player) both in
-    let before : waits_still w ≡ 1 = ap (λ b. cond b 1 0) (second_so ((w.place == place) && (w.player == player)) (not w.answered) unanswered) in
-    let after : waits_still (answer_one place w) ≡ 0 = ap (λ b. waits_still (cond b (record w { answered = true }) w)) at in
+owed-answered : (xs : List Admission) (qs : List Queue) (closing : Closing) (who : Who) (place : ℕ) (w : Wait) → closes xs qs closing who place w ≡ true →
+    1 + waits_still (answer_one xs qs closing who place w) ≤ waits_still w
+owed-answered xs qs closing who place w is =
+    let unanswered = first_so (is_unanswered place who.number w) (has_come xs qs closing w.awaited) is in
+    let before : waits_still w ≡ 1 = ap (λ b. cond b 1 0) (second_so ((w.place == place) && (w.player == who.number)) (not w.answered) unanswered) in
+    let after : waits_still (answer_one xs qs closing who place w) ≡ 0 = ap (λ b. waits_still (answer_where b w)) is in
     omega arith
 
+owed-closed : (s : State) (closing : Closing) (who : Who) (place : ℕ) → sum_by waits_still (map (answer_one s.admissions s.queues closing who place) s.waits) ≤ sum_by waits_still s.waits
+owed-closed s closing who place =
+    sum_by-map waits_still (answer_one s.admissions s.queues closing who place) (λ w. owed-answer_where (closes s.admissions s.queues closing who place w) w) s.waits
+
 -- the end of a wait is possible where one is over
-drained_where_possible : (found : Bool) → is_some (cond found (Some (Number 1)) None) ≡ true → found ≡ true
-drained_where_possible true possible = refl
-drained_where_possible false possible = absurd (cc)
+closed_where_possible : (found : Bool) (reply : WorkReply) → is_some (cond found (Some reply) None) ≡ true → found ≡ true
+closed_where_possible true reply possible = refl
+closed_where_possible false reply possible = absurd (cc)
+
+gives-closed : (s : State) (closing : Closing) (who : Who) (place : ℕ) (reply : WorkReply) → is_some (cond (may_close s closing who place) (Some reply) None) ≡ true →
+    1 + sum_by waits_still (map (answer_one s.admissions s.queues closing who place) s.waits) ≤ sum_by waits_still s.waits
+gives-closed s closing who place reply possible =
+    sum_by-map_any waits_still (answer_one s.admissions s.queues closing who place) (closes s.admissions s.queues closing who place)
+    (λ w. owed-answer_where (closes s.admissions s.queues closing who place w) w) (owed-answered s.admissions s.queues closing who place) s.waits
+    (closed_where_possible (may_close s closing who place) reply possible)
 
 -- an operation adds at most two owed entries
 pub adds : (s : State) (who : Who) (op : WorkOp) → work_owed (work_next s who op) ≤ work_owed s + 2
 adds s who (Submit item named) = omega (arith, owed-submit s.admissions item (submission s.admissions s.marks s.queues (Some who.number) item named))
 adds s who (Cancel item) = omega (arith, sum_by-map runs (drop_one item) (owed-drop_one item) s.admissions)
+adds s who (CancelStart item) = omega (arith, sum_by-map runs (drop_one item) (owed-drop_one item) s.admissions, owed-awaiting s.waits (cancel_wait s who item))
+adds s who (CancelDone place) = omega (arith, owed-closed s closings.Cancel who place)
+adds s who (FlushStart item) = omega (arith, owed-awaiting s.waits (flush_wait s who item))
+adds s who (FlushDone place) = omega (arith, owed-closed s closings.Flush who place)
 adds s who (Start queue) = omega arith
-adds s who (DrainStart queue plug) = omega (arith, owed-wait_unless (is_empty_and_idle s.admissions queue) s.waits (drain_wait s who queue))
-adds s who (DrainDone place) = omega (arith, sum_by-map waits_still (answer_one place) (owed-answer_one place) s.waits)
+adds s who (DrainStart queue plug) = omega (arith, owed-awaiting s.waits (drain_wait (is_empty_and_idle s.admissions queue) s who queue))
+adds s who (DrainDone place) = omega (arith, owed-closed s closings.Drain who place)
 adds s who (Unplug queue) = omega arith
 adds s who (Begin queue) = omega (arith, owed-begin s.admissions queue)
 adds s who (End queue) = omega (arith, sum_by-map runs (end_one queue) (owed-end_one queue) s.admissions)
@@ -185,11 +210,13 @@ adds s who (End queue) = omega (arith, sum_by-map runs (end_one queue) (owed-end
 pub gives : (s : State) (who : Who) (op : WorkOp) → work_closes op ≡ true → is_some (work_reply s who op) ≡ true → 1 + work_owed (work_next s who op) ≤ work_owed s
 gives s who (Submit item named) closes possible = absurd (cc)
 gives s who (Cancel item) closes possible = absurd (cc)
+gives s who (CancelStart item) closes possible = absurd (cc)
+gives s who (CancelDone place) closes possible = omega (arith, gives-closed s closings.Cancel who place (Truth true) possible)
+gives s who (FlushStart item) closes possible = absurd (cc)
+gives s who (FlushDone place) closes possible = omega (arith, gives-closed s closings.Flush who place (Truth true) possible)
 gives s who (Start queue) closes possible = absurd (cc)
 gives s who (DrainStart queue plug) closes possible = absurd (cc)
-gives s who (DrainDone place) closes possible =
-    let found = drained_where_possible (may_drain_done s.queues s.waits who place) possible in
-    omega (arith, sum_by-map_any waits_still (answer_one place) (λ w. is_unanswered place who.number w && has_drained s.queues w.awaited) (owed-answer_one place) (owed-answered s.queues place who.number) s.waits found)
+gives s who (DrainDone place) closes possible = omega (arith, gives-closed s closings.Drain who place (Number 1) possible)
 gives s who (Unplug queue) closes possible = absurd (cc)
 gives s who (Begin queue) closes possible = absurd (cc)
 gives s who (End queue) closes possible =

@@ -3,18 +3,18 @@ ghost use Rattle.zk_model_work.specs.State.{State, start_of};
 ghost use Rattle.zk_model_work.specs.Machine.{is_among, admitted_to};
 ghost use Rattle.zk_queue.specs.Open.{is_running};
 ghost use Rattle.zk_work.specs.Kept.{IsWhole, StandsFor, work_closes};
-ghost use Rattle.zk_work.specs.Engine.{target_of, admission_of, answer_at, answer_of, MayAdmit, admitted, reply_of, after_reply};
+ghost use Rattle.zk_work.specs.Engine.{target_of, admission_of, answer_at, answer_of, MayAdmit, admitted, flags_of, may_close, closed, reply_of, after_reply};
 
 use crate::active::{busy_with, cancel, settle};
-use crate::waits::forget;
+use crate::waits::{close, is_flushing, may_close};
 use bitflags::Flags;
 use std::alloc::Global;
 use std::marker::Model;
 use zk_base::{Engine, Errno, NoMemory, Who};
 use zk_model_work::{
-    Awaited, BusyFlags, Change, Queue, Submitted, Wait, WorkOp, WorkReply, WorkState, change,
-    drain, drain_reply, drained_of, fresh_queues, is_worker, may_drain_done, refusal, start_reply,
-    unplug_reply, wait_unless,
+    Awaited, BusyFlags, Change, Closing, Queue, Submitted, Wait, WorkOp, WorkReply, WorkState,
+    cancel_start_reply, change, drain, drain_reply, drained_of, flush_start_reply, fresh_queues,
+    is_worker, put_wait, refusal, start_reply, united, unplug_reply, wait_for,
 };
 use zk_queue::Queues;
 
@@ -180,6 +180,16 @@ impl WorkEngine {
         Some(WorkReply::Sub(answer))
     }
 
+    /// The busy flags of the item.
+    fn flags(&self, item: u32) -> BusyFlags
+        requires { item < self.now.kept.active.items }
+        ensures { result.0 ≡ flags_of self.now.kept item }
+    {
+        let busy = busy_with(&self.active, item);
+        let flushing = is_flushing(&self.active, &self.waits, item);
+        united(busy.runs, busy.cancelling, busy.waits, false, flushing)
+    }
+
     fn cancel(&mut self, who: Who, item: u32) -> Option<WorkReply>
         requires whole { IsWhole self.old.kept }
         requires item { item < self.old.kept.active.items }
@@ -190,7 +200,53 @@ impl WorkEngine {
         cancel(&mut self.active, item);
         settle(&self.active, &mut self.queues);
         self.entries += 1;
-        Some(WorkReply::Flags(self.active.flags(item).bits()))
+        Some(WorkReply::Flags(self.flags(item).bits()))
+    }
+
+    fn cancel_start(&mut self, who: Who, item: u32) -> Result<Option<WorkReply>, NoMemory>
+        requires whole { IsWhole self.old.kept }
+        requires item { item < self.old.kept.active.items }
+        ensures reply { IfOk result (λ reply.
+            reply ≡ reply_of self.old.kept who (WorkOp.CancelStart item)) }
+        ensures next { IfOk result (λ reply.
+            self.new.kept ≡ after_reply self.old.kept who (WorkOp.CancelStart item) reply) }
+        ensures unchanged { OnErr result (self.new.kept ≡ self.old.kept) }
+        ensures roomy { 3 ≤ self.old.room → IsOk result }
+        ensures room { self.old.room ≤ self.new.room + 3 }
+    {
+        let flags = self.flags(item);
+        let run = self.active.running(item);
+        let wait = match run {
+            None => None,
+            Some(number) => Some(wait_for(self.entries, who, Awaited::Cancel(number))),
+        };
+        put_wait(&mut self.waits, wait)?;
+        cancel(&mut self.active, item);
+        settle(&self.active, &mut self.queues);
+        self.entries += 1;
+        Ok(Some(cancel_start_reply(flags.bits(), run.is_some())))
+    }
+
+    fn flush_start(&mut self, who: Who, item: u32) -> Result<Option<WorkReply>, NoMemory>
+        requires whole { IsWhole self.old.kept }
+        requires item { item < self.old.kept.active.items }
+        ensures reply { IfOk result (λ reply.
+            reply ≡ reply_of self.old.kept who (WorkOp.FlushStart item)) }
+        ensures next { IfOk result (λ reply.
+            self.new.kept ≡ after_reply self.old.kept who (WorkOp.FlushStart item) reply) }
+        ensures unchanged { OnErr result (self.new.kept ≡ self.old.kept) }
+        ensures roomy { 3 ≤ self.old.room → IsOk result }
+        ensures room { self.old.room ≤ self.new.room + 3 }
+    {
+        let waiting = self.active.waiting(item);
+        let number = waiting.or(self.active.running(item));
+        let wait = match number {
+            None => None,
+            Some(number) => Some(wait_for(self.entries, who, Awaited::Flush(number))),
+        };
+        put_wait(&mut self.waits, wait)?;
+        self.entries += 1;
+        Ok(Some(flush_start_reply(number)))
     }
 
     fn drain_start(
@@ -210,16 +266,68 @@ impl WorkEngine {
         ensures room { self.old.room ≤ self.new.room + 3 }
     {
         let idle = self.active.is_idle(queue);
-        let wait = Wait {
-            place: self.entries,
-            player: who.number,
-            awaited: Awaited::Drain(queue, drained_of(&self.queues, queue)),
-            answered: false,
+        let wait = if idle {
+            None
+        } else {
+            let drained = drained_of(&self.queues, queue);
+            Some(wait_for(self.entries, who, Awaited::Drain(queue, drained)))
         };
-        wait_unless(idle, &mut self.waits, wait)?;
+        put_wait(&mut self.waits, wait)?;
         drain(&mut self.queues, queue, idle, plug);
         self.entries += 1;
         Ok(Some(drain_reply(idle)))
+    }
+
+    /// Whether the player may end its wait of this place.
+    fn may_close(&self, closing: Closing, who: Who, place: u64) -> bool
+        ensures { result ≡ may_close self.now.kept closing who place }
+    {
+        may_close(&self.active, &self.queues, &self.waits, closing, who, place)
+    }
+
+    /// Ends the waits of the player and place for what has come.
+    fn close(&mut self, closing: Closing, who: Who, place: u64)
+        requires whole { IsWhole self.old.kept }
+        ensures next { self.new.kept ≡ record (closed self.old.kept closing who place) {
+          entries = self.old.kept.entries + 1;
+        } }
+        ensures room { self.old.room ≤ self.new.room }
+    {
+        close(
+            &self.active,
+            &self.queues,
+            &mut self.waits,
+            closing,
+            who,
+            place,
+        );
+        self.entries += 1;
+    }
+
+    fn cancel_done(&mut self, who: Who, place: u64) -> Option<WorkReply>
+        requires whole { IsWhole self.old.kept }
+        ensures reply { result ≡ reply_of self.old.kept who (WorkOp.CancelDone place) }
+        ensures next { self.new.kept ≡ after_reply self.old.kept who (WorkOp.CancelDone place) result }
+        ensures room { self.old.room ≤ self.new.room }
+    {
+        if !self.may_close(Closing::Cancel, who, place) {
+            return None;
+        }
+        self.close(Closing::Cancel, who, place);
+        Some(WorkReply::Truth(true))
+    }
+
+    fn flush_done(&mut self, who: Who, place: u64) -> Option<WorkReply>
+        requires whole { IsWhole self.old.kept }
+        ensures reply { result ≡ reply_of self.old.kept who (WorkOp.FlushDone place) }
+        ensures next { self.new.kept ≡ after_reply self.old.kept who (WorkOp.FlushDone place) result }
+        ensures room { self.old.room ≤ self.new.room }
+    {
+        if !self.may_close(Closing::Flush, who, place) {
+            return None;
+        }
+        self.close(Closing::Flush, who, place);
+        Some(WorkReply::Truth(true))
     }
 
     fn drain_done(&mut self, who: Who, place: u64) -> Option<WorkReply>
@@ -228,11 +336,10 @@ impl WorkEngine {
         ensures next { self.new.kept ≡ after_reply self.old.kept who (WorkOp.DrainDone place) result }
         ensures room { self.old.room ≤ self.new.room }
     {
-        if !may_drain_done(&self.queues, &self.waits, who, place) {
+        if !self.may_close(Closing::Drain, who, place) {
             return None;
         }
-        forget(&mut self.waits, place);
-        self.entries += 1;
+        self.close(Closing::Drain, who, place);
         Some(WorkReply::Number(1))
     }
 
@@ -309,6 +416,10 @@ impl WorkEngine {
         match *op {
             WorkOp::Submit(item, named) => Ok(self.submit(who, item, named)),
             WorkOp::Cancel(item) => Ok(self.cancel(who, item)),
+            WorkOp::CancelStart(item) => self.cancel_start(who, item),
+            WorkOp::CancelDone(place) => Ok(self.cancel_done(who, place)),
+            WorkOp::FlushStart(item) => self.flush_start(who, item),
+            WorkOp::FlushDone(place) => Ok(self.flush_done(who, place)),
             WorkOp::Start(queue) => Ok(self.start(who, queue)),
             WorkOp::DrainStart(queue, plug) => self.drain_start(who, queue, plug),
             WorkOp::DrainDone(place) => Ok(self.drain_done(who, place)),
@@ -353,7 +464,10 @@ impl Engine for WorkEngine {
     }
 
     fn is_closing(&self, _who: Who, op: &WorkOp) -> bool {
-        matches!(op, WorkOp::DrainDone(_) | WorkOp::End(_))
+        matches!(
+            op,
+            WorkOp::CancelDone(_) | WorkOp::FlushDone(_) | WorkOp::DrainDone(_) | WorkOp::End(_)
+        )
     }
 
     fn owed(&self) -> u64 {

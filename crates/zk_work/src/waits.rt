@@ -1,13 +1,95 @@
-ghost use Rattle.std.specs.Prelude.{◌≡◌, ◌≤◌, vec_len, vec_capacity};
-ghost use Rattle.zk_work.specs.Engine.{without_place};
+ghost use Rattle.std.specs.Prelude.{◌≡◌, ◌<◌, ◌≤◌, not, filter, vec_len, vec_capacity};
+ghost use Rattle.std.specs.List.{list_any};
+ghost use Rattle.zk_work.specs.Engine.{is_number, flushes, is_flushing, has_come, closes, left_waits};
 
-use zk_model_work::Wait;
+use zk_base::Who;
+use zk_model_work::{Awaited, Closing, Queue, Wait, drained_of, is_unanswered};
+use zk_queue::Queues;
 
-/// The waits of this place are taken out.
-pub fn forget(waits: &mut Vec<Wait>, place: u64)
-    ensures items { waits.new.items ≡ without_place place waits.old.items }
+/// Whether it is this number.
+fn is_number(number: u64, found: Option<u64>) -> bool
+    ensures { result ≡ is_number number found }
+{
+    match found {
+        None => false,
+        Some(it) => it == number,
+    }
+}
+
+/// Whether this is a flush of one of these, the item's waiting and its running admission.
+fn flushes(waiting: Option<u64>, running: Option<u64>, awaited: Awaited) -> bool
+    ensures { result ≡ flushes waiting running awaited }
+{
+    match awaited {
+        Awaited::Flush(number) => is_number(number, waiting) || is_number(number, running),
+        _ => false,
+    }
+}
+
+/// Whether a flush waits for an admission of the item.
+pub fn is_flushing(active: &Queues, waits: &[Wait], item: u32) -> bool
+    requires { item < active.now.items }
+    ensures { result ≡ is_flushing active.now waits.now item }
+{
+    let waiting = active.waiting(item);
+    let running = active.running(item);
+    waits.iter().any(|w| flushes(waiting, running, w.awaited))
+}
+
+/// Whether what is awaited has come, where it is of this kind.
+fn has_come(active: &Queues, queues: &[Queue], closing: Closing, awaited: Awaited) -> bool
+    ensures { result ≡ has_come active.now queues.now closing awaited }
+{
+    match (closing, awaited) {
+        (Closing::Cancel, Awaited::Cancel(number)) => !active.is_open(number),
+        (Closing::Flush, Awaited::Flush(number)) => !active.is_open(number),
+        (Closing::Drain, Awaited::Drain(queue, count)) => count < drained_of(queues, queue),
+        _ => false,
+    }
+}
+
+/// Whether this is the player's wait of this place, and what it awaits has come.
+fn closes(
+    active: &Queues,
+    queues: &[Queue],
+    closing: Closing,
+    who: Who,
+    place: u64,
+    wait: Wait,
+) -> bool
+    ensures { result ≡ closes active.now queues.now closing who place wait }
+{
+    is_unanswered(wait, place, who.number) && has_come(active, queues, closing, wait.awaited)
+}
+
+/// Whether there is such a wait.
+pub fn may_close(
+    active: &Queues,
+    queues: &[Queue],
+    waits: &[Wait],
+    closing: Closing,
+    who: Who,
+    place: u64,
+) -> bool
+    ensures { result ≡ list_any (closes active.now queues.now closing who place) waits.now }
+{
+    waits
+        .iter()
+        .any(|w| closes(active, queues, closing, who, place, *w))
+}
+
+/// The waits that this ends are taken out.
+pub fn close(
+    active: &Queues,
+    queues: &[Queue],
+    waits: &mut Vec<Wait>,
+    closing: Closing,
+    who: Who,
+    place: u64,
+)
+    ensures items { waits.new.items ≡ left_waits active.now queues.now waits.old.items closing who place }
     ensures len { vec_len waits.new ≤ vec_len waits.old }
     ensures capacity { vec_capacity waits.new ≡ vec_capacity waits.old }
 {
-    waits.retain(|wait| wait.place != place);
+    waits.retain(|wait| !closes(active, queues, closing, who, place, *wait));
 }

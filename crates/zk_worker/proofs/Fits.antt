@@ -10,7 +10,7 @@ use Rattle.zk_scenario.specs.declared.types.Decl.{Decl}
 use Rattle.zk_scenario.specs.declared.types.Decl.TheVariants.{Thread, Queue, Item}
 use Rattle.zk_scenario.specs.declared.types.Ref.TheVariants.{Known}
 use Rattle.zk_scenario.specs.declared.types.Call.{Call}
-use Rattle.zk_scenario.specs.declared.types.Call.TheVariants.{Submit, Cancel, Start, Drain, Unplug}
+use Rattle.zk_scenario.specs.declared.types.Call.TheVariants.{Submit, Cancel, CancelSync, Flush, Start, Drain, Unplug}
 use Rattle.zk_scenario.specs.Players.{places, players, is_queue, is_item, number_of, calls_of}
 use Rattle.zk_scenario.specs.Objects.{is_at}
 use Rattle.zk_scenario.specs.Parts.{Parts}
@@ -64,6 +64,8 @@ form_of-fits decls (Submit (Known item) (Some (Known queue))) fits =
     and_from (nat_lt (number_of decls item) (length (places is_item decls))) (nat_lt (number_of decls queue) (length (places is_queue decls)))
     (item-fits decls item both.0) (queue-fits decls queue both.1)
 form_of-fits decls (Cancel (Known item)) fits = item-fits decls item fits
+form_of-fits decls (CancelSync (Known item)) fits = item-fits decls item fits
+form_of-fits decls (Flush (Known item)) fits = item-fits decls item fits
 form_of-fits decls (Start (Known queue)) fits = queue-fits decls queue fits
 form_of-fits decls (Drain (Known queue) plug) fits = queue-fits decls queue fits
 form_of-fits decls (Unplug (Known queue)) fits = queue-fits decls queue fits
@@ -84,6 +86,8 @@ form_attempts-fit decls (Pair opening closing) stages.Runs k step fits is = absu
 form_attempts-fit decls (Pair opening closing) (stages.Waits place) k step fits is =
     subst (λ s. step_fits decls s ≡ true) (only (closing_step closing place) step k is) (closing-fits closing) where
       closing-fits : (closing : Closing) → step_fits decls (closing_step closing place) ≡ true
+      closing-fits closings.Cancel = refl
+      closing-fits closings.Flush = refl
       closing-fits closings.Drain = refl
 
 call_attempts-fit : (decls : List Decl) (call : Option Call) (stage : Stage) (k : ℕ) (step : Step) →

@@ -16,7 +16,7 @@ use Rattle.zk_worker.specs.declared.steps.Step.TheVariants as steps
 use Rattle.zk_worker.specs.declared.steps.StepReply.{StepReply}
 use Rattle.zk_worker.specs.declared.steps.StepReply.TheVariants as step_replies
 use Rattle.zk_worker.specs.declared.answers.Answer.{Answer}
-use Rattle.zk_worker.specs.declared.answers.Answer.TheVariants.{Number, Flags, Refused}
+use Rattle.zk_worker.specs.declared.answers.Answer.TheVariants.{Number, Flags, Truth, Refused}
 use Rattle.zk_worker.specs.declared.answers.Word.{Word}
 use Rattle.zk_worker.specs.declared.answers.Word.TheVariants as words
 use Rattle.zk_worker.specs.declared.frames.Closing.{Closing}
@@ -36,6 +36,8 @@ ref_number decls (Known object) = number_of decls object
 abbrev pub form_of : List Decl → Call → Form
 form_of decls (calls.Submit item queue) = One (steps.Work (ops.Submit (ref_number decls item) (option_map (ref_number decls) queue)))
 form_of decls (calls.Cancel item) = One (steps.Work (ops.Cancel (ref_number decls item)))
+form_of decls (calls.CancelSync item) = Pair (steps.Work (ops.CancelStart (ref_number decls item))) closings.Cancel
+form_of decls (calls.Flush item) = Pair (steps.Work (ops.FlushStart (ref_number decls item))) closings.Flush
 form_of decls (calls.Start queue) = One (steps.Work (ops.Start (ref_number decls queue)))
 form_of decls (calls.Drain queue plug) = Pair (steps.Work (ops.DrainStart (ref_number decls queue) plug)) closings.Drain
 form_of decls (calls.Unplug queue) = One (steps.Work (ops.Unplug (ref_number decls queue)))
@@ -44,6 +46,8 @@ form_of decls (calls.Unplug queue) = One (steps.Work (ops.Unplug (ref_number dec
 abbrev pub word_of : Call → Word
 word_of (calls.Submit item queue) = words.Submit
 word_of (calls.Cancel item) = words.Cancel
+word_of (calls.CancelSync item) = words.CancelSync
+word_of (calls.Flush item) = words.Flush
 word_of (calls.Start queue) = words.Start
 word_of (calls.Drain queue plug) = words.Drain
 word_of (calls.Unplug queue) = words.Unplug
@@ -59,6 +63,7 @@ submission_answer (submissions.Refused errno) = Refused errno
 abbrev pub work_answer : WorkReply → Answer
 work_answer (replies.Sub submitted) = submission_answer submitted
 work_answer (replies.Flags flags) = Flags flags
+work_answer (replies.Truth truth) = Truth truth
 work_answer (replies.Number number) = Number number
 work_answer replies.Already = Refused Already
 work_answer reply = Number 0
@@ -69,6 +74,8 @@ answer_of (step_replies.Work reply place) = work_answer reply
 
 -- the step that ends a wait begun by the entry of this place
 abbrev pub closing_step : Closing → ℕ → Step
+closing_step closings.Cancel place = steps.Work (ops.CancelDone place)
+closing_step closings.Flush place = steps.Work (ops.FlushDone place)
 closing_step closings.Drain place = steps.Work (ops.DrainDone place)
 
 -- the next attempts of a call, in order
@@ -81,6 +88,7 @@ form_attempts form stage = []
 -- what the reply to the first of two steps does to its call: it waits, or is answered
 abbrev pub opening_progress : Word → StepReply → Progress
 opening_progress word (step_replies.Work replies.Wait place) = Goes (Waits place)
+opening_progress word (step_replies.Work (replies.WaitFor admission) place) = Goes (Waits place)
 opening_progress word reply = Answers word (answer_of reply)
 
 -- what the reply to a step does to its call

@@ -8,6 +8,8 @@ pub enum Answer {
     Number(u64),
     /// The busy flags of an item, below 32.
     Flags(u8),
+    /// A truth value. Of a sync cancel whether the item was busy, and of a flush whether it had to wait.
+    Truth(bool),
     /// A refusal, with its name.
     Refused(Errno),
 }
@@ -17,6 +19,8 @@ pub enum Answer {
 pub enum Word {
     Submit,
     Cancel,
+    CancelSync,
+    Flush,
     Start,
     Drain,
     Unplug,

@@ -32,6 +32,14 @@ pub fn form_of(scenario: &Scenario, call: Call) -> Form
             queue_number(scenario, queue),
         ))),
         Call::Cancel(item) => Form::One(Step::Work(WorkOp::Cancel(ref_number(scenario, item)))),
+        Call::CancelSync(item) => Form::Pair(
+            Step::Work(WorkOp::CancelStart(ref_number(scenario, item))),
+            Closing::Cancel,
+        ),
+        Call::Flush(item) => Form::Pair(
+            Step::Work(WorkOp::FlushStart(ref_number(scenario, item))),
+            Closing::Flush,
+        ),
         Call::Start(queue) => Form::One(Step::Work(WorkOp::Start(ref_number(scenario, queue)))),
         Call::Drain(queue, plug) => Form::Pair(
             Step::Work(WorkOp::DrainStart(ref_number(scenario, queue), plug)),
@@ -48,6 +56,8 @@ pub fn word_of(call: Call) -> Word
     match call {
         Call::Submit(_, _) => Word::Submit,
         Call::Cancel(_) => Word::Cancel,
+        Call::CancelSync(_) => Word::CancelSync,
+        Call::Flush(_) => Word::Flush,
         Call::Start(_) => Word::Start,
         Call::Drain(_, _) => Word::Drain,
         Call::Unplug(_) => Word::Unplug,
@@ -71,6 +81,7 @@ fn work_answer(reply: WorkReply) -> Answer
     match reply {
         WorkReply::Sub(submitted) => submission_answer(submitted),
         WorkReply::Flags(flags) => Answer::Flags(flags),
+        WorkReply::Truth(truth) => Answer::Truth(truth),
         WorkReply::Number(number) => Answer::Number(number),
         WorkReply::Already => Answer::Refused(Errno::Already),
         _ => Answer::Number(0),
@@ -89,6 +100,8 @@ fn closing_step(closing: Closing, place: u64) -> Step
     ensures { result ≡ closing_step closing place }
 {
     match closing {
+        Closing::Cancel => Step::Work(WorkOp::CancelDone(place)),
+        Closing::Flush => Step::Work(WorkOp::FlushDone(place)),
         Closing::Drain => Step::Work(WorkOp::DrainDone(place)),
     }
 }
@@ -113,6 +126,7 @@ fn opening_progress(word: Word, reply: StepReply) -> Progress
 {
     match reply {
         StepReply::Work(WorkReply::Wait, place) => Progress::Goes(Stage::Waits(place)),
+        StepReply::Work(WorkReply::WaitFor(_), place) => Progress::Goes(Stage::Waits(place)),
         _ => Progress::Answers(word, answer_of(reply)),
     }
 }

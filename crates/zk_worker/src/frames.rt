@@ -15,6 +15,10 @@ pub enum Form {
 /// The step that ends a wait, by the place of the entry that began it.
 #[derive(Clone, Copy, Debug)]
 pub enum Closing {
+    /// The end of a sync cancel.
+    Cancel,
+    /// The end of a flush.
+    Flush,
     /// The end of a drain.
     Drain,
 }

@@ -15,6 +15,10 @@ returns c = λ start h fresh.
       order = λ front rest e queue item number lower a same. c.begins_in_order.ensures.first start front rest e queue item number lower a (parts _ same);
       apart = λ front between rest first second queue item number next same. c.never_overlaps.ensures.between start front between rest first second queue item number next (parts _ same);
       cancelled = λ front between rest e later item number same. c.cancel_holds.ensures.after start front between rest e later item number (parts _ same);
+      answered = λ front between rest first done item run same.
+          c.cancel_holds.ensures.done start front between rest first done item run (subst (λ (m : List (Entry WorkOp WorkReply)). IsFreshHistory start m) same fresh);
+      flushed = λ front between rest first done item number same.
+          c.flush_holds.ensures.done start front between rest first done item number (subst (λ (m : List (Entry WorkOp WorkReply)). IsFreshHistory start m) same fresh);
       own = λ front rest e queue q same. c.drain_holds.ensures.own start front rest e queue q (parts _ same);
       drained = λ front between rest first done queue plug same.
           c.drain_holds.ensures.done start front between rest first done queue plug (subst (λ (m : List (Entry WorkOp WorkReply)). IsFreshHistory start m) same fresh);
