@@ -4,6 +4,7 @@ pub mod History
 pub mod InMemory
 pub mod Legal
 pub mod Names
+pub mod Order
 pub mod Padding
 pub mod Recording
 pub mod Shown
