@@ -270,13 +270,15 @@ by_key-ascending key xs up = put_all_by-ascending key [] xs up
 
 -- A list in order, at a bound: those whose key isn't above it are its front.
 
-filter_all : {A : Type 0} (p : A → Bool) (xs : List A) → All (λ x. p x ≡ true) xs → filter p xs ≡ xs
+-- where all pass, all stay
+pub filter_all : {A : Type 0} (p : A → Bool) (xs : List A) → All (λ x. p x ≡ true) xs → filter p xs ≡ xs
 filter_all p [] all = refl
 filter_all {A} p (x ∷ xs) all =
     let P : A → Type 0 = λ x. p x ≡ true in
     ap (λ b. cond b (x ∷ filter p xs) (filter p xs)) (All-head P x xs all) ∙ ap (λ (l : List A). x ∷ l) (filter_all p xs (All-tail P x xs all))
 
-filter_none : {A : Type 0} (p : A → Bool) (xs : List A) → All (λ x. p x ≡ false) xs → filter p xs ≡ []
+-- where none passes, none does
+pub filter_none : {A : Type 0} (p : A → Bool) (xs : List A) → All (λ x. p x ≡ false) xs → filter p xs ≡ []
 filter_none p [] all = refl
 filter_none {A} p (x ∷ xs) all =
     let P : A → Type 0 = λ x. p x ≡ false in

@@ -1,0 +1,6 @@
+pub mod Arming
+pub mod Arms
+pub mod Disarming
+pub mod Looks
+pub mod Orders
+pub mod Room

@@ -1,0 +1,8 @@
+/// An item that is armed, as the list keeps it.
+#[derive(Clone, Copy, Debug)]
+pub struct Arm {
+    pub item: u32,
+    pub queue: u32,
+    /// The ticks from the deadline of the arm that expires before it; of the first one, from the start.
+    pub delta: u64,
+}

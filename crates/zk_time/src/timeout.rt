@@ -1,0 +1,9 @@
+/// An item that is armed, and when it expires.
+#[derive(Clone, Copy, Debug)]
+pub struct Timeout {
+    pub item: u32,
+    /// The queue that the item is to be submitted to.
+    pub queue: u32,
+    /// The moment at which it expires, in ticks since the start.
+    pub deadline: u64,
+}
