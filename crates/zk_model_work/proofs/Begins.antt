@@ -1,5 +1,5 @@
 -- How often an admission is begun, and in what order.
-use Rattle.std.proofs.Common.{◌≡◌, ℕ, zero, suc, ◌+◌, ◌<◌, ◌≤◌, ◌≢◌, ◌⊎◌, inl, inr, Bool, true, false, ◌&&◌, cond, eqb, Option, Some, None, is_some, option_map, List, [], ◌∷◌, ◌++◌, get_or, slice_get, count_by, refl, sym, ap, ◌∙◌, arith}
+use Rattle.std.proofs.Common.{◌≡◌, ℕ, zero, suc, ◌+◌, ◌<◌, ◌≤◌, ◌≢◌, ◌⊎◌, inl, inr, Bool, true, false, ◌&&◌, cond, eqb, Option, Some, None, is_some, option_map, List, [], ◌∷◌, ◌++◌, get_or, slice_get, count_by, refl, sym, ap, subst, ◌∙◌, arith}
 use Rattle.std.specs.Cmp.{first_so, second_so}
 use Rattle.std.specs.Option.{option_map_or, option_and_then}
 use Rattle.std.proofs.lemmas.Bool.{eqb-true, eq-eqb, false≢true}
@@ -12,19 +12,19 @@ use Rattle.zk_base.specs.Legal.{state_after, Replays}
 use Rattle.zk_model_work.specs.declared.parts.Life.{Life}
 use Rattle.zk_model_work.specs.declared.parts.Life.TheVariants.{Waiting, Running, Ended, Dropped}
 use Rattle.zk_model_work.specs.declared.parts.Admission.{Admission}
-use Rattle.zk_model_work.specs.declared.parts.Closing.TheVariants as closings
 use Rattle.zk_model_work.specs.declared.ops.WorkOp.{WorkOp}
-use Rattle.zk_model_work.specs.declared.ops.WorkOp.TheVariants.{Submit, Cancel, CancelStart, CancelDone, FlushStart, FlushDone, Start, DrainStart, DrainDone, Unplug, Begin, End}
+use Rattle.zk_model_work.specs.declared.ops.WorkOp.TheVariants.{Begin}
 use Rattle.zk_model_work.specs.declared.ops.WorkReply.{WorkReply}
 use Rattle.zk_model_work.specs.declared.ops.WorkReply.TheVariants.{Sub, Flags, Truth, WaitFor, Number, Done, Run}
 use Rattle.zk_model_work.specs.declared.ops.WorkReply.TheVariants as replies
 use Rattle.zk_model_work.specs.declared.ops.Submitted.{Submitted}
 use Rattle.zk_model_work.specs.declared.ops.Submitted.TheVariants.{Already, Fresh, Rerun, Refused}
 use Rattle.zk_model_work.specs.Lists.{first}
-use Rattle.zk_model_work.specs.Questions.{is_waiting, is_running, is_open, waits_as, runs_on, running, line, is_empty_and_idle}
+use Rattle.zk_model_work.specs.Questions.{is_waiting, is_running, is_open, waits_as, runs_on, line}
 use Rattle.zk_model_work.specs.State.{State}
-use Rattle.zk_model_work.specs.Machine.{work_next, work_reply, work_machine, submission, submit, set_life, with_life, begin, end_one, drop_one, cancel, flags_of, taken_up, may_begin, may_end, may_close, flushed, cancel_start_reply, flush_start_reply, is_started, is_plugged, start_reply, drain_reply, unplug_reply}
-use Rattle.zk_model_work.specs.Laws.{IsWorkHistory, hands_out, begins, admission_after, EachBegunOnce, DroppedNeverBegun, RunOrDropped, NoneWaitsBefore, BeginsRise}
+use Rattle.zk_model_work.specs.Machine.{work_next, work_reply, work_machine, submission, submit, set_life, with_life, begin, end_one, drop_one, taken_up, may_begin}
+use Rattle.zk_model_work.specs.Laws.{IsWorkHistory, IsFreshHistory, OfEach, submitter, hands_out, begins, admission_after, EachBegunOnce, DroppedNeverBegun, RunOrDropped, NoneWaitsBefore, BeginsRise}
+use Rattle.zk_model_work.proofs.Moves.{admissions-next, is_begin}
 use Rattle.zk_model_work.proofs.Lives.{Kept, Kept-after, IsFirst, IsFirst-line, set_life-at, set_life-aside}
 
 -- one for a life that comes after a begin
@@ -136,69 +136,51 @@ step-begun_reply xs queue n reply it = which (eqb_tells it.number n) where
       let now : begun (slice_get (begin xs queue) n) ≡ begun (slice_get xs n) = ap (λ (ys : List Admission). begun (slice_get ys n)) after ∙ ap begun (set_life-aside xs it.number n Running other.1) in
       omega arith
 
-handed-start : (n : ℕ) (was : Bool) → handed n (cond was replies.Already Done) ≡ 0
-handed-start n true = refl
-handed-start n false = refl
+-- a reply that hands this admission out is that of a run of it
+run_of : (n : ℕ) (reply : WorkReply) → hands_out n reply ≡ true → (item : ℕ) × (reply ≡ Run item n)
+run_of n (Run item taken) out = (item, ap (Run item) (eqb-true taken n out))
+run_of n (Sub answer) out = absurd (cc)
+run_of n replies.Armed out = absurd (cc)
+run_of n (Flags flags) out = absurd (cc)
+run_of n (Truth b) out = absurd (cc)
+run_of n replies.Wait out = absurd (cc)
+run_of n (WaitFor number) out = absurd (cc)
+run_of n (Number number) out = absurd (cc)
+run_of n Done out = absurd (cc)
+run_of n replies.Already out = absurd (cc)
+run_of n (replies.Now time told) out = absurd (cc)
 
-handed-cancel : (n : ℕ) (none runs : Bool) → handed n (cond none (Truth false) (cond runs replies.Wait (Truth true))) ≡ 0
-handed-cancel n true runs = refl
-handed-cancel n false true = refl
-handed-cancel n false false = refl
-
-handed-flush : (n : ℕ) (o : Option ℕ) → handed n (option_map_or WaitFor o (Truth false)) ≡ 0
-handed-flush n None = refl
-handed-flush n (Some number) = refl
-
-handed-drain : (n : ℕ) (idle : Bool) → handed n (cond idle (Number 0) replies.Wait) ≡ 0
-handed-drain n true = refl
-handed-drain n false = refl
-
-handed-unplug : (n : ℕ) (was : Bool) → handed n (cond was Done replies.Already) ≡ 0
-handed-unplug n true = refl
-handed-unplug n false = refl
+-- a begin counts just where it hands the admission out
+step-begin : (s : State) (who : Who) (op : WorkOp) (reply : WorkReply) (n queue : ℕ) → op ≡ Begin queue → work_reply s who op ≡ Some reply → handed n reply + begun (slice_get s.admissions n) ≡ begun (slice_get (begin s.admissions queue) n)
+step-begin s who op reply n queue is replied = step-begun_reply s.admissions queue n reply (Begun-reply s who queue reply (ap (work_reply s who) (sym is) ∙ replied))
 
 -- each entry counts
 step-begun : (s : State) (who : Who) (op : WorkOp) (reply : WorkReply) (n : ℕ) → work_reply s who op ≡ Some reply → handed n reply + begun (slice_get s.admissions n) ≡ begun (slice_get (work_next s who op).admissions n)
-step-begun s who (Submit item named) reply n is =
-    let answer = submission s.admissions s.marks s.queues (Some who.number) item named in
-    let out : handed n reply ≡ 0 = ap (handed n) (sym (same_Some (Sub answer) reply is)) in
-    let same = begun-submit s.admissions item answer n in
-    omega arith
-step-begun s who (Cancel item) reply n is =
-    let out : handed n reply ≡ 0 = ap (handed n) (sym (same_Some (Flags (flags_of (cancel s item) item)) reply is)) in
-    let same = ap begun (slice_get-map (drop_one item) s.admissions n) ∙ begun-map (drop_one item) (begun-drop_one item) (slice_get s.admissions n) in
-    omega arith
-step-begun s who (CancelStart item) reply n is =
-    let out : handed n reply ≡ 0 =
-    ap (handed n) (sym (same_Some (cancel_start_reply (flags_of s item) (is_some (running s.admissions item))) reply is)) ∙ handed-cancel n (eqb (flags_of s item) 0) (is_some (running s.admissions item)) in
-    let same = ap begun (slice_get-map (drop_one item) s.admissions n) ∙ begun-map (drop_one item) (begun-drop_one item) (slice_get s.admissions n) in
-    omega arith
-step-begun s who (CancelDone place) reply n is =
-    let out : handed n reply ≡ 0 = ap (handed n) (sym (same_Some (Truth true) reply (chosen (may_close s closings.Cancel who place) (Some (Truth true)) reply is))) in
-    omega arith
-step-begun s who (FlushStart item) reply n is =
-    let out : handed n reply ≡ 0 = ap (handed n) (sym (same_Some (flush_start_reply (flushed s.admissions item)) reply is)) ∙ handed-flush n (flushed s.admissions item) in
-    omega arith
-step-begun s who (FlushDone place) reply n is =
-    let out : handed n reply ≡ 0 = ap (handed n) (sym (same_Some (Truth true) reply (chosen (may_close s closings.Flush who place) (Some (Truth true)) reply is))) in
-    omega arith
-step-begun s who (Start queue) reply n is =
-    let out : handed n reply ≡ 0 = ap (handed n) (sym (same_Some (start_reply s.queues queue) reply is)) ∙ handed-start n (is_started s.queues queue) in
-    omega arith
-step-begun s who (DrainStart queue plug) reply n is =
-    let out : handed n reply ≡ 0 = ap (handed n) (sym (same_Some (drain_reply (is_empty_and_idle s.admissions queue)) reply is)) ∙ handed-drain n (is_empty_and_idle s.admissions queue) in
-    omega arith
-step-begun s who (DrainDone place) reply n is =
-    let out : handed n reply ≡ 0 = ap (handed n) (sym (same_Some (Number 1) reply (chosen (may_close s closings.Drain who place) (Some (Number 1)) reply is))) in
-    omega arith
-step-begun s who (Unplug queue) reply n is =
-    let out : handed n reply ≡ 0 = ap (handed n) (sym (same_Some (unplug_reply s.queues queue) reply is)) ∙ handed-unplug n (is_plugged s.queues queue) in
-    omega arith
-step-begun s who (Begin queue) reply n is = step-begun_reply s.admissions queue n reply (Begun-reply s who queue reply is)
-step-begun s who (End queue) reply n is =
-    let out : handed n reply ≡ 0 = ap (handed n) (sym (same_Some Done reply (chosen (may_end s.admissions s.queues who queue) (Some Done) reply is))) in
-    let same = ap begun (slice_get-map (end_one queue) s.admissions n) ∙ begun-map (end_one queue) (begun-end_one queue) (slice_get s.admissions n) in
-    omega arith
+step-begun s who op reply n is = by (hands_out n reply) refl where
+  old : ℕ
+  old = begun (slice_get s.admissions n)
+
+  none : hands_out n reply ≡ false → begun (slice_get (work_next s who op).admissions n) ≡ old
+  none out =
+      admissions-next (λ ys. begun (slice_get ys n) ≡ old) s who op
+      (λ ys item named stays same. begun-submit ys item (submission ys s.marks s.queues (submitter who op) item named) n ∙ same)
+      (λ item cancels. ap begun (slice_get-map (drop_one item) s.admissions n) ∙ begun-map (drop_one item) (begun-drop_one item) (slice_get s.admissions n))
+      (λ queue op_is.
+      let step = step-begin s who op reply n queue op_is is in
+      let nothing : handed n reply ≡ 0 = ap (λ b. cond b 1 0) out in
+      omega arith)
+      (λ queue op_is. ap begun (slice_get-map (end_one queue) s.admissions n) ∙ begun-map (end_one queue) (begun-end_one queue) (slice_get s.admissions n))
+      refl
+
+  by : (b : Bool) → hands_out n reply ≡ b → handed n reply + old ≡ begun (slice_get (work_next s who op).admissions n)
+  by true out =
+      let run = run_of n reply out in
+      let queue = is_begin s who op run.0 n (is ∙ ap Some run.1) in
+      step-begin s who op reply n queue.0 queue.1 is ∙ ap (λ o. begun (slice_get (work_next s who o).admissions n)) (sym queue.1)
+  by false out =
+      let nothing : handed n reply ≡ 0 = ap (λ b. cond b 1 0) out in
+      let same = none out in
+      omega arith
 
 -- the begins of an admission are as many as its life says
 begun-after : (s : State) (h : List (Entry WorkOp WorkReply)) (n : ℕ) → Replays work_machine s h → count_by (begins n) h + begun (slice_get s.admissions n) ≡ begun (slice_get (state_after work_machine s h).admissions n)
@@ -214,8 +196,8 @@ begun-history start h n work =
     let all = begun-after start h n work.legal.0 in
     omega arith
 
-pub each_begun_once : EachBegunOnce
-each_begun_once start h n work = let all = begun-history start h n work in let most = begun-most (admission_after start h n) in omega arith
+pub each_begun_once : OfEach EachBegunOnce
+each_begun_once start h fresh n = let all = begun-history start h n fresh.work in let most = begun-most (admission_after start h n) in omega arith
 
 pub alive : (o : Option Admission) (life : Life) → option_map (λ a. a.life) o ≡ Some life → (a : Admission) × (o ≡ Some a) × (a.life ≡ life)
 alive None life is = absurd (cc)
@@ -225,19 +207,20 @@ pub state_after-append : (s : State) (front rest : List (Entry WorkOp WorkReply)
 state_after-append s [] rest = refl
 state_after-append s (e ∷ es) rest = state_after-append (work_next s e.who e.op) es rest
 
-pub dropped_never_begun : DroppedNeverBegun
-dropped_never_begun start front rest n work is =
+pub dropped_never_begun : OfEach DroppedNeverBegun
+dropped_never_begun start h fresh front rest n parts is =
     let before = state_after work_machine start front in
     let was = alive (admission_after start front n) Dropped is in
     let kept = Kept-after before rest n was.0 was.1 in
     let over : kept.0.life ≡ Dropped = kept.2.over (ap is_open was.2) ∙ was.2 in
-    let there : admission_after start (front ++ rest) n ≡ Some kept.0 = ap (λ (s : State). slice_get s.admissions n) (state_after-append start front rest) ∙ kept.1 in
-    begun-history start (front ++ rest) n work ∙ ap begun there ∙ ap begun_by over
+    let there : admission_after start h n ≡ Some kept.0 =
+    ap (λ (l : List (Entry WorkOp WorkReply)). admission_after start l n) parts ∙ ap (λ (s : State). slice_get s.admissions n) (state_after-append start front rest) ∙ kept.1 in
+    begun-history start h n fresh.work ∙ ap begun there ∙ ap begun_by over
 
-pub run_or_dropped : RunOrDropped
-run_or_dropped start h n life work is over =
+pub run_or_dropped : OfEach RunOrDropped
+run_or_dropped start h fresh n life is over =
     let was = alive (admission_after start h n) life is in
-    let all : count_by (begins n) h ≡ begun_by life = begun-history start h n work ∙ ap begun was.1 ∙ ap begun_by was.2 in
+    let all : count_by (begins n) h ≡ begun_by life = begun-history start h n fresh.work ∙ ap begun was.1 ∙ ap begun_by was.2 in
     which life over all where
       which : (l : Life) → is_open l ≡ false → count_by (begins n) h ≡ begun_by l → ((l ≡ Ended) × (count_by (begins n) h ≡ 1)) ⊎ ((l ≡ Dropped) × (count_by (begins n) h ≡ 0))
       which Waiting over all = absurd (cc)
@@ -249,6 +232,9 @@ run_or_dropped start h n life work is over =
 pub Replays-rest : (s : State) (front rest : List (Entry WorkOp WorkReply)) → Replays work_machine s (front ++ rest) → Replays work_machine (state_after work_machine s front) rest
 Replays-rest s [] rest replays = replays
 Replays-rest s (e ∷ es) rest replays = Replays-rest (work_next s e.who e.op) es rest replays.1
+
+pub Replays-parts : (start : State) (h parts : List (Entry WorkOp WorkReply)) → IsFreshHistory start h → h ≡ parts → Replays work_machine start parts
+Replays-parts start h parts fresh same = subst (Replays work_machine start) same fresh.work.legal.0
 
 pub Begun-entry : (s : State) (e : Entry WorkOp WorkReply) (queue : ℕ) → e.op ≡ Begin queue → work_reply s e.who e.op ≡ Some e.reply → Begun s.admissions queue e.reply
 Begun-entry s e queue op is = Begun-reply s e.who queue e.reply (ap (work_reply s e.who) (sym op) ∙ is)
@@ -264,10 +250,10 @@ second_false false c is both = absurd (cc)
 not_before : (xs : List Admission) (queue number lower : ℕ) (a : Admission) → IsFirst xs queue number → lower < number → slice_get xs lower ≡ Some a → a.queue ≡ queue → is_waiting a.life ≡ false
 not_before xs queue number lower a is below there same = second_false (eqb a.queue queue) (is_waiting a.life) (eq-eqb a.queue queue same) (is.none_before lower a below there)
 
-pub none_waits_before : NoneWaitsBefore
-none_waits_before start front rest e queue item number lower a work op reply below there same =
+pub none_waits_before : OfEach NoneWaitsBefore
+none_waits_before start h fresh front rest e queue item number lower a parts op reply below there same =
     let before = state_after work_machine start front in
-    let it = Begun-entry before e queue op (Replays-rest start front (e ∷ rest) work.legal.0).0 in
+    let it = Begun-entry before e queue op (Replays-rest start front (e ∷ rest) (Replays-parts start h (front ++ e ∷ rest) fresh parts)).0 in
     let number_is = same_run item it.taken.item number it.number e.reply reply it.replied in
     not_before before.admissions queue it.number lower a (IsFirst-line before.admissions queue it.number it.first_is) (omega arith) there same
 
@@ -298,10 +284,10 @@ twice s t e two queue op now later same kept =
     let waits = (IsFirst-line t.admissions queue later.number later.first_is).waits later.taken later.there in
     false≢true (sym not_later ∙ second_so (eqb later.taken.queue queue) (is_waiting later.taken.life) waits)
 
-pub begins_rise : BeginsRise
-begins_rise start front between rest one two queue item next_item number next work op reply next_op next_reply =
+pub begins_rise : OfEach BeginsRise
+begins_rise start h fresh front between rest one two queue item next_item number next parts op reply next_op next_reply =
     let s = state_after work_machine start front in
-    let replays = Replays-rest start front (one ∷ (between ++ two ∷ rest)) work.legal.0 in
+    let replays = Replays-rest start front (one ∷ (between ++ two ∷ rest)) (Replays-parts start h (front ++ one ∷ (between ++ two ∷ rest)) fresh parts) in
     let after = work_next s one.who one.op in
     let t = state_after work_machine after between in
     let first_begun = Begun-entry s one queue op replays.0 in

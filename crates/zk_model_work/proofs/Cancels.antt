@@ -16,7 +16,7 @@ use Rattle.zk_model_work.specs.declared.parts.Life.{Life}
 use Rattle.zk_model_work.specs.declared.parts.Life.TheVariants.{Waiting, Running, Dropped}
 use Rattle.zk_model_work.specs.declared.parts.Admission.{Admission}
 use Rattle.zk_model_work.specs.declared.ops.WorkOp.{WorkOp}
-use Rattle.zk_model_work.specs.declared.ops.WorkOp.TheVariants.{Submit, Cancel, CancelStart, CancelDone, FlushStart, FlushDone, Start, DrainStart, DrainDone, Unplug, Begin, End}
+use Rattle.zk_model_work.specs.declared.ops.WorkOp.TheVariants.{Submit, Cancel, CancelStart, CancelDone, FlushStart, FlushDone, Schedule, Reschedule, Remaining, Start, DrainStart, DrainDone, Unplug, Announce, Begin, End}
 use Rattle.zk_model_work.specs.declared.ops.WorkReply.{WorkReply}
 use Rattle.zk_model_work.specs.declared.ops.WorkReply.TheVariants as replies
 use Rattle.zk_model_work.specs.declared.ops.Submitted.{Submitted}
@@ -24,10 +24,11 @@ use Rattle.zk_model_work.specs.declared.ops.Submitted.TheVariants.{Already, Fres
 use Rattle.zk_model_work.specs.Lists.{first}
 use Rattle.zk_model_work.specs.Questions.{is_waiting, is_running, is_open, waits_as, runs_as, line, waiting, running, passes_at, is_cancelling}
 use Rattle.zk_model_work.specs.State.{State}
-use Rattle.zk_model_work.specs.Machine.{work_next, work_reply, work_machine, submission, submission_at, target, submit, drop_one, drop_waiting, set_life, with_life, begin, end_one, end_run}
-use Rattle.zk_model_work.specs.Laws.{made_after, submits, is_admitted, says_admitted, Cancels, NoneAdmittedDuringCancel, BegunMadeAfterCancel, BegunMadeAfterRun}
+use Rattle.zk_model_work.specs.Machine.{work_next, work_reply, work_machine, submission, submission_at, target, submit, admitted_to, disarm, drop_one, drop_waiting, set_life, with_life, begin, end_one, end_run}
+use Rattle.zk_model_work.specs.Laws.{OfEach, submitter, made_after, Cancels, NoneMadeDuringCancel, BegunMadeAfterCancel, BegunMadeAfterRun}
 use Rattle.zk_model_work.proofs.Lives.{Keeps, Kept, Kept-next, Kept-after}
-use Rattle.zk_model_work.proofs.Begins.{alive, state_after-append, Replays-rest}
+use Rattle.zk_model_work.proofs.Moves.{Stays, admissions-next, schedule-keeps, delayed-keeps}
+use Rattle.zk_model_work.proofs.Begins.{alive, state_after-append, Replays-rest, Replays-parts}
 use Rattle.zk_model_work.proofs.Overlaps.{runs-open, pushed, second_of, and-true, running-not, not_both, still-map, still-cond, Handed-entry}
 
 -- no admission of the item waits
@@ -61,10 +62,14 @@ Marked-next s who (CancelStart item) number marked = Marked-more number s.marks 
 Marked-next s who (CancelDone place) number marked = marked
 Marked-next s who (FlushStart item) number marked = marked
 Marked-next s who (FlushDone place) number marked = marked
+Marked-next s who (Schedule item queue delay) number marked = schedule-keeps (λ t. Marked number t.marks) s who item queue delay marked marked (λ free later. marked)
+Marked-next s who (Reschedule item queue delay) number marked = delayed-keeps (λ t. Marked number t.marks) (record s { arms = disarm s.arms item }) who item queue delay marked (λ later. marked)
+Marked-next s who (Remaining item) number marked = marked
 Marked-next s who (Start queue) number marked = marked
 Marked-next s who (DrainStart queue plug) number marked = marked
 Marked-next s who (DrainDone place) number marked = marked
 Marked-next s who (Unplug queue) number marked = marked
+Marked-next s who (Announce ticks) number marked = marked
 Marked-next s who (Begin queue) number marked = marked
 Marked-next s who (End queue) number marked = marked
 
@@ -80,16 +85,16 @@ pub record Cancelled (s : State) (item number : ℕ) : Type 0 where
   pub item_is : run.item ≡ item
   pub runs : is_running run.life ≡ true
 
-is_cancelling-Cancelled : (s : State) (item number : ℕ) → Cancelled s item number → is_cancelling s.admissions s.marks item ≡ true
-is_cancelling-Cancelled s item number it =
+is_cancelling-Cancelled : (s : State) (ys : List Admission) (item number : ℕ) → Cancelled s item number → Stays s.admissions ys → is_cancelling ys s.marks item ≡ true
+is_cancelling-Cancelled s ys item number it stays =
     let runs : runs_as item it.run ≡ true = and-true (eqb it.run.item item) (is_running it.run.life) (eq-eqb it.run.item item it.item_is) it.runs in
-    it.marked (passes_at (runs_as item) s.admissions) (ap (λ (o : Option Admission). option_map_or (runs_as item) o false) it.there ∙ runs)
+    it.marked (passes_at (runs_as item) ys) (ap (λ (o : Option Admission). option_map_or (runs_as item) o false) (stays number it.run it.there) ∙ runs)
 
--- a submission of it is refused
-refused-Cancelled : (s : State) (who : Who) (item number : ℕ) (named : Option ℕ) → Cancelled s item number → submission s.admissions s.marks s.queues (Some who.number) item named ≡ Refused Busy
-refused-Cancelled s who item number named it =
-    let otherwise = cond (is_some (waiting s.admissions item)) Already (submission_at s.admissions s.queues (Some who.number) item (target s.admissions item named)) in
-    ap (λ b. cond b (Refused Busy) otherwise) (is_cancelling-Cancelled s item number it)
+-- a submission of it is refused, also when others were admitted since
+refused-Cancelled : (s : State) (ys : List Admission) (caller : Option ℕ) (item number : ℕ) (named : Option ℕ) → Cancelled s item number → Stays s.admissions ys → submission ys s.marks s.queues caller item named ≡ Refused Busy
+refused-Cancelled s ys caller item number named it stays =
+    let otherwise = cond (is_some (waiting ys item)) Already (submission_at ys s.queues caller item (target ys item named)) in
+    ap (λ b. cond b (Refused Busy) otherwise) (is_cancelling-Cancelled s ys item number it stays)
 
 NoneWaits-kept : (item : ℕ) (xs ys : List Admission) → Kept xs ys → ((n : ℕ) (b : Admission) → slice_get ys n ≡ Some b → length xs ≤ n → b.item ≡ item → is_waiting b.life ≡ false) → NoneWaits item xs → NoneWaits item ys
 NoneWaits-kept item xs ys kept new none n b at item_is = by (cases_order n (length xs)) where
@@ -106,23 +111,17 @@ NoneWaits-kept item xs ys kept new none n b at item_is = by (cases_order n (leng
   by (inr (inl within)) = old within
   by (inr (inr past)) = new n b at (omega arith) item_is
 
--- what is new after a submission is of its item, and was admitted
-new-submit : (xs : List Admission) (item : ℕ) (answer : Submitted) (n : ℕ) (b : Admission) → slice_get (submit xs item answer) n ≡ Some b → length xs ≤ n → (b.item ≡ item) × (is_admitted answer ≡ true)
-new-submit xs item answer n b at past = by answer at where
-  none : slice_get xs n ≡ Some b → ⊥
-  none old = let within = slice_get_within xs n b old in omega arith
-
-  new : (queue : ℕ) → slice_get (xs ++ record { item = item; queue = queue; life = Waiting } ∷ []) n ≡ Some b → b.item ≡ item
-  new queue at = here (pushed xs (record { item = item; queue = queue; life = Waiting }) n b at) where
-    here : (slice_get xs n ≡ Some b) ⊎ ((n ≡ length xs) × (record { item = item; queue = queue; life = Waiting } ≡ b)) → b.item ≡ item
-    here (inl old) = absurd (none old)
-    here (inr is) = sym (ap (λ (c : Admission). c.item) is.1)
-
-  by : (answer : Submitted) → slice_get (submit xs item answer) n ≡ Some b → (b.item ≡ item) × (is_admitted answer ≡ true)
-  by Already at = absurd (none at)
-  by (Fresh number queue) at = (new queue at, refl)
-  by (Rerun number queue) at = (new queue at, refl)
-  by (Refused cause) at = absurd (none at)
+-- what is there after a submission was there before, or is of its item, and was admitted
+new-submit : (xs : List Admission) (item : ℕ) (answer : Submitted) (n : ℕ) (b : Admission) → slice_get (submit xs item answer) n ≡ Some b →
+    (slice_get xs n ≡ Some b) ⊎ ((b.item ≡ item) × (admitted_to answer ≡ Some b.queue))
+new-submit xs item answer n b at = by (admitted_to answer) refl at where
+  by : (o : Option ℕ) → admitted_to answer ≡ o → slice_get (option_map_or (λ queue. xs ++ record { item = item; queue = queue; life = Waiting } ∷ []) o xs) n ≡ Some b →
+      (slice_get xs n ≡ Some b) ⊎ ((b.item ≡ item) × (admitted_to answer ≡ Some b.queue))
+  by None is at = inl at
+  by (Some queue) is at = here (pushed xs (record { item = item; queue = queue; life = Waiting }) n b at) where
+    here : (slice_get xs n ≡ Some b) ⊎ ((n ≡ length xs) × (record { item = item; queue = queue; life = Waiting } ≡ b)) → (slice_get xs n ≡ Some b) ⊎ ((b.item ≡ item) × (admitted_to answer ≡ Some b.queue))
+    here (inl old) = inl old
+    here (inr same) = inr (sym (ap (λ (c : Admission). c.item) same.1), is ∙ ap (λ (c : Admission). Some c.queue) same.1)
 
 length-set_life : (xs : List Admission) (n : ℕ) (life : Life) → length (set_life xs n life) ≡ length xs
 length-set_life [] n life = refl
@@ -142,25 +141,35 @@ length-mapped : (f : Admission → Admission) (xs : List Admission) → length (
 length-mapped f [] = refl
 length-mapped f (x ∷ xs) = ap suc (length-mapped f xs)
 
--- while the item is being cancelled, none of it comes to wait
+-- what holds of each admission that an operation makes, where it holds of each that is admitted
+pub made-next : (P : Admission → Type 0) (s : State) (who : Who) (op : WorkOp) →
+    ((ys : List Admission) (item : ℕ) (named : Option ℕ) (b : Admission) → Stays s.admissions ys → b.item ≡ item → admitted_to (submission ys s.marks s.queues (submitter who op) item named) ≡ Some b.queue → P b) →
+    (n : ℕ) (b : Admission) → slice_get (work_next s who op).admissions n ≡ Some b → length s.admissions ≤ n → P b
+made-next P s who op admits =
+    admissions-next (λ ys. (n : ℕ) (b : Admission) → slice_get ys n ≡ Some b → length s.admissions ≤ n → P b) s who op
+    (λ ys item named stays so_far n b at past.
+    which ys item named stays so_far n b past (new-submit ys item (submission ys s.marks s.queues (submitter who op) item named) n b at))
+    (λ item cancels n b at past. absurd (none-new s.admissions (drop_waiting s.admissions item) n b (length-mapped (drop_one item) s.admissions) at past))
+    (λ queue is n b at past. absurd (none-new s.admissions (begin s.admissions queue) n b (length-begin s.admissions queue) at past))
+    (λ queue is n b at past. absurd (none-new s.admissions (end_run s.admissions queue) n b (length-mapped (end_one queue) s.admissions) at past))
+    (λ n b at past. absurd (none-new s.admissions s.admissions n b refl at past)) where
+      which : (ys : List Admission) (item : ℕ) (named : Option ℕ) → Stays s.admissions ys → ((n : ℕ) (b : Admission) → slice_get ys n ≡ Some b → length s.admissions ≤ n → P b) → (n : ℕ) (b : Admission) → length s.admissions ≤ n →
+          (slice_get ys n ≡ Some b) ⊎ ((b.item ≡ item) × (admitted_to (submission ys s.marks s.queues (submitter who op) item named) ≡ Some b.queue)) → P b
+      which ys item named stays so_far n b past (inl old) = so_far n b old past
+      which ys item named stays so_far n b past (inr new) = admits ys item named b stays new.0 new.1
+
+nothing-admitted : (answer : Submitted) (queue : ℕ) → answer ≡ Refused Busy → admitted_to answer ≡ Some queue → ⊥
+nothing-admitted answer queue refused admits = none (sym (ap admitted_to refused) ∙ admits) where
+  none : None ≡ Some queue → ⊥
+  none is = cc
+
+-- while the item is being cancelled, no admission of it is made
 new-next : (s : State) (who : Who) (op : WorkOp) (item number : ℕ) → Cancelled s item number → (n : ℕ) (b : Admission) → slice_get (work_next s who op).admissions n ≡ Some b → length s.admissions ≤ n → b.item ≡ item → ⊥
-new-next s who (Submit other named) item number it n b at past item_is =
-    let answer = submission s.admissions s.marks s.queues (Some who.number) other named in
-    let new = new-submit s.admissions other answer n b at past in
-    let same : other ≡ item = sym new.0 ∙ item_is in
-    let refused : answer ≡ Refused Busy = ap (λ i. submission s.admissions s.marks s.queues (Some who.number) i named) same ∙ refused-Cancelled s who item number named it in
-    false≢true (sym (ap is_admitted refused) ∙ new.1)
-new-next s who (Cancel other) item number it n b at past item_is = none-new s.admissions (drop_waiting s.admissions other) n b (length-mapped (drop_one other) s.admissions) at past
-new-next s who (CancelStart other) item number it n b at past item_is = none-new s.admissions (drop_waiting s.admissions other) n b (length-mapped (drop_one other) s.admissions) at past
-new-next s who (CancelDone place) item number it n b at past item_is = none-new s.admissions s.admissions n b refl at past
-new-next s who (FlushStart other) item number it n b at past item_is = none-new s.admissions s.admissions n b refl at past
-new-next s who (FlushDone place) item number it n b at past item_is = none-new s.admissions s.admissions n b refl at past
-new-next s who (Start queue) item number it n b at past item_is = none-new s.admissions s.admissions n b refl at past
-new-next s who (DrainStart queue plug) item number it n b at past item_is = none-new s.admissions s.admissions n b refl at past
-new-next s who (DrainDone place) item number it n b at past item_is = none-new s.admissions s.admissions n b refl at past
-new-next s who (Unplug queue) item number it n b at past item_is = none-new s.admissions s.admissions n b refl at past
-new-next s who (Begin queue) item number it n b at past item_is = none-new s.admissions (begin s.admissions queue) n b (length-begin s.admissions queue) at past
-new-next s who (End queue) item number it n b at past item_is = none-new s.admissions (end_run s.admissions queue) n b (length-mapped (end_one queue) s.admissions) at past
+new-next s who op item number it =
+    made-next (λ b. b.item ≡ item → ⊥) s who op
+    (λ ys other named b stays item_is admits same.
+    nothing-admitted (submission ys s.marks s.queues (submitter who op) other named) b.queue
+    (ap (λ i. submission ys s.marks s.queues (submitter who op) i named) (sym item_is ∙ same) ∙ refused-Cancelled s ys (submitter who op) item number named it stays) admits)
 
 NoneWaits-next : (s : State) (who : Who) (op : WorkOp) (item number : ℕ) → Cancelled s item number → NoneWaits item s.admissions → NoneWaits item (work_next s who op).admissions
 NoneWaits-next s who op item number it none =
@@ -251,37 +260,18 @@ During-entry s who op item number is found = record {
   none = NoneWaits-entry s who op item is;
 }
 
--- an entry meanwhile makes no admission of the item
-not_admitted : (s : State) (who : Who) (op : WorkOp) (reply : WorkReply) (item number : ℕ) → Cancelled s item number → work_reply s who op ≡ Some reply → (submits item op && says_admitted reply) ≡ false
-not_admitted s who (Submit other named) reply item number it is = by (eqb_tells other item) where
-  by : ((eqb other item ≡ true) × (other ≡ item)) ⊎ ((eqb other item ≡ false) × (other ≢ item)) → (eqb other item && says_admitted reply) ≡ false
-  by (inl same) =
-      let answer = submission s.admissions s.marks s.queues (Some who.number) other named in
-      let refused : answer ≡ Refused Busy = ap (λ i. submission s.admissions s.marks s.queues (Some who.number) i named) same.1 ∙ refused-Cancelled s who item number named it in
-      let said : reply ≡ replies.Sub (Refused Busy) = sym (same_Some (replies.Sub answer) reply is) ∙ ap replies.Sub refused in
-      not_both (eqb other item) (says_admitted reply) (ap says_admitted said)
-  by (inr other_one) = ap (λ b. b && says_admitted reply) other_one.0
-not_admitted s who (Cancel other) reply item number it is = refl
-not_admitted s who (CancelStart other) reply item number it is = refl
-not_admitted s who (CancelDone place) reply item number it is = refl
-not_admitted s who (FlushStart other) reply item number it is = refl
-not_admitted s who (FlushDone place) reply item number it is = refl
-not_admitted s who (Start queue) reply item number it is = refl
-not_admitted s who (DrainStart queue plug) reply item number it is = refl
-not_admitted s who (DrainDone place) reply item number it is = refl
-not_admitted s who (Unplug queue) reply item number it is = refl
-not_admitted s who (Begin queue) reply item number it is = refl
-not_admitted s who (End queue) reply item number it is = refl
-
-pub none_admitted_during_cancel : NoneAdmittedDuringCancel
-none_admitted_during_cancel start front during rest e next item run work op found still =
+pub none_made_during_cancel : OfEach NoneMadeDuringCancel
+none_made_during_cancel start h fresh front during rest e next item run number a parts op found still makes item_is =
     let s = state_after work_machine start front in
     let c = work_next s e.who e.op in
     let t = state_after work_machine c during in
     let same = state_after-append start front (e ∷ during) in
-    let replays = (Replays-rest c during (next ∷ rest) (Replays-rest start front (e ∷ (during ++ next ∷ rest)) work.legal.0).1).0 in
     let it = During-after c during item run (sym (ap (λ (u : State). life_at u run) same) ∙ still) (During-entry s e.who e.op item run op found) in
-    not_admitted t next.who next.op next.reply item run it.cancelled replays
+    let there : slice_get (work_next t next.who next.op).admissions number ≡ Some a =
+    sym (ap (λ (u : State). slice_get (work_next u next.who next.op).admissions number) same) ∙ sym (ap (λ (u : State). slice_get u.admissions number) (state_after-append start (front ++ e ∷ during) (next ∷ []))) ∙ makes.1 in
+    let long : made_after start (front ++ e ∷ during) ≡ length t.admissions = ap (λ (u : State). length u.admissions) same in
+    let past = makes.0 in
+    new-next t next.who next.op item run it.cancelled number a there (omega arith) item_is
 
 -- what is begun is none of those that were there and didn't wait
 not_older : (xs ys : List Admission) (item number : ℕ) (was : Admission) → Kept xs ys → NoneWaits item xs → slice_get ys number ≡ Some was → was.item ≡ item → is_waiting was.life ≡ true → length xs ≤ number
@@ -295,25 +285,25 @@ not_older xs ys item number was kept none at item_is waits =
     false≢true (sym (ap (λ (c : Admission). is_waiting c.life) (sym same) ∙ here.2.waits (none number a was_at item_a)) ∙ waits) in
     omega (arith, not_old)
 
-pub begun_made_after_cancel : BegunMadeAfterCancel
-begun_made_after_cancel start front between rest e later item number work op reply =
+pub begun_made_after_cancel : OfEach BegunMadeAfterCancel
+begun_made_after_cancel start h fresh front between rest e later item number parts op reply =
     let s = state_after work_machine start front in
     let c = work_next s e.who e.op in
     let t = state_after work_machine c between in
-    let replays = (Replays-rest c between (later ∷ rest) (Replays-rest start front (e ∷ (between ++ later ∷ rest)) work.legal.0).1).0 in
+    let replays = (Replays-rest c between (later ∷ rest) (Replays-rest start front (e ∷ (between ++ later ∷ rest)) (Replays-parts start h (front ++ e ∷ (between ++ later ∷ rest)) fresh parts)).1).0 in
     let it = Handed-entry t later item number reply replays in
     let least = not_older c.admissions t.admissions item number it.was (Kept-after c between) (NoneWaits-entry s e.who e.op item op) it.there it.item_is it.waits in
     let made : made_after start (front ++ e ∷ []) ≡ length c.admissions = ap (λ (u : State). length u.admissions) (state_after-append start front (e ∷ [])) in
     omega arith
 
-pub begun_made_after_run : BegunMadeAfterRun
-begun_made_after_run start front during between rest e later item run number work op found still reply =
+pub begun_made_after_run : OfEach BegunMadeAfterRun
+begun_made_after_run start h fresh front during between rest e later item run number parts op found still reply =
     let s = state_after work_machine start front in
     let c = work_next s e.who e.op in
     let d = state_after work_machine c during in
     let t = state_after work_machine d between in
     let same = state_after-append start front (e ∷ during) in
-    let before = Replays-rest c during (between ++ later ∷ rest) (Replays-rest start front (e ∷ (during ++ (between ++ later ∷ rest))) work.legal.0).1 in
+    let before = Replays-rest c during (between ++ later ∷ rest) (Replays-rest start front (e ∷ (during ++ (between ++ later ∷ rest))) (Replays-parts start h (front ++ e ∷ (during ++ (between ++ later ∷ rest))) fresh parts)).1 in
     let it = Handed-entry t later item number reply (Replays-rest d between (later ∷ rest) before).0 in
     let all = During-after c during item run (sym (ap (λ (u : State). life_at u run) same) ∙ still) (During-entry s e.who e.op item run op found) in
     let least = not_older d.admissions t.admissions item number it.was (Kept-after d between) all.none it.there it.item_is it.waits in

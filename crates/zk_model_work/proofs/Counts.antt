@@ -1,11 +1,11 @@
 -- How often a queue has drained stays below the number of entries, and the queues that a state begins with.
-use Rattle.std.proofs.Common.{◌≡◌, ℕ, zero, suc, ◌+◌, ◌-◌, ◌^◌, ◌<◌, ◌≤◌, Bool, true, false, not, ◌&&◌, cond, List, [], ◌∷◌, ◌++◌, length, get_or, take, drop, All, refl, sym, ap, subst, ◌∙◌, arith}
+use Rattle.std.proofs.Common.{◌≡◌, ℕ, zero, suc, ◌+◌, ◌-◌, ◌*◌, ◌^◌, ◌<◌, ◌≤◌, Bool, true, false, not, ◌&&◌, cond, List, [], ◌∷◌, ◌++◌, length, get_or, take, drop, All, refl, sym, ap, subst, ◌∙◌, arith}
 use Rattle.std.proofs.Math.Seq.{take-append_seam}
 use Rattle.std.proofs.lemmas.List.Elements.{All-nil, All-cons, All-head, All-tail}
 use Rattle.zk_model_work.specs.declared.parts.Queue.{Queue}
 use Rattle.zk_model_work.specs.declared.parts.Change.{Change}
 use Rattle.zk_model_work.specs.declared.parts.Change.TheVariants as changes
-use Rattle.zk_model_work.specs.State.{IsCounted, fresh_queue, fresh_queues}
+use Rattle.zk_model_work.specs.State.{IsCounted, IsTimed, fresh_queue, fresh_queues}
 use Rattle.zk_model_work.specs.Machine.{changed_queue, change, change_where, drain, settle_one, settle_from}
 
 pub length-settle_from : (idle : ℕ → Bool) (from : ℕ) (xs : List Queue) → length (settle_from idle from xs) ≡ length xs
@@ -145,3 +145,14 @@ pub IsCounted-fresh : (workers : List ℕ) (started : List Bool) → length work
 IsCounted-fresh workers started same few =
     let long = length-fresh_queues workers started same in
     record { drained = drained-fresh_queues workers started; entries_fit = omega arith; few = omega arith }
+
+-- an entry more leaves the time as far behind
+pub IsTimed-more : (time entries : ℕ) → IsTimed time entries → IsTimed time (entries + 1)
+IsTimed-more time entries was = let least = was.bound in record { bound = omega arith }
+
+-- and so do fewer than 2^32 ticks with it
+pub IsTimed-ticks : (time entries ticks : ℕ) → IsTimed time entries → ticks < 2 ^ 32 → IsTimed (time + ticks) (entries + 1)
+IsTimed-ticks time entries ticks was few = let least = was.bound in record { bound = omega arith }
+
+pub IsTimed-fresh : IsTimed 0 0
+IsTimed-fresh = record { bound = omega arith }

@@ -1,5 +1,5 @@
 -- What a draining and a plug keep from being admitted, and where a draining ends.
-use Rattle.std.proofs.Common.{◌≡◌, ℕ, zero, suc, ◌+◌, ◌<◌, ◌≢◌, ◌⊎◌, inl, inr, Bool, true, false, not, ◌&&◌, ◌||◌, cond, eqb, ◌==◌, Option, Some, None, is_some, option_map, List, [], ◌∷◌, ◌++◌, length, map, get_or, slice_get, All, refl, sym, ap, subst, ◌∙◌, add-zero, arith}
+use Rattle.std.proofs.Common.{◌≡◌, ℕ, zero, suc, ◌+◌, ◌<◌, ◌≢◌, ◌⊎◌, inl, inr, Bool, true, false, not, ◌&&◌, ◌||◌, cond, eqb, ◌==◌, Option, Some, None, is_some, option_map, option_to_list, List, [], ◌∷◌, ◌++◌, length, map, get_or, slice_get, All, refl, sym, ap, subst, ◌∙◌, add-zero, arith}
 use Rattle.std.specs.Cmp.{first_so, second_so}
 use Rattle.std.specs.List.{list_all, list_any}
 use Rattle.std.specs.Option.{option_map_or, IfSome}
@@ -15,6 +15,7 @@ use Rattle.zk_base.specs.Legal.{state_after}
 use Rattle.zk_model_work.specs.declared.parts.Life.{Life}
 use Rattle.zk_model_work.specs.declared.parts.Life.TheVariants.{Waiting, Running, Ended, Dropped}
 use Rattle.zk_model_work.specs.declared.parts.Admission.{Admission}
+use Rattle.zk_model_work.specs.declared.parts.Arm.{Arm}
 use Rattle.zk_model_work.specs.declared.parts.Awaited.{Awaited}
 use Rattle.zk_model_work.specs.declared.parts.Awaited.TheVariants as awaiteds
 use Rattle.zk_model_work.specs.declared.parts.Wait.{Wait}
@@ -24,18 +25,20 @@ use Rattle.zk_model_work.specs.declared.parts.Closing.TheVariants as closings
 use Rattle.zk_model_work.specs.declared.parts.Change.{Change}
 use Rattle.zk_model_work.specs.declared.parts.Change.TheVariants as changes
 use Rattle.zk_model_work.specs.declared.ops.WorkOp.{WorkOp}
-use Rattle.zk_model_work.specs.declared.ops.WorkOp.TheVariants.{Submit, Cancel, CancelStart, CancelDone, FlushStart, FlushDone, Start, DrainStart, DrainDone, Unplug, Begin, End}
+use Rattle.zk_model_work.specs.declared.ops.WorkOp.TheVariants.{Submit, Cancel, CancelStart, CancelDone, FlushStart, FlushDone, Schedule, Reschedule, Remaining, Start, DrainStart, DrainDone, Unplug, Announce, Begin, End}
 use Rattle.zk_model_work.specs.declared.ops.Submitted.{Submitted}
 use Rattle.zk_model_work.specs.declared.ops.Submitted.TheVariants.{Already, Refused}
 use Rattle.zk_model_work.specs.declared.ops.WorkReply.{WorkReply}
 use Rattle.zk_model_work.specs.declared.ops.WorkReply.TheVariants as replies
 use Rattle.zk_model_work.specs.Lists.{first}
-use Rattle.zk_model_work.specs.Questions.{is_waiting, is_open, waits_as, runs_on, is_open_at, is_ended, passes_at, is_empty_and_idle, is_cancelling, waiting, line, running}
+use Rattle.zk_model_work.specs.Questions.{is_waiting, is_open, waits_as, runs_on, is_open_at, is_ended, passes_at, is_empty_and_idle, is_cancelling, waiting, line, running, live_arm, due}
 use Rattle.zk_model_work.specs.State.{State, fresh_queue, fresh_queues}
-use Rattle.zk_model_work.specs.Machine.{is_chained, target, admission, refusal, submission_to, submission_at, submission, admitted_to, submit, with_life, set_life, begin, end_one, end_run, drop_one, drop_waiting, settle_one, settle_from, settle, changed_queue, change, change_where, drained_of, drain_wait, drain, is_unanswered, answer_one, is_started, is_plugged, start_reply, unplug_reply, drain_reply, may_begin, may_end, taken_up, work_reply, work_next, work_machine, wait_for, awaiting, cancel_wait, flushed, flush_wait, has_come, closes, may_close, answer_where, answered_waits, cancel_start_reply, flush_start_reply, flags_of}
-use Rattle.zk_model_work.specs.Laws.{IsFreshHistory, admits_to, DrainAdmitsItsOwn, PluggedAdmitsNone, DrainsUntilItRests, PluggedRests, DrainEndsAtRest, DrainDoneAfterItsEnd, CancelDoneAfterRun, FlushDoneAfterItsEnd}
+use Rattle.zk_model_work.specs.Machine.{is_chained, target, admission, refusal, submission_to, submission_at, submission, admitted_to, submit, submit_arms, disarm, hurried, with_life, set_life, begin, end_one, end_run, drop_one, drop_waiting, settle_one, settle_from, settle, changed_queue, change, change_where, drained_of, drain_wait, drain, is_unanswered, answer_one, work_reply, work_next, work_machine, wait_for, awaiting, cancel_wait, flushed, flush_wait, has_come, closes, may_close, answer_where, answered_waits, flush_start_reply}
+use Rattle.zk_model_work.specs.Laws.{IsFreshHistory, OfEach, submitter, Makes, queue_after, DrainAdmitsItsOwn, PluggedAdmitsNone, DrainsUntilItRests, PluggedRests, DrainEndsAtRest, DrainDoneAfterItsEnd, CancelDoneAfterRun, FlushDoneAfterItsEnd}
 use Rattle.zk_model_work.proofs.Lives.{IsFirst-line}
-use Rattle.zk_model_work.proofs.Begins.{state_after-append, Replays-rest}
+use Rattle.zk_model_work.proofs.Moves.{Stays, submit_arms-keeps, schedule-keeps, delayed-keeps}
+use Rattle.zk_model_work.proofs.Begins.{state_after-append, Replays-rest, Replays-parts}
+use Rattle.zk_model_work.proofs.Cancels.{made-next}
 use Rattle.zk_model_work.proofs.Overlaps.{submission_to-admitted}
 
 -- a queue that took a submission
@@ -67,56 +70,27 @@ took xs marks queues caller item named queue is =
     let one = took_if (is_cancelling xs marks item) (Refused Busy) (cond (is_some (waiting xs item)) Already at) queue refl is in
     took_at xs queues caller item (target xs item named) queue (took_if (is_some (waiting xs item)) Already at queue refl one)
 
--- what took a submission, by the reply to the entry
-none_if : (b : Bool) (x y : WorkReply) → admits_to x ≡ None → admits_to y ≡ None → admits_to (cond b x y) ≡ None
-none_if true x y one other = one
-none_if false x y one other = other
-
-told : (b : Bool) (x reply : WorkReply) (queue : ℕ) → admits_to x ≡ None → cond b (Some x) None ≡ Some reply → admits_to reply ≡ Some queue → ⊥
-told true x reply queue none is admits = nothing (sym none ∙ ap admits_to (same_Some x reply is) ∙ admits) where
-  nothing : None ≡ Some queue → ⊥
-  nothing same = cc
-told false x reply queue none is admits = cc
-
-taken-run : (o : Option ℕ) (xs : List Admission) (reply : WorkReply) (queue : ℕ) → Rattle.std.specs.Prelude.option_and_then (λ number. option_map (λ (a : Admission). replies.Run a.item number) (slice_get xs number)) o ≡ Some reply → admits_to reply ≡ Some queue → ⊥
-taken-run None xs reply queue is admits = cc
-taken-run (Some number) xs reply queue is admits = by (slice_get xs number) is where
-  by : (o : Option Admission) → option_map (λ (a : Admission). replies.Run a.item number) o ≡ Some reply → ⊥
-  by None is = cc
-  by (Some a) is = told true (replies.Run a.item number) reply queue refl is admits
-
-entry-took : (s : State) (who : Who) (op : WorkOp) (reply : WorkReply) (queue : ℕ) → work_reply s who op ≡ Some reply → admits_to reply ≡ Some queue → Took s.queues (Some who.number) queue
-entry-took s who (Submit item named) reply queue is admits =
-    let answer = submission s.admissions s.marks s.queues (Some who.number) item named in
-    took s.admissions s.marks s.queues (Some who.number) item named queue (ap admits_to (same_Some (replies.Sub answer) reply is) ∙ admits)
-entry-took s who (Cancel item) reply queue is admits = absurd (told true _ reply queue refl is admits)
-entry-took s who (CancelStart item) reply queue is admits =
-    absurd (told true (cancel_start_reply (flags_of s item) (is_some (running s.admissions item))) reply queue
-    (none_if (eqb (flags_of s item) 0) (replies.Truth false) (cond (is_some (running s.admissions item)) replies.Wait (replies.Truth true)) refl
-    (none_if (is_some (running s.admissions item)) replies.Wait (replies.Truth true) refl refl)) is admits)
-entry-took s who (CancelDone place) reply queue is admits = absurd (told (may_close s closings.Cancel who place) (replies.Truth true) reply queue refl is admits)
-entry-took s who (FlushStart item) reply queue is admits = absurd (told true (flush_start_reply (flushed s.admissions item)) reply queue (none_flush (flushed s.admissions item)) is admits) where
-  none_flush : (o : Option ℕ) → admits_to (option_map_or replies.WaitFor o (replies.Truth false)) ≡ None
-  none_flush None = refl
-  none_flush (Some n) = refl
-entry-took s who (FlushDone place) reply queue is admits = absurd (told (may_close s closings.Flush who place) (replies.Truth true) reply queue refl is admits)
-entry-took s who (Start q) reply queue is admits = absurd (told true (start_reply s.queues q) reply queue (none_if (is_started s.queues q) replies.Already replies.Done refl refl) is admits)
-entry-took s who (DrainStart q plug) reply queue is admits = absurd (told true (drain_reply (is_empty_and_idle s.admissions q)) reply queue (none_if (is_empty_and_idle s.admissions q) (replies.Number 0) replies.Wait refl refl) is admits)
-entry-took s who (DrainDone place) reply queue is admits = absurd (told (may_close s closings.Drain who place) (replies.Number 1) reply queue refl is admits)
-entry-took s who (Unplug q) reply queue is admits = absurd (told true (unplug_reply s.queues q) reply queue (none_if (is_plugged s.queues q) replies.Done replies.Already refl refl) is admits)
-entry-took s who (Begin q) reply queue is admits = absurd (by (may_begin s.admissions s.queues who q) is) where
-  by : (b : Bool) → cond b (taken_up s.admissions q) None ≡ Some reply → ⊥
-  by true is = taken-run (first (line s.admissions q)) s.admissions reply queue is admits
-  by false is = cc
-entry-took s who (End q) reply queue is admits = absurd (told (may_end s.admissions s.queues who q) replies.Done reply queue refl is admits)
+-- what took each admission that an entry makes
+made-took : (start : State) (front : List (Entry WorkOp WorkReply)) (e : Entry WorkOp WorkReply) (number : ℕ) (a : Admission) → Makes start front e number a →
+    Took (state_after work_machine start front).queues (submitter e.who e.op) a.queue
+made-took start front e number a makes =
+    let s = state_after work_machine start front in
+    made-next (λ b. Took s.queues (submitter e.who e.op) b.queue) s e.who e.op
+    (λ ys item named b stays item_is admits. took ys s.marks s.queues (submitter e.who e.op) item named b.queue admits)
+    number a (sym (ap (λ (u : State). slice_get u.admissions number) (state_after-append start front (e ∷ []))) ∙ makes.1) makes.0
 
 -- a queue that drains took it from its worker, and one that is plugged took none
-free-drains : (q : Queue) (caller : ℕ) → refusal (Some caller) q ≡ None → q.draining ≡ true → caller ≡ q.worker
-free-drains q caller free drains = by q.started (eqb caller q.worker) refl (ap (λ d. cond (not q.started) (Some NoDev) (cond (d && not (eqb caller q.worker)) (Some Busy) (cond (q.plugged && not d) (Some Busy) None))) (sym drains) ∙ free) where
-  by : (started chained : Bool) → eqb caller q.worker ≡ chained → cond (not started) (Some NoDev) (cond (not chained) (Some Busy) (cond (q.plugged && false) (Some Busy) None)) ≡ None → caller ≡ q.worker
-  by true true is free = eqb-true caller q.worker is
-  by true false is free = absurd (cc)
-  by false chained is free = absurd (cc)
+free-drains : (q : Queue) (caller : Option ℕ) → refusal caller q ≡ None → q.draining ≡ true → caller ≡ Some q.worker
+free-drains q caller free drains =
+    by q.started (is_chained q caller) refl (ap (λ d. cond (not q.started) (Some NoDev) (cond (d && not (is_chained q caller)) (Some Busy) (cond (q.plugged && not d) (Some Busy) None))) (sym drains) ∙ free) where
+      chains : (o : Option ℕ) → is_chained q o ≡ true → o ≡ Some q.worker
+      chains None is = absurd (cc)
+      chains (Some player) is = ap Some (eqb-true player q.worker is)
+
+      by : (started chained : Bool) → is_chained q caller ≡ chained → cond (not started) (Some NoDev) (cond (not chained) (Some Busy) (cond (q.plugged && false) (Some Busy) None)) ≡ None → caller ≡ Some q.worker
+      by true true is free = chains caller is
+      by true false is free = absurd (cc)
+      by false chained is free = absurd (cc)
 
 free-plugged : (q : Queue) (caller : Option ℕ) → refusal caller q ≡ None → q.plugged ≡ true → q.draining ≡ false → ⊥
 free-plugged q caller free plugged still =
@@ -127,19 +101,19 @@ free-plugged q caller free plugged still =
       by true free = cc
       by false free = cc
 
-pub drain_admits_its_own : DrainAdmitsItsOwn
-drain_admits_its_own start front rest e queue q work there drains admits =
-    let s = state_after work_machine start front in
-    let it = entry-took s e.who e.op e.reply queue (Replays-rest start front (e ∷ rest) work.legal.0).0 admits in
-    let same = same_Some it.taker q (sym it.there ∙ there) in
-    free-drains q e.who.number (ap (refusal (Some e.who.number)) (sym same) ∙ it.free) drains
+-- the queue that took it is the one that is there
+taken_by : (start : State) (front : List (Entry WorkOp WorkReply)) (e : Entry WorkOp WorkReply) (queue number : ℕ) (q : Queue) (a : Admission) → queue_after start front queue ≡ Some q → Makes start front e number a → a.queue ≡ queue →
+    refusal (submitter e.who e.op) q ≡ None
+taken_by start front e queue number q a there makes same =
+    let it = made-took start front e number a makes in
+    let q_is = same_Some it.taker q (sym it.there ∙ ap (queue_after start front) same ∙ there) in
+    ap (refusal (submitter e.who e.op)) (sym q_is) ∙ it.free
 
-pub plugged_admits_none : PluggedAdmitsNone
-plugged_admits_none start front rest e queue q work there plugged still admits =
-    let s = state_after work_machine start front in
-    let it = entry-took s e.who e.op e.reply queue (Replays-rest start front (e ∷ rest) work.legal.0).0 admits in
-    let same = same_Some it.taker q (sym it.there ∙ there) in
-    free-plugged q (Some e.who.number) (ap (refusal (Some e.who.number)) (sym same) ∙ it.free) plugged still
+pub drain_admits_its_own : OfEach DrainAdmitsItsOwn
+drain_admits_its_own start h fresh front rest e queue number q a parts there drains makes same = free-drains q (submitter e.who e.op) (taken_by start front e queue number q a there makes same) drains
+
+pub plugged_admits_none : OfEach PluggedAdmitsNone
+plugged_admits_none start h fresh front rest e queue number q a parts there plugged still makes same = free-plugged q (submitter e.who e.op) (taken_by start front e queue number q a there makes same) plugged still
 
 -- the queues after a settling and after a change, one by one
 
@@ -312,40 +286,54 @@ keeps-drain false plug xs qs k busy keep queue q at = by (changed-at changes.Dra
     which (inr same) = other plug same.0 (it.there ∙ ap Some same.1)
 
 -- after a submission
-keeps-submit : (s : State) (who : Who) (item : ℕ) (answer : Submitted) → ((queue : ℕ) → admitted_to answer ≡ Some queue → Took s.queues (Some who.number) queue) → AllKeep s →
-    (queue : ℕ) (q : Queue) → slice_get s.queues queue ≡ Some q → Keeps (submit s.admissions item answer) queue q
-keeps-submit s who item answer taken keep queue q at = by (admitted_to answer) refl where
-  by : (o : Option ℕ) → admitted_to answer ≡ o → Keeps (option_map_or (λ to. s.admissions ++ record { item = item; queue = to; life = Waiting } ∷ []) o s.admissions) queue q
+abbrev KeepAll : List Queue → List Admission → Type 0
+KeepAll qs xs = (queue : ℕ) (q : Queue) → slice_get qs queue ≡ Some q → Keeps xs queue q
+
+keeps-submit : (qs : List Queue) (caller : Option ℕ) (xs : List Admission) (item : ℕ) (answer : Submitted) → ((queue : ℕ) → admitted_to answer ≡ Some queue → Took qs caller queue) → KeepAll qs xs → KeepAll qs (submit xs item answer)
+keeps-submit qs caller xs item answer taken keep queue q at = by (admitted_to answer) refl where
+  by : (o : Option ℕ) → admitted_to answer ≡ o → Keeps (option_map_or (λ to. xs ++ record { item = item; queue = to; life = Waiting } ∷ []) o xs) queue q
   by None is = keep queue q at
   by (Some to) is =
       let a : Admission = record { item = item; queue = to; life = Waiting } in
       let keeps = keep queue q at in
       record {
-        until = λ some. rests-push s.admissions a queue ∙ ap (λ b. b && (not (is_open_at queue a) && true)) (keeps.until some);
-        rests = λ plugged still. rests-push s.admissions a queue ∙ ap (λ b. b && (not (is_open_at queue a) && true)) (keeps.rests plugged still)
-            ∙ elsewhere plugged still (eqb to queue) refl;
+        until = λ some. rests-push xs a queue ∙ ap (λ b. b && (not (is_open_at queue a) && true)) (keeps.until some);
+        rests = λ plugged still. rests-push xs a queue ∙ ap (λ b. b && (not (is_open_at queue a) && true)) (keeps.rests plugged still) ∙ elsewhere plugged still (eqb to queue) refl;
       } where
         elsewhere : q.plugged ≡ true → q.draining ≡ false → (b : Bool) → eqb to queue ≡ b → (not (b && true) && true) ≡ true
         elsewhere plugged still true same =
             let it = taken to is in
-            let there : slice_get s.queues queue ≡ Some it.taker = ap (slice_get s.queues) (sym (eqb-true to queue same)) ∙ it.there in
+            let there : slice_get qs queue ≡ Some it.taker = ap (slice_get qs) (sym (eqb-true to queue same)) ∙ it.there in
             let q_is = same_Some it.taker q (sym there ∙ at) in
-            absurd (free-plugged q (Some who.number) (ap (refusal (Some who.number)) (sym q_is) ∙ it.free) plugged still)
+            absurd (free-plugged q caller (ap (refusal caller) (sym q_is) ∙ it.free) plugged still)
         elsewhere plugged still false same = refl
 
+-- after submissions, one after another
+keeps-submission : (s : State) (caller : Option ℕ) (ys : List Admission) (item : ℕ) (named : Option ℕ) → Stays s.admissions ys → KeepAll s.queues ys → KeepAll s.queues (submit ys item (submission ys s.marks s.queues caller item named))
+keeps-submission s caller ys item named stays keep =
+    keeps-submit s.queues caller ys item (submission ys s.marks s.queues caller item named) (λ queue is. took ys s.marks s.queues caller item named queue is) keep
+
+keeps-arms : (s : State) (caller : Option ℕ) (arms : List Arm) → KeepAll s.queues s.admissions → KeepAll s.queues (submit_arms s.marks s.queues caller arms s.admissions)
+keeps-arms s caller arms keep = submit_arms-keeps (KeepAll s.queues) s.admissions s.marks s.queues caller (keeps-submission s caller) arms s.admissions (λ n a at. at) keep
+
 AllKeep-next : (s : State) (who : Who) (op : WorkOp) → AllKeep s → AllKeep (work_next s who op)
-AllKeep-next s who (Submit item named) keep =
-    keeps-submit s who item (submission s.admissions s.marks s.queues (Some who.number) item named)
-    (λ queue is. took s.admissions s.marks s.queues (Some who.number) item named queue is) keep
+AllKeep-next s who (Submit item named) keep = keeps-submission s (Some who.number) s.admissions item named (λ n a at. at) keep
 AllKeep-next s who (Cancel item) keep = keeps-settle s (drop_waiting s.admissions item) (λ queue rests. rests-drop s.admissions item queue rests) keep
 AllKeep-next s who (CancelStart item) keep = keeps-settle s (drop_waiting s.admissions item) (λ queue rests. rests-drop s.admissions item queue rests) keep
 AllKeep-next s who (CancelDone place) keep = λ queue q at. keep queue q at
-AllKeep-next s who (FlushStart item) keep = λ queue q at. keep queue q at
+AllKeep-next s who (FlushStart item) keep = keeps-arms s (Some who.number) (option_to_list (live_arm s.arms item)) keep
 AllKeep-next s who (FlushDone place) keep = λ queue q at. keep queue q at
+AllKeep-next s who (Schedule item queue delay) keep =
+    schedule-keeps (λ t. KeepAll t.queues t.admissions) s who item queue delay keep (keeps-submission s (Some who.number) s.admissions item (Some queue) (λ n a at. at) keep) (λ free later. keep)
+AllKeep-next s who (Reschedule item queue delay) keep =
+    delayed-keeps (λ t. KeepAll t.queues t.admissions) (record s { arms = disarm s.arms item }) who item queue delay
+    (keeps-submission s (Some who.number) s.admissions item (Some queue) (λ n a at. at) keep) (λ later. keep)
+AllKeep-next s who (Remaining item) keep = λ queue q at. keep queue q at
 AllKeep-next s who (Start k) keep = keeps-change changes.Start s.admissions s.queues k (λ q keeps. calm changes.Start s.admissions k q refl (λ p. p) keeps) keep
 AllKeep-next s who (DrainStart k plug) keep = keeps-drain (is_empty_and_idle s.admissions k) plug s.admissions s.queues k refl keep
 AllKeep-next s who (DrainDone place) keep = λ queue q at. keep queue q at
 AllKeep-next s who (Unplug k) keep = keeps-change changes.Unplug s.admissions s.queues k (λ q keeps. calm changes.Unplug s.admissions k q refl (λ p. absurd (false≢true p)) keeps) keep
+AllKeep-next s who (Announce ticks) keep = keeps-arms s None (due (s.time + ticks) s.arms) keep
 AllKeep-next s who (Begin k) keep = λ queue q at.
     let keeps = keep queue q at in
     record {
@@ -365,11 +353,11 @@ AllKeep-fresh start h fresh queue q at =
     subst P (get_or_from_slice_get start.queues queue q q at) (fresh.undrained queue q (slice_get_within start.queues queue q at)) in
     record { until = λ some. absurd (false≢true (sym both.0 ∙ some)); rests = λ plugged still. absurd (false≢true (sym both.1 ∙ plugged)) }
 
-pub drains_until_it_rests : DrainsUntilItRests
-drains_until_it_rests start h queue q fresh at drains = (AllKeep-after start h (AllKeep-fresh start h fresh) queue q at).until drains
+pub drains_until_it_rests : OfEach DrainsUntilItRests
+drains_until_it_rests start h fresh queue q at drains = (AllKeep-after start h (AllKeep-fresh start h fresh) queue q at).until drains
 
-pub plugged_rests : PluggedRests
-plugged_rests start h queue q fresh at plugged still = (AllKeep-after start h (AllKeep-fresh start h fresh) queue q at).rests plugged still
+pub plugged_rests : OfEach PluggedRests
+plugged_rests start h fresh queue q at plugged still = (AllKeep-after start h (AllKeep-fresh start h fresh) queue q at).rests plugged still
 
 -- where a draining is counted
 
@@ -417,15 +405,23 @@ counted-next s who (CancelStart item) queue more = counted-settle s.queues (drop
 counted-next s who (CancelDone place) queue more = absurd (omega arith)
 counted-next s who (FlushStart item) queue more = absurd (omega arith)
 counted-next s who (FlushDone place) queue more = absurd (omega arith)
+counted-next s who (Schedule item k delay) queue more =
+    let same = schedule-keeps (λ t. drained_of t.queues queue ≡ drained_of s.queues queue) s who item k delay refl refl (λ free later. refl) in
+    absurd (omega arith)
+counted-next s who (Reschedule item k delay) queue more =
+    let same = delayed-keeps (λ t. drained_of t.queues queue ≡ drained_of s.queues queue) (record s { arms = disarm s.arms item }) who item k delay refl (λ later. refl) in
+    absurd (omega arith)
+counted-next s who (Remaining item) queue more = absurd (omega arith)
 counted-next s who (Start k) queue more = let same = drained-change changes.Start s.queues k queue in absurd (omega arith)
 counted-next s who (DrainStart k plug) queue more = let same = drained-drain (is_empty_and_idle s.admissions k) plug s.queues k queue in absurd (omega arith)
 counted-next s who (DrainDone place) queue more = absurd (omega arith)
 counted-next s who (Unplug k) queue more = let same = drained-change changes.Unplug s.queues k queue in absurd (omega arith)
+counted-next s who (Announce ticks) queue more = absurd (omega arith)
 counted-next s who (Begin k) queue more = absurd (omega arith)
 counted-next s who (End k) queue more = counted-settle s.queues (end_run s.admissions k) queue more
 
-pub drain_ends_at_rest : DrainEndsAtRest
-drain_ends_at_rest start front e queue more =
+pub drain_ends_at_rest : OfEach DrainEndsAtRest
+drain_ends_at_rest start h fresh front rest e queue parts more =
     let s = state_after work_machine start front in
     let same = state_after-append start front (e ∷ []) in
     ap (λ (t : State). is_empty_and_idle t.admissions queue) same
@@ -440,10 +436,14 @@ entries-next s who (CancelStart item) = refl
 entries-next s who (CancelDone place) = refl
 entries-next s who (FlushStart item) = refl
 entries-next s who (FlushDone place) = refl
+entries-next s who (Schedule item k delay) = refl
+entries-next s who (Reschedule item k delay) = refl
+entries-next s who (Remaining item) = refl
 entries-next s who (Start k) = refl
 entries-next s who (DrainStart k plug) = refl
 entries-next s who (DrainDone place) = refl
 entries-next s who (Unplug k) = refl
+entries-next s who (Announce ticks) = refl
 entries-next s who (Begin k) = refl
 entries-next s who (End k) = refl
 
@@ -480,11 +480,14 @@ waits-next P s who (CancelStart item) answered new all = more-waits P s.waits (c
   by None = tt
   by (Some number) = new (awaiteds.Cancel number)
 waits-next P s who (CancelDone place) answered new all = waits-answered P s closings.Cancel who place answered all
-waits-next P s who (FlushStart item) answered new all = more-waits P s.waits (flush_wait s who item) (by (flushed s.admissions item)) all where
+waits-next P s who (FlushStart item) answered new all = more-waits P s.waits (flush_wait s who item) (by (flushed (hurried s who item) item)) all where
   by : (o : Option ℕ) → IfSome (option_map (λ number. wait_for s.entries who (awaiteds.Flush number)) o) P
   by None = tt
   by (Some number) = new (awaiteds.Flush number)
 waits-next P s who (FlushDone place) answered new all = waits-answered P s closings.Flush who place answered all
+waits-next P s who (Schedule item k delay) answered new all = schedule-keeps (λ t. All P t.waits) s who item k delay all all (λ free later. all)
+waits-next P s who (Reschedule item k delay) answered new all = delayed-keeps (λ t. All P t.waits) (record s { arms = disarm s.arms item }) who item k delay all (λ later. all)
+waits-next P s who (Remaining item) answered new all = all
 waits-next P s who (Start k) answered new all = all
 waits-next P s who (DrainStart k plug) answered new all = more-waits P s.waits (drain_wait (is_empty_and_idle s.admissions k) s who k) (by (is_empty_and_idle s.admissions k)) all where
   by : (idle : Bool) → IfSome (drain_wait idle s who k) P
@@ -492,6 +495,7 @@ waits-next P s who (DrainStart k plug) answered new all = more-waits P s.waits (
   by false = new (awaiteds.Drain k (drained_of s.queues k))
 waits-next P s who (DrainDone place) answered new all = waits-answered P s closings.Drain who place answered all
 waits-next P s who (Unplug k) answered new all = all
+waits-next P s who (Announce ticks) answered new all = all
 waits-next P s who (Begin k) answered new all = all
 waits-next P s who (End k) answered new all = all
 
@@ -568,15 +572,15 @@ record Closed (start : State) (front between : List (Entry WorkOp WorkReply)) (f
   pub earlier : All (λ (w : Wait). w.place < (state_after work_machine start front).entries) (state_after work_machine start front).waits
   pub replays : work_reply (state_after work_machine (work_next (state_after work_machine start front) first.who first.op) between) done.who done.op ≡ Some done.reply
 
-closed-entries : (start : State) (front between rest : List (Entry WorkOp WorkReply)) (first done : Entry WorkOp WorkReply) (a : Awaited) → IsFreshHistory start (front ++ first ∷ (between ++ done ∷ rest)) → Closed start front between first done a
-closed-entries start front between rest first_one done a fresh =
+closed-entries : (start : State) (h front between rest : List (Entry WorkOp WorkReply)) (first done : Entry WorkOp WorkReply) (a : Awaited) → IsFreshHistory start h → h ≡ front ++ first ∷ (between ++ done ∷ rest) → Closed start front between first done a
+closed-entries start h front between rest first_one done a fresh parts =
     let c = work_next (state_after work_machine start front) first_one.who first_one.op in
     let zero_first = fresh.first in
     let long = entries-after start front in
     record {
       place = omega arith;
       earlier = earlier-after start front (subst (All (λ (w : Wait). w.place < start.entries)) (sym fresh.waits) (All-nil (λ (w : Wait). w.place < start.entries)));
-      replays = (Replays-rest c between (done ∷ rest) (Replays-rest start front (first_one ∷ (between ++ done ∷ rest)) fresh.work.legal.0).1).0;
+      replays = (Replays-rest c between (done ∷ rest) (Replays-rest start front (first_one ∷ (between ++ done ∷ rest)) (Replays-parts start h (front ++ first_one ∷ (between ++ done ∷ rest)) fresh parts)).1).0;
     }
 
 -- what the earlier one awaits has come before the later one
@@ -593,11 +597,11 @@ come-before start front between first_one done a closing said it named reply =
     let later = named-after c between s.entries a (omega arith) named in
     come-by t closing done.who s.entries a (may-done (may_close t closing done.who s.entries) said done.reply (sym (reply t done.who s.entries it.place) ∙ it.replays)) later
 
-pub drain_done_after_its_end : DrainDoneAfterItsEnd
-drain_done_after_its_end start front between rest first_one done queue plug fresh starts dones =
+pub drain_done_after_its_end : OfEach DrainDoneAfterItsEnd
+drain_done_after_its_end start h fresh front between rest first_one done queue plug parts starts dones =
     let s = state_after work_machine start front in
     let a : Awaited = awaiteds.Drain queue (drained_of s.queues queue) in
-    let it = closed-entries start front between rest first_one done a fresh in
+    let it = closed-entries start h front between rest first_one done a fresh parts in
     let named = subst (λ (o : WorkOp). All (λ (w : Wait). w.place ≡ s.entries → w.awaited ≡ a) (work_next s first_one.who o).waits) (sym starts) (named-start s first_one.who queue plug it.earlier) in
     let t = state_after work_machine (work_next s first_one.who first_one.op) between in
     let come = come-before start front between first_one done a closings.Drain (replies.Number 1) it named
@@ -624,11 +628,11 @@ not-open Running is = absurd (cc)
 not-open Ended is = refl
 not-open Dropped is = refl
 
-pub cancel_done_after_run : CancelDoneAfterRun
-cancel_done_after_run start front between rest first_one done item run fresh starts found dones =
+pub cancel_done_after_run : OfEach CancelDoneAfterRun
+cancel_done_after_run start h fresh front between rest first_one done item run parts starts found dones =
     let s = state_after work_machine start front in
     let a : Awaited = awaiteds.Cancel run in
-    let it = closed-entries start front between rest first_one done a fresh in
+    let it = closed-entries start h front between rest first_one done a fresh parts in
     let new : IfSome (cancel_wait s first_one.who item) (λ w. w.awaited ≡ a) =
     subst (λ (o : Option ℕ). IfSome (option_map (λ number. wait_for s.entries first_one.who (awaiteds.Cancel number)) o) (λ w. w.awaited ≡ a)) (sym found) refl in
     let named = subst (λ (o : WorkOp). All (λ (w : Wait). w.place ≡ s.entries → w.awaited ≡ a) (work_next s first_one.who o).waits) (sym starts) (named-more s first_one.who a (cancel_wait s first_one.who item) new it.earlier) in
@@ -638,14 +642,14 @@ cancel_done_after_run start front between rest first_one done item run fresh sta
     let life = life-where is_ended t.admissions run come in
     ap (λ (u : State). option_map (λ (a : Admission). a.life) (slice_get u.admissions run)) (state_after-append start front (first_one ∷ between)) ∙ life.1 ∙ ap Some (only-ended life.0 life.2)
 
-pub flush_done_after_its_end : FlushDoneAfterItsEnd
-flush_done_after_its_end start front between rest first_one done item number fresh starts said dones =
+pub flush_done_after_its_end : OfEach FlushDoneAfterItsEnd
+flush_done_after_its_end start h fresh front between rest first_one done item number parts starts said dones =
     let s = state_after work_machine start front in
     let a : Awaited = awaiteds.Flush number in
-    let it = closed-entries start front between rest first_one done a fresh in
+    let it = closed-entries start h front between rest first_one done a fresh parts in
     let replied : work_reply s first_one.who (FlushStart item) ≡ Some first_one.reply =
-    ap (work_reply s first_one.who) (sym starts) ∙ (Replays-rest start front (first_one ∷ (between ++ done ∷ rest)) fresh.work.legal.0).0 in
-    let found : flushed s.admissions item ≡ Some number = names (flushed s.admissions item) (same_Some (flush_start_reply (flushed s.admissions item)) first_one.reply replied ∙ said) in
+    ap (work_reply s first_one.who) (sym starts) ∙ (Replays-rest start front (first_one ∷ (between ++ done ∷ rest)) (Replays-parts start h (front ++ first_one ∷ (between ++ done ∷ rest)) fresh parts)).0 in
+    let found : flushed (hurried s first_one.who item) item ≡ Some number = names (flushed (hurried s first_one.who item) item) (same_Some (flush_start_reply (flushed (hurried s first_one.who item) item)) first_one.reply replied ∙ said) in
     let new : IfSome (flush_wait s first_one.who item) (λ w. w.awaited ≡ a) =
     subst (λ (o : Option ℕ). IfSome (option_map (λ number. wait_for s.entries first_one.who (awaiteds.Flush number)) o) (λ w. w.awaited ≡ a)) (sym found) refl in
     let named = subst (λ (o : WorkOp). All (λ (w : Wait). w.place ≡ s.entries → w.awaited ≡ a) (work_next s first_one.who o).waits) (sym starts) (named-more s first_one.who a (flush_wait s first_one.who item) new it.earlier) in

@@ -1,9 +1,11 @@
 pub mod Begins
+pub mod Cancels
 pub mod Counts
+pub mod Delays
+pub mod Drains
 pub mod Lines
 pub mod Lives
+pub mod Moves
+pub mod Overlaps
 pub mod Weights
 pub mod Writes
-pub mod Overlaps
-pub mod Cancels
-pub mod Drains

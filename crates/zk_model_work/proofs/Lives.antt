@@ -14,7 +14,6 @@ use Rattle.zk_model_work.specs.declared.parts.Life.{Life}
 use Rattle.zk_model_work.specs.declared.parts.Life.TheVariants.{Waiting, Running, Ended, Dropped}
 use Rattle.zk_model_work.specs.declared.parts.Admission.{Admission}
 use Rattle.zk_model_work.specs.declared.ops.WorkOp.{WorkOp}
-use Rattle.zk_model_work.specs.declared.ops.WorkOp.TheVariants.{Submit, Cancel, CancelStart, CancelDone, FlushStart, FlushDone, Start, DrainStart, DrainDone, Unplug, Begin, End}
 use Rattle.zk_model_work.specs.declared.ops.WorkReply.{WorkReply}
 use Rattle.zk_model_work.specs.declared.ops.Submitted.{Submitted}
 use Rattle.zk_model_work.specs.declared.ops.Submitted.TheVariants.{Already, Fresh, Rerun, Refused}
@@ -22,7 +21,9 @@ use Rattle.zk_model_work.specs.Lists.{first}
 use Rattle.zk_model_work.specs.Questions.{is_waiting, is_running, is_open, waits_as, runs_on, waits_for, line}
 use Rattle.zk_model_work.specs.State.{State}
 use Rattle.zk_model_work.specs.Machine.{work_next, work_machine, submission, submit, set_life, with_life, begin, end_one, drop_one}
+use Rattle.zk_model_work.specs.Laws.{submitter}
 use Rattle.zk_model_work.proofs.Lines.{first_of_places}
+use Rattle.zk_model_work.proofs.Moves.{admissions-next}
 
 -- an admission and what has become of it: its item and its queue stay, it doesn't wait again, and what is over stays so
 pub record Keeps (a b : Admission) : Type 0 where
@@ -143,18 +144,13 @@ Kept-begin xs queue = by (first (line xs queue)) refl where
 
 -- what one entry makes of the admissions
 pub Kept-next : (s : State) (who : Who) (op : WorkOp) → Kept s.admissions (work_next s who op).admissions
-Kept-next s who (Submit item named) = Kept-submit s.admissions item (submission s.admissions s.marks s.queues (Some who.number) item named)
-Kept-next s who (Cancel item) = Kept-map (drop_one item) (Keeps-drop_one item) s.admissions
-Kept-next s who (CancelStart item) = Kept-map (drop_one item) (Keeps-drop_one item) s.admissions
-Kept-next s who (CancelDone place) = Kept-refl s.admissions
-Kept-next s who (FlushStart item) = Kept-refl s.admissions
-Kept-next s who (FlushDone place) = Kept-refl s.admissions
-Kept-next s who (Start queue) = Kept-refl s.admissions
-Kept-next s who (DrainStart queue plug) = Kept-refl s.admissions
-Kept-next s who (DrainDone place) = Kept-refl s.admissions
-Kept-next s who (Unplug queue) = Kept-refl s.admissions
-Kept-next s who (Begin queue) = Kept-begin s.admissions queue
-Kept-next s who (End queue) = Kept-map (end_one queue) (Keeps-end_one queue) s.admissions
+Kept-next s who op =
+    admissions-next (Kept s.admissions) s who op
+    (λ ys item named stays kept. Kept-trans s.admissions ys _ kept (Kept-submit ys item (submission ys s.marks s.queues (submitter who op) item named)))
+    (λ item cancels. Kept-map (drop_one item) (Keeps-drop_one item) s.admissions)
+    (λ queue is. Kept-begin s.admissions queue)
+    (λ queue is. Kept-map (end_one queue) (Keeps-end_one queue) s.admissions)
+    (Kept-refl s.admissions)
 
 -- what a history makes of them
 pub Kept-after : (s : State) (h : List (Entry WorkOp WorkReply)) → Kept s.admissions (state_after work_machine s h).admissions

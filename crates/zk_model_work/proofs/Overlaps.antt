@@ -15,20 +15,20 @@ use Rattle.zk_model_work.specs.declared.parts.Life.{Life}
 use Rattle.zk_model_work.specs.declared.parts.Life.TheVariants.{Waiting, Running, Ended, Dropped}
 use Rattle.zk_model_work.specs.declared.parts.Admission.{Admission}
 use Rattle.zk_model_work.specs.declared.parts.Queue.{Queue}
-use Rattle.zk_model_work.specs.declared.parts.Closing.TheVariants as closings
 use Rattle.zk_model_work.specs.declared.ops.WorkOp.{WorkOp}
-use Rattle.zk_model_work.specs.declared.ops.WorkOp.TheVariants.{Submit, Cancel, CancelStart, CancelDone, FlushStart, FlushDone, Start, DrainStart, DrainDone, Unplug, Begin, End}
+use Rattle.zk_model_work.specs.declared.ops.WorkOp.TheVariants.{Begin}
 use Rattle.zk_model_work.specs.declared.ops.WorkReply.{WorkReply}
 use Rattle.zk_model_work.specs.declared.ops.WorkReply.TheVariants as replies
 use Rattle.zk_model_work.specs.declared.ops.Submitted.{Submitted}
 use Rattle.zk_model_work.specs.declared.ops.Submitted.TheVariants.{Already, Fresh, Rerun, Refused}
 use Rattle.zk_model_work.specs.Lists.{first}
-use Rattle.zk_model_work.specs.Questions.{is_waiting, is_running, is_open, waits_as, runs_as, runs_on, waiting, running, running_queue, last_queue, line, run, is_empty_and_idle, is_cancelling}
+use Rattle.zk_model_work.specs.Questions.{is_waiting, is_running, is_open, waits_as, runs_as, runs_on, waiting, running, running_queue, last_queue, line, run, is_cancelling}
 use Rattle.zk_model_work.specs.State.{State}
-use Rattle.zk_model_work.specs.Machine.{work_next, work_reply, work_machine, target, admission, refusal, submission_to, submission_at, submission, admitted_to, submit, set_life, with_life, begin, end_one, drop_one, may_begin, may_end, may_close, flushed, flags_of, cancel_start_reply, is_worker, is_started, is_plugged, taken_up}
-use Rattle.zk_model_work.specs.Laws.{IsWorkHistory, ends, NotBegunDuringRun, RunsToItsEnd, EndsBetweenBegins}
+use Rattle.zk_model_work.specs.Machine.{work_next, work_reply, work_machine, target, admission, refusal, submission_to, submission_at, submission, admitted_to, submit, set_life, with_life, begin, end_one, drop_one, may_begin, is_worker, taken_up}
+use Rattle.zk_model_work.specs.Laws.{IsFreshHistory, OfEach, submitter, admission_after, ends, NotBegunDuringRun, RunsToItsEnd, EndsBetweenBegins}
 use Rattle.zk_model_work.proofs.Lives.{IsFirst, IsFirst-line, set_life-at, set_life-aside}
-use Rattle.zk_model_work.proofs.Begins.{Begun, Begun-reply, Begun-entry, state_after-append, Replays-rest}
+use Rattle.zk_model_work.proofs.Moves.{admissions-next, still-submit, is_begin}
+use Rattle.zk_model_work.proofs.Begins.{Begun, Begun-reply, Begun-entry, state_after-append, Replays-rest, Replays-parts}
 
 -- what a life is
 
@@ -306,72 +306,23 @@ Ordered-begin xs queue reply it idle ordered =
 
 -- each entry keeps the order
 Ordered-next : (s : State) (who : Who) (op : WorkOp) (reply : WorkReply) → work_reply s who op ≡ Some reply → Ordered s.admissions → Ordered (work_next s who op).admissions
-Ordered-next s who (Submit item named) reply is ordered =
-    Ordered-submit s.admissions s.marks item named (submission s.admissions s.marks s.queues (Some who.number) item named)
-    (λ queue to. submission-admits s.admissions s.marks s.queues (Some who.number) item named queue to) ordered
-Ordered-next s who (Cancel item) reply is ordered = Ordered-map (drop_one item) (kept-drop_one item) s.admissions ordered
-Ordered-next s who (CancelStart item) reply is ordered = Ordered-map (drop_one item) (kept-drop_one item) s.admissions ordered
-Ordered-next s who (CancelDone place) reply is ordered = ordered
-Ordered-next s who (FlushStart item) reply is ordered = ordered
-Ordered-next s who (FlushDone place) reply is ordered = ordered
-Ordered-next s who (Start queue) reply is ordered = ordered
-Ordered-next s who (DrainStart queue plug) reply is ordered = ordered
-Ordered-next s who (DrainDone place) reply is ordered = ordered
-Ordered-next s who (Unplug queue) reply is ordered = ordered
-Ordered-next s who (Begin queue) reply is ordered = Ordered-begin s.admissions queue reply (Begun-reply s who queue reply is) (idle-begin s who queue reply is) ordered
-Ordered-next s who (End queue) reply is ordered = Ordered-map (end_one queue) (kept-end_one queue) s.admissions ordered
+Ordered-next s who op reply is ordered =
+    admissions-next Ordered s who op
+    (λ ys item named stays so_far. Ordered-submit ys s.marks item named (submission ys s.marks s.queues (submitter who op) item named)
+    (λ queue to. submission-admits ys s.marks s.queues (submitter who op) item named queue to) so_far)
+    (λ item cancels. Ordered-map (drop_one item) (kept-drop_one item) s.admissions ordered)
+    (λ queue op_is.
+    let begins = ap (work_reply s who) (sym op_is) ∙ is in
+    Ordered-begin s.admissions queue reply (Begun-reply s who queue reply begins) (idle-begin s who queue reply begins) ordered)
+    (λ queue op_is. Ordered-map (end_one queue) (kept-end_one queue) s.admissions ordered)
+    ordered
 
 Ordered-after : (s : State) (front rest : List (Entry WorkOp WorkReply)) → Replays work_machine s (front ++ rest) → Ordered s.admissions → Ordered (state_after work_machine s front).admissions
 Ordered-after s [] rest replays ordered = ordered
 Ordered-after s (e ∷ es) rest replays ordered = Ordered-after (work_next s e.who e.op) es rest replays.1 (Ordered-next s e.who e.op e.reply replays.0 ordered)
 
-pub Ordered-history : (start : State) (front rest : List (Entry WorkOp WorkReply)) → IsWorkHistory start (front ++ rest) → Ordered (state_after work_machine start front).admissions
-Ordered-history start front rest work = Ordered-after start front rest work.legal.0 (subst Ordered (sym work.fresh) Ordered-nil)
-
--- what hands an admission out is a begin
-pub is_begin : (s : State) (who : Who) (op : WorkOp) (item number : ℕ) → work_reply s who op ≡ Some (replies.Run item number) → (queue : ℕ) × (op ≡ Begin queue)
-is_begin s who (Submit item' named) item number is = absurd (cc)
-is_begin s who (Cancel item') item number is = absurd (cc)
-is_begin s who (Start queue) item number is = absurd (not_started (is_started s.queues queue) is) where
-  not_started : (b : Bool) → Some (cond b replies.Already replies.Done) ≡ Some (replies.Run item number) → ⊥
-  not_started true is = cc
-  not_started false is = cc
-is_begin s who (CancelStart item') item number is = absurd (not_cancelled (flags_of s item') (is_some (running s.admissions item')) is) where
-  not_cancelled : (flags : ℕ) (runs : Bool) → Some (cancel_start_reply flags runs) ≡ Some (replies.Run item number) → ⊥
-  not_cancelled flags runs is = by (eqb flags 0) runs is where
-    by : (none runs : Bool) → Some (cond none (replies.Truth false) (cond runs replies.Wait (replies.Truth true))) ≡ Some (replies.Run item number) → ⊥
-    by true runs is = cc
-    by false true is = cc
-    by false false is = cc
-is_begin s who (CancelDone place) item number is = absurd (not_done (may_close s closings.Cancel who place) is) where
-  not_done : (b : Bool) → cond b (Some (replies.Truth true)) None ≡ Some (replies.Run item number) → ⊥
-  not_done true is = cc
-  not_done false is = cc
-is_begin s who (FlushStart item') item number is = absurd (not_flushed (flushed s.admissions item') is) where
-  not_flushed : (o : Option ℕ) → Some (option_map_or replies.WaitFor o (replies.Truth false)) ≡ Some (replies.Run item number) → ⊥
-  not_flushed None is = cc
-  not_flushed (Some n) is = cc
-is_begin s who (FlushDone place) item number is = absurd (not_done (may_close s closings.Flush who place) is) where
-  not_done : (b : Bool) → cond b (Some (replies.Truth true)) None ≡ Some (replies.Run item number) → ⊥
-  not_done true is = cc
-  not_done false is = cc
-is_begin s who (DrainStart queue plug) item number is = absurd (not_waiting (is_empty_and_idle s.admissions queue) is) where
-  not_waiting : (b : Bool) → Some (cond b (replies.Number 0) replies.Wait) ≡ Some (replies.Run item number) → ⊥
-  not_waiting true is = cc
-  not_waiting false is = cc
-is_begin s who (DrainDone place) item number is = absurd (not_drained (may_close s closings.Drain who place) is) where
-  not_drained : (b : Bool) → cond b (Some (replies.Number 1)) None ≡ Some (replies.Run item number) → ⊥
-  not_drained true is = cc
-  not_drained false is = cc
-is_begin s who (Unplug queue) item number is = absurd (not_unplugged (is_plugged s.queues queue) is) where
-  not_unplugged : (b : Bool) → Some (cond b replies.Done replies.Already) ≡ Some (replies.Run item number) → ⊥
-  not_unplugged true is = cc
-  not_unplugged false is = cc
-is_begin s who (Begin queue) item number is = (queue, refl)
-is_begin s who (End queue) item number is = absurd (not_ended (may_end s.admissions s.queues who queue) is) where
-  not_ended : (b : Bool) → cond b (Some replies.Done) None ≡ Some (replies.Run item number) → ⊥
-  not_ended true is = cc
-  not_ended false is = cc
+pub Ordered-history : (start : State) (h front rest : List (Entry WorkOp WorkReply)) → IsFreshHistory start h → h ≡ front ++ rest → Ordered (state_after work_machine start front).admissions
+Ordered-history start h front rest fresh parts = Ordered-after start front rest (Replays-parts start h (front ++ rest) fresh parts) (subst Ordered (sym fresh.work.fresh) Ordered-nil)
 
 -- a begin that hands out an admission of an item
 pub record Handed (s : State) (item number : ℕ) : Type 0 where
@@ -419,24 +370,13 @@ runs-alone xs queue number running a b ordered at runs there waits same queue_is
       false≢true (sym (position-none (runs_on queue) xs running a idle at) ∙ on)
   by (inr (inr above)) = waiting-running b.life waits (ordered number running b a above there at (sym same) (open-waiting b.life waits) (open-running a.life runs)).0
 
-pub not_begun_during_run : NotBegunDuringRun
-not_begun_during_run start front rest e item number running a work at item_is runs reply =
+pub not_begun_during_run : OfEach NotBegunDuringRun
+not_begun_during_run start h fresh front rest e item number running a parts at item_is runs reply =
     let s = state_after work_machine start front in
-    let it = Handed-entry s e item number reply (Replays-rest start front (e ∷ rest) work.legal.0).0 in
-    runs-alone s.admissions it.queue number running a it.was (Ordered-history start front (e ∷ rest) work) at (ap is_running runs) it.there it.waits (item_is ∙ sym it.item_is) it.queue_is it.idle
+    let it = Handed-entry s e item number reply (Replays-rest start front (e ∷ rest) (Replays-parts start h (front ++ e ∷ rest) fresh parts)).0 in
+    runs-alone s.admissions it.queue number running a it.was (Ordered-history start h front (e ∷ rest) fresh parts) at (ap is_running runs) it.there it.waits (item_is ∙ sym it.item_is) it.queue_is it.idle
 
 -- a running admission runs on, but for an end at its queue
-still-push : (xs : List Admission) (x : Admission) (n : ℕ) (a : Admission) → slice_get xs n ≡ Some a → slice_get (xs ++ x ∷ []) n ≡ Some a
-still-push [] x n a at = absurd (cc)
-still-push (y ∷ ys) x zero a at = at
-still-push (y ∷ ys) x (suc n) a at = still-push ys x n a at
-
-still-submit : (xs : List Admission) (item : ℕ) (answer : Submitted) (n : ℕ) (a : Admission) → slice_get xs n ≡ Some a → slice_get (submit xs item answer) n ≡ Some a
-still-submit xs item Already n a at = at
-still-submit xs item (Fresh number queue) n a at = still-push xs _ n a at
-still-submit xs item (Rerun number queue) n a at = still-push xs _ n a at
-still-submit xs item (Refused cause) n a at = at
-
 pub still-map : (f : Admission → Admission) (xs : List Admission) (n : ℕ) (a : Admission) → f a ≡ a → slice_get xs n ≡ Some a → slice_get (map f xs) n ≡ Some a
 still-map f xs n a same at = slice_get-map f xs n ∙ ap (option_map f) at ∙ ap Some same
 
@@ -470,21 +410,14 @@ still-begin xs queue n a runs at = by (first (line xs queue)) refl where
   by (Some m) is = set_life-aside xs m n Running (apart m is) ∙ at
 
 still-next : (s : State) (who : Who) (op : WorkOp) (n : ℕ) (a : Admission) → is_running a.life ≡ true → ends a.queue op ≡ false → slice_get s.admissions n ≡ Some a → slice_get (work_next s who op).admissions n ≡ Some a
-still-next s who (Submit item named) n a runs goes_on at = still-submit s.admissions item (submission s.admissions s.marks s.queues (Some who.number) item named) n a at
-still-next s who (Cancel item) n a runs goes_on at =
-    still-map (drop_one item) s.admissions n a (still-cond (waits_as item a) a Dropped (not_both (eqb a.item item) (is_waiting a.life) (running-not a.life runs))) at
-still-next s who (CancelStart item) n a runs goes_on at =
-    still-map (drop_one item) s.admissions n a (still-cond (waits_as item a) a Dropped (not_both (eqb a.item item) (is_waiting a.life) (running-not a.life runs))) at
-still-next s who (CancelDone place) n a runs goes_on at = at
-still-next s who (FlushStart item) n a runs goes_on at = at
-still-next s who (FlushDone place) n a runs goes_on at = at
-still-next s who (Start queue) n a runs goes_on at = at
-still-next s who (DrainStart queue plug) n a runs goes_on at = at
-still-next s who (DrainDone place) n a runs goes_on at = at
-still-next s who (Unplug queue) n a runs goes_on at = at
-still-next s who (Begin queue) n a runs goes_on at = still-begin s.admissions queue n a runs at
-still-next s who (End queue) n a runs goes_on at =
-    still-map (end_one queue) s.admissions n a (still-cond (runs_on queue a) a Ended (not_first (eqb a.queue queue) (is_running a.life) goes_on)) at
+still-next s who op n a runs goes_on at =
+    admissions-next (λ ys. slice_get ys n ≡ Some a) s who op
+    (λ ys item named stays there. still-submit ys item (submission ys s.marks s.queues (submitter who op) item named) n a there)
+    (λ item cancels. still-map (drop_one item) s.admissions n a (still-cond (waits_as item a) a Dropped (not_both (eqb a.item item) (is_waiting a.life) (running-not a.life runs))) at)
+    (λ queue op_is. still-begin s.admissions queue n a runs at)
+    (λ queue op_is. still-map (end_one queue) s.admissions n a
+    (still-cond (runs_on queue a) a Ended (not_first (eqb a.queue queue) (is_running a.life) (ap (ends a.queue) (sym op_is) ∙ goes_on))) at)
+    at
 
 nor : (b c : Bool) → (b || c) ≡ false → (b ≡ false) × (c ≡ false)
 nor true c is = absurd (cc)
@@ -497,20 +430,20 @@ still-after s (e ∷ es) n a runs goes_on at =
     let both = nor (ends a.queue e.op) (list_any (λ f. ends a.queue f.op) es) goes_on in
     still-after (work_next s e.who e.op) es n a runs both.1 (still-next s e.who e.op n a runs both.0 at)
 
-pub runs_to_its_end : RunsToItsEnd
-runs_to_its_end start front between number a at runs goes_on =
-    ap (λ (s : State). slice_get s.admissions number) (state_after-append start front between) ∙ still-after (state_after work_machine start front) between number a (ap is_running runs) goes_on at
+pub runs_to_its_end : OfEach RunsToItsEnd
+runs_to_its_end start h fresh front between number a parts at runs goes_on =
+    ap (λ (l : List (Entry WorkOp WorkReply)). admission_after start l number) parts ∙ ap (λ (s : State). slice_get s.admissions number) (state_after-append start front between) ∙ still-after (state_after work_machine start front) between number a (ap is_running runs) goes_on at
 
 not_false : (b : Bool) → (b ≡ false → ⊥) → b ≡ true
 not_false true wrong = refl
 not_false false wrong = absurd (wrong refl)
 
-pub ends_between_begins : EndsBetweenBegins
-ends_between_begins start front between rest one two queue item number next work op reply next_reply =
+pub ends_between_begins : OfEach EndsBetweenBegins
+ends_between_begins start h fresh front between rest one two queue item number next parts op reply next_reply =
     let s = state_after work_machine start front in
     let after = work_next s one.who one.op in
     let t = state_after work_machine after between in
-    let replays = Replays-rest start front (one ∷ (between ++ two ∷ rest)) work.legal.0 in
+    let replays = Replays-rest start front (one ∷ (between ++ two ∷ rest)) (Replays-parts start h (front ++ one ∷ (between ++ two ∷ rest)) fresh parts) in
     let begun = Begun-entry s one queue op replays.0 in
     let same = same_item item begun.taken.item number begun.number one.reply reply begun.replied in
     let waits = (IsFirst-line s.admissions queue begun.number begun.first_is).waits begun.taken begun.there in
@@ -520,7 +453,7 @@ ends_between_begins start front between rest one two queue item number next work
     ap (λ o. slice_get (work_next s one.who o).admissions begun.number) op ∙ ap (λ (xs : List Admission). slice_get xs begun.number) (begin-is s.admissions queue one.reply begun)
     ∙ set_life-at s.admissions begun.number Running begun.taken begun.there in
     let it = Handed-entry t two item next next_reply (Replays-rest after between (two ∷ rest) replays.1).0 in
-    let order : Ordered after.admissions = Ordered-next s one.who one.op one.reply replays.0 (Ordered-history start front (one ∷ (between ++ two ∷ rest)) work) in
+    let order : Ordered after.admissions = Ordered-next s one.who one.op one.reply replays.0 (Ordered-history start h front (one ∷ (between ++ two ∷ rest)) fresh parts) in
     let ordered : Ordered t.admissions = Ordered-after after between (two ∷ rest) replays.1 order in
     not_false (list_any (λ e. ends queue e.op) between) (λ none.
     let goes_on : list_any (λ e. ends begun.taken.queue e.op) between ≡ false = ap (λ q. list_any (λ (e : Entry WorkOp WorkReply). ends q e.op) between) queue_is ∙ none in

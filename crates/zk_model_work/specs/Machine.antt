@@ -1,4 +1,4 @@
-use Rattle.std.specs.Prelude.{ℕ, zero, suc, ◌+◌, Bool, true, false, not, nat_lt, ◌==◌, ◌&&◌, if◌then◌else◌, Option, Some, None, is_some, is_none, option_map, option_and_then, option_to_list, List, [], ◌∷◌, ◌++◌, length, map, slice_get}
+use Rattle.std.specs.Prelude.{ℕ, zero, suc, ◌+◌, Bool, true, false, not, nat_lt, ◌==◌, ◌&&◌, ◌||◌, if◌then◌else◌, Option, Some, None, is_some, is_none, option_map, option_and_then, option_to_list, List, [], ◌∷◌, ◌++◌, length, map, slice_get}
 use Rattle.std.specs.List.{list_any}
 use Rattle.std.specs.Option.{option_map_or, option_or}
 use Rattle.zk_base.specs.declared.ids.Who.{Who}
@@ -6,16 +6,17 @@ use Rattle.zk_base.specs.declared.errors.Errno.{Errno}
 use Rattle.zk_base.specs.declared.errors.Errno.TheVariants.{Busy, Inval, NoDev}
 use Rattle.zk_base.specs.Legal.{Machine}
 use Rattle.zk_model_work.specs.declared.ops.WorkOp.{WorkOp}
-use Rattle.zk_model_work.specs.declared.ops.WorkOp.TheVariants.{Submit, Cancel, CancelStart, CancelDone, FlushStart, FlushDone, Start, DrainStart, DrainDone, Unplug, Begin, End}
+use Rattle.zk_model_work.specs.declared.ops.WorkOp.TheVariants.{Submit, Cancel, CancelStart, CancelDone, FlushStart, FlushDone, Schedule, Reschedule, Remaining, Start, DrainStart, DrainDone, Unplug, Announce, Begin, End}
 use Rattle.zk_model_work.specs.declared.ops.Submitted.{Submitted}
 use Rattle.zk_model_work.specs.declared.ops.Submitted.TheVariants.{Already, Fresh, Rerun, Refused}
+use Rattle.zk_model_work.specs.declared.ops.Expiry.{Expiry}
 use Rattle.zk_model_work.specs.declared.ops.WorkReply.{WorkReply}
-use Rattle.zk_model_work.specs.declared.ops.WorkReply.TheVariants.{Sub, Flags, Truth, WaitFor, Number, Done, Run}
+use Rattle.zk_model_work.specs.declared.ops.WorkReply.TheVariants.{Sub, Armed, Flags, Truth, WaitFor, Number, Done, Now, Run}
 use Rattle.zk_model_work.specs.declared.ops.WorkReply.TheVariants as replies
 use Rattle.zk_model_work.specs.declared.parts.Life.{Life}
 use Rattle.zk_model_work.specs.declared.parts.Life.TheVariants.{Waiting, Running, Ended, Dropped}
 use Rattle.zk_model_work.specs.declared.parts.Admission.{Admission}
-use Rattle.zk_model_work.specs.declared.parts.Fate.TheVariants.{Disarmed}
+use Rattle.zk_model_work.specs.declared.parts.Fate.TheVariants.{Live, Expired, Disarmed}
 use Rattle.zk_model_work.specs.declared.parts.Arm.{Arm}
 use Rattle.zk_model_work.specs.declared.parts.Awaited.{Awaited}
 use Rattle.zk_model_work.specs.declared.parts.Awaited.TheVariants as awaiteds
@@ -27,7 +28,7 @@ use Rattle.zk_model_work.specs.declared.parts.Change.{Change}
 use Rattle.zk_model_work.specs.declared.parts.Change.TheVariants as changes
 use Rattle.zk_model_work.specs.Lists.{first}
 use Rattle.zk_model_work.specs.State.{State}
-use Rattle.zk_model_work.specs.Questions.{is_open, is_ended, passes_at, waits_as, runs_on, arms_item, waiting, running, running_queue, last_queue, line, run, is_empty_and_idle, is_cancelling, flags}
+use Rattle.zk_model_work.specs.Questions.{is_open, is_ended, passes_at, waits_as, runs_on, arms_item, waiting, running, running_queue, last_queue, line, run, is_empty_and_idle, is_cancelling, armed, live_arm, is_due, due, remaining, flags}
 
 -- the caller, where there is one, is the queue's worker
 abbrev pub is_chained : Queue → Option ℕ → Bool
@@ -74,6 +75,23 @@ admitted_to answer = None
 abbrev pub submit : List Admission → ℕ → Submitted → List Admission
 submit admissions item answer = option_map_or (λ queue. admissions ++ record { item = item; queue = queue; life = Waiting } ∷ []) (admitted_to answer) admissions
 
+-- the answer to a submission in a state
+abbrev pub submission_in : State → Option ℕ → ℕ → Option ℕ → Submitted
+submission_in s caller item named = submission s.admissions s.marks s.queues caller item named
+
+-- the admissions after these arms' items were submitted in turn, each to its arm's queue, by a player or by nobody
+abbrev pub submit_arms : List ℕ → List Queue → Option ℕ → List Arm → List Admission → List Admission
+submit_arms marks queues caller [] admissions = admissions
+submit_arms marks queues caller (a ∷ arms) admissions =
+    submit_arms marks queues caller arms (submit admissions a.item (submission admissions marks queues caller a.item (Some a.queue)))
+
+-- what each of them is answered, where nobody submits it
+abbrev pub expiries : List ℕ → List Queue → List Arm → List Admission → List Expiry
+expiries marks queues [] admissions = []
+expiries marks queues (a ∷ arms) admissions =
+    let answer = submission admissions marks queues None a.item (Some a.queue) in
+    record { item = a.item; submitted = answer } ∷ expiries marks queues arms (submit admissions a.item answer)
+
 -- the admission with another life
 abbrev pub with_life : Life → Admission → Admission
 with_life life a = record a { life = life }
@@ -111,6 +129,18 @@ disarm_one item a = if arms_item item a then record a { fate = Disarmed } else a
 -- the item's live arm is disarmed
 abbrev pub disarm : List Arm → ℕ → List Arm
 disarm arms item = map (disarm_one item) arms
+
+-- the arms with one more, which is live
+abbrev pub arm : List Arm → ℕ → ℕ → ℕ → List Arm
+arm arms item queue deadline = arms ++ record { item = item; queue = queue; deadline = deadline; fate = Live } ∷ []
+
+-- an arm, expired where it is due
+abbrev pub expire_one : ℕ → Arm → Arm
+expire_one time a = if is_due time a then record a { fate = Expired } else a
+
+-- the arms that are due have expired
+abbrev pub expire : List Arm → ℕ → List Arm
+expire arms time = map (expire_one time) arms
 
 -- the item's run is marked as found by a cancel
 abbrev pub mark : List Admission → List ℕ → ℕ → List ℕ
@@ -178,17 +208,45 @@ cancel_wait s who item = option_map (λ number. wait_for s.entries who (awaiteds
 abbrev pub cancel_start : State → Who → ℕ → State
 cancel_start s who item = record (cancel s item) { waits = awaiting s.waits (cancel_wait s who item) }
 
+-- the admissions after a flush has ended the item's delay, if it has one: the item is submitted by the player to the arm's queue
+abbrev pub hurried : State → Who → ℕ → List Admission
+hurried s who item = submit_arms s.marks s.queues (Some who.number) (option_to_list (live_arm s.arms item)) s.admissions
+
 -- the admission that a flush waits for: the item's waiting one, else its running one
 abbrev pub flushed : List Admission → ℕ → Option ℕ
 flushed admissions item = option_or (waiting admissions item) (running admissions item)
 
 -- the wait for the end of that admission
 abbrev pub flush_wait : State → Who → ℕ → Option Wait
-flush_wait s who item = option_map (λ number. wait_for s.entries who (awaiteds.Flush number)) (flushed s.admissions item)
+flush_wait s who item = option_map (λ number. wait_for s.entries who (awaiteds.Flush number)) (flushed (hurried s who item) item)
 
--- the state after the start of a flush, in which the player waits where an admission of the item waits or runs
+-- the state after the start of a flush, which ends the item's delay, and in which the player waits where an admission of the item then waits or runs
 abbrev pub flush_start : State → Who → ℕ → State
-flush_start s who item = record s { waits = awaiting s.waits (flush_wait s who item) }
+flush_start s who item = record s { admissions = hurried s who item; arms = disarm s.arms item; waits = awaiting s.waits (flush_wait s who item) }
+
+-- the item is delayed, queued or being cancelled
+abbrev pub is_pending : State → ℕ → Bool
+is_pending s item = is_some (armed s.arms item) || is_some (waiting s.admissions item) || is_cancelling s.admissions s.marks item
+
+-- the state in which an item has this delay: with none it was submitted by the player, else it is armed
+abbrev pub delayed : State → Who → ℕ → ℕ → ℕ → State
+delayed s who item queue delay =
+    if delay == 0 then record s { admissions = submit s.admissions item (submission_in s (Some who.number) item (Some queue)) }
+    else record s { arms = arm s.arms item queue (s.time + delay) }
+
+-- the state after a schedule, which leaves a pending item alone
+abbrev pub schedule : State → Who → ℕ → ℕ → ℕ → State
+schedule s who item queue delay = if is_pending s item then s else delayed s who item queue delay
+
+-- the state after a reschedule, which gives up the delay that the item had
+abbrev pub reschedule : State → Who → ℕ → ℕ → ℕ → State
+reschedule s who item queue delay = delayed (record s { arms = disarm s.arms item }) who item queue delay
+
+-- the state after so many ticks more: the arms that are due by then have expired, and nobody has submitted their items
+abbrev pub announce : State → ℕ → State
+announce s ticks =
+    let time = s.time + ticks in
+    record s { time = time; arms = expire s.arms time; admissions = submit_arms s.marks s.queues None (due time s.arms) s.admissions }
 
 -- the wait for one more draining of the queue to end, unless it is idle
 abbrev pub drain_wait : Bool → State → Who → ℕ → Option Wait
@@ -286,37 +344,59 @@ cancel_start_reply flags runs =
 abbrev pub flush_start_reply : Option ℕ → WorkReply
 flush_start_reply number = option_map_or WaitFor number (Truth false)
 
+-- what an item with this delay is answered: of its submission, or that it is armed
+abbrev pub delay_reply : State → Who → ℕ → ℕ → ℕ → WorkReply
+delay_reply s who item queue delay = if delay == 0 then Sub (submission_in s (Some who.number) item (Some queue)) else Armed
+
+-- what a schedule is answered: that the item is pending, or as its delay is
+abbrev pub schedule_reply : State → Who → ℕ → ℕ → ℕ → WorkReply
+schedule_reply s who item queue delay = if is_pending s item then Sub Already else delay_reply s who item queue delay
+
+-- the time after so many ticks more, and the items whose delay is over by then, each with the answer to its submission
+abbrev pub announce_reply : State → ℕ → WorkReply
+announce_reply s ticks =
+    let time = s.time + ticks in
+    Now time (expiries s.marks s.queues (due time s.arms) s.admissions)
+
 -- whether a drain has to wait: it hasn't where the queue is idle
 abbrev pub drain_reply : Bool → WorkReply
 drain_reply idle = if idle then Number 0 else replies.Wait
 
 -- the reply to each operation, where it is possible
 abbrev pub work_reply : State → Who → WorkOp → Option WorkReply
-work_reply s who (Submit item named) = Some (Sub (submission s.admissions s.marks s.queues (Some who.number) item named))
+work_reply s who (Submit item named) = Some (Sub (submission_in s (Some who.number) item named))
 work_reply s who (Cancel item) = Some (Flags (flags_of (cancel s item) item))
 work_reply s who (CancelStart item) = Some (cancel_start_reply (flags_of s item) (is_some (running s.admissions item)))
 work_reply s who (CancelDone place) = if may_close s closings.Cancel who place then Some (Truth true) else None
-work_reply s who (FlushStart item) = Some (flush_start_reply (flushed s.admissions item))
+work_reply s who (FlushStart item) = Some (flush_start_reply (flushed (hurried s who item) item))
 work_reply s who (FlushDone place) = if may_close s closings.Flush who place then Some (Truth true) else None
+work_reply s who (Schedule item queue delay) = Some (schedule_reply s who item queue delay)
+work_reply s who (Reschedule item queue delay) = Some (delay_reply s who item queue delay)
+work_reply s who (Remaining item) = Some (Number (remaining s.arms s.time item))
 work_reply s who (Start queue) = Some (start_reply s.queues queue)
 work_reply s who (DrainStart queue plug) = Some (drain_reply (is_empty_and_idle s.admissions queue))
 work_reply s who (DrainDone place) = if may_close s closings.Drain who place then Some (Number 1) else None
 work_reply s who (Unplug queue) = Some (unplug_reply s.queues queue)
+work_reply s who (Announce ticks) = Some (announce_reply s ticks)
 work_reply s who (Begin queue) = if may_begin s.admissions s.queues who queue then taken_up s.admissions queue else None
 work_reply s who (End queue) = if may_end s.admissions s.queues who queue then Some Done else None
 
 -- what each operation changes, where it is possible
 abbrev pub changed : State → Who → WorkOp → State
-changed s who (Submit item named) = record s { admissions = submit s.admissions item (submission s.admissions s.marks s.queues (Some who.number) item named) }
+changed s who (Submit item named) = record s { admissions = submit s.admissions item (submission_in s (Some who.number) item named) }
 changed s who (Cancel item) = cancel s item
 changed s who (CancelStart item) = cancel_start s who item
 changed s who (CancelDone place) = record s { waits = answered_waits s closings.Cancel who place }
 changed s who (FlushStart item) = flush_start s who item
 changed s who (FlushDone place) = record s { waits = answered_waits s closings.Flush who place }
+changed s who (Schedule item queue delay) = schedule s who item queue delay
+changed s who (Reschedule item queue delay) = reschedule s who item queue delay
+changed s who (Remaining item) = s
 changed s who (Start queue) = record s { queues = change changes.Start s.queues queue }
 changed s who (DrainStart queue plug) = drain_start s who queue plug
 changed s who (DrainDone place) = record s { waits = answered_waits s closings.Drain who place }
 changed s who (Unplug queue) = record s { queues = change changes.Unplug s.queues queue }
+changed s who (Announce ticks) = announce s ticks
 changed s who (Begin queue) = record s { admissions = begin s.admissions queue }
 changed s who (End queue) = end s queue
 
@@ -336,10 +416,14 @@ is_among items queues (CancelStart item) = nat_lt item items
 is_among items queues (CancelDone place) = true
 is_among items queues (FlushStart item) = nat_lt item items
 is_among items queues (FlushDone place) = true
+is_among items queues (Schedule item queue delay) = nat_lt item items && nat_lt queue queues
+is_among items queues (Reschedule item queue delay) = nat_lt item items && nat_lt queue queues
+is_among items queues (Remaining item) = nat_lt item items
 is_among items queues (Start queue) = nat_lt queue queues
 is_among items queues (DrainStart queue plug) = nat_lt queue queues
 is_among items queues (DrainDone place) = true
 is_among items queues (Unplug queue) = nat_lt queue queues
+is_among items queues (Announce ticks) = true
 is_among items queues (Begin queue) = nat_lt queue queues
 is_among items queues (End queue) = nat_lt queue queues
 

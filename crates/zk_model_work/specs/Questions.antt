@@ -1,6 +1,7 @@
-use Rattle.std.specs.Prelude.{ℕ, ◌+◌, Bool, true, false, not, ◌==◌, ◌&&◌, cond, Option, is_some, option_map, List, reverse, find, position, slice_get}
+use Rattle.std.specs.Prelude.{ℕ, ◌+◌, ◌-◌, Bool, true, false, not, nat_le, ◌==◌, ◌&&◌, cond, Option, is_some, option_map, List, reverse, filter, find, position, slice_get}
 use Rattle.std.specs.List.{list_any, list_all}
 use Rattle.std.specs.Option.{option_map_or}
+use Rattle.zk_base.specs.Order.{by_key}
 use Rattle.zk_model_work.specs.declared.parts.Life.{Life}
 use Rattle.zk_model_work.specs.declared.parts.Life.TheVariants.{Waiting, Running, Ended}
 use Rattle.zk_model_work.specs.declared.parts.Admission.{Admission}
@@ -105,6 +106,22 @@ is_cancelling admissions marks item = list_any (passes_at (runs_as item) admissi
 -- the place of the item's live arm
 abbrev pub armed : List Arm → ℕ → Option ℕ
 armed arms item = position (arms_item item) arms
+
+-- the item's live arm
+abbrev pub live_arm : List Arm → ℕ → Option Arm
+live_arm arms item = find (arms_item item) arms
+
+-- the arm is to expire by this time
+abbrev pub is_due : ℕ → Arm → Bool
+is_due time a = is_live a.fate && nat_le a.deadline time
+
+-- the arms that are to expire by this time, by deadline and, at one deadline, in the order of arming
+abbrev pub due : ℕ → List Arm → List Arm
+due time arms = by_key (λ a. a.deadline) (filter (is_due time) arms)
+
+-- the ticks until the item's live arm expires, none where it has none
+abbrev pub remaining : List Arm → ℕ → ℕ → ℕ
+remaining arms time item = option_map_or (λ a. a.deadline - time) (live_arm arms item) 0
 
 -- the wait is a flush that names an admission of the item which waits or runs
 abbrev pub flushes : List Admission → ℕ → Awaited → Bool

@@ -1,4 +1,4 @@
-use Rattle.std.specs.Prelude.{ℕ, ◌^◌, ◌<◌, ◌≤◌, Bool, false, List, [], ◌∷◌, length, All}
+use Rattle.std.specs.Prelude.{ℕ, ◌-◌, ◌*◌, ◌^◌, ◌<◌, ◌≤◌, Bool, false, List, [], ◌∷◌, length, All}
 use Rattle.zk_model_work.specs.declared.parts.Admission.{Admission}
 use Rattle.zk_model_work.specs.declared.parts.Arm.{Arm}
 use Rattle.zk_model_work.specs.declared.parts.Wait.{Wait}
@@ -34,3 +34,7 @@ pub record IsCounted (entries : ℕ) (queues : List Queue) : Type 0 where
   pub drained : All (λ q. q.drained ≤ entries) queues
   pub entries_fit : entries < 2 ^ 32
   pub few : length queues < 2 ^ 32
+
+-- an announce adds fewer than 2^32 ticks, so the time is bounded by the number of entries
+pub record IsTimed (time entries : ℕ) : Type 0 where
+  pub bound : time ≤ entries * (2 ^ 32 - 1)

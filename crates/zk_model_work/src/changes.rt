@@ -1,9 +1,9 @@
 ghost use Rattle.std.specs.Prelude.{◌≡◌, ◌+◌, ◌-◌, ◌^◌, ◌<◌, ◌++◌, length, map, All, option_to_list};
 ghost use Rattle.zk_model_work.specs.Questions.{running, runs_on, waits_as, arms_item, is_empty_and_idle};
-ghost use Rattle.zk_model_work.specs.Machine.{set_life, begin, end_run, drop_waiting, disarm, changed_queue, change, drain, answer_where, answer_one, settle_one, settle, end_one, drop_one, disarm_one};
+ghost use Rattle.zk_model_work.specs.Machine.{set_life, begin, end_run, drop_waiting, disarm, expire, changed_queue, change, drain, answer_where, answer_one, settle_one, settle, end_one, drop_one, disarm_one, expire_one};
 
 use crate::{
-    Admission, Arm, Change, Closing, Fate, Life, Queue, Wait, closes, first_in_line,
+    Admission, Arm, Change, Closing, Fate, Life, Queue, Wait, closes, first_in_line, is_due,
     is_empty_and_idle,
 };
 use zk_base::Who;
@@ -74,6 +74,29 @@ pub fn disarm(arms: &mut [Arm], item: u32)
 {
     for index in 0..arms.len() {
         arms[index] = disarm_one(arms[index], item);
+    }
+}
+
+/// The arm, expired if it is due.
+fn expire_one(arm: Arm, time: u64) -> Arm
+    ensures { result ≡ expire_one time arm }
+{
+    if is_due(arm, time) {
+        Arm {
+            fate: Fate::Expired,
+            ..arm
+        }
+    } else {
+        arm
+    }
+}
+
+/// The arms that are due have expired.
+pub fn expire(arms: &mut [Arm], time: u64)
+    ensures { arms.new ≡ expire arms.old time }
+{
+    for index in 0..arms.len() {
+        arms[index] = expire_one(arms[index], time);
     }
 }
 

@@ -4,6 +4,7 @@
 mod answers;
 mod busy;
 mod changes;
+mod growth;
 mod laws;
 mod ops;
 mod parts;
@@ -15,18 +16,22 @@ pub use answers::{
     start_reply, submission, taken_up, unplug_reply,
 };
 pub use busy::{BusyFlags, flags, united};
-pub use changes::{answer, begin, change, disarm, drain, drop_waiting, end_run, set_life, settle};
-pub use laws::{
-    begins_in_order, cancel_holds, drain_holds, flush_holds, never_overlaps, plug_holds, runs_once,
+pub use changes::{
+    answer, begin, change, disarm, drain, drop_waiting, end_run, expire, set_life, settle,
 };
-pub use ops::{Submitted, WorkOp, WorkReply};
+pub use growth::{arm, fresh_queues, hurry, mark, put_wait, submit, submit_arms, wait_for};
+pub use laws::{
+    begins_in_order, cancel_holds, delays_hold, drain_holds, flush_holds, never_overlaps,
+    plug_holds, runs_once,
+};
+pub use ops::{Expiries, Expiry, Submitted, WorkOp, WorkReply};
 pub use parts::{Admission, Arm, Awaited, Change, Closing, Fate, Life, Queue, Wait};
 pub use questions::{
-    armed, drained_of, first_in_line, flushed, has_come, is_cancelling, is_empty_and_idle,
-    is_flushing, is_plugged, is_started, is_unanswered, is_worker, last_queue, run, running,
-    running_queue, waiting,
+    armed, drained_of, due, first_in_line, flushed, has_come, is_cancelling, is_due,
+    is_empty_and_idle, is_flushing, is_plugged, is_started, is_unanswered, is_worker, last_queue,
+    live_arm, remaining, run, running, running_queue, waiting,
 };
-pub use state::{WorkState, fresh_queues, mark, put_wait, submit, wait_for, work_next};
+pub use state::{WorkState, work_next};
 
 #[cfg(test)]
 mod tests;

@@ -1,4 +1,4 @@
-use zk_base::Errno;
+use zk_base::{Errno, Listed};
 
 /// What can be asked of the work service. An item is its number among the items, a queue its number
 /// among the queues, each from 0 in declared order.
@@ -16,6 +16,15 @@ pub enum WorkOp {
     FlushStart(u32),
     /// What the caller's flush waits for, started at this place of the history, has ended or was dropped.
     FlushDone(u64),
+    /// Submits an item to a queue after a delay in ticks, unless it is delayed, queued or being
+    /// cancelled. Zephyr's `k_work_schedule_for_queue`.
+    Schedule(u32, u32, u32),
+    /// Sets an item's delay anew, in ticks, whatever the item is at. Zephyr's
+    /// `k_work_reschedule_for_queue`.
+    Reschedule(u32, u32, u32),
+    /// How many ticks it is until an item's delay is over. Zephyr's
+    /// `k_work_delayable_remaining_get`.
+    Remaining(u32),
     /// Starts a queue, so that it takes items. Zephyr's `k_work_queue_start`.
     Start(u32),
     /// Starts a drain of a queue, which is plugged too where this is true. Zephyr's `k_work_queue_drain`.
@@ -24,6 +33,9 @@ pub enum WorkOp {
     DrainDone(u64),
     /// Takes a plug away, so that the queue takes items again. Zephyr's `k_work_queue_unplug`.
     Unplug(u32),
+    /// So many ticks have passed: the delays that are over by now end, and their items are submitted.
+    /// Zephyr's `sys_clock_announce`.
+    Announce(u32),
     /// The queue's worker takes up the next admission.
     Begin(u32),
     /// The queue's worker has played the handler to its end.
@@ -43,11 +55,23 @@ pub enum Submitted {
     Refused(Errno),
 }
 
-/// What the work service answers.
+/// An item whose delay is over, and what became of its submission.
 #[derive(Clone, Copy, Debug)]
+pub struct Expiry {
+    pub item: u32,
+    pub submitted: Submitted,
+}
+
+/// The delays that one announce ended, in the order in which they did.
+pub type Expiries = Listed<Expiry>;
+
+/// What the work service answers.
+#[derive(Debug, Drop)]
 pub enum WorkReply {
     /// Of a submission.
     Sub(Submitted),
+    /// The item is delayed from now on. Answer 1.
+    Armed,
     /// The busy flags of an item, below 32: 1 running, 2 cancelling, 4 queued, 8 delayed, 16 flushing.
     Flags(u8),
     /// Of a sync cancel and of a flush: whether there was something to cancel, to flush.
@@ -56,12 +80,14 @@ pub enum WorkReply {
     Wait,
     /// The caller waits for the end of the admission of this number.
     WaitFor(u64),
-    /// A number. Of a drain 0 where nothing had to be awaited, and 1 once it is over.
+    /// A number. Of a drain 0 where nothing had to be awaited, and 1 once it is over; else in ticks.
     Number(u64),
     /// Done, with nothing to say of it.
     Done,
     /// Nothing was done, since it was done before.
     Already,
+    /// The time after an announce, in ticks, and the delays that ended by it.
+    Now(u64, Expiries),
     /// The item that a worker took up, and the number of its admission.
     Run(u32, u64),
 }

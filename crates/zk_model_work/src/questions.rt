@@ -1,10 +1,13 @@
-ghost use Rattle.std.specs.Prelude.{◌≡◌, ◌+◌, option_map, position};
+ghost use Rattle.std.specs.Prelude.{◌≡◌, ◌+◌, nat_lt, option_map, position, IfOk};
 ghost use Rattle.std.specs.Option.{option_map_or};
+ghost use Rattle.zk_base.specs.Order.{put_by};
 ghost use Rattle.zk_model_work.specs.Lists.{first};
-ghost use Rattle.zk_model_work.specs.Questions.{waiting, running, running_queue, last_queue, line, run, is_empty_and_idle, is_cancelling, armed, is_flushing, waits_as, runs_as, is_open_as, waits_for, flushes, passes_at};
+ghost use Rattle.zk_model_work.specs.Questions.{waiting, running, running_queue, last_queue, line, run, is_empty_and_idle, is_cancelling, armed, live_arm, is_due, due, remaining, is_flushing, waits_as, runs_as, is_open_as, waits_for, flushes, passes_at};
 ghost use Rattle.zk_model_work.specs.Machine.{is_worker, flushed, is_started, is_plugged, drained_of, has_come, is_unanswered};
 
 use crate::{Admission, Arm, Awaited, Closing, Queue, Wait};
+use std::alloc::Global;
+use zk_base::NoMemory;
 
 /// The number of the item's waiting admission.
 pub fn waiting(admissions: &[Admission], item: u32) -> Option<usize>
@@ -178,6 +181,62 @@ pub fn armed(arms: &[Arm], item: u32) -> Option<usize>
     ensures { result ≡ armed arms.now item }
 {
     arms.iter().position(|a| a.item == item && a.fate.is_live())
+}
+
+/// The item's live arm.
+pub fn live_arm(arms: &[Arm], item: u32) -> Option<Arm>
+    ensures { result ≡ live_arm arms.now item }
+{
+    match armed(arms, item) {
+        None => None,
+        Some(place) => Some(arms[place]),
+    }
+}
+
+/// Whether the arm is to expire by this time, in ticks.
+pub fn is_due(arm: Arm, time: u64) -> bool
+    ensures { result ≡ is_due time arm }
+{
+    arm.fate.is_live() && arm.deadline <= time
+}
+
+/// The ticks until the item's live arm expires, none where it has none.
+pub fn remaining(arms: &[Arm], time: u64, item: u32) -> u64
+    ensures { result ≡ remaining arms.now time item }
+{
+    match live_arm(arms, item) {
+        None => 0,
+        Some(arm) => arm.deadline.saturating_sub(time),
+    }
+}
+
+/// The place of the first arm whose deadline is above this one.
+fn later(arms: &[Arm], deadline: u64) -> Option<usize>
+    ensures { result ≡ position (λ a. nat_lt deadline a.deadline) arms.now }
+{
+    arms.iter().position(|a| deadline < a.deadline)
+}
+
+/// One arm more, behind all whose deadline isn't above its own.
+fn put_in_order(due: &mut Vec<Arm>, arm: Arm) -> Result<(), NoMemory>
+    ensures { IfOk result (λ _. due.new.items ≡ put_by (λ a. a.deadline) arm due.old.items) }
+{
+    let place = later(due, arm.deadline).unwrap_or(due.len());
+    due.insert(place, arm)?;
+    Ok(())
+}
+
+/// The arms that are to expire by this time, in the order in which they do.
+pub fn due(alloc: Global, arms: &[Arm], time: u64) -> Result<Vec<Arm>, NoMemory>
+    ensures { IfOk result (λ found. found.items ≡ due time arms.now) }
+{
+    let mut found = Vec::new(alloc);
+    for index in 0..arms.len() {
+        if is_due(arms[index], time) {
+            put_in_order(&mut found, arms[index])?;
+        }
+    }
+    Ok(found)
 }
 
 /// Whether the admission of this number is one of the item that waits or runs.

@@ -1,17 +1,19 @@
-ghost use Rattle.std.specs.Prelude.{◌≡◌, ◌≢◌, ◌+◌, ◌-◌, ◌^◌, ◌<◌, ◌≤◌, length, vec_len, vec_capacity, AllPairs, Some, None, if◌then◌else◌, IsOk, IfOk, OnOk, OnErr};
-ghost use Rattle.zk_model_work.specs.State.{State, start_of, fresh_queues};
-ghost use Rattle.zk_model_work.specs.Machine.{work_reply, after_reply, submit, mark, wait_for, awaiting, may_close, closed, flags_of};
+ghost use Rattle.std.specs.Prelude.{◌≡◌, ◌≢◌, ◌-◌, ◌^◌, ◌<◌, ◌≤◌, length, AllPairs, Some, None, if◌then◌else◌, IfOk, OnErr};
+ghost use Rattle.zk_model_work.specs.State.{State, start_of};
+ghost use Rattle.zk_model_work.specs.Machine.{work_reply, after_reply, is_pending, may_close, closed, flags_of};
 
 use crate::{
-    Admission, Arm, Awaited, Change, Closing, Life, Queue, Submitted, Wait, WorkOp, WorkReply,
-    answer, begin, cancel_start_reply, change, closes, disarm, drain, drain_reply, drained_of,
-    drop_waiting, end_run, flags, flush_start_reply, flushed, is_empty_and_idle, may_begin,
-    may_end, running, settle, start_reply, submission, taken_up, unplug_reply,
+    Admission, Arm, Awaited, Change, Closing, Queue, Submitted, Wait, WorkOp, WorkReply, answer,
+    arm, armed, begin, cancel_start_reply, change, closes, disarm, drain, drain_reply, drained_of,
+    drop_waiting, due, end_run, expire, flags, flush_start_reply, flushed, fresh_queues, hurry,
+    is_cancelling, is_empty_and_idle, live_arm, mark, may_begin, may_end, put_wait, remaining,
+    running, settle, start_reply, submission, submit, submit_arms, taken_up, unplug_reply,
+    wait_for, waiting,
 };
 use bitflags::Flags;
 use std::alloc::Global;
 use std::marker::Model;
-use zk_base::{NoMemory, Who};
+use zk_base::{Listed, NoMemory, Who};
 
 /// The state of the work machine, which contracts see as its definition has it. Nothing that was
 /// ever admitted is forgotten.
@@ -28,7 +30,7 @@ pub struct WorkState {
 }
 
 impl Model for WorkState {
-    ghost use Rattle.zk_model_work.specs.State.{State, IsCounted};
+    ghost use Rattle.zk_model_work.specs.State.{State, IsCounted, IsTimed};
 
     ghost Value = { State };
 
@@ -43,99 +45,7 @@ impl Model for WorkState {
       queues = a.queues.items;
     } };
 
-    ghost invariant = { λ a. IsCounted a.entries a.queues.items };
-}
-
-/// One admission more, where the answer says so.
-pub fn submit(admissions: &mut Vec<Admission>, item: u32, answer: Submitted) -> Result<(), NoMemory>
-    ensures ok { OnOk result (admissions.new.items ≡ submit admissions.old.items item answer) }
-    ensures err { OnErr result (admissions.new.items ≡ admissions.old.items) }
-
-    // Memory: one place of it is enough.
-    ensures roomy { vec_len admissions.old < vec_capacity admissions.old → IsOk result }
-    ensures len { vec_len admissions.new ≤ vec_len admissions.old + 1 }
-    ensures capacity { vec_capacity admissions.old ≤ vec_capacity admissions.new }
-{
-    match answer {
-        Submitted::Fresh(_, queue) | Submitted::Rerun(_, queue) => {
-            admissions.push(Admission {
-                item,
-                queue,
-                life: Life::Waiting,
-            })?;
-            Ok(())
-        }
-        _ => Ok(()),
-    }
-}
-
-/// The run of the item is marked.
-pub fn mark(admissions: &[Admission], marks: &mut Vec<u64>, item: u32) -> Result<(), NoMemory>
-    ensures ok { OnOk result (marks.new.items ≡ mark admissions.now marks.old.items item) }
-    ensures err { OnErr result (marks.new.items ≡ marks.old.items) }
-
-    // Memory: one place of it is enough.
-    ensures roomy { vec_len marks.old < vec_capacity marks.old → IsOk result }
-    ensures len { vec_len marks.new ≤ vec_len marks.old + 1 }
-    ensures capacity { vec_capacity marks.old ≤ vec_capacity marks.new }
-{
-    match running(admissions, item) {
-        None => Ok(()),
-        Some(number) => {
-            marks.push(number as u64)?;
-            Ok(())
-        }
-    }
-}
-
-/// The wait of a player that begins with the entry of this place.
-pub fn wait_for(place: u64, who: Who, awaited: Awaited) -> Wait
-    ensures { result ≡ wait_for place who awaited }
-{
-    Wait {
-        place,
-        player: who.number,
-        awaited,
-        answered: false,
-    }
-}
-
-/// One wait more, where there is something to wait for.
-pub fn put_wait(waits: &mut Vec<Wait>, wait: Option<Wait>) -> Result<(), NoMemory>
-    ensures ok { OnOk result (waits.new.items ≡ awaiting waits.old.items wait) }
-    ensures err { OnErr result (waits.new.items ≡ waits.old.items) }
-
-    // Memory: one place of it is enough.
-    ensures roomy { vec_len waits.old < vec_capacity waits.old → IsOk result }
-    ensures len { vec_len waits.new ≤ vec_len waits.old + 1 }
-    ensures capacity { vec_capacity waits.old ≤ vec_capacity waits.new }
-{
-    if let Some(wait) = wait {
-        waits.push(wait)?;
-    }
-    Ok(())
-}
-
-/// The queues of these workers, none of them used yet.
-pub fn fresh_queues(
-    alloc: Global,
-    workers: &[u32],
-    started: &[bool],
-) -> Result<Vec<Queue>, NoMemory>
-    requires same { length workers.now ≡ length started.now }
-    ensures { IfOk result (λ queues. queues.items ≡ fresh_queues workers.now started.now) }
-{
-    let mut queues = Vec::new(alloc);
-    for number in 0..workers.len() {
-        queues.push(Queue {
-            worker: workers[number],
-            started: started[number],
-            draining: false,
-            plugged: false,
-            drained: 0,
-        })?;
-    }
-    Ok(queues)
+    ghost invariant = { λ a. IsCounted a.entries a.queues.items × IsTimed a.time a.entries };
 }
 
 impl WorkState {
@@ -291,14 +201,119 @@ impl WorkState {
             self.new ≡ after_reply self.old who (WorkOp.FlushStart item) reply) }
         ensures unchanged { OnErr result (self.new ≡ self.old) }
     {
+        self.admissions.reserve(1)?;
+        self.waits.reserve(1)?;
+        let arm = live_arm(&self.arms, item);
+        hurry(&mut self.admissions, &self.marks, &self.queues, who, arm)?;
         let number = flushed(&self.admissions, item).map(|number| number as u64);
         let wait = match number {
             Some(number) => Some(wait_for(self.entries, who, Awaited::Flush(number))),
             None => None,
         };
         put_wait(&mut self.waits, wait)?;
+        disarm(&mut self.arms, item);
         self.entries += 1;
         Ok(Some(flush_start_reply(number)))
+    }
+
+    /// Whether the item is delayed, queued or being cancelled.
+    fn is_pending(&self, item: u32) -> bool
+        ensures { result ≡ is_pending self.now item }
+    {
+        armed(&self.arms, item).is_some()
+            || waiting(&self.admissions, item).is_some()
+            || is_cancelling(&self.admissions, &self.marks, item)
+    }
+
+    fn schedule(
+        &mut self,
+        who: Who,
+        item: u32,
+        queue: u32,
+        delay: u32,
+    ) -> Result<Option<WorkReply>, NoMemory>
+        requires { self.old.entries < 2 ^ 32 - 1 }
+        ensures reply { IfOk result (λ reply.
+            reply ≡ work_reply self.old who (WorkOp.Schedule item queue delay)) }
+        ensures next { IfOk result (λ reply.
+            self.new ≡ after_reply self.old who (WorkOp.Schedule item queue delay) reply) }
+        ensures unchanged { OnErr result (self.new ≡ self.old) }
+    {
+        if self.is_pending(item) {
+            self.entries += 1;
+            return Ok(Some(WorkReply::Sub(Submitted::Already)));
+        }
+        self.reschedule(who, item, queue, delay)
+    }
+
+    fn reschedule(
+        &mut self,
+        who: Who,
+        item: u32,
+        queue: u32,
+        delay: u32,
+    ) -> Result<Option<WorkReply>, NoMemory>
+        requires { self.old.entries < 2 ^ 32 - 1 }
+        ensures reply { IfOk result (λ reply.
+            reply ≡ work_reply self.old who (WorkOp.Reschedule item queue delay)) }
+        ensures next { IfOk result (λ reply.
+            self.new ≡ after_reply self.old who (WorkOp.Reschedule item queue delay) reply) }
+        ensures unchanged { OnErr result (self.new ≡ self.old) }
+    {
+        if delay == 0 {
+            let answer = submission(
+                &self.admissions,
+                &self.marks,
+                &self.queues,
+                Some(who.number),
+                item,
+                Some(queue),
+            );
+            submit(&mut self.admissions, item, answer)?;
+            disarm(&mut self.arms, item);
+            self.entries += 1;
+            return Ok(Some(WorkReply::Sub(answer)));
+        }
+        self.arms.reserve(1)?;
+        disarm(&mut self.arms, item);
+        arm(&mut self.arms, item, queue, self.time + u64::from(delay))?;
+        self.entries += 1;
+        Ok(Some(WorkReply::Armed))
+    }
+
+    fn remaining(&mut self, who: Who, item: u32) -> Option<WorkReply>
+        requires { self.old.entries < 2 ^ 32 - 1 }
+        ensures reply { result ≡ work_reply self.old who (WorkOp.Remaining item) }
+        ensures next { self.new ≡ after_reply self.old who (WorkOp.Remaining item) result }
+    {
+        self.entries += 1;
+        Some(WorkReply::Number(remaining(&self.arms, self.time, item)))
+    }
+
+    fn announce(&mut self, who: Who, ticks: u32) -> Result<Option<WorkReply>, NoMemory>
+        requires { self.old.entries < 2 ^ 32 - 1 }
+        ensures reply { IfOk result (λ reply.
+            reply ≡ work_reply self.old who (WorkOp.Announce ticks)) }
+        ensures next { IfOk result (λ reply.
+            self.new ≡ after_reply self.old who (WorkOp.Announce ticks) reply) }
+        ensures unchanged { OnErr result (self.new ≡ self.old) }
+    {
+        let alloc = *self.arms.allocator();
+        let time = self.time + u64::from(ticks);
+        let due = due(alloc, &self.arms, time)?;
+        let mut expiries = Vec::with_capacity(alloc, due.len())?;
+        self.admissions.reserve(due.len())?;
+        submit_arms(
+            &mut self.admissions,
+            &self.marks,
+            &self.queues,
+            &due,
+            &mut expiries,
+        );
+        expire(&mut self.arms, time);
+        self.time = time;
+        self.entries += 1;
+        Ok(Some(WorkReply::Now(time, Listed::from_vec(expiries))))
     }
 
     /// Whether the player may end its wait of this place.
@@ -391,6 +406,9 @@ pub fn work_next(
             state.close(Closing::Flush, who, place),
             WorkReply::Truth(true),
         )),
+        WorkOp::Schedule(item, queue, delay) => state.schedule(who, item, queue, delay),
+        WorkOp::Reschedule(item, queue, delay) => state.reschedule(who, item, queue, delay),
+        WorkOp::Remaining(item) => Ok(state.remaining(who, item)),
         WorkOp::Start(queue) => Ok(state.start(who, queue)),
         WorkOp::DrainStart(queue, plug) => state.drain_start(who, queue, plug),
         WorkOp::DrainDone(place) => Ok(reply_if(
@@ -398,6 +416,7 @@ pub fn work_next(
             WorkReply::Number(1),
         )),
         WorkOp::Unplug(queue) => Ok(state.unplug(who, queue)),
+        WorkOp::Announce(ticks) => state.announce(who, ticks),
         WorkOp::Begin(queue) => Ok(state.begin(who, queue)),
         WorkOp::End(queue) => Ok(state.end(who, queue)),
     }

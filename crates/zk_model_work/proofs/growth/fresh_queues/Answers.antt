@@ -1,6 +1,6 @@
 use Rattle.std.proofs.Common.{false}
 use Rattle.zk_model_work.proofs.Counts.{fresh_queues-more}
-use Rattle.zk_model_work.proofs.state.fresh_queues.Goals as goal
+use Rattle.zk_model_work.proofs.growth.fresh_queues.Goals as goal
 
 pub loop-number-preserved : goal.loop-number-preserved
 loop-number-preserved c =
