@@ -20,6 +20,7 @@ use Rattle.zk_scenario.specs.declared.form.Form.TheVariants as form
 use Rattle.zk_scenario.specs.declared.refused.Why.{Why}
 use Rattle.zk_scenario.specs.declared.refused.Why.TheVariants as why
 use Rattle.zk_scenario.specs.Forms.{named_text, IsUnreserved, IsPlain}
+use Rattle.zk_scenario.specs.Numbers.{is_delay, is_advance}
 use Rattle.zk_scenario.specs.Objects.{object_of, is_at}
 use Rattle.zk_scenario.specs.Players.{plays_script, is_thread, is_queue, is_item}
 use Rattle.zk_scenario.specs.Reading.{Reading, all_scripts, declared, begun, with_call, called, parts_of}
@@ -172,6 +173,17 @@ none_at kind decls ss (Some k) e none = is_some-none (script_of ss k) none
 -- a line to which no reason applies keeps what was read valid
 pub IsValid-after : (r : Reading) (f : Form) → verdict r f ≡ None → IsValid (parts_of r) → IsValid (parts_of (after r f))
 IsValid-after r f e valid = by_form f (Passes-verdict r f e) where
+  both_fit : (item queue : Named) → not (names is_item r.decls item && names is_queue r.decls queue) ≡ false
+      → (is_at is_item r.decls (object r.decls item) && is_at is_queue r.decls (object r.decls queue)) ≡ true
+  both_fit item queue named_both =
+      let both = and_parts (names is_item r.decls item) (names is_queue r.decls queue) (not-false (names is_item r.decls item && names is_queue r.decls queue) named_both) in
+      and_from (is_at is_item r.decls (object r.decls item)) (is_at is_queue r.decls (object r.decls queue)) (at_object is_item r.decls (named r.decls item) both.0) (at_object is_queue r.decls (named r.decls queue) both.1)
+
+  delayed_fits : (item queue : Named) (delay : ℕ) → not (names is_item r.decls item && names is_queue r.decls queue) ≡ false → not (is_delay delay) ≡ false
+      → (is_at is_item r.decls (object r.decls item) && is_at is_queue r.decls (object r.decls queue) && is_delay delay) ≡ true
+  delayed_fits item queue delay named_both within =
+      and_from (is_at is_item r.decls (object r.decls item) && is_at is_queue r.decls (object r.decls queue)) (is_delay delay) (both_fit item queue named_both) (not-false (is_delay delay) within)
+
   by_form : (f : Form) → Passes r f → IsValid (parts_of (after r f))
   by_form (form.Thread name prio user) p =
       let d = decl.Thread (named_text name) (unwrap_or prio (pos 0)) user in
@@ -195,9 +207,7 @@ IsValid-after r f e valid = by_form f (Passes-verdict r f e) where
       let named_item = not-false (names is_item r.decls item) p.well_named in
       called_fits r (call.Submit (ref r.decls item) None) valid p.placed (at_object is_item r.decls (named r.decls item) named_item) p.within
   by_form (form.Submit item (Some queue)) p =
-      let both = and_parts (names is_item r.decls item) (names is_queue r.decls queue) (not-false (names is_item r.decls item && names is_queue r.decls queue) p.well_named) in
-      called_fits r (call.Submit (ref r.decls item) (Some (ref r.decls queue))) valid p.placed
-      (and_from (is_at is_item r.decls (object r.decls item)) (is_at is_queue r.decls (object r.decls queue)) (at_object is_item r.decls (named r.decls item) both.0) (at_object is_queue r.decls (named r.decls queue) both.1)) p.within
+      called_fits r (call.Submit (ref r.decls item) (Some (ref r.decls queue))) valid p.placed (both_fit item queue p.well_named) p.within
   by_form (form.Cancel item) p =
       let named_item = not-false (names is_item r.decls item) p.well_named in
       called_fits r (call.Cancel (ref r.decls item)) valid p.placed (at_object is_item r.decls (named r.decls item) named_item) p.within
@@ -207,6 +217,13 @@ IsValid-after r f e valid = by_form f (Passes-verdict r f e) where
   by_form (form.Flush item) p =
       let named_item = not-false (names is_item r.decls item) p.well_named in
       called_fits r (call.Flush (ref r.decls item)) valid p.placed (at_object is_item r.decls (named r.decls item) named_item) p.within
+  by_form (form.Schedule item queue delay) p =
+      called_fits r (call.Schedule (ref r.decls item) (ref r.decls queue) delay) valid p.placed (delayed_fits item queue delay p.well_named p.in_range) p.within
+  by_form (form.Reschedule item queue delay) p =
+      called_fits r (call.Reschedule (ref r.decls item) (ref r.decls queue) delay) valid p.placed (delayed_fits item queue delay p.well_named p.in_range) p.within
+  by_form (form.Remaining item) p =
+      let named_item = not-false (names is_item r.decls item) p.well_named in
+      called_fits r (call.Remaining (ref r.decls item)) valid p.placed (at_object is_item r.decls (named r.decls item) named_item) p.within
   by_form (form.Start queue) p =
       let named_queue = not-false (names is_queue r.decls queue) p.well_named in
       called_fits r (call.Start (ref r.decls queue)) valid p.placed (at_object is_queue r.decls (named r.decls queue) named_queue) p.within
@@ -216,6 +233,7 @@ IsValid-after r f e valid = by_form f (Passes-verdict r f e) where
   by_form (form.Unplug queue) p =
       let named_queue = not-false (names is_queue r.decls queue) p.well_named in
       called_fits r (call.Unplug (ref r.decls queue)) valid p.placed (at_object is_queue r.decls (named r.decls queue) named_queue) p.within
+  by_form (form.Tick ticks) p = called_fits r (call.Tick ticks) valid p.placed (not-false (is_advance ticks) p.in_range) p.within
   by_form form.End p = subst (λ ss. IsValid (record { decls = r.decls; scripts = ss })) (sym (append-nil (all_scripts r))) valid
 
 -- a line that stands for a call is that call in the open script
@@ -228,9 +246,13 @@ after-call_of r (form.Submit item queue) c e = ap (called r) (same_Some _ _ e)
 after-call_of r (form.Cancel item) c e = ap (called r) (same_Some _ _ e)
 after-call_of r (form.CancelSync item) c e = ap (called r) (same_Some _ _ e)
 after-call_of r (form.Flush item) c e = ap (called r) (same_Some _ _ e)
+after-call_of r (form.Schedule item queue delay) c e = ap (called r) (same_Some _ _ e)
+after-call_of r (form.Reschedule item queue delay) c e = ap (called r) (same_Some _ _ e)
+after-call_of r (form.Remaining item) c e = ap (called r) (same_Some _ _ e)
 after-call_of r (form.Start queue) c e = ap (called r) (same_Some _ _ e)
 after-call_of r (form.Drain queue plug) c e = ap (called r) (same_Some _ _ e)
 after-call_of r (form.Unplug queue) c e = ap (called r) (same_Some _ _ e)
+after-call_of r (form.Tick ticks) c e = ap (called r) (same_Some _ _ e)
 after-call_of r form.End c e = absurd (cc)
 
 -- the name of a new object isn't reserved, and no other's
@@ -246,21 +268,30 @@ unreserved-names kind decls Reserved e = absurd (cc)
 -- a line to which no reason applies has its numbers in range and no reserved name
 pub IsPlain-verdict : (r : Reading) (f : Form) → verdict r f ≡ None → IsPlain f
 IsPlain-verdict r f e = by_form f (Passes-verdict r f e) where
+  unreserved-both : (item queue : Named) → not (names is_item r.decls item && names is_queue r.decls queue) ≡ false → IsUnreserved item × IsUnreserved queue
+  unreserved-both item queue named_both =
+      let both = and_parts (names is_item r.decls item) (names is_queue r.decls queue) (not-false (names is_item r.decls item && names is_queue r.decls queue) named_both) in
+      (unreserved-names is_item r.decls item both.0, unreserved-names is_queue r.decls queue both.1)
+
   by_form : (f : Form) → Passes r f → IsPlain f
   by_form (form.Thread name prio user) p = ((untaken r.decls name p.well_named).0, not-false (is_some prio) p.in_range)
   by_form (form.Queue name prio on) p = ((untaken r.decls name p.well_named).0, not-false (is_some prio) p.in_range)
   by_form (form.Item name) p = (untaken r.decls name p.well_named).0
   by_form (form.Script owner) p = unreserved-names plays_script r.decls owner (not-false (names plays_script r.decls owner) p.well_named)
   by_form (form.Submit item None) p = (unreserved-names is_item r.decls item (not-false (names is_item r.decls item) p.well_named), tt)
-  by_form (form.Submit item (Some queue)) p =
-      let both = and_parts (names is_item r.decls item) (names is_queue r.decls queue) (not-false (names is_item r.decls item && names is_queue r.decls queue) p.well_named) in
-      (unreserved-names is_item r.decls item both.0, unreserved-names is_queue r.decls queue both.1)
+  by_form (form.Submit item (Some queue)) p = unreserved-both item queue p.well_named
   by_form (form.Cancel item) p = unreserved-names is_item r.decls item (not-false (names is_item r.decls item) p.well_named)
   by_form (form.CancelSync item) p = unreserved-names is_item r.decls item (not-false (names is_item r.decls item) p.well_named)
   by_form (form.Flush item) p = unreserved-names is_item r.decls item (not-false (names is_item r.decls item) p.well_named)
+  by_form (form.Schedule item queue delay) p =
+      let both = unreserved-both item queue p.well_named in (both.0, both.1, not-false (is_delay delay) p.in_range)
+  by_form (form.Reschedule item queue delay) p =
+      let both = unreserved-both item queue p.well_named in (both.0, both.1, not-false (is_delay delay) p.in_range)
+  by_form (form.Remaining item) p = unreserved-names is_item r.decls item (not-false (names is_item r.decls item) p.well_named)
   by_form (form.Start queue) p = unreserved-names is_queue r.decls queue (not-false (names is_queue r.decls queue) p.well_named)
   by_form (form.Drain queue plug) p = unreserved-names is_queue r.decls queue (not-false (names is_queue r.decls queue) p.well_named)
   by_form (form.Unplug queue) p = unreserved-names is_queue r.decls queue (not-false (names is_queue r.decls queue) p.well_named)
+  by_form (form.Tick ticks) p = not-false (is_advance ticks) p.in_range
   by_form form.End p = tt
 
 -- the same, where what was read after is given by an equation

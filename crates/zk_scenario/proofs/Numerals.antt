@@ -10,7 +10,7 @@ use Rattle.std.proofs.lemmas.Option.{cond_some, option_and_then_some, same_Some}
 use Rattle.std.proofs.lemmas.Int.{ints}
 use Rattle.std.proofs.lemmas.Fmt.{decimal-digits_value, decimal_digit, digits_decimal, digits_value-decimal, first_decimal}
 use Rattle.std.proofs.lemmas.Str.Parse.{IsNumeralModel, numerals_by_value}
-use Rattle.zk_scenario.specs.Numbers.{IsPriority, is_number, number_of, priority_of, priority_above, priority_below}
+use Rattle.zk_scenario.specs.Numbers.{IsPriority, is_number, number_of, narrowed, ticks_of, is_delay, is_advance, priority_of, priority_above, priority_below}
 
 -- digits alone, as std's lemmas on numerals take it
 pub numerals : IsNumeralModel (λ ds. list_all is_ascii_digit ds ≡ true) (digits_value 10)
@@ -32,6 +32,26 @@ number_spelled (b ∷ bs) n said small =
     let parts = and_parts (list_all is_ascii_digit (b ∷ bs)) (not (eqb b 48) || eqb (length bs) 0) spelled.0 in
     let fits : digits_value 10 (b ∷ bs) < 2 ^ 64 = subst (λ (v : ℕ). v < 2 ^ 64) (sym spelled.1) small in
     sym (decimal-digits_value numerals (b ∷ bs) parts.0 (omega arith) (leading b bs parts.1) fits) ∙ ap decimal spelled.1
+
+-- a delay and an advance are at most 1,000,000
+pub delay_is_small : (ticks : ℕ) → is_delay ticks ≡ true → ticks ≤ 1000000
+delay_is_small ticks within = leb-true ticks 1000000 within
+
+pub advance_is_small : (ticks : ℕ) → is_advance ticks ≡ true → ticks ≤ 1000000
+advance_is_small ticks within = leb-true ticks 1000000 (and_parts (leb 1 ticks) (leb ticks 1000000) within).1
+
+-- a number that is narrowed to a small one is that one
+narrowed-small : (n ticks : ℕ) → narrowed n ≡ ticks → ticks ≤ 1000000 → n ≡ ticks
+narrowed-small n ticks same small = omega arith
+
+-- a word that spells a small number of ticks is the number's text
+pub ticks_spelled : (word : List ℕ) (ticks : ℕ) → ticks_of word ≡ Some ticks → ticks ≤ 1000000 → word ≡ decimal ticks
+ticks_spelled word ticks said small = by_number (number_of word) refl said where
+  by_number : (n : Option ℕ) → number_of word ≡ n → option_map narrowed n ≡ Some ticks → word ≡ decimal ticks
+  by_number None is_none given = absurd (cc)
+  by_number (Some n) is_n given =
+      let same = narrowed-small n ticks (same_Some (narrowed n) ticks given) small in
+      number_spelled word ticks (is_n ∙ ap Some same) (omega arith)
 
 nothing_is_none : (prio : Option ℤ) → None ≡ prio → IsSome prio → ⊥
 nothing_is_none None none within = absurd (cc)
@@ -91,6 +111,12 @@ number_of-decimal zero small = ap number_of (decimal_digit 0 (omega arith))
 number_of-decimal (suc n) small =
     number_of-digits (decimal (suc n)) (digits_decimal numerals (suc n) small) (first_decimal (suc n) (omega arith) small)
     ∙ ap Some (digits_value-decimal numerals (suc n) small)
+
+-- a small number of ticks is spelled by its text
+pub ticks_of-decimal : (ticks : ℕ) → ticks ≤ 1000000 → ticks_of (decimal ticks) ≡ Some ticks
+ticks_of-decimal ticks small =
+    let same : narrowed ticks ≡ ticks = omega arith in
+    ap (option_map narrowed) (number_of-decimal ticks (omega arith)) ∙ ap Some same
 
 -- digits that spell a number to 15 spell it as a priority too
 priority_of-digits : (ds : List ℕ) (n : ℕ) → list_all is_ascii_digit ds ≡ true → number_of ds ≡ Some n → n ≤ 15 → priority_of ds ≡ Some (Some (pos n))

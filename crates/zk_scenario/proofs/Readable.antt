@@ -1,20 +1,20 @@
 -- The text of a form is read as the form.
-use Rattle.std.proofs.Common.{◌≡◌, Bool, true, false, Option, Some, None, refl, ap, ◌∙◌}
+use Rattle.std.proofs.Common.{◌≡◌, ℕ, ◌≤◌, Bool, true, false, Option, Some, None, refl, ap, ◌∙◌, arith}
 use Rattle.std.specs.Prelude.{ℤ, pos, unwrap_or}
-use Rattle.std.specs.Fmt.{signed_decimal}
+use Rattle.std.specs.Fmt.{decimal, signed_decimal}
 use Rattle.std.proofs.lemmas.Bool.{cond-true}
 use Rattle.zk_base.specs.Names.{is_name}
 use Rattle.zk_scenario.specs.declared.form.Named.{Named}
 use Rattle.zk_scenario.specs.declared.form.Named.TheVariants.{Plain, Reserved}
 use Rattle.zk_scenario.specs.declared.form.Form.{Form}
-use Rattle.zk_scenario.specs.declared.form.Form.TheVariants.{Thread, Queue, Item, Script, Submit, Cancel, CancelSync, Flush, Start, Drain, Unplug, End}
+use Rattle.zk_scenario.specs.declared.form.Form.TheVariants.{Thread, Queue, Item, Script, Submit, Cancel, CancelSync, Flush, Schedule, Reschedule, Remaining, Start, Drain, Unplug, Tick, End}
 use Rattle.zk_scenario.specs.declared.form.Line.TheVariants.{Formed}
 use Rattle.zk_scenario.specs.Words.{words_of}
 use Rattle.zk_scenario.specs.Numbers.{priority_of, IsPriority}
 use Rattle.zk_scenario.specs.Text.{line_text, mode_text, state_text, plug_text}
 use Rattle.zk_scenario.specs.Forms.{named_of, mode_of, state_of, plug_of, line_of_words, line_of, named_text, form_words, IsNamed, CanBeSpelled}
-use Rattle.zk_scenario.proofs.Numerals.{priority_of-signed_decimal}
-use Rattle.zk_scenario.proofs.Unspaced.{is_unspaced, words_of-line_text, is_unspaced-name, is_unspaced-signed_decimal}
+use Rattle.zk_scenario.proofs.Numerals.{priority_of-signed_decimal, delay_is_small, advance_is_small, ticks_of-decimal}
+use Rattle.zk_scenario.proofs.Unspaced.{is_unspaced, words_of-line_text, is_unspaced-name, is_unspaced-decimal, is_unspaced-signed_decimal}
 
 -- a name is read as itself
 named_of-name : (name : Named) → IsNamed name → named_of (named_text name) ≡ Some name
@@ -46,6 +46,9 @@ unspaced_priority : (prio : Option ℤ) → IsPriority prio → is_unspaced (sig
 unspaced_priority None within = absurd within
 unspaced_priority (Some p) within = is_unspaced-signed_decimal p within.0 within.1
 
+unspaced_ticks : (ticks : ℕ) → ticks ≤ 1000000 → is_unspaced (decimal ticks) ≡ true
+unspaced_ticks ticks small = is_unspaced-decimal ticks (omega arith)
+
 unspaced_mode : (user : Bool) → is_unspaced (mode_text user) ≡ true
 unspaced_mode true = refl
 unspaced_mode false = refl
@@ -74,9 +77,17 @@ line_of_words-form (Submit item (Some queue)) fine =
 line_of_words-form (Cancel item) fine = let i = named_of-name item fine in simp i
 line_of_words-form (CancelSync item) fine = let i = named_of-name item fine in simp i
 line_of_words-form (Flush item) fine = let i = named_of-name item fine in simp i
+line_of_words-form (Schedule item queue delay) fine =
+    let i = named_of-name item fine.0 in let q = named_of-name queue fine.1 in let d = ticks_of-decimal delay (delay_is_small delay fine.2) in
+    simp (i, q, d)
+line_of_words-form (Reschedule item queue delay) fine =
+    let i = named_of-name item fine.0 in let q = named_of-name queue fine.1 in let d = ticks_of-decimal delay (delay_is_small delay fine.2) in
+    simp (i, q, d)
+line_of_words-form (Remaining item) fine = let i = named_of-name item fine in simp i
 line_of_words-form (Start queue) fine = let q = named_of-name queue fine in simp q
 line_of_words-form (Drain queue plug) fine = let q = named_of-name queue fine in let m = plug_of-text plug in simp (q, m)
 line_of_words-form (Unplug queue) fine = let q = named_of-name queue fine in simp q
+line_of_words-form (Tick ticks) fine = let t = ticks_of-decimal ticks (advance_is_small ticks fine) in simp t
 line_of_words-form End fine = refl
 
 -- the words of a form are those of its line
@@ -93,9 +104,15 @@ words_of-form (Submit item (Some queue)) fine =
 words_of-form (Cancel item) fine = words_of-line_text _ _ refl (unspaced_name item fine, tt)
 words_of-form (CancelSync item) fine = words_of-line_text _ _ refl (unspaced_name item fine, tt)
 words_of-form (Flush item) fine = words_of-line_text _ _ refl (unspaced_name item fine, tt)
+words_of-form (Schedule item queue delay) fine =
+    words_of-line_text _ _ refl (unspaced_name item fine.0, (unspaced_name queue fine.1, (unspaced_ticks delay (delay_is_small delay fine.2), tt)))
+words_of-form (Reschedule item queue delay) fine =
+    words_of-line_text _ _ refl (unspaced_name item fine.0, (unspaced_name queue fine.1, (unspaced_ticks delay (delay_is_small delay fine.2), tt)))
+words_of-form (Remaining item) fine = words_of-line_text _ _ refl (unspaced_name item fine, tt)
 words_of-form (Start queue) fine = words_of-line_text _ _ refl (unspaced_name queue fine, tt)
 words_of-form (Drain queue plug) fine = words_of-line_text _ _ refl (unspaced_name queue fine, (unspaced_plug plug, tt))
 words_of-form (Unplug queue) fine = words_of-line_text _ _ refl (unspaced_name queue fine, tt)
+words_of-form (Tick ticks) fine = words_of-line_text _ _ refl (unspaced_ticks ticks (advance_is_small ticks fine), tt)
 words_of-form End fine = words_of-line_text _ _ refl tt
 
 -- the text of a form whose names are names and whose numbers are in range is read as that form

@@ -9,16 +9,16 @@ use Rattle.zk_base.specs.Names.{is_name, is_spelled}
 use Rattle.zk_scenario.specs.declared.form.Named.{Named}
 use Rattle.zk_scenario.specs.declared.form.Named.TheVariants.{Plain, Reserved}
 use Rattle.zk_scenario.specs.declared.form.Form.{Form}
-use Rattle.zk_scenario.specs.declared.form.Form.TheVariants.{Thread, Queue, Item, Script, Submit, Cancel, CancelSync, Flush, Start, Drain, Unplug, End}
+use Rattle.zk_scenario.specs.declared.form.Form.TheVariants.{Thread, Queue, Item, Script, Submit, Cancel, CancelSync, Flush, Schedule, Reschedule, Remaining, Start, Drain, Unplug, Tick, End}
 use Rattle.zk_scenario.specs.declared.form.Line.TheVariants.{Unbuilt, Misspelled, Formed}
 use Rattle.zk_scenario.specs.declared.keyword.Keyword.{Keyword}
 use Rattle.zk_scenario.specs.declared.keyword.Keyword.TheVariants as keyword
 use Rattle.zk_scenario.specs.Words.{words_of}
-use Rattle.zk_scenario.specs.Numbers.{priority_of}
+use Rattle.zk_scenario.specs.Numbers.{priority_of, ticks_of}
 use Rattle.zk_scenario.specs.Keywords.{keywords, keyword_text, keyword_of, is_unbuilt}
 use Rattle.zk_scenario.specs.Text.{line_text, mode_text, state_text, plug_text}
-use Rattle.zk_scenario.specs.Forms.{named_of, one_of, mode_of, state_of, plug_of, made_of_two, made_of_three, thread_form, queue_form, item_form, script_form, submit_form, cancel_form, cancel_sync_form, flush_form, start_form, drain_form, unplug_form, end_form, form_of, formed, formless, line_after, line_of_words, line_of, named_text, form_words, IsUnreserved, IsPlain, IsNamed, CanBeSpelled}
-use Rattle.zk_scenario.proofs.Numerals.{priority_spelled}
+use Rattle.zk_scenario.specs.Forms.{named_of, one_of, mode_of, state_of, plug_of, made_of_two, made_of_three, thread_form, queue_form, item_form, script_form, submit_form, cancel_form, cancel_sync_form, flush_form, schedule_form, reschedule_form, remaining_form, start_form, drain_form, unplug_form, tick_form, end_form, form_of, formed, formless, line_after, line_of_words, line_of, named_text, form_words, IsUnreserved, IsPlain, IsNamed, CanBeSpelled}
+use Rattle.zk_scenario.proofs.Numerals.{delay_is_small, advance_is_small, ticks_spelled, priority_spelled}
 
 plain_same : (word name : List ℕ) → Plain word ≡ Plain name → word ≡ name
 plain_same word name same = cc
@@ -160,6 +160,38 @@ flush_spelled (item ∷ []) form said plain =
     (λ fine. let i = named_spelled item part.0 part.1 fine in (cc, i.1)) plain
 flush_spelled (item ∷ more ∷ words) form said plain = absurd (cc)
 
+schedule_spelled : (words : List (List ℕ)) (form : Form) → schedule_form words ≡ Some form → IsPlain form → Spells (codes "schedule" ∷ words) form
+schedule_spelled [] form said plain = absurd (cc)
+schedule_spelled (item ∷ []) form said plain = absurd (cc)
+schedule_spelled (item ∷ queue ∷ []) form said plain = absurd (cc)
+schedule_spelled (item ∷ queue ∷ delay ∷ []) form said plain =
+    let parts = three_parts Schedule (named_of item) (named_of queue) (ticks_of delay) form said in
+    subst (λ (f : Form). IsPlain f → Spells (codes "schedule" ∷ item ∷ queue ∷ delay ∷ []) f) parts.6
+    (λ fine. let i = named_spelled item parts.0 parts.3 fine.0 in
+    let q = named_spelled queue parts.1 parts.4 fine.1 in
+    let d = ticks_spelled delay parts.2 parts.5 (delay_is_small parts.2 fine.2) in (cc, (i.1, q.1, fine.2))) plain
+schedule_spelled (item ∷ queue ∷ delay ∷ more ∷ words) form said plain = absurd (cc)
+
+reschedule_spelled : (words : List (List ℕ)) (form : Form) → reschedule_form words ≡ Some form → IsPlain form → Spells (codes "reschedule" ∷ words) form
+reschedule_spelled [] form said plain = absurd (cc)
+reschedule_spelled (item ∷ []) form said plain = absurd (cc)
+reschedule_spelled (item ∷ queue ∷ []) form said plain = absurd (cc)
+reschedule_spelled (item ∷ queue ∷ delay ∷ []) form said plain =
+    let parts = three_parts Reschedule (named_of item) (named_of queue) (ticks_of delay) form said in
+    subst (λ (f : Form). IsPlain f → Spells (codes "reschedule" ∷ item ∷ queue ∷ delay ∷ []) f) parts.6
+    (λ fine. let i = named_spelled item parts.0 parts.3 fine.0 in
+    let q = named_spelled queue parts.1 parts.4 fine.1 in
+    let d = ticks_spelled delay parts.2 parts.5 (delay_is_small parts.2 fine.2) in (cc, (i.1, q.1, fine.2))) plain
+reschedule_spelled (item ∷ queue ∷ delay ∷ more ∷ words) form said plain = absurd (cc)
+
+remaining_spelled : (words : List (List ℕ)) (form : Form) → remaining_form words ≡ Some form → IsPlain form → Spells (codes "remaining" ∷ words) form
+remaining_spelled [] form said plain = absurd (cc)
+remaining_spelled (item ∷ []) form said plain =
+    let part = one_part Remaining (named_of item) form said in
+    subst (λ (f : Form). IsPlain f → Spells (codes "remaining" ∷ item ∷ []) f) part.2
+    (λ fine. let i = named_spelled item part.0 part.1 fine in (cc, i.1)) plain
+remaining_spelled (item ∷ more ∷ words) form said plain = absurd (cc)
+
 start_spelled : (words : List (List ℕ)) (form : Form) → start_form words ≡ Some form → IsPlain form → Spells (codes "start" ∷ words) form
 start_spelled [] form said plain = absurd (cc)
 start_spelled (queue ∷ []) form said plain =
@@ -186,6 +218,14 @@ unplug_spelled (queue ∷ []) form said plain =
     (λ fine. let q = named_spelled queue part.0 part.1 fine in (cc, q.1)) plain
 unplug_spelled (queue ∷ more ∷ words) form said plain = absurd (cc)
 
+tick_spelled : (words : List (List ℕ)) (form : Form) → tick_form words ≡ Some form → IsPlain form → Spells (codes "tick" ∷ words) form
+tick_spelled [] form said plain = absurd (cc)
+tick_spelled (ticks ∷ []) form said plain =
+    let part = one_part Tick (ticks_of ticks) form said in
+    subst (λ (f : Form). IsPlain f → Spells (codes "tick" ∷ ticks ∷ []) f) part.2
+    (λ fine. let t = ticks_spelled ticks part.0 part.1 (advance_is_small part.0 fine) in (cc, fine)) plain
+tick_spelled (ticks ∷ more ∷ words) form said plain = absurd (cc)
+
 end_spelled : (words : List (List ℕ)) (form : Form) → end_form words ≡ Some form → IsPlain form → Spells (codes "end" ∷ words) form
 end_spelled [] form said plain = subst (λ (f : Form). Spells (codes "end" ∷ []) f) (same_Some End form said) (refl, tt)
 end_spelled (more ∷ words) form said plain = absurd (cc)
@@ -200,9 +240,13 @@ form_spelled keyword.Submit words form said plain = submit_spelled words form sa
 form_spelled keyword.Cancel words form said plain = cancel_spelled words form said plain
 form_spelled keyword.CancelSync words form said plain = cancel_sync_spelled words form said plain
 form_spelled keyword.Flush words form said plain = flush_spelled words form said plain
+form_spelled keyword.Schedule words form said plain = schedule_spelled words form said plain
+form_spelled keyword.Reschedule words form said plain = reschedule_spelled words form said plain
+form_spelled keyword.Remaining words form said plain = remaining_spelled words form said plain
 form_spelled keyword.Start words form said plain = start_spelled words form said plain
 form_spelled keyword.Drain words form said plain = drain_spelled words form said plain
 form_spelled keyword.Unplug words form said plain = unplug_spelled words form said plain
+form_spelled keyword.Tick words form said plain = tick_spelled words form said plain
 form_spelled keyword.End words form said plain = end_spelled words form said plain
 
 -- what a search finds passes its test

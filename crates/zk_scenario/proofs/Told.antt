@@ -31,7 +31,7 @@ use Rattle.zk_scenario.specs.Parts.{Parts}
 use Rattle.zk_scenario.specs.Players.{plays_script, is_queue, is_item, name_of}
 use Rattle.zk_scenario.specs.Reading.{Reading, start, with_call, called, closed}
 use Rattle.zk_scenario.specs.Spelling.{decl_line, name_at, ref_name, call_line, begun_lines, script_lines, body_lines, lines_of, lines_text, text_of}
-use Rattle.zk_scenario.specs.Text.{line_text, script_words, submit_words, cancel_words, cancel_sync_words, flush_words, start_words, drain_words, unplug_words, end_words}
+use Rattle.zk_scenario.specs.Text.{line_text, script_words, submit_words, cancel_words, cancel_sync_words, flush_words, schedule_words, reschedule_words, remaining_words, start_words, drain_words, unplug_words, end_words}
 use Rattle.zk_scenario.specs.Verdict.{names, verdict, object, ref, after}
 use Rattle.zk_scenario.proofs.Kept.{Passes, Passes-verdict, IsPlain-verdict, nothing_begun, is_some-none, is_some-some, or_none}
 use Rattle.zk_scenario.proofs.Spelled.{line_spelled}
@@ -96,6 +96,13 @@ read-after r f e = by_form f (Passes-verdict r f e) where
       ap (λ name. line_text (submit_words name (option_map (ref_name r.decls) (option_map (ref r.decls) queue)))) (name_at-object is_item r.decls item here)
       ∙ ap (λ o. line_text (submit_words (named_text item) o)) same
 
+  both_named : (words : List ℕ → List ℕ → List (List ℕ)) (item queue : Named) → not (names is_item r.decls item && names is_queue r.decls queue) ≡ false
+      → line_text (words (ref_name r.decls (ref r.decls item)) (ref_name r.decls (ref r.decls queue))) ≡ line_text (words (named_text item) (named_text queue))
+  both_named words item queue named_both =
+      let both = and_parts (names is_item r.decls item) (names is_queue r.decls queue) (not-false (names is_item r.decls item && names is_queue r.decls queue) named_both) in
+      ap (λ name. line_text (words name (ref_name r.decls (ref r.decls queue)))) (name_at-object is_item r.decls item both.0)
+      ∙ ap (λ name. line_text (words (named_text item) name)) (name_at-object is_queue r.decls queue both.1)
+
   read_call : (c : Call) (text : List ℕ) → not (is_some r.current) ≡ false → call_line r.decls c ≡ text → read_lines_of (called r c) ≡ read_lines_of r ++ text ∷ []
   read_call c text placed same =
       let inside = is_some-some r.current (not-false (is_some r.current) placed) in
@@ -126,12 +133,19 @@ read-after r f e = by_form f (Passes-verdict r f e) where
       read_call (call.CancelSync (ref r.decls item)) _ p.placed (ap (λ name. line_text (cancel_sync_words name)) (name_at-object is_item r.decls item (not-false (names is_item r.decls item) p.well_named)))
   by_form (form.Flush item) p =
       read_call (call.Flush (ref r.decls item)) _ p.placed (ap (λ name. line_text (flush_words name)) (name_at-object is_item r.decls item (not-false (names is_item r.decls item) p.well_named)))
+  by_form (form.Schedule item queue delay) p =
+      read_call (call.Schedule (ref r.decls item) (ref r.decls queue) delay) _ p.placed (both_named (λ i q. schedule_words i q delay) item queue p.well_named)
+  by_form (form.Reschedule item queue delay) p =
+      read_call (call.Reschedule (ref r.decls item) (ref r.decls queue) delay) _ p.placed (both_named (λ i q. reschedule_words i q delay) item queue p.well_named)
+  by_form (form.Remaining item) p =
+      read_call (call.Remaining (ref r.decls item)) _ p.placed (ap (λ name. line_text (remaining_words name)) (name_at-object is_item r.decls item (not-false (names is_item r.decls item) p.well_named)))
   by_form (form.Start queue) p =
       read_call (call.Start (ref r.decls queue)) _ p.placed (ap (λ name. line_text (start_words name)) (name_at-object is_queue r.decls queue (not-false (names is_queue r.decls queue) p.well_named)))
   by_form (form.Drain queue plug) p =
       read_call (call.Drain (ref r.decls queue) plug) _ p.placed (ap (λ name. line_text (drain_words name plug)) (name_at-object is_queue r.decls queue (not-false (names is_queue r.decls queue) p.well_named)))
   by_form (form.Unplug queue) p =
       read_call (call.Unplug (ref r.decls queue)) _ p.placed (ap (λ name. line_text (unplug_words name)) (name_at-object is_queue r.decls queue (not-false (names is_queue r.decls queue) p.well_named)))
+  by_form (form.Tick ticks) p = read_call (call.Tick ticks) _ p.placed refl
   by_form form.End p =
       let inside = is_some-some r.current (not-false (is_some r.current) p.placed) in
       ap (λ o. read_so r.decls (r.scripts ++ option_to_list o) None) inside.1 ∙ read-closed r.decls r.scripts inside.0

@@ -4,15 +4,15 @@ use Rattle.zk_base.specs.Names.{is_name, is_spelled}
 use Rattle.zk_scenario.specs.declared.form.Named.{Named}
 use Rattle.zk_scenario.specs.declared.form.Named.TheVariants.{Plain, Reserved}
 use Rattle.zk_scenario.specs.declared.form.Form.{Form}
-use Rattle.zk_scenario.specs.declared.form.Form.TheVariants.{Thread, Queue, Item, Script, Submit, Cancel, CancelSync, Flush, Start, Drain, Unplug, End}
+use Rattle.zk_scenario.specs.declared.form.Form.TheVariants.{Thread, Queue, Item, Script, Submit, Cancel, CancelSync, Flush, Schedule, Reschedule, Remaining, Start, Drain, Unplug, Tick, End}
 use Rattle.zk_scenario.specs.declared.form.Line.{Line}
 use Rattle.zk_scenario.specs.declared.form.Line.TheVariants.{Unbuilt, Misspelled, Formed}
 use Rattle.zk_scenario.specs.declared.keyword.Keyword.{Keyword}
 use Rattle.zk_scenario.specs.declared.keyword.Keyword.TheVariants as keyword
 use Rattle.zk_scenario.specs.Words.{words_of}
-use Rattle.zk_scenario.specs.Numbers.{priority_of, IsPriority}
+use Rattle.zk_scenario.specs.Numbers.{priority_of, IsPriority, ticks_of, is_delay, is_advance}
 use Rattle.zk_scenario.specs.Keywords.{keyword_of, is_unbuilt}
-use Rattle.zk_scenario.specs.Text.{thread_words, queue_words, item_words, script_words, submit_words, cancel_words, cancel_sync_words, flush_words, start_words, drain_words, unplug_words, end_words}
+use Rattle.zk_scenario.specs.Text.{thread_words, queue_words, item_words, script_words, submit_words, cancel_words, cancel_sync_words, flush_words, schedule_words, reschedule_words, remaining_words, start_words, drain_words, unplug_words, tick_words, end_words}
 
 -- a word where a name is asked for
 abbrev pub named_of : List ℕ → Option Named
@@ -86,6 +86,21 @@ abbrev pub flush_form : List (List ℕ) → Option Form
 flush_form (item ∷ []) = option_map Flush (named_of item)
 flush_form _ = None
 
+-- schedule ITEM QUEUE DELAY
+abbrev pub schedule_form : List (List ℕ) → Option Form
+schedule_form (item ∷ queue ∷ delay ∷ []) = made_of_three Schedule (named_of item) (named_of queue) (ticks_of delay)
+schedule_form _ = None
+
+-- reschedule ITEM QUEUE DELAY
+abbrev pub reschedule_form : List (List ℕ) → Option Form
+reschedule_form (item ∷ queue ∷ delay ∷ []) = made_of_three Reschedule (named_of item) (named_of queue) (ticks_of delay)
+reschedule_form _ = None
+
+-- remaining ITEM
+abbrev pub remaining_form : List (List ℕ) → Option Form
+remaining_form (item ∷ []) = option_map Remaining (named_of item)
+remaining_form _ = None
+
 -- start QUEUE
 abbrev pub start_form : List (List ℕ) → Option Form
 start_form (queue ∷ []) = option_map Start (named_of queue)
@@ -100,6 +115,11 @@ drain_form _ = None
 abbrev pub unplug_form : List (List ℕ) → Option Form
 unplug_form (queue ∷ []) = option_map Unplug (named_of queue)
 unplug_form _ = None
+
+-- tick TICKS
+abbrev pub tick_form : List (List ℕ) → Option Form
+tick_form (ticks ∷ []) = option_map Tick (ticks_of ticks)
+tick_form _ = None
 
 -- end
 abbrev pub end_form : List (List ℕ) → Option Form
@@ -116,9 +136,13 @@ form_of keyword.Submit words = submit_form words
 form_of keyword.Cancel words = cancel_form words
 form_of keyword.CancelSync words = cancel_sync_form words
 form_of keyword.Flush words = flush_form words
+form_of keyword.Schedule words = schedule_form words
+form_of keyword.Reschedule words = reschedule_form words
+form_of keyword.Remaining words = remaining_form words
 form_of keyword.Start words = start_form words
 form_of keyword.Drain words = drain_form words
 form_of keyword.Unplug words = unplug_form words
+form_of keyword.Tick words = tick_form words
 form_of keyword.End words = end_form words
 
 -- a form, or a wrong spelling where there is none
@@ -159,9 +183,13 @@ form_words (Submit item queue) = submit_words (named_text item) (option_map name
 form_words (Cancel item) = cancel_words (named_text item)
 form_words (CancelSync item) = cancel_sync_words (named_text item)
 form_words (Flush item) = flush_words (named_text item)
+form_words (Schedule item queue delay) = schedule_words (named_text item) (named_text queue) delay
+form_words (Reschedule item queue delay) = reschedule_words (named_text item) (named_text queue) delay
+form_words (Remaining item) = remaining_words (named_text item)
 form_words (Start queue) = start_words (named_text queue)
 form_words (Drain queue plug) = drain_words (named_text queue) plug
 form_words (Unplug queue) = unplug_words (named_text queue)
+form_words (Tick ticks) = tick_words ticks
 form_words End = end_words
 
 -- a name that isn't reserved
@@ -179,9 +207,13 @@ IsPlain (Submit item queue) = IsUnreserved item × IfSome queue IsUnreserved
 IsPlain (Cancel item) = IsUnreserved item
 IsPlain (CancelSync item) = IsUnreserved item
 IsPlain (Flush item) = IsUnreserved item
+IsPlain (Schedule item queue delay) = IsUnreserved item × IsUnreserved queue × (is_delay delay ≡ true)
+IsPlain (Reschedule item queue delay) = IsUnreserved item × IsUnreserved queue × (is_delay delay ≡ true)
+IsPlain (Remaining item) = IsUnreserved item
 IsPlain (Start queue) = IsUnreserved queue
 IsPlain (Drain queue plug) = IsUnreserved queue
 IsPlain (Unplug queue) = IsUnreserved queue
+IsPlain (Tick ticks) = is_advance ticks ≡ true
 IsPlain End = Unit {0}
 
 -- a word that is a name
@@ -199,7 +231,11 @@ CanBeSpelled (Submit item queue) = IsNamed item × IfSome queue IsNamed
 CanBeSpelled (Cancel item) = IsNamed item
 CanBeSpelled (CancelSync item) = IsNamed item
 CanBeSpelled (Flush item) = IsNamed item
+CanBeSpelled (Schedule item queue delay) = IsNamed item × IsNamed queue × (is_delay delay ≡ true)
+CanBeSpelled (Reschedule item queue delay) = IsNamed item × IsNamed queue × (is_delay delay ≡ true)
+CanBeSpelled (Remaining item) = IsNamed item
 CanBeSpelled (Start queue) = IsNamed queue
 CanBeSpelled (Drain queue plug) = IsNamed queue
 CanBeSpelled (Unplug queue) = IsNamed queue
+CanBeSpelled (Tick ticks) = is_advance ticks ≡ true
 CanBeSpelled End = Unit {0}

@@ -2,7 +2,7 @@ use Rattle.std.specs.Prelude.{ℕ, Bool, ◌||◌, List, [], ◌∷◌, Option, 
 use Rattle.std.specs.List.{list_any}
 use Rattle.std.specs.Str.{bytes_eq}
 use Rattle.zk_scenario.specs.declared.keyword.Keyword.{Keyword}
-use Rattle.zk_scenario.specs.declared.keyword.Keyword.TheVariants.{Thread, Queue, Item, Script, Submit, Cancel, CancelSync, Flush, Start, Drain, Unplug, End}
+use Rattle.zk_scenario.specs.declared.keyword.Keyword.TheVariants.{Thread, Queue, Item, Script, Submit, Cancel, CancelSync, Flush, Schedule, Reschedule, Remaining, Start, Drain, Unplug, Tick, End}
 
 -- the first word of a form
 abbrev pub keyword_text : Keyword → List ℕ
@@ -14,14 +14,19 @@ keyword_text Submit = codes "submit"
 keyword_text Cancel = codes "cancel"
 keyword_text CancelSync = codes "cancelsync"
 keyword_text Flush = codes "flush"
+keyword_text Schedule = codes "schedule"
+keyword_text Reschedule = codes "reschedule"
+keyword_text Remaining = codes "remaining"
 keyword_text Start = codes "start"
 keyword_text Drain = codes "drain"
 keyword_text Unplug = codes "unplug"
+keyword_text Tick = codes "tick"
 keyword_text End = codes "end"
 
 -- the first words of the calls that are built
 abbrev pub call_keywords : List Keyword
-call_keywords = Submit ∷ Cancel ∷ CancelSync ∷ Flush ∷ Start ∷ Drain ∷ Unplug ∷ []
+call_keywords =
+    Submit ∷ Cancel ∷ CancelSync ∷ Flush ∷ Schedule ∷ Reschedule ∷ Remaining ∷ Start ∷ Drain ∷ Unplug ∷ Tick ∷ []
 
 -- the first words of the forms that are built
 abbrev pub keywords : List Keyword
@@ -36,10 +41,9 @@ abbrev pub unbuilt_declarations : List (List ℕ)
 unbuilt_declarations =
     codes "sem" ∷ codes "msgq" ∷ codes "signal" ∷ codes "listener" ∷ codes "sub" ∷ codes "chan" ∷ codes "allow" ∷ []
 
--- the calls to items, queues and the clock that aren't built
+-- the calls to items and queues that aren't built
 abbrev pub unbuilt_work_calls : List (List ℕ)
-unbuilt_work_calls =
-    codes "schedule" ∷ codes "reschedule" ∷ codes "remaining" ∷ codes "busy" ∷ codes "tick" ∷ []
+unbuilt_work_calls = codes "busy" ∷ []
 
 -- the calls to semaphores and message queues that aren't built
 abbrev pub unbuilt_wait_calls : List (List ℕ)

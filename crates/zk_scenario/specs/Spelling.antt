@@ -6,11 +6,11 @@ use Rattle.zk_scenario.specs.declared.types.Decl.TheVariants.{Thread, Queue, Ite
 use Rattle.zk_scenario.specs.declared.types.Ref.{Ref}
 use Rattle.zk_scenario.specs.declared.types.Ref.TheVariants.{Known}
 use Rattle.zk_scenario.specs.declared.types.Call.{Call}
-use Rattle.zk_scenario.specs.declared.types.Call.TheVariants.{Submit, Cancel, CancelSync, Flush, Start, Drain, Unplug}
+use Rattle.zk_scenario.specs.declared.types.Call.TheVariants.{Submit, Cancel, CancelSync, Flush, Schedule, Reschedule, Remaining, Start, Drain, Unplug, Tick}
 use Rattle.zk_scenario.specs.declared.types.Script.{Script}
 use Rattle.zk_scenario.specs.Parts.{Parts}
 use Rattle.zk_scenario.specs.Players.{name_of}
-use Rattle.zk_scenario.specs.Text.{line_text, thread_words, queue_words, item_words, script_words, submit_words, cancel_words, cancel_sync_words, flush_words, start_words, drain_words, unplug_words, end_words}
+use Rattle.zk_scenario.specs.Text.{line_text, thread_words, queue_words, item_words, script_words, submit_words, cancel_words, cancel_sync_words, flush_words, schedule_words, reschedule_words, remaining_words, start_words, drain_words, unplug_words, tick_words, end_words}
 
 -- the words of a declaration
 abbrev pub decl_words : Decl → List (List ℕ)
@@ -32,9 +32,13 @@ call_words decls (Submit item queue) = submit_words (ref_name decls item) (optio
 call_words decls (Cancel item) = cancel_words (ref_name decls item)
 call_words decls (CancelSync item) = cancel_sync_words (ref_name decls item)
 call_words decls (Flush item) = flush_words (ref_name decls item)
+call_words decls (Schedule item queue delay) = schedule_words (ref_name decls item) (ref_name decls queue) delay
+call_words decls (Reschedule item queue delay) = reschedule_words (ref_name decls item) (ref_name decls queue) delay
+call_words decls (Remaining item) = remaining_words (ref_name decls item)
 call_words decls (Start queue) = start_words (ref_name decls queue)
 call_words decls (Drain queue plug) = drain_words (ref_name decls queue) plug
 call_words decls (Unplug queue) = unplug_words (ref_name decls queue)
+call_words decls (Tick ticks) = tick_words ticks
 
 -- the line of a declaration
 abbrev pub decl_line : Decl → List ℕ

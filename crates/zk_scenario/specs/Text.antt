@@ -1,6 +1,6 @@
 use Rattle.std.specs.Prelude.{ℕ, ℤ, Bool, true, false, List, [], ◌∷◌, Option, option_to_list, codes}
 use Rattle.std.specs.List.{join_with_byte}
-use Rattle.std.specs.Fmt.{signed_decimal}
+use Rattle.std.specs.Fmt.{decimal, signed_decimal}
 
 -- the line of these words: one space between each two
 abbrev pub line_text : List (List ℕ) → List ℕ
@@ -53,6 +53,18 @@ cancel_sync_words item = codes "cancelsync" ∷ item ∷ []
 abbrev pub flush_words : List ℕ → List (List ℕ)
 flush_words item = codes "flush" ∷ item ∷ []
 
+-- the submission of an item to a queue after a delay in ticks
+abbrev pub schedule_words : List ℕ → List ℕ → ℕ → List (List ℕ)
+schedule_words item queue delay = codes "schedule" ∷ item ∷ queue ∷ decimal delay ∷ []
+
+-- the same, in place of the delay that the item has already
+abbrev pub reschedule_words : List ℕ → List ℕ → ℕ → List (List ℕ)
+reschedule_words item queue delay = codes "reschedule" ∷ item ∷ queue ∷ decimal delay ∷ []
+
+-- the question how many ticks an item's delay still has
+abbrev pub remaining_words : List ℕ → List (List ℕ)
+remaining_words item = codes "remaining" ∷ item ∷ []
+
 -- the start of a queue
 abbrev pub start_words : List ℕ → List (List ℕ)
 start_words queue = codes "start" ∷ queue ∷ []
@@ -64,6 +76,10 @@ drain_words queue plug = codes "drain" ∷ queue ∷ plug_text plug ∷ []
 -- the unplugging of a queue
 abbrev pub unplug_words : List ℕ → List (List ℕ)
 unplug_words queue = codes "unplug" ∷ queue ∷ []
+
+-- the passing of a number of ticks
+abbrev pub tick_words : ℕ → List (List ℕ)
+tick_words ticks = codes "tick" ∷ decimal ticks ∷ []
 
 -- the end of a script
 abbrev pub end_words : List (List ℕ)

@@ -9,10 +9,11 @@ use Rattle.zk_scenario.specs.declared.types.Call.TheVariants as call
 use Rattle.zk_scenario.specs.declared.form.Named.{Named}
 use Rattle.zk_scenario.specs.declared.form.Named.TheVariants.{Plain, Reserved}
 use Rattle.zk_scenario.specs.declared.form.Form.{Form}
-use Rattle.zk_scenario.specs.declared.form.Form.TheVariants.{Thread, Queue, Item, Script, Submit, Cancel, CancelSync, Flush, Start, Drain, Unplug, End}
+use Rattle.zk_scenario.specs.declared.form.Form.TheVariants.{Thread, Queue, Item, Script, Submit, Cancel, CancelSync, Flush, Schedule, Reschedule, Remaining, Start, Drain, Unplug, Tick, End}
 use Rattle.zk_scenario.specs.declared.refused.Why.{Why}
 use Rattle.zk_scenario.specs.declared.refused.Why.TheVariants as why
 use Rattle.zk_scenario.specs.Forms.{named_text}
+use Rattle.zk_scenario.specs.Numbers.{is_delay, is_advance}
 use Rattle.zk_scenario.specs.Objects.{object_of, is_at}
 use Rattle.zk_scenario.specs.Players.{plays_script, is_queue, is_item}
 use Rattle.zk_scenario.specs.Reading.{Reading, all_scripts, declared, begun, called, closed}
@@ -56,9 +57,13 @@ is_misplaced r (Submit item queue) = not (is_some r.current)
 is_misplaced r (Cancel item) = not (is_some r.current)
 is_misplaced r (CancelSync item) = not (is_some r.current)
 is_misplaced r (Flush item) = not (is_some r.current)
+is_misplaced r (Schedule item queue delay) = not (is_some r.current)
+is_misplaced r (Reschedule item queue delay) = not (is_some r.current)
+is_misplaced r (Remaining item) = not (is_some r.current)
 is_misplaced r (Start queue) = not (is_some r.current)
 is_misplaced r (Drain queue plug) = not (is_some r.current)
 is_misplaced r (Unplug queue) = not (is_some r.current)
+is_misplaced r (Tick ticks) = not (is_some r.current)
 is_misplaced r End = not (is_some r.current)
 
 -- whether a number of the line is out of its range
@@ -71,9 +76,13 @@ is_out_of_range (Submit item queue) = false
 is_out_of_range (Cancel item) = false
 is_out_of_range (CancelSync item) = false
 is_out_of_range (Flush item) = false
+is_out_of_range (Schedule item queue delay) = not (is_delay delay)
+is_out_of_range (Reschedule item queue delay) = not (is_delay delay)
+is_out_of_range (Remaining item) = false
 is_out_of_range (Start queue) = false
 is_out_of_range (Drain queue plug) = false
 is_out_of_range (Unplug queue) = false
+is_out_of_range (Tick ticks) = not (is_advance ticks)
 is_out_of_range End = false
 
 -- whether a name of the line is declared twice, reserved, not declared, or of the wrong kind
@@ -87,9 +96,13 @@ is_misnamed decls (Submit item (Some queue)) = not (names is_item decls item && 
 is_misnamed decls (Cancel item) = not (names is_item decls item)
 is_misnamed decls (CancelSync item) = not (names is_item decls item)
 is_misnamed decls (Flush item) = not (names is_item decls item)
+is_misnamed decls (Schedule item queue delay) = not (names is_item decls item && names is_queue decls queue)
+is_misnamed decls (Reschedule item queue delay) = not (names is_item decls item && names is_queue decls queue)
+is_misnamed decls (Remaining item) = not (names is_item decls item)
 is_misnamed decls (Start queue) = not (names is_queue decls queue)
 is_misnamed decls (Drain queue plug) = not (names is_queue decls queue)
 is_misnamed decls (Unplug queue) = not (names is_queue decls queue)
+is_misnamed decls (Tick ticks) = false
 is_misnamed decls End = false
 
 -- whether the line passes a limit
@@ -102,9 +115,13 @@ is_past_limit r (Submit item queue) = nat_le 4096 (call_count (all_scripts r))
 is_past_limit r (Cancel item) = nat_le 4096 (call_count (all_scripts r))
 is_past_limit r (CancelSync item) = nat_le 4096 (call_count (all_scripts r))
 is_past_limit r (Flush item) = nat_le 4096 (call_count (all_scripts r))
+is_past_limit r (Schedule item queue delay) = nat_le 4096 (call_count (all_scripts r))
+is_past_limit r (Reschedule item queue delay) = nat_le 4096 (call_count (all_scripts r))
+is_past_limit r (Remaining item) = nat_le 4096 (call_count (all_scripts r))
 is_past_limit r (Start queue) = nat_le 4096 (call_count (all_scripts r))
 is_past_limit r (Drain queue plug) = nat_le 4096 (call_count (all_scripts r))
 is_past_limit r (Unplug queue) = nat_le 4096 (call_count (all_scripts r))
+is_past_limit r (Tick ticks) = nat_le 4096 (call_count (all_scripts r))
 is_past_limit r End = false
 
 -- the first reason that applies to a line behind these, if there is one
@@ -134,9 +151,13 @@ call_of decls (Submit item queue) = Some (call.Submit (ref decls item) (option_m
 call_of decls (Cancel item) = Some (call.Cancel (ref decls item))
 call_of decls (CancelSync item) = Some (call.CancelSync (ref decls item))
 call_of decls (Flush item) = Some (call.Flush (ref decls item))
+call_of decls (Schedule item queue delay) = Some (call.Schedule (ref decls item) (ref decls queue) delay)
+call_of decls (Reschedule item queue delay) = Some (call.Reschedule (ref decls item) (ref decls queue) delay)
+call_of decls (Remaining item) = Some (call.Remaining (ref decls item))
 call_of decls (Start queue) = Some (call.Start (ref decls queue))
 call_of decls (Drain queue plug) = Some (call.Drain (ref decls queue) plug)
 call_of decls (Unplug queue) = Some (call.Unplug (ref decls queue))
+call_of decls (Tick ticks) = Some (call.Tick ticks)
 call_of decls End = None
 
 -- what the lines said with one line more, to which no reason applies
@@ -149,7 +170,11 @@ after r (Submit item queue) = called r (call.Submit (ref r.decls item) (option_m
 after r (Cancel item) = called r (call.Cancel (ref r.decls item))
 after r (CancelSync item) = called r (call.CancelSync (ref r.decls item))
 after r (Flush item) = called r (call.Flush (ref r.decls item))
+after r (Schedule item queue delay) = called r (call.Schedule (ref r.decls item) (ref r.decls queue) delay)
+after r (Reschedule item queue delay) = called r (call.Reschedule (ref r.decls item) (ref r.decls queue) delay)
+after r (Remaining item) = called r (call.Remaining (ref r.decls item))
 after r (Start queue) = called r (call.Start (ref r.decls queue))
 after r (Drain queue plug) = called r (call.Drain (ref r.decls queue) plug)
 after r (Unplug queue) = called r (call.Unplug (ref r.decls queue))
+after r (Tick ticks) = called r (call.Tick ticks)
 after r End = closed r

@@ -1,8 +1,8 @@
 ghost use Rattle.std.specs.Prelude.{◌≡◌, ◌∷◌};
-ghost use Rattle.zk_scenario.specs.Forms.{named_of, mode_of, state_of, plug_of, thread_form, queue_form, item_form, script_form, submit_form, cancel_form, cancel_sync_form, flush_form, start_form, drain_form, unplug_form, end_form, form_of, formless, line_of};
+ghost use Rattle.zk_scenario.specs.Forms.{named_of, mode_of, state_of, plug_of, thread_form, queue_form, item_form, script_form, submit_form, cancel_form, cancel_sync_form, flush_form, schedule_form, reschedule_form, remaining_form, start_form, drain_form, unplug_form, tick_form, end_form, form_of, formless, line_of};
 
 use crate::keyword::{Keyword, is_unbuilt, keyword_of};
-use crate::numbers::priority_of;
+use crate::numbers::{priority_of, ticks_of};
 use crate::words::Words;
 use zk_base::{Name, is_spelled};
 
@@ -13,7 +13,8 @@ pub enum Named {
     Reserved,
 }
 
-/// What a line says by its spelling alone. A number is nothing where it is out of its range.
+/// What a line says by its spelling alone. A priority is nothing where it is out of its range, and a
+/// number of ticks past 32 bits is the greatest of them.
 #[derive(Clone, Copy, Debug)]
 pub enum Form {
     /// The name, the priority, and whether it is a user thread.
@@ -26,10 +27,17 @@ pub enum Form {
     Cancel(Named),
     CancelSync(Named),
     Flush(Named),
+    /// The item, the queue, and the delay.
+    Schedule(Named, Named, u32),
+    /// The item, the queue, and the delay.
+    Reschedule(Named, Named, u32),
+    Remaining(Named),
     Start(Named),
     /// The queue, and whether the drain plugs it.
     Drain(Named, bool),
     Unplug(Named),
+    /// The ticks by which the clock goes on.
+    Tick(u32),
     End,
 }
 
@@ -82,9 +90,13 @@ fn form_of(keyword: Keyword, words: &mut Words<'_>) -> Option<Form>
         Keyword::Cancel => cancel_form(words),
         Keyword::CancelSync => cancel_sync_form(words),
         Keyword::Flush => flush_form(words),
+        Keyword::Schedule => schedule_form(words),
+        Keyword::Reschedule => reschedule_form(words),
+        Keyword::Remaining => remaining_form(words),
         Keyword::Start => start_form(words),
         Keyword::Drain => drain_form(words),
         Keyword::Unplug => unplug_form(words),
+        Keyword::Tick => tick_form(words),
         Keyword::End => end_form(words),
     }
 }
@@ -176,6 +188,40 @@ fn flush_form(words: &mut Words<'_>) -> Option<Form>
     Some(Form::Flush(named_of(item)?))
 }
 
+fn schedule_form(words: &mut Words<'_>) -> Option<Form>
+    ensures { result ≡ schedule_form words.old }
+{
+    let item = words.next()?;
+    let queue = words.next()?;
+    let delay = words.next()?;
+    if words.next().is_some() {
+        return None;
+    }
+    Some(Form::Schedule(named_of(item)?, named_of(queue)?, ticks_of(delay)?))
+}
+
+fn reschedule_form(words: &mut Words<'_>) -> Option<Form>
+    ensures { result ≡ reschedule_form words.old }
+{
+    let item = words.next()?;
+    let queue = words.next()?;
+    let delay = words.next()?;
+    if words.next().is_some() {
+        return None;
+    }
+    Some(Form::Reschedule(named_of(item)?, named_of(queue)?, ticks_of(delay)?))
+}
+
+fn remaining_form(words: &mut Words<'_>) -> Option<Form>
+    ensures { result ≡ remaining_form words.old }
+{
+    let item = words.next()?;
+    if words.next().is_some() {
+        return None;
+    }
+    Some(Form::Remaining(named_of(item)?))
+}
+
 fn start_form(words: &mut Words<'_>) -> Option<Form>
     ensures { result ≡ start_form words.old }
 {
@@ -205,6 +251,16 @@ fn unplug_form(words: &mut Words<'_>) -> Option<Form>
         return None;
     }
     Some(Form::Unplug(named_of(queue)?))
+}
+
+fn tick_form(words: &mut Words<'_>) -> Option<Form>
+    ensures { result ≡ tick_form words.old }
+{
+    let ticks = words.next()?;
+    if words.next().is_some() {
+        return None;
+    }
+    Some(Form::Tick(ticks_of(ticks)?))
 }
 
 fn end_form(words: &mut Words<'_>) -> Option<Form>

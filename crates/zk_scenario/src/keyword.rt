@@ -14,9 +14,13 @@ pub enum Keyword {
     Cancel,
     CancelSync,
     Flush,
+    Schedule,
+    Reschedule,
+    Remaining,
     Start,
     Drain,
     Unplug,
+    Tick,
     End,
 }
 
@@ -58,6 +62,15 @@ fn call_keyword_of(word: &[u8]) -> Option<Keyword>
     if word == b"flush".as_slice() {
         return Some(Keyword::Flush);
     }
+    if word == b"schedule".as_slice() {
+        return Some(Keyword::Schedule);
+    }
+    if word == b"reschedule".as_slice() {
+        return Some(Keyword::Reschedule);
+    }
+    if word == b"remaining".as_slice() {
+        return Some(Keyword::Remaining);
+    }
     if word == b"start".as_slice() {
         return Some(Keyword::Start);
     }
@@ -66,6 +79,9 @@ fn call_keyword_of(word: &[u8]) -> Option<Keyword>
     }
     if word == b"unplug".as_slice() {
         return Some(Keyword::Unplug);
+    }
+    if word == b"tick".as_slice() {
+        return Some(Keyword::Tick);
     }
     None
 }
@@ -97,11 +113,7 @@ fn is_unbuilt_declaration(word: &[u8]) -> bool
 fn is_unbuilt_work_call(word: &[u8]) -> bool
     ensures { result ≡ list_any (bytes_eq word.now) unbuilt_work_calls }
 {
-    word == b"schedule".as_slice()
-        || word == b"reschedule".as_slice()
-        || word == b"remaining".as_slice()
-        || word == b"busy".as_slice()
-        || word == b"tick".as_slice()
+    word == b"busy".as_slice()
 }
 
 fn is_unbuilt_wait_call(word: &[u8]) -> bool

@@ -27,8 +27,9 @@ pub use form::{Form, Line, Named, line_of};
 pub use laws::tells_them_apart;
 pub use numbers::{number_of, priority_of};
 pub use print::{
-    put_cancel, put_cancel_sync, put_drain, put_end, put_flush, put_item, put_queue, put_script,
-    put_start, put_submit, put_thread, put_unplug,
+    put_cancel, put_cancel_sync, put_drain, put_end, put_flush, put_item, put_queue, put_remaining,
+    put_reschedule, put_schedule, put_script, put_start, put_submit, put_thread, put_tick,
+    put_unplug,
 };
 pub use read::{LONGEST_SCENARIO, read_scenario};
 pub use refused::{ScenarioRefused, Why};

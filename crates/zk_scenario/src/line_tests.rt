@@ -1,6 +1,7 @@
 use crate::{
     Form, Line, Named, line_of, number_of, put_cancel, put_cancel_sync, put_drain, put_end,
-    put_flush, put_item, put_queue, put_script, put_start, put_submit, put_thread, put_unplug,
+    put_flush, put_item, put_queue, put_remaining, put_reschedule, put_schedule, put_script,
+    put_start, put_submit, put_thread, put_tick, put_unplug,
 };
 use std::test::Fail;
 use zk_base::NoMemory;
@@ -23,9 +24,17 @@ fn put_form(out: &mut Vec<u8>, form: &Form) -> Result<(), NoMemory> {
         Form::Cancel(Named::Plain(item)) => put_cancel(out, item.bytes()),
         Form::CancelSync(Named::Plain(item)) => put_cancel_sync(out, item.bytes()),
         Form::Flush(Named::Plain(item)) => put_flush(out, item.bytes()),
+        Form::Schedule(Named::Plain(item), Named::Plain(queue), delay) => {
+            put_schedule(out, item.bytes(), queue.bytes(), *delay)
+        }
+        Form::Reschedule(Named::Plain(item), Named::Plain(queue), delay) => {
+            put_reschedule(out, item.bytes(), queue.bytes(), *delay)
+        }
+        Form::Remaining(Named::Plain(item)) => put_remaining(out, item.bytes()),
         Form::Start(Named::Plain(queue)) => put_start(out, queue.bytes()),
         Form::Drain(Named::Plain(queue), plug) => put_drain(out, queue.bytes(), *plug),
         Form::Unplug(Named::Plain(queue)) => put_unplug(out, queue.bytes()),
+        Form::Tick(ticks) => put_tick(out, *ticks),
         Form::End => put_end(out),
         Form::Thread(Named::Plain(_), None, _) | Form::Queue(Named::Plain(_), None, _) => put_item(
             out, b"number",
@@ -69,7 +78,7 @@ fn tells_forms_from_misspellings(rt: HostRuntime) -> Result<(), Fail> {
         ("sem", "item unbuilt"),
         ("poll  no", "item unbuilt"),
         ("user and more", "item unbuilt"),
-        ("reschedule i q 1", "item unbuilt"),
+        ("busy i q 1", "item unbuilt"),
         ("", "item misspelled"),
         ("zk 1", "item misspelled"),
         ("frob x", "item misspelled"),
@@ -141,6 +150,52 @@ fn tells_the_calls_that_wait(rt: HostRuntime) -> Result<(), Fail> {
         ("flush", "item misspelled"),
         ("flush i0 q0", "item misspelled"),
         ("flush i0 ", "item misspelled"),
+    ];
+    for (line, told) in table {
+        let mut out = Vec::new(rt.alloc());
+        put_line(&mut out, line.as_bytes())?;
+        assert_eq!(rt; out.as_slice(), told.as_bytes(), "at {line}");
+    }
+    Ok(())
+}
+
+#[test]
+fn tells_the_calls_with_ticks(rt: HostRuntime) -> Result<(), Fail> {
+    let table: [(&str, &str); 31] = [
+        ("schedule i0 q0 0", "schedule i0 q0 0"),
+        ("schedule q0 i0 1000000", "schedule q0 i0 1000000"),
+        ("reschedule i0 q0 10", "reschedule i0 q0 10"),
+        ("remaining i0", "remaining i0"),
+        ("tick 1", "tick 1"),
+        ("tick 1000001", "tick 1000001"),
+        ("schedule i0 q0 4294967295", "schedule i0 q0 4294967295"),
+        ("schedule i0 q0 4294967296", "schedule i0 q0 4294967295"),
+        (
+            "reschedule i0 q0 18446744073709551617",
+            "reschedule i0 q0 4294967295",
+        ),
+        ("tick 99999999999999999999999999999", "tick 4294967295"),
+        ("schedule wait q0 1", "item reserved"),
+        ("reschedule i0 clock 1", "item reserved"),
+        ("remaining nomsg", "item reserved"),
+        ("schedule i0 q0", "item misspelled"),
+        ("schedule i0 q0 1 1", "item misspelled"),
+        ("schedule i0 q0 01", "item misspelled"),
+        ("schedule i0 q0 -1", "item misspelled"),
+        ("schedule i0 1 q0", "item misspelled"),
+        ("schedule  i0 q0 1", "item misspelled"),
+        ("reschedule i0 q0 ", "item misspelled"),
+        ("reschedule i0 q0 +1", "item misspelled"),
+        ("reschedule i0 q0 1 ", "item misspelled"),
+        ("reschedule I0 q0 1", "item misspelled"),
+        ("remaining", "item misspelled"),
+        ("remaining i0 q0", "item misspelled"),
+        ("remaining 1", "item misspelled"),
+        ("tick", "item misspelled"),
+        ("tick 00", "item misspelled"),
+        ("tick one", "item misspelled"),
+        ("tick 1 1", "item misspelled"),
+        ("ticks 1", "item misspelled"),
     ];
     for (line, told) in table {
         let mut out = Vec::new(rt.alloc());

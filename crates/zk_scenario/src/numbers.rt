@@ -2,7 +2,9 @@ ghost use Rattle.std.specs.Prelude.{◌≡◌, ℕ, ◌^◌, ◌+◌, ◌*◌, �
 ghost use Rattle.std.specs.Char.{is_ascii_digit};
 ghost use Rattle.std.specs.List.{list_all};
 ghost use Rattle.std.specs.Str.Parse.{digits_value};
-ghost use Rattle.zk_scenario.specs.Numbers.{is_number, number_of, saturated, priority_of, priority_above, priority_below};
+ghost use Rattle.zk_scenario.specs.Numbers.{is_number, number_of, saturated, narrowed, ticks_of, is_delay, is_advance, priority_of, priority_above, priority_below};
+
+const MOST_TICKS: u32 = 1_000_000;
 
 /// The number that a word spells in decimal digits, without a sign or a leading zero. One past 64
 /// bits is given as the greatest of them, so that a caller tells a number out of its range from a
@@ -48,6 +50,34 @@ fn with_digit(n: u64, digit: u8) -> u64
     ensures { result ≡ saturated (n * 10 + (digit - 48)) }
 {
     n.saturating_mul(10).saturating_add(u64::from(digit - b'0'))
+}
+
+/// The number of ticks that a word spells. One past 32 bits is given as the greatest of them, which
+/// is out of each range of ticks.
+pub fn ticks_of(word: &[u8]) -> Option<u32>
+    ensures { result ≡ ticks_of word.now }
+{
+    Some(narrowed(number_of(word)?))
+}
+
+fn narrowed(n: u64) -> u32
+    ensures { result ≡ narrowed n }
+{
+    u32::try_from(n).unwrap_or(u32::MAX)
+}
+
+/// Whether a number of ticks is a delay: from 0 to 1,000,000.
+pub fn is_delay(ticks: u32) -> bool
+    ensures { result ≡ is_delay ticks }
+{
+    ticks <= MOST_TICKS
+}
+
+/// Whether the clock can go on by a number of ticks at once: from 1 to 1,000,000.
+pub fn is_advance(ticks: u32) -> bool
+    ensures { result ≡ is_advance ticks }
+{
+    1 <= ticks && ticks <= MOST_TICKS
 }
 
 /// What a word says as a priority: nothing where it is no spelling of one, and nothing inside where

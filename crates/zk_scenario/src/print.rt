@@ -1,9 +1,9 @@
 ghost use Rattle.std.specs.Prelude.{◌≡◌, ◌∷◌, ◌++◌, OnOk, option_map};
-ghost use Rattle.std.specs.Fmt.{signed_decimal};
-ghost use Rattle.zk_scenario.specs.Text.{line_text, mode_text, state_text, plug_text, thread_words, queue_words, item_words, script_words, submit_words, cancel_words, cancel_sync_words, flush_words, start_words, drain_words, unplug_words, end_words};
+ghost use Rattle.std.specs.Fmt.{decimal, signed_decimal};
+ghost use Rattle.zk_scenario.specs.Text.{line_text, mode_text, state_text, plug_text, thread_words, queue_words, item_words, script_words, submit_words, cancel_words, cancel_sync_words, flush_words, schedule_words, reschedule_words, remaining_words, start_words, drain_words, unplug_words, tick_words, end_words};
 
 use itoa::Buffer;
-use zk_base::{NoMemory, put};
+use zk_base::{NoMemory, put, put_decimal};
 
 /// Appends the declaration of a thread. As below, no line feed is written, and after an error a
 /// part of the line may stand there.
@@ -81,6 +81,46 @@ pub fn put_flush(out: &mut Vec<u8>, item: &[u8]) -> Result<(), NoMemory>
     put_next_word(out, item)
 }
 
+/// The submission of an item to a queue after a delay in ticks.
+pub fn put_schedule(
+    out: &mut Vec<u8>,
+    item: &[u8],
+    queue: &[u8],
+    delay: u32,
+) -> Result<(), NoMemory>
+    ensures { OnOk result (out.new.items
+        ≡ out.old.items ++ line_text (schedule_words item.now queue.now delay)) }
+{
+    put(out, b"schedule")?;
+    put_next_word(out, item)?;
+    put_next_word(out, queue)?;
+    put_next_number(out, delay)
+}
+
+/// The same, in place of the delay that the item has already.
+pub fn put_reschedule(
+    out: &mut Vec<u8>,
+    item: &[u8],
+    queue: &[u8],
+    delay: u32,
+) -> Result<(), NoMemory>
+    ensures { OnOk result (out.new.items
+        ≡ out.old.items ++ line_text (reschedule_words item.now queue.now delay)) }
+{
+    put(out, b"reschedule")?;
+    put_next_word(out, item)?;
+    put_next_word(out, queue)?;
+    put_next_number(out, delay)
+}
+
+/// The question how many ticks an item's delay still has.
+pub fn put_remaining(out: &mut Vec<u8>, item: &[u8]) -> Result<(), NoMemory>
+    ensures { OnOk result (out.new.items ≡ out.old.items ++ line_text (remaining_words item.now)) }
+{
+    put(out, b"remaining")?;
+    put_next_word(out, item)
+}
+
 /// The start of a queue.
 pub fn put_start(out: &mut Vec<u8>, queue: &[u8]) -> Result<(), NoMemory>
     ensures { OnOk result (out.new.items ≡ out.old.items ++ line_text (start_words queue.now)) }
@@ -106,6 +146,14 @@ pub fn put_unplug(out: &mut Vec<u8>, queue: &[u8]) -> Result<(), NoMemory>
     put_next_word(out, queue)
 }
 
+/// The passing of a number of ticks.
+pub fn put_tick(out: &mut Vec<u8>, ticks: u32) -> Result<(), NoMemory>
+    ensures { OnOk result (out.new.items ≡ out.old.items ++ line_text (tick_words ticks)) }
+{
+    put(out, b"tick")?;
+    put_next_number(out, ticks)
+}
+
 /// The end of a script.
 pub fn put_end(out: &mut Vec<u8>) -> Result<(), NoMemory>
     ensures { OnOk result (out.new.items ≡ out.old.items ++ line_text end_words) }
@@ -118,6 +166,13 @@ fn put_next_word(out: &mut Vec<u8>, word: &[u8]) -> Result<(), NoMemory>
 {
     out.push(b' ')?;
     put(out, word)
+}
+
+fn put_next_number(out: &mut Vec<u8>, number: u32) -> Result<(), NoMemory>
+    ensures { OnOk result (out.new.items ≡ out.old.items ++ 32 ∷ decimal number) }
+{
+    out.push(b' ')?;
+    put_decimal(out, u64::from(number))
 }
 
 fn put_next_priority(out: &mut Vec<u8>, prio: i8) -> Result<(), NoMemory>

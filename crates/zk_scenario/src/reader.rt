@@ -89,9 +89,13 @@ impl Reader {
             Form::Cancel(_) => !self.current.is_some(),
             Form::CancelSync(_) => !self.current.is_some(),
             Form::Flush(_) => !self.current.is_some(),
+            Form::Schedule(_, _, _) => !self.current.is_some(),
+            Form::Reschedule(_, _, _) => !self.current.is_some(),
+            Form::Remaining(_) => !self.current.is_some(),
             Form::Start(_) => !self.current.is_some(),
             Form::Drain(_, _) => !self.current.is_some(),
             Form::Unplug(_) => !self.current.is_some(),
+            Form::Tick(_) => !self.current.is_some(),
             Form::End => !self.current.is_some(),
         }
     }
@@ -112,9 +116,13 @@ impl Reader {
             Form::Cancel(_) => MOST_CALLS <= self.calls,
             Form::CancelSync(_) => MOST_CALLS <= self.calls,
             Form::Flush(_) => MOST_CALLS <= self.calls,
+            Form::Schedule(_, _, _) => MOST_CALLS <= self.calls,
+            Form::Reschedule(_, _, _) => MOST_CALLS <= self.calls,
+            Form::Remaining(_) => MOST_CALLS <= self.calls,
             Form::Start(_) => MOST_CALLS <= self.calls,
             Form::Drain(_, _) => MOST_CALLS <= self.calls,
             Form::Unplug(_) => MOST_CALLS <= self.calls,
+            Form::Tick(_) => MOST_CALLS <= self.calls,
             Form::End => false,
         }
     }

@@ -72,7 +72,7 @@ fn refuses_what_stands_in_the_wrong_place(rt: HostRuntime) -> Result<(), Fail> {
             "thread t 16 user\n|thread main 0 user\n|busy q0\n",
             "5 unbuilt",
         ),
-        (BEHIND, "thread t 0 user\n|remaining i0\n", "7 unbuilt"),
+        (BEHIND, "thread t 0 user\n|busy i0\n", "7 unbuilt"),
         (FRONT, "script i0\nend\nscript i0\n", "7 order"),
         (FRONT, "end\n|submit i0\n|cancel nosuch\n", "5 order"),
         (
@@ -209,6 +209,91 @@ fn reads_the_calls_that_wait(rt: HostRuntime) -> Result<(), Fail> {
     for (before, lines, said) in table {
         assert!(rt; told(rt.alloc(), before, lines, said)?, "at {lines}");
     }
+    Ok(())
+}
+
+#[test]
+fn reads_the_calls_with_ticks(rt: HostRuntime) -> Result<(), Fail> {
+    let schedules = "schedule i0 q0 0\nend\n|schedule i0 q0 1\nend\n|schedule i0 q0 1000000\nend\n";
+    let reschedules =
+        "reschedule i0 q0 0\nend\n|reschedule i0 q0 1\nend\n|reschedule i0 q0 1000000\nend\n";
+    let others = "remaining i0\nend\n|tick 1\nend\n|tick 10\nend\n|tick 1000000\nend\n";
+    let together = "schedule i0 q0 5\nremaining i0\ntick 4\nreschedule i0 q0 0\ntick 1\nend\n";
+    let named = "item tick\nqueue schedule 0 off\nscript tick\nschedule tick schedule 7\nend\n";
+    for (before, lines) in [
+        (INSIDE, schedules),
+        (INSIDE, reschedules),
+        (INSIDE, others),
+        (INSIDE, together),
+        (FRONT, named),
+    ] {
+        assert!(rt; told(rt.alloc(), before, lines, "read")?, "at {lines}");
+    }
+    Ok(())
+}
+
+#[test]
+fn refuses_misspelled_calls_with_ticks(rt: HostRuntime) -> Result<(), Fail> {
+    let words = "schedule\n|schedule i0\n|schedule i0 q0\n|schedule i0 q0 1 1\n|schedule i0 1 q0\n";
+    let numbers =
+        "schedule i0 q0 01\n|schedule i0 q0 +1\n|schedule i0 q0 -1\n|schedule i0 q0 1a\n|schedule i0 q0 1";
+    let again =
+        "reschedule\n|reschedule i0 1\n|reschedule i0 q0 00\n|reschedule i0 q0 -0\n|reschedule i0 q0 0";
+    let spaces =
+        "schedule  i0 q0 1\n|schedule i0 q0 \n|reschedule i0 q0 1 \n|remaining  i0\n|tick  1\n";
+    let remainings = "remaining\n|remaining i0 q0\n|remaining 1\n|remaining i0 \n|remaining i0";
+    let ticks = "tick\n|tick 01\n|tick 00\n|tick -1\n|tick 1 1\n|tick i0\n|tick 1\r\n|tick 1";
+    for lines in [words, numbers, again, spaces, remainings, ticks] {
+        assert!(rt; told(rt.alloc(), INSIDE, lines, "6 line")?, "at {lines}");
+    }
+    Ok(())
+}
+
+#[test]
+fn refuses_calls_with_ticks_for_their_first_reason(rt: HostRuntime) -> Result<(), Fail> {
+    let early =
+        "schedule i0 q0 1\n|reschedule nosuch q0 1000001\n|remaining nosuch\n|tick 0\n|tick 1\n";
+    let late =
+        "schedule nosuch q0 1000001\n|reschedule i0 q0 1\n|remaining i0\n|tick 1\n|tick 1000001\n";
+    let delays =
+        "schedule i0 q0 1000001\n|reschedule i0 q0 1000001\n|schedule nosuch i0 4294967296\n";
+    let long =
+        "schedule i0 q0 18446744073709551616\n|reschedule work q0 99999999999999999999999999\n";
+    let ticks = "tick 0\n|tick 1000001\n|tick 4294967297\n|tick 18446744073709551617\n";
+    let items =
+        "schedule nosuch q0 1\n|schedule q0 q0 1\n|schedule main q0 1\n|schedule again q0 1\n";
+    let queues =
+        "schedule i0 nosuch 1\n|schedule i0 i0 1\n|schedule i0 main 1\n|schedule q0 i0 1\n";
+    let again =
+        "reschedule nosuch q0 0\n|reschedule i0 i0 0\n|reschedule q0 i0 0\n|reschedule i0 work 0\n";
+    let remainings = "remaining nosuch\n|remaining q0\n|remaining main\n|remaining clock\n";
+    let table: [(&str, &str, &str); 10] = [
+        (FRONT, early, "5 order"),
+        (BEHIND, late, "7 order"),
+        (BEHIND, "schedule i0 q0 01\n|tick\n", "7 line"),
+        (INSIDE, delays, "6 number"),
+        (INSIDE, long, "6 number"),
+        (INSIDE, ticks, "6 number"),
+        (INSIDE, items, "6 name"),
+        (INSIDE, queues, "6 name"),
+        (INSIDE, again, "6 name"),
+        (INSIDE, remainings, "6 name"),
+    ];
+    for (before, lines, said) in table {
+        assert!(rt; told(rt.alloc(), before, lines, said)?, "at {lines}");
+    }
+    Ok(())
+}
+
+#[test]
+fn counts_the_calls_with_ticks(rt: HostRuntime) -> Result<(), Fail> {
+    let mut text = String::from_str(rt.alloc(), INSIDE)?;
+    for _ in 0..1024 {
+        text.push_str("schedule i0 q0 1\nreschedule i0 q0 1\nremaining i0\ntick 1\n")?;
+    }
+    assert!(rt; told(rt.alloc(), text.as_str(), "end\n", "read")?);
+    let more = "schedule i0 q0 1\n|reschedule i0 q0 1\n|remaining i0\n|tick 1\n";
+    assert!(rt; told(rt.alloc(), text.as_str(), more, "4102 limit")?);
     Ok(())
 }
 

@@ -5,8 +5,9 @@ ghost use Rattle.zk_scenario.specs.Spelling.{decl_words, decl_line, name_at, ref
 ghost use Rattle.zk_scenario.specs.Text.{line_text, script_words, end_words};
 
 use crate::print::{
-    put_cancel, put_cancel_sync, put_drain, put_end, put_flush, put_item, put_queue, put_script,
-    put_start, put_submit, put_thread, put_unplug,
+    put_cancel, put_cancel_sync, put_drain, put_end, put_flush, put_item, put_queue, put_remaining,
+    put_reschedule, put_schedule, put_script, put_start, put_submit, put_thread, put_tick,
+    put_unplug,
 };
 use crate::{Call, Decl, Ref, Scenario, Script};
 use std::alloc::Global;
@@ -120,9 +121,17 @@ fn put_call_words(out: &mut Vec<u8>, decls: &[Decl], call: &Call) -> Result<(), 
         Call::Cancel(item) => put_cancel(out, ref_name(decls, item)),
         Call::CancelSync(item) => put_cancel_sync(out, ref_name(decls, item)),
         Call::Flush(item) => put_flush(out, ref_name(decls, item)),
+        Call::Schedule(item, queue, delay) => {
+            put_schedule(out, ref_name(decls, item), ref_name(decls, queue), *delay)
+        }
+        Call::Reschedule(item, queue, delay) => {
+            put_reschedule(out, ref_name(decls, item), ref_name(decls, queue), *delay)
+        }
+        Call::Remaining(item) => put_remaining(out, ref_name(decls, item)),
         Call::Start(queue) => put_start(out, ref_name(decls, queue)),
         Call::Drain(queue, plug) => put_drain(out, ref_name(decls, queue), *plug),
         Call::Unplug(queue) => put_unplug(out, ref_name(decls, queue)),
+        Call::Tick(ticks) => put_tick(out, *ticks),
     }
 }
 

@@ -29,12 +29,20 @@ pub enum Call {
     CancelSync(Ref),
     /// Zephyr's `k_work_flush`.
     Flush(Ref),
+    /// An item, a queue, and a delay of 0 to 1,000,000 ticks. Zephyr's `k_work_schedule_for_queue`.
+    Schedule(Ref, Ref, u32),
+    /// The same, of Zephyr's `k_work_reschedule_for_queue`.
+    Reschedule(Ref, Ref, u32),
+    /// Zephyr's `k_work_delayable_remaining_get`.
+    Remaining(Ref),
     /// A queue. Zephyr's `k_work_queue_start`.
     Start(Ref),
     /// A queue, and whether it is plugged with the drain. Zephyr's `k_work_queue_drain`.
     Drain(Ref, bool),
     /// A queue. Zephyr's `k_work_queue_unplug`.
     Unplug(Ref),
+    /// The clock goes on by 1 to 1,000,000 ticks. Zephyr's `sys_clock_announce`.
+    Tick(u32),
 }
 
 /// The calls that an object makes, in order: those of a thread, or those of an item's handler.

@@ -4,6 +4,7 @@ ghost use Rattle.zk_scenario.specs.Players.{plays_script, is_queue, is_item};
 ghost use Rattle.zk_scenario.specs.Valid.{player_count};
 ghost use Rattle.zk_scenario.specs.Verdict.{named, names, is_taken, is_unbuilt, is_out_of_range, is_misnamed, object, ref, call_of};
 
+use crate::numbers::{is_advance, is_delay};
 use crate::objects::Objects;
 use crate::{Call, Decl, Form, Named, Ref};
 
@@ -48,9 +49,19 @@ pub fn call_of(objects: &Objects, form: &Form) -> Option<Call>
         Form::Cancel(item) => Some(Call::Cancel(reference(objects, item))),
         Form::CancelSync(item) => Some(Call::CancelSync(reference(objects, item))),
         Form::Flush(item) => Some(Call::Flush(reference(objects, item))),
+        Form::Schedule(item, queue, delay) => {
+            let queue = reference(objects, queue);
+            Some(Call::Schedule(reference(objects, item), queue, *delay))
+        }
+        Form::Reschedule(item, queue, delay) => {
+            let queue = reference(objects, queue);
+            Some(Call::Reschedule(reference(objects, item), queue, *delay))
+        }
+        Form::Remaining(item) => Some(Call::Remaining(reference(objects, item))),
         Form::Start(queue) => Some(Call::Start(reference(objects, queue))),
         Form::Drain(queue, plug) => Some(Call::Drain(reference(objects, queue), *plug)),
         Form::Unplug(queue) => Some(Call::Unplug(reference(objects, queue))),
+        Form::Tick(ticks) => Some(Call::Tick(*ticks)),
         Form::End => None,
     }
 }
@@ -68,9 +79,13 @@ pub fn is_unbuilt(form: &Form) -> bool
         Form::Cancel(_) => false,
         Form::CancelSync(_) => false,
         Form::Flush(_) => false,
+        Form::Schedule(_, _, _) => false,
+        Form::Reschedule(_, _, _) => false,
+        Form::Remaining(_) => false,
         Form::Start(_) => false,
         Form::Drain(_, _) => false,
         Form::Unplug(_) => false,
+        Form::Tick(_) => false,
         Form::End => false,
     }
 }
@@ -88,9 +103,13 @@ pub fn is_out_of_range(form: &Form) -> bool
         Form::Cancel(_) => false,
         Form::CancelSync(_) => false,
         Form::Flush(_) => false,
+        Form::Schedule(_, _, delay) => !is_delay(*delay),
+        Form::Reschedule(_, _, delay) => !is_delay(*delay),
+        Form::Remaining(_) => false,
         Form::Start(_) => false,
         Form::Drain(_, _) => false,
         Form::Unplug(_) => false,
+        Form::Tick(ticks) => !is_advance(*ticks),
         Form::End => false,
     }
 }
@@ -111,9 +130,17 @@ pub fn is_misnamed(objects: &Objects, form: &Form) -> bool
         Form::Cancel(item) => !names_item(objects, item),
         Form::CancelSync(item) => !names_item(objects, item),
         Form::Flush(item) => !names_item(objects, item),
+        Form::Schedule(item, queue, _) => {
+            !(names_item(objects, item) && names_queue(objects, queue))
+        }
+        Form::Reschedule(item, queue, _) => {
+            !(names_item(objects, item) && names_queue(objects, queue))
+        }
+        Form::Remaining(item) => !names_item(objects, item),
         Form::Start(queue) => !names_queue(objects, queue),
         Form::Drain(queue, _) => !names_queue(objects, queue),
         Form::Unplug(queue) => !names_queue(objects, queue),
+        Form::Tick(_) => false,
         Form::End => false,
     }
 }
