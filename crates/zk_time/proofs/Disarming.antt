@@ -1,10 +1,11 @@
 -- An item is disarmed, or the first expires: what is said by the others stays.
 use Rattle.std.proofs.Common.{◌≡◌, ℕ, zero, suc, ◌+◌, ◌-◌, ◌<◌, ◌≤◌, ◌^◌, Bool, true, false, not, ◌||◌, ◌==◌, cond, eqb, ltb, leb, Option, Some, None, is_some, option_map, List, [], ◌∷◌, ◌++◌, length, map, reverse, take, drop, get_or, All, refl, sym, ap, subst, ◌∙◌, ◌⊎◌, inl, inr, eq-eqb, arith}
-use Rattle.std.specs.List.{filter, list_any, find, insert, remove, position, position_or_len, IsDistinct, AllByRecursion}
+use Rattle.std.specs.List.{filter, list_any, find, insert, remove, slice_get, position, position_or_len, IsDistinct, AllByRecursion}
 use Rattle.std.specs.Option.{option_to_list}
 use Rattle.std.proofs.lemmas.Bool.{or_parts, le-leb, lt-leb, eqb-true, cases_lt}
 use Rattle.std.proofs.lemmas.Bool.Decides.{nat_tests}
-use Rattle.std.proofs.lemmas.List.{append_assoc, append-nil, reverse-append, length-append, length-map, length-reverse, length-drop, take_more, get_or_default, drop_more, take_at, drop_at, length-take-le}
+use Rattle.std.proofs.lemmas.List.{append_assoc, append-nil, reverse-append, length-append, length-map, length-reverse, length-drop, take_more, get_or_default, drop_more, take_at, drop_at, length-take-le, drop_all, take_all}
+use Rattle.std.proofs.lemmas.Option.{slice_get_within, get_or_from_slice_get}
 use Rattle.std.proofs.lemmas.List.Elements.{All-nil, All-cons, All-head, All-tail, All-weaker, filter-append}
 use Rattle.std.proofs.lemmas.List.Quantifiers.{position-Some}
 use Rattle.std.proofs.lemmas.List.Folds.{list_any-append, find-append}
@@ -127,7 +128,7 @@ pub disarms_none : (items : ℕ) (arms : List Arm) (t : Timeouts) (item : ℕ) �
 disarms_none items arms t item view none =
     let absent = sym (is_some-place item arms) ∙ ap is_some none in
     let made : (is_armed (seen_of items arms) item ≡ false) × (disarm (seen_of items arms) item ≡ seen_of items arms) =
-      (absent, ap (λ (l : List Timeout). let s : Timeouts = record { items = items; live = l } in s) (filter_absent item (live_of arms) absent)) in
+    (absent, ap (λ (l : List Timeout). let s : Timeouts = record { items = items; live = l } in s) (filter_absent item (live_of arms) absent)) in
     subst (λ (t : Timeouts). (is_armed t item ≡ false) × (disarm t item ≡ t)) view made
 
 -- an item that is armed, at this place
@@ -140,6 +141,31 @@ disarms_some items arms t item index a view found here =
 
 -- The first expires.
 
+-- the arm that expires next is kept last
+pub last_first : (arms : List Arm) (a : Arm) → slice_get arms (length arms - 1) ≡ Some a → reverse arms ≡ a ∷ later (length arms - 1) arms
+last_first arms a last =
+    let index = length arms - 1 in
+    let within = slice_get_within arms index a last in
+    let here = sym (get_or_from_slice_get arms index a a last) in
+    around_place arms index a within here ∙ ap (λ (l : List Arm). reverse l ++ a ∷ later index arms) (drop_all (index + 1) arms (omega arith))
+
+-- it is taken out
+pub takes_last : (items : ℕ) (arms popped after : List Arm) (t : Timeouts) (a : Arm) (index : ℕ) → seen_of items arms ≡ t → IsKept items arms → slice_get arms (length arms - 1) ≡ Some a →
+    popped ≡ take index arms → index ≡ length arms - 1 → earlier index after ≡ earlier index popped → later index after ≡ longer a.delta (later index popped) →
+    Takes items arms after t [] a (later (length arms - 1) arms)
+takes_last items arms popped after t a index view kept last front at same more =
+    let within : index ≤ length arms = omega arith in
+    let long : length (take index arms) ≡ index = length-take-le index arms within in
+    let none = same ∙ ap (earlier index) front ∙ ap reverse (drop_all index (take index arms) (omega arith)) in
+    let rest = more ∙ ap (λ (l : List Arm). longer a.delta (later index l)) front ∙ ap (λ (l : List Arm). longer a.delta (reverse l)) (take_all index (take index arms) (omega arith))
+    ∙ ap (λ (n : ℕ). longer a.delta (later n arms)) at in
+    record {
+      view = view;
+      kept = kept;
+      before = last_first arms a last;
+      behind = reverse-parts index after ∙ ap (λ (l : List Arm). l ++ later index after) none ∙ rest;
+    }
+
 first_live : (items : ℕ) (arms : List Arm) (t : Timeouts) (a : Arm) (back : List Arm) → seen_of items arms ≡ t → reverse arms ≡ a ∷ back → t.live ≡ said [] a ∷ timeouts_after (0 + span [] + a.delta) back
 first_live items arms t a back view before = ap (λ (t : Timeouts). t.live) (sym view) ∙ before_live arms [] a back before
 
@@ -151,10 +177,11 @@ due_yes items arms after t a back now k within =
     let due = le-leb (0 + span [] + a.delta) now (omega arith) in
     let items_are = ap (λ (t : Timeouts). t.items) k.view in
     let first : due_first now t.live ≡ Some (said [] a) = ap (due_first now) was ∙ ap (λ (b : Bool). cond b (Some (said [] a)) None) due in
-    let others : due_rest now t.live ≡ rest = ap (due_rest now) was ∙ ap (λ (b : Bool). cond b rest (said [] a ∷ rest)) due in
-    (sym (ap (option_map pair_of) first),
-    ap (λ (l : List Timeout). let s : Timeouts = record { items = items; live = l } in s) (after_live after [] a back k.behind ∙ sym others)
-    ∙ ap (λ (n : ℕ). let s : Timeouts = record { items = n; live = due_rest now t.live } in s) items_are)
+    let others : due_rest now t.live ≡ rest = ap (due_rest now) was ∙ ap (λ (b : Bool). cond b rest (said [] a ∷ rest)) due in (
+      sym (ap (option_map pair_of) first),
+      ap (λ (l : List Timeout). let s : Timeouts = record { items = items; live = l } in s) (after_live after [] a back k.behind ∙ sym others)
+          ∙ ap (λ (n : ℕ). let s : Timeouts = record { items = n; live = due_rest now t.live } in s) items_are,
+    )
 
 pub due_no : (items : ℕ) (arms : List Arm) (t : Timeouts) (a : Arm) (back : List Arm) (now : ℕ) → seen_of items arms ≡ t → reverse arms ≡ a ∷ back → now < a.delta →
     (None ≡ option_map pair_of (due_first now t.live)) × (t ≡ drop_due t now)

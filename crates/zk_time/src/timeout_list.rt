@@ -116,8 +116,8 @@ impl TimeoutList {
             return None;
         }
         self.arms.pop();
-        let index = self.arms.len();
-        lengthen(&mut self.arms, index, arm.delta);
+        let end = self.arms.len();
+        lengthen(&mut self.arms, end, arm.delta);
         Some((arm.item, arm.queue))
     }
 }

@@ -36,8 +36,8 @@ known c =
       kept = c.self.invariant;
       before = around_place arms index c.remove-arm.result at.0 c.remove-arm.ensures.value;
       behind = around_removed arms c.lengthen.new.arms index c.remove-arm.result.delta at.0
-      (c.lengthen.ensures.earlier ∙ ap (earlier index) removed)
-      (c.lengthen.ensures.later ∙ ap (λ (l : List Arm). longer c.remove-arm.result.delta (later index l)) removed);
+          (c.lengthen.ensures.earlier ∙ ap (earlier index) removed)
+          (c.lengthen.ensures.later ∙ ap (λ (l : List Arm). longer c.remove-arm.result.delta (later index l)) removed);
     }
 
 -- the items of the Vec after the write

@@ -1,0 +1,161 @@
+ghost use Rattle.std.specs.Prelude.{◌≡◌, ℕ, ◌<◌, length};
+
+use crate::{Timeout, TimeoutList};
+use std::alloc::Global;
+use std::process::Abort;
+use std::test::*;
+use zk_base::NoMemory;
+
+const ITEMS: u32 = 6;
+
+/// The timeout list beside what is armed, in the order of arming.
+#[derive(Drop)]
+struct Beside {
+    list: TimeoutList,
+    plain: Vec<Timeout>,
+    ghost all_items: { list.items ≡ 6 },
+}
+
+/// The next of the pseudo-random numbers, below the bound.
+fn draw(seed: &mut u32, bound: u32) -> u32
+    requires { 0 < bound }
+    ensures { result < bound }
+{
+    *seed = seed.wrapping_mul(1_664_525).wrapping_add(1_013_904_223);
+    (*seed >> 16) % bound
+}
+
+/// The deadline of the item, if it is armed.
+fn deadline(plain: &[Timeout], item: u32) -> Option<u64> {
+    for timeout in plain {
+        if timeout.item == item {
+            return Some(timeout.deadline);
+        }
+    }
+    None
+}
+
+/// The one of the least deadline; of equal ones the first that was armed.
+fn next(plain: &[Timeout]) -> Option<Timeout> {
+    let mut next: Option<Timeout> = None;
+    for timeout in plain {
+        next = match next {
+            Some(least) if least.deadline <= timeout.deadline => Some(least),
+            _ => Some(*timeout),
+        };
+    }
+    next
+}
+
+impl Beside {
+    fn new(alloc: Global) -> Result<Beside, NoMemory> {
+        let list = TimeoutList::new(alloc, ITEMS)?;
+        Ok(Beside {
+            list,
+            plain: Vec::new(alloc),
+        })
+    }
+
+    /// The item is armed where it isn't.
+    fn arm(&mut self, item: u32, queue: u32, deadline: u64) -> Result<(), NoMemory>
+        requires { item < 6 }
+    {
+        if self.list.is_armed(item) {
+            return Ok(());
+        }
+        self.list.arm(item, queue, deadline);
+        self.plain.push(Timeout {
+            item,
+            queue,
+            deadline,
+        })?;
+        Ok(())
+    }
+
+    fn disarm<R: Abort>(&mut self, rt: &R, item: u32) {
+        let armed = deadline(&self.plain, item).is_some();
+        assert_eq!(rt; self.list.disarm(item), armed);
+        self.plain.retain(|timeout| timeout.item != item);
+    }
+
+    /// Takes out all that have expired.
+    fn expire<R: Abort>(&mut self, rt: &R, now: u64) {
+        for _ in 0..ITEMS {
+            self.due(rt, now);
+        }
+    }
+
+    fn due<R: Abort>(&mut self, rt: &R, now: u64) {
+        let due = self.list.due(now);
+        match next(&self.plain) {
+            Some(next) if next.deadline <= now => {
+                assert_eq!(rt; due, Some((next.item, next.queue)));
+                self.plain.retain(|timeout| timeout.item != next.item);
+            }
+            _ => assert_eq!(rt; due, None),
+        }
+    }
+
+    /// Both say the same of each item.
+    fn agree<R: Abort>(&self, rt: &R, now: u64) {
+        for item in 0..ITEMS {
+            let deadline = deadline(&self.plain, item);
+            assert_eq!(rt; self.list.deadline(item), deadline, "item {item}");
+            assert_eq!(rt; self.list.is_armed(item), deadline.is_some(), "item {item}");
+        }
+        let due = self.plain.iter().filter(|timeout| timeout.deadline <= now);
+        assert_eq!(rt; self.list.count_due(now), due.count());
+        assert_eq!(rt; self.list.len(), self.plain.len());
+    }
+
+    /// One operation.
+    fn step<R: Abort>(&mut self, rt: &R, seed: &mut u32) -> Result<(), NoMemory> {
+        let item = draw(seed, ITEMS);
+        let queue = draw(seed, 3);
+        let moment = u64::from(draw(seed, 12));
+        match draw(seed, 8) {
+            0..=3 => self.arm(item, queue, moment)?,
+            4 | 5 => self.disarm(rt, item),
+            6 => self.due(rt, moment),
+            _ => self.expire(rt, moment),
+        }
+        self.agree(rt, moment);
+        Ok(())
+    }
+}
+
+#[test]
+fn random_histories(rt: HostRuntime) -> Result<(), Fail> {
+    for history in 0..20 {
+        let mut seed = history;
+        let mut beside = Beside::new(rt.alloc())?;
+        for _ in 0..300 {
+            beside.step(&rt, &mut seed)?;
+        }
+    }
+    Ok(())
+}
+
+#[test]
+fn each_call(rt: HostRuntime) -> Result<(), Fail> {
+    let mut list = TimeoutList::new(rt.alloc(), 4)?;
+    list.arm(2, 7, 30);
+    list.arm(0, 8, u64::MAX);
+    list.arm(3, 9, 30);
+    assert_eq!(rt; list.len(), 3);
+    assert_eq!(rt; list.deadline(3), Some(30));
+    assert_eq!(rt; list.deadline(0), Some(u64::MAX));
+    assert_eq!(rt; list.deadline(1), None);
+    assert_eq!(rt; list.count_due(29), 0);
+    assert_eq!(rt; list.count_due(30), 2);
+    assert_eq!(rt; list.due(29), None);
+    assert_eq!(rt; list.due(30), Some((2, 7)));
+    assert_eq!(rt; list.due(30), Some((3, 9)));
+    assert_eq!(rt; list.due(30), None);
+    assert_eq!(rt; list.is_armed(0), true);
+    assert_eq!(rt; list.disarm(0), true);
+    assert_eq!(rt; list.disarm(0), false);
+    assert_eq!(rt; list.is_armed(0), false);
+    assert_eq!(rt; list.len(), 0);
+    Ok(())
+}
