@@ -28,9 +28,13 @@ pub record IsTimely (time entries : ℕ) : Type 0 where
 abbrev pub is_alarm : ℕ → ℕ → Alarm → Bool
 is_alarm player moment a = a.player == player && a.moment == moment
 
--- the player has an alarm of this moment, and the moment has come
+-- the player has an alarm of this moment
+abbrev pub has_alarm : List Alarm → ℕ → ℕ → Bool
+has_alarm alarms player moment = list_any (is_alarm player moment) alarms
+
+-- and the moment has come
 abbrev pub is_due : ℕ → List Alarm → ℕ → ℕ → Bool
-is_due time alarms player moment = nat_le moment time && list_any (is_alarm player moment) alarms
+is_due time alarms player moment = nat_le moment time && has_alarm alarms player moment
 
 -- the reply to each operation, where it is possible
 abbrev pub clock_reply : Clock → Who → ClockOp → Option ClockReply

@@ -1,6 +1,6 @@
-ghost use Rattle.std.specs.Prelude.{◌≡◌, ◌+◌, ◌-◌, ◌^◌, ◌<◌, ◌≤◌, ◌++◌, ◌∷◌, [], vec_len, vec_capacity, if◌then◌else◌, IsOk, IfOk, OnOk, OnErr};
+ghost use Rattle.std.specs.Prelude.{◌≡◌, ◌+◌, ◌-◌, ◌^◌, ◌<◌, ◌≤◌, ◌++◌, ◌∷◌, [], position, vec_len, vec_capacity, if◌then◌else◌, IsOk, IfOk, OnOk, OnErr};
 ghost use Rattle.zk_model_wait.specs.Lists.{without_first};
-ghost use Rattle.zk_model_wait.specs.Clock.{new_clock, is_alarm, is_due, clock_reply, after_reply};
+ghost use Rattle.zk_model_wait.specs.Clock.{new_clock, is_alarm, has_alarm, is_due, clock_reply, after_reply};
 
 use std::alloc::Global;
 use std::marker::Model;
@@ -62,11 +62,27 @@ fn is_alarm(alarm: Alarm, player: u32, moment: u64) -> bool
     alarm.player == player && alarm.moment == moment
 }
 
+/// Whether the player has an alarm of this moment.
+fn has_alarm(alarms: &[Alarm], player: u32, moment: u64) -> bool
+    ensures { result ≡ has_alarm alarms.now player moment }
+{
+    alarms.iter().any(|alarm| is_alarm(*alarm, player, moment))
+}
+
 /// Whether the player may end an alarm of this moment.
 pub fn is_due(time: u64, alarms: &[Alarm], player: u32, moment: u64) -> bool
     ensures { result ≡ is_due time alarms.now player moment }
 {
-    moment <= time && alarms.iter().any(|alarm| is_alarm(*alarm, player, moment))
+    moment <= time && has_alarm(alarms, player, moment)
+}
+
+/// The place of the first alarm of this player and moment.
+fn place(alarms: &[Alarm], player: u32, moment: u64) -> Option<usize>
+    ensures { result ≡ position (is_alarm player moment) alarms.now }
+{
+    alarms
+        .iter()
+        .position(|alarm| is_alarm(*alarm, player, moment))
 }
 
 /// One alarm more.
@@ -92,10 +108,7 @@ pub fn end_alarm(alarms: &mut Vec<Alarm>, player: u32, moment: u64)
     ensures len { vec_len alarms.new ≤ vec_len alarms.old }
     ensures capacity { vec_capacity alarms.new ≡ vec_capacity alarms.old }
 {
-    let place = alarms
-        .iter()
-        .position(|alarm| is_alarm(*alarm, player, moment));
-    if let Some(place) = place {
+    if let Some(place) = place(alarms, player, moment) {
         alarms.remove(place);
     }
 }
