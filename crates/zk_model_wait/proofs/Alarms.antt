@@ -1,7 +1,7 @@
 -- How many alarms were set, stand and have ended.
-use Rattle.std.proofs.Common.{◌≡◌, ℕ, ◌+◌, ◌<◌, ◌≤◌, ◌⊎◌, inl, inr, Bool, true, false, ◌&&◌, eqb, leb, cond, List, [], ◌∷◌, ◌++◌, Some, None, refl, sym, ap, subst, ◌∙◌, arith}
+use Rattle.std.proofs.Common.{◌≡◌, ℕ, ◌+◌, Bool, true, false, ◌&&◌, eqb, leb, cond, List, [], ◌∷◌, Some, None, refl, sym, ap, subst, ◌∙◌, arith}
 use Rattle.std.specs.Cmp.{first_so, second_so}
-use Rattle.std.specs.List.{list_any, count_by}
+use Rattle.std.specs.List.{count_by}
 use Rattle.std.proofs.lemmas.Bool.{leb-true, le-leb}
 use Rattle.std.proofs.lemmas.Bool.Decides.{nat_tests}
 use Rattle.std.proofs.lemmas.List.Sums.{sum_by-cons, sum_by_push}
@@ -17,7 +17,7 @@ use Rattle.zk_model_wait.specs.declared.clock.ClockReply.{ClockReply}
 use Rattle.zk_model_wait.specs.declared.clock.ClockReply.TheVariants.{Now, At, Due}
 use Rattle.zk_model_wait.specs.Lists.{without_first}
 use Rattle.zk_model_wait.specs.Clock.{Clock, new_clock, is_alarm, has_alarm, is_due, clock_reply, clock_next, clock_machine}
-use Rattle.zk_model_wait.specs.ClockLaws.{ClockHistory, time_after, clock_after, is_at, is_end_of, sets, ends, IsClockHistory, DueWhenItsMomentHasCome, EachEndsOnce, MayEndOnceItHasCome}
+use Rattle.zk_model_wait.specs.ClockLaws.{ClockHistory, clock_after, is_at, is_end_of, sets, ends, IsClockHistory, DueWhenItsMomentHasCome, EachEndsOnce, MayEndOnceItHasCome}
 use Rattle.zk_model_wait.proofs.Firsts.{one_if, count-without, count-aside, any-counted, counted-any}
 use Rattle.zk_model_wait.proofs.Ticks.{replied}
 
