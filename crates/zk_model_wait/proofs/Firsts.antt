@@ -51,6 +51,15 @@ module _ {A : Type 0} (p : A → Bool) where
   length-without [] some = absurd (cc)
   length-without (x ∷ xs) some = length-without-at x xs (p x) (length-without xs) some
 
+  length-less-at : (x : A) (xs : List A) (b : Bool) → length (without_first p xs) ≤ length xs → length (cond b xs (x ∷ without_first p xs)) ≤ suc (length xs)
+  length-less-at x xs true less = omega arith
+  length-less-at x xs false less = omega arith
+
+  -- it isn't longer
+  pub length-less : (xs : List A) → length (without_first p xs) ≤ length xs
+  length-less [] = omega arith
+  length-less (x ∷ xs) = length-less-at x xs (p x) (length-less xs)
+
   count-without-at : (x : A) (xs : List A) (b : Bool) → p x ≡ b → (list_any p xs ≡ true → 1 + count_by p (without_first p xs) ≡ count_by p xs) → (b || list_any p xs) ≡ true →
       1 + count_by p (cond b xs (x ∷ without_first p xs)) ≡ count_by p (x ∷ xs)
   count-without-at x xs true is rest some =

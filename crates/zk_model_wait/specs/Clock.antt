@@ -1,4 +1,4 @@
-use Rattle.std.specs.Prelude.{ℕ, ◌+◌, ◌-◌, ◌*◌, ◌^◌, ◌<◌, ◌≤◌, Bool, true, nat_le, ◌==◌, ◌&&◌, if◌then◌else◌, Option, Some, None, is_some, List, [], ◌∷◌, ◌++◌}
+use Rattle.std.specs.Prelude.{ℕ, ◌+◌, ◌-◌, ◌*◌, ◌^◌, ◌<◌, ◌≤◌, Bool, true, false, nat_le, ◌==◌, ◌&&◌, if◌then◌else◌, Option, Some, None, is_some, List, [], ◌∷◌, ◌++◌}
 use Rattle.std.specs.List.{list_any}
 use Rattle.zk_base.specs.declared.ids.Who.{Who}
 use Rattle.zk_base.specs.Legal.{Machine}
@@ -55,6 +55,11 @@ clock_next c who op = let after = changed c who op in record after { entries = c
 -- the state after an operation with this reply: nothing changes where there is none
 abbrev pub after_reply : Clock → Who → ClockOp → Option ClockReply → Clock
 after_reply c who op reply = if is_some reply then clock_next c who op else c
+
+-- the operation sets an alarm
+abbrev pub sets_alarm : ClockOp → Bool
+sets_alarm (ops.Alarm ticks) = true
+sets_alarm _ = false
 
 -- an operation names nothing that could be missing
 abbrev pub in_range : Clock → ClockOp → Bool

@@ -1,6 +1,6 @@
-ghost use Rattle.std.specs.Prelude.{◌≡◌, ◌+◌, ◌-◌, ◌^◌, ◌<◌, ◌≤◌, ◌++◌, ◌∷◌, [], position, vec_len, vec_capacity, if◌then◌else◌, IsOk, IfOk, OnOk, OnErr};
+ghost use Rattle.std.specs.Prelude.{◌≡◌, false, ◌+◌, ◌-◌, ◌^◌, ◌<◌, ◌≤◌, ◌++◌, ◌∷◌, [], position, vec_len, vec_capacity, if◌then◌else◌, IsOk, IfOk, OnOk, OnErr};
 ghost use Rattle.zk_model_wait.specs.Lists.{without_first};
-ghost use Rattle.zk_model_wait.specs.Clock.{new_clock, is_alarm, has_alarm, is_due, clock_reply, after_reply};
+ghost use Rattle.zk_model_wait.specs.Clock.{new_clock, is_alarm, has_alarm, is_due, clock_reply, after_reply, sets_alarm};
 
 use std::alloc::Global;
 use std::marker::Model;
@@ -165,7 +165,7 @@ impl ClockState {
 
 /// One operation of the clock's machine: its reply and its next state.
 ///
-/// `None` says that the operation isn't possible now.
+/// `None` says that the operation isn't possible now. Only `Alarm` takes memory.
 pub fn clock_next(
     state: &mut ClockState,
     who: Who,
@@ -175,6 +175,7 @@ pub fn clock_next(
     ensures reply { IfOk result (λ reply. reply ≡ clock_reply state.old who op.now) }
     ensures next { IfOk result (λ reply. state.new ≡ after_reply state.old who op.now reply) }
     ensures unchanged { OnErr result (state.new ≡ state.old) }
+    ensures memory { sets_alarm op.now ≡ false → IsOk result }
 {
     match *op {
         ClockOp::Announce(ticks) => Ok(state.announce(who, ticks)),

@@ -1,0 +1,3 @@
+pub mod ClockKept
+pub mod ClockLaws
+pub mod ClockSeen
