@@ -1,14 +1,12 @@
 -- The laws of the engine, over all states and operations.
-use Rattle.std.proofs.Common.{◌≡◌, ℕ, ◌+◌, ◌≤◌, Bool, true, false, ◌&&◌, leb, cond, Some, None, is_some, length, refl, arith}
+use Rattle.std.proofs.Common.{◌≡◌, ◌+◌, ◌≤◌, Bool, true, false, leb, cond, Some, None, is_some, refl, arith}
 use Rattle.std.proofs.lemmas.List.{length-append}
 use Rattle.std.specs.Cmp.{second_so}
 use Rattle.zk_base.specs.declared.ids.Who.{Who}
 use Rattle.zk_model_wait.specs.declared.clock.Alarm.{Alarm}
 use Rattle.zk_model_wait.specs.declared.clock.ClockOp.{ClockOp}
 use Rattle.zk_model_wait.specs.declared.clock.ClockOp.TheVariants as ops
-use Rattle.zk_model_wait.specs.declared.clock.ClockReply.{ClockReply}
 use Rattle.zk_model_wait.specs.declared.clock.ClockReply.TheVariants.{Due}
-use Rattle.zk_model_wait.specs.Lists.{without_first}
 use Rattle.zk_model_wait.specs.Clock.{Clock, is_alarm, has_alarm, is_due, in_range, clock_next, clock_reply}
 use Rattle.zk_model_wait.proofs.Firsts.{length-without, length-less}
 use Rattle.zk_time.specs.ClockKept.{clock_owed, clock_closes}

@@ -1,3 +1,4 @@
 pub mod ClockKept
 pub mod ClockLaws
 pub mod ClockSeen
+pub mod ClockTests

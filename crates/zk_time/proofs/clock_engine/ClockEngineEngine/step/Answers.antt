@@ -1,4 +1,4 @@
-use Rattle.std.proofs.Common.{◌≡◌, refl, sym, subst, ◌∙◌, ap}
+use Rattle.std.proofs.Common.{refl, sym, ◌∙◌, ap}
 use Rattle.zk_model_wait.specs.Clock.{Clock, clock_reply, clock_next, after_reply}
 use Rattle.zk_time.proofs.clock_engine.ClockEngineEngine.step.Goals as goal
 
