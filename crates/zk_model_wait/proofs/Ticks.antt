@@ -1,7 +1,8 @@
 -- The time of the clock, and what is told of it.
-use Rattle.std.proofs.Common.{◌≡◌, ◌+◌, [], ◌∷◌, ◌++◌, Some, refl, sym, ap, ◌∙◌, arith}
+use Rattle.std.proofs.Common.{◌≡◌, ◌+◌, ◌-◌, ◌*◌, ◌^◌, ◌<◌, ◌≤◌, [], ◌∷◌, ◌++◌, length, All, Some, refl, sym, ap, ◌∙◌, arith}
 use Rattle.std.specs.List.{sum_by}
 use Rattle.std.proofs.lemmas.List.Sums.{sum_by-cons}
+use Rattle.std.proofs.lemmas.List.Elements.{All-head, All-tail}
 use Rattle.std.proofs.lemmas.Option.{same_Some}
 use Rattle.zk_base.specs.declared.ids.Who.{Who}
 use Rattle.zk_base.specs.declared.ids.Entry.{Entry}
@@ -11,7 +12,7 @@ use Rattle.zk_model_wait.specs.declared.clock.ClockOp.TheVariants as ops
 use Rattle.zk_model_wait.specs.declared.clock.ClockReply.{ClockReply}
 use Rattle.zk_model_wait.specs.declared.clock.ClockReply.TheVariants.{Now, At}
 use Rattle.zk_model_wait.specs.Clock.{Clock, new_clock, clock_reply, clock_next, clock_machine}
-use Rattle.zk_model_wait.specs.ClockLaws.{ClockHistory, time_after, clock_after, ticks_of, IsClockHistory, TimeIsAllTicks, TimeNeverFalls, AnnounceTellsTheTime, AlarmTellsItsMoment}
+use Rattle.zk_model_wait.specs.ClockLaws.{ClockHistory, time_after, clock_after, ticks_of, IsClockHistory, TimeIsAllTicks, TimeNeverFalls, TimeIsShort, AnnounceTellsTheTime, AlarmTellsItsMoment}
 use Rattle.zk_model_wait.proofs.Parts.{state_after-append, Replays-rest}
 
 time-next : (c : Clock) (who : Who) (op : ClockOp) → (clock_next c who op).time ≡ c.time + ticks_of op
@@ -33,6 +34,20 @@ pub time_never_falls : TimeNeverFalls
 time_never_falls front rest =
     let both : time_after (front ++ rest) ≡ (state_after clock_machine (clock_after front) rest).time = ap (λ (c : Clock). c.time) (state_after-append clock_machine new_clock front rest) in
     let later = time-state (clock_after front) rest in
+    omega arith
+
+time-most : (h : ClockHistory) → All (λ (e : Entry ClockOp ClockReply). ticks_of e.op < 2 ^ 32) h → sum_by (λ (e : Entry ClockOp ClockReply). ticks_of e.op) h ≤ length h * (2 ^ 32 - 1)
+time-most [] few = omega arith
+time-most (e ∷ es) few =
+    let P : Entry ClockOp ClockReply → Type 0 = λ e. ticks_of e.op < 2 ^ 32 in
+    let here = All-head P e es few in
+    let rest = time-most es (All-tail P e es few) in
+    omega (arith, sum_by-cons (λ (e : Entry ClockOp ClockReply). ticks_of e.op) e es)
+
+pub time_is_short : TimeIsShort
+time_is_short h few short =
+    let all = time-state new_clock h in
+    let most = time-most h few in
     omega arith
 
 -- what an entry of a history is answered

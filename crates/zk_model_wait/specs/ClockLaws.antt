@@ -1,4 +1,4 @@
-use Rattle.std.specs.Prelude.{◌≡◌, ℕ, ◌+◌, ◌<◌, ◌≤◌, Bool, true, false, ◌==◌, ◌&&◌, count_by, sum_by, Some, List, ◌∷◌, ◌++◌}
+use Rattle.std.specs.Prelude.{◌≡◌, ℕ, ◌+◌, ◌-◌, ◌^◌, ◌<◌, ◌≤◌, Bool, true, false, ◌==◌, ◌&&◌, count_by, sum_by, Some, List, ◌∷◌, ◌++◌, length, All}
 use Rattle.std.specs.List.{list_any}
 use Rattle.zk_base.specs.declared.ids.Who.{Who}
 use Rattle.zk_base.specs.declared.ids.Entry.{Entry}
@@ -37,6 +37,10 @@ TimeIsAllTicks = (h : ClockHistory) → time_after h ≡ sum_by (λ e. ticks_of 
 -- the time never falls
 abbrev pub TimeNeverFalls : Type 0
 TimeNeverFalls = (front rest : ClockHistory) → time_after front ≤ time_after (front ++ rest)
+
+-- after fewer than 2^32 - 1 entries, each of fewer than 2^32 ticks, the time is below 2^64 - 2^33
+abbrev pub TimeIsShort : Type 0
+TimeIsShort = (h : ClockHistory) → All (λ e. ticks_of e.op < 2 ^ 32) h → length h < 2 ^ 32 - 1 → time_after h < 2 ^ 64 - 2 ^ 33
 
 -- an announcement is answered the time before it and its ticks
 abbrev pub AnnounceTellsTheTime : Type 0

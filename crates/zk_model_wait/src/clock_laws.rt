@@ -1,10 +1,12 @@
-ghost use Rattle.zk_model_wait.specs.ClockLaws.{TimeIsAllTicks, TimeNeverFalls, AnnounceTellsTheTime, AlarmTellsItsMoment, DueWhenItsMomentHasCome, EachEndsOnce, MayEndOnceItHasCome};
+ghost use Rattle.zk_model_wait.specs.ClockLaws.{TimeIsAllTicks, TimeNeverFalls, TimeIsShort, AnnounceTellsTheTime, AlarmTellsItsMoment, DueWhenItsMomentHasCome, EachEndsOnce, MayEndOnceItHasCome};
 
 /// Of every legal history of the clock: its time is the sum of all ticks that were announced, and so
-/// never falls. An announcement is answered the time after it, and an alarm the moment to which it runs.
+/// never falls, and stays far below 2^64. An announcement is answered the time after it, and an alarm
+/// the moment to which it runs.
 pub fn time_passes()
     ensures sum { TimeIsAllTicks }
     ensures rises { TimeNeverFalls }
+    ensures short { TimeIsShort }
     ensures told { AnnounceTellsTheTime }
     ensures moment { AlarmTellsItsMoment }
 {}

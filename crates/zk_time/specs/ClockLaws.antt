@@ -27,6 +27,7 @@ adds c who (ops.Announce ticks) = omega arith
 adds c who (ops.Alarm ticks) = omega (arith, length-append {A = Alarm})
 adds c who (ops.AlarmEnd moment) = let less = length-less (is_alarm who.number moment) c.alarms in omega arith
 
+-- an end that is possible was due
 was_due : (b : Bool) → is_some (cond b (Some Due) None) ≡ true → b ≡ true
 was_due true some = refl
 was_due false some = some
