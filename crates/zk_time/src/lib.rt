@@ -1,13 +1,19 @@
-//! The timeouts of the items that are armed, the least deadline first.
+//! The services of time: the clock with its alarms, and the timeouts of the items that are armed.
 #![tactic(auto)]
 
 mod arm;
+mod clock;
+mod clock_engine;
 mod deltas;
 mod timeout;
 mod timeout_list;
 
+pub use clock::Clock;
+pub use clock_engine::ClockEngine;
 pub use timeout::Timeout;
 pub use timeout_list::TimeoutList;
 
+#[cfg(test)]
+mod clock_tests;
 #[cfg(test)]
 mod tests;

@@ -1,0 +1,110 @@
+-- A list without its first element that passes, and how many pass.
+use Rattle.std.proofs.Common.{◌≡◌, ℕ, suc, ◌+◌, ◌<◌, ◌≤◌, Bool, true, false, not, cond, ltb, ◌||◌, Some, None, List, [], ◌∷◌, length, refl, ap, sym, ◌∙◌, arith}
+use Rattle.std.specs.List.{position, position_or_len, remove, list_any, count_by}
+use Rattle.std.proofs.lemmas.Bool.Decides.{nat_tests}
+use Rattle.std.proofs.lemmas.Grind.{common_steps}
+use Rattle.std.proofs.lemmas.List.Sums.{sum_by-cons}
+use Rattle.zk_model_wait.specs.Lists.{without_first}
+
+-- a search that finds nothing, and one that finds a place
+place_past : (n long : ℕ) → cond (ltb n long) (Some n) None ≡ None → long ≤ n
+place_past n long none = grind (arith, nat_tests)
+
+place_within : (n place long : ℕ) → cond (ltb n long) (Some n) None ≡ Some place → (n ≡ place) × (place < long)
+place_within n place long found = grind (arith, nat_tests)
+
+remove_past : {A : Type 0} (n : ℕ) (xs : List A) → length xs ≤ n → remove xs n ≡ xs
+remove_past n xs past = grind (arith, common_steps)
+
+-- one where it is so
+abbrev pub one_if : Bool → ℕ
+one_if b = cond b 1 0
+
+module _ {A : Type 0} (p : A → Bool) where
+  remove-first-at : (x : A) (xs : List A) (b : Bool) (n : ℕ) (rest : List A) → remove xs n ≡ rest → remove (x ∷ xs) (cond (not b) (1 + n) 0) ≡ cond b xs (x ∷ rest)
+  remove-first-at x xs true n rest same = refl
+  remove-first-at x xs false n rest same =
+      let next : 1 + n ≡ suc n = omega arith in
+      ap (remove (x ∷ xs)) next ∙ ap (λ (xs : List A). x ∷ xs) same
+
+  remove-first : (xs : List A) → remove xs (position_or_len p xs) ≡ without_first p xs
+  remove-first [] = refl
+  remove-first (x ∷ xs) = remove-first-at x xs (p x) (position_or_len p xs) (without_first p xs) (remove-first xs)
+
+  -- the first place that passes, taken out
+  pub remove-place : (xs : List A) (place : ℕ) → position p xs ≡ Some place → remove xs place ≡ without_first p xs
+  remove-place xs place found = ap (remove xs) (sym (place_within (position_or_len p xs) place (length xs) found).0) ∙ remove-first xs
+
+  -- where no place passes, nothing is taken out
+  pub without-none : (xs : List A) → position p xs ≡ None → without_first p xs ≡ xs
+  without-none xs none =
+      let past = place_past (position_or_len p xs) (length xs) none in
+      sym (remove-first xs) ∙ remove_past (position_or_len p xs) xs past
+
+  length-without-at : (x : A) (xs : List A) (b : Bool) → (list_any p xs ≡ true → 1 + length (without_first p xs) ≡ length xs) → (b || list_any p xs) ≡ true →
+      1 + length (cond b xs (x ∷ without_first p xs)) ≡ suc (length xs)
+  length-without-at x xs true rest some = omega arith
+  length-without-at x xs false rest some = let long = rest some in omega arith
+
+  -- where one passes, one is taken out
+  pub length-without : (xs : List A) → list_any p xs ≡ true → 1 + length (without_first p xs) ≡ length xs
+  length-without [] some = absurd (cc)
+  length-without (x ∷ xs) some = length-without-at x xs (p x) (length-without xs) some
+
+  length-less-at : (x : A) (xs : List A) (b : Bool) → length (without_first p xs) ≤ length xs → length (cond b xs (x ∷ without_first p xs)) ≤ suc (length xs)
+  length-less-at x xs true less = omega arith
+  length-less-at x xs false less = omega arith
+
+  -- it isn't longer
+  pub length-less : (xs : List A) → length (without_first p xs) ≤ length xs
+  length-less [] = omega arith
+  length-less (x ∷ xs) = length-less-at x xs (p x) (length-less xs)
+
+  count-without-at : (x : A) (xs : List A) (b : Bool) → p x ≡ b → (list_any p xs ≡ true → 1 + count_by p (without_first p xs) ≡ count_by p xs) → (b || list_any p xs) ≡ true →
+      1 + count_by p (cond b xs (x ∷ without_first p xs)) ≡ count_by p (x ∷ xs)
+  count-without-at x xs true is rest some =
+      let here : one_if (p x) ≡ 1 = ap one_if is in
+      omega (arith, sum_by-cons (λ (y : A). one_if (p y)) x xs)
+  count-without-at x xs false is rest some =
+      let counted = rest some in
+      omega (arith, sum_by-cons (λ (y : A). one_if (p y)) x xs, sum_by-cons (λ (y : A). one_if (p y)) x (without_first p xs))
+
+  -- one less passes
+  pub count-without : (xs : List A) → list_any p xs ≡ true → 1 + count_by p (without_first p xs) ≡ count_by p xs
+  count-without [] some = absurd (cc)
+  count-without (x ∷ xs) some = count-without-at x xs (p x) refl (count-without xs) some
+
+  count-none-at : (x : A) (xs : List A) (b : Bool) → p x ≡ b → (list_any p xs ≡ false → count_by p xs ≡ 0) → (b || list_any p xs) ≡ false → count_by p (x ∷ xs) ≡ 0
+  count-none-at x xs true is rest none = absurd (cc)
+  count-none-at x xs false is rest none =
+      let here : one_if (p x) ≡ 0 = ap one_if is in
+      let behind = rest none in
+      omega (arith, sum_by-cons (λ (y : A). one_if (p y)) x xs)
+
+  count-none : (xs : List A) → list_any p xs ≡ false → count_by p xs ≡ 0
+  count-none [] none = refl
+  count-none (x ∷ xs) none = count-none-at x xs (p x) refl (count-none xs) none
+
+  some-of : (xs : List A) (b : Bool) → list_any p xs ≡ b → 0 < count_by p xs → b ≡ true
+  some-of xs true is some = refl
+  some-of xs false is some = let none = count-none xs is in absurd (omega arith)
+
+  -- where some are counted, one passes
+  pub any-counted : (xs : List A) → 0 < count_by p xs → list_any p xs ≡ true
+  any-counted xs some = some-of xs (list_any p xs) refl some
+
+  -- and where one passes, some are counted
+  pub counted-any : (xs : List A) → list_any p xs ≡ true → 0 < count_by p xs
+  counted-any xs some = let one = count-without xs some in omega arith
+
+module _ {A : Type 0} (p q : A → Bool) (apart : (x : A) → p x ≡ true → q x ≡ false) where
+  count-aside-at : (x : A) (xs : List A) (b : Bool) → p x ≡ b → count_by q (without_first p xs) ≡ count_by q xs → count_by q (cond b xs (x ∷ without_first p xs)) ≡ count_by q (x ∷ xs)
+  count-aside-at x xs true is rest =
+      let here : one_if (q x) ≡ 0 = ap one_if (apart x is) in
+      omega (arith, sum_by-cons (λ (y : A). one_if (q y)) x xs)
+  count-aside-at x xs false is rest = omega (arith, sum_by-cons (λ (y : A). one_if (q y)) x xs, sum_by-cons (λ (y : A). one_if (q y)) x (without_first p xs))
+
+  -- as many pass another test as before, which what is taken out doesn't pass
+  pub count-aside : (xs : List A) → count_by q (without_first p xs) ≡ count_by q xs
+  count-aside [] = refl
+  count-aside (x ∷ xs) = count-aside-at x xs (p x) refl (count-aside xs)

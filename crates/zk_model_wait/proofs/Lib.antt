@@ -1,0 +1,4 @@
+pub mod Alarms
+pub mod Firsts
+pub mod Parts
+pub mod Ticks

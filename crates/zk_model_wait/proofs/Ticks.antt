@@ -1,0 +1,63 @@
+-- The time of the clock, and what is told of it.
+use Rattle.std.proofs.Common.{◌≡◌, ◌+◌, ◌-◌, ◌*◌, ◌^◌, ◌<◌, ◌≤◌, [], ◌∷◌, ◌++◌, length, All, Some, refl, sym, ap, ◌∙◌, arith}
+use Rattle.std.specs.List.{sum_by}
+use Rattle.std.proofs.lemmas.List.Sums.{sum_by-cons}
+use Rattle.std.proofs.lemmas.List.Elements.{All-head, All-tail}
+use Rattle.std.proofs.lemmas.Option.{same_Some}
+use Rattle.zk_base.specs.declared.ids.Who.{Who}
+use Rattle.zk_base.specs.declared.ids.Entry.{Entry}
+use Rattle.zk_base.specs.Legal.{state_after}
+use Rattle.zk_model_wait.specs.declared.clock.ClockOp.{ClockOp}
+use Rattle.zk_model_wait.specs.declared.clock.ClockOp.TheVariants as ops
+use Rattle.zk_model_wait.specs.declared.clock.ClockReply.{ClockReply}
+use Rattle.zk_model_wait.specs.declared.clock.ClockReply.TheVariants.{Now, At}
+use Rattle.zk_model_wait.specs.Clock.{Clock, new_clock, clock_reply, clock_next, clock_machine}
+use Rattle.zk_model_wait.specs.ClockLaws.{ClockHistory, time_after, clock_after, ticks_of, IsClockHistory, TimeIsAllTicks, TimeNeverFalls, TimeIsShort, AnnounceTellsTheTime, AlarmTellsItsMoment}
+use Rattle.zk_model_wait.proofs.Parts.{state_after-append, Replays-rest}
+
+time-next : (c : Clock) (who : Who) (op : ClockOp) → (clock_next c who op).time ≡ c.time + ticks_of op
+time-next c who (ops.Announce ticks) = refl
+time-next c who (ops.Alarm ticks) = omega arith
+time-next c who (ops.AlarmEnd moment) = omega arith
+
+time-state : (c : Clock) (h : ClockHistory) → (state_after clock_machine c h).time ≡ c.time + sum_by (λ (e : Entry ClockOp ClockReply). ticks_of e.op) h
+time-state c [] = omega arith
+time-state c (e ∷ es) =
+    let here = time-next c e.who e.op in
+    let rest = time-state (clock_next c e.who e.op) es in
+    omega (arith, sum_by-cons (λ (e : Entry ClockOp ClockReply). ticks_of e.op) e es)
+
+pub time_is_all_ticks : TimeIsAllTicks
+time_is_all_ticks h = let all = time-state new_clock h in omega arith
+
+pub time_never_falls : TimeNeverFalls
+time_never_falls front rest =
+    let both : time_after (front ++ rest) ≡ (state_after clock_machine (clock_after front) rest).time = ap (λ (c : Clock). c.time) (state_after-append clock_machine new_clock front rest) in
+    let later = time-state (clock_after front) rest in
+    omega arith
+
+time-most : (h : ClockHistory) → All (λ (e : Entry ClockOp ClockReply). ticks_of e.op < 2 ^ 32) h → sum_by (λ (e : Entry ClockOp ClockReply). ticks_of e.op) h ≤ length h * (2 ^ 32 - 1)
+time-most [] few = omega arith
+time-most (e ∷ es) few =
+    let P : Entry ClockOp ClockReply → Type 0 = λ e. ticks_of e.op < 2 ^ 32 in
+    let here = All-head P e es few in
+    let rest = time-most es (All-tail P e es few) in
+    omega (arith, sum_by-cons (λ (e : Entry ClockOp ClockReply). ticks_of e.op) e es)
+
+pub time_is_short : TimeIsShort
+time_is_short h few short =
+    let all = time-state new_clock h in
+    let most = time-most h few in
+    omega arith
+
+-- what an entry of a history is answered
+pub replied : (front rest : ClockHistory) (e : Entry ClockOp ClockReply) → IsClockHistory (front ++ e ∷ rest) → clock_reply (clock_after front) e.who e.op ≡ Some e.reply
+replied front rest e legal = (Replays-rest clock_machine new_clock front (e ∷ rest) legal.0).0
+
+pub announce_tells_the_time : AnnounceTellsTheTime
+announce_tells_the_time front rest e ticks legal op =
+    sym (same_Some (Now (time_after front + ticks)) e.reply (ap (clock_reply (clock_after front) e.who) (sym op) ∙ replied front rest e legal))
+
+pub alarm_tells_its_moment : AlarmTellsItsMoment
+alarm_tells_its_moment front rest e ticks legal op =
+    sym (same_Some (At (time_after front + ticks)) e.reply (ap (clock_reply (clock_after front) e.who) (sym op) ∙ replied front rest e legal))

@@ -1,0 +1,85 @@
+use Rattle.std.specs.Prelude.{◌≡◌, ℕ, ◌+◌, ◌-◌, ◌^◌, ◌<◌, ◌≤◌, Bool, true, false, ◌==◌, ◌&&◌, count_by, sum_by, Some, List, ◌∷◌, ◌++◌, length, All}
+use Rattle.std.specs.List.{list_any}
+use Rattle.zk_base.specs.declared.ids.Who.{Who}
+use Rattle.zk_base.specs.declared.ids.Entry.{Entry}
+use Rattle.zk_base.specs.Legal.{state_after, IsLegal}
+use Rattle.zk_model_wait.specs.declared.clock.ClockOp.{ClockOp}
+use Rattle.zk_model_wait.specs.declared.clock.ClockOp.TheVariants as ops
+use Rattle.zk_model_wait.specs.declared.clock.ClockReply.{ClockReply}
+use Rattle.zk_model_wait.specs.declared.clock.ClockReply.TheVariants.{Now, At, Due}
+use Rattle.zk_model_wait.specs.Clock.{Clock, new_clock, clock_reply, clock_machine}
+
+-- a history of the clock
+abbrev pub ClockHistory : Type 0
+ClockHistory = List (Entry ClockOp ClockReply)
+
+-- a history that the clock lets stand from its first state on
+abbrev pub IsClockHistory : ClockHistory → Type 0
+IsClockHistory h = IsLegal clock_machine new_clock h
+
+-- the clock after a history
+abbrev pub clock_after : ClockHistory → Clock
+clock_after h = state_after clock_machine new_clock h
+
+-- the time after a history
+abbrev pub time_after : ClockHistory → ℕ
+time_after h = (clock_after h).time
+
+-- how many ticks an operation announces
+abbrev pub ticks_of : ClockOp → ℕ
+ticks_of (ops.Announce ticks) = ticks
+ticks_of _ = 0
+
+-- the time is the sum of all ticks that were announced
+abbrev pub TimeIsAllTicks : Type 0
+TimeIsAllTicks = (h : ClockHistory) → time_after h ≡ sum_by (λ e. ticks_of e.op) h
+
+-- the time never falls
+abbrev pub TimeNeverFalls : Type 0
+TimeNeverFalls = (front rest : ClockHistory) → time_after front ≤ time_after (front ++ rest)
+
+-- after fewer than 2^32 - 1 entries, each of fewer than 2^32 ticks, the time is below 2^64 - 2^33
+abbrev pub TimeIsShort : Type 0
+TimeIsShort = (h : ClockHistory) → All (λ e. ticks_of e.op < 2 ^ 32) h → length h < 2 ^ 32 - 1 → time_after h < 2 ^ 64 - 2 ^ 33
+
+-- an announcement is answered the time before it and its ticks
+abbrev pub AnnounceTellsTheTime : Type 0
+AnnounceTellsTheTime = (front rest : ClockHistory) (e : Entry ClockOp ClockReply) (ticks : ℕ) → IsClockHistory (front ++ e ∷ rest) → e.op ≡ ops.Announce ticks →
+    e.reply ≡ Now (time_after front + ticks)
+
+-- an alarm is answered its moment: the time at which it is set, and its ticks
+abbrev pub AlarmTellsItsMoment : Type 0
+AlarmTellsItsMoment = (front rest : ClockHistory) (e : Entry ClockOp ClockReply) (ticks : ℕ) → IsClockHistory (front ++ e ∷ rest) → e.op ≡ ops.Alarm ticks →
+    e.reply ≡ At (time_after front + ticks)
+
+-- the reply says that an alarm of this moment was set
+abbrev pub is_at : ℕ → ClockReply → Bool
+is_at moment (At set) = set == moment
+is_at moment _ = false
+
+-- the operation ends an alarm of this moment
+abbrev pub is_end_of : ℕ → ClockOp → Bool
+is_end_of moment (ops.AlarmEnd ended) = ended == moment
+is_end_of moment _ = false
+
+-- the entry sets an alarm of this player and moment
+abbrev pub sets : ℕ → ℕ → Entry ClockOp ClockReply → Bool
+sets player moment e = e.who.number == player && is_at moment e.reply
+
+-- the entry ends an alarm of this player and moment
+abbrev pub ends : ℕ → ℕ → Entry ClockOp ClockReply → Bool
+ends player moment e = e.who.number == player && is_end_of moment e.op
+
+-- an alarm that is told to be due was set before, by the same player and for this moment, and its moment has come
+abbrev pub DueWhenItsMomentHasCome : Type 0
+DueWhenItsMomentHasCome = (front rest : ClockHistory) (e : Entry ClockOp ClockReply) (moment : ℕ) → IsClockHistory (front ++ e ∷ rest) → e.op ≡ ops.AlarmEnd moment →
+    (e.reply ≡ Due) × (list_any (sets e.who.number moment) front ≡ true) × (moment ≤ time_after front)
+
+-- no more alarms of a player and moment end than were set
+abbrev pub EachEndsOnce : Type 0
+EachEndsOnce = (h : ClockHistory) (player moment : ℕ) → IsClockHistory h → count_by (ends player moment) h ≤ count_by (sets player moment) h
+
+-- an alarm that was set and hasn't ended may end once its moment has come
+abbrev pub MayEndOnceItHasCome : Type 0
+MayEndOnceItHasCome = (h : ClockHistory) (who : Who) (moment : ℕ) → IsClockHistory h → count_by (ends who.number moment) h < count_by (sets who.number moment) h → moment ≤ time_after h →
+    clock_reply (clock_after h) who (ops.AlarmEnd moment) ≡ Some Due

@@ -1,0 +1,11 @@
+//! The services that players wait at, as plain machines: the clock.
+#![tactic(auto)]
+
+mod clock;
+mod clock_laws;
+
+pub use clock::{Alarm, ClockOp, ClockReply, ClockState, clock_next, end_alarm, is_due, set_alarm};
+pub use clock_laws::{alarms_hold, time_passes};
+
+#[cfg(test)]
+mod clock_tests;

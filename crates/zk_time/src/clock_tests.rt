@@ -1,0 +1,90 @@
+ghost use Rattle.std.specs.Prelude.{◌+◌, ◌<◌, ◌≤◌, length, IfOk};
+ghost use Rattle.zk_time.specs.ClockSeen.{clock_history};
+ghost use Rattle.zk_time.specs.ClockTests.{IsBelow};
+
+use crate::Clock;
+use std::alloc::Global;
+use std::process::Abort;
+use std::test::*;
+use zk_base::{NoMemory, Service, Who};
+use zk_model_wait::ClockOp::{Alarm, AlarmEnd, Announce};
+use zk_model_wait::{ClockOp, ClockReply};
+
+/// One attempt: the player, the operation, and what is answered.
+type Row = (u32, ClockOp, &'static str);
+
+/// One attempt, at a step above all earlier ones.
+fn attempt(
+    clock: &mut Clock,
+    number: u32,
+    step: u32,
+    op: ClockOp,
+) -> Result<Option<ClockReply>, NoMemory>
+    requires below { IsBelow step (clock_history clock.old) }
+    requires few { step < 100 }
+    ensures { IfOk result (λ _. IsBelow (step + 1) (clock_history clock.new)) }
+{
+    clock.act(Who { number, prio: 0 }, step, op)
+}
+
+/// Makes the attempts one after another, and says what the clock has then.
+fn play<R: Abort>(rt: &R, alloc: Global, rows: &[Row]) -> Result<Clock, Fail>
+    requires { length rows.now < 100 }
+{
+    let mut clock = Clock::new(alloc);
+    for index in 0..rows.len() {
+        let (number, op, wanted) = rows[index];
+        let reply = attempt(&mut clock, number, index as u32, op)?;
+        let text = format!(in alloc; "{reply:?}")?;
+        assert_eq!(rt; text.as_str(), wanted, "at {index}");
+    }
+    Ok(clock)
+}
+
+/// Two players set alarms, of which two are of one moment, and time passes.
+#[test]
+fn alarms(rt: HostRuntime) -> Result<(), Fail> {
+    let clock = play(
+        &rt,
+        rt.alloc(),
+        &[
+            (0, AlarmEnd(0), "None"),
+            (0, Alarm(5), "Some(At(5))"),
+            (1, Alarm(3), "Some(At(3))"),
+            (2, Announce(2), "Some(Now(2))"),
+            (0, Alarm(3), "Some(At(5))"),
+            (1, AlarmEnd(3), "None"),
+            (2, Announce(1), "Some(Now(3))"),
+            (0, AlarmEnd(3), "None"),
+            (1, AlarmEnd(3), "Some(Due)"),
+            (1, AlarmEnd(3), "None"),
+            (2, Announce(4294967295), "Some(Now(4294967298))"),
+            (0, AlarmEnd(5), "Some(Due)"),
+            (0, AlarmEnd(5), "Some(Due)"),
+            (0, AlarmEnd(5), "None"),
+        ],
+    )?;
+    let mut text = String::new(rt.alloc());
+    for entry in clock.history() {
+        let line = format!(in rt.alloc();
+            "{}.{} {:?} {:?}; ",
+            entry.who.number, entry.step, entry.op, entry.reply
+        )?;
+        text.push_str(line.as_str())?;
+    }
+    assert_eq!(&rt;
+        text.as_str(),
+        "0.1 Alarm(5) At(5); 1.2 Alarm(3) At(3); 2.3 Announce(2) Now(2); 0.4 Alarm(3) At(5); 2.6 Announce(1) Now(3); 1.8 AlarmEnd(3) Due; 2.10 Announce(4294967295) Now(4294967298); 0.11 AlarmEnd(5) Due; 0.12 AlarmEnd(5) Due; "
+    );
+    assert_eq!(&rt; clock.into_history().len(), 9);
+    Ok(())
+}
+
+/// After `reserve` three entries fit.
+#[test]
+fn room(rt: HostRuntime) -> Result<(), Fail> {
+    let mut clock = Clock::new(rt.alloc());
+    clock.reserve()?;
+    assert!(&rt; clock.room() >= 3);
+    Ok(())
+}
