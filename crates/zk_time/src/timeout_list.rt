@@ -33,7 +33,8 @@ impl TimeoutList {
     ///
     /// It takes all the memory that the later calls need.
     pub fn new(alloc: Global, items: u32) -> Result<TimeoutList, NoMemory>
-        ensures { IfOk result (λ t. t ≡ nothing_armed items) }
+        ensures made { IfOk result (λ t. t ≡ nothing_armed items) }
+        ensures ordered { IfOk result IsOrdered }
     {
         let arms = Vec::with_capacity(alloc, items as usize)?;
         Ok(TimeoutList { arms })
@@ -112,12 +113,13 @@ impl TimeoutList {
         ensures ordered { IsOrdered self.new }
     {
         let arm = self.arms.last().copied()?;
-        if now < arm.delta {
+        let deadline = arm.delta;
+        if now < deadline {
             return None;
         }
         self.arms.pop();
         let end = self.arms.len();
-        lengthen(&mut self.arms, end, arm.delta);
+        lengthen(&mut self.arms, end, deadline);
         Some((arm.item, arm.queue))
     }
 }
