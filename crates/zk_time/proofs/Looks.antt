@@ -12,7 +12,7 @@ use Rattle.zk_time.proofs.Arming.{first_above}
 use Rattle.zk_time.specs.declared.arm.Arm.{Arm}
 use Rattle.zk_time.specs.declared.deltas.Place.{Place}
 use Rattle.zk_time.specs.declared.timeout.Timeout.{Timeout}
-use Rattle.zk_time.specs.Timeouts.{Timeouts, is_of, is_due, deadline_of, count_due, Differ}
+use Rattle.zk_time.specs.Timeouts.{Timeouts, is_of, is_due, deadline_of, queue_of, count_due, Differ}
 use Rattle.zk_time.specs.Deltas.{is_arm_of, span, timeouts_after, live_of, earlier, later, IsPlace, seen_of, IsKept}
 use Rattle.zk_time.proofs.Arms.{span-reverse, upto_span, length-timeouts, all_above, live-parts}
 use Rattle.zk_time.proofs.Orders.{Differ-around}
@@ -35,11 +35,10 @@ deadline_none items arms t item view none =
     let absent = sym (is_some-place item arms) ∙ ap is_some none in
     ap (λ (t : Timeouts). deadline_of t item) (sym view) ∙ ap (option_map (λ (a : Timeout). a.deadline)) (find_absent item (live_of arms) absent)
 
--- the deadline of one that is armed, at this place
-pub deadline_some : (items : ℕ) (arms : List Arm) (t : Timeouts) (item index : ℕ) → seen_of items arms ≡ t → IsKept items arms → position (is_arm_of item) arms ≡ Some index →
-    Some (span (drop index arms)) ≡ deadline_of t item
-deadline_some items arms t item index view kept found =
-    let d : Arm = record { item = 0; queue = 0; delta = 0 } in
+-- what an item is armed with, at this place
+found_at : (items : ℕ) (arms : List Arm) (t : Timeouts) (item index : ℕ) (d : Arm) → seen_of items arms ≡ t → IsKept items arms → position (is_arm_of item) arms ≡ Some index →
+    find (is_of item) t.live ≡ Some (record { item = (get_or arms index d).item; queue = (get_or arms index d).queue; deadline = span (drop index arms) })
+found_at items arms t item index d view kept found =
     let at = position-Some (is_arm_of item) arms index d found in
     let a = get_or arms index d in
     let front = earlier (index + 1) arms in
@@ -53,10 +52,25 @@ deadline_some items arms t item index view kept found =
     let more = sum_by-drop_more (λ (a : Arm). a.delta) arms index d at.0 in
     let passed = span-reverse (drop (index + 1) arms) in
     let sum : span (drop index arms) ≡ 0 + span front + a.delta = omega arith in
-    sym (ap (λ (t : Timeouts). deadline_of t item) (sym view)
-    ∙ ap (λ (l : List Timeout). option_map (λ (a : Timeout). a.deadline) (find (is_of item) l)) was
-    ∙ ap (option_map (λ (a : Timeout). a.deadline)) (find_behind item (timeouts_after 0 front) (said front a) (timeouts_after (0 + span front + a.delta) back) absent same)
-    ∙ ap (λ (n : ℕ). Some n) (sym sum))
+    ap (λ (t : Timeouts). find (is_of item) t.live) (sym view) ∙ ap (find (is_of item)) was
+    ∙ find_behind item (timeouts_after 0 front) (said front a) (timeouts_after (0 + span front + a.delta) back) absent same
+    ∙ ap (λ (n : ℕ). Some (record { item = a.item; queue = a.queue; deadline = n })) (sym sum)
+
+-- the deadline of one that is armed, at this place
+pub deadline_some : (items : ℕ) (arms : List Arm) (t : Timeouts) (item index : ℕ) → seen_of items arms ≡ t → IsKept items arms → position (is_arm_of item) arms ≡ Some index →
+    Some (span (drop index arms)) ≡ deadline_of t item
+deadline_some items arms t item index view kept found =
+    let d : Arm = record { item = 0; queue = 0; delta = 0 } in
+    sym (ap (option_map (λ (a : Timeout). a.deadline)) (found_at items arms t item index d view kept found))
+
+-- and its queue
+pub queue_some : (items : ℕ) (arms : List Arm) (t : Timeouts) (item index : ℕ) (d : Arm) → seen_of items arms ≡ t → IsKept items arms → position (is_arm_of item) arms ≡ Some index → Some (get_or arms index d).queue ≡ queue_of t item
+queue_some items arms t item index d view kept found = sym (ap (option_map (λ (a : Timeout). a.queue)) (found_at items arms t item index d view kept found))
+
+pub queue_none : (items : ℕ) (arms : List Arm) (t : Timeouts) (item : ℕ) → seen_of items arms ≡ t → position (is_arm_of item) arms ≡ None → queue_of t item ≡ None
+queue_none items arms t item view none =
+    let absent = sym (is_some-place item arms) ∙ ap is_some none in
+    ap (λ (t : Timeouts). queue_of t item) (sym view) ∙ ap (option_map (λ (a : Timeout). a.queue)) (find_absent item (live_of arms) absent)
 
 -- how many have expired: those from the place on at which a new arm of this deadline would go in
 pub counts_due : (items : ℕ) (arms : List Arm) (t : Timeouts) (now : ℕ) (p : Place) → seen_of items arms ≡ t → IsPlace arms now p → length arms - p.index ≡ count_due t now

@@ -1,5 +1,5 @@
 ghost use Rattle.std.specs.Prelude.{◌≡◌, ◌<◌, false, option_map, length, IfOk, IfSome};
-ghost use Rattle.zk_time.specs.Timeouts.{nothing_armed, is_armed, deadline_of, count_due, arm, disarm, due_first, drop_due, pair_of, IsOrdered};
+ghost use Rattle.zk_time.specs.Timeouts.{nothing_armed, is_armed, deadline_of, queue_of, count_due, arm, disarm, due_first, drop_due, pair_of, IsOrdered};
 
 use crate::arm::Arm;
 use crate::deltas::{lengthen, place_for, place_of, shorten, span};
@@ -61,6 +61,14 @@ impl TimeoutList {
     {
         let index = place_of(&self.arms, item)?;
         Some(span(&self.arms[index..]))
+    }
+
+    /// The queue that the item is to be submitted to, if it is armed.
+    pub fn queue(&self, item: u32) -> Option<u32>
+        ensures { result ≡ queue_of self.now item }
+    {
+        let index = place_of(&self.arms, item)?;
+        Some(self.arms[index].queue)
     }
 
     /// How many items have expired by now and are still armed. It looks at no others.

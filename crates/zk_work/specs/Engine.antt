@@ -1,4 +1,4 @@
-use Rattle.std.specs.Prelude.{◌≡◌, ℕ, zero, suc, ◌+◌, ◌-◌, ◌<◌, Bool, true, false, not, nat_lt, ◌==◌, ◌&&◌, ◌||◌, if◌then◌else◌, Option, Some, None, is_some, option_map, option_to_list, List, [], ◌++◌, filter, set, slice_get}
+use Rattle.std.specs.Prelude.{◌≡◌, ℕ, zero, suc, ◌+◌, ◌-◌, ◌^◌, ◌<◌, Bool, true, false, not, nat_lt, ◌==◌, ◌&&◌, ◌||◌, if◌then◌else◌, Option, Some, None, is_some, option_map, option_to_list, List, [], ◌++◌, filter, set, slice_get}
 use Rattle.std.specs.List.{list_any}
 use Rattle.std.specs.Option.{option_map_or, option_or}
 use Rattle.zk_model_work.specs.Questions.{weight}
@@ -240,3 +240,10 @@ after_reply k who op reply = if is_some reply then entered k who op else k
 abbrev pub is_now : WorkReply → Bool
 is_now (Now time told) = true
 is_now _ = false
+
+-- the ticks in an operation are of 32 bits
+abbrev pub IsTimely : WorkOp → Type 0
+IsTimely (ops.Schedule item queue delay) = delay < 2 ^ 32
+IsTimely (ops.Reschedule item queue delay) = delay < 2 ^ 32
+IsTimely (ops.Announce ticks) = ticks < 2 ^ 32
+IsTimely op = Unit {0}

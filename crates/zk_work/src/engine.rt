@@ -2,9 +2,9 @@ ghost use Rattle.std.specs.Prelude.{◌≡◌, ℕ, ◌+◌, ◌-◌, ◌^◌, �
 ghost use Rattle.zk_model_work.specs.State.{State, start_of};
 ghost use Rattle.zk_model_work.specs.Machine.{is_among, admitted_to};
 ghost use Rattle.zk_queue.specs.Open.{is_running};
-ghost use Rattle.zk_time.specs.Timeouts.{is_armed, due_first, count_due};
+ghost use Rattle.zk_time.specs.Timeouts.{is_armed, due_first, drop_due, count_due, pair_of};
 ghost use Rattle.zk_work.specs.Kept.{IsWhole, StandsFor, work_closes, work_grows};
-ghost use Rattle.zk_work.specs.Engine.{target_of, admission_of, answer_at, answer_of, MayAdmit, admitted, submitted, disarmed, is_pending, delayed, delay_reply, hurried, expiry_of, expired_next, expired, told, announced, announce_reply, flags_of, may_close, closed, reply_of, after_reply, is_now};
+ghost use Rattle.zk_work.specs.Engine.{target_of, admission_of, answer_at, answer_of, MayAdmit, admitted, submitted, disarmed, is_pending, delayed, delay_reply, hurried, expiry_of, expired_next, expired, told, announced, announce_reply, flags_of, may_close, closed, reply_of, after_reply, is_now, IsTimely};
 
 use crate::active::{busy_with, cancel, settle};
 use crate::waits::{close, is_flushing, may_close};
@@ -208,6 +208,8 @@ impl WorkEngine {
         requires item { item < self.old.kept.active.items }
         requires may { (queue : ℕ) → admitted_to answer ≡ Some queue → MayAdmit self.old.kept item queue }
         ensures next { self.new.kept ≡ submitted self.old.kept item answer }
+        ensures whole { self.old.kept.made + length self.old.kept.timeouts.live < self.old.kept.entries →
+            IsWhole self.new.kept }
         ensures room { self.new.room ≡ self.old.room }
     {
         match answer {
@@ -304,6 +306,17 @@ impl WorkEngine {
         Ok(Some(flush_start_reply(number)))
     }
 
+    /// The item isn't armed any more.
+    fn disarm(&mut self, item: u32)
+        requires whole { IsWhole self.old.kept }
+        ensures next { self.new.kept ≡ disarmed self.old.kept item }
+        ensures whole { IsWhole self.new.kept }
+        ensures free { is_armed self.new.kept.timeouts item ≡ false }
+        ensures room { self.new.room ≡ self.old.room }
+    {
+        self.timeouts.disarm(item);
+    }
+
     /// The item's delay ends, if it has one: the item is submitted by the player.
     fn hurry(&mut self, who: Who, item: u32)
         requires whole { IsWhole self.old.kept }
@@ -312,7 +325,7 @@ impl WorkEngine {
         ensures room { self.new.room ≡ self.old.room }
     {
         let queue = self.timeouts.queue(item);
-        self.timeouts.disarm(item);
+        self.disarm(item);
         if let Some(queue) = queue {
             let answer = self.answer(Some(who.number), item, Some(queue));
             self.take(item, answer);
@@ -354,6 +367,7 @@ impl WorkEngine {
         requires short { self.old.kept.entries < 2 ^ 32 - 1 }
         ensures reply { result ≡ reply_of self.old.kept who (WorkOp.Schedule item queue delay) }
         ensures next { self.new.kept ≡ after_reply self.old.kept who (WorkOp.Schedule item queue delay) result }
+        ensures timely { delay < 2 ^ 32 }
         ensures room { self.new.room ≡ self.old.room }
     {
         if self.is_pending(item) {
@@ -371,9 +385,10 @@ impl WorkEngine {
         requires short { self.old.kept.entries < 2 ^ 32 - 1 }
         ensures reply { result ≡ reply_of self.old.kept who (WorkOp.Reschedule item queue delay) }
         ensures next { self.new.kept ≡ after_reply self.old.kept who (WorkOp.Reschedule item queue delay) result }
+        ensures timely { delay < 2 ^ 32 }
         ensures room { self.new.room ≡ self.old.room }
     {
-        self.timeouts.disarm(item);
+        self.disarm(item);
         let reply = self.delay(who, item, queue, delay);
         self.entries += 1;
         Some(reply)
@@ -393,6 +408,18 @@ impl WorkEngine {
         Some(WorkReply::Number(remaining))
     }
 
+    /// Takes out the first item that is due by this time, if there is one: the item and its queue.
+    fn take_due(&mut self, time: u64) -> Option<(u32, u32)>
+        requires whole { IsWhole self.old.kept }
+        ensures reply { result ≡ option_map pair_of (due_first time self.old.kept.timeouts.live) }
+        ensures next { self.new.kept ≡ record self.old.kept { timeouts = drop_due self.old.kept.timeouts time } }
+        ensures whole { IsWhole self.new.kept }
+        ensures known { IfSome result (λ t. t.0 < self.old.kept.active.items) }
+        ensures room { self.new.room ≡ self.old.room }
+    {
+        self.timeouts.due(time)
+    }
+
     /// The first item that is due by this time is submitted by nobody. One has to be due.
     fn expire_next(&mut self, time: u64) -> Expiry
         requires whole { IsWhole self.old.kept }
@@ -402,7 +429,7 @@ impl WorkEngine {
         ensures whole { IsWhole self.new.kept }
         ensures room { self.new.room ≡ self.old.room }
     {
-        let Some((item, queue)) = self.timeouts.due(time) else {
+        let Some((item, queue)) = self.take_due(time) else {
             unreachable!();
         };
         let submitted = self.answer(None, item, Some(queue));
@@ -419,6 +446,7 @@ impl WorkEngine {
         ensures next { self.new.kept ≡ expired (count_due self.old.kept.timeouts time) time self.old.kept }
         ensures one { one.new.items ≡ told (count_due self.old.kept.timeouts time) time self.old.kept }
         ensures other { other.new.items ≡ told (count_due self.old.kept.timeouts time) time self.old.kept }
+        ensures entries { self.new.kept.entries ≡ self.old.kept.entries }
         ensures room { self.new.room ≡ self.old.room }
     {
         for _ in 0..self.timeouts.count_due(time) {
@@ -426,6 +454,16 @@ impl WorkEngine {
             tell(one, expiry);
             tell(other, expiry);
         }
+    }
+
+    /// It is this time, at an entry that is counted.
+    fn pass(&mut self, time: u64)
+        requires short { self.old.kept.entries < 2 ^ 32 - 1 }
+        ensures next { self.new.kept ≡ record self.old.kept { time = time; entries = self.old.kept.entries + 1 } }
+        ensures room { self.new.room ≡ self.old.room }
+    {
+        self.time = time;
+        self.entries += 1;
     }
 
     /// So many ticks have passed. The reply comes twice, since one of them is kept in the history.
@@ -438,6 +476,7 @@ impl WorkEngine {
           entries = self.old.kept.entries + 1;
         }) }
         ensures unchanged { OnErr result (self.new.kept ≡ self.old.kept) }
+        ensures timely { ticks < 2 ^ 32 }
         ensures room { self.new.room ≡ self.old.room }
     {
         let alloc = *self.waits.allocator();
@@ -446,8 +485,7 @@ impl WorkEngine {
         let mut one = Vec::with_capacity(alloc, due)?;
         let mut other = Vec::with_capacity(alloc, due)?;
         self.expire(time, &mut one, &mut other);
-        self.time = time;
-        self.entries += 1;
+        self.pass(time);
         Ok((
             WorkReply::Now(time, Listed::from_vec(one)),
             WorkReply::Now(time, Listed::from_vec(other)),
@@ -617,6 +655,7 @@ impl WorkEngine {
             self.new.kept ≡ after_reply self.old.kept who op.now reply) }
         ensures unchanged { OnErr result (self.new.kept ≡ self.old.kept) }
         ensures closing { work_closes op.now ≡ true → IsOk result }
+        ensures timely { IsTimely op.now }
         ensures roomy { 3 ≤ self.old.room → IsOk result }
         ensures room { self.old.room ≤ self.new.room + 3 }
     {
