@@ -86,7 +86,10 @@ fn ticks(rt: HostRuntime) -> Result<(), Fail> {
     let made = make(alloc, &scenario, &mut player, &second)?;
     assert_eq!(&rt; made.as_str(), "Clock(Announce(3)) Some(Clock(1))");
     let said = answer(alloc, &player)?;
-    assert_eq!(&rt; said.as_str(), "Some(Answered { step: 1, word: Tick, answer: Number(0) })");
+    assert_eq!(&rt;
+        said.as_str(),
+        "Some(Answered { step: 1, word: Tick, answer: Number(0) })"
+    );
     assert!(&rt; player.is_through());
     Ok(())
 }
