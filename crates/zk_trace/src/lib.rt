@@ -4,6 +4,7 @@
 mod entries;
 mod names;
 mod print;
+mod replies;
 mod sections;
 mod trace;
 mod words;
