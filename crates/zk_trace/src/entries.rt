@@ -1,5 +1,5 @@
 ghost use Rattle.std.specs.Prelude.{◌≡◌, ◌++◌, codes, decimal, OnOk};
-ghost use Rattle.zk_trace.specs.Names.{queue_name};
+ghost use Rattle.zk_trace.specs.Names.{player_name};
 ghost use Rattle.zk_trace.specs.Words.{spaced};
 ghost use Rattle.zk_trace.specs.Work.{named_queue, delayed_text, op_text};
 ghost use Rattle.zk_trace.specs.Clock.{clock_op_text};
@@ -8,7 +8,7 @@ ghost use Rattle.zk_trace.specs.Text.{work_line, clock_line};
 use crate::names::{item_name, player_name, queue_name};
 use crate::replies::{put_clock_reply, put_reply};
 use crate::words::{mode_word, put_number, put_spaced};
-use zk_base::{Entry, NoMemory, put};
+use zk_base::{Entry, NoMemory, Who, put};
 use zk_model_wait::{ClockOp, ClockReply};
 use zk_model_work::{WorkOp, WorkReply};
 use zk_scenario::Scenario;
@@ -21,7 +21,7 @@ pub fn put_work_entry(
 ) -> Result<(), NoMemory>
     ensures { OnOk result (out.new.items ≡ out.old.items ++ work_line scenario.now.decls entry.now) }
 {
-    put_step(out, player_name(scenario, entry.who.number as usize), entry.step)?;
+    put_step(out, scenario, entry.who, entry.step)?;
     put_op(out, scenario, entry.op)?;
     put(out, b" = ")?;
     put_reply(out, scenario, &entry.reply)?;
@@ -36,18 +36,18 @@ pub fn put_clock_entry(
 ) -> Result<(), NoMemory>
     ensures { OnOk result (out.new.items ≡ out.old.items ++ clock_line scenario.now.decls entry.now) }
 {
-    put_step(out, player_name(scenario, entry.who.number as usize), entry.step)?;
+    put_step(out, scenario, entry.who, entry.step)?;
     put_clock_op(out, entry.op)?;
     put(out, b" = ")?;
     put_clock_reply(out, entry.reply)?;
     put(out, b"\n")
 }
 
-fn put_step(out: &mut Vec<u8>, player: &[u8], step: u32) -> Result<(), NoMemory>
+fn put_step(out: &mut Vec<u8>, scenario: &Scenario, who: Who, step: u32) -> Result<(), NoMemory>
     ensures { OnOk result (out.new.items ≡
-        out.old.items ++ player.now ++ codes "." ++ decimal step ++ codes " ") }
+        out.old.items ++ player_name scenario.now.decls who.number ++ codes "." ++ decimal step ++ codes " ") }
 {
-    put(out, player)?;
+    put(out, player_name(scenario, who.number as usize))?;
     put_number(out, b".", u64::from(step))?;
     put(out, b" ")
 }
@@ -126,7 +126,12 @@ fn put_delayed(
     ensures { OnOk result (out.new.items ≡
         out.old.items ++ word.now ++ delayed_text scenario.now.decls item queue delay) }
 {
-    put_named_spaced(out, word, item_name(scenario, item), queue_name(scenario, queue))?;
+    put_named_spaced(
+        out,
+        word,
+        item_name(scenario, item),
+        queue_name(scenario, queue),
+    )?;
     put_number(out, b" ", u64::from(delay))
 }
 

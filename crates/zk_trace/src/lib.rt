@@ -11,3 +11,6 @@ mod words;
 
 pub use print::{print_trace, put_trace};
 pub use trace::{Ending, History, Logs, Trace};
+
+#[cfg(test)]
+mod tests;

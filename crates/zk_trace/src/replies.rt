@@ -108,11 +108,7 @@ fn put_now(
     put_expiries(out, scenario, expiries)
 }
 
-fn put_expiries(
-    out: &mut Vec<u8>,
-    scenario: &Scenario,
-    expiries: &[Expiry],
-) -> Result<(), NoMemory>
+fn put_expiries(out: &mut Vec<u8>, scenario: &Scenario, expiries: &[Expiry]) -> Result<(), NoMemory>
     ensures { OnOk result (out.new.items ≡ out.old.items ++ flat_map (expiry_text scenario.now.decls) expiries.now) }
 {
     for expiry in expiries {
@@ -130,11 +126,7 @@ fn put_expiry(out: &mut Vec<u8>, scenario: &Scenario, expiry: Expiry) -> Result<
     put_expired(out, scenario, expiry.submitted)
 }
 
-fn put_expired(
-    out: &mut Vec<u8>,
-    scenario: &Scenario,
-    submitted: Submitted,
-) -> Result<(), NoMemory>
+fn put_expired(out: &mut Vec<u8>, scenario: &Scenario, submitted: Submitted) -> Result<(), NoMemory>
     ensures { OnOk result (out.new.items ≡ out.old.items ++ expired_text scenario.now.decls submitted) }
 {
     match submitted {
