@@ -1,3 +1,5 @@
 pub mod Names
 pub mod Words
+pub mod Work
+pub mod Clock
 pub mod Text

@@ -1,30 +1,55 @@
-ghost use Rattle.std.specs.Prelude.{◌≡◌, ◌++◌, decimal, OnOk};
-ghost use Rattle.zk_trace.specs.Names.{queue_name};
-ghost use Rattle.zk_trace.specs.Words.{spaced, admission_word, named_queue, op_text, submitted_text, wait_for_text, reply_text};
-ghost use Rattle.zk_trace.specs.Text.{entry_line};
+ghost use Rattle.std.specs.Prelude.{◌≡◌, ◌++◌, codes, decimal, OnOk};
+ghost use Rattle.zk_trace.specs.Names.{player_name};
+ghost use Rattle.zk_trace.specs.Words.{spaced};
+ghost use Rattle.zk_trace.specs.Work.{named_queue, delayed_text, op_text};
+ghost use Rattle.zk_trace.specs.Clock.{clock_op_text};
+ghost use Rattle.zk_trace.specs.Text.{work_line, clock_line};
 
 use crate::names::{item_name, player_name, queue_name};
-use crate::words::{errno_word, mode_word, put_admission, put_flags, put_spaced, truth_word};
-use zk_base::{Entry, NoMemory, put, put_decimal};
-use zk_model_work::{Submitted, WorkOp, WorkReply};
+use crate::replies::{put_clock_reply, put_reply};
+use crate::words::{mode_word, put_number, put_spaced};
+use zk_base::{Entry, NoMemory, Who, put};
+use zk_model_wait::{ClockOp, ClockReply};
+use zk_model_work::{WorkOp, WorkReply};
 use zk_scenario::Scenario;
 
-/// Appends the line of an entry.
-pub fn put_entry(
+/// Appends the line of an entry of the work service.
+pub fn put_work_entry(
     out: &mut Vec<u8>,
     scenario: &Scenario,
     entry: &Entry<WorkOp, WorkReply>,
 ) -> Result<(), NoMemory>
-    ensures { OnOk result (out.new.items ≡ out.old.items ++ entry_line scenario.now.decls entry.now) }
+    ensures { OnOk result (out.new.items ≡ out.old.items ++ work_line scenario.now.decls entry.now) }
 {
-    put(out, player_name(scenario, entry.who.number as usize))?;
-    put(out, b".")?;
-    put_decimal(out, u64::from(entry.step))?;
-    put(out, b" ")?;
+    put_step(out, scenario, entry.who, entry.step)?;
     put_op(out, scenario, entry.op)?;
     put(out, b" = ")?;
-    put_reply(out, scenario, entry.reply)?;
+    put_reply(out, scenario, &entry.reply)?;
     put(out, b"\n")
+}
+
+/// Appends the line of an entry of the clock.
+pub fn put_clock_entry(
+    out: &mut Vec<u8>,
+    scenario: &Scenario,
+    entry: &Entry<ClockOp, ClockReply>,
+) -> Result<(), NoMemory>
+    ensures { OnOk result (out.new.items ≡ out.old.items ++ clock_line scenario.now.decls entry.now) }
+{
+    put_step(out, scenario, entry.who, entry.step)?;
+    put_clock_op(out, entry.op)?;
+    put(out, b" = ")?;
+    put_clock_reply(out, entry.reply)?;
+    put(out, b"\n")
+}
+
+fn put_step(out: &mut Vec<u8>, scenario: &Scenario, who: Who, step: u32) -> Result<(), NoMemory>
+    ensures { OnOk result (out.new.items ≡
+        out.old.items ++ player_name scenario.now.decls who.number ++ codes "." ++ decimal step ++ codes " ") }
+{
+    put(out, player_name(scenario, who.number as usize))?;
+    put_number(out, b".", u64::from(step))?;
+    put(out, b" ")
 }
 
 fn put_op(out: &mut Vec<u8>, scenario: &Scenario, op: WorkOp) -> Result<(), NoMemory>
@@ -37,18 +62,36 @@ fn put_op(out: &mut Vec<u8>, scenario: &Scenario, op: WorkOp) -> Result<(), NoMe
         }
         WorkOp::Cancel(item) => put_named(out, b"cancel ", item_name(scenario, item)),
         WorkOp::CancelStart(item) => put_named(out, b"cancelstart ", item_name(scenario, item)),
-        WorkOp::CancelDone(place) => put_placed(out, b"canceldone ", place),
+        WorkOp::CancelDone(place) => put_number(out, b"canceldone ", place),
         WorkOp::FlushStart(item) => put_named(out, b"flushstart ", item_name(scenario, item)),
-        WorkOp::FlushDone(place) => put_placed(out, b"flushdone ", place),
+        WorkOp::FlushDone(place) => put_number(out, b"flushdone ", place),
+        WorkOp::Schedule(item, queue, delay) => {
+            put_delayed(out, scenario, b"schedule ", item, queue, delay)
+        }
+        WorkOp::Reschedule(item, queue, delay) => {
+            put_delayed(out, scenario, b"reschedule ", item, queue, delay)
+        }
+        WorkOp::Remaining(item) => put_named(out, b"remaining ", item_name(scenario, item)),
         WorkOp::Start(queue) => put_named(out, b"start ", queue_name(scenario, queue)),
         WorkOp::DrainStart(queue, plug) => {
             let mode = mode_word(plug);
             put_named_spaced(out, b"drainstart ", queue_name(scenario, queue), mode)
         }
-        WorkOp::DrainDone(place) => put_placed(out, b"draindone ", place),
+        WorkOp::DrainDone(place) => put_number(out, b"draindone ", place),
         WorkOp::Unplug(queue) => put_named(out, b"unplug ", queue_name(scenario, queue)),
+        WorkOp::Announce(ticks) => put_number(out, b"announce ", u64::from(ticks)),
         WorkOp::Begin(queue) => put_named(out, b"begin ", queue_name(scenario, queue)),
         WorkOp::End(queue) => put_named(out, b"end ", queue_name(scenario, queue)),
+    }
+}
+
+fn put_clock_op(out: &mut Vec<u8>, op: ClockOp) -> Result<(), NoMemory>
+    ensures { OnOk result (out.new.items ≡ out.old.items ++ clock_op_text op) }
+{
+    match op {
+        ClockOp::Announce(ticks) => put_number(out, b"announce ", u64::from(ticks)),
+        ClockOp::Alarm(ticks) => put_number(out, b"alarm ", u64::from(ticks)),
+        ClockOp::AlarmEnd(moment) => put_number(out, b"alarmend ", moment),
     }
 }
 
@@ -57,13 +100,6 @@ fn put_named(out: &mut Vec<u8>, word: &[u8], name: &[u8]) -> Result<(), NoMemory
 {
     put(out, word)?;
     put(out, name)
-}
-
-fn put_placed(out: &mut Vec<u8>, word: &[u8], place: u64) -> Result<(), NoMemory>
-    ensures { OnOk result (out.new.items ≡ out.old.items ++ (word.now ++ decimal place)) }
-{
-    put(out, word)?;
-    put_decimal(out, place)
 }
 
 fn put_named_spaced(
@@ -79,6 +115,26 @@ fn put_named_spaced(
     put_spaced(out, last)
 }
 
+fn put_delayed(
+    out: &mut Vec<u8>,
+    scenario: &Scenario,
+    word: &[u8],
+    item: u32,
+    queue: u32,
+    delay: u32,
+) -> Result<(), NoMemory>
+    ensures { OnOk result (out.new.items ≡
+        out.old.items ++ word.now ++ delayed_text scenario.now.decls item queue delay) }
+{
+    put_named_spaced(
+        out,
+        word,
+        item_name(scenario, item),
+        queue_name(scenario, queue),
+    )?;
+    put_number(out, b" ", u64::from(delay))
+}
+
 fn named_queue(scenario: &Scenario, queue: Option<u32>) -> &[u8]
     ensures { result.now ≡ named_queue scenario.now.decls queue }
 {
@@ -86,70 +142,4 @@ fn named_queue(scenario: &Scenario, queue: Option<u32>) -> &[u8]
         None => b"-",
         Some(queue) => queue_name(scenario, queue),
     }
-}
-
-fn put_reply(out: &mut Vec<u8>, scenario: &Scenario, reply: WorkReply) -> Result<(), NoMemory>
-    ensures { OnOk result (out.new.items ≡ out.old.items ++ reply_text scenario.now.decls reply) }
-{
-    match reply {
-        WorkReply::Sub(submitted) => put_submitted(out, scenario, submitted),
-        WorkReply::Flags(flags) => put_flags(out, flags),
-        WorkReply::Truth(truth) => put(out, truth_word(truth)),
-        WorkReply::Wait => put(out, b"wait"),
-        WorkReply::WaitFor(admission) => put_wait_for(out, admission),
-        WorkReply::Number(number) => put_decimal(out, number),
-        WorkReply::Done => put(out, b"ok"),
-        WorkReply::Already => put(out, b"already"),
-        WorkReply::Run(item, admission) => put_run(out, scenario, item, admission),
-    }
-}
-
-fn put_wait_for(out: &mut Vec<u8>, admission: u64) -> Result<(), NoMemory>
-    ensures { OnOk result (out.new.items ≡ out.old.items ++ wait_for_text admission) }
-{
-    put(out, b"wait ")?;
-    put_admission(out, admission)
-}
-
-fn put_run(
-    out: &mut Vec<u8>,
-    scenario: &Scenario,
-    item: u32,
-    admission: u64,
-) -> Result<(), NoMemory>
-    ensures { OnOk result (out.new.items ≡ out.old.items ++ reply_text scenario.now.decls (WorkReply.Run item admission)) }
-{
-    put(out, item_name(scenario, item))?;
-    put(out, b" ")?;
-    put_admission(out, admission)
-}
-
-fn put_submitted(
-    out: &mut Vec<u8>,
-    scenario: &Scenario,
-    submitted: Submitted,
-) -> Result<(), NoMemory>
-    ensures { OnOk result (out.new.items ≡ out.old.items ++ submitted_text scenario.now.decls submitted) }
-{
-    match submitted {
-        Submitted::Already => put(out, b"0"),
-        Submitted::Fresh(admission, queue) => put_admitted(out, scenario, b"1 ", admission, queue),
-        Submitted::Rerun(admission, queue) => put_admitted(out, scenario, b"2 ", admission, queue),
-        Submitted::Refused(errno) => put(out, errno_word(errno)),
-    }
-}
-
-fn put_admitted(
-    out: &mut Vec<u8>,
-    scenario: &Scenario,
-    answer: &[u8],
-    admission: u64,
-    queue: u32,
-) -> Result<(), NoMemory>
-    ensures { OnOk result (out.new.items ≡
-        out.old.items ++ (answer.now ++ admission_word admission ++ spaced (queue_name scenario.now.decls queue))) }
-{
-    put(out, answer)?;
-    put_admission(out, admission)?;
-    put_spaced(out, queue_name(scenario, queue))
 }

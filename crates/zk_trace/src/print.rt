@@ -3,7 +3,7 @@ ghost use Rattle.zk_scenario.specs.Spelling.{text_of};
 ghost use Rattle.zk_trace.specs.Text.{trace_text};
 
 use crate::Trace;
-use crate::sections::{put_line, put_players, put_work_section};
+use crate::sections::{put_clock_section, put_line, put_players, put_work_section};
 use crate::words::ending_word;
 use std::alloc::Global;
 use zk_base::NoMemory;
@@ -16,6 +16,7 @@ pub fn put_trace(out: &mut Vec<u8>, scenario: &Scenario, trace: &Trace) -> Resul
     put_line(out, b"zt 1")?;
     put_line(out, ending_word(trace.ending))?;
     put_work_section(out, scenario, trace.work.items())?;
+    put_clock_section(out, scenario, trace.clock.items())?;
     put_players(out, scenario, trace.logs.items())
 }
 

@@ -1,11 +1,12 @@
 ghost use Rattle.std.specs.Prelude.{◌≡◌, ◌++◌, OnOk, drop, take};
 ghost use Rattle.std.specs.List.{flat_map};
-ghost use Rattle.zk_trace.specs.Text.{line, entry_line, work_section, answer_line, player_section, player_sections};
+ghost use Rattle.zk_trace.specs.Text.{line, work_line, work_section, clock_line, clock_section, answer_line, player_section, player_sections};
 
-use crate::entries::put_entry;
+use crate::entries::{put_clock_entry, put_work_entry};
 use crate::names::player_name;
 use crate::words::{call_word, put_answer, state_word};
 use zk_base::{Entry, NoMemory, put, put_decimal};
+use zk_model_wait::{ClockOp, ClockReply};
 use zk_model_work::{WorkOp, WorkReply};
 use zk_scenario::Scenario;
 use zk_worker::{Answered, Log};
@@ -30,18 +31,46 @@ pub fn put_work_section(
         return Ok(());
     }
     put_line(out, b"service work")?;
-    put_entries(out, scenario, work)
+    put_work_entries(out, scenario, work)
 }
 
-fn put_entries(
+fn put_work_entries(
     out: &mut Vec<u8>,
     scenario: &Scenario,
     work: &[Entry<WorkOp, WorkReply>],
 ) -> Result<(), NoMemory>
-    ensures { OnOk result (out.new.items ≡ out.old.items ++ flat_map (entry_line scenario.now.decls) work.now) }
+    ensures { OnOk result (out.new.items ≡ out.old.items ++ flat_map (work_line scenario.now.decls) work.now) }
 {
     for entry in work {
-        put_entry(out, scenario, entry)?;
+        put_work_entry(out, scenario, entry)?;
+    }
+    Ok(())
+}
+
+/// Appends the section of the clock, where it did anything.
+pub fn put_clock_section(
+    out: &mut Vec<u8>,
+    scenario: &Scenario,
+    clock: &[Entry<ClockOp, ClockReply>],
+) -> Result<(), NoMemory>
+    ensures { OnOk result (out.new.items ≡ out.old.items ++ clock_section scenario.now.decls clock.now) }
+{
+    if clock.is_empty() {
+        return Ok(());
+    }
+    put_line(out, b"service clock")?;
+    put_clock_entries(out, scenario, clock)
+}
+
+fn put_clock_entries(
+    out: &mut Vec<u8>,
+    scenario: &Scenario,
+    clock: &[Entry<ClockOp, ClockReply>],
+) -> Result<(), NoMemory>
+    ensures { OnOk result (out.new.items ≡ out.old.items ++ flat_map (clock_line scenario.now.decls) clock.now) }
+{
+    for entry in clock {
+        put_clock_entry(out, scenario, entry)?;
     }
     Ok(())
 }

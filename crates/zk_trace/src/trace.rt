@@ -1,4 +1,5 @@
 use zk_base::{Entry, Listed};
+use zk_model_wait::{ClockOp, ClockReply};
 use zk_model_work::{WorkOp, WorkReply};
 use zk_worker::Log;
 
@@ -24,5 +25,6 @@ pub type Logs = Listed<Log>;
 pub struct Trace {
     pub ending: Ending,
     pub work: History<WorkOp, WorkReply>,
+    pub clock: History<ClockOp, ClockReply>,
     pub logs: Logs,
 }

@@ -1,4 +1,4 @@
-ghost use Rattle.std.specs.Prelude.{◌≡◌, ◌++◌, ◌==◌, OnOk};
+ghost use Rattle.std.specs.Prelude.{◌≡◌, ◌++◌, ◌==◌, decimal, OnOk};
 ghost use Rattle.std.specs.Int.RustNames.{bit_and};
 ghost use Rattle.zk_trace.specs.Words.{spaced, ending_word, errno_word, admission_word, flag_letter, flag_letters, flags_word, truth_word, mode_word, call_word, answer_text, state_word};
 
@@ -12,6 +12,14 @@ pub fn put_spaced(out: &mut Vec<u8>, word: &[u8]) -> Result<(), NoMemory>
 {
     put(out, b" ")?;
     put(out, word)
+}
+
+/// Appends the word and then the number.
+pub fn put_number(out: &mut Vec<u8>, word: &[u8], number: u64) -> Result<(), NoMemory>
+    ensures { OnOk result (out.new.items ≡ out.old.items ++ (word.now ++ decimal number)) }
+{
+    put(out, word)?;
+    put_decimal(out, number)
 }
 
 pub fn ending_word(ending: Ending) -> &'static [u8]
@@ -95,9 +103,13 @@ pub fn call_word(word: Word) -> &'static [u8]
         Word::Cancel => b"cancel",
         Word::CancelSync => b"cancelsync",
         Word::Flush => b"flush",
+        Word::Schedule => b"schedule",
+        Word::Reschedule => b"reschedule",
+        Word::Remaining => b"remaining",
         Word::Start => b"start",
         Word::Drain => b"drain",
         Word::Unplug => b"unplug",
+        Word::Tick => b"tick",
     }
 }
 

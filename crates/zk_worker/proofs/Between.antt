@@ -7,31 +7,68 @@ use Rattle.std.proofs.lemmas.List.{append-nil, append_assoc}
 use Rattle.std.proofs.lemmas.Option.{slice_get_within}
 use Rattle.zk_base.specs.declared.ids.Entry.{Entry}
 use Rattle.zk_base.specs.History.{IsAbove}
-use Rattle.zk_model_work.specs.declared.ops.WorkOp.{WorkOp}
-use Rattle.zk_model_work.specs.declared.ops.WorkReply.{WorkReply}
 use Rattle.zk_worker.specs.declared.steps.Spot.{Spot}
 use Rattle.zk_worker.specs.declared.steps.Spot.TheVariants as spots
-use Rattle.zk_worker.specs.Shown.{Shown, step_of, shown_at, ShowsLog, IsLater, AreShort, OthersGrew, Between}
+use Rattle.zk_worker.specs.Shown.{Shown, nothing_shown, step_of, shown_at, ShowsLog, IsLater, AreShort, OthersGrew, AllGrew, Between}
 use Rattle.zk_worker.proofs.Lists.{known-longer, known-back, known-there}
 use Rattle.zk_worker.proofs.Numbers.{All-slice_get}
+
+-- the histories of each kind
+module _ {O R : Type 0} (number : ℕ) where
+  -- a history grew by nothing
+  pub grew-none : (h : List (Entry O R)) → OthersGrew number h h
+  grew-none h =
+      let P : Entry O R → Type 0 = λ e. e.who.number ≢ number in
+      record { more = []; longer = sym (append-nil h); others = All-nil P }
+
+  -- a history that grew and grew again
+  pub grew-both : (old mid new : List (Entry O R)) → OthersGrew number old mid → OthersGrew number mid new → OthersGrew number old new
+  grew-both old mid new first then_ =
+      let P : Entry O R → Type 0 = λ e. e.who.number ≢ number in
+      record {
+        more = first.more ++ then_.more;
+        longer = then_.longer ∙ ap (λ (h : List (Entry O R)). h ++ then_.more) first.longer ∙ append_assoc old first.more then_.more;
+        others = All-append P first.more then_.more first.others then_.others;
+      }
+
+  -- an entry that is in the history stays there
+  entry-longer : (old new : List (Entry O R)) (place : ℕ) (b : ℕ × ℕ) → OthersGrew number old new → option_map step_of (slice_get old place) ≡ Some b →
+      option_map step_of (slice_get new place) ≡ Some b
+  entry-longer old new place b grew is =
+      subst (λ (h : List (Entry O R)). option_map step_of (slice_get h place) ≡ Some b) (sym grew.longer) (known-longer step_of old grew.more place b is)
+
+  -- and of this player no other came
+  entry-back : (step : ℕ) (old new : List (Entry O R)) (place : ℕ) → OthersGrew number old new → option_map step_of (slice_get new place) ≡ Some (number, step) →
+      option_map step_of (slice_get old place) ≡ Some (number, step)
+  entry-back step old new place grew is =
+      by_place (known-back step_of old grew.more place (number, step) (ap (λ (h : List (Entry O R)). option_map step_of (slice_get h place)) (sym grew.longer) ∙ is))
+    where
+      by_place : (option_map step_of (slice_get old place) ≡ Some (number, step)) ⊎ ((k : ℕ) × (place ≡ length old + k) × (option_map step_of (slice_get grew.more k) ≡ Some (number, step))) →
+          option_map step_of (slice_get old place) ≡ Some (number, step)
+      by_place (inl there) = there
+      by_place (inr added) =
+          let P : Entry O R → Type 0 = λ e. e.who.number ≢ number in
+          let found = known-there step_of grew.more added.0 (number, step) added.2 in
+          absurd (All-slice_get P grew.more added.0 found.0 found.1 grew.others (ap (λ (b : ℕ × ℕ). b.0) found.2))
+
+  above-all : (h : List (Entry O R)) (next : ℕ) → ((place step : ℕ) → option_map step_of (slice_get h place) ≡ Some (number, step) → step < next) → IsAbove h number next
+  above-all [] next each = let P : Entry O R → Type 0 = λ e. e.who.number ≡ number → e.step < next in All-nil P
+  above-all (e ∷ h) next each =
+      let P : Entry O R → Type 0 = λ e. e.who.number ≡ number → e.step < next in
+      All-cons P e h (λ mine. each 0 e.step (ap (λ (n : ℕ). Some (n, e.step)) mine)) (above-all h next (λ place step is. each (suc place) step is))
 
 -- nothing comes between a moment and itself
 pub between-none : (alone : Bool) (number : ℕ) (shown : Shown) → Between alone number shown shown
 between-none true number shown = refl
-between-none false number shown =
-    let P : Entry WorkOp WorkReply → Type 0 = λ e. e.who.number ≢ number in
-    record { more = []; longer = sym (append-nil shown.work); others = All-nil P }
+between-none false number shown = record { work = grew-none number shown.work; clock = grew-none number shown.clock }
 
 -- what comes between two moments, and then between the second and a third
 pub between-both : (alone : Bool) (number : ℕ) (old mid new : Shown) → Between alone number old mid → Between alone number mid new → Between alone number old new
 between-both true number old mid new first then_ = then_ ∙ first
-between-both false number old mid new first then_ =
-    let P : Entry WorkOp WorkReply → Type 0 = λ e. e.who.number ≢ number in
-    record {
-      more = first.more ++ then_.more;
-      longer = then_.longer ∙ ap (λ (h : List (Entry WorkOp WorkReply)). h ++ then_.more) first.longer ∙ append_assoc old.work first.more then_.more;
-      others = All-append P first.more then_.more first.others then_.others;
-    }
+between-both false number old mid new first then_ = record {
+  work = grew-both number old.work mid.work new.work first.work then_.work;
+  clock = grew-both number old.clock mid.clock new.clock first.clock then_.clock;
+}
 
 -- histories that have room have it still where nothing came between
 pub short-still : (alone : Bool) (number : ℕ) (old new : Shown) → (alone ≡ true → AreShort old) → Between alone number old new → alone ≡ true → AreShort new
@@ -39,22 +76,14 @@ short-still true number old new short nothing is = subst (λ (s : Shown). AreSho
 short-still false number old new short others is = absurd (cc)
 
 -- what is shown stays shown
-shown-longer : (number : ℕ) (old new : Shown) (spot : Spot) (b : ℕ × ℕ) → OthersGrew number old.work new.work → shown_at old spot ≡ Some b → shown_at new spot ≡ Some b
-shown-longer number old new (spots.Work place) b grew is =
-    subst (λ (h : List (Entry WorkOp WorkReply)). option_map step_of (slice_get h place) ≡ Some b) (sym grew.longer) (known-longer step_of old.work grew.more place b is)
+shown-longer : (number : ℕ) (old new : Shown) (spot : Spot) (b : ℕ × ℕ) → AllGrew number old new → shown_at old spot ≡ Some b → shown_at new spot ≡ Some b
+shown-longer number old new (spots.Work place) b grew is = entry-longer number old.work new.work place b grew.work is
+shown-longer number old new (spots.Clock place) b grew is = entry-longer number old.clock new.clock place b grew.clock is
 
 -- and of this player nothing else is
-shown-back : (number step : ℕ) (old new : Shown) (spot : Spot) → OthersGrew number old.work new.work → shown_at new spot ≡ Some (number, step) → shown_at old spot ≡ Some (number, step)
-shown-back number step old new (spots.Work place) grew is =
-    by_place (known-back step_of old.work grew.more place (number, step) (ap (λ (h : List (Entry WorkOp WorkReply)). option_map step_of (slice_get h place)) (sym grew.longer) ∙ is))
-  where
-    by_place : (option_map step_of (slice_get old.work place) ≡ Some (number, step)) ⊎ ((k : ℕ) × (place ≡ length old.work + k) × (option_map step_of (slice_get grew.more k) ≡ Some (number, step))) →
-        option_map step_of (slice_get old.work place) ≡ Some (number, step)
-    by_place (inl there) = there
-    by_place (inr added) =
-        let P : Entry WorkOp WorkReply → Type 0 = λ e. e.who.number ≢ number in
-        let found = known-there step_of grew.more added.0 (number, step) added.2 in
-        absurd (All-slice_get P grew.more added.0 found.0 found.1 grew.others (ap (λ (b : ℕ × ℕ). b.0) found.2))
+shown-back : (number step : ℕ) (old new : Shown) (spot : Spot) → AllGrew number old new → shown_at new spot ≡ Some (number, step) → shown_at old spot ≡ Some (number, step)
+shown-back number step old new (spots.Work place) grew is = entry-back number step old.work new.work place grew.work is
+shown-back number step old new (spots.Clock place) grew is = entry-back number step old.clock new.clock place grew.clock is
 
 -- a log is shown as before
 pub log-still : (alone : Bool) (number : ℕ) (log : List Spot) (old new : Shown) → ShowsLog old number log → Between alone number old new → ShowsLog new number log
@@ -69,19 +98,17 @@ pub log-later : (number : ℕ) (log : List Spot) (shown : Shown) → ShowsLog sh
 log-later number log shown shows = λ step spot is. slice_get_within log step spot (shows.no_other step spot is)
 
 -- no step is shown where none was made
-pub log-none : (number : ℕ) (log : List Spot) → log ≡ [] → ShowsLog (record { work = [] }) number log
+pub log-none : (number : ℕ) (log : List Spot) → log ≡ [] → ShowsLog nothing_shown number log
 log-none number [] none = record { each = λ step spot is. absurd (cc); no_other = λ step spot is. absurd (nothing_there step spot is) }
   where
-    nothing_there : (step : ℕ) (spot : Spot) → shown_at (record { work = [] }) spot ≡ Some (number, step) → ⊥
+    nothing_there : (step : ℕ) (spot : Spot) → shown_at nothing_shown spot ≡ Some (number, step) → ⊥
     nothing_there step (spots.Work place) is = cc
+    nothing_there step (spots.Clock place) is = cc
 log-none number (spot ∷ log) none = absurd (cc)
 
-above-all : (h : List (Entry WorkOp WorkReply)) (number next : ℕ) → ((place step : ℕ) → option_map step_of (slice_get h place) ≡ Some (number, step) → step < next) → IsAbove h number next
-above-all [] number next each = let P : Entry WorkOp WorkReply → Type 0 = λ e. e.who.number ≡ number → e.step < next in All-nil P
-above-all (e ∷ h) number next each =
-    let P : Entry WorkOp WorkReply → Type 0 = λ e. e.who.number ≡ number → e.step < next in
-    All-cons P e h (λ mine. each 0 e.step (ap (λ (n : ℕ). Some (n, e.step)) mine)) (above-all h number next (λ place step is. each (suc place) step is))
-
--- a step above all that are shown of its player is above those of its entries at the work service
+-- a step above all that are shown of its player is above those of its entries at each service
 pub above-work : (shown : Shown) (number next : ℕ) → IsLater shown number next → IsAbove shown.work number next
-above-work shown number next later = above-all shown.work number next (λ place step is. later step (spots.Work place) is)
+above-work shown number next later = above-all number shown.work next (λ place step is. later step (spots.Work place) is)
+
+pub above-clock : (shown : Shown) (number next : ℕ) → IsLater shown number next → IsAbove shown.clock number next
+above-clock shown number next later = above-all number shown.clock next (λ place step is. later step (spots.Clock place) is)

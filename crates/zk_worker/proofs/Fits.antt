@@ -1,5 +1,5 @@
 -- The attempts of a player name items and queues that are declared.
-use Rattle.std.proofs.Common.{◌≡◌, ℕ, zero, suc, ◌+◌, ◌<◌, Bool, true, false, Option, Some, None, List, [], ◌∷◌, length, All, refl, ap, subst, arith, cond, nat_lt}
+use Rattle.std.proofs.Common.{◌≡◌, ℕ, zero, suc, ◌+◌, ◌<◌, Bool, true, false, Option, Some, None, List, [], ◌∷◌, length, All, refl, ap, subst, arith, cond, nat_lt, ◌&&◌}
 use Rattle.std.specs.Option.{option_map, option_map_or}
 use Rattle.std.specs.List.{slice_get, list_all}
 use Rattle.std.proofs.lemmas.Bool.{and_parts, and_from}
@@ -10,10 +10,11 @@ use Rattle.zk_scenario.specs.declared.types.Decl.{Decl}
 use Rattle.zk_scenario.specs.declared.types.Decl.TheVariants.{Thread, Queue, Item}
 use Rattle.zk_scenario.specs.declared.types.Ref.TheVariants.{Known}
 use Rattle.zk_scenario.specs.declared.types.Call.{Call}
-use Rattle.zk_scenario.specs.declared.types.Call.TheVariants.{Submit, Cancel, CancelSync, Flush, Start, Drain, Unplug}
+use Rattle.zk_scenario.specs.declared.types.Call.TheVariants.{Submit, Cancel, CancelSync, Flush, Schedule, Reschedule, Remaining, Start, Drain, Unplug, Tick}
 use Rattle.zk_scenario.specs.Players.{places, players, is_queue, is_item, number_of, calls_of}
 use Rattle.zk_scenario.specs.Objects.{is_at}
 use Rattle.zk_scenario.specs.Parts.{Parts}
+use Rattle.zk_scenario.specs.Numbers.{is_delay}
 use Rattle.zk_scenario.specs.Valid.{IsValid, call_fits}
 use Rattle.zk_scenario.proofs.Tables.{length-places}
 use Rattle.zk_scenario.proofs.Valid.{number_of-item, number_of-queue, list_all-at, call_fits-calls_of}
@@ -24,7 +25,7 @@ use Rattle.zk_worker.specs.declared.frames.Frame.{Frame}
 use Rattle.zk_worker.specs.declared.frames.Closing.{Closing}
 use Rattle.zk_worker.specs.declared.frames.Closing.TheVariants as closings
 use Rattle.zk_worker.specs.declared.frames.Form.{Form}
-use Rattle.zk_worker.specs.declared.frames.Form.TheVariants.{One, Pair}
+use Rattle.zk_worker.specs.declared.frames.Form.TheVariants.{One, Pair, Twice}
 use Rattle.zk_worker.specs.declared.frames.Stage.{Stage}
 use Rattle.zk_worker.specs.declared.frames.Stage.TheVariants as stages
 use Rattle.zk_worker.specs.declared.frames.Role.{Role}
@@ -50,25 +51,37 @@ queue-fits : (decls : List Decl) (object : ℕ) → is_at is_queue decls object 
 queue-fits decls object is =
     lt-yes (number_of decls object) (length (places is_queue decls)) (omega (arith, number_of-queue decls object is, length-places is_queue decls))
 
--- the step that a fitting call makes fits
+-- an item and a queue that a call names are one of the items and one of the queues
+both-fit : (decls : List Decl) (item queue : ℕ) → (is_at is_item decls item && is_at is_queue decls queue) ≡ true →
+    (nat_lt (number_of decls item) (length (places is_item decls)) && nat_lt (number_of decls queue) (length (places is_queue decls))) ≡ true
+both-fit decls item queue fits =
+    let both = and_parts (is_at is_item decls item) (is_at is_queue decls queue) fits in
+    and_from (nat_lt (number_of decls item) (length (places is_item decls))) (nat_lt (number_of decls queue) (length (places is_queue decls)))
+    (item-fits decls item both.0) (queue-fits decls queue both.1)
+
+-- the steps that a fitting call makes fit
 FormFits : List Decl → Form → Type 0
 FormFits decls (One step) = step_fits decls step ≡ true
 FormFits decls (Pair opening closing) = step_fits decls opening ≡ true
+FormFits decls (Twice first second) = (step_fits decls first ≡ true) × (step_fits decls second ≡ true)
 
 form_of-fits : (decls : List Decl) (call : Call) → call_fits decls call ≡ true → FormFits decls (form_of decls call)
 unfolding FormFits
 form_of-fits decls (Submit (Known item) None) fits =
     and_from (nat_lt (number_of decls item) (length (places is_item decls))) true (item-fits decls item fits) refl
-form_of-fits decls (Submit (Known item) (Some (Known queue))) fits =
-    let both = and_parts (is_at is_item decls item) (is_at is_queue decls queue) fits in
-    and_from (nat_lt (number_of decls item) (length (places is_item decls))) (nat_lt (number_of decls queue) (length (places is_queue decls)))
-    (item-fits decls item both.0) (queue-fits decls queue both.1)
+form_of-fits decls (Submit (Known item) (Some (Known queue))) fits = both-fit decls item queue fits
 form_of-fits decls (Cancel (Known item)) fits = item-fits decls item fits
 form_of-fits decls (CancelSync (Known item)) fits = item-fits decls item fits
 form_of-fits decls (Flush (Known item)) fits = item-fits decls item fits
+form_of-fits decls (Schedule (Known item) (Known queue) delay) fits =
+    both-fit decls item queue (and_parts (is_at is_item decls item && is_at is_queue decls queue) (is_delay delay) fits).0
+form_of-fits decls (Reschedule (Known item) (Known queue) delay) fits =
+    both-fit decls item queue (and_parts (is_at is_item decls item && is_at is_queue decls queue) (is_delay delay) fits).0
+form_of-fits decls (Remaining (Known item)) fits = item-fits decls item fits
 form_of-fits decls (Start (Known queue)) fits = queue-fits decls queue fits
 form_of-fits decls (Drain (Known queue) plug) fits = queue-fits decls queue fits
 form_of-fits decls (Unplug (Known queue)) fits = queue-fits decls queue fits
+form_of-fits decls (Tick ticks) fits = (refl, refl)
 
 only : (x y : Step) (k : ℕ) → slice_get (x ∷ []) k ≡ Some y → x ≡ y
 only x y zero is = cc
@@ -81,14 +94,20 @@ unfolding FormFits
 form_attempts-fit decls (One first) stages.Start k step fits is = subst (λ s. step_fits decls s ≡ true) (only first step k is) fits
 form_attempts-fit decls (One first) stages.Runs k step fits is = absurd (cc)
 form_attempts-fit decls (One first) (stages.Waits place) k step fits is = absurd (cc)
+form_attempts-fit decls (One first) stages.Halfway k step fits is = absurd (cc)
 form_attempts-fit decls (Pair opening closing) stages.Start k step fits is = subst (λ s. step_fits decls s ≡ true) (only opening step k is) fits
 form_attempts-fit decls (Pair opening closing) stages.Runs k step fits is = absurd (cc)
+form_attempts-fit decls (Pair opening closing) stages.Halfway k step fits is = absurd (cc)
 form_attempts-fit decls (Pair opening closing) (stages.Waits place) k step fits is =
     subst (λ s. step_fits decls s ≡ true) (only (closing_step closing place) step k is) (closing-fits closing) where
       closing-fits : (closing : Closing) → step_fits decls (closing_step closing place) ≡ true
       closing-fits closings.Cancel = refl
       closing-fits closings.Flush = refl
       closing-fits closings.Drain = refl
+form_attempts-fit decls (Twice first second) stages.Start k step fits is = subst (λ s. step_fits decls s ≡ true) (only first step k is) fits.0
+form_attempts-fit decls (Twice first second) stages.Runs k step fits is = absurd (cc)
+form_attempts-fit decls (Twice first second) (stages.Waits place) k step fits is = absurd (cc)
+form_attempts-fit decls (Twice first second) stages.Halfway k step fits is = subst (λ s. step_fits decls s ≡ true) (only second step k is) fits.1
 
 call_attempts-fit : (decls : List Decl) (call : Option Call) (stage : Stage) (k : ℕ) (step : Step) →
     option_map_or (call_fits decls) call true ≡ true → slice_get (call_attempts decls call stage) k ≡ Some step → step_fits decls step ≡ true
@@ -105,6 +124,7 @@ worker_attempts-fit : (decls : List Decl) (queue : ℕ) (stage : Stage) (k : ℕ
 worker_attempts-fit decls queue stages.Start k step fits is = subst (λ s. step_fits decls s ≡ true) (only _ step k is) fits
 worker_attempts-fit decls queue stages.Runs k step fits is = subst (λ s. step_fits decls s ≡ true) (only _ step k is) fits
 worker_attempts-fit decls queue (stages.Waits place) k step fits is = absurd (cc)
+worker_attempts-fit decls queue stages.Halfway k step fits is = absurd (cc)
 
 role_attempts-fit : (s : Parts) (role : Role) (next : ℕ) (stage : Stage) (k : ℕ) (step : Step) → IsValid s →
     role_fits s.decls role ≡ true → slice_get (role_attempts s role next stage) k ≡ Some step → step_fits s.decls step ≡ true

@@ -15,9 +15,9 @@ use Rattle.zk_worker.specs.declared.frames.Progress.TheVariants.{Goes, Answers, 
 use Rattle.zk_worker.specs.declared.frames.Role.{Role}
 use Rattle.zk_worker.specs.declared.frames.Role.TheVariants.{Script, Worker}
 use Rattle.zk_worker.specs.declared.frames.Stage.{Stage}
-use Rattle.zk_worker.specs.declared.frames.Stage.TheVariants.{Start, Runs, Waits}
+use Rattle.zk_worker.specs.declared.frames.Stage.TheVariants.{Start, Runs, Waits, Halfway}
 use Rattle.zk_worker.specs.declared.frames.Form.{Form}
-use Rattle.zk_worker.specs.declared.frames.Form.TheVariants.{One, Pair}
+use Rattle.zk_worker.specs.declared.frames.Form.TheVariants.{One, Pair, Twice}
 use Rattle.zk_worker.specs.Places.{At}
 use Rattle.zk_worker.specs.Calls.{form_of, form_attempts}
 use Rattle.zk_scenario.specs.declared.types.Call.{Call}
@@ -118,9 +118,15 @@ form_attempts-few : (form : Form) (stage : Stage) → length (form_attempts form
 form_attempts-few (One step) Start = omega arith
 form_attempts-few (One step) Runs = omega arith
 form_attempts-few (One step) (Waits place) = omega arith
+form_attempts-few (One step) Halfway = omega arith
 form_attempts-few (Pair opening closing) Start = omega arith
 form_attempts-few (Pair opening closing) Runs = omega arith
 form_attempts-few (Pair opening closing) (Waits place) = omega arith
+form_attempts-few (Pair opening closing) Halfway = omega arith
+form_attempts-few (Twice first second) Start = omega arith
+form_attempts-few (Twice first second) Runs = omega arith
+form_attempts-few (Twice first second) (Waits place) = omega arith
+form_attempts-few (Twice first second) Halfway = omega arith
 
 frames_attempts-few : (s : Parts) (frames : List Frame) → length (frames_attempts s frames) ≤ 1
 frames_attempts-few s [] = omega arith
@@ -135,6 +141,7 @@ frames_attempts-few s (frame ∷ below) = role_few s frame.role frame.next frame
     role_few s (Worker queue) next Start = omega arith
     role_few s (Worker queue) next Runs = omega arith
     role_few s (Worker queue) next (Waits place) = omega arith
+    role_few s (Worker queue) next Halfway = omega arith
 
 -- a player has few attempts at a time
 pub attempts-few : (s : Parts) (at : At) → length (attempts s at) ≤ MOST_ATTEMPTS

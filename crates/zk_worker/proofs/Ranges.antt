@@ -32,6 +32,7 @@ takes-declared s (steps.Work op) fits =
     let long = length-fresh_queues (workers s.decls) (map (is_on s.decls) (places is_queue s.decls)) (same-lengths s)
     ∙ length-range_with_len (length (places is_thread s.decls)) (length (places is_queue s.decls)) in
     subst (λ (n : ℕ). is_among (length (places is_item s.decls)) n op ≡ true) (sym long) fits
+takes-declared s (steps.Clock op) fits = refl
 
 -- and so each attempt of a player of a valid scenario
 pub ahead-takes : (s : Parts) (m : Machines) (at : At) → IsValid s → m ≡ machines_of s → FramesFit s.decls at.frames → (step : Step) → IsAhead s at step → takes m step ≡ true

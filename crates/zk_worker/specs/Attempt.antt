@@ -3,8 +3,6 @@ use Rattle.zk_base.specs.declared.ids.Who.{Who}
 use Rattle.zk_base.specs.declared.ids.Entry.{Entry}
 use Rattle.zk_base.specs.declared.errors.NoMemory.{NoMemory}
 use Rattle.zk_base.specs.Legal.{Machine, state_after}
-use Rattle.zk_model_work.specs.declared.ops.WorkOp.{WorkOp}
-use Rattle.zk_model_work.specs.declared.ops.WorkReply.{WorkReply}
 use Rattle.zk_worker.specs.declared.steps.Step.{Step}
 use Rattle.zk_worker.specs.declared.steps.Step.TheVariants as steps
 use Rattle.zk_worker.specs.declared.steps.StepReply.{StepReply}
@@ -12,18 +10,19 @@ use Rattle.zk_worker.specs.declared.steps.StepReply.TheVariants as step_replies
 use Rattle.zk_worker.specs.Machines.{Machines}
 use Rattle.zk_worker.specs.Shown.{Shown, shown_after, Between}
 
-module _ {T : Type 0} (m : Machine T WorkOp WorkReply) (start : T) where
-  -- what is answered to a step after a history, if it is possible
-  abbrev pub answer_in : List (Entry WorkOp WorkReply) → Who → Step → Option StepReply
-  answer_in work who (steps.Work op) = option_map (λ reply. step_replies.Work reply (length work)) (m.reply_of (state_after m start work) who op)
+-- what a machine answers to an operation after a history, if it is possible: the reply to the step, which has the place of its entry
+abbrev pub answer_in : {S O R : Type 0} → Machine S O R → S → List (Entry O R) → (R → ℕ → StepReply) → Who → O → Option StepReply
+answer_in m start h step_reply who op = option_map (λ reply. step_reply reply (length h)) (m.reply_of (state_after m start h) who op)
 
 -- what is answered to a step where this is shown, if it is possible
 abbrev pub reply_in : Machines → Shown → Who → Step → Option StepReply
-reply_in m shown who step = answer_in m.work m.work_start shown.work who step
+reply_in m shown who (steps.Work op) = answer_in m.work m.work_start shown.work step_replies.Work who op
+reply_in m shown who (steps.Clock op) = answer_in m.clock m.clock_start shown.clock step_replies.Clock who op
 
 -- whether the ids in a step are in range at its service
 abbrev pub takes : Machines → Step → Bool
 takes m (steps.Work op) = m.work.in_range m.work_start op
+takes m (steps.Clock op) = m.clock.in_range m.clock_start op
 
 -- the same players are served
 abbrev pub SamePlayers : (Who → Type 0) → (Who → Type 0) → Type 0
@@ -32,10 +31,12 @@ SamePlayers old new = (who : Who) → (old who → new who) × (new who → old 
 -- how many attempts were made at each service
 pub record Counts : Type 0 where
   pub work : ℕ
+  pub clock : ℕ
 
 -- how many were made at the service of a step
 abbrev pub count_at : Counts → Step → ℕ
 count_at counts (steps.Work op) = counts.work
+count_at counts (steps.Clock op) = counts.clock
 
 -- no count fell, and each is one that 64 bits hold
 abbrev pub NoneFell : Counts → Counts → Type 0

@@ -5,6 +5,7 @@ use Rattle.zk_scenario.specs.declared.types.Ref.TheVariants.{Known}
 use Rattle.zk_scenario.specs.declared.types.Call.{Call}
 use Rattle.zk_scenario.specs.declared.types.Call.TheVariants as calls
 use Rattle.zk_scenario.specs.Players.{number_of}
+use Rattle.zk_model_wait.specs.declared.clock.ClockOp.TheVariants as clock_ops
 use Rattle.zk_model_work.specs.declared.ops.WorkOp.TheVariants as ops
 use Rattle.zk_model_work.specs.declared.ops.WorkReply.{WorkReply}
 use Rattle.zk_model_work.specs.declared.ops.WorkReply.TheVariants as replies
@@ -22,9 +23,9 @@ use Rattle.zk_worker.specs.declared.answers.Word.TheVariants as words
 use Rattle.zk_worker.specs.declared.frames.Closing.{Closing}
 use Rattle.zk_worker.specs.declared.frames.Closing.TheVariants as closings
 use Rattle.zk_worker.specs.declared.frames.Form.{Form}
-use Rattle.zk_worker.specs.declared.frames.Form.TheVariants.{One, Pair}
+use Rattle.zk_worker.specs.declared.frames.Form.TheVariants.{One, Pair, Twice}
 use Rattle.zk_worker.specs.declared.frames.Stage.{Stage}
-use Rattle.zk_worker.specs.declared.frames.Stage.TheVariants.{Start, Waits}
+use Rattle.zk_worker.specs.declared.frames.Stage.TheVariants.{Start, Waits, Halfway}
 use Rattle.zk_worker.specs.declared.frames.Progress.{Progress}
 use Rattle.zk_worker.specs.declared.frames.Progress.TheVariants.{Goes, Answers}
 
@@ -38,9 +39,13 @@ form_of decls (calls.Submit item queue) = One (steps.Work (ops.Submit (ref_numbe
 form_of decls (calls.Cancel item) = One (steps.Work (ops.Cancel (ref_number decls item)))
 form_of decls (calls.CancelSync item) = Pair (steps.Work (ops.CancelStart (ref_number decls item))) closings.Cancel
 form_of decls (calls.Flush item) = Pair (steps.Work (ops.FlushStart (ref_number decls item))) closings.Flush
+form_of decls (calls.Schedule item queue delay) = One (steps.Work (ops.Schedule (ref_number decls item) (ref_number decls queue) delay))
+form_of decls (calls.Reschedule item queue delay) = One (steps.Work (ops.Reschedule (ref_number decls item) (ref_number decls queue) delay))
+form_of decls (calls.Remaining item) = One (steps.Work (ops.Remaining (ref_number decls item)))
 form_of decls (calls.Start queue) = One (steps.Work (ops.Start (ref_number decls queue)))
 form_of decls (calls.Drain queue plug) = Pair (steps.Work (ops.DrainStart (ref_number decls queue) plug)) closings.Drain
 form_of decls (calls.Unplug queue) = One (steps.Work (ops.Unplug (ref_number decls queue)))
+form_of decls (calls.Tick ticks) = Twice (steps.Work (ops.Announce ticks)) (steps.Clock (clock_ops.Announce ticks))
 
 -- which call it is
 abbrev pub word_of : Call → Word
@@ -48,9 +53,13 @@ word_of (calls.Submit item queue) = words.Submit
 word_of (calls.Cancel item) = words.Cancel
 word_of (calls.CancelSync item) = words.CancelSync
 word_of (calls.Flush item) = words.Flush
+word_of (calls.Schedule item queue delay) = words.Schedule
+word_of (calls.Reschedule item queue delay) = words.Reschedule
+word_of (calls.Remaining item) = words.Remaining
 word_of (calls.Start queue) = words.Start
 word_of (calls.Drain queue plug) = words.Drain
 word_of (calls.Unplug queue) = words.Unplug
+word_of (calls.Tick ticks) = words.Tick
 
 -- what a submission answers
 abbrev pub submission_answer : Submitted → Answer
@@ -62,6 +71,7 @@ submission_answer (submissions.Refused errno) = Refused errno
 -- what a reply of the work service answers to a call
 abbrev pub work_answer : WorkReply → Answer
 work_answer (replies.Sub submitted) = submission_answer submitted
+work_answer replies.Armed = Number 1
 work_answer (replies.Flags flags) = Flags flags
 work_answer (replies.Truth truth) = Truth truth
 work_answer (replies.Number number) = Number number
@@ -71,6 +81,7 @@ work_answer reply = Number 0
 -- what the reply to a step answers to its call
 abbrev pub answer_of : StepReply → Answer
 answer_of (step_replies.Work reply place) = work_answer reply
+answer_of (step_replies.Clock reply place) = Number 0
 
 -- the step that ends a wait begun by the entry of this place
 abbrev pub closing_step : Closing → ℕ → Step
@@ -83,9 +94,11 @@ abbrev pub form_attempts : Form → Stage → List Step
 form_attempts (One step) Start = step ∷ []
 form_attempts (Pair opening closing) Start = opening ∷ []
 form_attempts (Pair opening closing) (Waits place) = closing_step closing place ∷ []
+form_attempts (Twice first second) Start = first ∷ []
+form_attempts (Twice first second) Halfway = second ∷ []
 form_attempts form stage = []
 
--- what the reply to the first of two steps does to its call: it waits, or is answered
+-- what the reply to the step that may begin a wait does to its call: it waits, or is answered
 abbrev pub opening_progress : Word → StepReply → Progress
 opening_progress word (step_replies.Work replies.Wait place) = Goes (Waits place)
 opening_progress word (step_replies.Work (replies.WaitFor admission) place) = Goes (Waits place)
@@ -96,3 +109,5 @@ abbrev pub form_progress : Word → Form → Stage → Step → StepReply → Pr
 form_progress word (One step) stage made reply = Answers word (answer_of reply)
 form_progress word (Pair opening closing) Start made reply = opening_progress word reply
 form_progress word (Pair opening closing) stage made reply = Answers word (answer_of reply)
+form_progress word (Twice first second) Start made reply = Goes Halfway
+form_progress word (Twice first second) stage made reply = Answers word (answer_of reply)

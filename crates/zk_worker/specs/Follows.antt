@@ -1,8 +1,5 @@
 use Rattle.std.specs.Prelude.{◌≡◌, ℕ, Bool, true, false, nat_le, if◌then◌else◌, Option, Some, List, [], ◌∷◌, length, map, slice_get, option_map}
-use Rattle.zk_base.specs.declared.ids.Entry.{Entry}
 use Rattle.zk_scenario.specs.Parts.{Parts}
-use Rattle.zk_model_work.specs.declared.ops.WorkOp.{WorkOp}
-use Rattle.zk_model_work.specs.declared.ops.WorkReply.{WorkReply}
 use Rattle.zk_worker.specs.declared.steps.TheConstants.{MOST_STEPS}
 use Rattle.zk_worker.specs.declared.steps.Step.{Step}
 use Rattle.zk_worker.specs.declared.steps.Step.TheVariants as steps
@@ -19,6 +16,7 @@ use Rattle.zk_worker.specs.declared.log.PlayerState.{PlayerState}
 use Rattle.zk_worker.specs.declared.log.PlayerState.TheVariants.{Spent, Done, Standing}
 use Rattle.zk_worker.specs.declared.log.Log.{Log}
 use Rattle.zk_worker.specs.Places.{At}
+use Rattle.zk_worker.specs.Shown.{Shown}
 use Rattle.zk_worker.specs.Protocol.{IsAhead, after, start_at}
 
 -- whether a worker stands between two runs
@@ -55,15 +53,16 @@ IsPlayed s at [] end = at ≡ end
 IsPlayed s at (made ∷ more) end = IsAhead s at made.0 × IsPlayed s (after s at made.0 made.1) more end
 
 -- the step and the reply that a spot stands for
-abbrev pub made_at : List (Entry WorkOp WorkReply) → Spot → Option (Step × StepReply)
-made_at work (spots.Work place) = option_map (λ e. (steps.Work e.op, step_replies.Work e.reply place)) (slice_get work place)
+abbrev pub made_at : Shown → Spot → Option (Step × StepReply)
+made_at shown (spots.Work place) = option_map (λ e. (steps.Work e.op, step_replies.Work e.reply place)) (slice_get shown.work place)
+made_at shown (spots.Clock place) = option_map (λ e. (steps.Clock e.op, step_replies.Clock e.reply place)) (slice_get shown.clock place)
 
 -- the log of a player follows the scenario: its spots stand for steps that the protocol lets it make, and its answers and its state are those of these steps
-pub record Follows (s : Parts) (number : ℕ) (work : List (Entry WorkOp WorkReply)) (log : Log) : Type 0 where
+pub record Follows (s : Parts) (number : ℕ) (shown : Shown) (log : Log) : Type 0 where
   pub start : At
   pub made : List (Step × StepReply)
   pub end : At
   pub starts : start_at s number ≡ Some start
-  pub stands : map (made_at work) log.steps ≡ map Some made
+  pub stands : map (made_at shown) log.steps ≡ map Some made
   pub played : IsPlayed s start made end
   pub logged : log_of end ≡ log

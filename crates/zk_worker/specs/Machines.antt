@@ -6,6 +6,9 @@ use Rattle.zk_scenario.specs.declared.types.Decl.{Decl}
 use Rattle.zk_scenario.specs.declared.types.Decl.TheVariants.{Queue}
 use Rattle.zk_scenario.specs.Parts.{Parts}
 use Rattle.zk_scenario.specs.Players.{places, is_thread, is_queue, is_item}
+use Rattle.zk_model_wait.specs.declared.clock.ClockOp.{ClockOp}
+use Rattle.zk_model_wait.specs.declared.clock.ClockReply.{ClockReply}
+use Rattle.zk_model_wait.specs.Clock.{Clock, new_clock, clock_machine}
 use Rattle.zk_model_work.specs.declared.ops.WorkOp.{WorkOp}
 use Rattle.zk_model_work.specs.declared.ops.WorkReply.{WorkReply}
 use Rattle.zk_model_work.specs.State.{State, start_of}
@@ -32,7 +35,9 @@ work_start_of s = start_of (length (places is_item s.decls)) (workers s.decls) (
 pub record Machines : Type 0 where
   pub work : Machine State WorkOp WorkReply
   pub work_start : State
+  pub clock : Machine Clock ClockOp ClockReply
+  pub clock_start : Clock
 
 -- the machines of a scenario
 abbrev pub machines_of : Parts → Machines
-machines_of s = record { work = work_machine; work_start = work_start_of s }
+machines_of s = record { work = work_machine; work_start = work_start_of s; clock = clock_machine; clock_start = new_clock }

@@ -112,6 +112,7 @@ answers_after answers number progress = answers
 -- where a step is recorded
 abbrev pub spot_of : Step → StepReply → Spot
 spot_of made (step_replies.Work reply place) = spots.Work place
+spot_of made (step_replies.Clock reply place) = spots.Clock place
 
 -- where a player stands after a step that does this, and is recorded there
 abbrev pub moved : Parts → At → Progress → Spot → At

@@ -1,7 +1,9 @@
-use Rattle.std.specs.Prelude.{◌≡◌, ◌≢◌, ℕ, ◌-◌, ◌^◌, ◌<◌, Bool, true, false, Option, Some, List, [], ◌∷◌, ◌++◌, length, slice_get, option_map, All}
+use Rattle.std.specs.Prelude.{◌≡◌, ◌≢◌, ℕ, ◌+◌, ◌-◌, ◌^◌, ◌<◌, Bool, true, false, Option, Some, List, [], ◌∷◌, ◌++◌, length, slice_get, option_map, All}
 use Rattle.zk_base.specs.declared.ids.Who.{Who}
 use Rattle.zk_base.specs.declared.ids.Entry.{Entry}
 use Rattle.zk_base.specs.History.{entry}
+use Rattle.zk_model_wait.specs.declared.clock.ClockOp.{ClockOp}
+use Rattle.zk_model_wait.specs.declared.clock.ClockReply.{ClockReply}
 use Rattle.zk_model_work.specs.declared.ops.WorkOp.{WorkOp}
 use Rattle.zk_model_work.specs.declared.ops.WorkReply.{WorkReply}
 use Rattle.zk_worker.specs.declared.steps.Step.{Step}
@@ -14,22 +16,30 @@ use Rattle.zk_worker.specs.declared.steps.Spot.TheVariants as spots
 -- what the services show: the history of each
 pub record Shown : Type 0 where
   pub work : List (Entry WorkOp WorkReply)
+  pub clock : List (Entry ClockOp ClockReply)
 
--- the history of the work service with the entry of a step
-abbrev pub work_after : List (Entry WorkOp WorkReply) → Who → ℕ → Step → StepReply → List (Entry WorkOp WorkReply)
-work_after work who number (steps.Work op) (step_replies.Work reply place) = work ++ entry who number op reply ∷ []
+-- how many entries are shown
+abbrev pub entry_count : Shown → ℕ
+entry_count shown = length shown.work + length shown.clock
 
--- what is shown with the entry of a step
+-- nothing was shown of any service
+abbrev pub nothing_shown : Shown
+nothing_shown = record { work = []; clock = [] }
+
+-- what is shown with the entry of a step, in the history of its service
 abbrev pub shown_after : Shown → Who → ℕ → Step → StepReply → Shown
-shown_after shown who number step reply = record { work = work_after shown.work who number step reply }
+shown_after shown who number (steps.Work op) (step_replies.Work reply place) = record shown { work = shown.work ++ entry who number op reply ∷ [] }
+shown_after shown who number (steps.Clock op) (step_replies.Clock reply place) = record shown { clock = shown.clock ++ entry who number op reply ∷ [] }
+shown_after shown who number step reply = shown
 
 -- whose step an entry is, and the step of which number
-abbrev pub step_of : Entry WorkOp WorkReply → ℕ × ℕ
+abbrev pub step_of : {O R : Type 0} → Entry O R → ℕ × ℕ
 step_of e = (e.who.number, e.step)
 
 -- whose step is shown at a spot, and the step of which number
 abbrev pub shown_at : Shown → Spot → Option (ℕ × ℕ)
 shown_at shown (spots.Work place) = option_map step_of (slice_get shown.work place)
+shown_at shown (spots.Clock place) = option_map step_of (slice_get shown.clock place)
 
 -- of the player of this number just the steps of a log are shown: each at its spot, and no other
 pub record ShowsLog (shown : Shown) (number : ℕ) (log : List Spot) : Type 0 where
@@ -41,16 +51,22 @@ abbrev pub IsLater : Shown → ℕ → ℕ → Type 0
 IsLater shown number next = (step : ℕ) (spot : Spot) → shown_at shown spot ≡ Some (number, step) → step < next
 
 -- each history has room for an entry
-abbrev pub AreShort : Shown → Type 0
-AreShort shown = length shown.work < 2 ^ 32 - 1
+pub record AreShort (shown : Shown) : Type 0 where
+  pub work : length shown.work < 2 ^ 32 - 1
+  pub clock : length shown.clock < 2 ^ 32 - 1
 
 -- a history grew by entries of other players than the one of this number
-pub record OthersGrew (number : ℕ) (old new : List (Entry WorkOp WorkReply)) : Type 0 where
-  pub more : List (Entry WorkOp WorkReply)
+pub record OthersGrew {O R : Type 0} (number : ℕ) (old new : List (Entry O R)) : Type 0 where
+  pub more : List (Entry O R)
   pub longer : new ≡ old ++ more
   pub others : All (λ e. e.who.number ≢ number) more
+
+-- each history grew so
+pub record AllGrew (number : ℕ) (old new : Shown) : Type 0 where
+  pub work : OthersGrew number old.work new.work
+  pub clock : OthersGrew number old.clock new.clock
 
 -- what came between two moments beside the steps of this player: nothing where it is alone, else entries of other players
 abbrev pub Between : Bool → ℕ → Shown → Shown → Type 0
 Between true number old new = new ≡ old
-Between false number old new = OthersGrew number old.work new.work
+Between false number old new = AllGrew number old new

@@ -4,7 +4,8 @@ use zk_base::{Errno, Listed};
 #[derive(Clone, Copy, Debug)]
 pub enum Answer {
     /// A number. Of a submission 0 where the item was queued already, 1 where it was admitted, and 2 where it was admitted
-    /// while it runs. Of a drain 0 where it didn't have to wait, and 1 where it did.
+    /// while it runs. Of a delayed submission the same, and 1 where the item is delayed. Of a drain 0 where it didn't have to
+    /// wait, and 1 where it did. Of a question for the rest of a delay so many ticks.
     Number(u64),
     /// The busy flags of an item, below 32.
     Flags(u8),
@@ -21,9 +22,13 @@ pub enum Word {
     Cancel,
     CancelSync,
     Flush,
+    Schedule,
+    Reschedule,
+    Remaining,
     Start,
     Drain,
     Unplug,
+    Tick,
 }
 
 /// A call that has its answer.

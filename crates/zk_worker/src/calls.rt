@@ -3,6 +3,7 @@ ghost use Rattle.zk_worker.specs.Calls.{ref_number, form_of, word_of, submission
 
 use crate::{Answer, Closing, Form, Progress, Stage, Step, StepReply, Word};
 use zk_base::Errno;
+use zk_model_wait::ClockOp;
 use zk_model_work::{Submitted, WorkOp, WorkReply};
 use zk_scenario::{Call, Ref, Scenario};
 
@@ -40,12 +41,29 @@ pub fn form_of(scenario: &Scenario, call: Call) -> Form
             Step::Work(WorkOp::FlushStart(ref_number(scenario, item))),
             Closing::Flush,
         ),
+        Call::Schedule(item, queue, delay) => Form::One(Step::Work(WorkOp::Schedule(
+            ref_number(scenario, item),
+            ref_number(scenario, queue),
+            delay,
+        ))),
+        Call::Reschedule(item, queue, delay) => Form::One(Step::Work(WorkOp::Reschedule(
+            ref_number(scenario, item),
+            ref_number(scenario, queue),
+            delay,
+        ))),
+        Call::Remaining(item) => {
+            Form::One(Step::Work(WorkOp::Remaining(ref_number(scenario, item))))
+        }
         Call::Start(queue) => Form::One(Step::Work(WorkOp::Start(ref_number(scenario, queue)))),
         Call::Drain(queue, plug) => Form::Pair(
             Step::Work(WorkOp::DrainStart(ref_number(scenario, queue), plug)),
             Closing::Drain,
         ),
         Call::Unplug(queue) => Form::One(Step::Work(WorkOp::Unplug(ref_number(scenario, queue)))),
+        Call::Tick(ticks) => Form::Twice(
+            Step::Work(WorkOp::Announce(ticks)),
+            Step::Clock(ClockOp::Announce(ticks)),
+        ),
     }
 }
 
@@ -58,9 +76,13 @@ pub fn word_of(call: Call) -> Word
         Call::Cancel(_) => Word::Cancel,
         Call::CancelSync(_) => Word::CancelSync,
         Call::Flush(_) => Word::Flush,
+        Call::Schedule(_, _, _) => Word::Schedule,
+        Call::Reschedule(_, _, _) => Word::Reschedule,
+        Call::Remaining(_) => Word::Remaining,
         Call::Start(_) => Word::Start,
         Call::Drain(_, _) => Word::Drain,
         Call::Unplug(_) => Word::Unplug,
+        Call::Tick(_) => Word::Tick,
     }
 }
 
@@ -75,24 +97,27 @@ fn submission_answer(submitted: Submitted) -> Answer
     }
 }
 
-fn work_answer(reply: WorkReply) -> Answer
-    ensures { result ≡ work_answer reply }
+fn work_answer(reply: &WorkReply) -> Answer
+    ensures { result ≡ work_answer reply.now }
 {
     match reply {
-        WorkReply::Sub(submitted) => submission_answer(submitted),
-        WorkReply::Flags(flags) => Answer::Flags(flags),
-        WorkReply::Truth(truth) => Answer::Truth(truth),
-        WorkReply::Number(number) => Answer::Number(number),
+        WorkReply::Sub(submitted) => submission_answer(*submitted),
+        WorkReply::Armed => Answer::Number(1),
+        WorkReply::Flags(flags) => Answer::Flags(*flags),
+        WorkReply::Truth(truth) => Answer::Truth(*truth),
+        WorkReply::Number(number) => Answer::Number(*number),
         WorkReply::Already => Answer::Refused(Errno::Already),
         _ => Answer::Number(0),
     }
 }
 
-fn answer_of(reply: StepReply) -> Answer
-    ensures { result ≡ answer_of reply }
+fn answer_of(reply: &StepReply) -> Answer
+    ensures { result ≡ answer_of reply.now }
 {
-    let StepReply::Work(reply, _) = reply;
-    work_answer(reply)
+    match reply {
+        StepReply::Work(reply, _) => work_answer(reply),
+        StepReply::Clock(_, _) => Answer::Number(0),
+    }
 }
 
 /// The step that ends a wait begun by the entry of this place.
@@ -116,17 +141,19 @@ pub fn form_ahead(form: Form, stage: Stage, index: u32) -> Option<Step>
         (Form::Pair(_, closing), Stage::Waits(place)) if index == 0 => {
             Some(closing_step(closing, place))
         }
+        (Form::Twice(first, _), Stage::Start) if index == 0 => Some(first),
+        (Form::Twice(_, second), Stage::Halfway) if index == 0 => Some(second),
         _ => None,
     }
 }
 
-/// What the reply to the first of two steps does to its call.
-fn opening_progress(word: Word, reply: StepReply) -> Progress
-    ensures { result ≡ opening_progress word reply }
+/// What the reply to the step that may begin a wait does to its call.
+fn opening_progress(word: Word, reply: &StepReply) -> Progress
+    ensures { result ≡ opening_progress word reply.now }
 {
     match reply {
-        StepReply::Work(WorkReply::Wait, place) => Progress::Goes(Stage::Waits(place)),
-        StepReply::Work(WorkReply::WaitFor(_), place) => Progress::Goes(Stage::Waits(place)),
+        StepReply::Work(WorkReply::Wait, place) => Progress::Goes(Stage::Waits(*place)),
+        StepReply::Work(WorkReply::WaitFor(_), place) => Progress::Goes(Stage::Waits(*place)),
         _ => Progress::Answers(word, answer_of(reply)),
     }
 }
@@ -137,12 +164,13 @@ pub fn form_progress(
     form: Form,
     stage: Stage,
     _made: Step,
-    reply: StepReply,
+    reply: &StepReply,
 ) -> Progress
-    ensures { result ≡ form_progress word form stage _made reply }
+    ensures { result ≡ form_progress word form stage _made reply.now }
 {
     match (form, stage) {
         (Form::Pair(_, _), Stage::Start) => opening_progress(word, reply),
+        (Form::Twice(_, _), Stage::Start) => Progress::Goes(Stage::Halfway),
         _ => Progress::Answers(word, answer_of(reply)),
     }
 }

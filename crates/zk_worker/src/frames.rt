@@ -10,6 +10,8 @@ pub enum Form {
     One(Step),
     /// One step, whose reply it answers unless it has to wait, and then the step that ends the wait.
     Pair(Step, Closing),
+    /// One step and then another, whose reply it answers.
+    Twice(Step, Step),
 }
 
 /// The step that ends a wait, by the place of the entry that began it.
@@ -32,6 +34,8 @@ pub enum Stage {
     Runs,
     /// A call waits since the entry at this place of its service.
     Waits(u64),
+    /// A call has made the first of its two steps.
+    Halfway,
 }
 
 /// What is played.

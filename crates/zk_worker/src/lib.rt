@@ -11,6 +11,8 @@ mod protocol;
 mod services;
 mod stack;
 mod steps;
+#[cfg(test)]
+mod tests;
 
 pub use answers::{Answer, Answered, Answers, Word};
 pub use frames::{Closing, Form, Frame, Progress, Role, Stage};

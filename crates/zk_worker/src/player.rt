@@ -146,9 +146,9 @@ impl Player {
     }
 
     /// Adds one of these attempts, which was answered so.
-    pub fn made(&mut self, scenario: &Scenario, step: Step, reply: StepReply)
+    pub fn made(&mut self, scenario: &Scenario, step: Step, reply: &StepReply)
         requires ahead { IsAhead scenario.now self.old step }
-        ensures { self.new ≡ after scenario.now self.old step reply }
+        ensures { self.new ≡ after scenario.now self.old step reply.now }
     {
         let number = self.spots.len() as u32;
         let progress = frames_progress(scenario, &self.stack, step, reply);

@@ -60,12 +60,12 @@ fn run_progress(owner: Option<u32>) -> Progress
     }
 }
 
-fn worker_progress(scenario: &Scenario, stage: Stage, reply: StepReply) -> Progress
-    ensures { result ≡ worker_progress scenario.now.decls stage reply }
+fn worker_progress(scenario: &Scenario, stage: Stage, reply: &StepReply) -> Progress
+    ensures { result ≡ worker_progress scenario.now.decls stage reply.now }
 {
     match (stage, reply) {
         (Stage::Start, StepReply::Work(WorkReply::Run(item, _), _)) => {
-            run_progress(item_object(scenario, item))
+            run_progress(item_object(scenario, *item))
         }
         _ => Progress::Goes(Stage::Start),
     }
@@ -76,9 +76,9 @@ fn call_progress(
     call: Option<Call>,
     stage: Stage,
     made: Step,
-    reply: StepReply,
+    reply: &StepReply,
 ) -> Progress
-    ensures { result ≡ call_progress scenario.now.decls call stage made reply }
+    ensures { result ≡ call_progress scenario.now.decls call stage made reply.now }
 {
     match call {
         Some(call) => form_progress(word_of(call), form_of(scenario, call), stage, made, reply),
@@ -87,8 +87,8 @@ fn call_progress(
 }
 
 /// What the reply to a step does to an open script or run.
-pub fn role_progress(scenario: &Scenario, frame: Frame, made: Step, reply: StepReply) -> Progress
-    ensures { result ≡ role_progress scenario.now frame.role frame.next frame.stage made reply }
+pub fn role_progress(scenario: &Scenario, frame: Frame, made: Step, reply: &StepReply) -> Progress
+    ensures { result ≡ role_progress scenario.now frame.role frame.next frame.stage made reply.now }
 {
     match frame.role {
         Role::Script(owner) => {
@@ -110,10 +110,11 @@ pub fn is_over(scenario: &Scenario, frame: Frame) -> bool
 }
 
 /// Where a step is recorded.
-pub fn spot_of(_made: Step, reply: StepReply) -> Spot
-    ensures { result ≡ spot_of _made reply }
+pub fn spot_of(_made: Step, reply: &StepReply) -> Spot
+    ensures { result ≡ spot_of _made reply.now }
 {
     match reply {
-        StepReply::Work(_, place) => Spot::Work(place),
+        StepReply::Work(_, place) => Spot::Work(*place),
+        StepReply::Clock(_, place) => Spot::Clock(*place),
     }
 }

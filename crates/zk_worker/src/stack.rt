@@ -59,9 +59,9 @@ pub fn frames_progress(
     scenario: &Scenario,
     stack: &[Frame],
     made: Step,
-    reply: StepReply,
+    reply: &StepReply,
 ) -> Progress
-    ensures { result ≡ frames_progress scenario.now (reverse stack.now) made reply }
+    ensures { result ≡ frames_progress scenario.now (reverse stack.now) made reply.now }
 {
     match top_frame(stack) {
         Some(frame) => role_progress(scenario, frame, made, reply),

@@ -1,4 +1,5 @@
 use zk_base::Listed;
+use zk_model_wait::{ClockOp, ClockReply};
 use zk_model_work::{WorkOp, WorkReply};
 
 /// The most steps that a player makes. One that has made them makes no further one.
@@ -12,13 +13,17 @@ pub const MOST_ATTEMPTS: u32 = 9;
 pub enum Step {
     /// An operation of the work service.
     Work(WorkOp),
+    /// An operation of the clock.
+    Clock(ClockOp),
 }
 
 /// What a step was answered.
-#[derive(Clone, Copy, Debug)]
+#[derive(Debug, Drop)]
 pub enum StepReply {
     /// The work service's reply, and the place of the entry in its history, from 0.
     Work(WorkReply, u64),
+    /// The clock's reply, and the place of the entry in its history, from 0.
+    Clock(ClockReply, u64),
 }
 
 /// Where a step stands in what was recorded.
@@ -26,6 +31,8 @@ pub enum StepReply {
 pub enum Spot {
     /// The place of the entry in the history of the work service.
     Work(u64),
+    /// The place of the entry in the history of the clock.
+    Clock(u64),
 }
 
 /// The spots of a player's steps, by the number of the step.
