@@ -199,7 +199,7 @@ const DELAYS: [(&str, &str, &str); 5] = [
     (
         "no delay, a queue that is off, and a handler that ticks while its queue drains",
         "queue q2 0 off\nscript t0\nschedule w0 q2 0\nschedule w0 q0 0\nschedule w1 q0 1\ndrain q0 open\nend\nscript w0\nremaining w1\nremaining w1\ntick 1\nend\n",
-        "",
+        "zt 1\nended\nservice work\nt0.0 schedule w0 q2 0 = nodev\nt0.1 schedule w0 q0 0 = 1 a0 q0\nq0.0 begin q0 = w0 a0\nt0.2 schedule w1 q0 1 = 1\nq0.1 remaining w1 = 1\nt0.3 drainstart q0 open = wait\nq0.2 remaining w1 = 1\nq0.3 announce 1 = now 1 w1:busy\nq0.5 end q0 = ok\nt0.4 draindone 5 = 1\nservice clock\nq0.4 announce 1 = now 1\nplayer t0 done\n0 schedule = nodev\n1 schedule = 1\n2 schedule = 1\n4 drain = 1\nplayer t1 done\nplayer q0 done\n1 remaining = 1\n2 remaining = 1\n4 tick = 0\nplayer q2 done\n",
     ),
 ];
 
