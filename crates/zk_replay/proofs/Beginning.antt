@@ -6,12 +6,15 @@ use Rattle.std.proofs.lemmas.List.Elements.{All-nil, All-cons, All-append, All-w
 use Rattle.std.proofs.lemmas.List.Folds.{list_any_none}
 use Rattle.std.proofs.lemmas.List.FromFn.{length-range_with_len, get_or-range_with_len}
 use Rattle.std.proofs.lemmas.List.Sums.{sum_by-le}
-use Rattle.zk_base.specs.declared.ids.Entry.{Entry}
 use Rattle.zk_scenario.specs.Parts.{Parts}
 use Rattle.zk_scenario.specs.Valid.{IsValid}
 use Rattle.zk_scenario.specs.Players.{places, players, is_thread, is_queue, is_item}
 use Rattle.zk_scenario.proofs.Tables.{length-places}
 use Rattle.zk_scenario.proofs.Valid.{length-players}
+use Rattle.zk_base.specs.declared.ids.Entry.{Entry}
+use Rattle.zk_model_wait.specs.declared.clock.ClockOp.{ClockOp}
+use Rattle.zk_model_wait.specs.declared.clock.ClockReply.{ClockReply}
+use Rattle.zk_model_wait.specs.Clock.{Clock, new_clock, clock_machine}
 use Rattle.zk_model_work.specs.declared.ops.WorkOp.{WorkOp}
 use Rattle.zk_model_work.specs.declared.ops.WorkReply.{WorkReply}
 use Rattle.zk_model_work.specs.State.{State}
@@ -22,7 +25,8 @@ use Rattle.zk_worker.specs.Places.{At}
 use Rattle.zk_worker.specs.Protocol.{start_at}
 use Rattle.zk_worker.specs.Follows.{is_spent_at}
 use Rattle.zk_worker.specs.Ranges.{FramesFit}
-use Rattle.zk_worker.specs.Machines.{Machines, workers}
+use Rattle.zk_worker.specs.Machines.{Machines, machines_of, workers, work_start_of}
+use Rattle.zk_worker.specs.Shown.{Shown, nothing_shown}
 use Rattle.zk_worker.proofs.Fits.{start_at-fits}
 use Rattle.zk_worker.proofs.Between.{log-none}
 use Rattle.zk_worker.proofs.Starts.{start_at-some, start_at-fresh, IsFresh}
@@ -148,9 +152,15 @@ few-workers s valid =
     omega (arith, few-queues s valid, length-range_with_len (length (places is_thread s.decls)) (length (places is_queue s.decls)))
 
 -- nothing done, and the players as they start, are the first world
-pub world-first : (s : Parts) (work : List (Entry WorkOp WorkReply)) (made : List At) → work ≡ [] → made ≡ starts s (length (players s.decls)) → world work made ≡ first s
-world-first s work made none all = ap (λ (h : List (Entry WorkOp WorkReply)). world h made) none ∙ ap (world []) all
+pub world-first : (s : Parts) (shown : Shown) (made : List At) → shown.work ≡ [] → shown.clock ≡ [] → made ≡ starts s (length (players s.decls)) → world shown made ≡ first s
+world-first s shown made no_work no_clock all =
+    ap (λ (h : List (Entry WorkOp WorkReply)). world (record { work = h; clock = shown.clock }) made) no_work
+    ∙ ap (λ (h : List (Entry ClockOp ClockReply)). world (record { work = []; clock = h }) made) no_clock ∙ ap (world nothing_shown) all
 
--- the machines of services whose work service starts in this state
-abbrev pub machines_from : State → Machines
-machines_from start = record { work = work_machine; work_start = start }
+-- the machines of services that start in these states
+abbrev pub machines_from : State → Clock → Machines
+machines_from work clock = record { work = work_machine; work_start = work; clock = clock_machine; clock_start = clock }
+
+-- and of services that start as those of a scenario do
+pub machines-first : (s : Parts) (work : State) (clock : Clock) → work ≡ work_start_of s → clock ≡ new_clock → machines_from work clock ≡ machines_of s
+machines-first s work clock same_work same_clock = ap (λ (x : State). machines_from x clock) same_work ∙ ap (machines_from (work_start_of s)) same_clock

@@ -3,10 +3,6 @@ use Rattle.std.proofs.Common.{◌≡◌, ℕ, zero, suc, ◌<◌, Bool, true, fa
 use Rattle.std.specs.List.{slice_get}
 use Rattle.std.proofs.lemmas.Option.{slice_get_within}
 use Rattle.zk_base.specs.declared.ids.Who.{Who}
-use Rattle.zk_base.specs.declared.ids.Entry.{Entry}
-use Rattle.zk_base.specs.Legal.{Machine}
-use Rattle.zk_model_work.specs.declared.ops.WorkOp.{WorkOp}
-use Rattle.zk_model_work.specs.declared.ops.WorkReply.{WorkReply}
 use Rattle.zk_scenario.specs.Parts.{Parts}
 use Rattle.zk_worker.specs.declared.steps.TheConstants.{MOST_STEPS}
 use Rattle.zk_worker.specs.declared.steps.Step.{Step}
@@ -19,30 +15,30 @@ use Rattle.zk_worker.specs.Protocol.{attempts, frames_attempts}
 use Rattle.zk_worker.specs.Follows.{is_spent_at, is_through}
 use Rattle.zk_worker.specs.Machines.{Machines}
 use Rattle.zk_worker.specs.Shown.{Shown, shown_after}
-use Rattle.zk_worker.specs.Attempt.{answer_in, reply_in, Counts}
+use Rattle.zk_worker.specs.Attempt.{reply_in, Counts}
 use Rattle.zk_worker.specs.Playing.{WereTried, HasStepped, HasWaited, Does}
 use Rattle.zk_replay.specs.RoundRobin.{or_else, first_possible, chosen}
-use Rattle.zk_replay.specs.Turning.{did, history_with, at_after, IsTurn}
+use Rattle.zk_replay.specs.Turning.{did, shown_with, at_after, IsTurn}
 
-module _ {T : Type 0} (m : Machine T WorkOp WorkReply) (start : T) (work : List (Entry WorkOp WorkReply)) (who : Who) where
+module _ (m : Machines) (shown : Shown) (who : Who) where
   -- the first of the attempts that is possible is the one that is chosen
   first-is : (ahead : List Step) (index : ℕ) (step : Step) (reply : StepReply) → slice_get ahead index ≡ Some step →
-      ((k : ℕ) (x : Step) → k < index → slice_get ahead k ≡ Some x → answer_in m start work who x ≡ None) → answer_in m start work who step ≡ Some reply →
-      first_possible m start work who ahead ≡ Some (step, reply)
+      ((k : ℕ) (x : Step) → k < index → slice_get ahead k ≡ Some x → reply_in m shown who x ≡ None) → reply_in m shown who step ≡ Some reply →
+      first_possible m shown who ahead ≡ Some (step, reply)
   first-is [] index step reply is earlier answered = absurd (cc)
   first-is (x ∷ xs) zero step reply is earlier answered =
       let same : x ≡ step = cc in
-      subst (λ (y : Step). or_else y (answer_in m start work who y) (first_possible m start work who xs) ≡ Some (step, reply)) (sym same)
-      (ap (λ (o : Option StepReply). or_else step o (first_possible m start work who xs)) answered)
+      subst (λ (y : Step). or_else y (reply_in m shown who y) (first_possible m shown who xs) ≡ Some (step, reply)) (sym same)
+      (ap (λ (o : Option StepReply). or_else step o (first_possible m shown who xs)) answered)
   first-is (x ∷ xs) (suc index) step reply is earlier answered =
-      ap (λ (o : Option StepReply). or_else x o (first_possible m start work who xs)) (earlier 0 x (omega arith) refl)
+      ap (λ (o : Option StepReply). or_else x o (first_possible m shown who xs)) (earlier 0 x (omega arith) refl)
       ∙ first-is xs index step reply is (λ k y below there. earlier (suc k) y (omega arith) there) answered
 
   -- where none is possible none is chosen
-  none-is : (ahead : List Step) → ((k : ℕ) (x : Step) → slice_get ahead k ≡ Some x → answer_in m start work who x ≡ None) → first_possible m start work who ahead ≡ None
+  none-is : (ahead : List Step) → ((k : ℕ) (x : Step) → slice_get ahead k ≡ Some x → reply_in m shown who x ≡ None) → first_possible m shown who ahead ≡ None
   none-is [] each = refl
   none-is (x ∷ xs) each =
-      ap (λ (o : Option StepReply). or_else x o (first_possible m start work who xs)) (each 0 x refl) ∙ none-is xs (λ k y there. each (suc k) y there)
+      ap (λ (o : Option StepReply). or_else x o (first_possible m shown who xs)) (each 0 x refl) ∙ none-is xs (λ k y there. each (suc k) y there)
 
 -- a player that is through has no attempts
 through-none : (s : Parts) (at : At) → is_through at.frames ≡ true → attempts s at ≡ []
@@ -57,16 +53,16 @@ through-none s at through = by_frames at.frames through
     by_frames (frame ∷ below) is = absurd (cc)
 
 module _ (m : Machines) (s : Parts) (at at' : At) (old new : Shown) (counts counts' : Counts) where
-  still-turn : chosen m.work m.work_start s old.work at ≡ None → at' ≡ at → new ≡ old → IsTurn m s at at' old new false
+  still-turn : chosen m s old at ≡ None → at' ≡ at → new ≡ old → IsTurn m s at at' old new false
   still-turn none same nothing = record {
     place = same ∙ ap (at_after s at) (sym none);
-    history = ap (λ (x : Shown). x.work) nothing ∙ ap (history_with old.work at.who (length at.spots)) (sym none);
+    shows = nothing ∙ ap (shown_with old at.who (length at.spots)) (sym none);
     moves = ap is_some (sym none);
   }
 
   -- an attempt that was tried isn't possible, since nothing came between
   was-none : (ahead : List Step) (many : ℕ) (until : Shown) → WereTried true m at.who ahead many old until counts counts' → (k : ℕ) (step : Step) → k < many → slice_get ahead k ≡ Some step →
-      answer_in m.work m.work_start old.work at.who step ≡ None
+      reply_in m old at.who step ≡ None
   was-none ahead many until tried k step below there =
       let was = tried k step below there in
       subst (λ (x : Shown). reply_in m x at.who step ≡ None) was.since was.impossible
@@ -74,14 +70,14 @@ module _ (m : Machines) (s : Parts) (at at' : At) (old new : Shown) (counts coun
   stepped-turn : HasStepped true m s at at' old new counts counts' → IsTurn m s at at' old new true
   stepped-turn has =
       let first = has.first in
-      let replied : answer_in m.work m.work_start old.work at.who has.step ≡ Some has.reply =
+      let replied : reply_in m old at.who has.step ≡ Some has.reply =
       subst (λ (x : Shown). reply_in m x at.who has.step ≡ Some has.reply) first.made.since first.made.replied in
-      let choice = first-is m.work m.work_start old.work at.who (attempts s at) first.index has.step has.reply first.is_there
+      let choice = first-is m old at.who (attempts s at) first.index has.step has.reply first.is_there
       (was-none (attempts s at) first.index first.made.found first.tried) replied in
       record {
         place = has.next ∙ ap (at_after s at) (sym choice);
-        history = ap (λ (x : Shown). x.work) (first.made.shown ∙ ap (λ (x : Shown). shown_after x at.who (length at.spots) has.step has.reply) first.made.since)
-            ∙ ap (history_with old.work at.who (length at.spots)) (sym choice);
+        shows = first.made.shown ∙ ap (λ (x : Shown). shown_after x at.who (length at.spots) has.step has.reply) first.made.since
+            ∙ ap (shown_with old at.who (length at.spots)) (sym choice);
         moves = ap is_some (sym choice);
       }
 
@@ -89,7 +85,7 @@ module _ (m : Machines) (s : Parts) (at at' : At) (old new : Shown) (counts coun
   waited-turn has =
       let none = has.none in
       still-turn
-      (none-is m.work m.work_start old.work at.who (attempts s at)
+      (none-is m old at.who (attempts s at)
       (λ k step there. was-none (attempts s at) (length (attempts s at)) new none.tried k step (slice_get_within (attempts s at) k step there) there))
       has.unchanged none.others
 
@@ -97,7 +93,7 @@ module _ (m : Machines) (s : Parts) (at at' : At) (old new : Shown) (counts coun
   by-answer Did unspent does = stepped-turn does
   by-answer NotYet unspent does = waited-turn does
   by-answer Ended unspent does =
-      still-turn (ap (first_possible m.work m.work_start old.work at.who) (through-none s at does.1.because)) does.1.unchanged does.1.nothing
+      still-turn (ap (first_possible m old at.who) (through-none s at does.1.because)) does.1.unchanged does.1.nothing
   by-answer Spent unspent does = absurd (cc)
 
 -- what a step does is what the definition of a turn says

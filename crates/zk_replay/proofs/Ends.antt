@@ -8,6 +8,9 @@ use Rattle.std.proofs.lemmas.List.{length-set}
 use Rattle.std.proofs.lemmas.List.Elements.{All-head, All-tail}
 use Rattle.zk_base.specs.declared.ids.Entry.{Entry}
 use Rattle.zk_base.specs.Legal.{state_after}
+use Rattle.zk_model_wait.specs.declared.clock.ClockOp.{ClockOp}
+use Rattle.zk_model_wait.specs.declared.clock.ClockReply.{ClockReply}
+use Rattle.zk_model_wait.specs.Clock.{new_clock, clock_reply, clock_machine}
 use Rattle.zk_model_work.specs.declared.ops.WorkOp.{WorkOp}
 use Rattle.zk_model_work.specs.declared.ops.WorkOp.TheVariants as ops
 use Rattle.zk_model_work.specs.declared.ops.WorkReply.{WorkReply}
@@ -29,13 +32,15 @@ use Rattle.zk_worker.specs.declared.frames.Frame.{Frame}
 use Rattle.zk_worker.specs.declared.frames.Role.{Role}
 use Rattle.zk_worker.specs.declared.frames.Role.TheVariants.{Script, Worker}
 use Rattle.zk_worker.specs.declared.frames.Stage.{Stage}
-use Rattle.zk_worker.specs.declared.frames.Stage.TheVariants.{Start, Runs, Waits}
+use Rattle.zk_worker.specs.declared.frames.Stage.TheVariants.{Start, Runs, Waits, Halfway}
 use Rattle.zk_worker.specs.declared.log.Log.{Log}
 use Rattle.zk_worker.specs.Places.{At}
 use Rattle.zk_worker.specs.Protocol.{attempts, frames_attempts, role_attempts, after}
 use Rattle.zk_worker.specs.Follows.{log_of, is_done, is_between, is_spent_at}
-use Rattle.zk_worker.specs.Machines.{work_start_of}
+use Rattle.zk_worker.specs.Machines.{work_start_of, machines_of}
+use Rattle.zk_worker.specs.Attempt.{reply_in}
 use Rattle.zk_worker.proofs.Lists.{none-passes}
+use Rattle.zk_worker.proofs.Made.{made-of}
 use Rattle.zk_worker.proofs.Numbers.{All-slice_get}
 use Rattle.zk_worker.proofs.Ranges.{same-lengths}
 use Rattle.zk_trace.specs.declared.trace.Ending.{Ending}
@@ -50,7 +55,7 @@ use Rattle.zk_replay.specs.Tending.{IsIdle, IsWorkers, Tends, IsTended}
 use Rattle.zk_replay.proofs.Readiness.{ready-stepped}
 use Rattle.zk_replay.proofs.Beginning.{ready-first, first-there, first-players}
 use Rattle.zk_replay.proofs.Machine.{none-waits-for}
-use Rattle.zk_replay.proofs.Tended.{tended-step, tended-first, worker-of, open-ahead}
+use Rattle.zk_replay.proofs.Tended.{tended-step, tended-clock, tended-first, worker-of, open-ahead}
 use Rattle.zk_replay.proofs.Still.{first_possible-made, rounds-keep, round-still}
 
 -- what holds of each world of the run of a valid scenario
@@ -60,23 +65,37 @@ record IsGood (s : Parts) (w : World) : Type 0 where
   state : State
   tended : IsTended s w state
 
-replied : (r : Option WorkReply) (long place : ℕ) (reply : WorkReply) → option_map (λ x. step_replies.Work x long) r ≡ Some (step_replies.Work reply place) → r ≡ Some reply
-replied None long place reply is = absurd (cc)
-replied (Some x) long place reply is = let both : step_replies.Work x long ≡ step_replies.Work reply place = cc in cc
+-- a step keeps what holds of each world, if each worker still tends its queue
+good-from : (s : Parts) (w : World) (p : ℕ) (at : At) (made : Step × StepReply) (state : State) → IsGood s w → is_spent w ≡ false → slice_get w.players p ≡ Some at →
+    chosen (machines_of s) s w.shown at ≡ Some made → IsTended s (stepped s w p at (Some made)) state → IsGood s (stepped s w p at (Some made))
+good-from s w p at made state good unspent is choice tended = record {
+  all_there = length-set w.players p (after s at made.0 made.1) ∙ good.all_there;
+  ready = ready-stepped (machines_of s) s w p at made good.ready is (none-passes is_spent_at w.players p at unspent is)
+      (first_possible-made (machines_of s) w.shown at.who (attempts s at) made choice).answered;
+  state = state;
+  tended = tended;
+}
 
 good-step : (s : Parts) (w : World) (p : ℕ) (at : At) (made : Step × StepReply) → IsGood s w → is_spent w ≡ false → slice_get w.players p ≡ Some at →
-    chosen work_machine (work_start_of s) s w.work at ≡ Some made → IsGood s (stepped s w p at (Some made))
-good-step s w p at (steps.Work op, step_replies.Work reply place) good unspent is choice =
-    let made = first_possible-made work_machine (work_start_of s) w.work at.who (attempts s at) (steps.Work op, step_replies.Work reply place) choice in
-    let possible : work_reply good.state at.who op ≡ Some reply =
-    ap (λ (t : State). work_reply t at.who op) good.tended.after ∙ replied _ (length w.work) place reply made.answered in
-    let ahead = open-ahead (nat_lt (length at.spots) MOST_STEPS) (frames_attempts s at.frames) made.place (steps.Work op) made.is_there in
-    record {
-      all_there = length-set w.players p (after s at (steps.Work op) (step_replies.Work reply place)) ∙ good.all_there;
-      ready = ready-stepped work_machine (work_start_of s) s w p at (steps.Work op, step_replies.Work reply place) good.ready is (none-passes is_spent_at w.players p at unspent is) made.answered;
-      state = work_next good.state at.who op;
-      tended = tended-step s w good.state p at op reply place made.place good.tended is (good.ready.numbers p at is) ahead possible;
-    }
+    chosen (machines_of s) s w.shown at ≡ Some made → IsGood s (stepped s w p at (Some made))
+good-step s w p at (step, reply) good unspent is choice =
+    let made = first_possible-made (machines_of s) w.shown at.who (attempts s at) (step, reply) choice in
+    let ahead = open-ahead (nat_lt (length at.spots) MOST_STEPS) (frames_attempts s at.frames) made.place step made.is_there in
+    by_step step reply made.place choice ahead made.answered
+  where
+    by_step : (step : Step) (reply : StepReply) (place : ℕ) → chosen (machines_of s) s w.shown at ≡ Some (step, reply) → slice_get (frames_attempts s at.frames) place ≡ Some step →
+        reply_in (machines_of s) w.shown at.who step ≡ Some reply → IsGood s (stepped s w p at (Some (step, reply)))
+    by_step (steps.Work op) reply place choice ahead answered =
+        let from = made-of (λ (r : WorkReply). step_replies.Work r (length w.shown.work)) (work_reply (state_after work_machine (work_start_of s) w.shown.work) at.who op) reply answered in
+        let possible = ap (λ (t : State). work_reply t at.who op) good.tended.after ∙ from.1 in
+        let tended = tended-step s w good.state p at op from.0 (length w.shown.work) place good.tended is (good.ready.numbers p at is) ahead possible in
+        good-from s w p at (steps.Work op, reply) (work_next good.state at.who op) good unspent is choice
+        (subst (λ (r : StepReply). IsTended s (stepped s w p at (Some (steps.Work op, r))) (work_next good.state at.who op)) from.2 tended)
+    by_step (steps.Clock op) reply place choice ahead answered =
+        let from = made-of (λ (r : ClockReply). step_replies.Clock r (length w.shown.clock)) (clock_reply (state_after clock_machine new_clock w.shown.clock) at.who op) reply answered in
+        let tended = tended-clock s w good.state p at op from.0 (length w.shown.clock) place good.tended is ahead in
+        good-from s w p at (steps.Clock op, reply) good.state good unspent is choice
+        (subst (λ (r : StepReply). IsTended s (stepped s w p at (Some (steps.Clock op, r))) good.state) from.2 tended)
 
 good-first : (s : Parts) → IsValid s → IsGood s (first s)
 good-first s valid = record {
@@ -86,8 +105,8 @@ good-first s valid = record {
   tended = tended-first s (first-there s) (same-lengths s);
 }
 
-good-rounds : (s : Parts) (n : ℕ) → IsValid s → IsGood s (rounds work_machine (work_start_of s) s n (first s))
-good-rounds s n valid = rounds-keep work_machine (work_start_of s) s (IsGood s) (good-step s) n (first s) (good-first s valid)
+good-rounds : (s : Parts) (n : ℕ) → IsValid s → IsGood s (rounds (machines_of s) s n (first s))
+good-rounds s n valid = rounds-keep (machines_of s) s (IsGood s) (good-step s) n (first s) (good-first s valid)
 
 -- a worker between two runs, whose queue runs nothing, can only begin
 done-ahead : (s : Parts) (queue : ℕ) (frames : List Frame) (admissions : List Admission) → Tends s.decls queue frames admissions → is_done frames ≡ true →
@@ -101,6 +120,7 @@ done-ahead s queue (frame ∷ []) admissions tends done = by_role frame.role fra
     by_role (Worker object) next Start tends done = (ap (λ (q : ℕ). steps.Work (ops.Begin q) ∷ []) tends.0, tends.1)
     by_role (Worker object) next Runs tends done = absurd (cc)
     by_role (Worker object) next (Waits place) tends done = absurd tends
+    by_role (Worker object) next Halfway tends done = absurd tends
     by_role (Script owner) next stage tends done = absurd tends
 
 answer-none : (r : Option WorkReply) (long : ℕ) (step : Step) → or_else step (option_map (λ x. step_replies.Work x long) r) None ≡ None → r ≡ None
@@ -128,7 +148,8 @@ none-wait many (a ∷ xs) homes none =
 short-unspent : (at : At) → is_spent_at at ≡ false → nat_lt (length at.spots) MOST_STEPS ≡ true
 short-unspent at is = grind (arith, nat_tests)
 
-there-is : (xs : List At) (p : ℕ) → p < length xs → (x : At) × (slice_get xs p ≡ Some x)
+-- where a list is long enough something is at a place
+pub there-is : (xs : List At) (p : ℕ) → p < length xs → (x : At) × (slice_get xs p ≡ Some x)
 there-is [] p within = absurd (omega arith)
 there-is (x ∷ xs) zero within = (x, refl)
 there-is (x ∷ xs) (suc p) within = there-is xs p (omega arith)
@@ -143,7 +164,7 @@ not-open Running waits runs = absurd (cc)
 not-open Ended waits runs = refl
 not-open Dropped waits runs = refl
 
-module _ (s : Parts) (w : World) (good : IsGood s w) (still : round work_machine (work_start_of s) s w ≡ w) (unspent : is_spent w ≡ false) (done : all_done w.players ≡ true) where
+module _ (s : Parts) (w : World) (good : IsGood s w) (still : round (machines_of s) s w ≡ w) (unspent : is_spent w ≡ false) (done : all_done w.players ≡ true) where
   -- the worker of a queue, which stands between two runs
   worker-at : (queue : ℕ) → queue < length (places is_queue s.decls) → (at : At) × (slice_get w.players (length (places is_thread s.decls) + queue) ≡ Some at)
   worker-at queue within = there-is w.players (length (places is_thread s.decls) + queue) (omega (arith, good.all_there))
@@ -161,18 +182,18 @@ module _ (s : Parts) (w : World) (good : IsGood s w) (still : round work_machine
       let there = worker-at queue within in
       let at = there.0 in
       let only = between queue within in
-      let none = round-still work_machine (work_start_of s) s w still unspent (threads + queue) at (omega (arith, good.all_there)) there.1 in
+      let none = round-still (machines_of s) s w still unspent (threads + queue) at (omega (arith, good.all_there)) there.1 in
       let ahead : attempts s at ≡ steps.Work (ops.Begin queue) ∷ [] =
       ap (λ b. cond b (frames_attempts s at.frames) []) (short-unspent at (none-passes is_spent_at w.players (threads + queue) at unspent there.1)) ∙ only.0 in
-      let first_none = sym (ap (first_possible work_machine (work_start_of s) w.work at.who) ahead) ∙ none in
+      let first_none = sym (ap (first_possible (machines_of s) w.shown at.who) ahead) ∙ none in
       let not_begun : work_reply good.state at.who (ops.Begin queue) ≡ None =
       ap (λ (t : State). work_reply t at.who (ops.Begin queue)) good.tended.after
-      ∙ answer-none (work_reply (state_after work_machine (work_start_of s) w.work) at.who (ops.Begin queue)) (length w.work) (steps.Work (ops.Begin queue)) first_none in
+      ∙ answer-none (work_reply (state_after work_machine (work_start_of s) w.shown.work) at.who (ops.Begin queue)) (length w.shown.work) (steps.Work (ops.Begin queue)) first_none in
       none-waits-for good.state at.who queue
       (worker-of s w good.state queue good.tended within ∙ ap (λ (n : ℕ). Some n) (sym (good.ready.numbers (threads + queue) at there.1))) only.1 not_begun
 
   -- where all are done at the end of a run that isn't spent, no admission waits
-  ended : none_waits (state_after work_machine (work_start_of s) w.work) ≡ true
+  ended : none_waits (state_after work_machine (work_start_of s) w.shown.work) ≡ true
   ended = subst (λ (t : State). none_waits t ≡ true) good.tended.after (none-wait (length (places is_queue s.decls)) good.state.admissions good.tended.homes none-for)
 
   -- and none runs
@@ -187,46 +208,44 @@ module _ (s : Parts) (w : World) (good : IsGood s w) (still : round work_machine
       (not-here (eqb a.queue a.queue) (is_waiting a.life) here (All-slice_get Waits good.state.admissions number a is (none-for a.queue within)))
       (not-here (eqb a.queue a.queue) (is_running a.life) here (All-slice_get Runs good.state.admissions number a is (between a.queue within).1))
 
-ending-good : (s : Parts) (w : World) → IsGood s w → round work_machine (work_start_of s) s w ≡ w → ending_by w.players ≡ ending_of s w
+ending-good : (s : Parts) (w : World) → IsGood s w → round (machines_of s) s w ≡ w → ending_by w.players ≡ ending_of s w
 ending-good s w good still = by_spent (is_spent w) refl
   where
     waits : Bool
-    waits = none_waits (state_after work_machine (work_start_of s) w.work)
+    waits = none_waits (state_after work_machine (work_start_of s) w.shown.work)
 
-    by_done : (b : Bool) → is_spent w ≡ false → all_done w.players ≡ b → cond b endings.Ended endings.Stuck ≡ cond (b && none_waits (state_after work_machine (work_start_of s) w.work)) endings.Ended endings.Stuck
+    by_done : (b : Bool) → is_spent w ≡ false → all_done w.players ≡ b → cond b endings.Ended endings.Stuck ≡ cond (b && none_waits (state_after work_machine (work_start_of s) w.shown.work)) endings.Ended endings.Stuck
     by_done true unspent done = sym (ap (λ c. cond c endings.Ended endings.Stuck) (ended s w good still unspent done))
     by_done false unspent done = refl
 
     by_spent : (b : Bool) → is_spent w ≡ b → cond b endings.Spent (cond (all_done w.players) endings.Ended endings.Stuck)
-        ≡ cond b endings.Spent (cond (all_done w.players && none_waits (state_after work_machine (work_start_of s) w.work)) endings.Ended endings.Stuck)
+        ≡ cond b endings.Spent (cond (all_done w.players && none_waits (state_after work_machine (work_start_of s) w.shown.work)) endings.Ended endings.Stuck)
     by_spent true spent = refl
     by_spent false unspent = by_done (all_done w.players) unspent refl
 
 -- at the end of a run the players alone say how it ended
-ending-is : (s : Parts) (w : World) → IsValid s → IsRun work_machine (work_start_of s) s w → ending_by w.players ≡ ending_of s w
+ending-is : (s : Parts) (w : World) → IsValid s → IsRun (machines_of s) s w → ending_by w.players ≡ ending_of s w
 ending-is s w valid run =
     ending-good s w (subst (λ (v : World). IsGood s v) (sym run.1) (good-rounds s run.0 valid)) run.2
 
 -- equal parts make equal traces
-Trace-same : (e e' : Ending) (h h' : List (Entry WorkOp WorkReply)) (l l' : List Log) → e ≡ e' → h ≡ h' → l ≡ l' →
-    ◌≡◌ {A = Trace} (record { ending = e; work = h; logs = l }) (record { ending = e'; work = h'; logs = l' })
-Trace-same e e' h h' l l' ee eh el =
-    let P : Trace → Type 0 = λ x. ◌≡◌ {A = Trace} (record { ending = e; work = h; logs = l }) x in
-    subst (λ (x : List Log). P (record { ending = e'; work = h'; logs = x })) el
-    (subst (λ (x : List (Entry WorkOp WorkReply)). P (record { ending = e'; work = x; logs = l })) eh
-    (subst (λ (x : Ending). P (record { ending = x; work = h; logs = l })) ee refl))
+Trace-same : (e e' : Ending) (h h' : List (Entry WorkOp WorkReply)) (c c' : List (Entry ClockOp ClockReply)) (l l' : List Log) → e ≡ e' → h ≡ h' → c ≡ c' → l ≡ l' →
+    ◌≡◌ {A = Trace} (record { ending = e; work = h; clock = c; logs = l }) (record { ending = e'; work = h'; clock = c'; logs = l' })
+Trace-same e e' h h' c c' l l' ee eh ec el =
+    let P : Trace → Type 0 = λ x. ◌≡◌ {A = Trace} (record { ending = e; work = h; clock = c; logs = l }) x in
+    subst (λ (x : List Log). P (record { ending = e'; work = h'; clock = c'; logs = x })) el
+    (subst (λ (x : List (Entry ClockOp ClockReply)). P (record { ending = e'; work = h'; clock = x; logs = l })) ec
+    (subst (λ (x : List (Entry WorkOp WorkReply)). P (record { ending = e'; work = x; clock = c; logs = l })) eh
+    (subst (λ (x : Ending). P (record { ending = x; work = h; clock = c; logs = l })) ee refl)))
 
 -- what the code hands out is the trace of the run
-pub replayed : (s : Parts) (old w : World) (ending : Ending) (work : List (Entry WorkOp WorkReply)) (logs : List Log) → IsValid s →
-    old ≡ first s → (n : ℕ) → w ≡ rounds work_machine (work_start_of s) s n old → round work_machine (work_start_of s) s w ≡ w →
-    ending ≡ ending_by w.players → work ≡ w.work → logs ≡ map log_of w.players → IsReplay s (record { ending = ending; work = work; logs = logs })
-replayed s old w ending work logs valid begins n so_far over end history log =
-    let run : IsRun work_machine (work_start_of s) s w = (n, so_far ∙ ap (rounds work_machine (work_start_of s) s n) begins, over) in
-    (w, run, Trace-same ending (ending_of s w) work w.work logs (map log_of w.players) (end ∙ ending-is s w valid run) history log)
-
--- each world that a run ends with is ready
-pub run-ready : (s : Parts) (w : World) → IsValid s → IsRun work_machine (work_start_of s) s w → IsReady s w
-run-ready s w valid run = let good = subst (λ (v : World). IsGood s v) (sym run.1) (good-rounds s run.0 valid) in good.ready
+pub replayed : (s : Parts) (old w : World) (ending : Ending) (work : List (Entry WorkOp WorkReply)) (clock : List (Entry ClockOp ClockReply)) (logs : List Log) → IsValid s →
+    old ≡ first s → (n : ℕ) → w ≡ rounds (machines_of s) s n old → round (machines_of s) s w ≡ w →
+    ending ≡ ending_by w.players → work ≡ w.shown.work → clock ≡ w.shown.clock → logs ≡ map log_of w.players →
+    IsReplay s (record { ending = ending; work = work; clock = clock; logs = logs })
+replayed s old w ending work clock logs valid begins n so_far over end same_work same_clock log =
+    let run : IsRun (machines_of s) s w = (n, so_far ∙ ap (rounds (machines_of s) s n) begins, over) in
+    (w, run, Trace-same ending (ending_of s w) work w.shown.work clock w.shown.clock logs (map log_of w.players) (end ∙ ending-is s w valid run) same_work same_clock log)
 
 -- what an ending says of the players
 ended-parts : (spent done waits : Bool) → cond spent endings.Spent (cond (done && waits) endings.Ended endings.Stuck) ≡ endings.Ended → (spent ≡ false) × (done ≡ true)
@@ -238,11 +257,11 @@ life-closed : (o : Option Admission) (life : Life) → ((a : Admission) → o �
 life-closed None life each is = absurd (cc)
 life-closed (Some a) life each is = let same : a.life ≡ life = cc in subst (λ (l : Life). is_open l ≡ false) same (each a refl)
 
-run-over : (s : Parts) (w : World) → IsValid s → IsRun work_machine (work_start_of s) s w → IsOver s (trace_of s w)
+run-over : (s : Parts) (w : World) → IsValid s → IsRun (machines_of s) s w → IsOver s (trace_of s w)
 run-over s w valid run ends number life is =
     let good = subst (λ (v : World). IsGood s v) (sym run.1) (good-rounds s run.0 valid) in
-    let parts = ended-parts (is_spent w) (all_done w.players) (none_waits (state_after work_machine (work_start_of s) w.work)) ends in
-    life-closed (slice_get (state_after work_machine (work_start_of s) w.work).admissions number) life
+    let parts = ended-parts (is_spent w) (all_done w.players) (none_waits (state_after work_machine (work_start_of s) w.shown.work)) ends in
+    life-closed (slice_get (state_after work_machine (work_start_of s) w.shown.work).admissions number) life
     (λ a there. over-at s w good run.2 parts.0 parts.1 number a (ap (λ (t : State). slice_get t.admissions number) good.tended.after ∙ there)) is
 
 -- where the trace of a run has ended, none of its admissions waits or runs

@@ -24,7 +24,9 @@ use Rattle.zk_model_work.specs.declared.ops.WorkReply.TheVariants.{Run}
 use Rattle.zk_model_work.specs.Lists.{places_from, first as first_of}
 use Rattle.zk_model_work.specs.Questions.{is_waiting, waits_for, waits_as, runs_on, running, waiting, is_cancelling, run, line, is_empty_and_idle}
 use Rattle.zk_model_work.specs.State.{State}
-use Rattle.zk_model_work.specs.Machine.{work_reply, work_next, refusal, admission, submission, submission_at, submission_to, target, submit, set_life, with_life, begin, end_one, end_run, drop_one, drop_waiting, changed_queue, change, change_where, settle_from, is_worker, may_begin, taken_up}
+use Rattle.zk_model_work.specs.Machine.{work_reply, work_next, refusal, admission, submission, submission_at, submission_to, target, submit, set_life, with_life, begin, end_one, end_run, disarm, drop_one, drop_waiting, changed_queue, change, change_where, settle_from, is_worker, may_begin, taken_up}
+use Rattle.zk_model_work.specs.Laws.{submitter}
+use Rattle.zk_model_work.proofs.Moves.{delayed-keeps, schedule-keeps, admissions-next}
 use Rattle.zk_replay.specs.Tending.{IsIdle}
 
 -- a submission that admits goes to one of so many queues
@@ -117,32 +119,18 @@ cond-keeps : (P : Admission → Type 0) (b : Bool) (x y : Admission) → P x →
 cond-keeps P true x y hx hy = hx
 cond-keeps P false x y hx hy = hy
 
--- a drop leaves each admission at its queue
-homes-dropped : (many : ℕ) (st : State) (item : ℕ) → All (λ a. a.queue < many) st.admissions → All (λ a. a.queue < many) (drop_waiting st.admissions item)
-homes-dropped many st item all =
-    let P : Admission → Type 0 = λ a. a.queue < many in
-    map-all P (drop_one item) (λ a less. cond-keeps P (waits_as item a) (with_life Dropped a) a less less) st.admissions all
-
 -- each admission stays one to a queue
 pub homes-next : (many : ℕ) (st : State) (who : Who) (op : WorkOp) → length st.queues ≡ many → All (λ a. a.queue < many) st.admissions → All (λ a. a.queue < many) (work_next st who op).admissions
-homes-next many st who (ops.Submit item named) long all =
+homes-next many st who op long all =
     let P : Admission → Type 0 = λ a. a.queue < many in
-    let answer = submission st.admissions st.marks st.queues (Some who.number) item named in
-    submit-all P st.admissions item many answer (subst (λ (n : ℕ). Home n answer) long (submission-home st.admissions st.marks st.queues (Some who.number) item named)) (λ queue less. less) all
-homes-next many st who (ops.Cancel item) long all = homes-dropped many st item all
-homes-next many st who (ops.CancelStart item) long all = homes-dropped many st item all
-homes-next many st who (ops.CancelDone place) long all = all
-homes-next many st who (ops.FlushStart item) long all = all
-homes-next many st who (ops.FlushDone place) long all = all
-homes-next many st who (ops.Start queue) long all = all
-homes-next many st who (ops.DrainStart queue plug) long all = all
-homes-next many st who (ops.DrainDone place) long all = all
-homes-next many st who (ops.Unplug queue) long all = all
-homes-next many st who (ops.Begin queue) long all =
-    let P : Admission → Type 0 = λ a. a.queue < many in begin-all P st.admissions queue (λ a waits less. less) all
-homes-next many st who (ops.End queue) long all =
-    let P : Admission → Type 0 = λ a. a.queue < many in
-    map-all P (end_one queue) (λ a less. cond-keeps P (runs_on queue a) (with_life Ended a) a less less) st.admissions all
+    admissions-next (All P) st who op
+    (λ ys item named stays here.
+    let answer = submission ys st.marks st.queues (submitter who op) item named in
+    submit-all P ys item many answer (subst (λ (n : ℕ). Home n answer) long (submission-home ys st.marks st.queues (submitter who op) item named)) (λ queue less. less) here)
+    (λ item drops. map-all P (drop_one item) (λ a less. cond-keeps P (waits_as item a) (with_life Dropped a) a less less) st.admissions all)
+    (λ queue is. begin-all P st.admissions queue (λ a waits less. less) all)
+    (λ queue is. map-all P (end_one queue) (λ a less. cond-keeps P (runs_on queue a) (with_life Ended a) a less less) st.admissions all)
+    all
 
 settle-workers : (idle : ℕ → Bool) (n : ℕ) (queues : List Queue) → map (λ queue. queue.worker) (settle_from idle n queues) ≡ map (λ queue. queue.worker) queues
 settle-workers idle n [] = refl
@@ -169,6 +157,10 @@ change_where-workers : (asked : Bool) (c : Change) (queues : List Queue) (number
 change_where-workers true c queues number = change-workers c queues number
 change_where-workers false c queues number = refl
 
+-- a state's queues have the workers of these
+abbrev HasWorkers : List Queue → State → Type 0
+HasWorkers queues st = map (λ (queue : Queue). queue.worker) st.queues ≡ map (λ (queue : Queue). queue.worker) queues
+
 -- each queue keeps its worker
 pub workers-next : (st : State) (who : Who) (op : WorkOp) → map (λ queue. queue.worker) (work_next st who op).queues ≡ map (λ queue. queue.worker) st.queues
 workers-next st who (ops.Submit item named) = refl
@@ -177,12 +169,17 @@ workers-next st who (ops.CancelStart item) = settle-workers (is_empty_and_idle (
 workers-next st who (ops.CancelDone place) = refl
 workers-next st who (ops.FlushStart item) = refl
 workers-next st who (ops.FlushDone place) = refl
+workers-next st who (ops.Schedule item queue delay) = schedule-keeps (HasWorkers st.queues) st who item queue delay refl refl (λ free later. refl)
+workers-next st who (ops.Reschedule item queue delay) =
+    delayed-keeps (HasWorkers st.queues) (record st { arms = disarm st.arms item }) who item queue delay refl (λ later. refl)
+workers-next st who (ops.Remaining item) = refl
 workers-next st who (ops.Start queue) = change-workers changes.Start st.queues queue
 workers-next st who (ops.DrainStart queue plug) =
     change_where-workers (not (is_empty_and_idle st.admissions queue)) changes.Drain (change_where plug changes.Plug st.queues queue) queue
     ∙ change_where-workers plug changes.Plug st.queues queue
 workers-next st who (ops.DrainDone place) = refl
 workers-next st who (ops.Unplug queue) = change-workers changes.Unplug st.queues queue
+workers-next st who (ops.Announce ticks) = refl
 workers-next st who (ops.Begin queue) = refl
 workers-next st who (ops.End queue) = settle-workers (is_empty_and_idle (end_run st.admissions queue)) 0 st.queues
 
@@ -208,20 +205,19 @@ begins-as st who queue reply is =
 
 -- what a call of a script asks of the work service
 abbrev pub IsCalled : WorkOp → Type 0
-IsCalled (ops.Submit item named) = Unit {0}
-IsCalled (ops.Cancel item) = Unit {0}
-IsCalled (ops.CancelStart item) = Unit {0}
-IsCalled (ops.CancelDone place) = Unit {0}
-IsCalled (ops.FlushStart item) = Unit {0}
-IsCalled (ops.FlushDone place) = Unit {0}
-IsCalled (ops.Start queue) = Unit {0}
-IsCalled (ops.DrainStart queue plug) = Unit {0}
-IsCalled (ops.DrainDone place) = Unit {0}
-IsCalled (ops.Unplug queue) = Unit {0}
 IsCalled (ops.Begin queue) = ⊥
 IsCalled (ops.End queue) = ⊥
+IsCalled op = Unit {0}
 
--- a drop starts no run
+-- a submission starts no run
+idle-submitted : (st : State) (who : Who) (op : WorkOp) (queue : ℕ) (ys : List Admission) (item : ℕ) (named : Option ℕ) → IsIdle queue ys →
+    IsIdle queue (submit ys item (submission ys st.marks st.queues (submitter who op) item named))
+idle-submitted st who op queue ys item named idle =
+    let P : Admission → Type 0 = λ a. runs_on queue a ≡ false in
+    submit-all P ys item (length st.queues) (submission ys st.marks st.queues (submitter who op) item named)
+    (submission-home ys st.marks st.queues (submitter who op) item named) (λ q less. and_right (eqb q queue) false refl) idle
+
+-- and so does a drop
 idle-dropped : (st : State) (item queue : ℕ) → IsIdle queue st.admissions → IsIdle queue (drop_waiting st.admissions item)
 idle-dropped st item queue idle =
     let P : Admission → Type 0 = λ a. runs_on queue a ≡ false in
@@ -229,21 +225,9 @@ idle-dropped st item queue idle =
 
 -- no call starts a run
 pub idle-called : (st : State) (who : Who) (op : WorkOp) (queue : ℕ) → IsCalled op → IsIdle queue st.admissions → IsIdle queue (work_next st who op).admissions
-idle-called st who (ops.Submit item named) queue called idle =
-    let P : Admission → Type 0 = λ a. runs_on queue a ≡ false in
-    submit-all P st.admissions item (length st.queues) (submission st.admissions st.marks st.queues (Some who.number) item named)
-    (submission-home st.admissions st.marks st.queues (Some who.number) item named) (λ q less. and_right (eqb q queue) false refl) idle
-idle-called st who (ops.Cancel item) queue called idle = idle-dropped st item queue idle
-idle-called st who (ops.CancelStart item) queue called idle = idle-dropped st item queue idle
-idle-called st who (ops.CancelDone place) queue called idle = idle
-idle-called st who (ops.FlushStart item) queue called idle = idle
-idle-called st who (ops.FlushDone place) queue called idle = idle
-idle-called st who (ops.Start queue') queue called idle = idle
-idle-called st who (ops.DrainStart queue' plug) queue called idle = idle
-idle-called st who (ops.DrainDone place) queue called idle = idle
-idle-called st who (ops.Unplug queue') queue called idle = idle
-idle-called st who (ops.Begin queue') queue called idle = absurd called
-idle-called st who (ops.End queue') queue called idle = absurd called
+idle-called st who op queue called idle =
+    admissions-next (IsIdle queue) st who op (λ ys item named stays here. idle-submitted st who op queue ys item named here) (λ item drops. idle-dropped st item queue idle)
+    (λ number is. absurd (subst (λ (o : WorkOp). IsCalled o) is called)) (λ number is. absurd (subst (λ (o : WorkOp). IsCalled o) is called)) idle
 
 end_one-idle : (queue : ℕ) (a : Admission) → runs_on queue (end_one queue a) ≡ false
 end_one-idle queue a = by_runs (runs_on queue a) refl
@@ -279,28 +263,28 @@ begin-told st who queue reply is =
 -- a queue that runs nothing does so after any operation but a Begin of its worker
 pub idle-next : (st : State) (who : Who) (op : WorkOp) (reply : WorkReply) (queue worker : ℕ) → slice_get (map (λ (q : Queue). q.worker) st.queues) queue ≡ Some worker → who.number ≢ worker →
     work_reply st who op ≡ Some reply → IsIdle queue st.admissions → IsIdle queue (work_next st who op).admissions
-idle-next st who (ops.Submit item named) reply queue worker is other made idle = idle-called st who (ops.Submit item named) queue tt idle
-idle-next st who (ops.Cancel item) reply queue worker is other made idle = idle-called st who (ops.Cancel item) queue tt idle
-idle-next st who (ops.CancelStart item) reply queue worker is other made idle = idle-called st who (ops.CancelStart item) queue tt idle
-idle-next st who (ops.CancelDone place) reply queue worker is other made idle = idle
-idle-next st who (ops.FlushStart item) reply queue worker is other made idle = idle
-idle-next st who (ops.FlushDone place) reply queue worker is other made idle = idle
-idle-next st who (ops.Start queue') reply queue worker is other made idle = idle
-idle-next st who (ops.DrainStart queue' plug) reply queue worker is other made idle = idle
-idle-next st who (ops.DrainDone place) reply queue worker is other made idle = idle
-idle-next st who (ops.Unplug queue') reply queue worker is other made idle = idle
-idle-next st who (ops.Begin queue') reply queue worker is other made idle =
-    let P : Admission → Type 0 = λ a. runs_on queue a ≡ false in
-    begin-all P st.admissions queue' (λ a waits none. and_left (eqb a.queue queue) true (apart a (and_parts (eqb a.queue queue') (is_waiting a.life) waits).0)) idle
+idle-next st who op reply queue worker is other made idle =
+    admissions-next (IsIdle queue) st who op (λ ys item named stays here. idle-submitted st who op queue ys item named here) (λ item drops. idle-dropped st item queue idle) begins ends idle
   where
-    differs : queue' ≢ queue
-    differs same = other (worker-is st queue who.number worker is (subst (λ (q : ℕ). is_worker st.queues q who.number ≡ true) same (begins-as st who queue' reply made)))
+    P : Admission → Type 0
+    P a = runs_on queue a ≡ false
 
-    apart : (a : Admission) → eqb a.queue queue' ≡ true → eqb a.queue queue ≡ false
-    apart a to = grind (arith, nat_tests, eqb-true a.queue queue' to, differs)
-idle-next st who (ops.End queue') reply queue worker is other made idle =
-    let P : Admission → Type 0 = λ a. runs_on queue a ≡ false in
-    map-all P (end_one queue') (λ a none. cond-keeps P (runs_on queue' a) (with_life Ended a) a (and_right (eqb a.queue queue) false refl) none) st.admissions idle
+    differs : (number : ℕ) → op ≡ ops.Begin number → number ≢ queue
+    differs number begin same =
+        let begun = ap (λ (o : WorkOp). work_reply st who o) (sym begin) ∙ made in
+        other (worker-is st queue who.number worker is (subst (λ (q : ℕ). is_worker st.queues q who.number ≡ true) same (begins-as st who number reply begun)))
+
+    apart : (number : ℕ) (a : Admission) → number ≢ queue → eqb a.queue number ≡ true → eqb a.queue queue ≡ false
+    apart number a differ to = grind (arith, nat_tests, eqb-true a.queue number to, differ)
+
+    begins : (number : ℕ) → op ≡ ops.Begin number → IsIdle queue (begin st.admissions number)
+    begins number is_begin =
+        begin-all P st.admissions number
+        (λ a waits none. and_left (eqb a.queue queue) true (apart number a (differs number is_begin) (and_parts (eqb a.queue number) (is_waiting a.life) waits).0)) idle
+
+    ends : (number : ℕ) → op ≡ ops.End number → IsIdle queue (end_run st.admissions number)
+    ends number is_end =
+        map-all P (end_one number) (λ a none. cond-keeps P (runs_on number a) (with_life Ended a) a (and_right (eqb a.queue queue) false refl) none) st.admissions idle
 
 none-where : (test : Admission → Bool) (n : ℕ) (xs : List Admission) → first_of (places_from n test xs) ≡ None → All (λ a. test a ≡ false) xs
 none-where test n [] is = let P : Admission → Type 0 = λ a. test a ≡ false in All-nil P

@@ -1,49 +1,37 @@
 -- What a run keeps in each turn.
-use Rattle.std.proofs.Common.{◌≡◌, ◌≢◌, ◌⊎◌, ℕ, ◌+◌, ◌-◌, ◌*◌, ◌^◌, ◌<◌, ◌≤◌, false, Some, List, [], ◌∷◌, ◌++◌, length, set, inl, inr, refl, sym, ap, subst, ◌∙◌, arith, length-append}
+use Rattle.std.proofs.Common.{◌≡◌, ◌≢◌, ◌⊎◌, ℕ, ◌+◌, ◌*◌, ◌<◌, ◌≤◌, false, Some, [], ◌∷◌, length, set, inl, inr, refl, sym, ap, subst, ◌∙◌, arith, length-append}
 use Rattle.std.specs.List.{slice_get, sum_by}
 use Rattle.std.proofs.lemmas.Bool.Decides.{nat_tests}
 use Rattle.std.proofs.lemmas.List.{length-set}
 use Rattle.std.proofs.lemmas.List.Sums.{sum_by-le}
-use Rattle.std.proofs.lemmas.List.Elements.{All-nil, All-cons, All-set}
-use Rattle.zk_base.specs.declared.ids.Entry.{Entry}
-use Rattle.zk_base.specs.History.{entry}
-use Rattle.zk_base.specs.Legal.{Machine}
-use Rattle.zk_model_work.specs.declared.ops.WorkOp.{WorkOp}
-use Rattle.zk_model_work.specs.declared.ops.WorkReply.{WorkReply}
+use Rattle.std.proofs.lemmas.List.Elements.{All-set}
 use Rattle.zk_scenario.specs.Parts.{Parts}
 use Rattle.zk_worker.specs.declared.steps.TheConstants.{MOST_STEPS}
 use Rattle.zk_worker.specs.declared.steps.Step.{Step}
-use Rattle.zk_worker.specs.declared.steps.Step.TheVariants as steps
 use Rattle.zk_worker.specs.declared.steps.StepReply.{StepReply}
-use Rattle.zk_worker.specs.declared.steps.StepReply.TheVariants as step_replies
 use Rattle.zk_worker.specs.Places.{At}
 use Rattle.zk_worker.specs.Protocol.{after, spot_of}
 use Rattle.zk_worker.specs.Follows.{is_spent_at}
 use Rattle.zk_worker.specs.Ranges.{FramesFit}
-use Rattle.zk_worker.specs.Attempt.{answer_in}
-use Rattle.zk_worker.specs.Shown.{work_after, shown_after, ShowsLog, OthersGrew}
+use Rattle.zk_worker.specs.Machines.{Machines}
+use Rattle.zk_worker.specs.Attempt.{reply_in}
+use Rattle.zk_worker.specs.Shown.{shown_after, ShowsLog, AreShort}
 use Rattle.zk_worker.proofs.Fits.{after-fits}
-use Rattle.zk_worker.proofs.Between.{log-still}
-use Rattle.zk_worker.proofs.Made.{log-answered}
+use Rattle.zk_worker.proofs.Made.{made-more, log-answered, log-others}
 use Rattle.zk_worker.proofs.Numbers.{All-slice_get}
 use Rattle.zk_worker.proofs.Lists.{slice_get-set, sum-set}
 use Rattle.zk_replay.specs.RoundRobin.{World, stepped}
-use Rattle.zk_replay.specs.Ready.{IsReady, shown_in, left, all_left}
+use Rattle.zk_replay.specs.Ready.{IsReady, left, all_left}
 
--- a history is shorter than a history may be
-pub short-work : (s : Parts) (w : World) → IsReady s w → length w.work < 2 ^ 32 - 1
-short-work s w ready =
+-- each history is shorter than a history may be
+pub short-shown : (s : Parts) (w : World) → IsReady s w → AreShort w.shown
+short-shown s w ready =
     let count : At → ℕ = λ at. length at.spots in
     let most : sum_by count w.players ≤ length w.players * MOST_STEPS = sum_by-le count MOST_STEPS w.players ready.short in
-    omega (arith, ready.few, ready.counted, most)
+    record { work = omega (arith, ready.few, ready.counted, most); clock = omega (arith, ready.few, ready.counted, most) }
 
 unspent-short : (at : At) → is_spent_at at ≡ false → length at.spots < MOST_STEPS
 unspent-short at is = grind (arith, nat_tests)
-
--- the entry of a step is the player's, with the number of the step
-work_after-is : (work : List (Entry WorkOp WorkReply)) (at : At) (step : Step) (reply : StepReply) →
-    (e : Entry WorkOp WorkReply) × (e.who.number ≡ at.who.number) × (e.step ≡ length at.spots) × (work_after work at.who (length at.spots) step reply ≡ work ++ e ∷ [])
-work_after-is work at (steps.Work op) (step_replies.Work reply place) = (entry at.who (length at.spots) op reply, refl, refl, refl)
 
 -- a player that has made one step more
 record IsOneMore (s : Parts) (at at' : At) : Type 0 where
@@ -58,27 +46,19 @@ after-one s at step reply = record {
   fits = after-fits s at step reply;
 }
 
-module _ {T : Type 0} (m : Machine T WorkOp WorkReply) (start : T) where
-  shows-after : (s : Parts) (w : World) (p : ℕ) (at : At) (step : Step) (reply : StepReply) → IsReady s w → slice_get w.players p ≡ Some at → answer_in m start w.work at.who step ≡ Some reply →
-      (q : ℕ) (other : At) → slice_get (set w.players p (after s at step reply)) q ≡ Some other →
-      ShowsLog (shown_after (shown_in w) at.who (length at.spots) step reply) other.who.number other.spots
-  shows-after s w p at step reply ready is answered q other found = by_place (slice_get-set w.players p q (after s at step reply) other found)
-    where
-      by_others : (q ≢ p) → slice_get w.players q ≡ Some other → OthersGrew other.who.number w.work (work_after w.work at.who (length at.spots) step reply)
-      by_others apart there =
-          let e = work_after-is w.work at step reply in
-          let P : Entry WorkOp WorkReply → Type 0 = λ f. f.who.number ≢ other.who.number in
-          let differ : e.0.who.number ≢ other.who.number = λ same. apart (sym (ready.numbers q other there) ∙ sym same ∙ e.1 ∙ ready.numbers p at is) in
-          record { more = e.0 ∷ []; longer = e.3; others = All-cons P e.0 [] differ (All-nil P) }
-
-      by_place : ((q ≡ p) × (other ≡ after s at step reply)) ⊎ ((q ≢ p) × (slice_get w.players q ≡ Some other)) →
-          ShowsLog (shown_after (shown_in w) at.who (length at.spots) step reply) other.who.number other.spots
-      by_place (inl same) =
-          subst (λ (o : At). ShowsLog (shown_after (shown_in w) at.who (length at.spots) step reply) o.who.number o.spots) (sym same.1)
-          (log-answered m start (shown_in w) at.who at.spots step reply (ready.shows p at is) answered)
-      by_place (inr apart) =
-          log-still false other.who.number other.spots (shown_in w) (shown_after (shown_in w) at.who (length at.spots) step reply)
-          (ready.shows q other apart.1) (by_others apart.0 apart.1)
+shows-after : (m : Machines) (s : Parts) (w : World) (p : ℕ) (at : At) (step : Step) (reply : StepReply) → IsReady s w → slice_get w.players p ≡ Some at → reply_in m w.shown at.who step ≡ Some reply →
+    (q : ℕ) (other : At) → slice_get (set w.players p (after s at step reply)) q ≡ Some other → ShowsLog (shown_after w.shown at.who (length at.spots) step reply) other.who.number other.spots
+shows-after m s w p at step reply ready is answered q other found = by_place (slice_get-set w.players p q (after s at step reply) other found)
+  where
+    by_place : ((q ≡ p) × (other ≡ after s at step reply)) ⊎ ((q ≢ p) × (slice_get w.players q ≡ Some other)) →
+        ShowsLog (shown_after w.shown at.who (length at.spots) step reply) other.who.number other.spots
+    by_place (inl same) =
+        subst (λ (o : At). ShowsLog (shown_after w.shown at.who (length at.spots) step reply) o.who.number o.spots) (sym same.1)
+        (log-answered m w.shown at.who at.spots step reply (ready.shows p at is) answered)
+    by_place (inr apart) =
+        let differ : other.who.number ≢ at.who.number = λ same. apart.0 (sym (ready.numbers q other apart.1) ∙ same ∙ ready.numbers p at is) in
+        log-others w.shown (shown_after w.shown at.who (length at.spots) step reply) at.who.number other.who.number (length at.spots) other.spots (spot_of step reply) (step, reply)
+        (made-more m w.shown at.who (length at.spots) step reply answered) differ (ready.shows q other apart.1)
 
 numbers-after : (s : Parts) (w : World) (p : ℕ) (at at' : At) → IsReady s w → slice_get w.players p ≡ Some at → IsOneMore s at at' →
     (q : ℕ) (other : At) → slice_get (set w.players p at') q ≡ Some other → other.who.number ≡ q
@@ -89,22 +69,21 @@ numbers-after s w p at at' ready is more q other found = by_place (slice_get-set
     by_place (inr apart) = ready.numbers q other apart.1
 
 -- a world that is ready is so after a step of a player that has steps left, if the machine answers it
-pub ready-stepped : {T : Type 0} (m : Machine T WorkOp WorkReply) (start : T) (s : Parts) (w : World) (p : ℕ) (at : At) (made : Step × StepReply) → IsReady s w → slice_get w.players p ≡ Some at →
-    is_spent_at at ≡ false → answer_in m start w.work at.who made.0 ≡ Some made.1 → IsReady s (stepped s w p at (Some made))
-ready-stepped m start s w p at made ready is unspent answered =
+pub ready-stepped : (m : Machines) (s : Parts) (w : World) (p : ℕ) (at : At) (made : Step × StepReply) → IsReady s w → slice_get w.players p ≡ Some at →
+    is_spent_at at ≡ false → reply_in m w.shown at.who made.0 ≡ Some made.1 → IsReady s (stepped s w p at (Some made))
+ready-stepped m s w p at made ready is unspent answered =
     let at' = after s at made.0 made.1 in
     let more = after-one s at made.0 made.1 in
-    let e = work_after-is w.work at made.0 made.1 in
-    let long = ap (λ (h : List (Entry WorkOp WorkReply)). length h) e.3 in
+    let long = (made-more m w.shown at.who (length at.spots) made.0 made.1 answered).count in
     let count : At → ℕ = λ at. length at.spots in
     let Short : At → Type 0 = λ at. length at.spots ≤ MOST_STEPS in
     let Fits : At → Type 0 = λ at. FramesFit s.decls at.frames in
     record {
       few = omega (arith, length-set w.players p at', ready.few);
       numbers = numbers-after s w p at at' ready is more;
-      shows = shows-after m start s w p at made.0 made.1 ready is answered;
+      shows = shows-after m s w p at made.0 made.1 ready is answered;
       short = All-set Short w.players p at' (omega (arith, more.count, unspent-short at unspent)) ready.short;
-      counted = omega (arith, long, length-append w.work (e.0 ∷ []), ready.counted, sum-set count w.players p at at' is, more.count);
+      counted = omega (arith, long, ready.counted, sum-set count w.players p at at' is, more.count);
       fits = All-set Fits w.players p at' (more.fits (All-slice_get Fits w.players p at is ready.fits)) ready.fits;
     }
 

@@ -16,10 +16,13 @@ use Rattle.zk_scenario.specs.declared.types.Call.TheVariants as calls
 use Rattle.zk_scenario.specs.Parts.{Parts}
 use Rattle.zk_scenario.specs.Players.{places_from, places, players, is_thread, is_queue, is_item, same_kind, number_of, calls_of}
 use Rattle.zk_scenario.proofs.Valid.{count_by-cons}
+use Rattle.zk_model_wait.specs.declared.clock.ClockOp.{ClockOp}
+use Rattle.zk_model_wait.specs.declared.clock.ClockOp.TheVariants as clock_ops
+use Rattle.zk_model_wait.specs.declared.clock.ClockReply.{ClockReply}
 use Rattle.zk_model_work.specs.declared.ops.WorkOp.{WorkOp}
 use Rattle.zk_model_work.specs.declared.ops.WorkOp.TheVariants as ops
 use Rattle.zk_model_work.specs.declared.ops.WorkReply.{WorkReply}
-use Rattle.zk_model_work.specs.declared.ops.WorkReply.TheVariants.{Sub, Flags, Truth, Wait, WaitFor, Number, Done, Already, Run}
+use Rattle.zk_model_work.specs.declared.ops.WorkReply.TheVariants.{Sub, Armed, Flags, Truth, Wait, WaitFor, Number, Done, Already, Now, Run}
 use Rattle.zk_model_work.specs.declared.parts.Admission.{Admission}
 use Rattle.zk_model_work.specs.declared.parts.Queue.{Queue}
 use Rattle.zk_model_work.specs.Questions.{runs_on}
@@ -27,16 +30,17 @@ use Rattle.zk_model_work.specs.State.{State, fresh_queues}
 use Rattle.zk_model_work.specs.Machine.{work_machine, work_reply, work_next}
 use Rattle.zk_worker.specs.declared.steps.Step.{Step}
 use Rattle.zk_worker.specs.declared.steps.Step.TheVariants as steps
+use Rattle.zk_worker.specs.declared.steps.StepReply.{StepReply}
 use Rattle.zk_worker.specs.declared.steps.StepReply.TheVariants as step_replies
 use Rattle.zk_worker.specs.declared.frames.Frame.{Frame}
 use Rattle.zk_worker.specs.declared.frames.TheConstants.{MOST_FRAMES}
 use Rattle.zk_worker.specs.declared.frames.Role.{Role}
 use Rattle.zk_worker.specs.declared.frames.Role.TheVariants.{Script, Worker}
 use Rattle.zk_worker.specs.declared.frames.Stage.{Stage}
-use Rattle.zk_worker.specs.declared.frames.Stage.TheVariants.{Start, Runs, Waits}
+use Rattle.zk_worker.specs.declared.frames.Stage.TheVariants.{Start, Runs, Waits, Halfway}
 use Rattle.zk_worker.specs.declared.frames.Closing.{Closing}
 use Rattle.zk_worker.specs.declared.frames.Closing.TheVariants as closings
-use Rattle.zk_worker.specs.declared.frames.Form.TheVariants.{One, Pair}
+use Rattle.zk_worker.specs.declared.frames.Form.TheVariants.{One, Pair, Twice}
 use Rattle.zk_worker.specs.declared.answers.Word.{Word}
 use Rattle.zk_worker.specs.declared.answers.Word.TheVariants as words
 use Rattle.zk_worker.specs.Calls.{closing_step, form_attempts, opening_progress, form_progress}
@@ -53,6 +57,7 @@ workers-keep : (ds : List Decl) (queue : ℕ) (role : Role) (stage : Stage) (old
 workers-keep ds queue (Worker object) Start old new keeps tends = (tends.0, keeps tends.1)
 workers-keep ds queue (Worker object) Runs old new keeps tends = tends
 workers-keep ds queue (Worker object) (Waits place) old new keeps tends = absurd tends
+workers-keep ds queue (Worker object) Halfway old new keeps tends = absurd tends
 workers-keep ds queue (Script owner) stage old new keeps tends = absurd tends
 
 -- what leaves a queue idle leaves it tended
@@ -113,75 +118,129 @@ own-run s st who queue (Worker object) next Runs op reply place k tends is made 
     subst (λ (q : ℕ). IsIdle q (work_next st who (ops.End (number_of s.decls object))).admissions) tends (idle-ended (number_of s.decls object) st.admissions) in
     (tends, subst (λ (o : WorkOp). IsIdle queue (work_next st who o).admissions) ends idle)
 own-run s st who queue (Worker object) next (Waits since) op reply place k tends is made = absurd tends
+own-run s st who queue (Worker object) next Halfway op reply place k tends is made = absurd tends
 
--- the scripts of a worker after a step of the innermost one
-own-script : (s : Parts) (st : State) (who : Who) (queue : ℕ) (frame next : Frame) (below : List Frame) (op : WorkOp) (reply : WorkReply) (place k : ℕ) (call : Option Call) →
-    IsScript frame.role → Tends s.decls queue (next ∷ below) st.admissions → slice_get (call_attempts s.decls call frame.stage) k ≡ Some (steps.Work op) →
-    Tends s.decls queue (frames_after s (frame ∷ next ∷ below) (call_progress s.decls call frame.stage (steps.Work op) (step_replies.Work reply place))) (work_next st who op).admissions
-own-script s st who queue frame next below op reply place k call script tends is = by_call call is
+-- a worker asks nothing of the clock by itself
+no-clock : (s : Parts) (queue : ℕ) (role : Role) (next : ℕ) (stage : Stage) (admissions : List Admission) (op : ClockOp) (k : ℕ) →
+    IsWorkers s.decls queue role stage admissions → slice_get (frames_attempts s (record { role = role; next = next; stage = stage } ∷ [])) k ≡ Some (steps.Clock op) → ⊥
+no-clock s queue (Script owner) next stage admissions op k tends is = tends
+no-clock s queue (Worker object) next Start admissions op k tends is = let step = only (steps.Work (ops.Begin (number_of s.decls object))) (steps.Clock op) k is in cc
+no-clock s queue (Worker object) next Runs admissions op k tends is = let step = only (steps.Work (ops.End (number_of s.decls object))) (steps.Clock op) k is in cc
+no-clock s queue (Worker object) next (Waits since) admissions op k tends is = tends
+no-clock s queue (Worker object) next Halfway admissions op k tends is = tends
+
+-- what a call of a script asks of a service
+abbrev IsCalledStep : Step → Type 0
+IsCalledStep (steps.Work op) = IsCalled op
+IsCalledStep (steps.Clock op) = Unit {0}
+
+-- the scripts of a worker after a step of the innermost one, which leaves the queue idle where a call asks for it
+own-script : (s : Parts) (queue : ℕ) (frame next : Frame) (below : List Frame) (step : Step) (reply : StepReply) (k : ℕ) (call : Option Call) (old new : List Admission) →
+    (IsCalledStep step → IsIdle queue old → IsIdle queue new) → IsScript frame.role → Tends s.decls queue (next ∷ below) old →
+    slice_get (call_attempts s.decls call frame.stage) k ≡ Some step →
+    Tends s.decls queue (frames_after s (frame ∷ next ∷ below) (call_progress s.decls call frame.stage step reply)) new
+own-script s queue frame next below step reply k call old new keeps script tends is = by_call call is
   where
-    over : IsCalled op → Tends s.decls queue (settled s (record frame { next = frame.next + 1; stage = Start } ∷ next ∷ below)) (work_next st who op).admissions
+    over : IsCalledStep step → Tends s.decls queue (settled s (record frame { next = frame.next + 1; stage = Start } ∷ next ∷ below)) new
     over called =
-        tends-settled s queue (record frame { next = frame.next + 1; stage = Start } ∷ next ∷ below) (work_next st who op).admissions
-        (script, tends-keep s.decls queue (next ∷ below) st.admissions (work_next st who op).admissions (idle-called st who op queue called) tends)
+        tends-settled s queue (record frame { next = frame.next + 1; stage = Start } ∷ next ∷ below) new
+        (script, tends-keep s.decls queue (next ∷ below) old new (keeps called) tends)
 
-    called_by : (made : WorkOp) (stage : Stage) → IsCalled made → slice_get (form_attempts (One (steps.Work made)) stage) k ≡ Some (steps.Work op) → IsCalled op
-    called_by made Start called is = let step = only (steps.Work made) (steps.Work op) k is in let same : made ≡ op = cc in subst (λ (o : WorkOp). IsCalled o) same called
-    called_by made Runs called is = absurd (cc)
-    called_by made (Waits since) called is = absurd (cc)
+    goes : IsCalledStep step → (stage : Stage) → Tends s.decls queue (record frame { stage = stage } ∷ next ∷ below) new
+    goes called stage = (script, tends-keep s.decls queue (next ∷ below) old new (keeps called) tends)
 
-    waits : IsCalled op → (stage : Stage) → Tends s.decls queue (record frame { stage = stage } ∷ next ∷ below) (work_next st who op).admissions
-    waits called stage = (script, tends-keep s.decls queue (next ∷ below) st.admissions (work_next st who op).admissions (idle-called st who op queue called) tends)
+    same_step : (made : Step) → IsCalledStep made → slice_get (made ∷ []) k ≡ Some step → IsCalledStep step
+    same_step made called is = subst (λ (x : Step). IsCalledStep x) (only made step k is) called
+
+    one : (made : Step) (stage : Stage) → IsCalledStep made → slice_get (form_attempts (One made) stage) k ≡ Some step → IsCalledStep step
+    one made Start called is = same_step made called is
+    one made Runs called is = absurd (cc)
+    one made (Waits since) called is = absurd (cc)
+    one made Halfway called is = absurd (cc)
 
     -- a call that may wait, by what its first step was answered
-    opened : (word : Word) (reply : WorkReply) → IsCalled op → Tends s.decls queue (frames_after s (frame ∷ next ∷ below) (opening_progress word (step_replies.Work reply place))) (work_next st who op).admissions
-    opened word (Sub submitted) called = over called
-    opened word (Flags flags) called = over called
-    opened word (Truth so) called = over called
-    opened word Wait called = waits called (Waits place)
-    opened word (WaitFor number) called = waits called (Waits place)
-    opened word (Number number) called = over called
-    opened word Done called = over called
-    opened word Already called = over called
-    opened word (Run item number) called = over called
+    opened_work : (word : Word) (reply : WorkReply) (place : ℕ) → IsCalledStep step → Tends s.decls queue (frames_after s (frame ∷ next ∷ below) (opening_progress word (step_replies.Work reply place))) new
+    opened_work word (Sub submitted) place called = over called
+    opened_work word Armed place called = over called
+    opened_work word (Flags flags) place called = over called
+    opened_work word (Truth so) place called = over called
+    opened_work word Wait place called = goes called (Waits place)
+    opened_work word (WaitFor number) place called = goes called (Waits place)
+    opened_work word (Number number) place called = over called
+    opened_work word Done place called = over called
+    opened_work word Already place called = over called
+    opened_work word (Now time expiries) place called = over called
+    opened_work word (Run item number) place called = over called
 
-    closed : (closing : Closing) (since : ℕ) → slice_get (closing_step closing since ∷ []) k ≡ Some (steps.Work op) → IsCalled op
-    closed closings.Cancel since is = let step = only (steps.Work (ops.CancelDone since)) (steps.Work op) k is in let same : ops.CancelDone since ≡ op = cc in subst (λ (o : WorkOp). IsCalled o) same tt
-    closed closings.Flush since is = let step = only (steps.Work (ops.FlushDone since)) (steps.Work op) k is in let same : ops.FlushDone since ≡ op = cc in subst (λ (o : WorkOp). IsCalled o) same tt
-    closed closings.Drain since is = let step = only (steps.Work (ops.DrainDone since)) (steps.Work op) k is in let same : ops.DrainDone since ≡ op = cc in subst (λ (o : WorkOp). IsCalled o) same tt
+    opened : (word : Word) (reply : StepReply) → IsCalledStep step → Tends s.decls queue (frames_after s (frame ∷ next ∷ below) (opening_progress word reply)) new
+    opened word (step_replies.Work reply place) called = opened_work word reply place called
+    opened word (step_replies.Clock reply place) called = over called
 
-    pair : (word : Word) (first : WorkOp) (closing : Closing) (stage : Stage) → IsCalled first → slice_get (form_attempts (Pair (steps.Work first) closing) stage) k ≡ Some (steps.Work op) →
-        Tends s.decls queue (frames_after s (frame ∷ next ∷ below) (form_progress word (Pair (steps.Work first) closing) stage (steps.Work op) (step_replies.Work reply place))) (work_next st who op).admissions
-    pair word first closing Start called is =
-        let step = only (steps.Work first) (steps.Work op) k is in let same : first ≡ op = cc in opened word reply (subst (λ (o : WorkOp). IsCalled o) same called)
+    closed : (closing : Closing) (since : ℕ) → IsCalledStep (closing_step closing since)
+    closed closings.Cancel since = tt
+    closed closings.Flush since = tt
+    closed closings.Drain since = tt
+
+    pair : (word : Word) (first : Step) (closing : Closing) (stage : Stage) → IsCalledStep first → slice_get (form_attempts (Pair first closing) stage) k ≡ Some step →
+        Tends s.decls queue (frames_after s (frame ∷ next ∷ below) (form_progress word (Pair first closing) stage step reply)) new
+    pair word first closing Start called is = opened word reply (same_step first called is)
     pair word first closing Runs called is = absurd (cc)
-    pair word first closing (Waits since) called is = over (closed closing since is)
+    pair word first closing (Waits since) called is = over (same_step (closing_step closing since) (closed closing since) is)
+    pair word first closing Halfway called is = absurd (cc)
 
-    by_call : (call : Option Call) → slice_get (call_attempts s.decls call frame.stage) k ≡ Some (steps.Work op) →
-        Tends s.decls queue (frames_after s (frame ∷ next ∷ below) (call_progress s.decls call frame.stage (steps.Work op) (step_replies.Work reply place))) (work_next st who op).admissions
+    twice : (word : Word) (first second : Step) (stage : Stage) → IsCalledStep first → IsCalledStep second → slice_get (form_attempts (Twice first second) stage) k ≡ Some step →
+        Tends s.decls queue (frames_after s (frame ∷ next ∷ below) (form_progress word (Twice first second) stage step reply)) new
+    twice word first second Start called called' is = goes (same_step first called is) Halfway
+    twice word first second Runs called called' is = absurd (cc)
+    twice word first second (Waits since) called called' is = absurd (cc)
+    twice word first second Halfway called called' is = over (same_step second called' is)
+
+    by_call : (call : Option Call) → slice_get (call_attempts s.decls call frame.stage) k ≡ Some step →
+        Tends s.decls queue (frames_after s (frame ∷ next ∷ below) (call_progress s.decls call frame.stage step reply)) new
     by_call None is = absurd (cc)
-    by_call (Some (calls.Submit item named)) is = over (called_by (ops.Submit _ _) frame.stage tt is)
-    by_call (Some (calls.Cancel item)) is = over (called_by (ops.Cancel _) frame.stage tt is)
-    by_call (Some (calls.CancelSync item)) is = pair words.CancelSync (ops.CancelStart _) closings.Cancel frame.stage tt is
-    by_call (Some (calls.Flush item)) is = pair words.Flush (ops.FlushStart _) closings.Flush frame.stage tt is
-    by_call (Some (calls.Start named)) is = over (called_by (ops.Start _) frame.stage tt is)
-    by_call (Some (calls.Drain named plug)) is = pair words.Drain (ops.DrainStart _ plug) closings.Drain frame.stage tt is
-    by_call (Some (calls.Unplug named)) is = over (called_by (ops.Unplug _) frame.stage tt is)
+    by_call (Some (calls.Submit item named)) is = over (one (steps.Work (ops.Submit _ _)) frame.stage tt is)
+    by_call (Some (calls.Cancel item)) is = over (one (steps.Work (ops.Cancel _)) frame.stage tt is)
+    by_call (Some (calls.CancelSync item)) is = pair words.CancelSync (steps.Work (ops.CancelStart _)) closings.Cancel frame.stage tt is
+    by_call (Some (calls.Flush item)) is = pair words.Flush (steps.Work (ops.FlushStart _)) closings.Flush frame.stage tt is
+    by_call (Some (calls.Schedule item named delay)) is = over (one (steps.Work (ops.Schedule _ _ delay)) frame.stage tt is)
+    by_call (Some (calls.Reschedule item named delay)) is = over (one (steps.Work (ops.Reschedule _ _ delay)) frame.stage tt is)
+    by_call (Some (calls.Remaining item)) is = over (one (steps.Work (ops.Remaining _)) frame.stage tt is)
+    by_call (Some (calls.Start named)) is = over (one (steps.Work (ops.Start _)) frame.stage tt is)
+    by_call (Some (calls.Drain named plug)) is = pair words.Drain (steps.Work (ops.DrainStart _ plug)) closings.Drain frame.stage tt is
+    by_call (Some (calls.Unplug named)) is = over (one (steps.Work (ops.Unplug _)) frame.stage tt is)
+    by_call (Some (calls.Tick ticks)) is = twice words.Tick (steps.Work (ops.Announce ticks)) (steps.Clock (clock_ops.Announce ticks)) frame.stage tt tt is
 
--- a worker tends its queue after each step of its own
+-- the same of the open scripts and the run below
+own-scripts : (s : Parts) (queue : ℕ) (frame next : Frame) (below : List Frame) (step : Step) (reply : StepReply) (k : ℕ) (old new : List Admission) →
+    (IsCalledStep step → IsIdle queue old → IsIdle queue new) → Tends s.decls queue (frame ∷ next ∷ below) old → slice_get (frames_attempts s (frame ∷ next ∷ below)) k ≡ Some step →
+    Tends s.decls queue (frames_after s (frame ∷ next ∷ below) (frames_progress s (frame ∷ next ∷ below) step reply)) new
+own-scripts s queue frame next below step reply k old new keeps tends is = by_role frame.role frame.next frame.stage tends.0 is
+  where
+    by_role : (role : Role) (at : ℕ) (stage : Stage) → IsScript role → slice_get (frames_attempts s (record { role = role; next = at; stage = stage } ∷ next ∷ below)) k ≡ Some step →
+        Tends s.decls queue (frames_after s (record { role = role; next = at; stage = stage } ∷ next ∷ below)
+        (frames_progress s (record { role = role; next = at; stage = stage } ∷ next ∷ below) step reply)) new
+    by_role (Script owner) at stage script is =
+        own-script s queue (record { role = Script owner; next = at; stage = stage }) next below step reply k (slice_get (calls_of s.scripts owner) at) old new keeps tt tends.1 is
+    by_role (Worker object) at stage script is = absurd script
+
+-- a worker tends its queue after each step of its own at the work service
 pub tends-own : (s : Parts) (st : State) (who : Who) (queue : ℕ) (frames : List Frame) (op : WorkOp) (reply : WorkReply) (place k : ℕ) →
     Tends s.decls queue frames st.admissions → slice_get (frames_attempts s frames) k ≡ Some (steps.Work op) → work_reply st who op ≡ Some reply →
     Tends s.decls queue (frames_after s frames (frames_progress s frames (steps.Work op) (step_replies.Work reply place))) (work_next st who op).admissions
 tends-own s st who queue [] op reply place k tends is made = absurd tends
 tends-own s st who queue (frame ∷ []) op reply place k tends is made = own-run s st who queue frame.role frame.next frame.stage op reply place k tends is made
-tends-own s st who queue (frame ∷ next ∷ below) op reply place k tends is made = by_role frame.role frame.next frame.stage tends.0 is
-  where
-    by_role : (role : Role) (at : ℕ) (stage : Stage) → IsScript role → slice_get (frames_attempts s (record { role = role; next = at; stage = stage } ∷ next ∷ below)) k ≡ Some (steps.Work op) →
-        Tends s.decls queue (frames_after s (record { role = role; next = at; stage = stage } ∷ next ∷ below)
-        (frames_progress s (record { role = role; next = at; stage = stage } ∷ next ∷ below) (steps.Work op) (step_replies.Work reply place))) (work_next st who op).admissions
-    by_role (Script owner) at stage script is =
-        own-script s st who queue (record { role = Script owner; next = at; stage = stage }) next below op reply place k (slice_get (calls_of s.scripts owner) at) tt tends.1 is
-    by_role (Worker object) at stage script is = absurd script
+tends-own s st who queue (frame ∷ next ∷ below) op reply place k tends is made =
+    own-scripts s queue frame next below (steps.Work op) (step_replies.Work reply place) k st.admissions (work_next st who op).admissions
+    (λ called. idle-called st who op queue called) tends is
+
+-- and after each at the clock
+tends-own-clock : (s : Parts) (queue : ℕ) (frames : List Frame) (admissions : List Admission) (op : ClockOp) (reply : StepReply) (k : ℕ) →
+    Tends s.decls queue frames admissions → slice_get (frames_attempts s frames) k ≡ Some (steps.Clock op) →
+    Tends s.decls queue (frames_after s frames (frames_progress s frames (steps.Clock op) reply)) admissions
+tends-own-clock s queue [] admissions op reply k tends is = absurd tends
+tends-own-clock s queue (frame ∷ []) admissions op reply k tends is = absurd (no-clock s queue frame.role frame.next frame.stage admissions op k tends is)
+tends-own-clock s queue (frame ∷ next ∷ below) admissions op reply k tends is =
+    own-scripts s queue frame next below (steps.Clock op) reply k admissions admissions (λ called idle. idle) tends is
 
 -- a number of a row
 row-at : (a n i : ℕ) → i < n → slice_get (range_with_len a n) i ≡ Some (a + i)
@@ -210,7 +269,7 @@ pub tended-step : (s : Parts) (w : World) (st : State) (p : ℕ) (at : At) (op :
     slice_get (frames_attempts s at.frames) k ≡ Some (steps.Work op) → work_reply st at.who op ≡ Some reply →
     IsTended s (stepped s w p at (Some (steps.Work op, step_replies.Work reply place))) (work_next st at.who op)
 tended-step s w st p at op reply place k tended is number ahead made = record {
-  after = ap (λ (t : State). work_next t at.who op) tended.after ∙ sym (state_after-snoc work_machine (work_start_of s) w.work (entry at.who (length at.spots) op reply));
+  after = ap (λ (t : State). work_next t at.who op) tended.after ∙ sym (state_after-snoc work_machine (work_start_of s) w.shown.work (entry at.who (length at.spots) op reply));
   homes = homes-next (length (places is_queue s.decls)) st at.who op (many-queues s w st tended) tended.homes;
   has_workers = workers-next st at.who op ∙ tended.has_workers;
   tended = λ queue other there within. by_place queue other within (slice_get-set w.players p (length (places is_thread s.decls) + queue) (after s at (steps.Work op) (step_replies.Work reply place)) other there);
@@ -228,6 +287,26 @@ tended-step s w st p at op reply place k tended is number ahead made = record {
         tends-keep s.decls queue other.frames st.admissions (work_next st at.who op).admissions
         (idle-next st at.who op reply queue (length (places is_thread s.decls) + queue) (worker-of s w st queue tended within) (λ same. apart.0 (sym same ∙ number)) made)
         (tended.tended queue other apart.1 within)
+
+-- and after a step at the clock, which leaves the work service as it is
+pub tended-clock : (s : Parts) (w : World) (st : State) (p : ℕ) (at : At) (op : ClockOp) (reply : ClockReply) (place k : ℕ) → IsTended s w st → slice_get w.players p ≡ Some at →
+    slice_get (frames_attempts s at.frames) k ≡ Some (steps.Clock op) → IsTended s (stepped s w p at (Some (steps.Clock op, step_replies.Clock reply place))) st
+tended-clock s w st p at op reply place k tended is ahead = record {
+  after = tended.after;
+  homes = tended.homes;
+  has_workers = tended.has_workers;
+  tended = λ queue other there within. by_place queue other within (slice_get-set w.players p (length (places is_thread s.decls) + queue) (after s at (steps.Clock op) (step_replies.Clock reply place)) other there);
+}
+  where
+    by_place : (queue : ℕ) (other : At) → queue < length (places is_queue s.decls) →
+        ((length (places is_thread s.decls) + queue ≡ p) × (other ≡ after s at (steps.Clock op) (step_replies.Clock reply place)))
+        ⊎ ((length (places is_thread s.decls) + queue ≢ p) × (slice_get w.players (length (places is_thread s.decls) + queue) ≡ Some other)) →
+        Tends s.decls queue other.frames st.admissions
+    by_place queue other within (inl same) =
+        let mine = tended.tended queue at (ap (λ (n : ℕ). slice_get w.players n) same.0 ∙ is) within in
+        subst (λ (o : At). Tends s.decls queue o.frames st.admissions) (sym same.1)
+        (tends-own-clock s queue at.frames st.admissions op (step_replies.Clock reply place) k mine ahead)
+    by_place queue other within (inr apart) = tended.tended queue other apart.1 within
 
 -- the object of the n-th place of a kind has n before it
 placed : (test : Decl → Bool) (n : ℕ) (ds : List Decl) (q o : ℕ) → slice_get (places_from n test ds) q ≡ Some o →

@@ -7,7 +7,7 @@ use Rattle.zk_model_work.specs.State.{State}
 use Rattle.zk_model_work.specs.Machine.{work_machine}
 use Rattle.zk_worker.specs.Places.{At}
 use Rattle.zk_worker.specs.Follows.{is_done, log_of}
-use Rattle.zk_worker.specs.Machines.{work_start_of}
+use Rattle.zk_worker.specs.Machines.{work_start_of, machines_of}
 use Rattle.zk_trace.specs.declared.trace.Ending.{Ending}
 use Rattle.zk_trace.specs.declared.trace.Ending.TheVariants.{Ended, Stuck, Spent}
 use Rattle.zk_trace.specs.declared.trace.Trace.{Trace}
@@ -25,12 +25,12 @@ all_done players = list_all (λ at. is_done at.frames) players
 abbrev pub ending_of : Parts → World → Ending
 ending_of s w =
     if is_spent w then Spent else
-    if all_done w.players && none_waits (state_after work_machine (work_start_of s) w.work) then Ended else Stuck
+    if all_done w.players && none_waits (state_after work_machine (work_start_of s) w.shown.work) then Ended else Stuck
 
 -- the trace of a run that came to this world
 abbrev pub trace_of : Parts → World → Trace
-trace_of s w = record { ending = ending_of s w; work = w.work; logs = map log_of w.players }
+trace_of s w = record { ending = ending_of s w; work = w.shown.work; clock = w.shown.clock; logs = map log_of w.players }
 
 -- the trace of the round robin run of a scenario
 abbrev pub IsReplay : Parts → Trace → Type 0
-IsReplay s t = (w : World) × IsRun work_machine (work_start_of s) s w × (t ≡ trace_of s w)
+IsReplay s t = (w : World) × IsRun (machines_of s) s w × (t ≡ trace_of s w)

@@ -1,23 +1,20 @@
 use Rattle.std.specs.Prelude.{◌≡◌, ℕ, zero, suc, ◌+◌, Bool, if◌then◌else◌, Option, Some, None, option_to_list, List, [], ◌∷◌, ◌++◌, length, slice_get, slice_set}
 use Rattle.std.specs.List.{list_any}
 use Rattle.zk_base.specs.declared.ids.Who.{Who}
-use Rattle.zk_base.specs.declared.ids.Entry.{Entry}
-use Rattle.zk_base.specs.Legal.{Machine}
 use Rattle.zk_scenario.specs.Parts.{Parts}
 use Rattle.zk_scenario.specs.Players.{players}
-use Rattle.zk_model_work.specs.declared.ops.WorkOp.{WorkOp}
-use Rattle.zk_model_work.specs.declared.ops.WorkReply.{WorkReply}
 use Rattle.zk_worker.specs.declared.steps.Step.{Step}
 use Rattle.zk_worker.specs.declared.steps.StepReply.{StepReply}
 use Rattle.zk_worker.specs.Places.{At}
 use Rattle.zk_worker.specs.Protocol.{attempts, after, start_at}
 use Rattle.zk_worker.specs.Follows.{is_spent_at}
-use Rattle.zk_worker.specs.Shown.{work_after}
-use Rattle.zk_worker.specs.Attempt.{answer_in}
+use Rattle.zk_worker.specs.Machines.{Machines}
+use Rattle.zk_worker.specs.Shown.{Shown, nothing_shown, shown_after}
+use Rattle.zk_worker.specs.Attempt.{reply_in}
 
--- all that a run has come to: the history of the work service, and where each player stands
+-- all that a run has come to: what the services show, and where each player stands
 pub record World : Type 0 where
-  pub work : List (Entry WorkOp WorkReply)
+  pub shown : Shown
   pub players : List At
 
 -- a step with its answer, or else what comes after it
@@ -25,21 +22,20 @@ abbrev pub or_else : Step → Option StepReply → Option (Step × StepReply) �
 or_else step None further = further
 or_else step (Some reply) further = Some (step, reply)
 
-module _ {T : Type 0} (m : Machine T WorkOp WorkReply) (start : T) where
-  -- the first of these attempts that is possible, with its answer
-  abbrev pub first_possible : List (Entry WorkOp WorkReply) → Who → List Step → Option (Step × StepReply)
-  first_possible work who [] = None
-  first_possible work who (step ∷ more) = or_else step (answer_in m start work who step) (first_possible work who more)
+-- the first of these attempts that is possible, with its answer
+abbrev pub first_possible : Machines → Shown → Who → List Step → Option (Step × StepReply)
+first_possible m shown who [] = None
+first_possible m shown who (step ∷ more) = or_else step (reply_in m shown who step) (first_possible m shown who more)
 
-  -- the attempt that a player makes in a turn
-  abbrev pub chosen : Parts → List (Entry WorkOp WorkReply) → At → Option (Step × StepReply)
-  chosen s work at = first_possible work at.who (attempts s at)
+-- the attempt that a player makes in a turn
+abbrev pub chosen : Machines → Parts → Shown → At → Option (Step × StepReply)
+chosen m s shown at = first_possible m shown at.who (attempts s at)
 
 -- the world after a step of the player of this number, if it makes one
 abbrev pub stepped : Parts → World → ℕ → At → Option (Step × StepReply) → World
 stepped s w player at None = w
 stepped s w player at (Some made) = record {
-  work = work_after w.work at.who (length at.spots) made.0 made.1;
+  shown = shown_after w.shown at.who (length at.spots) made.0 made.1;
   players = slice_set w.players player (after s at made.0 made.1);
 }
 
@@ -47,10 +43,10 @@ stepped s w player at (Some made) = record {
 abbrev pub is_spent : World → Bool
 is_spent w = list_any is_spent_at w.players
 
-module _ {T : Type 0} (m : Machine T WorkOp WorkReply) (start : T) (s : Parts) where
+module _ (m : Machines) (s : Parts) where
   abbrev pub turn_of : World → ℕ → Option At → World
   turn_of w player None = w
-  turn_of w player (Some at) = stepped s w player at (chosen m start s w.work at)
+  turn_of w player (Some at) = stepped s w player at (chosen m s w.shown at)
 
   -- the world after a turn of a player: it makes the first of its attempts that is possible, unless the run is spent
   abbrev pub turn : World → ℕ → World
@@ -77,8 +73,8 @@ starts s (suc n) = starts s n ++ option_to_list (start_at s n)
 
 -- the world in which nothing was done
 abbrev pub first : Parts → World
-first s = record { work = []; players = starts s (length (players s.decls)) }
+first s = record { shown = nothing_shown; players = starts s (length (players s.decls)) }
 
 -- the round robin run of a scenario: the world after some number of rounds that a further round leaves as it is
-abbrev pub IsRun : {T : Type 0} → Machine T WorkOp WorkReply → T → Parts → World → Type 0
-IsRun m start s w = (n : ℕ) × (w ≡ rounds m start s n (first s)) × (round m start s w ≡ w)
+abbrev pub IsRun : Machines → Parts → World → Type 0
+IsRun m s w = (n : ℕ) × (w ≡ rounds m s n (first s)) × (round m s w ≡ w)

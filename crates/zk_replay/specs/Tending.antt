@@ -11,7 +11,7 @@ use Rattle.zk_worker.specs.declared.frames.Frame.{Frame}
 use Rattle.zk_worker.specs.declared.frames.Role.{Role}
 use Rattle.zk_worker.specs.declared.frames.Role.TheVariants.{Script, Worker}
 use Rattle.zk_worker.specs.declared.frames.Stage.{Stage}
-use Rattle.zk_worker.specs.declared.frames.Stage.TheVariants.{Start, Runs, Waits}
+use Rattle.zk_worker.specs.declared.frames.Stage.TheVariants.{Start, Runs, Waits, Halfway}
 use Rattle.zk_worker.specs.Places.{At}
 use Rattle.zk_worker.specs.Machines.{workers, work_start_of}
 use Rattle.zk_replay.specs.RoundRobin.{World}
@@ -25,6 +25,7 @@ abbrev pub IsWorkers : List Decl → ℕ → Role → Stage → List Admission �
 IsWorkers decls queue (Worker object) Start admissions = (number_of decls object ≡ queue) × IsIdle queue admissions
 IsWorkers decls queue (Worker object) Runs admissions = number_of decls object ≡ queue
 IsWorkers decls queue (Worker object) (Waits place) admissions = ⊥
+IsWorkers decls queue (Worker object) Halfway admissions = ⊥
 IsWorkers decls queue (Script owner) stage admissions = ⊥
 
 -- it is a script that is open
@@ -40,7 +41,7 @@ Tends decls queue (frame ∷ next ∷ below) admissions = IsScript frame.role ×
 
 -- each admission is to a queue, each queue has its worker, and each worker tends its queue
 pub record IsTended (s : Parts) (w : World) (state : State) : Type 0 where
-  pub after : state ≡ state_after work_machine (work_start_of s) w.work
+  pub after : state ≡ state_after work_machine (work_start_of s) w.shown.work
   pub homes : All (λ a. a.queue < length (places is_queue s.decls)) state.admissions
   pub has_workers : map (λ queue. queue.worker) state.queues ≡ workers s.decls
   pub tended : (queue : ℕ) (at : At) → slice_get w.players (length (places is_thread s.decls) + queue) ≡ Some at → queue < length (places is_queue s.decls) →

@@ -1,10 +1,6 @@
 use Rattle.std.specs.Prelude.{◌≡◌, ℕ, ◌<◌, Bool, true, false, Option, Some, None, is_some, List, length}
 use Rattle.zk_base.specs.declared.ids.Who.{Who}
-use Rattle.zk_base.specs.declared.ids.Entry.{Entry}
-use Rattle.zk_base.specs.Legal.{Machine}
 use Rattle.zk_scenario.specs.Parts.{Parts}
-use Rattle.zk_model_work.specs.declared.ops.WorkOp.{WorkOp}
-use Rattle.zk_model_work.specs.declared.ops.WorkReply.{WorkReply}
 use Rattle.zk_worker.specs.declared.steps.Step.{Step}
 use Rattle.zk_worker.specs.declared.steps.StepReply.{StepReply}
 use Rattle.zk_worker.specs.declared.playing.Stepped.{Stepped}
@@ -12,17 +8,17 @@ use Rattle.zk_worker.specs.declared.playing.Stepped.TheVariants as stepped
 use Rattle.zk_worker.specs.Places.{At}
 use Rattle.zk_worker.specs.Protocol.{after}
 use Rattle.zk_worker.specs.Machines.{Machines, machines_of}
-use Rattle.zk_worker.specs.Shown.{Shown, work_after}
+use Rattle.zk_worker.specs.Shown.{Shown, shown_after}
 use Rattle.zk_replay.specs.declared.turns.Turn.{Turn}
 use Rattle.zk_replay.specs.declared.turns.Course.{Course}
 use Rattle.zk_replay.specs.declared.turns.Course.TheVariants.{Still, Goes, Spent}
 use Rattle.zk_replay.specs.RoundRobin.{World, chosen, turn, turns, round, is_spent}
 use Rattle.zk_replay.specs.Ready.{IsReady, all_left}
 
--- the history after a turn
-abbrev pub history_with : List (Entry WorkOp WorkReply) → Who → ℕ → Option (Step × StepReply) → List (Entry WorkOp WorkReply)
-history_with work who number None = work
-history_with work who number (Some made) = work_after work who number made.0 made.1
+-- what is shown after a turn
+abbrev pub shown_with : Shown → Who → ℕ → Option (Step × StepReply) → Shown
+shown_with shown who number None = shown
+shown_with shown who number (Some made) = shown_after shown who number made.0 made.1
 
 -- where a player stands after a turn
 abbrev pub at_after : Parts → At → Option (Step × StepReply) → At
@@ -31,9 +27,9 @@ at_after s at (Some made) = after s at made.0 made.1
 
 -- what a turn of a player leaves, and whether it made a step
 pub record IsTurn (m : Machines) (s : Parts) (at at' : At) (old new : Shown) (moved : Bool) : Type 0 where
-  pub place : at' ≡ at_after s at (chosen m.work m.work_start s old.work at)
-  pub history : new.work ≡ history_with old.work at.who (length at.spots) (chosen m.work m.work_start s old.work at)
-  pub moves : moved ≡ is_some (chosen m.work m.work_start s old.work at)
+  pub place : at' ≡ at_after s at (chosen m s old at)
+  pub shows : new ≡ shown_with old at.who (length at.spots) (chosen m s old at)
+  pub moves : moved ≡ is_some (chosen m s old at)
 
 -- whether a step was made
 abbrev pub did : Stepped → Bool
@@ -46,13 +42,13 @@ pub record IsAlone (s : Parts) (alone : Bool) (m : Machines) (serves : Who → T
   pub machines : m ≡ machines_of s
   pub serves_all : (who : Who) → serves who
 
--- this history and these players
-abbrev pub world : List (Entry WorkOp WorkReply) → List At → World
-world work players = record { work = work; players = players }
+-- what is shown, and these players
+abbrev pub world : Shown → List At → World
+world shown players = record { shown = shown; players = players }
 
 -- what a turn leaves, and what is told of it
-pub record Turned {T : Type 0} (m : Machine T WorkOp WorkReply) (start : T) (s : Parts) (old new : World) (player : ℕ) (told : Turn) : Type 0 where
-  pub next : new ≡ turn m start s old player
+pub record Turned (m : Machines) (s : Parts) (old new : World) (player : ℕ) (told : Turn) : Type 0 where
+  pub next : new ≡ turn m s old player
   pub ready : IsReady s new
   pub spent : told.spent ≡ is_spent new
   pub moved : told.moved ≡ true → all_left new.players < all_left old.players
@@ -65,14 +61,14 @@ GoesOn old new Goes = (is_spent new ≡ false) × (all_left new.players < all_le
 GoesOn old new Spent = is_spent new ≡ true
 
 -- what a round leaves, and what is told of it
-pub record Rounded {T : Type 0} (m : Machine T WorkOp WorkReply) (start : T) (s : Parts) (old new : World) (course : Course) : Type 0 where
-  pub next : new ≡ round m start s old
+pub record Rounded (m : Machines) (s : Parts) (old new : World) (course : Course) : Type 0 where
+  pub next : new ≡ round m s old
   pub ready : IsReady s new
   pub goes : GoesOn old new course
 
 -- a round that has come to the player of this number, with so many turns left
-pub record WithinRound {T : Type 0} (m : Machine T WorkOp WorkReply) (start : T) (s : Parts) (old now : World) (moved : Bool) (turns_left player : ℕ) : Type 0 where
-  pub rest : turns m start s now turns_left player ≡ round m start s old
+pub record WithinRound (m : Machines) (s : Parts) (old now : World) (moved : Bool) (turns_left player : ℕ) : Type 0 where
+  pub rest : turns m s now turns_left player ≡ round m s old
   pub ready : IsReady s now
   pub unspent : is_spent now ≡ false
   pub less : moved ≡ true → all_left now.players < all_left old.players

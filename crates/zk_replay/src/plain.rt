@@ -1,27 +1,41 @@
 ghost use Rattle.std.specs.Prelude.{◌≡◌};
 ghost use Rattle.zk_base.specs.Legal.{IsLegal};
 ghost use Rattle.zk_work.specs.Seen.{work_start, work_history};
+ghost use Rattle.zk_model_wait.specs.Clock.{clock_machine};
 ghost use Rattle.zk_model_work.specs.Machine.{work_machine};
+ghost use Rattle.zk_time.specs.ClockSeen.{clock_start, clock_history};
 ghost use Rattle.zk_replay.specs.Alone.{plain_machines, plain_shown};
 
 use zk_base::{Entry, NoMemory, Service, Who};
+use zk_model_wait::{ClockOp, ClockReply};
 use zk_model_work::{WorkOp, WorkReply};
+use zk_time::Clock;
 use zk_work::Work;
 use zk_worker::{Services, Step, StepReply};
+
+/// All entries of each service.
+#[derive(Drop)]
+pub struct Histories {
+    pub work: Vec<Entry<WorkOp, WorkReply>>,
+    pub clock: Vec<Entry<ClockOp, ClockReply>>,
+}
 
 /// The services of one thread, which nobody else uses.
 #[derive(Drop)]
 pub struct Plain {
     work: Work,
+    clock: Clock,
 }
 
 impl Plain {
-    /// The work service alone, as far as it has come.
-    pub fn new(work: Work) -> Plain
-        ensures start { (plain_machines result).work_start ≡ work_start work }
-        ensures history { (plain_shown result).work ≡ work_history work }
+    /// These services, as far as they have come.
+    pub fn new(work: Work, clock: Clock) -> Plain
+        ensures work_start { (plain_machines result).work_start ≡ work_start work }
+        ensures work { (plain_shown result).work ≡ work_history work }
+        ensures clock_start { (plain_machines result).clock_start ≡ clock_start clock }
+        ensures clock { (plain_shown result).clock ≡ clock_history clock }
     {
-        Plain { work }
+        Plain { work, clock }
     }
 
     /// All entries of the work service so far.
@@ -31,13 +45,25 @@ impl Plain {
         self.work.history()
     }
 
-    /// All entries of the work service, without taking memory.
-    pub fn into_work(self) -> Vec<Entry<WorkOp, WorkReply>>
-        ensures history { result.items ≡ (plain_shown self).work }
-        ensures legal { IsLegal work_machine (plain_machines self).work_start result.items }
+    /// All entries of the clock so far.
+    pub fn clock(&self) -> &[Entry<ClockOp, ClockReply>]
+        ensures { result.now ≡ (plain_shown self.now).clock }
     {
-        let Plain { work } = self;
-        work.into_history()
+        self.clock.history()
+    }
+
+    /// All entries of each service, without taking memory.
+    pub fn into_histories(self) -> Histories
+        ensures work { result.work.items ≡ (plain_shown self).work }
+        ensures clock { result.clock.items ≡ (plain_shown self).clock }
+        ensures legal { IsLegal work_machine (plain_machines self).work_start result.work.items }
+        ensures legal_clock { IsLegal clock_machine (plain_machines self).clock_start result.clock.items }
+    {
+        let Plain { work, clock } = self;
+        Histories {
+            work: work.into_history(),
+            clock: clock.into_history(),
+        }
     }
 }
 
@@ -54,7 +80,7 @@ impl Services for Plain {
     ghost shown = { plain_shown };
 
     // Nothing is counted: each count stands at the most that it can be.
-    ghost counts = { λ p. record { work = 2 ^ 64 - 1 } };
+    ghost counts = { λ p. record { work = 2 ^ 64 - 1; clock = 2 ^ 64 - 1 } };
 
     fn attempt(
         &mut self,
@@ -62,11 +88,17 @@ impl Services for Plain {
         number: u32,
         step: &Step,
     ) -> Result<Option<StepReply>, NoMemory> {
-        let Step::Work(op) = *step;
-        let place = self.work.history().len() as u64;
-        match self.work.act(who, number, op)? {
-            Some(reply) => Ok(Some(StepReply::Work(reply, place))),
-            None => Ok(None),
+        match *step {
+            Step::Work(op) => {
+                let place = self.work.history().len() as u64;
+                let reply = self.work.act(who, number, op)?;
+                Ok(reply.map(|reply| StepReply::Work(reply, place)))
+            }
+            Step::Clock(op) => {
+                let place = self.clock.history().len() as u64;
+                let reply = self.clock.act(who, number, op)?;
+                Ok(reply.map(|reply| StepReply::Clock(reply, place)))
+            }
         }
     }
 }

@@ -11,11 +11,12 @@ ghost use Rattle.zk_replay.specs.Ending.{ending_by};
 ghost use Rattle.zk_replay.specs.Lawful.{IsLawful};
 ghost use Rattle.zk_replay.specs.Over.{IsOver};
 
-use crate::plain::Plain;
+use crate::plain::{Histories, Plain};
 use crate::turns::play_rounds;
 use std::alloc::Global;
 use zk_base::NoMemory;
 use zk_scenario::{Decl, Scenario};
+use zk_time::Clock;
 use zk_trace::{Ending, History, Logs, Trace};
 use zk_work::Work;
 use zk_worker::{Log, Player};
@@ -123,14 +124,17 @@ pub fn replay(alloc: Global, scenario: &Scenario) -> Result<Trace, NoMemory>
     ensures over { IfOk result (λ trace. IsOver scenario.now trace) }
 {
     let work = first_work(alloc, scenario)?;
-    let mut services = Plain::new(work);
+    let clock = Clock::new(alloc);
+    let mut services = Plain::new(work, clock);
     let mut players = first_players(alloc, scenario)?;
     play_rounds(&mut services, scenario, &mut players)?;
     let ending = ending_of(&players);
     let logs = logs_of(alloc, players)?;
+    let Histories { work, clock } = services.into_histories();
     Ok(Trace {
         ending,
-        work: History::from_vec(services.into_work()),
+        work: History::from_vec(work),
+        clock: History::from_vec(clock),
         logs,
     })
 }

@@ -1,9 +1,8 @@
 ghost use Rattle.std.specs.Prelude.{◌≡◌, ℕ, ◌+◌, ◌-◌, ◌^◌, ◌<◌, ◌≤◌, true, false, Some, None, length, is_some, vec_len, IfOk, OnErr};
 ghost use Rattle.zk_scenario.specs.Valid.{IsValid};
-ghost use Rattle.zk_model_work.specs.Machine.{work_machine};
 ghost use Rattle.zk_worker.specs.Follows.{is_spent_at};
 ghost use Rattle.zk_worker.specs.Ranges.{FramesFit};
-ghost use Rattle.zk_worker.specs.Machines.{work_start_of};
+ghost use Rattle.zk_worker.specs.Machines.{machines_of};
 ghost use Rattle.zk_worker.specs.Shown.{ShowsLog, AreShort};
 ghost use Rattle.zk_replay.specs.RoundRobin.{World, chosen, turn, round, rounds, is_spent};
 ghost use Rattle.zk_replay.specs.Ready.{IsReady};
@@ -75,13 +74,13 @@ fn take_turn<V: Services>(
 ) -> Result<Turn, NoMemory>
     requires valid { IsValid scenario.now }
     requires alone { IsAlone scenario.now (V.alone services.old) (V.machines services.old) (V.serves services.old) }
-    requires ready { IsReady scenario.now (world (V.shown services.old).work players.old.items) }
-    requires unspent { is_spent (world (V.shown services.old).work players.old.items) ≡ false }
+    requires ready { IsReady scenario.now (world (V.shown services.old) players.old.items) }
+    requires unspent { is_spent (world (V.shown services.old) players.old.items) ≡ false }
     requires number { number < vec_len players.old }
     ensures turned { IfOk result (λ turn.
-        Turned work_machine (work_start_of scenario.now) scenario.now
-        (world (V.shown services.old).work players.old.items)
-        (world (V.shown services.new).work players.new.items) number turn) }
+        Turned (machines_of scenario.now) scenario.now
+        (world (V.shown services.old) players.old.items)
+        (world (V.shown services.new) players.new.items) number turn) }
     ensures alone { IsAlone scenario.now (V.alone services.new) (V.machines services.new) (V.serves services.new) }
     ensures players { vec_len players.new ≡ vec_len players.old }
 {
@@ -97,12 +96,12 @@ fn play_round<V: Services>(
 ) -> Result<Course, NoMemory>
     requires valid { IsValid scenario.now }
     requires alone { IsAlone scenario.now (V.alone services.old) (V.machines services.old) (V.serves services.old) }
-    requires ready { IsReady scenario.now (world (V.shown services.old).work players.old.items) }
-    requires unspent { is_spent (world (V.shown services.old).work players.old.items) ≡ false }
+    requires ready { IsReady scenario.now (world (V.shown services.old) players.old.items) }
+    requires unspent { is_spent (world (V.shown services.old) players.old.items) ≡ false }
     ensures rounded { IfOk result (λ course.
-        Rounded work_machine (work_start_of scenario.now) scenario.now
-        (world (V.shown services.old).work players.old.items)
-        (world (V.shown services.new).work players.new.items) course) }
+        Rounded (machines_of scenario.now) scenario.now
+        (world (V.shown services.old) players.old.items)
+        (world (V.shown services.new) players.new.items) course) }
     ensures alone { IsAlone scenario.now (V.alone services.new) (V.machines services.new) (V.serves services.new) }
 {
     let mut moved = false;
@@ -124,15 +123,15 @@ pub fn play_rounds<V: Services>(
 ) -> Result<(), NoMemory>
     requires valid { IsValid scenario.now }
     requires alone { IsAlone scenario.now (V.alone services.old) (V.machines services.old) (V.serves services.old) }
-    requires ready { IsReady scenario.now (world (V.shown services.old).work players.old.items) }
-    requires unspent { is_spent (world (V.shown services.old).work players.old.items) ≡ false }
-    ensures ready { IfOk result (λ _. IsReady scenario.now (world (V.shown services.new).work players.new.items)) }
-    ensures rounds { IfOk result (λ _. (n : ℕ) × (world (V.shown services.new).work players.new.items
-        ≡ rounds work_machine (work_start_of scenario.now) scenario.now n
-        (world (V.shown services.old).work players.old.items))) }
+    requires ready { IsReady scenario.now (world (V.shown services.old) players.old.items) }
+    requires unspent { is_spent (world (V.shown services.old) players.old.items) ≡ false }
+    ensures ready { IfOk result (λ _. IsReady scenario.now (world (V.shown services.new) players.new.items)) }
+    ensures rounds { IfOk result (λ _. (n : ℕ) × (world (V.shown services.new) players.new.items
+        ≡ rounds (machines_of scenario.now) scenario.now n
+        (world (V.shown services.old) players.old.items))) }
     ensures over { IfOk result (λ _.
-        round work_machine (work_start_of scenario.now) scenario.now (world (V.shown services.new).work players.new.items)
-        ≡ world (V.shown services.new).work players.new.items) }
+        round (machines_of scenario.now) scenario.now (world (V.shown services.new) players.new.items)
+        ≡ world (V.shown services.new) players.new.items) }
     ensures alone { IsAlone scenario.now (V.alone services.new) (V.machines services.new) (V.serves services.new) }
 {
     loop {

@@ -1,5 +1,5 @@
 -- What is shown of a player that makes a step.
-use Rattle.std.proofs.Common.{◌≡◌, ◌≢◌, ◌⊎◌, inl, inr, ℕ, ◌+◌, Bool, Option, Some, None, List, [], ◌∷◌, ◌++◌, length, length-append, sym, ap, subst, ◌∙◌, arith}
+use Rattle.std.proofs.Common.{◌≡◌, ◌≢◌, ◌⊎◌, inl, inr, ℕ, ◌+◌, Bool, Option, Some, None, List, [], ◌∷◌, ◌++◌, length, length-append, refl, sym, ap, subst, ◌∙◌, arith}
 use Rattle.std.specs.List.{slice_get}
 use Rattle.std.specs.Option.{option_map}
 use Rattle.zk_base.specs.declared.ids.Who.{Who}
@@ -27,9 +27,9 @@ use Rattle.zk_worker.proofs.Lists.{at-end, there-longer, there-behind, known-lon
 use Rattle.zk_worker.proofs.Between.{log-still}
 
 -- what is mapped to something is there
-made-of : {A B : Type 0} (f : A → B) (o : Option A) (b : B) → option_map f o ≡ Some b → (a : A) × (f a ≡ b)
+pub made-of : {A B : Type 0} (f : A → B) (o : Option A) (b : B) → option_map f o ≡ Some b → (a : A) × (o ≡ Some a) × (f a ≡ b)
 made-of f None b is = absurd (cc)
-made-of f (Some a) b is = (a, cc)
+made-of f (Some a) b is = (a, refl, cc)
 
 -- an entry more is shown at this spot, of this player and step, and it stands for what was made there; elsewhere is what was there before
 pub record IsMore (shown longer : Shown) (spot : Spot) (step : ℕ × ℕ) (made : Step × StepReply) : Type 0 where
@@ -119,11 +119,11 @@ pub made-more : (m : Machines) (shown : Shown) (who : Who) (number : ℕ) (step 
     IsMore shown (shown_after shown who number step reply) (spot_of step reply) (who.number, number) (step, reply)
 made-more m shown who number (steps.Work op) reply answered =
     let from = made-of (λ (r : WorkReply). step_replies.Work r (length shown.work)) (m.work.reply_of (state_after m.work m.work_start shown.work) who op) reply answered in
-    subst (λ (x : StepReply). IsMore shown (shown_after shown who number (steps.Work op) x) (spot_of (steps.Work op) x) (who.number, number) (steps.Work op, x)) from.1
+    subst (λ (x : StepReply). IsMore shown (shown_after shown who number (steps.Work op) x) (spot_of (steps.Work op) x) (who.number, number) (steps.Work op, x)) from.2
     (work-more shown who number op from.0)
 made-more m shown who number (steps.Clock op) reply answered =
     let from = made-of (λ (r : ClockReply). step_replies.Clock r (length shown.clock)) (m.clock.reply_of (state_after m.clock m.clock_start shown.clock) who op) reply answered in
-    subst (λ (x : StepReply). IsMore shown (shown_after shown who number (steps.Clock op) x) (spot_of (steps.Clock op) x) (who.number, number) (steps.Clock op, x)) from.1
+    subst (λ (x : StepReply). IsMore shown (shown_after shown who number (steps.Clock op) x) (spot_of (steps.Clock op) x) (who.number, number) (steps.Clock op, x)) from.2
     (clock-more shown who number op from.0)
 
 -- the log with a step that adds an entry is shown with it

@@ -1,6 +1,5 @@
 use Rattle.std.proofs.Common.{◌+◌, ◌-◌, ◌∙◌, suc, arith}
-use Rattle.zk_model_work.specs.Machine.{work_machine}
-use Rattle.zk_worker.specs.Machines.{work_start_of}
+use Rattle.zk_worker.specs.Machines.{machines_of}
 use Rattle.zk_replay.specs.Turning.{world}
 use Rattle.zk_replay.proofs.Laps.{within-left, within-spent, within-next}
 use Rattle.zk_replay.proofs.turns.play_round.Goals as goal
@@ -8,33 +7,31 @@ use Rattle.zk_replay.proofs.turns.play_round.Goals as goal
 pub returns-then-turn-clause-rounded : goal.returns-then-turn-clause-rounded
 returns-then-turn-clause-rounded g c =
     let s = c.args.scenario.now in
-    let m = work_machine in
-    let start = work_start_of s in
+    let m = machines_of s in
     let p = c.loop-number.number in
-    let old = world (g.V.Services.shown c.args.services.now).work c.args.players.now.items in
-    let now = world (g.V.Services.shown c.loop-number.services).work c.loop-number.players.items in
-    let new = world (g.V.Services.shown c.take_turn.new.services).work c.take_turn.new.players.items in
+    let old = world (g.V.Services.shown c.args.services.now) c.args.players.now.items in
+    let now = world (g.V.Services.shown c.loop-number.services) c.loop-number.players.items in
+    let new = world (g.V.Services.shown c.take_turn.new.services) c.take_turn.new.players.items in
     let n = c.len-number-end.result - (p + 1) in
-    within-spent m start s old now new c.loop-number.moved n p c.in_ok-turn.turn
-    (within-left m start s old now c.loop-number.moved (c.len-number-end.result - p) (suc n) p (omega arith) c.loop-number.invariant.within)
+    within-spent m s old now new c.loop-number.moved n p c.in_ok-turn.turn
+    (within-left m s old now c.loop-number.moved (c.len-number-end.result - p) (suc n) p (omega arith) c.loop-number.invariant.within)
     c.in_ok-turn.ensures.turned
     c.if-turn.true
 
 pub loop-number-preserved : goal.loop-number-preserved
 loop-number-preserved g c =
     let s = c.args.scenario.now in
-    let m = work_machine in
-    let start = work_start_of s in
+    let m = machines_of s in
     let p = c.loop-number.number in
-    let old = world (g.V.Services.shown c.args.services.now).work c.args.players.now.items in
-    let now = world (g.V.Services.shown c.loop-number.services).work c.loop-number.players.items in
-    let new = world (g.V.Services.shown c.take_turn.new.services).work c.take_turn.new.players.items in
+    let old = world (g.V.Services.shown c.args.services.now) c.args.players.now.items in
+    let now = world (g.V.Services.shown c.loop-number.services) c.loop-number.players.items in
+    let new = world (g.V.Services.shown c.take_turn.new.services) c.take_turn.new.players.items in
     let n = c.len-number-end.result - (p + 1) in
     record {
       alone = c.take_turn.ensures.alone;
       count = c.take_turn.ensures.players ∙ c.loop-number.invariant.count;
-      within = within-next m start s old now new c.loop-number.moved n p c.in_ok-turn.turn
-          (within-left m start s old now c.loop-number.moved (c.len-number-end.result - p) (suc n) p (omega arith) c.loop-number.invariant.within)
+      within = within-next m s old now new c.loop-number.moved n p c.in_ok-turn.turn
+          (within-left m s old now c.loop-number.moved (c.len-number-end.result - p) (suc n) p (omega arith) c.loop-number.invariant.within)
           c.in_ok-turn.ensures.turned
           c.if-turn.false;
     }

@@ -1,6 +1,5 @@
 use Rattle.std.proofs.Common.{◌≡◌, ◌-◌, vec_len}
-use Rattle.zk_model_work.specs.Machine.{work_machine}
-use Rattle.zk_worker.specs.Machines.{work_start_of}
+use Rattle.zk_worker.specs.Machines.{machines_of}
 use Rattle.zk_replay.specs.Turning.{world, IsAlone, WithinRound}
 use Rattle.zk_replay.proofs.turns.play_round.Given as goal
 
@@ -9,6 +8,6 @@ invariant-loop-number g l =
     record {
       alone : IsAlone l.scenario (g.V.Services.alone l.services) (g.V.Services.machines l.services) (g.V.Services.serves l.services);
       count : vec_len l.players ≡ l.number-end;
-      within : WithinRound work_machine (work_start_of l.scenario) l.scenario (world (g.V.Services.shown l.initial.services).work l.initial.players.items)
-          (world (g.V.Services.shown l.services).work l.players.items) l.moved (l.number-end - l.number) l.number;
+      within : WithinRound (machines_of l.scenario) l.scenario (world (g.V.Services.shown l.initial.services) l.initial.players.items)
+          (world (g.V.Services.shown l.services) l.players.items) l.moved (l.number-end - l.number) l.number;
     }

@@ -1,6 +1,5 @@
 use Rattle.std.proofs.Common.{suc}
-use Rattle.zk_model_work.specs.Machine.{work_machine}
-use Rattle.zk_worker.specs.Machines.{work_start_of}
+use Rattle.zk_worker.specs.Machines.{machines_of}
 use Rattle.zk_replay.specs.declared.turns.Course.TheVariants.{Goes, Spent}
 use Rattle.zk_replay.specs.Turning.{world}
 use Rattle.zk_replay.proofs.Laps.{rounded-at, rounds-next, over-spent}
@@ -9,41 +8,38 @@ use Rattle.zk_replay.proofs.turns.play_rounds.Goals as goal
 pub loop-preserved : goal.loop-preserved
 loop-preserved g c =
     let s = c.args.scenario.now in
-    let m = work_machine in
-    let start = work_start_of s in
-    let first = world (g.V.Services.shown c.args.services.now).work c.args.players.now.items in
-    let old = world (g.V.Services.shown c.loop.services).work c.loop.players.items in
-    let new = world (g.V.Services.shown c.play_round.new.services).work c.play_round.new.players.items in
-    let rounded = rounded-at m start s old new c.in_ok-play_round.field-0 Goes
+    let m = machines_of s in
+    let first = world (g.V.Services.shown c.args.services.now) c.args.players.now.items in
+    let old = world (g.V.Services.shown c.loop.services) c.loop.players.items in
+    let new = world (g.V.Services.shown c.play_round.new.services) c.play_round.new.players.items in
+    let rounded = rounded-at m s old new c.in_ok-play_round.field-0 Goes
     c.in-Goes.is c.in_ok-play_round.ensures.rounded in
     let so_far = c.loop.invariant.so_far in
     record {
       alone = c.play_round.ensures.alone;
       ready = rounded.ready;
       unspent = rounded.goes.0;
-      so_far = (suc so_far.0, rounds-next m start s first old new so_far.0 so_far.1 rounded.next);
+      so_far = (suc so_far.0, rounds-next m s first old new so_far.0 so_far.1 rounded.next);
     }
 
 pub returns-in-Spent-clause-rounds : goal.returns-in-Spent-clause-rounds
 returns-in-Spent-clause-rounds g c =
     let s = c.args.scenario.now in
-    let m = work_machine in
-    let start = work_start_of s in
-    let first = world (g.V.Services.shown c.args.services.now).work c.args.players.now.items in
-    let old = world (g.V.Services.shown c.loop.services).work c.loop.players.items in
-    let new = world (g.V.Services.shown c.play_round.new.services).work c.play_round.new.players.items in
-    let rounded = rounded-at m start s old new c.in_ok-play_round.field-0 Spent
+    let m = machines_of s in
+    let first = world (g.V.Services.shown c.args.services.now) c.args.players.now.items in
+    let old = world (g.V.Services.shown c.loop.services) c.loop.players.items in
+    let new = world (g.V.Services.shown c.play_round.new.services) c.play_round.new.players.items in
+    let rounded = rounded-at m s old new c.in_ok-play_round.field-0 Spent
     c.in-Spent.is c.in_ok-play_round.ensures.rounded in
     let so_far = c.loop.invariant.so_far in
-    (suc so_far.0, rounds-next m start s first old new so_far.0 so_far.1 rounded.next)
+    (suc so_far.0, rounds-next m s first old new so_far.0 so_far.1 rounded.next)
 
 pub returns-in-Spent-clause-over : goal.returns-in-Spent-clause-over
 returns-in-Spent-clause-over g c =
     let s = c.args.scenario.now in
-    let m = work_machine in
-    let start = work_start_of s in
-    let old = world (g.V.Services.shown c.loop.services).work c.loop.players.items in
-    let new = world (g.V.Services.shown c.play_round.new.services).work c.play_round.new.players.items in
-    over-spent m start s old new
-    (rounded-at m start s old new c.in_ok-play_round.field-0 Spent
+    let m = machines_of s in
+    let old = world (g.V.Services.shown c.loop.services) c.loop.players.items in
+    let new = world (g.V.Services.shown c.play_round.new.services) c.play_round.new.players.items in
+    over-spent m s old new
+    (rounded-at m s old new c.in_ok-play_round.field-0 Spent
     c.in-Spent.is c.in_ok-play_round.ensures.rounded)

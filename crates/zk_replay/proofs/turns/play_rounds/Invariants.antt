@@ -1,6 +1,5 @@
 use Rattle.std.proofs.Common.{◌≡◌, ℕ, false}
-use Rattle.zk_model_work.specs.Machine.{work_machine}
-use Rattle.zk_worker.specs.Machines.{work_start_of}
+use Rattle.zk_worker.specs.Machines.{machines_of}
 use Rattle.zk_replay.specs.RoundRobin.{rounds, is_spent}
 use Rattle.zk_replay.specs.Ready.{IsReady, all_left}
 use Rattle.zk_replay.specs.Turning.{world, IsAlone}
@@ -8,13 +7,13 @@ use Rattle.zk_replay.proofs.turns.play_rounds.Given as goal
 
 abbrev pub invariant-loop : goal.invariant-loop
 invariant-loop g l =
-    let old = world (g.V.Services.shown l.initial.services).work l.initial.players.items in
-    let now = world (g.V.Services.shown l.services).work l.players.items in
+    let old = world (g.V.Services.shown l.initial.services) l.initial.players.items in
+    let now = world (g.V.Services.shown l.services) l.players.items in
     record {
       alone : IsAlone l.scenario (g.V.Services.alone l.services) (g.V.Services.machines l.services) (g.V.Services.serves l.services);
       ready : IsReady l.scenario now;
       unspent : is_spent now ≡ false;
-      so_far : (n : ℕ) × (now ≡ rounds work_machine (work_start_of l.scenario) l.scenario n old);
+      so_far : (n : ℕ) × (now ≡ rounds (machines_of l.scenario) l.scenario n old);
     }
 
 abbrev pub decreases-loop : goal.decreases-loop

@@ -6,7 +6,7 @@ use Rattle.zk_worker.specs.Machines.{machines_of}
 use Rattle.zk_worker.specs.Ranges.{FramesFit}
 use Rattle.zk_worker.proofs.Numbers.{All-slice_get}
 use Rattle.zk_replay.specs.Turning.{world}
-use Rattle.zk_replay.proofs.Readiness.{short-work}
+use Rattle.zk_replay.proofs.Readiness.{short-shown}
 use Rattle.zk_replay.proofs.Laps.{turned-if, turned-at}
 use Rattle.zk_replay.proofs.turns.take_turn.Goals as goal
 
@@ -27,16 +27,16 @@ play-requires-clause-log g c =
     c.requires.ready.shows c.args.number c.index_mut-player.result.now is
 
 pub play-requires-clause-short : goal.play-requires-clause-short
-play-requires-clause-short g c = short-work c.args.scenario.now (world (g.V.Services.shown c.args.services.now).work c.args.players.now.items) c.requires.ready
+play-requires-clause-short g c = short-shown c.args.scenario.now (world (g.V.Services.shown c.args.services.now) c.args.players.now.items) c.requires.ready
 
 pub returns-clause-turned : goal.returns-clause-turned
 returns-clause-turned g c =
     let players = c.args.players.now in
     let s = c.args.scenario.now in
     let m = g.V.Services.machines c.args.services.now in
-    let old = world (g.V.Services.shown c.args.services.now).work players.items in
+    let old = world (g.V.Services.shown c.args.services.now) players.items in
     let at = c.index_mut-player.result.now in
     let is : slice_get players.items c.args.number ≡ Some at = slice_get_read players.items (length players.items) c.args.number at refl (omega (arith, c.requires.number, players.ok.0)) c.index_mut-player.ensures.value in
-    turned-at m (machines_of s) s old (world (g.V.Services.shown c.play.new.services).work _) c.args.number c.play.result c.requires.alone.machines
+    turned-at m (machines_of s) s old (world (g.V.Services.shown c.play.new.services) _) c.args.number c.play.result c.requires.alone.machines
     (turned-if m s c.play.result (g.V.Services.shown c.args.services.now) (g.V.Services.shown c.play.new.services) players.items _ c.args.number at c.play.new.player
     c.requires.ready c.requires.unspent is refl c.play.ensures.turn c.play.ensures.spent)
