@@ -1,10 +1,9 @@
 -- What a cancel of an item keeps from being admitted, and from being begun.
-use Rattle.std.proofs.Common.{◌≡◌, ℕ, zero, suc, ◌<◌, ◌≤◌, ◌≢◌, ◌⊎◌, inl, inr, Bool, true, false, ◌&&◌, ◌||◌, cond, eqb, Option, Some, None, is_some, option_map, option_to_list, List, [], ◌∷◌, ◌++◌, length, map, get_or, slice_get, refl, sym, ap, subst, ◌∙◌, arith}
+use Rattle.std.proofs.Common.{◌≡◌, ℕ, zero, suc, ◌<◌, ◌≤◌, ◌⊎◌, inl, inr, Bool, true, false, ◌||◌, cond, eqb, Option, Some, None, is_some, option_map, option_to_list, List, [], ◌∷◌, ◌++◌, length, map, get_or, slice_get, refl, sym, ap, subst, ◌∙◌, arith}
 use Rattle.std.specs.Cmp.{first_so, second_so}
 use Rattle.std.specs.List.{list_any}
 use Rattle.std.specs.Option.{option_map_or}
 use Rattle.std.proofs.lemmas.Bool.{eqb-true, eq-eqb, false≢true, cases_order}
-use Rattle.std.proofs.lemmas.Bool.Decides.{eqb_tells}
 use Rattle.std.proofs.lemmas.Option.{slice_get-map, slice_get_within, slice_get-get_or, same_Some}
 use Rattle.std.proofs.lemmas.List.Folds.{list_any-append}
 use Rattle.std.proofs.lemmas.List.Quantifiers.{position-Some}
@@ -18,13 +17,12 @@ use Rattle.zk_model_work.specs.declared.parts.Admission.{Admission}
 use Rattle.zk_model_work.specs.declared.ops.WorkOp.{WorkOp}
 use Rattle.zk_model_work.specs.declared.ops.WorkOp.TheVariants.{Submit, Cancel, CancelStart, CancelDone, FlushStart, FlushDone, Schedule, Reschedule, Remaining, Start, DrainStart, DrainDone, Unplug, Announce, Begin, End}
 use Rattle.zk_model_work.specs.declared.ops.WorkReply.{WorkReply}
-use Rattle.zk_model_work.specs.declared.ops.WorkReply.TheVariants as replies
 use Rattle.zk_model_work.specs.declared.ops.Submitted.{Submitted}
-use Rattle.zk_model_work.specs.declared.ops.Submitted.TheVariants.{Already, Fresh, Rerun, Refused}
+use Rattle.zk_model_work.specs.declared.ops.Submitted.TheVariants.{Already, Refused}
 use Rattle.zk_model_work.specs.Lists.{first}
 use Rattle.zk_model_work.specs.Questions.{is_waiting, is_running, is_open, waits_as, runs_as, line, waiting, running, passes_at, is_cancelling}
 use Rattle.zk_model_work.specs.State.{State}
-use Rattle.zk_model_work.specs.Machine.{work_next, work_reply, work_machine, submission, submission_at, target, submit, admitted_to, disarm, drop_one, drop_waiting, set_life, with_life, begin, end_one, end_run}
+use Rattle.zk_model_work.specs.Machine.{work_next, work_machine, submission, submission_at, target, submit, admitted_to, disarm, drop_one, drop_waiting, set_life, with_life, begin, end_one, end_run}
 use Rattle.zk_model_work.specs.Laws.{OfEach, submitter, made_after, Cancels, NoneMadeDuringCancel, BegunMadeAfterCancel, BegunMadeAfterRun}
 use Rattle.zk_model_work.proofs.Lives.{Keeps, Kept, Kept-next, Kept-after}
 use Rattle.zk_model_work.proofs.Moves.{Stays, admissions-next, schedule-keeps, delayed-keeps}

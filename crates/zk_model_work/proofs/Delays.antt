@@ -1,15 +1,14 @@
 -- What becomes of an arm.
-use Rattle.std.proofs.Common.{◌≡◌, ℕ, zero, suc, ◌+◌, ◌<◌, ◌≤◌, ◌⊎◌, inl, inr, Bool, true, false, not, ◌&&◌, cond, eqb, leb, Option, Some, None, is_some, option_map, List, [], ◌∷◌, ◌++◌, length, map, slice_get, refl, sym, ap, subst, ◌∙◌, arith}
-use Rattle.std.specs.Cmp.{first_so, second_so}
-use Rattle.std.proofs.lemmas.Bool.{eq-eqb, false≢true, ltb-true, cases_order}
+use Rattle.std.proofs.Common.{◌≡◌, ℕ, zero, suc, ◌+◌, ◌<◌, ◌≤◌, ◌⊎◌, inl, inr, Bool, true, false, ◌&&◌, cond, eqb, leb, Option, Some, None, is_some, option_map, List, [], ◌∷◌, ◌++◌, length, map, slice_get, refl, sym, ap, subst, ◌∙◌, arith}
+use Rattle.std.specs.Cmp.{second_so}
+use Rattle.std.proofs.lemmas.Bool.{eq-eqb, false≢true}
 use Rattle.std.proofs.lemmas.Bool.Decides.{nat_tests}
-use Rattle.std.proofs.lemmas.Option.{slice_get-map, slice_get_within, same_Some}
+use Rattle.std.proofs.lemmas.Option.{slice_get-map, same_Some}
 use Rattle.zk_base.specs.declared.ids.Who.{Who}
 use Rattle.zk_base.specs.declared.ids.Entry.{Entry}
 use Rattle.zk_base.specs.Legal.{state_after}
 use Rattle.zk_model_work.specs.declared.parts.Admission.{Admission}
 use Rattle.zk_model_work.specs.declared.parts.Queue.{Queue}
-use Rattle.zk_model_work.specs.declared.parts.Fate.{Fate}
 use Rattle.zk_model_work.specs.declared.parts.Fate.TheVariants.{Live, Expired, Disarmed}
 use Rattle.zk_model_work.specs.declared.parts.Arm.{Arm}
 use Rattle.zk_model_work.specs.declared.ops.WorkOp.{WorkOp}
@@ -21,7 +20,7 @@ use Rattle.zk_model_work.specs.Questions.{is_live, arms_item, armed, is_due, due
 use Rattle.zk_model_work.specs.State.{State}
 use Rattle.zk_model_work.specs.Machine.{submission, submit, expiries, arm, disarm, disarm_one, expire, expire_one, is_pending, delayed, work_reply, work_next, work_machine}
 use Rattle.zk_model_work.specs.Laws.{IsFreshHistory, OfEach, announces, arm_after, time_after, LiveAhead, ExpiresWhenDue, FateStays, OneLiveArm, ExpireInOrder}
-use Rattle.zk_model_work.proofs.Moves.{Stays, still-push, unarmed, none-there, arms-next}
+use Rattle.zk_model_work.proofs.Moves.{still-push, unarmed, none-there, arms-next}
 use Rattle.zk_model_work.proofs.Begins.{state_after-append, Replays-rest, Replays-parts}
 use Rattle.zk_model_work.proofs.Overlaps.{position-none, second_of}
 

@@ -1,9 +1,8 @@
 -- What an operation makes of the parts of the state.
-use Rattle.std.proofs.Common.{◌≡◌, ℕ, zero, suc, ◌+◌, Bool, true, false, ◌||◌, cond, eqb, Option, Some, None, is_some, option_map, option_to_list, List, [], ◌∷◌, ◌++◌, length, slice_get, refl, sym, ap, ◌∙◌, inl, inr}
-use Rattle.std.specs.Option.{option_map_or, option_and_then}
+use Rattle.std.proofs.Common.{◌≡◌, ℕ, zero, suc, ◌+◌, Bool, true, false, ◌||◌, cond, eqb, Option, Some, None, is_some, option_to_list, List, [], ◌∷◌, ◌++◌, slice_get, refl, inl, inr}
+use Rattle.std.specs.Option.{option_map_or}
 use Rattle.std.proofs.lemmas.Option.{same_Some}
 use Rattle.zk_base.specs.declared.ids.Who.{Who}
-use Rattle.zk_model_work.specs.declared.parts.Life.TheVariants.{Waiting}
 use Rattle.zk_model_work.specs.declared.parts.Admission.{Admission}
 use Rattle.zk_model_work.specs.declared.parts.Arm.{Arm}
 use Rattle.zk_model_work.specs.declared.parts.Queue.{Queue}
@@ -15,9 +14,9 @@ use Rattle.zk_model_work.specs.declared.ops.Submitted.TheVariants.{Already, Fres
 use Rattle.zk_model_work.specs.declared.ops.WorkReply.{WorkReply}
 use Rattle.zk_model_work.specs.declared.ops.WorkReply.TheVariants as replies
 use Rattle.zk_model_work.specs.Lists.{first}
-use Rattle.zk_model_work.specs.Questions.{waiting, running, line, is_empty_and_idle, is_cancelling, armed, live_arm, due}
+use Rattle.zk_model_work.specs.Questions.{waiting, running, is_empty_and_idle, is_cancelling, armed, live_arm, due}
 use Rattle.zk_model_work.specs.State.{State}
-use Rattle.zk_model_work.specs.Machine.{submission, submission_in, submit, submit_arms, arm, disarm, expire, begin, end_run, drop_waiting, is_pending, delayed, schedule, flushed, hurried, may_close, may_end, flags_of, is_started, is_plugged, cancel_start_reply, work_reply, work_next}
+use Rattle.zk_model_work.specs.Machine.{submission, submission_in, submit, submit_arms, arm, disarm, expire, begin, end_run, drop_waiting, is_pending, delayed, schedule, flushed, hurried, may_close, may_end, flags_of, is_started, is_plugged, work_reply, work_next}
 use Rattle.zk_model_work.specs.Laws.{Cancels, submitter}
 
 -- each element of the first list stands in its place in the second

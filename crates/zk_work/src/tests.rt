@@ -44,36 +44,42 @@ fn one_start(rt: HostRuntime) -> Result<(), Fail> {
     Ok(())
 }
 
-/// Two items whose deadlines come with one announce, of which a queue that is off refuses one; and a flush
-/// that doesn't wait for a deadline. What is kept is what was answered.
+/// Two items whose deadlines come with one announce, of which a queue that is off refuses one. What is kept
+/// is what was answered.
 #[test]
 fn delays(rt: HostRuntime) -> Result<(), Fail> {
     let thread = Who { number: 0, prio: 0 };
-    let mut work = Work::new(rt.alloc(), 3, &[1, 2], &[true, false])?;
-    let ops = [
-        Schedule(0, 1, 5),
-        Reschedule(1, 0, 4),
-        Schedule(1, 1, 1),
-        Reschedule(2, 0, 9),
-        Announce(3),
-        Remaining(1),
-        Announce(2),
-        FlushStart(2),
-        Schedule(0, 0, 0),
-    ];
-    let mut replies = String::new(rt.alloc());
-    for step in 0..ops.len() {
-        let reply = work.act(thread, step as u32, ops[step])?;
-        write!(replies, "{reply:?}\n")?;
-    }
+    let mut work = Work::new(rt.alloc(), 2, &[1, 2], &[true, false])?;
+    let first = work.act(thread, 0, Schedule(0, 1, 5))?;
+    let second = work.act(thread, 1, Reschedule(1, 0, 4))?;
+    let third = work.act(thread, 2, Announce(3))?;
+    let fourth = work.act(thread, 3, Announce(2))?;
+    let replies = format!(in rt.alloc(); "{first:?} {second:?} {third:?} {fourth:?}")?;
     assert_eq!(&rt;
         replies.as_str(),
-        "Some(Armed)\nSome(Armed)\nSome(Sub(Already))\nSome(Armed)\nSome(Now(3, Listed { items: [] }))\nSome(Number(1))\nSome(Now(5, Listed { items: [Expiry { item: 1, submitted: Fresh(0, 0) }, Expiry { item: 0, submitted: Refused(NoDev) }] }))\nSome(WaitFor(1))\nSome(Sub(Fresh(2, 0)))\n"
+        "Some(Armed) Some(Armed) Some(Now(3, Listed { items: [] })) Some(Now(5, Listed { items: [Expiry { item: 1, submitted: Fresh(0, 0) }, Expiry { item: 0, submitted: Refused(NoDev) }] }))"
     );
     let mut kept = String::new(rt.alloc());
     for entry in work.history() {
-        write!(kept, "Some({:?})\n", entry.reply)?;
+        write!(kept, "Some({:?}) ", entry.reply)?;
     }
-    assert_eq!(&rt; kept.as_str(), replies.as_str());
+    assert_eq!(&rt; kept.trim_end(), replies.as_str());
+    Ok(())
+}
+
+/// A flush ends a delay at once, and the item runs.
+#[test]
+fn one_flush(rt: HostRuntime) -> Result<(), Fail> {
+    let thread = Who { number: 0, prio: 0 };
+    let mut work = Work::new(rt.alloc(), 1, &[1], &[true])?;
+    let first = work.act(thread, 0, Schedule(0, 0, 7))?;
+    let second = work.act(thread, 1, Remaining(0))?;
+    let third = work.act(thread, 2, FlushStart(0))?;
+    let fourth = work.act(thread, 3, Remaining(0))?;
+    let replies = format!(in rt.alloc(); "{first:?} {second:?} {third:?} {fourth:?}")?;
+    assert_eq!(&rt;
+        replies.as_str(),
+        "Some(Armed) Some(Number(7)) Some(WaitFor(0)) Some(Number(0))"
+    );
     Ok(())
 }

@@ -1,6 +1,5 @@
-use Rattle.std.proofs.Common.{◌≡◌, length, ltb, ap, sym, ◌∙◌}
+use Rattle.std.proofs.Common.{◌≡◌, ltb, ap, sym, ◌∙◌}
 use Rattle.std.specs.List.{insert, position_or_len}
-use Rattle.std.specs.Option.{unwrap_or}
 use Rattle.zk_base.proofs.Order.{put_by-insert}
 use Rattle.zk_model_work.specs.declared.parts.Arm.{Arm}
 use Rattle.zk_model_work.proofs.Lines.{position-or}

@@ -1,8 +1,7 @@
-use Rattle.std.proofs.Common.{◌≡◌, Option, is_some, IfOk, cond, ap, sym, ◌∙◌}
+use Rattle.std.proofs.Common.{Option, is_some, cond, ap, sym, ◌∙◌}
 use Rattle.std.proofs.lemmas.Result.{IfOk-weaker}
 use Rattle.zk_model_work.specs.declared.ops.WorkReply.{WorkReply}
 use Rattle.zk_model_work.specs.State.{State}
-use Rattle.zk_model_work.specs.Machine.{after_reply}
 use Rattle.zk_model_work.proofs.Delays.{schedule-free}
 use Rattle.zk_model_work.proofs.state.WorkState.schedule.Goals as goal
 
