@@ -1,17 +1,15 @@
 -- What an announce makes of the engine: all that is due expires, one after another.
-use Rattle.std.proofs.Common.{◌≡◌, ℕ, zero, suc, ◌+◌, ◌-◌, ◌^◌, ◌<◌, ◌≤◌, Bool, true, false, not, cond, Option, Some, None, is_some, option_map, option_to_list, List, [], ◌∷◌, ◌++◌, length, map, take, drop, get_or, All, refl, sym, ap, subst, ◌∙◌, arith}
+use Rattle.std.proofs.Common.{◌≡◌, ℕ, zero, suc, ◌+◌, ◌-◌, ◌^◌, ◌<◌, ◌≤◌, true, not, Option, Some, None, is_some, option_map, option_to_list, List, [], ◌∷◌, ◌++◌, length, map, take, drop, get_or, refl, sym, ap, subst, ◌∙◌, arith}
 use Rattle.std.specs.Option.{option_map_or}
 use Rattle.std.specs.List.{filter}
 use Rattle.std.proofs.Math.ListN.{get_or-map}
 use Rattle.std.proofs.lemmas.List.{length-map, take_all}
-use Rattle.std.proofs.lemmas.Option.{same_Some}
 use Rattle.zk_base.specs.Order.{Ascends}
 use Rattle.zk_model_work.specs.declared.parts.Admission.{Admission}
 use Rattle.zk_model_work.specs.declared.parts.Fate.TheVariants.{Live}
 use Rattle.zk_model_work.specs.declared.parts.Arm.{Arm}
 use Rattle.zk_model_work.specs.declared.ops.Submitted.{Submitted}
 use Rattle.zk_model_work.specs.declared.ops.Expiry.{Expiry}
-use Rattle.zk_model_work.specs.declared.ops.WorkReply.{WorkReply}
 use Rattle.zk_model_work.specs.declared.ops.WorkReply.TheVariants.{Now}
 use Rattle.zk_model_work.specs.Questions.{due}
 use Rattle.zk_model_work.specs.State.{State, IsTimed}
@@ -21,7 +19,7 @@ use Rattle.zk_model_work.proofs.Lines.{submit_arms-more, expiries-more}
 use Rattle.zk_time.specs.declared.timeout.Timeout.{Timeout}
 use Rattle.zk_time.specs.Timeouts.{Timeouts, is_due, due_first, due_rest, drop_due}
 use Rattle.zk_time.proofs.Orders.{IsOrdered-due}
-use Rattle.zk_work.specs.Kept.{Kept, StandsFor, timeout_of, timeouts_of}
+use Rattle.zk_work.specs.Kept.{Kept, StandsFor, timeout_of}
 use Rattle.zk_work.specs.Engine as engine
 use Rattle.zk_work.specs.Engine.{answer_of, admitted, submitted, expired_next, expired, told, expiry_of}
 use Rattle.zk_work.proofs.Arms.{timeouts-expire, timeouts-due, arm_for, timeouts-for, front-due, first-due, rest-due}

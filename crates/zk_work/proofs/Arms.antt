@@ -1,5 +1,5 @@
 -- The live arms, as the timeout list keeps them.
-use Rattle.std.proofs.Common.{◌≡◌, ℕ, zero, suc, ◌+◌, ◌<◌, ◌≤◌, Bool, true, false, not, ◌&&◌, ◌||◌, cond, eqb, ltb, leb, Option, Some, None, is_some, option_map, List, [], ◌∷◌, ◌++◌, length, map, take, drop, get_or, refl, sym, ap, subst, ◌∙◌, arith}
+use Rattle.std.proofs.Common.{◌≡◌, ℕ, zero, suc, ◌+◌, ◌<◌, ◌≤◌, Bool, true, false, not, ◌&&◌, ◌||◌, cond, eqb, ltb, leb, Some, None, is_some, option_map, List, [], ◌∷◌, ◌++◌, length, map, drop, get_or, refl, sym, ap, subst, ◌∙◌, arith}
 use Rattle.std.specs.List.{filter, find, list_any, position, position_or_len}
 use Rattle.std.proofs.Math.Seq.{drop-cons}
 use Rattle.std.proofs.lemmas.Bool.Decides.{nat_tests}
@@ -10,9 +10,9 @@ use Rattle.zk_model_work.specs.declared.parts.Fate.TheVariants.{Live, Expired, D
 use Rattle.zk_model_work.specs.declared.parts.Arm.{Arm}
 use Rattle.zk_model_work.specs.Questions.{is_live, arms_item, armed, live_arm, due}
 use Rattle.zk_model_work.specs.Questions as model
-use Rattle.zk_model_work.specs.Machine.{disarm, disarm_one, expire, expire_one}
+use Rattle.zk_model_work.specs.Machine.{disarm, expire}
 use Rattle.zk_time.specs.declared.timeout.Timeout.{Timeout}
-use Rattle.zk_time.specs.Timeouts.{Timeouts, is_of, is_due, due_first, due_rest, Differ, IsOrdered}
+use Rattle.zk_time.specs.Timeouts.{is_of, is_due, due_first, due_rest, Differ}
 use Rattle.zk_work.specs.Kept.{timeout_of, live_of, timeouts_of}
 
 deadline_of : Timeout → ℕ

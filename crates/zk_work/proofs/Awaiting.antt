@@ -1,5 +1,5 @@
 -- What is asked of the waits: whether an item is being flushed, and whether a wait is over.
-use Rattle.std.proofs.Common.{◌≡◌, ℕ, ◌+◌, ◌-◌, ◌^◌, ◌<◌, Bool, true, false, not, ◌&&◌, ◌||◌, cond, eqb, ◌==◌, Option, Some, None, is_some, option_map, List, [], ◌∷◌, map, slice_get, refl, sym, ap, subst, ◌∙◌}
+use Rattle.std.proofs.Common.{◌≡◌, ℕ, ◌+◌, ◌-◌, ◌^◌, ◌<◌, Bool, true, false, not, ◌&&◌, ◌||◌, cond, eqb, ◌==◌, Option, Some, None, is_some, option_map, List, [], ◌∷◌, map, slice_get, refl, sym, ap, ◌∙◌}
 use Rattle.std.specs.Cmp.{first_so, second_so}
 use Rattle.std.specs.List.{position, list_any}
 use Rattle.std.specs.Option.{option_map_or, option_or}
@@ -18,7 +18,7 @@ use Rattle.zk_model_work.specs.declared.parts.Closing.TheVariants as closings
 use Rattle.zk_model_work.specs.declared.parts.Wait.{Wait}
 use Rattle.zk_model_work.specs.Questions.{is_waiting, is_running, is_open, is_ended, waits_as, runs_as, is_open_as, waiting, running, armed, is_cancelling, is_flushing, flushes, passes_at, weight}
 use Rattle.zk_model_work.specs.State.{State}
-use Rattle.zk_model_work.specs.Machine.{flags_of, flushed, wait_for, awaiting, cancel_wait, flush_wait, cancel, cancel_start, flush_start, has_come, is_unanswered, closes, may_close, answer_where, answer_one, answered_waits, drop_one}
+use Rattle.zk_model_work.specs.Machine.{flags_of, flushed, wait_for, has_come, is_unanswered, closes, may_close, answer_where, answer_one, answered_waits}
 use Rattle.zk_model_work.proofs.Overlaps.{position-none}
 use Rattle.zk_time.specs.Timeouts.{is_of, is_armed}
 use Rattle.zk_queue.specs.Open as active
@@ -27,7 +27,7 @@ use Rattle.zk_work.specs.Engine as engine
 use Rattle.zk_work.specs.Engine.{is_number, settled, cancelled, left_waits}
 use Rattle.zk_work.proofs.Numbers.{agree, both, IsAt, is_at, one-place, one-run, waiting-same, running-same, open-same}
 use Rattle.zk_work.proofs.Replies.{is_queued, runs_item, cancels}
-use Rattle.zk_work.proofs.There.{AllThere, Later-drop, found-begun, found-made}
+use Rattle.zk_work.proofs.There.{AllThere}
 use Rattle.zk_work.proofs.Arms.{armed-same}
 use Rattle.zk_work.proofs.Standing.{counted-stands}
 

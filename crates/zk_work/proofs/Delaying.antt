@@ -1,34 +1,29 @@
 -- What delays, and what an operation does to an item that has one, make of the engine.
-use Rattle.std.proofs.Common.{◌≡◌, ℕ, zero, suc, ◌+◌, ◌-◌, ◌*◌, ◌^◌, ◌<◌, ◌≤◌, Bool, true, false, not, ◌&&◌, ◌||◌, cond, eqb, ltb, Option, Some, None, is_some, option_map, option_to_list, List, [], ◌∷◌, ◌++◌, length, map, take, drop, get_or, slice_get, All, refl, sym, ap, subst, ◌∙◌, arith}
+use Rattle.std.proofs.Common.{◌≡◌, ℕ, ◌+◌, ◌-◌, ◌^◌, ◌<◌, ◌≤◌, Bool, true, false, not, ◌&&◌, ◌||◌, cond, eqb, Option, Some, None, is_some, option_map, option_to_list, List, [], ◌∷◌, ◌++◌, length, map, refl, sym, ap, subst, ◌∙◌, arith}
 use Rattle.std.specs.Option.{option_map_or}
 use Rattle.std.specs.List.{filter, list_any, find}
-use Rattle.std.proofs.lemmas.List.{append-nil, length-map, take_all}
 use Rattle.std.proofs.lemmas.List.Sums.{length-filter, count_by-le-length}
 use Rattle.zk_base.specs.declared.ids.Who.{Who}
 use Rattle.zk_base.specs.Order.{Ascends}
 use Rattle.zk_base.proofs.Order.{length-put_by}
 use Rattle.zk_model_work.specs.declared.parts.Life.TheVariants.{Waiting}
-use Rattle.zk_model_work.specs.declared.parts.Admission.{Admission}
 use Rattle.zk_model_work.specs.declared.parts.Arm.{Arm}
 use Rattle.zk_model_work.specs.declared.parts.Wait.{Wait}
 use Rattle.zk_model_work.specs.declared.parts.Awaited.TheVariants.{Cancel, Flush}
 use Rattle.zk_model_work.specs.declared.ops.Submitted.{Submitted}
-use Rattle.zk_model_work.specs.declared.ops.Expiry.{Expiry}
 use Rattle.zk_model_work.specs.Questions.{running, live_arm, due}
 use Rattle.zk_model_work.specs.State.{State, IsTimed}
 use Rattle.zk_model_work.specs.Machine.{submission, submit, submit_arms, expiries, admitted_to, arm, disarm, expire, delayed, is_pending, hurried, flushed, flush_start, flush_wait, cancel, cancel_start, cancel_wait, drop_one, wait_for, awaiting, announce}
-use Rattle.zk_model_work.proofs.Counts.{IsTimed-ticks}
-use Rattle.zk_model_work.proofs.Lines.{submit_arms-more, expiries-more}
 use Rattle.zk_model_work.proofs.Overlaps.{submission-admits, submission-within}
 use Rattle.zk_queue.specs.Open as active
 use Rattle.zk_time.specs.declared.timeout.Timeout.{Timeout}
 use Rattle.zk_time.specs.Timeouts.{Timeouts, is_of, is_due, is_armed, deadline_of, queue_of, count_due, due_first, due_rest, drop_due, IsOrdered}
 use Rattle.zk_time.specs.Timeouts as timeouts
 use Rattle.zk_time.proofs.Orders.{IsOrdered-arm, IsOrdered-disarm, IsOrdered-due}
-use Rattle.zk_work.specs.Kept.{Kept, IsWhole, StandsFor, is_there, is_begun, timeout_of, timeouts_of}
+use Rattle.zk_work.specs.Kept.{Kept, IsWhole, StandsFor, is_there, timeout_of, timeouts_of}
 use Rattle.zk_work.specs.Engine as engine
 use Rattle.zk_work.specs.Engine.{answer_of, admitted, submitted, disarmed, settled, cancelled, expired_next, expired, told, expiry_of}
-use Rattle.zk_work.proofs.Arms.{timeouts-arm, timeouts-disarm, timeouts-expire, timeouts-due, armed-same, found-same, arm_for, timeouts-for, front-due, first-due, rest-due}
+use Rattle.zk_work.proofs.Arms.{timeouts-arm, timeouts-disarm, armed-same, found-same}
 use Rattle.zk_work.proofs.Replies.{answer-same, is_queued, cancels}
 use Rattle.zk_work.proofs.There.{Later-drop, found-begun, found-made}
 use Rattle.zk_work.proofs.Awaiting.{runs_by, flushed-same, new-wait}

@@ -1,5 +1,4 @@
-use Rattle.std.proofs.Common.{◌≡◌, false, sym, ap, subst, ◌∙◌}
-use Rattle.zk_time.specs.Timeouts as timeouts
+use Rattle.std.proofs.Common.{◌≡◌, sym, ap, subst, ◌∙◌}
 use Rattle.zk_time.specs.Timeouts.{Timeouts, is_armed}
 use Rattle.zk_work.specs.Kept.{Kept, Held, IsWhole}
 use Rattle.zk_work.proofs.Delaying.{disarmed-whole, disarmed-free}

@@ -1,6 +1,5 @@
 use Rattle.std.proofs.Common.{ap}
 use Rattle.zk_model_work.specs.Machine.{admitted_to}
-use Rattle.zk_work.specs.Kept.{IsWhole}
 use Rattle.zk_work.proofs.engine.WorkEngine.take.Goals as goal
 
 pub admit-requires-clause-may : goal.admit-requires-clause-may

@@ -1,4 +1,4 @@
-use Rattle.std.proofs.Common.{Some, refl, sym, subst, ◌∙◌, ap}
+use Rattle.std.proofs.Common.{Some, sym, subst, ◌∙◌, ap}
 use Rattle.zk_model_work.specs.declared.ops.WorkReply.{WorkReply}
 use Rattle.zk_model_work.specs.Machine.{work_next}
 use Rattle.zk_work.specs.Kept.{StandsFor}
