@@ -1,6 +1,6 @@
 -- Elements by key: one more, a filter, a map, a bound, and the place where one is put in.
-use Rattle.std.proofs.Common.{◌≡◌, ℕ, suc, ◌+◌, ◌<◌, ◌≤◌, Bool, true, false, not, ◌||◌, cond, ltb, leb, List, [], ◌∷◌, ◌++◌, length, map, reverse, take, drop, All, refl, sym, ap, subst, ◌∙◌, ◌⊎◌, inl, inr, arith}
-use Rattle.std.specs.List.{filter, list_any, Contains, insert, position_or_len}
+use Rattle.std.proofs.Common.{◌≡◌, ℕ, suc, ◌+◌, ◌<◌, ◌≤◌, Bool, true, false, not, ◌||◌, cond, ltb, leb, Some, List, [], ◌∷◌, ◌++◌, length, map, reverse, take, drop, All, refl, sym, ap, subst, ◌∙◌, ◌⊎◌, inl, inr, arith}
+use Rattle.std.specs.List.{filter, list_any, Contains, insert, position_or_len, find, slice_get}
 use Rattle.std.proofs.lemmas.Bool.{lt-ltb, le-ltb, le-leb, lt-leb, cases_lt}
 use Rattle.std.proofs.lemmas.List.{append-nil, append_assoc, reverse-append, take-append-drop}
 use Rattle.std.proofs.lemmas.List.Elements.{All-nil, All-cons, All-head, All-tail, All-weaker, All-push, All-filter, All-contains, All-contains_itself, filter_agree}
@@ -255,6 +255,10 @@ filter-put_all_by {A} p key sorted (x ∷ xs) up =
 pub filter-by_key : {A : Type 0} (p : A → Bool) (key : A → ℕ) (xs : List A) → filter p (by_key key xs) ≡ by_key key (filter p xs)
 filter-by_key p key xs = filter-put_all_by p key [] xs tt
 
+-- as many pass a test
+pub length-filter_by_key : {A : Type 0} (p : A → Bool) (key : A → ℕ) (xs : List A) → length (filter p (by_key key xs)) ≡ length (filter p xs)
+length-filter_by_key p key xs = ap length (filter-by_key p key xs) ∙ length-by_key key (filter p xs)
+
 put_all_by-ascending : {A : Type 0} (key : A → ℕ) (sorted xs : List A) → Ascends key (sorted ++ xs) → put_all_by key sorted xs ≡ sorted ++ xs
 put_all_by-ascending key sorted [] up = sym (append-nil sorted)
 put_all_by-ascending {A} key sorted (x ∷ xs) up =
@@ -267,6 +271,26 @@ put_all_by-ascending {A} key sorted (x ∷ xs) up =
 -- what stands in order already stays as it is
 pub by_key-ascending : {A : Type 0} (key : A → ℕ) (xs : List A) → Ascends key xs → by_key key xs ≡ xs
 by_key-ascending key xs up = put_all_by-ascending key [] xs up
+
+-- a search gives the first of those that pass
+pub find-filter : {A : Type 0} (p : A → Bool) (xs : List A) → find p xs ≡ slice_get (filter p xs) 0
+find-filter p [] = refl
+find-filter {A} p (x ∷ xs) = at (p x) (find-filter p xs) where
+  at : (b : Bool) → find p xs ≡ slice_get (filter p xs) 0 → cond b (Some x) (find p xs) ≡ slice_get (cond b (x ∷ filter p xs) (filter p xs)) 0
+  at true rest = refl
+  at false rest = rest
+
+Ascends-short : {A : Type 0} (key : A → ℕ) (xs : List A) → length xs ≤ 1 → Ascends key xs
+Ascends-short key [] short = tt
+Ascends-short {A} key (x ∷ []) short = (All-nil (λ (y : A). key x ≤ key y), tt)
+Ascends-short key (x ∷ y ∷ ys) short = absurd (omega arith)
+
+-- where at most one passes, it is found in any order
+pub find-by_key : {A : Type 0} (p : A → Bool) (key : A → ℕ) (xs : List A) → length (filter p xs) ≤ 1 → find p (by_key key xs) ≡ find p xs
+find-by_key {A} p key xs once =
+    find-filter p (by_key key xs)
+    ∙ ap (λ (l : List A). slice_get l 0) (filter-by_key p key xs ∙ by_key-ascending key (filter p xs) (Ascends-short key (filter p xs) once))
+    ∙ sym (find-filter p xs)
 
 -- A list in order, at a bound: those whose key isn't above it are its front.
 

@@ -5,11 +5,20 @@ const THREADS: u32 = 60;
 
 const ITEMS: u32 = 256;
 
-/// How many submissions each thread makes: 4,020 in all.
-const SUBMISSIONS: u32 = 67;
+/// How many calls each thread makes: 4,020 in all.
+const CALLS: u32 = 67;
+
+/// What the calls of a scenario are.
+#[derive(Clone, Copy)]
+pub enum Calls {
+    /// Submissions to one queue.
+    Submissions,
+    /// Delays that are set anew, of up to 256 items that are armed at a time.
+    Reschedules,
+}
 
 /// The text of the scenario.
-pub fn submissions(alloc: Global) -> Result<Vec<u8>, AllocError> {
+pub fn text_of(alloc: Global, calls: Calls) -> Result<Vec<u8>, AllocError> {
     let mut text = String::from_str(alloc, "zk 1\n")?;
     for thread in 0..THREADS {
         write!(text, "thread t{thread} 0 super\n")?;
@@ -19,16 +28,20 @@ pub fn submissions(alloc: Global) -> Result<Vec<u8>, AllocError> {
         write!(text, "item w{item}\n")?;
     }
     for thread in 0..THREADS {
-        script(&mut text, thread)?;
+        script(&mut text, thread, calls)?;
     }
     Ok(text.into_bytes())
 }
 
-fn script(text: &mut String, thread: u32) -> Result<(), AllocError> {
+fn script(text: &mut String, thread: u32, calls: Calls) -> Result<(), AllocError> {
     write!(text, "script t{thread}\n")?;
-    for call in 0..SUBMISSIONS {
+    for call in 0..CALLS {
         let item = thread.wrapping_mul(31).wrapping_add(call.wrapping_mul(7)) % ITEMS;
-        write!(text, "submit w{item} q0\n")?;
+        let delay = thread.wrapping_mul(17).wrapping_add(call.wrapping_mul(13)) % 1000;
+        match calls {
+            Calls::Submissions => write!(text, "submit w{item} q0\n")?,
+            Calls::Reschedules => write!(text, "reschedule w{item} q0 {}\n", delay + 1)?,
+        }
     }
     text.push_str("end\n")
 }

@@ -8,7 +8,8 @@ ghost use Rattle.zk_cli.specs.Kept.{HistoriesKeepLaws};
 use std::alloc::Global;
 use zk_base::{NoMemory, Status, put, put_decimal};
 use zk_model_work::{
-    begins_in_order, cancel_holds, drain_holds, flush_holds, never_overlaps, plug_holds, runs_once,
+    begins_in_order, cancel_holds, delays_hold, drain_holds, flush_holds, never_overlaps,
+    plug_holds, runs_once,
 };
 use zk_replay::replay;
 use zk_scenario::{Scenario, ScenarioRefused, Why, read_scenario};
@@ -49,6 +50,7 @@ fn histories_keep_laws()
     flush_holds();
     drain_holds();
     plug_holds();
+    delays_hold();
 }
 
 /// The status of a run with this ending.

@@ -174,6 +174,35 @@ const WAITS: [(&str, Status, &str, &str); 10] = [
     ),
 ];
 
+/// Delays, each with its trace.
+const DELAYS: [(&str, &str, &str); 5] = [
+    (
+        "deadlines in order",
+        "queue q1 0 on\nscript t0\nschedule w0 q0 5\nschedule w1 q0 5\nschedule w2 q1 6\nreschedule w0 q0 5\ndrain q1 plug\ntick 5\ntick 1\nend\n",
+        "zt 1\nended\nservice work\nt0.0 schedule w0 q0 5 = 1\nt0.1 schedule w1 q0 5 = 1\nt0.2 schedule w2 q1 6 = 1\nt0.3 reschedule w0 q0 5 = 1\nt0.4 drainstart q1 plug = 0\nt0.5 announce 5 = now 5 w1:1:a0:q0 w0:1:a1:q0\nq0.0 begin q0 = w1 a0\nq0.1 end q0 = ok\nt0.7 announce 1 = now 6 w2:busy\nq0.2 begin q0 = w0 a1\nq0.3 end q0 = ok\nservice clock\nt0.6 announce 5 = now 5\nt0.8 announce 1 = now 6\nplayer t0 done\n0 schedule = 1\n1 schedule = 1\n2 schedule = 1\n3 reschedule = 1\n4 drain = 0\n6 tick = 0\n8 tick = 0\nplayer t1 done\nplayer q0 done\nplayer q1 done\n",
+    ),
+    (
+        "a flush of a delayed item",
+        "script t0\nschedule w0 q0 7\ntick 3\nremaining w0\nflush w0\nremaining w0\nend\n",
+        "zt 1\nended\nservice work\nt0.0 schedule w0 q0 7 = 1\nt0.1 announce 3 = now 3\nt0.3 remaining w0 = 4\nt0.4 flushstart w0 = wait a0\nq0.0 begin q0 = w0 a0\nq0.1 end q0 = ok\nt0.5 flushdone 3 = true\nt0.6 remaining w0 = 0\nservice clock\nt0.2 announce 3 = now 3\nplayer t0 done\n0 schedule = 1\n2 tick = 0\n3 remaining = 4\n5 flush = true\n6 remaining = 0\nplayer t1 done\nplayer q0 done\n",
+    ),
+    (
+        "a delay that is set anew",
+        "script t0\nreschedule w0 q0 20\ntick 15\nschedule w0 q0 1\nreschedule w0 q0 20\ntick 19\ntick 1\nend\n",
+        "zt 1\nended\nservice work\nt0.0 reschedule w0 q0 20 = 1\nt0.1 announce 15 = now 15\nt0.3 schedule w0 q0 1 = 0\nt0.4 reschedule w0 q0 20 = 1\nt0.5 announce 19 = now 34\nt0.7 announce 1 = now 35 w0:1:a0:q0\nq0.0 begin q0 = w0 a0\nq0.1 end q0 = ok\nservice clock\nt0.2 announce 15 = now 15\nt0.6 announce 19 = now 34\nt0.8 announce 1 = now 35\nplayer t0 done\n0 reschedule = 1\n2 tick = 0\n3 schedule = 0\n4 reschedule = 1\n6 tick = 0\n8 tick = 0\nplayer t1 done\nplayer q0 done\n",
+    ),
+    (
+        "a delay that a cancel takes back",
+        "script t0\nschedule w0 q0 2\nschedule w1 q0 2\ncancel w0\ncancelsync w1\ncancelsync w1\ntick 2\nend\n",
+        "zt 1\nended\nservice work\nt0.0 schedule w0 q0 2 = 1\nt0.1 schedule w1 q0 2 = 1\nt0.2 cancel w0 = -\nt0.3 cancelstart w1 = true\nt0.4 cancelstart w1 = false\nt0.5 announce 2 = now 2\nservice clock\nt0.6 announce 2 = now 2\nplayer t0 done\n0 schedule = 1\n1 schedule = 1\n2 cancel = -\n3 cancelsync = true\n4 cancelsync = false\n6 tick = 0\nplayer t1 done\nplayer q0 done\n",
+    ),
+    (
+        "no delay, a queue that is off, and a handler that ticks while its queue drains",
+        "queue q2 0 off\nscript t0\nschedule w0 q2 0\nschedule w0 q0 0\nschedule w1 q0 1\ndrain q0 open\nend\nscript w0\nremaining w1\nremaining w1\ntick 1\nend\n",
+        "zt 1\nended\nservice work\nt0.0 schedule w0 q2 0 = nodev\nt0.1 schedule w0 q0 0 = 1 a0 q0\nq0.0 begin q0 = w0 a0\nt0.2 schedule w1 q0 1 = 1\nq0.1 remaining w1 = 1\nt0.3 drainstart q0 open = wait\nq0.2 remaining w1 = 1\nq0.3 announce 1 = now 1 w1:busy\nq0.5 end q0 = ok\nt0.4 draindone 5 = 1\nservice clock\nq0.4 announce 1 = now 1\nplayer t0 done\n0 schedule = nodev\n1 schedule = 1\n2 schedule = 1\n4 drain = 1\nplayer t1 done\nplayer q0 done\n1 remaining = 1\n2 remaining = 1\n4 tick = 0\nplayer q2 done\n",
+    ),
+];
+
 fn words_of(rt: &HostRuntime, words: &[&str]) -> Result<Vec<String>, Fail> {
     let mut made = Vec::new(rt.alloc());
     for word in words {
@@ -230,6 +259,18 @@ fn sync_cancels_and_flushes_print_their_traces(rt: HostRuntime) -> Result<(), Fa
         let (got, output) = outcome(&rt, &["replay"], &input)?;
         assert_eq!(rt; got, status, "{name}");
         let wanted = joined(&rt, &[FRONT, scripts, trace])?;
+        assert!(rt; output.as_slice() == wanted.as_slice(), "{name}");
+    }
+    Ok(())
+}
+
+#[test]
+fn delays_print_their_traces(rt: HostRuntime) -> Result<(), Fail> {
+    for (name, scripts, trace) in DELAYS {
+        let input = joined(&rt, &[FRONT, scripts])?;
+        let (status, output) = outcome(&rt, &["replay"], &input)?;
+        let wanted = joined(&rt, &[FRONT, scripts, trace])?;
+        assert_eq!(rt; status, Status::Success, "{name}");
         assert!(rt; output.as_slice() == wanted.as_slice(), "{name}");
     }
     Ok(())

@@ -1,6 +1,9 @@
 ghost use Rattle.std.specs.Prelude.{◌+◌, ◌<◌, ◌≤◌, length, IfOk};
 
-use crate::WorkOp::{Begin, Cancel, DrainDone, DrainStart, End, Start, Submit, Unplug};
+use crate::WorkOp::{
+    Announce, Begin, Cancel, CancelDone, CancelStart, DrainDone, DrainStart, End, FlushDone,
+    FlushStart, Remaining, Reschedule, Schedule, Start, Submit, Unplug,
+};
 use crate::{WorkOp, WorkReply, WorkState, work_next};
 use std::alloc::Global;
 use std::process::Abort;
@@ -121,6 +124,68 @@ fn plugs(rt: HostRuntime) -> Result<(), Fail> {
             (2, End(0), "Some(Done)"),
             (0, DrainDone(6), "Some(Number(1))"),
             (0, Submit(0, None), "Some(Sub(Fresh(1, 0)))"),
+        ],
+    )
+}
+
+/// Equal deadlines end in the order of arming, an item that is armed anew goes to the end, and what a
+/// queue refuses is told.
+#[test]
+fn expires(rt: HostRuntime) -> Result<(), Fail> {
+    play(
+        &rt,
+        rt.alloc(),
+        &[
+            (0, Schedule(0, 0, 5), "Some(Armed)"),
+            (0, Schedule(1, 0, 5), "Some(Armed)"),
+            (0, Schedule(2, 1, 6), "Some(Armed)"),
+            (0, Schedule(0, 1, 9), "Some(Sub(Already))"),
+            (0, Reschedule(0, 0, 5), "Some(Armed)"),
+            (0, Announce(4), "Some(Now(4, Listed { items: [] }))"),
+            (0, Remaining(2), "Some(Number(2))"),
+            (
+                0,
+                Announce(1),
+                "Some(Now(5, Listed { items: [Expiry { item: 1, submitted: Fresh(0, 0) }, Expiry { item: 0, submitted: Fresh(1, 0) }] }))",
+            ),
+            (
+                0,
+                Announce(1),
+                "Some(Now(6, Listed { items: [Expiry { item: 2, submitted: Refused(NoDev) }] }))",
+            ),
+            (0, Remaining(2), "Some(Number(0))"),
+            (2, Begin(0), "Some(Run(1, 0))"),
+        ],
+    )
+}
+
+/// A delay that is over at once, one that a cancel takes back, and one that a flush ends early.
+#[test]
+fn delays(rt: HostRuntime) -> Result<(), Fail> {
+    play(
+        &rt,
+        rt.alloc(),
+        &[
+            (0, Schedule(0, 0, 0), "Some(Sub(Fresh(0, 0)))"),
+            (0, Schedule(0, 0, 3), "Some(Sub(Already))"),
+            (0, Reschedule(0, 0, 3), "Some(Armed)"),
+            (0, Cancel(0), "Some(Flags(0))"),
+            (0, Announce(3), "Some(Now(3, Listed { items: [] }))"),
+            (0, Schedule(1, 0, 7), "Some(Armed)"),
+            (0, FlushStart(1), "Some(WaitFor(1))"),
+            (0, Remaining(1), "Some(Number(0))"),
+            (2, Begin(0), "Some(Run(1, 1))"),
+            (0, CancelStart(1), "Some(Wait)"),
+            (0, Schedule(1, 0, 2), "Some(Sub(Already))"),
+            (0, Reschedule(1, 0, 2), "Some(Armed)"),
+            (2, End(0), "Some(Done)"),
+            (0, FlushDone(6), "Some(Truth(true))"),
+            (0, CancelDone(9), "Some(Truth(true))"),
+            (
+                0,
+                Announce(2),
+                "Some(Now(5, Listed { items: [Expiry { item: 1, submitted: Fresh(2, 0) }] }))",
+            ),
         ],
     )
 }

@@ -1,25 +1,18 @@
 -- An item is armed.
-use Rattle.std.proofs.Common.{◌≡◌, ℕ, zero, suc, ◌+◌, ◌-◌, ◌<◌, ◌≤◌, ◌^◌, Bool, true, false, not, ◌||◌, ◌==◌, cond, eqb, leb, Option, Some, None, is_some, option_map, List, [], ◌∷◌, ◌++◌, length, map, reverse, take, drop, get_or, All, refl, sym, ap, subst, ◌∙◌, ◌⊎◌, inl, inr, eq-eqb, arith}
-use Rattle.std.specs.List.{filter, list_any, find, insert, remove, position, position_or_len, IsDistinct, AllByRecursion}
-use Rattle.std.specs.Option.{option_to_list}
-use Rattle.std.proofs.lemmas.Bool.{or_parts, le-leb, lt-leb, eqb-true, cases_lt}
-use Rattle.std.proofs.lemmas.Bool.Decides.{nat_tests}
-use Rattle.std.proofs.lemmas.List.{append_assoc, append-nil, reverse-append, length-append, length-map, length-reverse, length-drop, take_more, get_or_default, drop_more, take_at, drop_at}
-use Rattle.std.proofs.lemmas.List.Elements.{All-nil, All-cons, All-head, All-tail, All-weaker, filter-append}
-use Rattle.std.proofs.lemmas.List.Quantifiers.{position-Some}
-use Rattle.std.proofs.lemmas.List.Folds.{list_any-append, find-append}
-use Rattle.std.proofs.lemmas.Map.Keys.{IsDistinct-cons}
-use Rattle.std.proofs.lemmas.Map.Steps.{length-le_from_distinct_below}
-use Rattle.zk_base.specs.Order.{put_by, Ascends}
+use Rattle.std.proofs.Common.{◌≡◌, ℕ, zero, suc, ◌+◌, ◌-◌, ◌<◌, ◌≤◌, ◌^◌, false, List, [], ◌∷◌, ◌++◌, length, reverse, take, drop, get_or, All, refl, sym, ap, subst, ◌∙◌, ◌⊎◌, inl, inr, arith}
+use Rattle.std.specs.List.{insert}
+use Rattle.std.proofs.lemmas.List.{append_assoc, reverse-append}
+use Rattle.std.proofs.lemmas.List.Elements.{All-weaker}
+use Rattle.zk_base.specs.Order.{put_by}
 use Rattle.zk_base.proofs.Order.{put_by-between}
 use Rattle.zk_time.specs.declared.arm.Arm.{Arm}
 use Rattle.zk_time.specs.declared.deltas.Place.{Place}
 use Rattle.zk_time.specs.declared.timeout.Timeout.{Timeout}
-use Rattle.zk_time.specs.Timeouts.{Timeouts, is_of, is_due, is_armed, deadline_of, count_due, arm, disarm, due_first, due_rest, drop_due, pair_of, Differ, IsOrdered}
-use Rattle.zk_time.specs.Deltas.{is_arm_of, span, timeouts_after, live_of, earlier, later, longer, shorter, IsPlace, seen_of, IsKept}
-use Rattle.zk_time.proofs.Arms.{span-cons, span-append, span-reverse, from_moment, upto_span, Ascends-timeouts, length-live, list_any-live, timeouts-append, timeouts-longer, FirstAbove, timeouts-shorter, all_above, span-longer, span-shorter, reverse-parts, live-parts, later_first}
+use Rattle.zk_time.specs.Timeouts.{Timeouts, is_armed, arm, IsOrdered}
+use Rattle.zk_time.specs.Deltas.{span, timeouts_after, live_of, earlier, later, shorter, IsPlace, seen_of, IsKept}
+use Rattle.zk_time.proofs.Arms.{span-cons, span-append, span-reverse, upto_span, timeouts-append, FirstAbove, timeouts-shorter, all_above, reverse-parts, live-parts, later_first}
 use Rattle.zk_time.proofs.Room.{ordered}
-use Rattle.zk_time.proofs.Orders.{Differ-around, IsOrdered-arm, IsOrdered-disarm, IsOrdered-due}
+use Rattle.zk_time.proofs.Orders.{IsOrdered-arm}
 
 pub first_above : (arms : List Arm) (deadline : ℕ) (p : Place) → IsPlace arms deadline p → FirstAbove p.delta (later p.index arms)
 first_above arms deadline p place = by p.index refl where

@@ -1,5 +1,5 @@
 -- What arms say, and what a change of one delta changes of it.
-use Rattle.std.proofs.Common.{◌≡◌, ℕ, zero, suc, ◌+◌, ◌-◌, ◌<◌, ◌≤◌, Bool, true, false, ◌||◌, List, [], ◌∷◌, ◌++◌, length, reverse, take, drop, get_or, All, refl, sym, ap, subst, ◌∙◌, arith}
+use Rattle.std.proofs.Common.{◌≡◌, ℕ, suc, ◌+◌, ◌-◌, ◌<◌, ◌≤◌, ◌||◌, List, [], ◌∷◌, ◌++◌, length, reverse, take, drop, get_or, All, refl, sym, ap, ◌∙◌, arith}
 use Rattle.std.specs.List.{list_any}
 use Rattle.std.proofs.lemmas.List.{reverse-append, take-append-drop, length-reverse, take_more}
 use Rattle.std.proofs.lemmas.List.Elements.{All-nil, All-cons, All-weaker}
@@ -94,10 +94,6 @@ all_above moment by (a ∷ arms) above =
 pub span-longer : (by : ℕ) (arms : List Arm) → span (longer by arms) ≤ span arms + by
 span-longer by [] = omega arith
 span-longer by (a ∷ arms) = omega (arith, span-cons a arms, span-cons (record a { delta = a.delta + by }) arms)
-
-pub span-shorter : (by : ℕ) (arms : List Arm) → FirstAbove by arms → span (shorter by arms) ≡ span arms - by
-span-shorter by [] above = omega arith
-span-shorter by (a ∷ arms) above = omega (arith, span-cons a arms, span-cons (record a { delta = a.delta - by }) arms)
 
 -- at any place: first those that expire earlier, then those that expire later
 pub reverse-parts : (index : ℕ) (arms : List Arm) → reverse arms ≡ earlier index arms ++ later index arms

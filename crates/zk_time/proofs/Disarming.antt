@@ -1,26 +1,19 @@
 -- An item is disarmed, or the first expires: what is said by the others stays.
-use Rattle.std.proofs.Common.{◌≡◌, ℕ, zero, suc, ◌+◌, ◌-◌, ◌<◌, ◌≤◌, ◌^◌, Bool, true, false, not, ◌||◌, ◌==◌, cond, eqb, ltb, leb, Option, Some, None, is_some, option_map, List, [], ◌∷◌, ◌++◌, length, map, reverse, take, drop, get_or, All, refl, sym, ap, subst, ◌∙◌, ◌⊎◌, inl, inr, eq-eqb, arith}
-use Rattle.std.specs.List.{filter, list_any, find, insert, remove, slice_get, position, position_or_len, IsDistinct, AllByRecursion}
-use Rattle.std.specs.Option.{option_to_list}
-use Rattle.std.proofs.lemmas.Bool.{or_parts, le-leb, lt-leb, eqb-true, cases_lt}
+use Rattle.std.proofs.Common.{◌≡◌, ℕ, suc, ◌+◌, ◌-◌, ◌<◌, ◌≤◌, Bool, true, false, not, ◌||◌, cond, ltb, Some, None, is_some, List, [], ◌∷◌, ◌++◌, length, reverse, take, drop, get_or, refl, sym, ap, subst, ◌∙◌, eq-eqb, arith}
+use Rattle.std.specs.List.{filter, list_any, remove, slice_get, position, position_or_len}
+use Rattle.std.proofs.lemmas.Bool.{or_parts, eqb-true}
 use Rattle.std.proofs.lemmas.Bool.Decides.{nat_tests}
-use Rattle.std.proofs.lemmas.List.{append_assoc, append-nil, reverse-append, length-append, length-map, length-reverse, length-drop, take_more, get_or_default, drop_more, take_at, drop_at, length-take-le, drop_all, take_all}
+use Rattle.std.proofs.lemmas.List.{take_at, drop_at, length-take-le, drop_all, take_all}
 use Rattle.std.proofs.lemmas.Option.{slice_get_within, get_or_from_slice_get}
-use Rattle.std.proofs.lemmas.List.Elements.{All-nil, All-cons, All-head, All-tail, All-weaker, filter-append}
+use Rattle.std.proofs.lemmas.List.Elements.{filter-append}
 use Rattle.std.proofs.lemmas.List.Quantifiers.{position-Some}
-use Rattle.std.proofs.lemmas.List.Folds.{list_any-append, find-append}
-use Rattle.std.proofs.lemmas.Map.Keys.{IsDistinct-cons}
-use Rattle.std.proofs.lemmas.Map.Steps.{length-le_from_distinct_below}
-use Rattle.zk_base.specs.Order.{put_by, Ascends}
-use Rattle.zk_base.proofs.Order.{put_by-between}
 use Rattle.zk_time.specs.declared.arm.Arm.{Arm}
-use Rattle.zk_time.specs.declared.deltas.Place.{Place}
 use Rattle.zk_time.specs.declared.timeout.Timeout.{Timeout}
-use Rattle.zk_time.specs.Timeouts.{Timeouts, is_of, is_due, is_armed, deadline_of, count_due, arm, disarm, due_first, due_rest, drop_due, pair_of, Differ, IsOrdered}
-use Rattle.zk_time.specs.Deltas.{is_arm_of, span, timeouts_after, live_of, earlier, later, longer, shorter, IsPlace, seen_of, IsKept}
-use Rattle.zk_time.proofs.Arms.{span-cons, span-append, span-reverse, from_moment, upto_span, Ascends-timeouts, length-live, list_any-live, timeouts-append, timeouts-longer, FirstAbove, timeouts-shorter, all_above, span-longer, span-shorter, reverse-parts, live-parts, later_first}
+use Rattle.zk_time.specs.Timeouts.{Timeouts, is_of, is_armed, disarm, Differ, IsOrdered}
+use Rattle.zk_time.specs.Deltas.{is_arm_of, span, timeouts_after, live_of, earlier, later, longer, seen_of, IsKept}
+use Rattle.zk_time.proofs.Arms.{span-cons, span-append, span-reverse, list_any-live, timeouts-append, timeouts-longer, span-longer, reverse-parts, later_first}
 use Rattle.zk_time.proofs.Room.{ordered}
-use Rattle.zk_time.proofs.Orders.{Differ-around, IsOrdered-arm, IsOrdered-disarm, IsOrdered-due}
+use Rattle.zk_time.proofs.Orders.{Differ-around, IsOrdered-disarm}
 
 -- The place of an item's arm.
 
@@ -61,7 +54,8 @@ after_live after front a back behind =
     ap (timeouts_after 0) behind ∙ timeouts-append 0 front (longer a.delta back)
     ∙ ap (λ (l : List Timeout). timeouts_after 0 front ++ l) (timeouts-longer (0 + span front) a.delta back)
 
-filter_absent : (item : ℕ) (xs : List Timeout) → list_any (is_of item) xs ≡ false → filter (λ a. not (is_of item a)) xs ≡ xs
+-- what isn't there isn't taken out
+pub filter_absent : (item : ℕ) (xs : List Timeout) → list_any (is_of item) xs ≡ false → filter (λ a. not (is_of item a)) xs ≡ xs
 filter_absent item [] none = refl
 filter_absent item (x ∷ xs) none =
     let parts = or_parts (is_of item x) (list_any (is_of item) xs) none in
@@ -165,30 +159,3 @@ takes_last items arms popped after t a index view kept last front at same more =
       before = last_first arms a last;
       behind = reverse-parts index after ∙ ap (λ (l : List Arm). l ++ later index after) none ∙ rest;
     }
-
-first_live : (items : ℕ) (arms : List Arm) (t : Timeouts) (a : Arm) (back : List Arm) → seen_of items arms ≡ t → reverse arms ≡ a ∷ back → t.live ≡ said [] a ∷ timeouts_after (0 + span [] + a.delta) back
-first_live items arms t a back view before = ap (λ (t : Timeouts). t.live) (sym view) ∙ before_live arms [] a back before
-
-pub due_yes : (items : ℕ) (arms after : List Arm) (t : Timeouts) (a : Arm) (back : List Arm) (now : ℕ) → Takes items arms after t [] a back → a.delta ≤ now →
-    (Some (a.item, a.queue) ≡ option_map pair_of (due_first now t.live)) × (seen_of items after ≡ drop_due t now)
-due_yes items arms after t a back now k within =
-    let rest = timeouts_after (0 + span [] + a.delta) back in
-    let was = first_live items arms t a back k.view k.before in
-    let due = le-leb (0 + span [] + a.delta) now (omega arith) in
-    let items_are = ap (λ (t : Timeouts). t.items) k.view in
-    let first : due_first now t.live ≡ Some (said [] a) = ap (due_first now) was ∙ ap (λ (b : Bool). cond b (Some (said [] a)) None) due in
-    let others : due_rest now t.live ≡ rest = ap (due_rest now) was ∙ ap (λ (b : Bool). cond b rest (said [] a ∷ rest)) due in (
-      sym (ap (option_map pair_of) first),
-      ap (λ (l : List Timeout). let s : Timeouts = record { items = items; live = l } in s) (after_live after [] a back k.behind ∙ sym others)
-          ∙ ap (λ (n : ℕ). let s : Timeouts = record { items = n; live = due_rest now t.live } in s) items_are,
-    )
-
-pub due_no : (items : ℕ) (arms : List Arm) (t : Timeouts) (a : Arm) (back : List Arm) (now : ℕ) → seen_of items arms ≡ t → reverse arms ≡ a ∷ back → now < a.delta →
-    (None ≡ option_map pair_of (due_first now t.live)) × (t ≡ drop_due t now)
-due_no items arms t a back now view before early =
-    let rest = timeouts_after (0 + span [] + a.delta) back in
-    let was = first_live items arms t a back view before in
-    let later = lt-leb (0 + span [] + a.delta) now (omega arith) in
-    let first : due_first now t.live ≡ None = ap (due_first now) was ∙ ap (λ (b : Bool). cond b (Some (said [] a)) None) later in
-    let others : due_rest now t.live ≡ t.live = ap (due_rest now) was ∙ ap (λ (b : Bool). cond b rest (said [] a ∷ rest)) later ∙ sym was in
-    (sym (ap (option_map pair_of) first), ap (λ (l : List Timeout). let s : Timeouts = record { items = t.items; live = l } in s) (sym others))

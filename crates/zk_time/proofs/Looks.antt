@@ -1,28 +1,21 @@
 -- What is read off a timeout list.
-use Rattle.std.proofs.Common.{◌≡◌, ℕ, zero, suc, ◌+◌, ◌-◌, ◌<◌, ◌≤◌, ◌^◌, Bool, true, false, not, ◌||◌, ◌==◌, cond, eqb, leb, Option, Some, None, is_some, option_map, List, [], ◌∷◌, ◌++◌, length, map, reverse, take, drop, get_or, All, refl, sym, ap, subst, ◌∙◌, ◌⊎◌, inl, inr, eq-eqb, arith}
-use Rattle.std.specs.List.{filter, list_any, find, insert, remove, position, position_or_len, IsDistinct, AllByRecursion}
-use Rattle.std.specs.Option.{option_to_list}
-use Rattle.std.proofs.lemmas.Bool.{or_parts, le-leb, lt-leb, eqb-true, cases_lt}
-use Rattle.std.proofs.lemmas.Bool.Decides.{nat_tests}
-use Rattle.std.proofs.lemmas.List.{append_assoc, append-nil, reverse-append, length-append, length-map, length-reverse, length-drop, take_more, get_or_default, drop_more, take_at, drop_at}
-use Rattle.std.proofs.lemmas.List.Elements.{All-nil, All-cons, All-head, All-tail, All-weaker, filter-append}
+use Rattle.std.proofs.Common.{◌≡◌, ℕ, ◌+◌, ◌-◌, ◌<◌, ◌≤◌, Bool, true, false, cond, Some, None, is_some, option_map, List, [], ◌∷◌, ◌++◌, length, drop, get_or, All, refl, sym, ap, subst, ◌∙◌, eq-eqb, arith}
+use Rattle.std.specs.List.{filter, list_any, find, position}
+use Rattle.std.proofs.lemmas.Bool.{or_parts, le-leb, lt-leb, eqb-true}
+use Rattle.std.proofs.lemmas.List.{append-nil, length-reverse, length-drop, get_or_default}
+use Rattle.std.proofs.lemmas.List.Elements.{All-weaker, filter-append}
 use Rattle.std.proofs.lemmas.List.Quantifiers.{position-Some}
-use Rattle.std.proofs.lemmas.List.Folds.{list_any-append, find-append}
-use Rattle.std.proofs.lemmas.Map.Keys.{IsDistinct-cons}
-use Rattle.std.proofs.lemmas.Map.Steps.{length-le_from_distinct_below}
-use Rattle.zk_base.specs.Order.{put_by, Ascends}
-use Rattle.zk_base.proofs.Order.{put_by-between, filter_all, filter_none}
+use Rattle.zk_base.proofs.Order.{filter_all, filter_none}
 use Rattle.std.proofs.lemmas.List.Sums.{sum_by-drop_more}
 use Rattle.zk_time.proofs.Disarming.{is_some-place, said, before_live, around_place}
 use Rattle.zk_time.proofs.Arming.{first_above}
 use Rattle.zk_time.specs.declared.arm.Arm.{Arm}
 use Rattle.zk_time.specs.declared.deltas.Place.{Place}
 use Rattle.zk_time.specs.declared.timeout.Timeout.{Timeout}
-use Rattle.zk_time.specs.Timeouts.{Timeouts, is_of, is_due, is_armed, deadline_of, count_due, arm, disarm, due_first, due_rest, drop_due, pair_of, Differ, IsOrdered}
-use Rattle.zk_time.specs.Deltas.{is_arm_of, span, timeouts_after, live_of, earlier, later, longer, shorter, IsPlace, seen_of, IsKept}
-use Rattle.zk_time.proofs.Arms.{span-cons, span-append, span-reverse, from_moment, upto_span, Ascends-timeouts, length-live, length-timeouts, list_any-live, timeouts-append, timeouts-longer, FirstAbove, timeouts-shorter, all_above, span-longer, span-shorter, reverse-parts, live-parts, later_first}
-use Rattle.zk_time.proofs.Room.{ordered}
-use Rattle.zk_time.proofs.Orders.{Differ-around, IsOrdered-arm, IsOrdered-disarm, IsOrdered-due}
+use Rattle.zk_time.specs.Timeouts.{Timeouts, is_of, is_due, deadline_of, queue_of, count_due, Differ}
+use Rattle.zk_time.specs.Deltas.{is_arm_of, span, timeouts_after, live_of, earlier, later, IsPlace, seen_of, IsKept}
+use Rattle.zk_time.proofs.Arms.{span-reverse, upto_span, length-timeouts, all_above, live-parts}
+use Rattle.zk_time.proofs.Orders.{Differ-around}
 
 find_absent : (item : ℕ) (xs : List Timeout) → list_any (is_of item) xs ≡ false → find (is_of item) xs ≡ None
 find_absent item [] none = refl
@@ -42,11 +35,10 @@ deadline_none items arms t item view none =
     let absent = sym (is_some-place item arms) ∙ ap is_some none in
     ap (λ (t : Timeouts). deadline_of t item) (sym view) ∙ ap (option_map (λ (a : Timeout). a.deadline)) (find_absent item (live_of arms) absent)
 
--- the deadline of one that is armed, at this place
-pub deadline_some : (items : ℕ) (arms : List Arm) (t : Timeouts) (item index : ℕ) → seen_of items arms ≡ t → IsKept items arms → position (is_arm_of item) arms ≡ Some index →
-    Some (span (drop index arms)) ≡ deadline_of t item
-deadline_some items arms t item index view kept found =
-    let d : Arm = record { item = 0; queue = 0; delta = 0 } in
+-- what an item is armed with, at this place
+found_at : (items : ℕ) (arms : List Arm) (t : Timeouts) (item index : ℕ) (d : Arm) → seen_of items arms ≡ t → IsKept items arms → position (is_arm_of item) arms ≡ Some index →
+    find (is_of item) t.live ≡ Some (record { item = (get_or arms index d).item; queue = (get_or arms index d).queue; deadline = span (drop index arms) })
+found_at items arms t item index d view kept found =
     let at = position-Some (is_arm_of item) arms index d found in
     let a = get_or arms index d in
     let front = earlier (index + 1) arms in
@@ -60,10 +52,25 @@ deadline_some items arms t item index view kept found =
     let more = sum_by-drop_more (λ (a : Arm). a.delta) arms index d at.0 in
     let passed = span-reverse (drop (index + 1) arms) in
     let sum : span (drop index arms) ≡ 0 + span front + a.delta = omega arith in
-    sym (ap (λ (t : Timeouts). deadline_of t item) (sym view)
-    ∙ ap (λ (l : List Timeout). option_map (λ (a : Timeout). a.deadline) (find (is_of item) l)) was
-    ∙ ap (option_map (λ (a : Timeout). a.deadline)) (find_behind item (timeouts_after 0 front) (said front a) (timeouts_after (0 + span front + a.delta) back) absent same)
-    ∙ ap (λ (n : ℕ). Some n) (sym sum))
+    ap (λ (t : Timeouts). find (is_of item) t.live) (sym view) ∙ ap (find (is_of item)) was
+    ∙ find_behind item (timeouts_after 0 front) (said front a) (timeouts_after (0 + span front + a.delta) back) absent same
+    ∙ ap (λ (n : ℕ). Some (record { item = a.item; queue = a.queue; deadline = n })) (sym sum)
+
+-- the deadline of one that is armed, at this place
+pub deadline_some : (items : ℕ) (arms : List Arm) (t : Timeouts) (item index : ℕ) → seen_of items arms ≡ t → IsKept items arms → position (is_arm_of item) arms ≡ Some index →
+    Some (span (drop index arms)) ≡ deadline_of t item
+deadline_some items arms t item index view kept found =
+    let d : Arm = record { item = 0; queue = 0; delta = 0 } in
+    sym (ap (option_map (λ (a : Timeout). a.deadline)) (found_at items arms t item index d view kept found))
+
+-- and its queue
+pub queue_some : (items : ℕ) (arms : List Arm) (t : Timeouts) (item index : ℕ) (d : Arm) → seen_of items arms ≡ t → IsKept items arms → position (is_arm_of item) arms ≡ Some index → Some (get_or arms index d).queue ≡ queue_of t item
+queue_some items arms t item index d view kept found = sym (ap (option_map (λ (a : Timeout). a.queue)) (found_at items arms t item index d view kept found))
+
+pub queue_none : (items : ℕ) (arms : List Arm) (t : Timeouts) (item : ℕ) → seen_of items arms ≡ t → position (is_arm_of item) arms ≡ None → queue_of t item ≡ None
+queue_none items arms t item view none =
+    let absent = sym (is_some-place item arms) ∙ ap is_some none in
+    ap (λ (t : Timeouts). queue_of t item) (sym view) ∙ ap (option_map (λ (a : Timeout). a.queue)) (find_absent item (live_of arms) absent)
 
 -- how many have expired: those from the place on at which a new arm of this deadline would go in
 pub counts_due : (items : ℕ) (arms : List Arm) (t : Timeouts) (now : ℕ) (p : Place) → seen_of items arms ≡ t → IsPlace arms now p → length arms - p.index ≡ count_due t now

@@ -28,6 +28,10 @@ is_armed t item = list_any (is_of item) t.live
 abbrev pub deadline_of : Timeouts → ℕ → Option ℕ
 deadline_of t item = option_map (λ a. a.deadline) (find (is_of item) t.live)
 
+-- the queue that the item is to be submitted to, if it is armed
+abbrev pub queue_of : Timeouts → ℕ → Option ℕ
+queue_of t item = option_map (λ a. a.queue) (find (is_of item) t.live)
+
 -- how many have expired by this moment
 abbrev pub count_due : Timeouts → ℕ → ℕ
 count_due t now = length (filter (is_due now) t.live)

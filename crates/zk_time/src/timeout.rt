@@ -1,6 +1,7 @@
 /// An item that is armed, and when it expires.
 #[derive(Clone, Copy, Debug)]
 pub struct Timeout {
+    /// The item that is armed.
     pub item: u32,
     /// The queue that the item is to be submitted to.
     pub queue: u32,

@@ -1,5 +1,5 @@
 ghost use Rattle.std.specs.Prelude.{◌≡◌, ◌<◌, false, option_map, length, IfOk, IfSome};
-ghost use Rattle.zk_time.specs.Timeouts.{nothing_armed, is_armed, deadline_of, count_due, arm, disarm, due_first, drop_due, pair_of, IsOrdered};
+ghost use Rattle.zk_time.specs.Timeouts.{nothing_armed, is_armed, deadline_of, queue_of, count_due, arm, disarm, due_first, drop_due, pair_of, IsOrdered};
 
 use crate::arm::Arm;
 use crate::deltas::{lengthen, place_for, place_of, shorten, span};
@@ -33,7 +33,8 @@ impl TimeoutList {
     ///
     /// It takes all the memory that the later calls need.
     pub fn new(alloc: Global, items: u32) -> Result<TimeoutList, NoMemory>
-        ensures { IfOk result (λ t. t ≡ nothing_armed items) }
+        ensures made { IfOk result (λ t. t ≡ nothing_armed items) }
+        ensures ordered { IfOk result IsOrdered }
     {
         let arms = Vec::with_capacity(alloc, items as usize)?;
         Ok(TimeoutList { arms })
@@ -60,6 +61,14 @@ impl TimeoutList {
     {
         let index = place_of(&self.arms, item)?;
         Some(span(&self.arms[index..]))
+    }
+
+    /// The queue that the item is to be submitted to, if it is armed.
+    pub fn queue(&self, item: u32) -> Option<u32>
+        ensures { result ≡ queue_of self.now item }
+    {
+        let index = place_of(&self.arms, item)?;
+        Some(self.arms[index].queue)
     }
 
     /// How many items have expired by now and are still armed. It looks at no others.
@@ -112,12 +121,13 @@ impl TimeoutList {
         ensures ordered { IsOrdered self.new }
     {
         let arm = self.arms.last().copied()?;
-        if now < arm.delta {
+        let deadline = arm.delta;
+        if now < deadline {
             return None;
         }
         self.arms.pop();
         let end = self.arms.len();
-        lengthen(&mut self.arms, end, arm.delta);
+        lengthen(&mut self.arms, end, deadline);
         Some((arm.item, arm.queue))
     }
 }

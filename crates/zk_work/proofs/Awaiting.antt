@@ -10,7 +10,6 @@ use Rattle.zk_base.specs.declared.ids.Who.{Who}
 use Rattle.zk_model_work.specs.declared.parts.Life.{Life}
 use Rattle.zk_model_work.specs.declared.parts.Life.TheVariants.{Waiting, Running, Ended, Dropped}
 use Rattle.zk_model_work.specs.declared.parts.Admission.{Admission}
-use Rattle.zk_model_work.specs.declared.parts.Arm.{Arm}
 use Rattle.zk_model_work.specs.declared.parts.Queue.{Queue}
 use Rattle.zk_model_work.specs.declared.parts.Awaited.{Awaited}
 use Rattle.zk_model_work.specs.declared.parts.Awaited.TheVariants.{Cancel, Flush, Drain}
@@ -21,6 +20,7 @@ use Rattle.zk_model_work.specs.Questions.{is_waiting, is_running, is_open, is_en
 use Rattle.zk_model_work.specs.State.{State}
 use Rattle.zk_model_work.specs.Machine.{flags_of, flushed, wait_for, awaiting, cancel_wait, flush_wait, cancel, cancel_start, flush_start, has_come, is_unanswered, closes, may_close, answer_where, answer_one, answered_waits, drop_one}
 use Rattle.zk_model_work.proofs.Overlaps.{position-none}
+use Rattle.zk_time.specs.Timeouts.{is_of, is_armed}
 use Rattle.zk_queue.specs.Open as active
 use Rattle.zk_work.specs.Kept.{Kept, StandsFor, unanswered, is_there, is_begun}
 use Rattle.zk_work.specs.Engine as engine
@@ -28,7 +28,8 @@ use Rattle.zk_work.specs.Engine.{is_number, settled, cancelled, left_waits}
 use Rattle.zk_work.proofs.Numbers.{agree, both, IsAt, is_at, one-place, one-run, waiting-same, running-same, open-same}
 use Rattle.zk_work.proofs.Replies.{is_queued, runs_item, cancels}
 use Rattle.zk_work.proofs.There.{AllThere, Later-drop, found-begun, found-made}
-use Rattle.zk_work.proofs.Standing.{waits-stand, counted-stands, cancel-stands}
+use Rattle.zk_work.proofs.Arms.{armed-same}
+use Rattle.zk_work.proofs.Standing.{counted-stands}
 
 or-parts : (b c : Bool) → (b || c) ≡ true → (b ≡ false) → c ≡ true
 or-parts true c is none = absurd (cc)
@@ -149,12 +150,13 @@ module _ (k : Kept) (s : State) (st : StandsFor k s) where
   pub flags-same : (item : ℕ) → engine.flags_of k item ≡ flags_of s item
   flags-same item =
       let m = active.marks_of k.active item in
-      let is_delayed : false ≡ is_some (armed s.arms item) = sym (ap (λ (arms : List Arm). is_some (armed arms item)) st.arms) in
+      let held = is_armed k.timeouts item in
+      let is_delayed : held ≡ is_some (armed s.arms item) = ap (list_any (is_of item)) st.arms ∙ armed-same s.arms item in
       let five : Bool → Bool → Bool → Bool → Bool → ℕ = λ a b c d e. weight 1 a + weight 2 b + weight 4 c + weight 8 d + weight 16 e in
       let f = engine.is_flushing k.active k.waits item in
-      ap (λ a. five a m.cancelling (active.is_queued k.active item) false f) (runs_item k s st item)
-      ∙ ap (λ b. five (is_some (running s.admissions item)) b (active.is_queued k.active item) false f) (cancels k s st item)
-      ∙ ap (λ c. five (is_some (running s.admissions item)) (is_cancelling s.admissions s.marks item) c false f) (is_queued k s st item)
+      ap (λ a. five a m.cancelling (active.is_queued k.active item) held f) (runs_item k s st item)
+      ∙ ap (λ b. five (is_some (running s.admissions item)) b (active.is_queued k.active item) held f) (cancels k s st item)
+      ∙ ap (λ c. five (is_some (running s.admissions item)) (is_cancelling s.admissions s.marks item) c held f) (is_queued k s st item)
       ∙ ap (λ d. five (is_some (running s.admissions item)) (is_cancelling s.admissions s.marks item) (is_some (waiting s.admissions item)) d f) is_delayed
       ∙ ap (five (is_some (running s.admissions item)) (is_cancelling s.admissions s.marks item) (is_some (waiting s.admissions item)) (is_some (armed s.arms item))) (flushing-same item)
 
@@ -269,9 +271,12 @@ module _ (k : Kept) (s : State) (st : StandsFor k s) where
         record {
           whole = record {
             counted = wh.counted;
+            timed = wh.timed;
             fewer = wh.fewer;
             fewest = wh.fewest;
             items = wh.items;
+            armed = wh.armed;
+            ordered = wh.ordered;
             queues = wh.queues;
             shaped = wh.shaped;
             above = wh.above;
@@ -295,36 +300,6 @@ module _ (k : Kept) (s : State) (st : StandsFor k s) where
         }
 
   -- a wait that is new
-  new-wait : (place : ℕ) (who : Who) (f : ℕ → Awaited) (o : Option ℕ) (w : Wait) → option_map (λ number. wait_for place who (f number)) o ≡ Some w → (n : ℕ) × (o ≡ Some n) × (wait_for place who (f n) ≡ w)
+  pub new-wait : (place : ℕ) (who : Who) (f : ℕ → Awaited) (o : Option ℕ) (w : Wait) → option_map (λ number. wait_for place who (f number)) o ≡ Some w → (n : ℕ) × (o ≡ Some n) × (wait_for place who (f n) ≡ w)
   new-wait place who f None w is = absurd (cc)
   new-wait place who f (Some n) w is = (n, refl, same_Some (wait_for place who (f n)) w is)
-
-  -- the start of a flush
-  pub flush_start-stands : (who : Who) (item : ℕ) → s.entries < 2 ^ 32 - 1 →
-      StandsFor (record (engine.flush_started k who item) { entries = k.entries + 1 }) (record (flush_start s who item) { entries = s.entries + 1 })
-  flush_start-stands who item few =
-      let wait : engine.flush_wait k who item ≡ flush_wait s who item =
-      ap (λ n. option_map (λ number. wait_for n who (Flush number)) (engine.flushed k.active item)) st.entries
-      ∙ ap (option_map (λ number. wait_for s.entries who (Flush number))) (flushed-same item) in
-      subst (λ (o : Option Wait). StandsFor (record k { waits = awaiting k.waits o; entries = k.entries + 1 }) (record (flush_start s who item) { entries = s.entries + 1 })) (sym wait)
-      (waits-stand (flush_wait s who item) (record k { entries = k.entries + 1 }) (record s { entries = s.entries + 1 }) (counted-stands k s st few)
-      (λ w is. let new = new-wait s.entries who Flush (flushed s.admissions item) w is in sym (ap (λ (v : Wait). v.answered) new.2))
-      (λ w is. let new = new-wait s.entries who Flush (flushed s.admissions item) w is in
-      subst (λ (v : Wait). is_there s.admissions v.awaited v.answered ≡ true) new.2 (found-made s.admissions item new.0 new.1)))
-
-  -- the start of a sync cancel
-  pub cancel_start-stands : (who : Who) (item : ℕ) → item < s.items → s.entries < 2 ^ 32 - 1 →
-      StandsFor (record (engine.cancel_started k who item) { entries = k.entries + 1 }) (record (cancel_start s who item) { entries = s.entries + 1 })
-  cancel_start-stands who item within few =
-      let wait : engine.cancel_wait k who item ≡ cancel_wait s who item =
-      ap (λ n. option_map (λ number. wait_for n who (Cancel number)) (active.running k.active item)) st.entries
-      ∙ ap (option_map (λ number. wait_for s.entries who (Cancel number))) (runs_by item) in
-      let T : Kept = record (settled k (cancelled k.active item)) { entries = k.entries + 1 } in
-      subst (λ (o : Option Wait). StandsFor (record T { waits = awaiting k.waits o }) (record (cancel_start s who item) { entries = s.entries + 1 })) (sym wait)
-      (waits-stand (cancel_wait s who item) T (record (cancel s item) { entries = s.entries + 1 }) (cancel-stands k s item st within few)
-      (λ w is. let new = new-wait s.entries who Cancel (running s.admissions item) w is in sym (ap (λ (v : Wait). v.answered) new.2))
-      (λ w is. let new = new-wait s.entries who Cancel (running s.admissions item) w is in
-      subst (λ (v : Wait). is_there (map (drop_one item) s.admissions) v.awaited v.answered ≡ true) new.2
-      (Later-drop-begun item s.admissions new.0 (found-begun s.admissions item new.0 new.1)))) where
-        Later-drop-begun : (item : ℕ) (xs : List Admission) (n : ℕ) → passes_at (λ a. is_begun a.life) xs n ≡ true → passes_at (λ a. is_begun a.life) (map (drop_one item) xs) n ≡ true
-        Later-drop-begun item xs n is = let later = Later-drop item xs in later.begun n is

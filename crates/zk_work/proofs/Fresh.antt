@@ -6,7 +6,9 @@ use Rattle.std.proofs.lemmas.List.Elements.{All-replicate, All-nil}
 use Rattle.zk_model_work.specs.declared.parts.Queue.{Queue}
 use Rattle.zk_model_work.specs.declared.parts.Wait.{Wait}
 use Rattle.zk_model_work.specs.State.{fresh_queues, start_of}
-use Rattle.zk_model_work.proofs.Counts.{IsCounted-fresh, length-fresh_queues}
+use Rattle.zk_model_work.proofs.Counts.{IsTimed-fresh, IsCounted-fresh, length-fresh_queues}
+use Rattle.zk_time.specs.Timeouts.{Timeouts, nothing_armed}
+use Rattle.zk_time.proofs.Orders.{IsOrdered-nothing}
 use Rattle.zk_queue.specs.declared.ticket.Ticket.{Ticket}
 use Rattle.zk_queue.specs.Open as active
 use Rattle.zk_work.specs.Kept.{Kept, is_there, StandsFor}
@@ -21,16 +23,19 @@ alike {A} n i a = by (leb_tells n i) where
 
 -- nothing waits, runs or is marked
 pub fresh-stands : (items : ℕ) (workers : List ℕ) (started : List Bool) → length workers ≡ length started → length workers ≤ 8 →
-    StandsFor (record { time = 0; entries = 0; made = 0; running = 0; last = replicate items None; active = active.nothing_open items (length workers); waits = []; queues = fresh_queues workers started })
+    StandsFor (record { time = 0; entries = 0; made = 0; running = 0; last = replicate items None; active = active.nothing_open items (length workers); timeouts = nothing_armed items; waits = []; queues = fresh_queues workers started })
     (start_of items workers started)
 fresh-stands items workers started same few =
     let long = length-fresh_queues workers started same in
     record {
       whole = record {
         counted = IsCounted-fresh workers started same few;
+        timed = IsTimed-fresh;
         fewer = omega arith;
         fewest = omega arith;
         items = length-replicate items None;
+        armed = refl;
+        ordered = IsOrdered-nothing items;
         queues = long;
         shaped = record {
           marks = length-replicate items active.unmarked;
@@ -60,12 +65,13 @@ fresh-stands items workers started same few =
       none t is = cc
 
 -- made of parts that are as said
-pub fresh_is : (items : ℕ) (workers : List ℕ) (started : List Bool) (waits : List Wait) (last : List (Option ℕ)) (o : active.Open) (queues : List Queue) →
-    waits ≡ [] → last ≡ replicate items None → o ≡ active.nothing_open items (length workers) → queues ≡ fresh_queues workers started →
-    StandsFor (record { time = 0; entries = 0; made = 0; running = 0; last = replicate items None; active = active.nothing_open items (length workers); waits = []; queues = fresh_queues workers started }) (start_of items workers started) →
-    StandsFor (record { time = 0; entries = 0; made = 0; running = 0; last = last; active = o; waits = waits; queues = queues }) (start_of items workers started)
-fresh_is items workers started waits last o queues none last_is o_is queues_are stands =
-    let K : List Wait → List (Option ℕ) → active.Open → List Queue → Kept = λ ws l o q. record { time = 0; entries = 0; made = 0; running = 0; last = l; active = o; waits = ws; queues = q } in
+pub fresh_is : (items : ℕ) (workers : List ℕ) (started : List Bool) (waits : List Wait) (last : List (Option ℕ)) (o : active.Open) (t : Timeouts) (queues : List Queue) →
+    waits ≡ [] → last ≡ replicate items None → o ≡ active.nothing_open items (length workers) → t ≡ nothing_armed items → queues ≡ fresh_queues workers started → length workers ≡ length started → length workers ≤ 8 →
+    StandsFor (record { time = 0; entries = 0; made = 0; running = 0; last = last; active = o; timeouts = t; waits = waits; queues = queues }) (start_of items workers started)
+fresh_is items workers started waits last o t queues none last_is o_is t_is queues_are same few =
+    let K : List Wait → List (Option ℕ) → active.Open → Timeouts → List Queue → Kept = λ ws l o t q. record { time = 0; entries = 0; made = 0; running = 0; last = l; active = o; timeouts = t; waits = ws; queues = q } in
     let S : Kept → Type 0 = λ k. StandsFor k (start_of items workers started) in
-    subst (λ ws. S (K ws last o queues)) (sym none) (subst (λ l. S (K [] l o queues)) (sym last_is) (subst (λ o. S (K [] (replicate items None) o queues)) (sym o_is)
-    (subst (λ qs. S (K [] (replicate items None) (active.nothing_open items (length workers)) qs)) (sym queues_are) stands)))
+    let O = active.nothing_open items (length workers) in
+    let N = replicate items None in
+    subst (λ ws. S (K ws last o t queues)) (sym none) (subst (λ l. S (K [] l o t queues)) (sym last_is) (subst (λ o. S (K [] N o t queues)) (sym o_is)
+    (subst (λ t. S (K [] N O t queues)) (sym t_is) (subst (λ qs. S (K [] N O (nothing_armed items) qs)) (sym queues_are) (fresh-stands items workers started same few)))))

@@ -15,19 +15,18 @@ use Rattle.zk_model_work.specs.declared.parts.Queue.{Queue}
 use Rattle.zk_model_work.specs.declared.parts.Change.{Change}
 use Rattle.zk_model_work.specs.declared.parts.Awaited.TheVariants.{Drain}
 use Rattle.zk_model_work.specs.declared.parts.Wait.{Wait}
-use Rattle.zk_model_work.specs.declared.parts.Arm.{Arm}
 use Rattle.zk_model_work.specs.Lists.{first}
 use Rattle.zk_model_work.specs.Questions.{is_waiting, is_running, waits_as, runs_as, waits_for, runs_on, running, last_queue, line, run, is_empty_and_idle, is_cancelling}
 use Rattle.zk_model_work.specs.State.{State}
-use Rattle.zk_model_work.specs.Machine.{with_life, set_life, drop_one, end_one, settle_from, end, cancel, disarm, change, drain, drain_start, drain_wait, drained_of, wait_for, awaiting}
-use Rattle.zk_model_work.proofs.Counts.{IsCounted-more, IsCounted-settled, IsCounted-changed, IsCounted-drain, length-settle_from, length-change, length-drain}
+use Rattle.zk_model_work.specs.Machine.{with_life, set_life, drop_one, end_one, settle_from, end, cancel, change, drain, drain_start, drain_wait, drained_of, wait_for, awaiting}
+use Rattle.zk_model_work.proofs.Counts.{IsTimed-more, IsCounted-more, IsCounted-settled, IsCounted-changed, IsCounted-drain, length-settle_from, length-change, length-drain}
 use Rattle.zk_model_work.proofs.Overlaps.{Admits, open-running}
 use Rattle.zk_queue.specs.declared.ticket.Ticket.{Ticket}
 use Rattle.zk_queue.specs.Line.{without}
 use Rattle.zk_queue.specs.Open as active
 use Rattle.zk_queue.specs.Open.{Open, IsAbove}
 use Rattle.zk_queue.proofs.Numbers.{IsAbove-drop}
-use Rattle.zk_work.specs.Kept.{Kept, IsSound, StandsFor, unanswered, is_there}
+use Rattle.zk_work.specs.Kept.{Kept, IsSound, IsWhole, StandsFor, unanswered, is_there}
 use Rattle.zk_work.specs.Tickets.{tickets}
 use Rattle.zk_work.specs.Engine.{admitted, cancelled, settled, drained}
 use Rattle.zk_work.specs.Engine as engine
@@ -80,35 +79,50 @@ idle-same o xs queue line run =
       none None b = refl
       none (Some t) b = refl
 
+-- what the engine keeps is whole after an admission, for which there is an entry
+pub admitted-whole : (k : Kept) (item queue : ℕ) → IsWhole k → queue < k.active.queues → k.made + length k.timeouts.live < k.entries → IsWhole (admitted k item queue)
+admitted-whole k item queue w queue_in room =
+    let fewest = w.fewest in
+    let shaped_lines = w.shaped.lines in
+    record {
+      counted = w.counted;
+      timed = w.timed;
+      fewer = omega arith;
+      fewest = omega arith;
+      items = length-set k.last item (Some queue) ∙ w.items;
+      armed = w.armed;
+      ordered = w.ordered;
+      queues = w.queues;
+      shaped = record { marks = w.shaped.marks; lines = length-set k.active.lines queue _ ∙ w.shaped.lines; runs = w.shaped.runs };
+      above = above (omega arith);
+      busy = w.busy;
+      known = w.known;
+    } where
+      above : queue < length k.active.lines → IsAbove (k.made + 1) (active.admit k.active item queue k.made)
+      above within =
+          let old : IsAbove (k.made + 1) k.active =
+          All-weaker (All (λ (t : Ticket). t.number < k.made)) (All (λ (t : Ticket). t.number < k.made + 1))
+          (λ (l : List Ticket) all. All-weaker (λ (t : Ticket). t.number < k.made) (λ (t : Ticket). t.number < k.made + 1) (λ t less. omega arith) l all) k.active.lines w.above in
+          let P : Ticket → Type 0 = λ t. t.number < k.made + 1 in
+          let t : Ticket = record { item = item; number = k.made } in
+          All-set (All P) k.active.lines queue (active.line k.active queue ++ t ∷ []) (All-append P (active.line k.active queue) (t ∷ []) (old queue [] within) (All-cons P t [] (omega arith) (All-nil P))) old
+
 -- a submission that admits
-pub admitted-stands : (k : Kept) (s : State) (item queue : ℕ) (named : Option ℕ) → StandsFor k s → Admits s.admissions s.marks item named queue → item < s.items → queue < length s.queues → s.entries < 2 ^ 32 - 1 →
-    StandsFor (record (admitted k item queue) { entries = k.entries + 1 }) (record s { admissions = s.admissions ++ record { item = item; queue = queue; life = Waiting } ∷ []; entries = s.entries + 1 })
-admitted-stands k s item queue named st admits item_in queue_in few =
+pub admitted-stands : (k : Kept) (s : State) (item queue : ℕ) (named : Option ℕ) → StandsFor k s → Admits s.admissions s.marks item named queue → item < s.items → queue < length s.queues → k.made + length k.timeouts.live < k.entries →
+    StandsFor (admitted k item queue) (record s { admissions = s.admissions ++ record { item = item; queue = queue; life = Waiting } ∷ [] })
+admitted-stands k s item queue named st admits item_in queue_in room =
     let w = st.whole in
-    let entries = st.entries in
     let items = st.items in
     let lasts = w.items in
     let made = st.made in
     let running = st.running in
-    let fewer = w.fewer in
-    let fewest = w.fewest in
     let shaped_lines = w.shaped.lines in
     let all_queues = w.queues in
     let queues = ap length st.queues in
     record {
-      whole = record {
-        counted = IsCounted-more k.entries k.queues w.counted (omega arith);
-        fewer = omega arith;
-        fewest = omega arith;
-        items = length-set k.last item (Some queue) ∙ w.items;
-        queues = w.queues;
-        shaped = record { marks = w.shaped.marks; lines = length-set k.active.lines queue _ ∙ w.shaped.lines; runs = w.shaped.runs };
-        above = above (omega arith);
-        busy = w.busy;
-        known = w.known;
-      };
+      whole = admitted-whole k item queue w (omega arith) room;
       time = st.time;
-      entries = ap (λ n. n + 1) st.entries;
+      entries = st.entries;
       items = st.items;
       queues = st.queues;
       arms = st.arms;
@@ -131,15 +145,6 @@ admitted-stands k s item queue named st admits item_in queue_in few =
       second_false : (b : Bool) → (b && false) ≡ false
       second_false true = refl
       second_false false = refl
-
-      above : queue < length k.active.lines → IsAbove (k.made + 1) (active.admit k.active item queue k.made)
-      above within =
-          let old : IsAbove (k.made + 1) k.active =
-          All-weaker (All (λ (t : Ticket). t.number < k.made)) (All (λ (t : Ticket). t.number < k.made + 1))
-          (λ (l : List Ticket) all. All-weaker (λ (t : Ticket). t.number < k.made) (λ (t : Ticket). t.number < k.made + 1) (λ t less. omega arith) l all) k.active.lines st.whole.above in
-          let P : Ticket → Type 0 = λ t. t.number < k.made + 1 in
-          let t : Ticket = record { item = item; number = k.made } in
-          All-set (All P) k.active.lines queue (active.line k.active queue ++ t ∷ []) (All-append P (active.line k.active queue) (t ∷ []) (old queue [] within) (All-cons P t [] (omega arith) (All-nil P))) old
 
       last : (i : ℕ) → Same item i → item < length k.last → get_or (set k.last item (Some queue)) i None ≡ last_queue (xs ++ a ∷ []) i
       last i (inl same) within =
@@ -168,9 +173,12 @@ counted-stands k s st few =
     record {
       whole = record {
         counted = IsCounted-more k.entries k.queues w.counted (omega arith);
+        timed = IsTimed-more k.time k.entries w.timed;
         fewer = omega arith;
         fewest = w.fewest;
         items = w.items;
+        armed = w.armed;
+        ordered = w.ordered;
         queues = w.queues;
         shaped = w.shaped;
         above = w.above;
@@ -203,9 +211,12 @@ change-stands c k s queue st few =
     record {
       whole = record {
         counted = IsCounted-changed c k.entries queue k.queues w.counted (omega arith);
+        timed = IsTimed-more k.time k.entries w.timed;
         fewer = omega arith;
         fewest = w.fewest;
         items = w.items;
+        armed = w.armed;
+        ordered = w.ordered;
         queues = length-change c k.queues queue ∙ w.queues;
         shaped = w.shaped;
         above = w.above;
@@ -247,9 +258,12 @@ waits-stand o k s st still there =
     record {
       whole = record {
         counted = w.counted;
+        timed = w.timed;
         fewer = w.fewer;
         fewest = w.fewest;
         items = w.items;
+        armed = w.armed;
+        ordered = w.ordered;
         queues = w.queues;
         shaped = w.shaped;
         above = w.above;
@@ -282,9 +296,12 @@ drains-stand idle plug k s queue st few =
     record {
       whole = record {
         counted = IsCounted-more k.entries (drain idle plug k.queues queue) (IsCounted-drain idle plug k.entries queue k.queues wh.counted) (omega arith);
+        timed = IsTimed-more k.time k.entries wh.timed;
         fewer = omega arith;
         fewest = wh.fewest;
         items = wh.items;
+        armed = wh.armed;
+        ordered = wh.ordered;
         queues = length-drain idle plug k.queues queue ∙ wh.queues;
         shaped = wh.shaped;
         above = wh.above;
@@ -340,9 +357,9 @@ kept-cond f false x y same = refl
 same-cancelled : {B : Type 0} (f : Open → B) (o : Open) (item : ℕ) → f (active.mark (active.drop_item o item) item 2) ≡ f (active.drop_item o item) → f (cancelled o item) ≡ f (active.drop_item o item)
 same-cancelled f o item same = kept-cond f (active.is_running o item) (active.mark (active.drop_item o item) item 2) (active.drop_item o item) same
 
--- a cancel
+-- a cancel, but for the arms
 pub cancel-stands : (k : Kept) (s : State) (item : ℕ) → StandsFor k s → item < s.items → s.entries < 2 ^ 32 - 1 →
-    StandsFor (record (settled k (cancelled k.active item)) { entries = k.entries + 1 }) (record (cancel s item) { entries = s.entries + 1 })
+    StandsFor (record (settled k (cancelled k.active item)) { entries = k.entries + 1 }) (record (cancel s item) { arms = s.arms; entries = s.entries + 1 })
 cancel-stands k s item st item_in few =
     let w = st.whole in
     let entries = st.entries in
@@ -352,9 +369,12 @@ cancel-stands k s item st item_in few =
     record {
       whole = record {
         counted = IsCounted-settled k.entries (active.is_idle o) k.queues w.counted (omega arith);
+        timed = IsTimed-more k.time k.entries w.timed;
         fewer = omega arith;
         fewest = w.fewest;
         items = w.items ∙ sym o_items;
+        armed = w.armed ∙ sym o_items;
+        ordered = w.ordered;
         queues = length-settle_from (active.is_idle o) 0 k.queues ∙ w.queues ∙ sym o_queues;
         shaped = record {
           marks = marks_kept (active.is_running k.active item) ∙ w.shaped.marks ∙ sym o_items;
@@ -369,7 +389,7 @@ cancel-stands k s item st item_in few =
       entries = ap (λ n. n + 1) st.entries;
       items = o_items ∙ st.items;
       queues = ap (settle_from (active.is_idle o) 0) st.queues ∙ settle-same (active.is_idle o) (is_empty_and_idle ys) 0 s.queues (λ q. idle-same o ys q (lines q) (runs q));
-      arms = ap (λ (arms : List Arm). disarm arms item) st.arms;
+      arms = st.arms;
       waits = st.waits;
       there = there-later xs ys s.waits (Later-drop item xs) st.there;
       made = st.made ∙ sym (length-map xs (drop_one item));
@@ -458,9 +478,12 @@ begin-stands k s queue t st queue_in few idle lowest =
     record {
       whole = record {
         counted = IsCounted-more k.entries k.queues w.counted (omega arith);
+        timed = IsTimed-more k.time k.entries w.timed;
         fewer = omega arith;
         fewest = omega arith;
         items = w.items;
+        armed = w.armed;
+        ordered = w.ordered;
         queues = w.queues;
         shaped = record {
           marks = w.shaped.marks;
@@ -557,9 +580,12 @@ end-stands k s queue t st queue_in few run =
     record {
       whole = record {
         counted = IsCounted-settled k.entries (active.is_idle o) k.queues w.counted (omega arith);
+        timed = IsTimed-more k.time k.entries w.timed;
         fewer = omega arith;
         fewest = omega arith;
         items = w.items;
+        armed = w.armed;
+        ordered = w.ordered;
         queues = length-settle_from (active.is_idle o) 0 k.queues ∙ w.queues;
         shaped = record {
           marks = length-set k.active.marks t.item (active.marks_in 0) ∙ w.shaped.marks;

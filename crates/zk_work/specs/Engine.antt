@@ -1,4 +1,4 @@
-use Rattle.std.specs.Prelude.{◌≡◌, ℕ, ◌+◌, ◌-◌, ◌<◌, Bool, true, false, not, nat_lt, ◌==◌, ◌&&◌, ◌||◌, if◌then◌else◌, Option, Some, None, is_some, option_map, List, filter, set, slice_get}
+use Rattle.std.specs.Prelude.{◌≡◌, ℕ, zero, suc, ◌+◌, ◌-◌, ◌^◌, ◌<◌, Bool, true, false, not, nat_lt, ◌==◌, ◌&&◌, ◌||◌, if◌then◌else◌, Option, Some, None, is_some, option_map, option_to_list, List, [], ◌++◌, filter, set, slice_get}
 use Rattle.std.specs.List.{list_any}
 use Rattle.std.specs.Option.{option_map_or, option_or}
 use Rattle.zk_model_work.specs.Questions.{weight}
@@ -15,9 +15,12 @@ use Rattle.zk_model_work.specs.declared.parts.Wait.{Wait}
 use Rattle.zk_model_work.specs.declared.parts.Queue.{Queue}
 use Rattle.zk_model_work.specs.declared.ops.Submitted.{Submitted}
 use Rattle.zk_model_work.specs.declared.ops.Submitted.TheVariants.{Already, Fresh, Rerun, Refused}
+use Rattle.zk_model_work.specs.declared.ops.Expiry.{Expiry}
 use Rattle.zk_model_work.specs.declared.ops.WorkReply.{WorkReply}
-use Rattle.zk_model_work.specs.declared.ops.WorkReply.TheVariants.{Sub, Flags, Truth, Number, Done, Run}
+use Rattle.zk_model_work.specs.declared.ops.WorkReply.TheVariants.{Sub, Armed, Flags, Truth, Number, Done, Now, Run}
 use Rattle.zk_model_work.specs.Machine.{refusal, admitted_to, settle_from, change, drain, drained_of, wait_for, awaiting, is_unanswered, cancel_start_reply, flush_start_reply, start_reply, drain_reply, unplug_reply, is_worker}
+use Rattle.zk_time.specs.declared.timeout.Timeout.{Timeout}
+use Rattle.zk_time.specs.Timeouts.{is_armed, deadline_of, queue_of, count_due, arm, disarm, due_first, drop_due}
 use Rattle.zk_queue.specs.Open.{Open, is_running, is_queued, is_idle, is_open, run, next, running, waiting, marks_of, mark, admit, drop_item, begin, end}
 use Rattle.zk_work.specs.Kept.{Kept, last_of}
 
@@ -66,6 +69,56 @@ settled k o = record k { active = o; queues = settle_from (is_idle o) 0 k.queues
 abbrev pub ended : Kept → ℕ → Kept
 ended k queue = option_map_or (λ t. record (settled k (mark (end k.active queue) t.item 0)) { running = k.running - 1 }) (run k.active queue) k
 
+-- the item isn't armed
+abbrev pub disarmed : Kept → ℕ → Kept
+disarmed k item = record k { timeouts = disarm k.timeouts item }
+
+-- the item is delayed, queued or being cancelled
+abbrev pub is_pending : Kept → ℕ → Bool
+is_pending k item = is_armed k.timeouts item || is_queued k.active item || (marks_of k.active item).cancelling
+
+-- after an item was given this delay: with none it was submitted by the player, else it is armed
+abbrev pub delayed : Kept → Who → ℕ → ℕ → ℕ → Kept
+delayed k who item queue delay =
+    if delay == 0 then submitted k item (answer_of k (Some who.number) item (Some queue)) else record k { timeouts = arm k.timeouts item queue (k.time + delay) }
+
+-- what an item with this delay is answered
+abbrev pub delay_reply : Kept → Who → ℕ → ℕ → ℕ → WorkReply
+delay_reply k who item queue delay = if delay == 0 then Sub (answer_of k (Some who.number) item (Some queue)) else Armed
+
+-- after a flush has ended the item's delay, if it has one
+abbrev pub hurried : Kept → Who → ℕ → Kept
+hurried k who item =
+    let d = disarmed k item in
+    option_map_or (λ queue. submitted d item (answer_of d (Some who.number) item (Some queue))) (queue_of k.timeouts item) d
+
+-- what becomes of the item of a timeout
+abbrev pub expiry_of : Kept → Timeout → Expiry
+expiry_of k t = record { item = t.item; submitted = answer_of k None t.item (Some t.queue) }
+
+-- after the first that is due, if there is one, was submitted by nobody
+abbrev pub expired_next : ℕ → Kept → Kept
+expired_next time k =
+    option_map_or (λ t. submitted (record k { timeouts = drop_due k.timeouts time }) t.item (answer_of k None t.item (Some t.queue))) (due_first time k.timeouts.live) k
+
+-- after so many of them
+abbrev pub expired : ℕ → ℕ → Kept → Kept
+expired zero time k = k
+expired (suc n) time k = expired_next time (expired n time k)
+
+-- what has become of them
+abbrev pub told : ℕ → ℕ → Kept → List Expiry
+told zero time k = []
+told (suc n) time k = told n time k ++ option_to_list (option_map (expiry_of (expired n time k)) (due_first time (expired n time k).timeouts.live))
+
+-- after so many ticks more, and all that is due by then
+abbrev pub announced : Kept → ℕ → Kept
+announced k ticks = let time = k.time + ticks in record (expired (count_due k.timeouts time) time k) { time = time }
+
+-- what an announce is answered
+abbrev pub announce_reply : Kept → ℕ → WorkReply
+announce_reply k ticks = let time = k.time + ticks in Now time (told (count_due k.timeouts time) time k)
+
 -- it is this number
 abbrev pub is_number : ℕ → Option ℕ → Bool
 is_number number o = option_map_or (λ n. n == number) o false
@@ -79,10 +132,10 @@ flushes waits runs _ = false
 abbrev pub is_flushing : Open → List Wait → ℕ → Bool
 is_flushing o waits item = list_any (λ w. flushes (waiting o item) (running o item) w.awaited) waits
 
--- the busy flags of the item: no item is delayed
+-- the busy flags of the item
 abbrev pub flags_of : Kept → ℕ → ℕ
 flags_of k item =
-    weight 1 (is_running k.active item) + weight 2 (marks_of k.active item).cancelling + weight 4 (is_queued k.active item) + weight 8 false + weight 16 (is_flushing k.active k.waits item)
+    weight 1 (is_running k.active item) + weight 2 (marks_of k.active item).cancelling + weight 4 (is_queued k.active item) + weight 8 (is_armed k.timeouts item) + weight 16 (is_flushing k.active k.waits item)
 
 -- what is awaited has come: a run that a sync cancel found, and what a flush waits for, is open no longer; more drainings of the queue have ended than a drain names
 abbrev pub has_come : Open → List Queue → Closing → Awaited → Bool
@@ -125,11 +178,11 @@ drain_wait idle k who queue = if idle then None else Some (wait_for k.entries wh
 
 -- after the start of a sync cancel: a cancel, in which the player waits where the item runs
 abbrev pub cancel_started : Kept → Who → ℕ → Kept
-cancel_started k who item = record (settled k (cancelled k.active item)) { waits = awaiting k.waits (cancel_wait k who item) }
+cancel_started k who item = record (settled (disarmed k item) (cancelled k.active item)) { waits = awaiting k.waits (cancel_wait k who item) }
 
--- after the start of a flush, in which the player waits where an admission of the item waits or runs
+-- after the start of a flush, which ends the item's delay, and in which the player waits where an admission of the item then waits or runs
 abbrev pub flush_started : Kept → Who → ℕ → Kept
-flush_started k who item = record k { waits = awaiting k.waits (flush_wait k who item) }
+flush_started k who item = let h = hurried k who item in record h { waits = awaiting h.waits (flush_wait h who item) }
 
 -- after the start of a drain, for which the player waits unless the queue is idle
 abbrev pub drained : Kept → Who → ℕ → Bool → Kept
@@ -140,30 +193,38 @@ drained k who queue plug =
 -- the reply to each operation, where it is possible
 abbrev pub reply_of : Kept → Who → WorkOp → Option WorkReply
 reply_of k who (ops.Submit item named) = Some (Sub (answer_of k (Some who.number) item named))
-reply_of k who (ops.Cancel item) = Some (Flags (flags_of (settled k (cancelled k.active item)) item))
+reply_of k who (ops.Cancel item) = Some (Flags (flags_of (settled (disarmed k item) (cancelled k.active item)) item))
 reply_of k who (ops.CancelStart item) = Some (cancel_start_reply (flags_of k item) (is_some (running k.active item)))
 reply_of k who (ops.CancelDone place) = if may_close k closings.Cancel who place then Some (Truth true) else None
-reply_of k who (ops.FlushStart item) = Some (flush_start_reply (flushed k.active item))
+reply_of k who (ops.FlushStart item) = Some (flush_start_reply (flushed (hurried k who item).active item))
 reply_of k who (ops.FlushDone place) = if may_close k closings.Flush who place then Some (Truth true) else None
+reply_of k who (ops.Schedule item queue delay) = Some (if is_pending k item then Sub Already else delay_reply k who item queue delay)
+reply_of k who (ops.Reschedule item queue delay) = Some (delay_reply k who item queue delay)
+reply_of k who (ops.Remaining item) = Some (Number (option_map_or (λ deadline. deadline - k.time) (deadline_of k.timeouts item) 0))
 reply_of k who (ops.Start queue) = Some (start_reply k.queues queue)
 reply_of k who (ops.DrainStart queue plug) = Some (drain_reply (is_idle k.active queue))
 reply_of k who (ops.DrainDone place) = if may_close k closings.Drain who place then Some (Number 1) else None
 reply_of k who (ops.Unplug queue) = Some (unplug_reply k.queues queue)
+reply_of k who (ops.Announce ticks) = Some (announce_reply k ticks)
 reply_of k who (ops.Begin queue) = if is_worker k.queues queue who.number then option_map (λ t. Run t.item t.number) (next k.active queue) else None
 reply_of k who (ops.End queue) = if is_worker k.queues queue who.number then option_map (λ t. Done) (run k.active queue) else None
 
 -- what each operation changes, where it is possible
 abbrev pub change_of : Kept → Who → WorkOp → Kept
 change_of k who (ops.Submit item named) = submitted k item (answer_of k (Some who.number) item named)
-change_of k who (ops.Cancel item) = settled k (cancelled k.active item)
+change_of k who (ops.Cancel item) = settled (disarmed k item) (cancelled k.active item)
 change_of k who (ops.CancelStart item) = cancel_started k who item
 change_of k who (ops.CancelDone place) = closed k closings.Cancel who place
 change_of k who (ops.FlushStart item) = flush_started k who item
 change_of k who (ops.FlushDone place) = closed k closings.Flush who place
+change_of k who (ops.Schedule item queue delay) = if is_pending k item then k else delayed k who item queue delay
+change_of k who (ops.Reschedule item queue delay) = delayed (disarmed k item) who item queue delay
+change_of k who (ops.Remaining item) = k
 change_of k who (ops.Start queue) = record k { queues = change changes.Start k.queues queue }
 change_of k who (ops.DrainStart queue plug) = drained k who queue plug
 change_of k who (ops.DrainDone place) = closed k closings.Drain who place
 change_of k who (ops.Unplug queue) = record k { queues = change changes.Unplug k.queues queue }
+change_of k who (ops.Announce ticks) = announced k ticks
 change_of k who (ops.Begin queue) = record k { active = begin k.active queue; running = k.running + 1 }
 change_of k who (ops.End queue) = ended k queue
 
@@ -174,3 +235,15 @@ entered k who op = let after = change_of k who op in record after { entries = k.
 -- the engine after an operation with this reply: nothing changes where there is none
 abbrev pub after_reply : Kept → Who → WorkOp → Option WorkReply → Kept
 after_reply k who op reply = if is_some reply then entered k who op else k
+
+-- the reply is that of an announce
+abbrev pub is_now : WorkReply → Bool
+is_now (Now time told) = true
+is_now _ = false
+
+-- the ticks in an operation are of 32 bits
+abbrev pub IsTimely : WorkOp → Type 0
+IsTimely (ops.Schedule item queue delay) = delay < 2 ^ 32
+IsTimely (ops.Reschedule item queue delay) = delay < 2 ^ 32
+IsTimely (ops.Announce ticks) = ticks < 2 ^ 32
+IsTimely op = Unit {0}

@@ -1,20 +1,24 @@
-use Rattle.std.specs.Prelude.{◌≡◌, ℕ, ◌+◌, ◌<◌, ◌≤◌, Bool, true, false, not, ◌&&◌, Option, Some, None, option_to_list, List, [], length, filter, count_by, slice_get, slice_index_or, All}
+use Rattle.std.specs.Prelude.{◌≡◌, ℕ, ◌+◌, ◌<◌, ◌≤◌, Bool, true, false, not, ◌&&◌, Option, Some, None, option_to_list, List, [], length, map, filter, count_by, slice_get, slice_index_or, All}
 use Rattle.zk_model_work.specs.declared.ops.WorkOp.{WorkOp}
-use Rattle.zk_model_work.specs.declared.ops.WorkOp.TheVariants.{CancelDone, FlushDone, DrainDone, End}
+use Rattle.zk_model_work.specs.declared.ops.WorkOp.TheVariants.{CancelDone, FlushDone, DrainDone, Announce, End}
 use Rattle.zk_model_work.specs.declared.parts.Life.{Life}
 use Rattle.zk_model_work.specs.declared.parts.Life.TheVariants.{Running, Ended}
 use Rattle.zk_model_work.specs.declared.parts.Admission.{Admission}
+use Rattle.zk_model_work.specs.declared.parts.Arm.{Arm}
 use Rattle.zk_model_work.specs.declared.parts.Awaited.{Awaited}
 use Rattle.zk_model_work.specs.declared.parts.Awaited.TheVariants.{Cancel, Flush, Drain}
 use Rattle.zk_model_work.specs.declared.parts.Wait.{Wait}
 use Rattle.zk_model_work.specs.declared.parts.Queue.{Queue}
-use Rattle.zk_model_work.specs.Questions.{is_waiting, is_running, is_open, waits_as, waits_for, runs_on, last_queue, is_cancelling, passes_at}
-use Rattle.zk_model_work.specs.State.{State, IsCounted}
+use Rattle.zk_model_work.specs.Questions.{is_waiting, is_running, is_open, is_live, waits_as, waits_for, runs_on, last_queue, is_cancelling, passes_at}
+use Rattle.zk_model_work.specs.State.{State, IsCounted, IsTimed}
+use Rattle.zk_base.specs.Order.{by_key}
+use Rattle.zk_time.specs.declared.timeout.Timeout.{Timeout}
+use Rattle.zk_time.specs.Timeouts.{Timeouts, IsOrdered}
 use Rattle.zk_queue.specs.declared.ticket.Ticket.{Ticket}
 use Rattle.zk_queue.specs.Open.{Open, line, run, marks_of, IsAbove}
 use Rattle.zk_work.specs.Tickets.{tickets}
 
--- what the engine keeps: the ticks, the entries and the admissions so far, how many runs are open, the queue of each item's last admission, the open admissions, the waits that aren't answered, and the queues
+-- what the engine keeps: the ticks, the entries and the admissions so far, how many runs are open, the queue of each item's last admission, the open admissions, the items that are armed, the waits that aren't answered, and the queues
 pub record Kept : Type 0 where
   pub time : ℕ
   pub entries : ℕ
@@ -22,6 +26,7 @@ pub record Kept : Type 0 where
   pub running : ℕ
   pub last : List (Option ℕ)
   pub active : Open
+  pub timeouts : Timeouts
   pub waits : List Wait
   pub queues : List Queue
 
@@ -71,12 +76,28 @@ pub record IsShaped (o : Open) : Type 0 where
   pub lines : length o.lines ≡ o.queues
   pub runs : length o.runs ≡ o.queues
 
+-- a live arm as it is kept
+abbrev pub timeout_of : Arm → Timeout
+timeout_of a = record { item = a.item; queue = a.queue; deadline = a.deadline }
+
+-- the live arms, in the order of arming
+abbrev pub live_of : List Arm → List Timeout
+live_of arms = map timeout_of (filter (λ a. is_live a.fate) arms)
+
+-- the live arms, in the order in which they expire
+abbrev pub timeouts_of : List Arm → List Timeout
+timeouts_of arms = by_key (λ t. t.deadline) (live_of arms)
+
 -- what holds of all that the engine keeps
 pub record IsWhole (k : Kept) : Type 0 where
   pub counted : IsCounted k.entries k.queues
-  pub fewer : k.made ≤ k.entries
+  pub timed : IsTimed k.time k.entries
+  -- each entry makes an admission or arms an item at most, and an item that is armed may still become an admission
+  pub fewer : k.made + length k.timeouts.live ≤ k.entries
   pub fewest : k.running ≤ k.made
   pub items : length k.last ≡ k.active.items
+  pub armed : k.timeouts.items ≡ k.active.items
+  pub ordered : IsOrdered k.timeouts
   pub queues : length k.queues ≡ k.active.queues
   pub shaped : IsShaped k.active
   -- the next number is above those of all that wait
@@ -91,8 +112,8 @@ pub record StandsFor (k : Kept) (s : State) : Type 0 where
   pub entries : k.entries ≡ s.entries
   pub items : k.active.items ≡ s.items
   pub queues : k.queues ≡ s.queues
-  -- no item is armed: no operation brings that
-  pub arms : s.arms ≡ []
+  -- the live arms
+  pub arms : k.timeouts.live ≡ timeouts_of s.arms
   -- the waits that aren't answered; and what each wait is for is there
   pub waits : k.waits ≡ unanswered s.waits
   pub there : All (λ w. is_there s.admissions w.awaited w.answered ≡ true) s.waits
@@ -117,3 +138,8 @@ work_closes (FlushDone place) = true
 work_closes (DrainDone place) = true
 work_closes (End queue) = true
 work_closes _ = false
+
+-- an announce may take memory at any room: for the list of what has expired
+abbrev pub work_grows : WorkOp → Bool
+work_grows (Announce ticks) = true
+work_grows _ = false

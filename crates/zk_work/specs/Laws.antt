@@ -1,5 +1,5 @@
 -- The laws of the engine, over all states and operations.
-use Rattle.std.proofs.Common.{◌≡◌, ℕ, zero, suc, ◌+◌, ◌≤◌, Bool, true, false, not, cond, eqb, ltb, ◌==◌, ◌&&◌, ◌||◌, Option, Some, None, is_some, List, [], ◌∷◌, length, map, sum_by, refl, ap, arith}
+use Rattle.std.proofs.Common.{◌≡◌, ℕ, zero, suc, ◌+◌, ◌≤◌, Bool, true, false, not, cond, eqb, ltb, ◌==◌, ◌&&◌, ◌||◌, Option, Some, None, is_some, option_to_list, List, [], ◌∷◌, length, map, sum_by, refl, ap, ◌∙◌, arith}
 use Rattle.std.specs.Cmp.{first_so, second_so}
 use Rattle.std.specs.List.{position, position_or_len, list_any}
 use Rattle.std.specs.Option.{option_map_or}
@@ -10,22 +10,24 @@ use Rattle.zk_base.specs.declared.ids.Who.{Who}
 use Rattle.zk_model_work.specs.declared.parts.Life.{Life}
 use Rattle.zk_model_work.specs.declared.parts.Life.TheVariants.{Waiting, Running, Ended, Dropped}
 use Rattle.zk_model_work.specs.declared.parts.Admission.{Admission}
+use Rattle.zk_model_work.specs.declared.parts.Arm.{Arm}
 use Rattle.zk_model_work.specs.declared.parts.Wait.{Wait}
 use Rattle.zk_model_work.specs.declared.parts.Queue.{Queue}
 use Rattle.zk_model_work.specs.declared.parts.Closing.{Closing}
 use Rattle.zk_model_work.specs.declared.parts.Closing.TheVariants as closings
 use Rattle.zk_model_work.specs.declared.parts.Change.TheVariants as changes
 use Rattle.zk_model_work.specs.declared.ops.WorkOp.{WorkOp}
-use Rattle.zk_model_work.specs.declared.ops.WorkOp.TheVariants.{Submit, Cancel, CancelStart, CancelDone, FlushStart, FlushDone, Start, DrainStart, DrainDone, Unplug, Begin, End}
+use Rattle.zk_model_work.specs.declared.ops.WorkOp.TheVariants.{Submit, Cancel, CancelStart, CancelDone, FlushStart, FlushDone, Schedule, Reschedule, Remaining, Start, DrainStart, DrainDone, Unplug, Announce, Begin, End}
 use Rattle.zk_model_work.specs.declared.ops.Submitted.{Submitted}
 use Rattle.zk_model_work.specs.declared.ops.Submitted.TheVariants.{Already, Fresh, Rerun, Refused}
 use Rattle.zk_model_work.specs.declared.ops.WorkReply.{WorkReply}
 use Rattle.zk_model_work.specs.declared.ops.WorkReply.TheVariants.{Truth, Number, Done}
 use Rattle.zk_model_work.specs.Lists.{first}
-use Rattle.zk_model_work.specs.Questions.{is_running, waits_as, runs_on, run, line, is_empty_and_idle}
+use Rattle.zk_model_work.specs.Questions.{is_running, waits_as, runs_on, run, line, is_empty_and_idle, live_arm, due}
 use Rattle.zk_model_work.specs.State.{State}
-use Rattle.zk_model_work.specs.Machine.{work_reply, work_next, in_range, is_among, is_worker, submission, submit, set_life, with_life, begin, end_one, end_run, drop_one, drop_waiting, cancel_wait, flush_wait, drain_wait, awaiting, answer_where, answer_one, is_unanswered, has_come, closes, may_close}
+use Rattle.zk_model_work.specs.Machine.{work_reply, work_next, in_range, is_among, is_worker, submission, submission_in, submit, submit_arms, disarm, delayed, schedule, set_life, with_life, begin, end_one, end_run, drop_one, drop_waiting, cancel_wait, flush_wait, drain_wait, awaiting, answer_where, answer_one, is_unanswered, has_come, closes, may_close}
 use Rattle.zk_model_work.proofs.Counts.{length-settle_from, length-change, length-drain}
+use Rattle.zk_model_work.proofs.Moves.{submit_arms-keeps, delayed-keeps, schedule-keeps}
 use Rattle.zk_work.specs.Kept.{work_owed, work_closes}
 
 -- each entry is counted
@@ -36,10 +38,14 @@ counts s who (CancelStart item) = refl
 counts s who (CancelDone place) = refl
 counts s who (FlushStart item) = refl
 counts s who (FlushDone place) = refl
+counts s who (Schedule item queue delay) = refl
+counts s who (Reschedule item queue delay) = refl
+counts s who (Remaining item) = refl
 counts s who (Start queue) = refl
 counts s who (DrainStart queue plug) = refl
 counts s who (DrainDone place) = refl
 counts s who (Unplug queue) = refl
+counts s who (Announce ticks) = refl
 counts s who (Begin queue) = refl
 counts s who (End queue) = refl
 
@@ -51,10 +57,14 @@ ranges s who (CancelStart item) = ap (is_among s.items) (length-settle_from (is_
 ranges s who (CancelDone place) = refl
 ranges s who (FlushStart item) = refl
 ranges s who (FlushDone place) = refl
+ranges s who (Schedule item queue delay) = schedule-keeps (λ t. in_range t ≡ in_range s) s who item queue delay refl refl (λ free later. refl)
+ranges s who (Reschedule item queue delay) = delayed-keeps (λ t. in_range t ≡ in_range s) (record s { arms = disarm s.arms item }) who item queue delay refl (λ later. refl)
+ranges s who (Remaining item) = refl
 ranges s who (Start queue) = ap (is_among s.items) (length-change changes.Start s.queues queue)
 ranges s who (DrainStart queue plug) = ap (is_among s.items) (length-drain (is_empty_and_idle s.admissions queue) plug s.queues queue)
 ranges s who (DrainDone place) = refl
 ranges s who (Unplug queue) = ap (is_among s.items) (length-change changes.Unplug s.queues queue)
+ranges s who (Announce ticks) = refl
 ranges s who (Begin queue) = refl
 ranges s who (End queue) = ap (is_among s.items) (length-settle_from (is_empty_and_idle (end_run s.admissions queue)) 0 s.queues)
 
@@ -191,18 +201,39 @@ gives-closed s closing who place reply possible =
     (λ w. owed-answer_where (closes s.admissions s.queues closing who place w) w) (owed-answered s.admissions s.queues closing who place) s.waits
     (closed_where_possible (may_close s closing who place) reply possible)
 
+-- submissions of arms owe nothing
+owed-arms : (s : State) (caller : Option ℕ) (arms : List Arm) → sum_by runs (submit_arms s.marks s.queues caller arms s.admissions) ≡ sum_by runs s.admissions
+owed-arms s caller arms =
+    submit_arms-keeps (λ ys. sum_by runs ys ≡ sum_by runs s.admissions) s.admissions s.marks s.queues caller
+    (λ ys item named stays same. owed-submit ys item (submission ys s.marks s.queues caller item named) ∙ same) arms s.admissions (λ n a at. at) refl
+
+-- nor does an item that is given a delay
+owed-delayed : (s : State) (who : Who) (item queue delay : ℕ) → work_owed (delayed s who item queue delay) ≤ work_owed s + 2
+owed-delayed s who item queue delay =
+    delayed-keeps (λ t. work_owed t ≤ work_owed s + 2) s who item queue delay
+    (omega (arith, owed-submit s.admissions item (submission_in s (Some who.number) item (Some queue)))) (λ later. omega arith)
+
+owed-schedule : (s : State) (who : Who) (item queue delay : ℕ) → work_owed (schedule s who item queue delay) ≤ work_owed s + 2
+owed-schedule s who item queue delay =
+    schedule-keeps (λ t. work_owed t ≤ work_owed s + 2) s who item queue delay (omega arith)
+    (omega (arith, owed-submit s.admissions item (submission_in s (Some who.number) item (Some queue)))) (λ free later. omega arith)
+
 -- an operation adds at most two owed entries
 pub adds : (s : State) (who : Who) (op : WorkOp) → work_owed (work_next s who op) ≤ work_owed s + 2
 adds s who (Submit item named) = omega (arith, owed-submit s.admissions item (submission s.admissions s.marks s.queues (Some who.number) item named))
 adds s who (Cancel item) = omega (arith, sum_by-map runs (drop_one item) (owed-drop_one item) s.admissions)
 adds s who (CancelStart item) = omega (arith, sum_by-map runs (drop_one item) (owed-drop_one item) s.admissions, owed-awaiting s.waits (cancel_wait s who item))
 adds s who (CancelDone place) = omega (arith, owed-closed s closings.Cancel who place)
-adds s who (FlushStart item) = omega (arith, owed-awaiting s.waits (flush_wait s who item))
+adds s who (FlushStart item) = omega (arith, owed-awaiting s.waits (flush_wait s who item), owed-arms s (Some who.number) (option_to_list (live_arm s.arms item)))
 adds s who (FlushDone place) = omega (arith, owed-closed s closings.Flush who place)
+adds s who (Schedule item queue delay) = owed-schedule s who item queue delay
+adds s who (Reschedule item queue delay) = owed-delayed (record s { arms = disarm s.arms item }) who item queue delay
+adds s who (Remaining item) = omega arith
 adds s who (Start queue) = omega arith
 adds s who (DrainStart queue plug) = omega (arith, owed-awaiting s.waits (drain_wait (is_empty_and_idle s.admissions queue) s who queue))
 adds s who (DrainDone place) = omega (arith, owed-closed s closings.Drain who place)
 adds s who (Unplug queue) = omega arith
+adds s who (Announce ticks) = omega (arith, owed-arms s None (due (s.time + ticks) s.arms))
 adds s who (Begin queue) = omega (arith, owed-begin s.admissions queue)
 adds s who (End queue) = omega (arith, sum_by-map runs (end_one queue) (owed-end_one queue) s.admissions)
 
@@ -214,10 +245,14 @@ gives s who (CancelStart item) closes possible = absurd (cc)
 gives s who (CancelDone place) closes possible = omega (arith, gives-closed s closings.Cancel who place (Truth true) possible)
 gives s who (FlushStart item) closes possible = absurd (cc)
 gives s who (FlushDone place) closes possible = omega (arith, gives-closed s closings.Flush who place (Truth true) possible)
+gives s who (Schedule item queue delay) closes possible = absurd (cc)
+gives s who (Reschedule item queue delay) closes possible = absurd (cc)
+gives s who (Remaining item) closes possible = absurd (cc)
 gives s who (Start queue) closes possible = absurd (cc)
 gives s who (DrainStart queue plug) closes possible = absurd (cc)
 gives s who (DrainDone place) closes possible = omega (arith, gives-closed s closings.Drain who place (Number 1) possible)
 gives s who (Unplug queue) closes possible = absurd (cc)
+gives s who (Announce ticks) closes possible = absurd (cc)
 gives s who (Begin queue) closes possible = absurd (cc)
 gives s who (End queue) closes possible =
     let found = runs_where_possible (is_worker s.queues queue who.number) (is_some (run s.admissions queue)) Done possible in

@@ -1,22 +1,24 @@
-ghost use Rattle.std.specs.Prelude.{◌≡◌, ℕ, ◌+◌, ◌-◌, ◌^◌, ◌<◌, ◌≤◌, true, length, AllPairs, ◌≢◌, None, replicate, IsOk, IfOk, OnErr};
+ghost use Rattle.std.specs.Prelude.{◌≡◌, ℕ, ◌+◌, ◌-◌, ◌^◌, ◌<◌, ◌≤◌, true, false, is_some, option_map, [], ◌++◌, option_to_list, vec_len, vec_capacity, length, AllPairs, ◌≢◌, None, Some, replicate, IsOk, IfOk, IfSome, OnErr};
 ghost use Rattle.zk_model_work.specs.State.{State, start_of};
 ghost use Rattle.zk_model_work.specs.Machine.{is_among, admitted_to};
 ghost use Rattle.zk_queue.specs.Open.{is_running};
-ghost use Rattle.zk_work.specs.Kept.{IsWhole, StandsFor, work_closes};
-ghost use Rattle.zk_work.specs.Engine.{target_of, admission_of, answer_at, answer_of, MayAdmit, admitted, flags_of, may_close, closed, reply_of, after_reply};
+ghost use Rattle.zk_time.specs.Timeouts.{is_armed, due_first, drop_due, count_due, pair_of};
+ghost use Rattle.zk_work.specs.Kept.{IsWhole, StandsFor, work_closes, work_grows};
+ghost use Rattle.zk_work.specs.Engine.{target_of, admission_of, answer_at, answer_of, MayAdmit, admitted, submitted, disarmed, is_pending, delayed, delay_reply, hurried, expiry_of, expired_next, expired, told, announced, announce_reply, flags_of, may_close, closed, reply_of, after_reply, is_now, IsTimely};
 
 use crate::active::{busy_with, cancel, settle};
 use crate::waits::{close, is_flushing, may_close};
 use bitflags::Flags;
 use std::alloc::Global;
 use std::marker::Model;
-use zk_base::{Engine, Errno, NoMemory, Who};
+use zk_base::{Engine, Errno, Listed, NoMemory, Who};
 use zk_model_work::{
-    Awaited, BusyFlags, Change, Closing, Queue, Submitted, Wait, WorkOp, WorkReply, WorkState,
-    cancel_start_reply, change, drain, drain_reply, drained_of, flush_start_reply, fresh_queues,
-    is_worker, put_wait, refusal, start_reply, united, unplug_reply, wait_for,
+    Awaited, BusyFlags, Change, Closing, Expiry, Queue, Submitted, Wait, WorkOp, WorkReply,
+    WorkState, cancel_start_reply, change, drain, drain_reply, drained_of, flush_start_reply,
+    fresh_queues, is_worker, put_wait, refusal, start_reply, united, unplug_reply, wait_for,
 };
 use zk_queue::Queues;
+use zk_time::TimeoutList;
 
 /// What the work service computes and keeps: the open admissions, and of all others only how many
 /// there were, and to which queue the last one of each item was.
@@ -31,6 +33,8 @@ pub struct WorkEngine {
     // The queue of each item's last admission. An item that runs, runs there.
     last: Vec<Option<u32>>,
     active: Queues,
+    // The items that are armed.
+    timeouts: TimeoutList,
     // The waits that aren't answered.
     waits: Vec<Wait>,
     queues: Vec<Queue>,
@@ -50,6 +54,7 @@ impl Model for WorkEngine {
         running = a.running;
         last = a.last.items;
         active = a.active;
+        timeouts = a.timeouts;
         waits = a.waits.items;
         queues = a.queues.items;
       };
@@ -68,6 +73,38 @@ fn no_queues(alloc: Global, items: u32) -> Result<Vec<Option<u32>>, NoMemory>
     Ok(last)
 }
 
+/// One expiry more. There has to be a place for it.
+fn tell(told: &mut Vec<Expiry>, expiry: Expiry)
+    requires { vec_len told.old < vec_capacity told.old }
+    ensures items { told.new.items ≡ told.old.items ++ option_to_list (Some expiry) }
+    ensures len { vec_len told.new ≡ vec_len told.old + 1 }
+    ensures capacity { vec_capacity told.old ≤ vec_capacity told.new }
+{
+    if told.push(expiry).is_err() {
+        unreachable!();
+    }
+}
+
+/// The same reply once more. That of an announce holds a list, and isn't given here.
+fn again(reply: &WorkReply) -> WorkReply
+    requires { is_now reply.now ≡ false }
+    ensures { result ≡ reply.now }
+{
+    match *reply {
+        WorkReply::Sub(submitted) => WorkReply::Sub(submitted),
+        WorkReply::Armed => WorkReply::Armed,
+        WorkReply::Flags(flags) => WorkReply::Flags(flags),
+        WorkReply::Truth(truth) => WorkReply::Truth(truth),
+        WorkReply::Wait => WorkReply::Wait,
+        WorkReply::WaitFor(number) => WorkReply::WaitFor(number),
+        WorkReply::Number(number) => WorkReply::Number(number),
+        WorkReply::Done => WorkReply::Done,
+        WorkReply::Already => WorkReply::Already,
+        WorkReply::Now(_, _) => unreachable!(),
+        WorkReply::Run(item, number) => WorkReply::Run(item, number),
+    }
+}
+
 impl WorkEngine {
     /// The engine before the first entry.
     pub fn new(
@@ -84,6 +121,7 @@ impl WorkEngine {
     {
         let queues = fresh_queues(alloc, workers, started)?;
         let active = Queues::new(alloc, items, workers.len() as u32)?;
+        let timeouts = TimeoutList::new(alloc, items)?;
         let last = no_queues(alloc, items)?;
         Ok(WorkEngine {
             time: 0,
@@ -92,6 +130,7 @@ impl WorkEngine {
             running: 0,
             last,
             active,
+            timeouts,
             waits: Vec::new(alloc),
             queues,
         })
@@ -163,6 +202,23 @@ impl WorkEngine {
         self.made += 1;
     }
 
+    /// The item is admitted, where the answer to its submission says so.
+    fn take(&mut self, item: u32, answer: Submitted)
+        requires whole { IsWhole self.old.kept }
+        requires item { item < self.old.kept.active.items }
+        requires may { (queue : ℕ) → admitted_to answer ≡ Some queue → MayAdmit self.old.kept item queue }
+        ensures next { self.new.kept ≡ submitted self.old.kept item answer }
+        ensures whole { self.old.kept.made + length self.old.kept.timeouts.live < self.old.kept.entries →
+            IsWhole self.new.kept }
+        ensures room { self.new.room ≡ self.old.room }
+    {
+        match answer {
+            Submitted::Fresh(_, queue) => self.admit(item, queue),
+            Submitted::Rerun(_, queue) => self.admit(item, queue),
+            _ => {}
+        }
+    }
+
     fn submit(&mut self, who: Who, item: u32, named: Option<u32>) -> Option<WorkReply>
         requires whole { IsWhole self.old.kept }
         requires item { item < self.old.kept.active.items }
@@ -171,11 +227,7 @@ impl WorkEngine {
         ensures room { self.new.room ≡ self.old.room }
     {
         let answer = self.answer(Some(who.number), item, named);
-        match answer {
-            Submitted::Fresh(_, queue) => self.admit(item, queue),
-            Submitted::Rerun(_, queue) => self.admit(item, queue),
-            _ => {}
-        }
+        self.take(item, answer);
         self.entries += 1;
         Some(WorkReply::Sub(answer))
     }
@@ -186,8 +238,9 @@ impl WorkEngine {
         ensures { result.0 ≡ flags_of self.now.kept item }
     {
         let busy = busy_with(&self.active, item);
+        let armed = self.timeouts.is_armed(item);
         let flushing = is_flushing(&self.active, &self.waits, item);
-        united(busy.runs, busy.cancelling, busy.waits, false, flushing)
+        united(busy.runs, busy.cancelling, busy.waits, armed, flushing)
     }
 
     fn cancel(&mut self, who: Who, item: u32) -> Option<WorkReply>
@@ -197,6 +250,7 @@ impl WorkEngine {
         ensures next { self.new.kept ≡ after_reply self.old.kept who (WorkOp.Cancel item) result }
         ensures room { self.new.room ≡ self.old.room }
     {
+        self.timeouts.disarm(item);
         cancel(&mut self.active, item);
         settle(&self.active, &mut self.queues);
         self.entries += 1;
@@ -221,6 +275,7 @@ impl WorkEngine {
             Some(number) => Some(wait_for(self.entries, who, Awaited::Cancel(number))),
         };
         put_wait(&mut self.waits, wait)?;
+        self.timeouts.disarm(item);
         cancel(&mut self.active, item);
         settle(&self.active, &mut self.queues);
         self.entries += 1;
@@ -238,6 +293,8 @@ impl WorkEngine {
         ensures roomy { 3 ≤ self.old.room → IsOk result }
         ensures room { self.old.room ≤ self.new.room + 3 }
     {
+        self.waits.reserve(1)?;
+        self.hurry(who, item);
         let waiting = self.active.waiting(item);
         let number = waiting.or(self.active.running(item));
         let wait = match number {
@@ -247,6 +304,192 @@ impl WorkEngine {
         put_wait(&mut self.waits, wait)?;
         self.entries += 1;
         Ok(Some(flush_start_reply(number)))
+    }
+
+    /// The item isn't armed any more.
+    fn disarm(&mut self, item: u32)
+        requires whole { IsWhole self.old.kept }
+        ensures next { self.new.kept ≡ disarmed self.old.kept item }
+        ensures whole { IsWhole self.new.kept }
+        ensures free { is_armed self.new.kept.timeouts item ≡ false }
+        ensures room { self.new.room ≡ self.old.room }
+    {
+        self.timeouts.disarm(item);
+    }
+
+    /// The item's delay ends, if it has one: the item is submitted by the player.
+    fn hurry(&mut self, who: Who, item: u32)
+        requires whole { IsWhole self.old.kept }
+        requires item { item < self.old.kept.active.items }
+        ensures next { self.new.kept ≡ hurried self.old.kept who item }
+        ensures room { self.new.room ≡ self.old.room }
+    {
+        let queue = self.timeouts.queue(item);
+        self.disarm(item);
+        if let Some(queue) = queue {
+            let answer = self.answer(Some(who.number), item, Some(queue));
+            self.take(item, answer);
+        }
+    }
+
+    /// Whether the item is delayed, queued or being cancelled.
+    fn is_pending(&self, item: u32) -> bool
+        requires { item < self.now.kept.active.items }
+        ensures { result ≡ is_pending self.now.kept item }
+    {
+        let busy = busy_with(&self.active, item);
+        self.timeouts.is_armed(item) || busy.waits || busy.cancelling
+    }
+
+    /// Gives an item that isn't armed a delay: with none it is submitted.
+    fn delay(&mut self, who: Who, item: u32, queue: u32, delay: u32) -> WorkReply
+        requires whole { IsWhole self.old.kept }
+        requires item { item < self.old.kept.active.items }
+        requires short { self.old.kept.entries < 2 ^ 32 - 1 }
+        requires free { is_armed self.old.kept.timeouts item ≡ false }
+        ensures reply { result ≡ delay_reply self.old.kept who item queue delay }
+        ensures next { self.new.kept ≡ delayed self.old.kept who item queue delay }
+        ensures room { self.new.room ≡ self.old.room }
+    {
+        if delay == 0 {
+            let answer = self.answer(Some(who.number), item, Some(queue));
+            self.take(item, answer);
+            return WorkReply::Sub(answer);
+        }
+        let deadline = self.time + u64::from(delay);
+        self.timeouts.arm(item, queue, deadline);
+        WorkReply::Armed
+    }
+
+    fn schedule(&mut self, who: Who, item: u32, queue: u32, delay: u32) -> Option<WorkReply>
+        requires whole { IsWhole self.old.kept }
+        requires item { item < self.old.kept.active.items }
+        requires short { self.old.kept.entries < 2 ^ 32 - 1 }
+        ensures reply { result ≡ reply_of self.old.kept who (WorkOp.Schedule item queue delay) }
+        ensures next { self.new.kept ≡ after_reply self.old.kept who (WorkOp.Schedule item queue delay) result }
+        ensures timely { delay < 2 ^ 32 }
+        ensures room { self.new.room ≡ self.old.room }
+    {
+        if self.is_pending(item) {
+            self.entries += 1;
+            return Some(WorkReply::Sub(Submitted::Already));
+        }
+        let reply = self.delay(who, item, queue, delay);
+        self.entries += 1;
+        Some(reply)
+    }
+
+    fn reschedule(&mut self, who: Who, item: u32, queue: u32, delay: u32) -> Option<WorkReply>
+        requires whole { IsWhole self.old.kept }
+        requires item { item < self.old.kept.active.items }
+        requires short { self.old.kept.entries < 2 ^ 32 - 1 }
+        ensures reply { result ≡ reply_of self.old.kept who (WorkOp.Reschedule item queue delay) }
+        ensures next { self.new.kept ≡ after_reply self.old.kept who (WorkOp.Reschedule item queue delay) result }
+        ensures timely { delay < 2 ^ 32 }
+        ensures room { self.new.room ≡ self.old.room }
+    {
+        self.disarm(item);
+        let reply = self.delay(who, item, queue, delay);
+        self.entries += 1;
+        Some(reply)
+    }
+
+    fn remaining(&mut self, who: Who, item: u32) -> Option<WorkReply>
+        requires whole { IsWhole self.old.kept }
+        ensures reply { result ≡ reply_of self.old.kept who (WorkOp.Remaining item) }
+        ensures next { self.new.kept ≡ after_reply self.old.kept who (WorkOp.Remaining item) result }
+        ensures room { self.new.room ≡ self.old.room }
+    {
+        let remaining = match self.timeouts.deadline(item) {
+            None => 0,
+            Some(deadline) => deadline.saturating_sub(self.time),
+        };
+        self.entries += 1;
+        Some(WorkReply::Number(remaining))
+    }
+
+    /// Takes out the first item that is due by this time, if there is one: the item and its queue.
+    fn take_due(&mut self, time: u64) -> Option<(u32, u32)>
+        requires whole { IsWhole self.old.kept }
+        ensures reply { result ≡ option_map pair_of (due_first time self.old.kept.timeouts.live) }
+        ensures next { self.new.kept ≡ record self.old.kept { timeouts = drop_due self.old.kept.timeouts time } }
+        ensures whole { IsWhole self.new.kept }
+        ensures known { IfSome result (λ t. t.0 < self.old.kept.active.items) }
+        ensures room { self.new.room ≡ self.old.room }
+    {
+        self.timeouts.due(time)
+    }
+
+    /// The first item that is due by this time is submitted by nobody. One has to be due.
+    fn expire_next(&mut self, time: u64) -> Expiry
+        requires whole { IsWhole self.old.kept }
+        requires due { is_some (due_first time self.old.kept.timeouts.live) ≡ true }
+        ensures expiry { Some result ≡ option_map (expiry_of self.old.kept) (due_first time self.old.kept.timeouts.live) }
+        ensures next { self.new.kept ≡ expired_next time self.old.kept }
+        ensures whole { IsWhole self.new.kept }
+        ensures room { self.new.room ≡ self.old.room }
+    {
+        let Some((item, queue)) = self.take_due(time) else {
+            unreachable!();
+        };
+        let submitted = self.answer(None, item, Some(queue));
+        self.take(item, submitted);
+        Expiry { item, submitted }
+    }
+
+    /// All items that are due by this time are submitted by nobody, and what became of each is told twice.
+    fn expire(&mut self, time: u64, one: &mut Vec<Expiry>, other: &mut Vec<Expiry>)
+        requires whole { IsWhole self.old.kept }
+        requires one { count_due self.old.kept.timeouts time ≤ vec_capacity one.old }
+        requires other { count_due self.old.kept.timeouts time ≤ vec_capacity other.old }
+        requires none { (one.old.items ≡ []) × (other.old.items ≡ []) }
+        ensures next { self.new.kept ≡ expired (count_due self.old.kept.timeouts time) time self.old.kept }
+        ensures one { one.new.items ≡ told (count_due self.old.kept.timeouts time) time self.old.kept }
+        ensures other { other.new.items ≡ told (count_due self.old.kept.timeouts time) time self.old.kept }
+        ensures entries { self.new.kept.entries ≡ self.old.kept.entries }
+        ensures room { self.new.room ≡ self.old.room }
+    {
+        for _ in 0..self.timeouts.count_due(time) {
+            let expiry = self.expire_next(time);
+            tell(one, expiry);
+            tell(other, expiry);
+        }
+    }
+
+    /// It is this time, at an entry that is counted.
+    fn pass(&mut self, time: u64)
+        requires short { self.old.kept.entries < 2 ^ 32 - 1 }
+        ensures next { self.new.kept ≡ record self.old.kept { time = time; entries = self.old.kept.entries + 1 } }
+        ensures room { self.new.room ≡ self.old.room }
+    {
+        self.time = time;
+        self.entries += 1;
+    }
+
+    /// So many ticks have passed. The reply comes twice, since one of them is kept in the history.
+    fn announce(&mut self, ticks: u32) -> Result<(WorkReply, WorkReply), NoMemory>
+        requires whole { IsWhole self.old.kept }
+        requires short { self.old.kept.entries < 2 ^ 32 - 1 }
+        ensures reply { IfOk result (λ two. two.0 ≡ announce_reply self.old.kept ticks) }
+        ensures twice { IfOk result (λ two. two.1 ≡ two.0) }
+        ensures next { IfOk result (λ two. self.new.kept ≡ record (announced self.old.kept ticks) {
+          entries = self.old.kept.entries + 1;
+        }) }
+        ensures unchanged { OnErr result (self.new.kept ≡ self.old.kept) }
+        ensures timely { ticks < 2 ^ 32 }
+        ensures room { self.new.room ≡ self.old.room }
+    {
+        let alloc = *self.waits.allocator();
+        let time = self.time + u64::from(ticks);
+        let due = self.timeouts.count_due(time);
+        let mut one = Vec::with_capacity(alloc, due)?;
+        let mut other = Vec::with_capacity(alloc, due)?;
+        self.expire(time, &mut one, &mut other);
+        self.pass(time);
+        Ok((
+            WorkReply::Now(time, Listed::from_vec(one)),
+            WorkReply::Now(time, Listed::from_vec(other)),
+        ))
     }
 
     fn drain_start(
@@ -401,15 +644,18 @@ impl WorkEngine {
         Some(WorkReply::Done)
     }
 
-    /// One operation.
+    /// One operation that isn't an announce.
     fn one(&mut self, who: Who, op: &WorkOp) -> Result<Option<WorkReply>, NoMemory>
         requires whole { IsWhole self.old.kept }
         requires range { is_among self.old.kept.active.items self.old.kept.active.queues op.now ≡ true }
+        requires short { self.old.kept.entries < 2 ^ 32 - 1 }
+        requires plain { work_grows op.now ≡ false }
         ensures reply { IfOk result (λ reply. reply ≡ reply_of self.old.kept who op.now) }
         ensures next { IfOk result (λ reply.
             self.new.kept ≡ after_reply self.old.kept who op.now reply) }
         ensures unchanged { OnErr result (self.new.kept ≡ self.old.kept) }
         ensures closing { work_closes op.now ≡ true → IsOk result }
+        ensures timely { IsTimely op.now }
         ensures roomy { 3 ≤ self.old.room → IsOk result }
         ensures room { self.old.room ≤ self.new.room + 3 }
     {
@@ -420,10 +666,14 @@ impl WorkEngine {
             WorkOp::CancelDone(place) => Ok(self.cancel_done(who, place)),
             WorkOp::FlushStart(item) => self.flush_start(who, item),
             WorkOp::FlushDone(place) => Ok(self.flush_done(who, place)),
+            WorkOp::Schedule(item, queue, delay) => Ok(self.schedule(who, item, queue, delay)),
+            WorkOp::Reschedule(item, queue, delay) => Ok(self.reschedule(who, item, queue, delay)),
+            WorkOp::Remaining(item) => Ok(self.remaining(who, item)),
             WorkOp::Start(queue) => Ok(self.start(who, queue)),
             WorkOp::DrainStart(queue, plug) => self.drain_start(who, queue, plug),
             WorkOp::DrainDone(place) => Ok(self.drain_done(who, place)),
             WorkOp::Unplug(queue) => Ok(self.unplug(who, queue)),
+            WorkOp::Announce(_) => unreachable!(),
             WorkOp::Begin(queue) => Ok(self.begin(who, queue)),
             WorkOp::End(queue) => Ok(self.end(who, queue)),
         }
@@ -437,9 +687,8 @@ impl Engine for WorkEngine {
 
     type State = WorkState;
 
-    ghost use Rattle.std.specs.Prelude.{false};
     ghost use Rattle.zk_model_work.specs.Machine.{work_machine};
-    ghost use Rattle.zk_work.specs.Kept.{StandsFor, work_owed, work_closes};
+    ghost use Rattle.zk_work.specs.Kept.{StandsFor, work_owed, work_closes, work_grows};
     ghost use Rattle.zk_work.specs.Laws.{counts, ranges, adds, gives};
 
     ghost stands_for = { λ e. StandsFor e.kept };
@@ -454,12 +703,18 @@ impl Engine for WorkEngine {
 
     ghost closes = { λ s who op. work_closes op };
 
-    ghost grows = { λ op. false };
+    ghost grows = { work_grows };
 
     fn step(&mut self, who: Who, op: &WorkOp) -> Result<Option<(WorkReply, WorkReply)>, NoMemory> {
+        if let WorkOp::Announce(ticks) = *op {
+            return Ok(Some(self.announce(ticks)?));
+        }
         match self.one(who, op)? {
             None => Ok(None),
-            Some(reply) => Ok(Some((reply, reply))),
+            Some(reply) => {
+                let again = again(&reply);
+                Ok(Some((reply, again)))
+            }
         }
     }
 

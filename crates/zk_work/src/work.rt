@@ -45,9 +45,8 @@ impl Service for Work {
 
     type State = WorkState;
 
-    ghost use Rattle.std.specs.Prelude.{false};
     ghost use Rattle.zk_model_work.specs.Machine.{work_machine};
-    ghost use Rattle.zk_work.specs.Kept.{work_closes};
+    ghost use Rattle.zk_work.specs.Kept.{work_closes, work_grows};
     ghost use Rattle.zk_work.specs.Seen.{work_start, work_history};
 
     ghost machine = { work_machine };
@@ -60,7 +59,7 @@ impl Service for Work {
 
     ghost closes = { λ s who op. work_closes op };
 
-    ghost grows = { λ op. false };
+    ghost grows = { work_grows };
 
     fn act(&mut self, who: Who, step: u32, op: WorkOp) -> Result<Option<WorkReply>, NoMemory> {
         self.inner.act(who, step, op)

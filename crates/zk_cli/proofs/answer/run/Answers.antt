@@ -20,6 +20,7 @@ returns c =
       laws = c.histories_keep_laws.ensures _ trace.work (record {
         work = record { fresh = refl; legal = c.in_ok-trace.ensures.lawful.legal };
         first = refl;
+        arms = refl;
         waits = refl;
         undrained = undrained-fresh _ _;
       });

@@ -1,4 +1,4 @@
-use Rattle.std.proofs.Common.{List, subst, ◌∙◌, arith}
+use Rattle.std.proofs.Common.{List, subst, arith}
 use Rattle.zk_time.specs.declared.arm.Arm.{Arm}
 use Rattle.zk_time.specs.Deltas.{IsPlace}
 use Rattle.zk_time.proofs.Looks.{counts_due}

@@ -1,5 +1,5 @@
 use Rattle.std.proofs.Common.{◌≡◌, ℕ, true, ◌+◌, List, ◌++◌, length, take, drop, vec_capacity, sym, ap, subst, ◌∙◌, arith}
-use Rattle.std.specs.List.{position, remove}
+use Rattle.std.specs.List.{position}
 use Rattle.std.proofs.lemmas.List.{take_at}
 use Rattle.zk_time.specs.declared.arm.Arm.{Arm}
 use Rattle.zk_time.specs.Timeouts.{is_armed, disarm, IsOrdered}

@@ -1,13 +1,13 @@
-use Rattle.std.proofs.Common.{◌≡◌, ℕ, ◌-◌, Some, [], List, ◌++◌, length, take, drop, vec_capacity, sym, ap, subst, ◌∙◌, arith}
+use Rattle.std.proofs.Common.{◌≡◌, ℕ, ◌-◌, [], List, ◌++◌, length, take, drop, vec_capacity, sym, ap, subst, ◌∙◌, arith}
 use Rattle.std.specs.List.{slice_get}
 use Rattle.std.proofs.lemmas.List.{length-take, take_at}
 use Rattle.zk_time.specs.declared.arm.Arm.{Arm}
-use Rattle.zk_time.specs.Timeouts.{drop_due, IsOrdered}
+use Rattle.zk_time.specs.Timeouts.{IsOrdered}
 use Rattle.zk_time.specs.Deltas.{earlier, later, longer, seen_of, IsKept}
-use Rattle.zk_time.proofs.Disarming.{Takes, last_first, takes_last, takes_ordered, takes_kept, due_yes, due_no}
+use Rattle.zk_time.proofs.Disarming.{Takes, takes_last, takes_ordered, takes_kept}
 use Rattle.zk_time.proofs.Room.{ordered}
 use Rattle.zk_time.proofs.timeout_list.TimeoutList.due.Goals as goal
-use Rattle.zk_time.proofs.timeout_list.TimeoutList.due.Goals.{Then-now-arm, After-lengthen}
+use Rattle.zk_time.proofs.timeout_list.TimeoutList.due.Goals.{Then-now-deadline, After-lengthen}
 
 known : (c : After-lengthen) →
     Takes (vec_capacity c.self.inside.arms) c.self.inside.arms.items c.lengthen.new.arms c.args.self.now [] c.in_ok-arm.arm (later (length c.self.inside.arms.items - 1) c.self.inside.arms.items)
@@ -32,8 +32,8 @@ written c = take_at c.lengthen.new.arms (drop (length c.lengthen.new.arms) c.pop
 seen : (c : After-lengthen) → seen_of c.pop.new.self.cap (items_after c) ≡ seen_of (vec_capacity c.self.inside.arms) c.lengthen.new.arms
 seen c = ap (seen_of c.pop.new.self.cap) (written c) ∙ ap (λ (n : ℕ). seen_of n c.lengthen.new.arms) c.pop.ensures.capacity
 
-pub returns-then-now-arm-clause-ordered : goal.returns-then-now-arm-clause-ordered
-returns-then-now-arm-clause-ordered c = ordered _ c.self.inside.arms.items c.args.self.now c.self.view_is c.self.invariant
+pub returns-then-now-deadline-clause-ordered : goal.returns-then-now-deadline-clause-ordered
+returns-then-now-deadline-clause-ordered c = ordered _ c.self.inside.arms.items c.args.self.now c.self.view_is c.self.invariant
 
 pub invariant_of-self : goal.invariant_of-self
 invariant_of-self c =

@@ -1,8 +1,7 @@
-use Rattle.zk_work.proofs.Fresh.{fresh-stands, fresh_is}
+use Rattle.zk_work.proofs.Fresh.{fresh_is}
 use Rattle.zk_work.proofs.engine.WorkEngine.new.Goals as goal
 
 pub returns : goal.returns
 returns c =
-    fresh_is c.args.items c.args.workers.now c.args.started.now _ _ _ _
-    c.new-2.ensures.items (c.in_ok-last.ensures) (c.in_ok-active.ensures) (c.in_ok-queues.ensures)
-    (fresh-stands c.args.items c.args.workers.now c.args.started.now c.requires.same c.requires.queues)
+    fresh_is c.args.items c.args.workers.now c.args.started.now _ _ _ _ _
+    c.new-3.ensures.items (c.in_ok-last.ensures) (c.in_ok-active.ensures) (c.in_ok-timeouts.ensures.made) (c.in_ok-queues.ensures) c.requires.same c.requires.queues
