@@ -43,10 +43,12 @@ fn not_yet(rt: HostRuntime) -> Result<(), Fail> {
 /// The number that the player's answer of this place is, if it is one.
 fn number_at(log: &Log, place: usize) -> Option<u64> {
     match log.answers.items().get(place) {
-        Some(Answered {
-            answer: Answer::Number(number),
-            ..
-        }) => Some(*number),
+        Some(
+            Answered {
+                answer: Answer::Number(number),
+                ..
+            },
+        ) => Some(*number),
         _ => None,
     }
 }
@@ -54,7 +56,8 @@ fn number_at(log: &Log, place: usize) -> Option<u64> {
 /// A delay ends with the ticks of its time: the item is submitted then, and runs.
 #[test]
 fn delays_end(rt: HostRuntime) -> Result<(), Fail> {
-    let text = b"zk 1\nthread t0 0 super\nqueue q0 0 on\nitem w0\nscript t0\nschedule w0 q0 2\ntick 1\nremaining w0\ntick 2\nend\n";
+    let text =
+        b"zk 1\nthread t0 0 super\nqueue q0 0 on\nitem w0\nscript t0\nschedule w0 q0 2\ntick 1\nremaining w0\ntick 2\nend\n";
     let scenario = read_scenario(rt.alloc(), text)?;
     let trace = replay(rt.alloc(), &scenario)?;
     assert_eq!(&rt; trace.ending, Ending::Ended);
