@@ -23,43 +23,57 @@ fn queue_number(scenario: &Scenario, named: Option<Ref>) -> Option<u32>
     }
 }
 
+/// One step at the work service.
+fn one(op: WorkOp) -> Form
+    ensures { result ≡ Form.One (Step.Work op) }
+{
+    Form::One(Step::Work(op))
+}
+
+/// A step at the work service that may begin a wait, and the end of it.
+fn pair(opening: WorkOp, closing: Closing) -> Form
+    ensures { result ≡ Form.Pair (Step.Work opening) closing }
+{
+    Form::Pair(Step::Work(opening), closing)
+}
+
 /// How a call goes.
 pub fn form_of(scenario: &Scenario, call: Call) -> Form
     ensures { result ≡ form_of scenario.now.decls call }
 {
     match call {
-        Call::Submit(item, queue) => Form::One(Step::Work(WorkOp::Submit(
+        Call::Submit(item, queue) => one(WorkOp::Submit(
             ref_number(scenario, item),
             queue_number(scenario, queue),
-        ))),
-        Call::Cancel(item) => Form::One(Step::Work(WorkOp::Cancel(ref_number(scenario, item)))),
-        Call::CancelSync(item) => Form::Pair(
-            Step::Work(WorkOp::CancelStart(ref_number(scenario, item))),
-            Closing::Cancel,
-        ),
-        Call::Flush(item) => Form::Pair(
-            Step::Work(WorkOp::FlushStart(ref_number(scenario, item))),
+        )),
+        Call::Cancel(item) => one(WorkOp::Cancel(ref_number(scenario, item))),
+        Call::CancelSync(item) => {
+            pair(
+                WorkOp::CancelStart(ref_number(scenario, item)),
+                Closing::Cancel,
+            )
+        }
+        Call::Flush(item) => pair(
+            WorkOp::FlushStart(ref_number(scenario, item)),
             Closing::Flush,
         ),
-        Call::Schedule(item, queue, delay) => Form::One(Step::Work(WorkOp::Schedule(
+        Call::Schedule(item, queue, delay) => one(WorkOp::Schedule(
             ref_number(scenario, item),
             ref_number(scenario, queue),
             delay,
-        ))),
-        Call::Reschedule(item, queue, delay) => Form::One(Step::Work(WorkOp::Reschedule(
+        )),
+        Call::Reschedule(item, queue, delay) => one(WorkOp::Reschedule(
             ref_number(scenario, item),
             ref_number(scenario, queue),
             delay,
-        ))),
-        Call::Remaining(item) => {
-            Form::One(Step::Work(WorkOp::Remaining(ref_number(scenario, item))))
-        }
-        Call::Start(queue) => Form::One(Step::Work(WorkOp::Start(ref_number(scenario, queue)))),
-        Call::Drain(queue, plug) => Form::Pair(
-            Step::Work(WorkOp::DrainStart(ref_number(scenario, queue), plug)),
+        )),
+        Call::Remaining(item) => one(WorkOp::Remaining(ref_number(scenario, item))),
+        Call::Start(queue) => one(WorkOp::Start(ref_number(scenario, queue))),
+        Call::Drain(queue, plug) => pair(
+            WorkOp::DrainStart(ref_number(scenario, queue), plug),
             Closing::Drain,
         ),
-        Call::Unplug(queue) => Form::One(Step::Work(WorkOp::Unplug(ref_number(scenario, queue)))),
+        Call::Unplug(queue) => one(WorkOp::Unplug(ref_number(scenario, queue))),
         Call::Tick(ticks) => Form::Twice(
             Step::Work(WorkOp::Announce(ticks)),
             Step::Clock(ClockOp::Announce(ticks)),

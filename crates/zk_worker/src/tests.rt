@@ -1,4 +1,4 @@
-use crate::{Player, StepReply};
+use crate::{Player, PlayerState, StepReply};
 use std::alloc::Global;
 use std::test::*;
 use zk_base::{Listed, NoMemory};
@@ -67,6 +67,10 @@ fn delays(rt: HostRuntime) -> Result<(), Fail> {
         assert_eq!(&rt; said.as_str(), *told);
     }
     assert!(&rt; player.is_through());
+    let log = player.into_log();
+    assert_eq!(&rt; log.state, PlayerState::Done);
+    assert_eq!(&rt; log.steps.items().len(), 4);
+    assert_eq!(&rt; log.answers.items().len(), 4);
     Ok(())
 }
 
