@@ -1,4 +1,4 @@
--- Lemmas on histories: one entry more, and a front.
+-- Lemmas on histories: one entry more, a front, and two parts.
 use Rattle.std.proofs.Common.{◌≡◌, ℕ, ◌+◌, ◌-◌, ◌<◌, ◌≤◌, Bool, true, false, Some, List, [], ◌∷◌, ◌++◌, length, All, refl, sym, subst, ◌∙◌, min, arith, add-zero}
 use Rattle.std.proofs.lemmas.List.Elements.{All-nil, All-cons, All-head, All-tail, All-append}
 use Rattle.zk_base.specs.declared.ids.Who.{Who}
@@ -48,11 +48,20 @@ IsLegal-front {S} {O} {R} m s h l k =
     let P : Entry O R → Type 0 = λ f. m.in_range s f.op ≡ true in
     (Replays-front m s h l k.0, Rises-front h l k.1, All-front P h l k.2)
 
+-- the state after both parts
+pub state_after-append : {S O R : Type 0} (m : Machine S O R) (s : S) (front rest : List (Entry O R)) → state_after m s (front ++ rest) ≡ state_after m (state_after m s front) rest
+state_after-append m s [] rest = refl
+state_after-append m s (e ∷ es) rest = state_after-append m (m.next s e.who e.op) es rest
+
+-- the second part replays from the state after the first
+pub Replays-rest : {S O R : Type 0} (m : Machine S O R) (s : S) (front rest : List (Entry O R)) → Replays m s (front ++ rest) → Replays m (state_after m s front) rest
+Replays-rest m s [] rest replays = replays
+Replays-rest m s (e ∷ es) rest replays = Replays-rest m (m.next s e.who e.op) es rest replays.1
+
 -- the state after one entry more
 pub state_after-snoc : {S O R : Type 0} (m : Machine S O R) (s : S) (h : List (Entry O R)) (e : Entry O R) →
     state_after m s (h ++ e ∷ []) ≡ m.next (state_after m s h) e.who e.op
-state_after-snoc m s [] e = refl
-state_after-snoc m s (f ∷ fs) e = state_after-snoc m (m.next s f.who f.op) fs e
+state_after-snoc m s h e = state_after-append m s h (e ∷ [])
 
 -- what is in range in the first state is in range in every later one
 pub in_range-after : {S O R : Type 0} (m : Machine S O R) → ((s : S) (who : Who) (op : O) → m.in_range (m.next s who op) ≡ m.in_range s) →

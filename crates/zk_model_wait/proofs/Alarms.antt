@@ -17,7 +17,7 @@ use Rattle.zk_model_wait.specs.declared.clock.ClockReply.{ClockReply}
 use Rattle.zk_model_wait.specs.declared.clock.ClockReply.TheVariants.{Now, At, Due}
 use Rattle.zk_model_wait.specs.Lists.{without_first}
 use Rattle.zk_model_wait.specs.Clock.{Clock, new_clock, is_alarm, has_alarm, is_due, clock_reply, clock_next, clock_machine}
-use Rattle.zk_model_wait.specs.ClockLaws.{ClockHistory, clock_after, is_at, is_end_of, sets, ends, IsClockHistory, DueWhenItsMomentHasCome, EachEndsOnce, MayEndOnceItHasCome}
+use Rattle.zk_model_wait.specs.ClockLaws.{ClockHistory, clock_after, is_at, is_end_of, sets, ends, IsClockHistory, OfEach, DueWhenItsMomentHasCome, EachEndsOnce, MayEndOnceItHasCome}
 use Rattle.zk_model_wait.proofs.Firsts.{one_if, count-without, count-aside, any-counted, counted-any}
 use Rattle.zk_model_wait.proofs.Ticks.{replied}
 
@@ -83,21 +83,21 @@ standing-state c (e ∷ es) player moment replays =
 standing-after : (h : ClockHistory) (player moment : ℕ) → IsClockHistory h → standing player moment (clock_after h).alarms + count_by (ends player moment) h ≡ count_by (sets player moment) h
 standing-after h player moment legal = let all = standing-state new_clock h player moment legal.0 in omega arith
 
-pub each_ends_once : EachEndsOnce
-each_ends_once h player moment legal = let all = standing-after h player moment legal in omega arith
+pub each_ends_once : OfEach EachEndsOnce
+each_ends_once h legal player moment = let all = standing-after h player moment legal in omega arith
 
-pub due_when_its_moment_has_come : DueWhenItsMomentHasCome
-due_when_its_moment_has_come front rest e moment legal op =
+pub due_when_its_moment_has_come : OfEach DueWhenItsMomentHasCome
+due_when_its_moment_has_come h legal front rest e moment parts op =
     let c = clock_after front in
-    let due = was_due (is_due c.time c.alarms e.who.number moment) e.reply (ap (clock_reply c e.who) (sym op) ∙ replied front rest e legal) in
+    let due = was_due (is_due c.time c.alarms e.who.number moment) e.reply (ap (clock_reply c e.who) (sym op) ∙ replied h front rest e legal parts) in
     let come = first_so (leb moment c.time) (has_alarm c.alarms e.who.number moment) due.0 in
     let has = second_so (leb moment c.time) (has_alarm c.alarms e.who.number moment) due.0 in
     let some = counted-any (is_alarm e.who.number moment) c.alarms has in
-    let all = standing-after front e.who.number moment (IsLegal-front clock_machine new_clock front (e ∷ rest) legal) in
+    let all = standing-after front e.who.number moment (IsLegal-front clock_machine new_clock front (e ∷ rest) (subst IsClockHistory parts legal)) in
     (due.1, any-counted (sets e.who.number moment) front (omega arith), leb-true moment c.time come)
 
-pub may_end_once_it_has_come : MayEndOnceItHasCome
-may_end_once_it_has_come h who moment legal fewer come =
+pub may_end_once_it_has_come : OfEach MayEndOnceItHasCome
+may_end_once_it_has_come h legal who moment fewer come =
     let c = clock_after h in
     let all = standing-after h who.number moment legal in
     let has = any-counted (is_alarm who.number moment) c.alarms (omega arith) in

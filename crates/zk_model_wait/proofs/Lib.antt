@@ -1,4 +1,3 @@
 pub mod Alarms
 pub mod Firsts
-pub mod Parts
 pub mod Ticks

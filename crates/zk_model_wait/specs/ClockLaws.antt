@@ -30,28 +30,6 @@ abbrev pub ticks_of : ClockOp → ℕ
 ticks_of (ops.Announce ticks) = ticks
 ticks_of _ = 0
 
--- the time is the sum of all ticks that were announced
-abbrev pub TimeIsAllTicks : Type 0
-TimeIsAllTicks = (h : ClockHistory) → time_after h ≡ sum_by (λ e. ticks_of e.op) h
-
--- the time never falls
-abbrev pub TimeNeverFalls : Type 0
-TimeNeverFalls = (front rest : ClockHistory) → time_after front ≤ time_after (front ++ rest)
-
--- after fewer than 2^32 - 1 entries, each of fewer than 2^32 ticks, the time is below 2^64 - 2^33
-abbrev pub TimeIsShort : Type 0
-TimeIsShort = (h : ClockHistory) → All (λ e. ticks_of e.op < 2 ^ 32) h → length h < 2 ^ 32 - 1 → time_after h < 2 ^ 64 - 2 ^ 33
-
--- an announcement is answered the time before it and its ticks
-abbrev pub AnnounceTellsTheTime : Type 0
-AnnounceTellsTheTime = (front rest : ClockHistory) (e : Entry ClockOp ClockReply) (ticks : ℕ) → IsClockHistory (front ++ e ∷ rest) → e.op ≡ ops.Announce ticks →
-    e.reply ≡ Now (time_after front + ticks)
-
--- an alarm is answered its moment: the time at which it is set, and its ticks
-abbrev pub AlarmTellsItsMoment : Type 0
-AlarmTellsItsMoment = (front rest : ClockHistory) (e : Entry ClockOp ClockReply) (ticks : ℕ) → IsClockHistory (front ++ e ∷ rest) → e.op ≡ ops.Alarm ticks →
-    e.reply ≡ At (time_after front + ticks)
-
 -- the reply says that an alarm of this moment was set
 abbrev pub is_at : ℕ → ClockReply → Bool
 is_at moment (At set) = set == moment
@@ -70,16 +48,41 @@ sets player moment e = e.who.number == player && is_at moment e.reply
 abbrev pub ends : ℕ → ℕ → Entry ClockOp ClockReply → Bool
 ends player moment e = e.who.number == player && is_end_of moment e.op
 
+-- it holds of each clock history
+abbrev pub OfEach : (ClockHistory → Type 0) → Type 0
+OfEach P = (h : ClockHistory) → IsClockHistory h → P h
+
+-- Each of what follows is said of one history.
+
+-- the time is the sum of all ticks that were announced
+abbrev pub TimeIsAllTicks : ClockHistory → Type 0
+TimeIsAllTicks h = time_after h ≡ sum_by (λ e. ticks_of e.op) h
+
+-- the time never falls
+abbrev pub TimeNeverFalls : ClockHistory → Type 0
+TimeNeverFalls h = (front rest : ClockHistory) → h ≡ front ++ rest → time_after front ≤ time_after h
+
+-- after fewer than 2^32 - 1 entries, each of fewer than 2^32 ticks, the time is below 2^64 - 2^33
+abbrev pub TimeIsShort : ClockHistory → Type 0
+TimeIsShort h = All (λ e. ticks_of e.op < 2 ^ 32) h → length h < 2 ^ 32 - 1 → time_after h < 2 ^ 64 - 2 ^ 33
+
+-- an announcement is answered the time before it and its ticks
+abbrev pub AnnounceTellsTheTime : ClockHistory → Type 0
+AnnounceTellsTheTime h = (front rest : ClockHistory) (e : Entry ClockOp ClockReply) (ticks : ℕ) → h ≡ front ++ e ∷ rest → e.op ≡ ops.Announce ticks → e.reply ≡ Now (time_after front + ticks)
+
+-- an alarm is answered its moment: the time at which it is set, and its ticks
+abbrev pub AlarmTellsItsMoment : ClockHistory → Type 0
+AlarmTellsItsMoment h = (front rest : ClockHistory) (e : Entry ClockOp ClockReply) (ticks : ℕ) → h ≡ front ++ e ∷ rest → e.op ≡ ops.Alarm ticks → e.reply ≡ At (time_after front + ticks)
+
 -- an alarm that is told to be due was set before, by the same player and for this moment, and its moment has come
-abbrev pub DueWhenItsMomentHasCome : Type 0
-DueWhenItsMomentHasCome = (front rest : ClockHistory) (e : Entry ClockOp ClockReply) (moment : ℕ) → IsClockHistory (front ++ e ∷ rest) → e.op ≡ ops.AlarmEnd moment →
+abbrev pub DueWhenItsMomentHasCome : ClockHistory → Type 0
+DueWhenItsMomentHasCome h = (front rest : ClockHistory) (e : Entry ClockOp ClockReply) (moment : ℕ) → h ≡ front ++ e ∷ rest → e.op ≡ ops.AlarmEnd moment →
     (e.reply ≡ Due) × (list_any (sets e.who.number moment) front ≡ true) × (moment ≤ time_after front)
 
 -- no more alarms of a player and moment end than were set
-abbrev pub EachEndsOnce : Type 0
-EachEndsOnce = (h : ClockHistory) (player moment : ℕ) → IsClockHistory h → count_by (ends player moment) h ≤ count_by (sets player moment) h
+abbrev pub EachEndsOnce : ClockHistory → Type 0
+EachEndsOnce h = (player moment : ℕ) → count_by (ends player moment) h ≤ count_by (sets player moment) h
 
 -- an alarm that was set and hasn't ended may end once its moment has come
-abbrev pub MayEndOnceItHasCome : Type 0
-MayEndOnceItHasCome = (h : ClockHistory) (who : Who) (moment : ℕ) → IsClockHistory h → count_by (ends who.number moment) h < count_by (sets who.number moment) h → moment ≤ time_after h →
-    clock_reply (clock_after h) who (ops.AlarmEnd moment) ≡ Some Due
+abbrev pub MayEndOnceItHasCome : ClockHistory → Type 0
+MayEndOnceItHasCome h = (who : Who) (moment : ℕ) → count_by (ends who.number moment) h < count_by (sets who.number moment) h → moment ≤ time_after h → clock_reply (clock_after h) who (ops.AlarmEnd moment) ≡ Some Due

@@ -9,6 +9,7 @@ use Rattle.std.proofs.lemmas.Option.{slice_get-map, same_Some, slice_get-get_or}
 use Rattle.zk_base.specs.declared.ids.Who.{Who}
 use Rattle.zk_base.specs.declared.ids.Entry.{Entry}
 use Rattle.zk_base.specs.Legal.{state_after, Replays}
+use Rattle.zk_base.proofs.Histories.{state_after-append, Replays-rest}
 use Rattle.zk_model_work.specs.declared.parts.Life.{Life}
 use Rattle.zk_model_work.specs.declared.parts.Life.TheVariants.{Waiting, Running, Ended, Dropped}
 use Rattle.zk_model_work.specs.declared.parts.Admission.{Admission}
@@ -203,10 +204,6 @@ pub alive : (o : Option Admission) (life : Life) → option_map (λ a. a.life) o
 alive None life is = absurd (cc)
 alive (Some a) life is = (a, refl, same_Some a.life life is)
 
-pub state_after-append : (s : State) (front rest : List (Entry WorkOp WorkReply)) → state_after work_machine s (front ++ rest) ≡ state_after work_machine (state_after work_machine s front) rest
-state_after-append s [] rest = refl
-state_after-append s (e ∷ es) rest = state_after-append (work_next s e.who e.op) es rest
-
 pub dropped_never_begun : OfEach DroppedNeverBegun
 dropped_never_begun start h fresh front rest n parts is =
     let before = state_after work_machine start front in
@@ -214,7 +211,7 @@ dropped_never_begun start h fresh front rest n parts is =
     let kept = Kept-after before rest n was.0 was.1 in
     let over : kept.0.life ≡ Dropped = kept.2.over (ap is_open was.2) ∙ was.2 in
     let there : admission_after start h n ≡ Some kept.0 =
-    ap (λ (l : List (Entry WorkOp WorkReply)). admission_after start l n) parts ∙ ap (λ (s : State). slice_get s.admissions n) (state_after-append start front rest) ∙ kept.1 in
+    ap (λ (l : List (Entry WorkOp WorkReply)). admission_after start l n) parts ∙ ap (λ (s : State). slice_get s.admissions n) (state_after-append work_machine start front rest) ∙ kept.1 in
     begun-history start h n fresh.work ∙ ap begun there ∙ ap begun_by over
 
 pub run_or_dropped : OfEach RunOrDropped
@@ -228,11 +225,7 @@ run_or_dropped start h fresh n life is over =
       which Ended over all = inl (refl, all)
       which Dropped over all = inr (refl, all)
 
--- a later part of a history, and one entry of it, replay from the state after the front
-pub Replays-rest : (s : State) (front rest : List (Entry WorkOp WorkReply)) → Replays work_machine s (front ++ rest) → Replays work_machine (state_after work_machine s front) rest
-Replays-rest s [] rest replays = replays
-Replays-rest s (e ∷ es) rest replays = Replays-rest (work_next s e.who e.op) es rest replays.1
-
+-- a history that is equal to its parts, in its parts
 pub Replays-parts : (start : State) (h parts : List (Entry WorkOp WorkReply)) → IsFreshHistory start h → h ≡ parts → Replays work_machine start parts
 Replays-parts start h parts fresh same = subst (Replays work_machine start) same fresh.work.legal.0
 
@@ -253,7 +246,7 @@ not_before xs queue number lower a is below there same = second_false (eqb a.que
 pub none_waits_before : OfEach NoneWaitsBefore
 none_waits_before start h fresh front rest e queue item number lower a parts op reply below there same =
     let before = state_after work_machine start front in
-    let it = Begun-entry before e queue op (Replays-rest start front (e ∷ rest) (Replays-parts start h (front ++ e ∷ rest) fresh parts)).0 in
+    let it = Begun-entry before e queue op (Replays-rest work_machine start front (e ∷ rest) (Replays-parts start h (front ++ e ∷ rest) fresh parts)).0 in
     let number_is = same_run item it.taken.item number it.number e.reply reply it.replied in
     not_before before.admissions queue it.number lower a (IsFirst-line before.admissions queue it.number it.first_is) (omega arith) there same
 
@@ -287,11 +280,11 @@ twice s t e two queue op now later same kept =
 pub begins_rise : OfEach BeginsRise
 begins_rise start h fresh front between rest one two queue item next_item number next parts op reply next_op next_reply =
     let s = state_after work_machine start front in
-    let replays = Replays-rest start front (one ∷ (between ++ two ∷ rest)) (Replays-parts start h (front ++ one ∷ (between ++ two ∷ rest)) fresh parts) in
+    let replays = Replays-rest work_machine start front (one ∷ (between ++ two ∷ rest)) (Replays-parts start h (front ++ one ∷ (between ++ two ∷ rest)) fresh parts) in
     let after = work_next s one.who one.op in
     let t = state_after work_machine after between in
     let first_begun = Begun-entry s one queue op replays.0 in
-    let second_begun = Begun-entry t two queue next_op (Replays-rest after between (two ∷ rest) replays.1).0 in
+    let second_begun = Begun-entry t two queue next_op (Replays-rest work_machine after between (two ∷ rest) replays.1).0 in
     let number_is = same_run item first_begun.taken.item number first_begun.number one.reply reply first_begun.replied in
     let next_is = same_run next_item second_begun.taken.item next second_begun.number two.reply next_reply second_begun.replied in
     let now = IsFirst-line s.admissions queue first_begun.number first_begun.first_is in

@@ -11,6 +11,7 @@ use Rattle.zk_base.specs.declared.ids.Who.{Who}
 use Rattle.zk_base.specs.declared.ids.Entry.{Entry}
 use Rattle.zk_base.specs.declared.errors.Errno.TheVariants.{Busy}
 use Rattle.zk_base.specs.Legal.{state_after}
+use Rattle.zk_base.proofs.Histories.{state_after-append, Replays-rest}
 use Rattle.zk_model_work.specs.declared.parts.Life.{Life}
 use Rattle.zk_model_work.specs.declared.parts.Life.TheVariants.{Waiting, Running, Dropped}
 use Rattle.zk_model_work.specs.declared.parts.Admission.{Admission}
@@ -23,10 +24,10 @@ use Rattle.zk_model_work.specs.Lists.{first}
 use Rattle.zk_model_work.specs.Questions.{is_waiting, is_running, is_open, waits_as, runs_as, line, waiting, running, passes_at, is_cancelling}
 use Rattle.zk_model_work.specs.State.{State}
 use Rattle.zk_model_work.specs.Machine.{work_next, work_machine, submission, submission_at, target, submit, admitted_to, disarm, drop_one, drop_waiting, set_life, with_life, begin, end_one, end_run}
-use Rattle.zk_model_work.specs.Laws.{OfEach, submitter, made_after, Cancels, NoneMadeDuringCancel, BegunMadeAfterCancel, BegunMadeAfterRun}
+use Rattle.zk_model_work.specs.Laws.{OfEach, submitter, made_after, Cancels, NoneWaitsAfterCancel, NoneWaitsDuringCancel, NoneMadeDuringCancel, BegunMadeAfterCancel, BegunMadeAfterRun}
 use Rattle.zk_model_work.proofs.Lives.{Keeps, Kept, Kept-next, Kept-after}
 use Rattle.zk_model_work.proofs.Moves.{Stays, admissions-next, schedule-keeps, delayed-keeps}
-use Rattle.zk_model_work.proofs.Begins.{alive, state_after-append, Replays-rest, Replays-parts}
+use Rattle.zk_model_work.proofs.Begins.{alive, Replays-parts}
 use Rattle.zk_model_work.proofs.Overlaps.{runs-open, pushed, second_of, and-true, running-not, not_both, still-map, still-cond, Handed-entry}
 
 -- no admission of the item waits
@@ -258,15 +259,28 @@ During-entry s who op item number is found = record {
   none = NoneWaits-entry s who op item is;
 }
 
+pub none_waits_after_cancel : OfEach NoneWaitsAfterCancel
+none_waits_after_cancel start h fresh front rest e item number a parts op at item_is =
+    let s = state_after work_machine start front in
+    NoneWaits-entry s e.who e.op item op number a (sym (ap (λ (u : State). slice_get u.admissions number) (state_after-append work_machine start front (e ∷ []))) ∙ at) item_is
+
+pub none_waits_during_cancel : OfEach NoneWaitsDuringCancel
+none_waits_during_cancel start h fresh front during e item run number a parts op found still at item_is =
+    let s = state_after work_machine start front in
+    let c = work_next s e.who e.op in
+    let same : state_after work_machine start h ≡ state_after work_machine c during = ap (state_after work_machine start) parts ∙ state_after-append work_machine start front (e ∷ during) in
+    let it = During-after c during item run (sym (ap (λ (u : State). life_at u run) same) ∙ still) (During-entry s e.who e.op item run op found) in
+    it.none number a (sym (ap (λ (u : State). slice_get u.admissions number) same) ∙ at) item_is
+
 pub none_made_during_cancel : OfEach NoneMadeDuringCancel
 none_made_during_cancel start h fresh front during rest e next item run number a parts op found still makes item_is =
     let s = state_after work_machine start front in
     let c = work_next s e.who e.op in
     let t = state_after work_machine c during in
-    let same = state_after-append start front (e ∷ during) in
+    let same = state_after-append work_machine start front (e ∷ during) in
     let it = During-after c during item run (sym (ap (λ (u : State). life_at u run) same) ∙ still) (During-entry s e.who e.op item run op found) in
     let there : slice_get (work_next t next.who next.op).admissions number ≡ Some a =
-    sym (ap (λ (u : State). slice_get (work_next u next.who next.op).admissions number) same) ∙ sym (ap (λ (u : State). slice_get u.admissions number) (state_after-append start (front ++ e ∷ during) (next ∷ []))) ∙ makes.1 in
+    sym (ap (λ (u : State). slice_get (work_next u next.who next.op).admissions number) same) ∙ sym (ap (λ (u : State). slice_get u.admissions number) (state_after-append work_machine start (front ++ e ∷ during) (next ∷ []))) ∙ makes.1 in
     let long : made_after start (front ++ e ∷ during) ≡ length t.admissions = ap (λ (u : State). length u.admissions) same in
     let past = makes.0 in
     new-next t next.who next.op item run it.cancelled number a there (omega arith) item_is
@@ -288,10 +302,10 @@ begun_made_after_cancel start h fresh front between rest e later item number par
     let s = state_after work_machine start front in
     let c = work_next s e.who e.op in
     let t = state_after work_machine c between in
-    let replays = (Replays-rest c between (later ∷ rest) (Replays-rest start front (e ∷ (between ++ later ∷ rest)) (Replays-parts start h (front ++ e ∷ (between ++ later ∷ rest)) fresh parts)).1).0 in
+    let replays = (Replays-rest work_machine c between (later ∷ rest) (Replays-rest work_machine start front (e ∷ (between ++ later ∷ rest)) (Replays-parts start h (front ++ e ∷ (between ++ later ∷ rest)) fresh parts)).1).0 in
     let it = Handed-entry t later item number reply replays in
     let least = not_older c.admissions t.admissions item number it.was (Kept-after c between) (NoneWaits-entry s e.who e.op item op) it.there it.item_is it.waits in
-    let made : made_after start (front ++ e ∷ []) ≡ length c.admissions = ap (λ (u : State). length u.admissions) (state_after-append start front (e ∷ [])) in
+    let made : made_after start (front ++ e ∷ []) ≡ length c.admissions = ap (λ (u : State). length u.admissions) (state_after-append work_machine start front (e ∷ [])) in
     omega arith
 
 pub begun_made_after_run : OfEach BegunMadeAfterRun
@@ -300,9 +314,9 @@ begun_made_after_run start h fresh front during between rest e later item run nu
     let c = work_next s e.who e.op in
     let d = state_after work_machine c during in
     let t = state_after work_machine d between in
-    let same = state_after-append start front (e ∷ during) in
-    let before = Replays-rest c during (between ++ later ∷ rest) (Replays-rest start front (e ∷ (during ++ (between ++ later ∷ rest))) (Replays-parts start h (front ++ e ∷ (during ++ (between ++ later ∷ rest))) fresh parts)).1 in
-    let it = Handed-entry t later item number reply (Replays-rest d between (later ∷ rest) before).0 in
+    let same = state_after-append work_machine start front (e ∷ during) in
+    let before = Replays-rest work_machine c during (between ++ later ∷ rest) (Replays-rest work_machine start front (e ∷ (during ++ (between ++ later ∷ rest))) (Replays-parts start h (front ++ e ∷ (during ++ (between ++ later ∷ rest))) fresh parts)).1 in
+    let it = Handed-entry t later item number reply (Replays-rest work_machine d between (later ∷ rest) before).0 in
     let all = During-after c during item run (sym (ap (λ (u : State). life_at u run) same) ∙ still) (During-entry s e.who e.op item run op found) in
     let least = not_older d.admissions t.admissions item number it.was (Kept-after d between) all.none it.there it.item_is it.waits in
     let made : made_after start (front ++ e ∷ during) ≡ length d.admissions = ap (λ (u : State). length u.admissions) same in

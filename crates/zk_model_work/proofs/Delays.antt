@@ -7,6 +7,7 @@ use Rattle.std.proofs.lemmas.Option.{slice_get-map, same_Some}
 use Rattle.zk_base.specs.declared.ids.Who.{Who}
 use Rattle.zk_base.specs.declared.ids.Entry.{Entry}
 use Rattle.zk_base.specs.Legal.{state_after}
+use Rattle.zk_base.proofs.Histories.{state_after-append, Replays-rest}
 use Rattle.zk_model_work.specs.declared.parts.Admission.{Admission}
 use Rattle.zk_model_work.specs.declared.parts.Queue.{Queue}
 use Rattle.zk_model_work.specs.declared.parts.Fate.TheVariants.{Live, Expired, Disarmed}
@@ -19,9 +20,9 @@ use Rattle.zk_model_work.specs.declared.ops.WorkReply.TheVariants.{Now}
 use Rattle.zk_model_work.specs.Questions.{is_live, arms_item, armed, is_due, due, waiting, is_cancelling}
 use Rattle.zk_model_work.specs.State.{State}
 use Rattle.zk_model_work.specs.Machine.{submission, submit, expiries, arm, disarm, disarm_one, expire, expire_one, is_pending, delayed, work_reply, work_next, work_machine}
-use Rattle.zk_model_work.specs.Laws.{IsFreshHistory, OfEach, announces, arm_after, time_after, LiveAhead, ExpiresWhenDue, FateStays, OneLiveArm, ExpireInOrder}
-use Rattle.zk_model_work.proofs.Moves.{still-push, unarmed, none-there, arms-next}
-use Rattle.zk_model_work.proofs.Begins.{state_after-append, Replays-rest, Replays-parts}
+use Rattle.zk_model_work.specs.Laws.{IsFreshHistory, OfEach, announces, disarms, arm_after, time_after, LiveAhead, ExpiresWhenDue, DisarmedWhenGivenUp, FateStays, OneLiveArm, ExpireInOrder}
+use Rattle.zk_model_work.proofs.Moves.{still-push, unarmed, none-there, DisarmsJust, DisarmsNone, arms-next}
+use Rattle.zk_model_work.proofs.Begins.{Replays-parts}
 use Rattle.zk_model_work.proofs.Overlaps.{position-none, second_of}
 
 -- in every state each live arm is ahead of the time, and an item has one at most
@@ -131,11 +132,11 @@ unarmed-disarm xs item n b at = by (arms_item item b) refl where
 ArmsKeep-next : (s : State) (who : Who) (op : WorkOp) → ArmsKeep s.arms s.time → ArmsKeep (work_next s who op).arms (work_next s who op).time
 ArmsKeep-next s who op keep =
     arms-next ArmsKeep s who op
-    (λ item. keep-disarm s.arms s.time item keep)
-    (λ item queue delay none later. keep-arm s.arms s.time item queue (s.time + delay) (λ n a at. position-none (arms_item item) s.arms n a none at) (positive s.time delay later) keep)
-    (λ item queue delay later. keep-arm (disarm s.arms item) s.time item queue (s.time + delay) (unarmed-disarm s.arms item) (positive s.time delay later) (keep-disarm s.arms s.time item keep))
+    (λ item just. keep-disarm s.arms s.time item keep)
+    (λ item queue delay others none later. keep-arm s.arms s.time item queue (s.time + delay) (λ n a at. position-none (arms_item item) s.arms n a none at) (positive s.time delay later) keep)
+    (λ item queue delay just later. keep-arm (disarm s.arms item) s.time item queue (s.time + delay) (unarmed-disarm s.arms item) (positive s.time delay later) (keep-disarm s.arms s.time item keep))
     (λ ticks is. keep-expire s.arms s.time (s.time + ticks) keep)
-    keep
+    (λ others. keep)
 
 ArmsKeep-after : (s : State) (h : List (Entry WorkOp WorkReply)) → ArmsKeep s.arms s.time → ArmsKeep (state_after work_machine s h).arms (state_after work_machine s h).time
 ArmsKeep-after s [] keep = keep
@@ -166,11 +167,11 @@ over-expire time a over = ap (λ b. cond (b && leb a.deadline time) (record a { 
 fate-next : (s : State) (who : Who) (op : WorkOp) (n : ℕ) (a : Arm) → is_live a.fate ≡ false → slice_get s.arms n ≡ Some a → slice_get (work_next s who op).arms n ≡ Some a
 fate-next s who op n a over at =
     arms-next (λ ys time. slice_get ys n ≡ Some a) s who op
-    (λ item. stays-map (disarm_one item) s.arms n a (over-disarm item a over) at)
-    (λ item queue delay none later. still-push s.arms (live_arm_of item queue (s.time + delay)) n a at)
-    (λ item queue delay later. still-push (disarm s.arms item) (live_arm_of item queue (s.time + delay)) n a (stays-map (disarm_one item) s.arms n a (over-disarm item a over) at))
+    (λ item just. stays-map (disarm_one item) s.arms n a (over-disarm item a over) at)
+    (λ item queue delay others none later. still-push s.arms (live_arm_of item queue (s.time + delay)) n a at)
+    (λ item queue delay just later. still-push (disarm s.arms item) (live_arm_of item queue (s.time + delay)) n a (stays-map (disarm_one item) s.arms n a (over-disarm item a over) at))
     (λ ticks is. stays-map (expire_one (s.time + ticks)) s.arms n a (over-expire (s.time + ticks) a over) at)
-    at
+    (λ others. at)
 
 fate-after : (s : State) (h : List (Entry WorkOp WorkReply)) (n : ℕ) (a : Arm) → is_live a.fate ≡ false → slice_get s.arms n ≡ Some a → slice_get (state_after work_machine s h).arms n ≡ Some a
 fate-after s [] n a over at = at
@@ -178,56 +179,46 @@ fate-after s (e ∷ es) n a over at = fate-after (work_next s e.who e.op) es n a
 
 pub fate_stays : OfEach FateStays
 fate_stays start h fresh front rest place a parts at over =
-    ap (λ (l : List (Entry WorkOp WorkReply)). arm_after start l place) parts ∙ ap (λ (s : State). slice_get s.arms place) (state_after-append start front rest) ∙ fate-after (state_after work_machine start front) rest place a over at
+    ap (λ (l : List (Entry WorkOp WorkReply)). arm_after start l place) parts ∙ ap (λ (s : State). slice_get s.arms place) (state_after-append work_machine start front rest) ∙ fate-after (state_after work_machine start front) rest place a over at
 
--- what was live and has expired did so at an announce
-abbrev Expires : State → WorkOp → ℕ → List Arm → ℕ → Type 0
-Expires s op n ys time = (a b : Arm) → slice_get s.arms n ≡ Some a → is_live a.fate ≡ true → slice_get ys n ≡ Some b → b.fate ≡ Expired → (announces op ≡ true) × (b.deadline ≤ time)
+-- a live arm after a disarming of an item, and after an announce
+live-disarm : (xs : List Arm) (op : WorkOp) (item n : ℕ) (a : Arm) → DisarmsJust item op → is_live a.fate ≡ true → slice_get xs n ≡ Some a → slice_get (disarm xs item) n ≡ Some (cond (disarms a.item op) (record a { fate = Disarmed }) a)
+live-disarm xs op item n a just live at =
+    slice_get-map (disarm_one item) xs n ∙ ap (option_map (disarm_one item)) at ∙ ap (λ b. Some (cond b (record a { fate = Disarmed }) a)) (and-live (eqb a.item item) (is_live a.fate) live ∙ sym (just a.item)) where
+      and-live : (b c : Bool) → c ≡ true → (b && c) ≡ b
+      and-live true c is = is
+      and-live false c is = refl
 
-live-expired : (a b : Arm) → is_live a.fate ≡ true → a ≡ b → b.fate ≡ Expired → ⊥
-live-expired a b live same is = false≢true (sym (ap (λ (c : Arm). is_live c.fate) same ∙ ap is_live is) ∙ live)
+live-expire : (xs : List Arm) (time n : ℕ) (a : Arm) → is_live a.fate ≡ true → slice_get xs n ≡ Some a → slice_get (expire xs time) n ≡ Some (cond (leb a.deadline time) (record a { fate = Expired }) a)
+live-expire xs time n a live at =
+    slice_get-map (expire_one time) xs n ∙ ap (option_map (expire_one time)) at ∙ ap (λ b. Some (cond (b && leb a.deadline time) (record a { fate = Expired }) a)) live
 
-disarmed-expired : (item : ℕ) (a : Arm) → is_live a.fate ≡ true → (disarm_one item a).fate ≡ Expired → ⊥
-disarmed-expired item a live = by (arms_item item a) where
-  by : (b : Bool) → (cond b (record a { fate = Disarmed }) a).fate ≡ Expired → ⊥
-  by true is = cc
-  by false is = live-expired a a live refl is
+-- at an operation that doesn't announce it is disarmed where that gives up its item's delay
+live-next : (s : State) (who : Who) (op : WorkOp) (n : ℕ) (a : Arm) → announces op ≡ false → is_live a.fate ≡ true → slice_get s.arms n ≡ Some a →
+    slice_get (work_next s who op).arms n ≡ Some (cond (disarms a.item op) (record a { fate = Disarmed }) a)
+live-next s who op n a silent live at =
+    arms-next (λ ys time. slice_get ys n ≡ Some after) s who op
+    (λ item just. live-disarm s.arms op item n a just live at)
+    (λ item queue delay others none later. still-push s.arms (live_arm_of item queue (s.time + delay)) n after (as_it_was others))
+    (λ item queue delay just later. still-push (disarm s.arms item) (live_arm_of item queue (s.time + delay)) n after (live-disarm s.arms op item n a just live at))
+    (λ ticks is. absurd (false≢true (sym silent ∙ ap announces is)))
+    as_it_was where
+      after : Arm
+      after = cond (disarms a.item op) (record a { fate = Disarmed }) a
 
--- where it is in its place afterwards, as it was or with what a change makes of it
-expires-next : (s : State) (who : Who) (op : WorkOp) (n : ℕ) → Expires s op n (work_next s who op).arms (work_next s who op).time
-expires-next s who op n =
-    arms-next (Expires s op n) s who op
-    (λ item a b at live there is. absurd (gone item a b at live there is))
-    (λ item queue delay none later a b at live there is.
-    absurd (live-expired a b live (same_Some a b (sym (still-push s.arms (live_arm_of item queue (s.time + delay)) n a at) ∙ there)) is))
-    (λ item queue delay later a b at live there is. absurd (gone item a b at live (below item queue delay a b at there) is))
-    expired
-    (λ a b at live there is. absurd (live-expired a b live (same_Some a b (sym at ∙ there)) is)) where
-      gone : (item : ℕ) (a b : Arm) → slice_get s.arms n ≡ Some a → is_live a.fate ≡ true → slice_get (disarm s.arms item) n ≡ Some b → b.fate ≡ Expired → ⊥
-      gone item a b at live there is =
-          let same : disarm_one item a ≡ b = same_Some (disarm_one item a) b (sym (slice_get-map (disarm_one item) s.arms n ∙ ap (option_map (disarm_one item)) at) ∙ there) in
-          disarmed-expired item a live (ap (λ (c : Arm). c.fate) same ∙ is)
+      as_it_was : DisarmsNone op → slice_get s.arms n ≡ Some after
+      as_it_was others = at ∙ ap (λ b. Some (cond b (record a { fate = Disarmed }) a)) (sym (others a.item))
 
-      below : (item queue delay : ℕ) (a b : Arm) → slice_get s.arms n ≡ Some a → slice_get (arm (disarm s.arms item) item queue (s.time + delay)) n ≡ Some b → slice_get (disarm s.arms item) n ≡ Some b
-      below item queue delay a b at there =
-          let was : slice_get (disarm s.arms item) n ≡ Some (disarm_one item a) = slice_get-map (disarm_one item) s.arms n ∙ ap (option_map (disarm_one item)) at in
-          was ∙ sym (still-push (disarm s.arms item) (live_arm_of item queue (s.time + delay)) n (disarm_one item a) was) ∙ there
-
-      expired : (ticks : ℕ) → op ≡ Announce ticks → Expires s op n (expire s.arms (s.time + ticks)) (s.time + ticks)
-      expired ticks op_is a b at live there is =
-          let same : expire_one (s.time + ticks) a ≡ b = same_Some (expire_one (s.time + ticks) a) b (sym (slice_get-map (expire_one (s.time + ticks)) s.arms n ∙ ap (option_map (expire_one (s.time + ticks))) at) ∙ there) in
-          (ap announces op_is, by (is_due (s.time + ticks) a) refl same) where
-            by : (c : Bool) → is_due (s.time + ticks) a ≡ c → cond c (record a { fate = Expired }) a ≡ b → b.deadline ≤ s.time + ticks
-            by true due_is same =
-                subst (λ (d : Arm). d.deadline ≤ s.time + ticks) same (not_ahead (s.time + ticks) a.deadline (second_so (is_live a.fate) (leb a.deadline (s.time + ticks)) due_is))
-            by false due_is same = absurd (live-expired a b live same is)
+pub disarmed_when_given_up : OfEach DisarmedWhenGivenUp
+disarmed_when_given_up start h fresh front rest e place a parts silent at live =
+    let s = state_after work_machine start front in
+    ap (λ (u : State). slice_get u.arms place) (state_after-append work_machine start front (e ∷ [])) ∙ live-next s e.who e.op place a silent (ap is_live live) at
 
 pub expires_when_due : OfEach ExpiresWhenDue
-expires_when_due start h fresh front rest e place a b parts at live there is =
+expires_when_due start h fresh front rest e ticks place a parts op at live =
     let s = state_after work_machine start front in
-    let same = state_after-append start front (e ∷ []) in
-    let it = expires-next s e.who e.op place a b at (ap is_live live) (sym (ap (λ (u : State). slice_get u.arms place) same) ∙ there) is in
-    (it.0, subst (λ (u : State). b.deadline ≤ u.time) (sym same) it.1)
+    let same : state_after work_machine start (front ++ e ∷ []) ≡ work_next s e.who (Announce ticks) = state_after-append work_machine start front (e ∷ []) ∙ ap (work_next s e.who) op in
+    subst (λ (u : State). slice_get u.arms place ≡ Some (cond (leb a.deadline u.time) (record a { fate = Expired }) a)) (sym same) (live-expire s.arms (s.time + ticks) place a (ap is_live live) at)
 
 -- an announce tells the items of the arms that are due, in order
 told_items : (marks : List ℕ) (queues : List Queue) (arms : List Arm) (xs : List Admission) → map (λ (x : Expiry). x.item) (expiries marks queues arms xs) ≡ map (λ (a : Arm). a.item) arms
@@ -241,8 +232,8 @@ same_now time time' told told' reply one other = (cc, cc)
 pub expire_in_order : OfEach ExpireInOrder
 expire_in_order start h fresh front rest e ticks time told parts op reply =
     let s = state_after work_machine start front in
-    let same = state_after-append start front (e ∷ []) in
-    let replied : work_reply s e.who (Announce ticks) ≡ Some e.reply = ap (work_reply s e.who) (sym op) ∙ (Replays-rest start front (e ∷ rest) (Replays-parts start h (front ++ e ∷ rest) fresh parts)).0 in
+    let same = state_after-append work_machine start front (e ∷ []) in
+    let replied : work_reply s e.who (Announce ticks) ≡ Some e.reply = ap (work_reply s e.who) (sym op) ∙ (Replays-rest work_machine start front (e ∷ rest) (Replays-parts start h (front ++ e ∷ rest) fresh parts)).0 in
     let ended : List Expiry = expiries s.marks s.queues (due (s.time + ticks) s.arms) s.admissions in
     let is = same_now time (s.time + ticks) told ended e.reply (same_Some (Now (s.time + ticks) ended) e.reply replied) reply in
     let after : time_after start (front ++ e ∷ []) ≡ s.time + ticks = ap (λ (u : State). u.time) same ∙ ap (λ o. (work_next s e.who o).time) op in (

@@ -12,6 +12,7 @@ use Rattle.zk_base.specs.declared.ids.Entry.{Entry}
 use Rattle.zk_base.specs.declared.errors.Errno.{Errno}
 use Rattle.zk_base.specs.declared.errors.Errno.TheVariants.{Busy, Inval, NoDev}
 use Rattle.zk_base.specs.Legal.{state_after}
+use Rattle.zk_base.proofs.Histories.{state_after-append, Replays-rest}
 use Rattle.zk_model_work.specs.declared.parts.Life.{Life}
 use Rattle.zk_model_work.specs.declared.parts.Life.TheVariants.{Waiting, Running, Ended, Dropped}
 use Rattle.zk_model_work.specs.declared.parts.Admission.{Admission}
@@ -37,7 +38,7 @@ use Rattle.zk_model_work.specs.Machine.{is_chained, target, admission, refusal, 
 use Rattle.zk_model_work.specs.Laws.{IsFreshHistory, OfEach, submitter, Makes, queue_after, DrainAdmitsItsOwn, PluggedAdmitsNone, DrainsUntilItRests, PluggedRests, DrainEndsAtRest, DrainDoneAfterItsEnd, CancelDoneAfterRun, FlushDoneAfterItsEnd}
 use Rattle.zk_model_work.proofs.Lives.{IsFirst-line}
 use Rattle.zk_model_work.proofs.Moves.{Stays, submit_arms-keeps, schedule-keeps, delayed-keeps}
-use Rattle.zk_model_work.proofs.Begins.{state_after-append, Replays-rest, Replays-parts}
+use Rattle.zk_model_work.proofs.Begins.{Replays-parts}
 use Rattle.zk_model_work.proofs.Cancels.{made-next}
 use Rattle.zk_model_work.proofs.Overlaps.{submission_to-admitted}
 
@@ -77,7 +78,7 @@ made-took start front e number a makes =
     let s = state_after work_machine start front in
     made-next (λ b. Took s.queues (submitter e.who e.op) b.queue) s e.who e.op
     (λ ys item named b stays item_is admits. took ys s.marks s.queues (submitter e.who e.op) item named b.queue admits)
-    number a (sym (ap (λ (u : State). slice_get u.admissions number) (state_after-append start front (e ∷ []))) ∙ makes.1) makes.0
+    number a (sym (ap (λ (u : State). slice_get u.admissions number) (state_after-append work_machine start front (e ∷ []))) ∙ makes.1) makes.0
 
 -- a queue that drains took it from its worker, and one that is plugged took none
 free-drains : (q : Queue) (caller : Option ℕ) → refusal caller q ≡ None → q.draining ≡ true → caller ≡ Some q.worker
@@ -423,7 +424,7 @@ counted-next s who (End k) queue more = counted-settle s.queues (end_run s.admis
 pub drain_ends_at_rest : OfEach DrainEndsAtRest
 drain_ends_at_rest start h fresh front rest e queue parts more =
     let s = state_after work_machine start front in
-    let same = state_after-append start front (e ∷ []) in
+    let same = state_after-append work_machine start front (e ∷ []) in
     ap (λ (t : State). is_empty_and_idle t.admissions queue) same
     ∙ counted-next s e.who e.op queue (subst (λ (t : State). drained_of s.queues queue < drained_of t.queues queue) same more)
 
@@ -580,7 +581,7 @@ closed-entries start h front between rest first_one done a fresh parts =
     record {
       place = omega arith;
       earlier = earlier-after start front (subst (All (λ (w : Wait). w.place < start.entries)) (sym fresh.waits) (All-nil (λ (w : Wait). w.place < start.entries)));
-      replays = (Replays-rest c between (done ∷ rest) (Replays-rest start front (first_one ∷ (between ++ done ∷ rest)) (Replays-parts start h (front ++ first_one ∷ (between ++ done ∷ rest)) fresh parts)).1).0;
+      replays = (Replays-rest work_machine c between (done ∷ rest) (Replays-rest work_machine start front (first_one ∷ (between ++ done ∷ rest)) (Replays-parts start h (front ++ first_one ∷ (between ++ done ∷ rest)) fresh parts)).1).0;
     }
 
 -- what the earlier one awaits has come before the later one
@@ -606,7 +607,7 @@ drain_done_after_its_end start h fresh front between rest first_one done queue p
     let t = state_after work_machine (work_next s first_one.who first_one.op) between in
     let come = come-before start front between first_one done a closings.Drain (replies.Number 1) it named
     (λ u who place same. ap (work_reply u who) (dones ∙ ap DrainDone (sym same))) in
-    subst (λ (u : State). drained_of s.queues queue < drained_of u.queues queue) (sym (state_after-append start front (first_one ∷ between)))
+    subst (λ (u : State). drained_of s.queues queue < drained_of u.queues queue) (sym (state_after-append work_machine start front (first_one ∷ between)))
     (ltb-true (drained_of s.queues queue) (drained_of t.queues queue) come)
 
 -- an admission of which a test of its life holds
@@ -640,7 +641,7 @@ cancel_done_after_run start h fresh front between rest first_one done item run p
     let come = come-before start front between first_one done a closings.Cancel (replies.Truth true) it named
     (λ u who place same. ap (work_reply u who) (dones ∙ ap CancelDone (sym same))) in
     let life = life-where is_ended t.admissions run come in
-    ap (λ (u : State). option_map (λ (a : Admission). a.life) (slice_get u.admissions run)) (state_after-append start front (first_one ∷ between)) ∙ life.1 ∙ ap Some (only-ended life.0 life.2)
+    ap (λ (u : State). option_map (λ (a : Admission). a.life) (slice_get u.admissions run)) (state_after-append work_machine start front (first_one ∷ between)) ∙ life.1 ∙ ap Some (only-ended life.0 life.2)
 
 pub flush_done_after_its_end : OfEach FlushDoneAfterItsEnd
 flush_done_after_its_end start h fresh front between rest first_one done item number parts starts said dones =
@@ -648,7 +649,7 @@ flush_done_after_its_end start h fresh front between rest first_one done item nu
     let a : Awaited = awaiteds.Flush number in
     let it = closed-entries start h front between rest first_one done a fresh parts in
     let replied : work_reply s first_one.who (FlushStart item) ≡ Some first_one.reply =
-    ap (work_reply s first_one.who) (sym starts) ∙ (Replays-rest start front (first_one ∷ (between ++ done ∷ rest)) (Replays-parts start h (front ++ first_one ∷ (between ++ done ∷ rest)) fresh parts)).0 in
+    ap (work_reply s first_one.who) (sym starts) ∙ (Replays-rest work_machine start front (first_one ∷ (between ++ done ∷ rest)) (Replays-parts start h (front ++ first_one ∷ (between ++ done ∷ rest)) fresh parts)).0 in
     let found : flushed (hurried s first_one.who item) item ≡ Some number = names (flushed (hurried s first_one.who item) item) (same_Some (flush_start_reply (flushed (hurried s first_one.who item) item)) first_one.reply replied ∙ said) in
     let new : IfSome (flush_wait s first_one.who item) (λ w. w.awaited ≡ a) =
     subst (λ (o : Option ℕ). IfSome (option_map (λ number. wait_for s.entries first_one.who (awaiteds.Flush number)) o) (λ w. w.awaited ≡ a)) (sym found) refl in
@@ -657,7 +658,7 @@ flush_done_after_its_end start h fresh front between rest first_one done item nu
     let come = come-before start front between first_one done a closings.Flush (replies.Truth true) it named
     (λ u who place same. ap (work_reply u who) (dones ∙ ap FlushDone (sym same))) in
     let life = life-where (λ (l : Life). not (is_open l)) t.admissions number come in
-    ap (λ (u : State). option_map is_open (option_map (λ (a : Admission). a.life) (slice_get u.admissions number))) (state_after-append start front (first_one ∷ between))
+    ap (λ (u : State). option_map is_open (option_map (λ (a : Admission). a.life) (slice_get u.admissions number))) (state_after-append work_machine start front (first_one ∷ between))
     ∙ ap (option_map is_open) life.1 ∙ ap Some (not-open life.0 life.2) where
       names : (o : Option ℕ) → option_map_or replies.WaitFor o (replies.Truth false) ≡ replies.WaitFor number → o ≡ Some number
       names None is = absurd (cc)

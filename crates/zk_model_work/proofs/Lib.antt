@@ -6,6 +6,8 @@ pub mod Drains
 pub mod Lines
 pub mod Lives
 pub mod Moves
+pub mod Outcomes
 pub mod Overlaps
+pub mod Singles
 pub mod Weights
 pub mod Writes

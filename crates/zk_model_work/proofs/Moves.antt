@@ -17,7 +17,7 @@ use Rattle.zk_model_work.specs.Lists.{first}
 use Rattle.zk_model_work.specs.Questions.{waiting, running, is_empty_and_idle, is_cancelling, armed, live_arm, due}
 use Rattle.zk_model_work.specs.State.{State}
 use Rattle.zk_model_work.specs.Machine.{submission, submission_in, submit, submit_arms, arm, disarm, expire, begin, end_run, drop_waiting, is_pending, delayed, schedule, flushed, hurried, may_close, may_end, flags_of, is_started, is_plugged, work_reply, work_next}
-use Rattle.zk_model_work.specs.Laws.{Cancels, submitter}
+use Rattle.zk_model_work.specs.Laws.{Cancels, disarms, submitter}
 
 -- each element of the first list stands in its place in the second
 abbrev pub Stays : {A : Type 0} → List A → List A → Type 0
@@ -101,32 +101,39 @@ pub none-there : {A : Type 0} (o : Option A) → is_some o ≡ false → o ≡ N
 none-there None is = refl
 none-there (Some x) is = absurd (cc)
 
+-- the operation gives up the delay of this item and of no other, or of none
+abbrev pub DisarmsJust : ℕ → WorkOp → Type 0
+DisarmsJust item op = (other : ℕ) → disarms other op ≡ eqb other item
+
+abbrev pub DisarmsNone : WorkOp → Type 0
+DisarmsNone op = (other : ℕ) → disarms other op ≡ false
+
 -- the arms and the time change where an item is disarmed, where one is armed that wasn't or is disarmed before, and by an announce
 pub arms-next : (P : List Arm → ℕ → Type 0) (s : State) (who : Who) (op : WorkOp) →
-    ((item : ℕ) → P (disarm s.arms item) s.time) →
-    ((item queue delay : ℕ) → armed s.arms item ≡ None → eqb delay 0 ≡ false → P (arm s.arms item queue (s.time + delay)) s.time) →
-    ((item queue delay : ℕ) → eqb delay 0 ≡ false → P (arm (disarm s.arms item) item queue (s.time + delay)) s.time) →
+    ((item : ℕ) → DisarmsJust item op → P (disarm s.arms item) s.time) →
+    ((item queue delay : ℕ) → DisarmsNone op → armed s.arms item ≡ None → eqb delay 0 ≡ false → P (arm s.arms item queue (s.time + delay)) s.time) →
+    ((item queue delay : ℕ) → DisarmsJust item op → eqb delay 0 ≡ false → P (arm (disarm s.arms item) item queue (s.time + delay)) s.time) →
     ((ticks : ℕ) → op ≡ Announce ticks → P (expire s.arms (s.time + ticks)) (s.time + ticks)) →
-    P s.arms s.time → P (work_next s who op).arms (work_next s who op).time
-arms-next P s who (Submit item named) disarms arms rearms expires same = same
-arms-next P s who (Cancel item) disarms arms rearms expires same = disarms item
-arms-next P s who (CancelStart item) disarms arms rearms expires same = disarms item
-arms-next P s who (CancelDone place) disarms arms rearms expires same = same
-arms-next P s who (FlushStart item) disarms arms rearms expires same = disarms item
-arms-next P s who (FlushDone place) disarms arms rearms expires same = same
+    (DisarmsNone op → P s.arms s.time) → P (work_next s who op).arms (work_next s who op).time
+arms-next P s who (Submit item named) disarms arms rearms expires same = same (λ other. refl)
+arms-next P s who (Cancel item) disarms arms rearms expires same = disarms item (λ other. refl)
+arms-next P s who (CancelStart item) disarms arms rearms expires same = disarms item (λ other. refl)
+arms-next P s who (CancelDone place) disarms arms rearms expires same = same (λ other. refl)
+arms-next P s who (FlushStart item) disarms arms rearms expires same = disarms item (λ other. refl)
+arms-next P s who (FlushDone place) disarms arms rearms expires same = same (λ other. refl)
 arms-next P s who (Schedule item queue delay) disarms arms rearms expires same =
-    schedule-keeps (λ t. P t.arms t.time) s who item queue delay same same
-    (λ free later. arms item queue delay (none-there (armed s.arms item) (unarmed (is_some (armed s.arms item)) (is_some (waiting s.admissions item)) (is_cancelling s.admissions s.marks item) free)) later)
+    schedule-keeps (λ t. P t.arms t.time) s who item queue delay (same (λ other. refl)) (same (λ other. refl))
+    (λ free later. arms item queue delay (λ other. refl) (none-there (armed s.arms item) (unarmed (is_some (armed s.arms item)) (is_some (waiting s.admissions item)) (is_cancelling s.admissions s.marks item) free)) later)
 arms-next P s who (Reschedule item queue delay) disarms arms rearms expires same =
-    delayed-keeps (λ t. P t.arms t.time) (record s { arms = disarm s.arms item }) who item queue delay (disarms item) (rearms item queue delay)
-arms-next P s who (Remaining item) disarms arms rearms expires same = same
-arms-next P s who (Start queue) disarms arms rearms expires same = same
-arms-next P s who (DrainStart queue plug) disarms arms rearms expires same = same
-arms-next P s who (DrainDone place) disarms arms rearms expires same = same
-arms-next P s who (Unplug queue) disarms arms rearms expires same = same
+    delayed-keeps (λ t. P t.arms t.time) (record s { arms = disarm s.arms item }) who item queue delay (disarms item (λ other. refl)) (rearms item queue delay (λ other. refl))
+arms-next P s who (Remaining item) disarms arms rearms expires same = same (λ other. refl)
+arms-next P s who (Start queue) disarms arms rearms expires same = same (λ other. refl)
+arms-next P s who (DrainStart queue plug) disarms arms rearms expires same = same (λ other. refl)
+arms-next P s who (DrainDone place) disarms arms rearms expires same = same (λ other. refl)
+arms-next P s who (Unplug queue) disarms arms rearms expires same = same (λ other. refl)
 arms-next P s who (Announce ticks) disarms arms rearms expires same = expires ticks refl
-arms-next P s who (Begin queue) disarms arms rearms expires same = same
-arms-next P s who (End queue) disarms arms rearms expires same = same
+arms-next P s who (Begin queue) disarms arms rearms expires same = same (λ other. refl)
+arms-next P s who (End queue) disarms arms rearms expires same = same (λ other. refl)
 
 -- a reply that hands nothing out
 not_run : (b : Bool) (one other : WorkReply) (item number : ℕ) → (one ≡ replies.Run item number → ⊥) → (other ≡ replies.Run item number → ⊥) → cond b one other ≡ replies.Run item number → ⊥

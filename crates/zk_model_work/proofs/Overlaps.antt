@@ -11,6 +11,7 @@ use Rattle.zk_base.specs.declared.ids.Entry.{Entry}
 use Rattle.zk_base.specs.Legal.{state_after, Replays}
 use Rattle.zk_base.specs.declared.errors.Errno.{Errno}
 use Rattle.zk_base.specs.declared.errors.Errno.TheVariants.{Busy, Inval}
+use Rattle.zk_base.proofs.Histories.{state_after-append, Replays-rest}
 use Rattle.zk_model_work.specs.declared.parts.Life.{Life}
 use Rattle.zk_model_work.specs.declared.parts.Life.TheVariants.{Waiting, Running, Ended, Dropped}
 use Rattle.zk_model_work.specs.declared.parts.Admission.{Admission}
@@ -28,7 +29,7 @@ use Rattle.zk_model_work.specs.Machine.{work_next, work_reply, work_machine, tar
 use Rattle.zk_model_work.specs.Laws.{IsFreshHistory, OfEach, submitter, admission_after, ends, NotBegunDuringRun, RunsToItsEnd, EndsBetweenBegins}
 use Rattle.zk_model_work.proofs.Lives.{IsFirst, IsFirst-line, set_life-at, set_life-aside}
 use Rattle.zk_model_work.proofs.Moves.{admissions-next, still-submit, is_begin}
-use Rattle.zk_model_work.proofs.Begins.{Begun, Begun-reply, Begun-entry, state_after-append, Replays-rest, Replays-parts}
+use Rattle.zk_model_work.proofs.Begins.{Begun, Begun-reply, Begun-entry, Replays-parts}
 
 -- what a life is
 
@@ -334,7 +335,7 @@ pub record Handed (s : State) (item number : ℕ) : Type 0 where
   pub waits : is_waiting was.life ≡ true
   pub idle : run s.admissions queue ≡ None
 
-same_item : (item item' number number' : ℕ) (reply : WorkReply) → reply ≡ replies.Run item number → reply ≡ replies.Run item' number' → (item' ≡ item) × (number' ≡ number)
+pub same_item : (item item' number number' : ℕ) (reply : WorkReply) → reply ≡ replies.Run item number → reply ≡ replies.Run item' number' → (item' ≡ item) × (number' ≡ number)
 same_item item item' number number' reply one other = (cc, cc)
 
 pub Handed-begin : (s : State) (who : Who) (queue item number : ℕ) → work_reply s who (Begin queue) ≡ Some (replies.Run item number) → Handed s item number
@@ -373,7 +374,7 @@ runs-alone xs queue number running a b ordered at runs there waits same queue_is
 pub not_begun_during_run : OfEach NotBegunDuringRun
 not_begun_during_run start h fresh front rest e item number running a parts at item_is runs reply =
     let s = state_after work_machine start front in
-    let it = Handed-entry s e item number reply (Replays-rest start front (e ∷ rest) (Replays-parts start h (front ++ e ∷ rest) fresh parts)).0 in
+    let it = Handed-entry s e item number reply (Replays-rest work_machine start front (e ∷ rest) (Replays-parts start h (front ++ e ∷ rest) fresh parts)).0 in
     runs-alone s.admissions it.queue number running a it.was (Ordered-history start h front (e ∷ rest) fresh parts) at (ap is_running runs) it.there it.waits (item_is ∙ sym it.item_is) it.queue_is it.idle
 
 -- a running admission runs on, but for an end at its queue
@@ -432,7 +433,7 @@ still-after s (e ∷ es) n a runs goes_on at =
 
 pub runs_to_its_end : OfEach RunsToItsEnd
 runs_to_its_end start h fresh front between number a parts at runs goes_on =
-    ap (λ (l : List (Entry WorkOp WorkReply)). admission_after start l number) parts ∙ ap (λ (s : State). slice_get s.admissions number) (state_after-append start front between) ∙ still-after (state_after work_machine start front) between number a (ap is_running runs) goes_on at
+    ap (λ (l : List (Entry WorkOp WorkReply)). admission_after start l number) parts ∙ ap (λ (s : State). slice_get s.admissions number) (state_after-append work_machine start front between) ∙ still-after (state_after work_machine start front) between number a (ap is_running runs) goes_on at
 
 not_false : (b : Bool) → (b ≡ false → ⊥) → b ≡ true
 not_false true wrong = refl
@@ -443,7 +444,7 @@ ends_between_begins start h fresh front between rest one two queue item number n
     let s = state_after work_machine start front in
     let after = work_next s one.who one.op in
     let t = state_after work_machine after between in
-    let replays = Replays-rest start front (one ∷ (between ++ two ∷ rest)) (Replays-parts start h (front ++ one ∷ (between ++ two ∷ rest)) fresh parts) in
+    let replays = Replays-rest work_machine start front (one ∷ (between ++ two ∷ rest)) (Replays-parts start h (front ++ one ∷ (between ++ two ∷ rest)) fresh parts) in
     let begun = Begun-entry s one queue op replays.0 in
     let same = same_item item begun.taken.item number begun.number one.reply reply begun.replied in
     let waits = (IsFirst-line s.admissions queue begun.number begun.first_is).waits begun.taken begun.there in
@@ -452,7 +453,7 @@ ends_between_begins start h fresh front between rest one two queue item number n
     let here : slice_get after.admissions begun.number ≡ Some runner =
     ap (λ o. slice_get (work_next s one.who o).admissions begun.number) op ∙ ap (λ (xs : List Admission). slice_get xs begun.number) (begin-is s.admissions queue one.reply begun)
     ∙ set_life-at s.admissions begun.number Running begun.taken begun.there in
-    let it = Handed-entry t two item next next_reply (Replays-rest after between (two ∷ rest) replays.1).0 in
+    let it = Handed-entry t two item next next_reply (Replays-rest work_machine after between (two ∷ rest) replays.1).0 in
     let order : Ordered after.admissions = Ordered-next s one.who one.op one.reply replays.0 (Ordered-history start h front (one ∷ (between ++ two ∷ rest)) fresh parts) in
     let ordered : Ordered t.admissions = Ordered-after after between (two ∷ rest) replays.1 order in
     not_false (list_any (λ e. ends queue e.op) between) (λ none.

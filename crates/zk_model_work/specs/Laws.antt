@@ -1,17 +1,17 @@
-use Rattle.std.specs.Prelude.{◌≡◌, ℕ, ◌<◌, ◌≤◌, ◌⊎◌, Bool, true, false, ◌==◌, count_by, Option, Some, None, option_map, List, [], ◌∷◌, ◌++◌, length, map, slice_get, All}
+use Rattle.std.specs.Prelude.{◌≡◌, ℕ, ◌<◌, ◌≤◌, ◌⊎◌, Bool, true, false, ◌==◌, nat_le, if◌then◌else◌, count_by, Option, Some, None, option_map, List, [], ◌∷◌, ◌++◌, length, map, slice_get, All}
 use Rattle.std.specs.List.{list_any}
 use Rattle.zk_base.specs.declared.ids.Who.{Who}
 use Rattle.zk_base.specs.declared.ids.Entry.{Entry}
 use Rattle.zk_base.specs.Legal.{state_after, IsLegal}
 use Rattle.zk_model_work.specs.declared.ops.WorkOp.{WorkOp}
-use Rattle.zk_model_work.specs.declared.ops.WorkOp.TheVariants.{Cancel, CancelStart, CancelDone, FlushStart, FlushDone, DrainStart, DrainDone, Announce, Begin, End}
+use Rattle.zk_model_work.specs.declared.ops.WorkOp.TheVariants.{Cancel, CancelStart, CancelDone, FlushStart, FlushDone, Reschedule, DrainStart, DrainDone, Announce, Begin, End}
 use Rattle.zk_model_work.specs.declared.ops.Expiry.{Expiry}
 use Rattle.zk_model_work.specs.declared.ops.WorkReply.{WorkReply}
 use Rattle.zk_model_work.specs.declared.ops.WorkReply.TheVariants.{WaitFor, Now, Run}
 use Rattle.zk_model_work.specs.declared.parts.Life.{Life}
-use Rattle.zk_model_work.specs.declared.parts.Life.TheVariants.{Running, Ended, Dropped}
+use Rattle.zk_model_work.specs.declared.parts.Life.TheVariants.{Waiting, Running, Ended, Dropped}
 use Rattle.zk_model_work.specs.declared.parts.Admission.{Admission}
-use Rattle.zk_model_work.specs.declared.parts.Fate.TheVariants.{Live, Expired}
+use Rattle.zk_model_work.specs.declared.parts.Fate.TheVariants.{Live, Expired, Disarmed}
 use Rattle.zk_model_work.specs.declared.parts.Arm.{Arm}
 use Rattle.zk_model_work.specs.declared.parts.Queue.{Queue}
 use Rattle.zk_model_work.specs.Questions.{is_waiting, is_open, is_live, is_empty_and_idle, running, due}
@@ -52,6 +52,14 @@ ends queue _ = false
 -- it is a cancel of the item, one that waits or one that doesn't
 abbrev pub Cancels : ℕ → WorkOp → Type 0
 Cancels item op = (op ≡ Cancel item) ⊎ (op ≡ CancelStart item)
+
+-- it gives up the delay of the item, if it has one
+abbrev pub disarms : ℕ → WorkOp → Bool
+disarms item (Cancel other) = item == other
+disarms item (CancelStart other) = item == other
+disarms item (FlushStart other) = item == other
+disarms item (Reschedule other queue delay) = item == other
+disarms item _ = false
 
 -- who submits what an entry admits: nobody where it is an announce, else its player
 abbrev pub submitter : Who → WorkOp → Option ℕ
@@ -105,6 +113,26 @@ time_after start h = (state_after work_machine start h).time
 
 -- Each of what follows is said of one history.
 
+-- an admission stays, with its item and its queue
+abbrev pub AdmissionStays : State → List (Entry WorkOp WorkReply) → Type 0
+AdmissionStays start h = (front rest : List (Entry WorkOp WorkReply)) (number : ℕ) (a : Admission) → h ≡ front ++ rest → admission_after start front number ≡ Some a →
+    (b : Admission) × (admission_after start h number ≡ Some b) × (b.item ≡ a.item) × (b.queue ≡ a.queue)
+
+-- one that has ended or was dropped stays so
+abbrev pub OutcomeStays : State → List (Entry WorkOp WorkReply) → Type 0
+OutcomeStays start h = (front rest : List (Entry WorkOp WorkReply)) (number : ℕ) (a : Admission) → h ≡ front ++ rest → admission_after start front number ≡ Some a → is_open a.life ≡ false →
+    admission_after start h number ≡ Some a
+
+-- an admission is begun by a begin on its queue, waits until then, and runs after it
+abbrev pub BegunFromItsQueue : State → List (Entry WorkOp WorkReply) → Type 0
+BegunFromItsQueue start h = (front rest : List (Entry WorkOp WorkReply)) (e : Entry WorkOp WorkReply) (item number : ℕ) → h ≡ front ++ e ∷ rest → e.reply ≡ Run item number → (queue : ℕ) × (e.op ≡ Begin queue)
+    × (admission_after start front number ≡ Some (record { item = item; queue = queue; life = Waiting })) × (admission_after start (front ++ e ∷ []) number ≡ Some (record { item = item; queue = queue; life = Running }))
+
+-- an admission is dropped while it waits, by a cancel of its item
+abbrev pub DroppedByACancel : State → List (Entry WorkOp WorkReply) → Type 0
+DroppedByACancel start h = (front rest : List (Entry WorkOp WorkReply)) (e : Entry WorkOp WorkReply) (number : ℕ) (a : Admission) → h ≡ front ++ e ∷ rest → admission_after start front number ≡ Some a → is_open a.life ≡ true →
+    life_after start (front ++ e ∷ []) number ≡ Some Dropped → (a.life ≡ Waiting) × Cancels a.item e.op
+
 -- each admission is begun at most once
 abbrev pub EachBegunOnce : State → List (Entry WorkOp WorkReply) → Type 0
 EachBegunOnce start h = (number : ℕ) → count_by (begins number) h ≤ 1
@@ -128,10 +156,24 @@ abbrev pub BeginsRise : State → List (Entry WorkOp WorkReply) → Type 0
 BeginsRise start h = (front between rest : List (Entry WorkOp WorkReply)) (first second : Entry WorkOp WorkReply) (queue item next_item number next : ℕ) → h ≡ front ++ first ∷ (between ++ second ∷ rest) →
     first.op ≡ Begin queue → first.reply ≡ Run item number → second.op ≡ Begin queue → second.reply ≡ Run next_item next → number < next
 
+-- of two admissions of an item that wait or run the lower one runs, and the other waits for its queue; so one waits at most, and one runs
+abbrev pub OneWaitsOneRuns : State → List (Entry WorkOp WorkReply) → Type 0
+OneWaitsOneRuns start h = (lower higher : ℕ) (a b : Admission) → lower < higher → admission_after start h lower ≡ Some a → admission_after start h higher ≡ Some b → a.item ≡ b.item → is_open a.life ≡ true → is_open b.life ≡ true →
+    (a.life ≡ Running) × (b.life ≡ Waiting) × (a.queue ≡ b.queue)
+
+-- a queue runs one admission at most
+abbrev pub OneRunsOnAQueue : State → List (Entry WorkOp WorkReply) → Type 0
+OneRunsOnAQueue start h = (number other : ℕ) (a b : Admission) → admission_after start h number ≡ Some a → admission_after start h other ≡ Some b → a.queue ≡ b.queue → a.life ≡ Running → b.life ≡ Running → number ≡ other
+
 -- an admission that runs goes on until an end at its queue
 abbrev pub RunsToItsEnd : State → List (Entry WorkOp WorkReply) → Type 0
 RunsToItsEnd start h = (front between : List (Entry WorkOp WorkReply)) (number : ℕ) (a : Admission) → h ≡ front ++ between →
     admission_after start front number ≡ Some a → a.life ≡ Running → list_any (λ e. ends a.queue e.op) between ≡ false → admission_after start h number ≡ Some a
+
+-- and is ended by it
+abbrev pub EndedByItsEnd : State → List (Entry WorkOp WorkReply) → Type 0
+EndedByItsEnd start h = (front rest : List (Entry WorkOp WorkReply)) (e : Entry WorkOp WorkReply) (number : ℕ) (a : Admission) → h ≡ front ++ e ∷ rest → admission_after start front number ≡ Some a → a.life ≡ Running →
+    ends a.queue e.op ≡ true → admission_after start (front ++ e ∷ []) number ≡ Some (record a { life = Ended })
 
 -- while an admission of an item runs, none of that item is begun, on any queue
 abbrev pub NotBegunDuringRun : State → List (Entry WorkOp WorkReply) → Type 0
@@ -143,7 +185,17 @@ abbrev pub EndsBetweenBegins : State → List (Entry WorkOp WorkReply) → Type 
 EndsBetweenBegins start h = (front between rest : List (Entry WorkOp WorkReply)) (first second : Entry WorkOp WorkReply) (queue item number next : ℕ) → h ≡ front ++ first ∷ (between ++ second ∷ rest) →
     first.op ≡ Begin queue → first.reply ≡ Run item number → second.reply ≡ Run item next → list_any (λ e. ends queue e.op) between ≡ true
 
--- where a cancel found a run of its item, no admission of the item is made until that run has ended
+-- after a cancel no admission of its item waits
+abbrev pub NoneWaitsAfterCancel : State → List (Entry WorkOp WorkReply) → Type 0
+NoneWaitsAfterCancel start h = (front rest : List (Entry WorkOp WorkReply)) (e : Entry WorkOp WorkReply) (item number : ℕ) (a : Admission) → h ≡ front ++ e ∷ rest →
+    Cancels item e.op → admission_after start (front ++ e ∷ []) number ≡ Some a → a.item ≡ item → is_waiting a.life ≡ false
+
+-- and where the cancel found a run, none waits until that run has ended
+abbrev pub NoneWaitsDuringCancel : State → List (Entry WorkOp WorkReply) → Type 0
+NoneWaitsDuringCancel start h = (front during : List (Entry WorkOp WorkReply)) (e : Entry WorkOp WorkReply) (item run number : ℕ) (a : Admission) → h ≡ front ++ e ∷ during →
+    Cancels item e.op → running_after start front item ≡ Some run → life_after start h run ≡ Some Running → admission_after start h number ≡ Some a → a.item ≡ item → is_waiting a.life ≡ false
+
+-- and no admission of the item is made until then
 abbrev pub NoneMadeDuringCancel : State → List (Entry WorkOp WorkReply) → Type 0
 NoneMadeDuringCancel start h = (front during rest : List (Entry WorkOp WorkReply)) (e next : Entry WorkOp WorkReply) (item run number : ℕ) (a : Admission) → h ≡ front ++ e ∷ (during ++ next ∷ rest) →
     Cancels item e.op → running_after start front item ≡ Some run → life_after start (front ++ e ∷ during) run ≡ Some Running → Makes start (front ++ e ∷ during) next number a → a.item ≡ item → ⊥
@@ -200,10 +252,15 @@ DrainDoneAfterItsEnd start h = (front between rest : List (Entry WorkOp WorkRepl
 abbrev pub LiveAhead : State → List (Entry WorkOp WorkReply) → Type 0
 LiveAhead start h = (place : ℕ) (a : Arm) → arm_after start h place ≡ Some a → a.fate ≡ Live → time_after start h < a.deadline
 
--- an arm expires at an announce, and its deadline isn't above the time then
+-- at an announce a live arm expires where the time reaches its deadline, and else stays
 abbrev pub ExpiresWhenDue : State → List (Entry WorkOp WorkReply) → Type 0
-ExpiresWhenDue start h = (front rest : List (Entry WorkOp WorkReply)) (e : Entry WorkOp WorkReply) (place : ℕ) (a b : Arm) → h ≡ front ++ e ∷ rest →
-    arm_after start front place ≡ Some a → a.fate ≡ Live → arm_after start (front ++ e ∷ []) place ≡ Some b → b.fate ≡ Expired → (announces e.op ≡ true) × (b.deadline ≤ time_after start (front ++ e ∷ []))
+ExpiresWhenDue start h = (front rest : List (Entry WorkOp WorkReply)) (e : Entry WorkOp WorkReply) (ticks place : ℕ) (a : Arm) → h ≡ front ++ e ∷ rest → e.op ≡ Announce ticks → arm_after start front place ≡ Some a → a.fate ≡ Live →
+    arm_after start (front ++ e ∷ []) place ≡ Some (if nat_le a.deadline (time_after start (front ++ e ∷ [])) then record a { fate = Expired } else a)
+
+-- at any other entry it is disarmed where its item's delay is given up, and else stays
+abbrev pub DisarmedWhenGivenUp : State → List (Entry WorkOp WorkReply) → Type 0
+DisarmedWhenGivenUp start h = (front rest : List (Entry WorkOp WorkReply)) (e : Entry WorkOp WorkReply) (place : ℕ) (a : Arm) → h ≡ front ++ e ∷ rest → announces e.op ≡ false → arm_after start front place ≡ Some a → a.fate ≡ Live →
+    arm_after start (front ++ e ∷ []) place ≡ Some (if disarms a.item e.op then record a { fate = Disarmed } else a)
 
 -- an arm that has expired or was disarmed stays so
 abbrev pub FateStays : State → List (Entry WorkOp WorkReply) → Type 0

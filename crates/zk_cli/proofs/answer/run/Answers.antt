@@ -24,6 +24,7 @@ returns c =
         waits = refl;
         undrained = undrained-fresh _ _;
       });
+      clock_laws = c.clocks_keep_laws.ensures trace.clock c.in_ok-trace.ensures.lawful.legal_clock;
       over = c.in_ok-trace.ensures.over;
       ends = refl;
       printed = c.in_ok-put_trace.ensures ∙ ap (λ (text : List ℕ). text ++ trace_text c.args.scenario.now trace) c.requires.spelled;
