@@ -10,9 +10,12 @@ pub struct Who {
 /// One line of a service's history: who did what, and what was answered.
 #[derive(Debug, Drop)]
 pub struct Entry<O, R> {
+    /// The player whose step this was.
     pub who: Who,
     /// The number of this step among all steps of the player, from 0, at whatever service.
     pub step: u32,
+    /// What the player asked of the service.
     pub op: O,
+    /// What the service answered.
     pub reply: R,
 }

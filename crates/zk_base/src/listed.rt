@@ -43,6 +43,7 @@ impl<T> Listed<T> {
         items
     }
 
+    /// The items, in order.
     pub fn items(&self) -> &[T]
         ensures { result.now ≡ self.now }
     {

@@ -50,6 +50,7 @@ impl Name {
         })
     }
 
+    /// The name as it is spelled: 1 to 16 bytes.
     pub fn bytes(&self) -> &[u8]
         ensures { result.now ≡ self.now }
     {

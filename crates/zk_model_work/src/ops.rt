@@ -58,7 +58,9 @@ pub enum Submitted {
 /// An item whose delay is over, and what became of its submission.
 #[derive(Clone, Copy, Debug)]
 pub struct Expiry {
+    /// The item whose delay is over.
     pub item: u32,
+    /// The answer to its submission, which nobody is told.
     pub submitted: Submitted,
 }
 

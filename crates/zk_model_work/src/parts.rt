@@ -47,8 +47,11 @@ impl Life {
 /// One acceptance of an item to a queue. Its number is its place among all admissions.
 #[derive(Clone, Copy, Debug)]
 pub struct Admission {
+    /// The item that was accepted.
     pub item: u32,
+    /// The queue that it was accepted to.
     pub queue: u32,
+    /// What has become of it so far.
     pub life: Life,
 }
 
@@ -75,11 +78,13 @@ impl Fate {
 /// One arming of an item with a delay. Its place among all armings is their order.
 #[derive(Clone, Copy, Debug)]
 pub struct Arm {
+    /// The item that was armed.
     pub item: u32,
     /// The queue that the item is submitted to.
     pub queue: u32,
     /// The tick at which it expires.
     pub deadline: u64,
+    /// What has become of it so far.
     pub fate: Fate,
 }
 
@@ -101,6 +106,7 @@ pub struct Wait {
     pub place: u64,
     /// The player who waits.
     pub player: u32,
+    /// What the player waits for.
     pub awaited: Awaited,
     /// Whether the wait is over for its player.
     pub answered: bool,

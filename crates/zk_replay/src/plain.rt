@@ -16,7 +16,9 @@ use zk_worker::{Services, Step, StepReply};
 /// All entries of each service.
 #[derive(Drop)]
 pub struct Histories {
+    /// That of the work service, oldest entry first.
     pub work: Vec<Entry<WorkOp, WorkReply>>,
+    /// That of the clock, oldest entry first.
     pub clock: Vec<Entry<ClockOp, ClockReply>>,
 }
 

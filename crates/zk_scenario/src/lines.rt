@@ -21,6 +21,7 @@ impl<'a> Model for Lines<'a> {
 }
 
 impl<'a> Lines<'a> {
+    /// The pieces of a text, from its first byte on.
     pub fn of(text: &'a [u8]) -> Lines<'a>
         ensures { result ≡ pieces_of text.now }
     {

@@ -50,6 +50,7 @@ impl Objects {
         }
     }
 
+    /// All declarations, in order. An object's number is its place among them.
     pub fn decls(&self) -> &[Decl]
         ensures all { result.now ≡ self.now }
         ensures few { length self.now < 2 ^ 32 }
@@ -57,18 +58,21 @@ impl Objects {
         &self.decls
     }
 
+    /// The object numbers of the threads, in order.
     pub fn threads(&self) -> &[u32]
         ensures all { result.now ≡ places is_thread self.now }
     {
         &self.threads
     }
 
+    /// The object numbers of the work queues, in order.
     pub fn queues(&self) -> &[u32]
         ensures all { result.now ≡ places is_queue self.now }
     {
         &self.queues
     }
 
+    /// The object numbers of the work items, in order.
     pub fn items(&self) -> &[u32]
         ensures all { result.now ≡ places is_item self.now }
     {
@@ -82,12 +86,14 @@ impl Objects {
         self.threads.len() + self.queues.len()
     }
 
+    /// How many work queues there are.
     pub fn queue_count(&self) -> usize
         ensures { result ≡ count_by is_queue self.now }
     {
         self.queues.len()
     }
 
+    /// How many work items there are.
     pub fn item_count(&self) -> usize
         ensures { result ≡ count_by is_item self.now }
     {

@@ -40,6 +40,7 @@ impl Scripts {
         }
     }
 
+    /// All scripts, in the order of the text.
     pub fn scripts(&self) -> &[Script]
         ensures { result.now ≡ self.now }
     {

@@ -50,5 +50,6 @@ pub enum Call {
 pub struct Script {
     /// The object number of whoever plays the script.
     pub owner: u32,
+    /// The calls, first to last.
     pub calls: Listed<Call>,
 }

@@ -7,7 +7,9 @@ use crate::arm::Arm;
 /// Where an arm goes in among those that are kept latest first, and its delta there.
 #[derive(Clone, Copy, Debug)]
 pub struct Place {
+    /// How many expire later.
     pub index: usize,
+    /// The ticks from the deadline of the one that expires before it.
     pub delta: u64,
 }
 

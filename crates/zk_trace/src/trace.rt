@@ -23,8 +23,12 @@ pub type Logs = Listed<Log>;
 /// All that a run of a scenario did.
 #[derive(Debug, Drop)]
 pub struct Trace {
+    /// How the run ended.
     pub ending: Ending,
+    /// The history of the work service.
     pub work: History<WorkOp, WorkReply>,
+    /// The history of the clock.
     pub clock: History<ClockOp, ClockReply>,
+    /// The log of each player.
     pub logs: Logs,
 }

@@ -22,6 +22,7 @@ pub fn put_number(out: &mut Vec<u8>, word: &[u8], number: u64) -> Result<(), NoM
     put_decimal(out, number)
 }
 
+/// How a run ended.
 pub fn ending_word(ending: Ending) -> &'static [u8]
     ensures { result.now ≡ ending_word ending }
 {
@@ -32,6 +33,7 @@ pub fn ending_word(ending: Ending) -> &'static [u8]
     }
 }
 
+/// The cause of a refusal.
 pub fn errno_word(errno: Errno) -> &'static [u8]
     ensures { result.now ≡ errno_word errno }
 {
@@ -83,18 +85,21 @@ fn put_letter(out: &mut Vec<u8>, flags: u8, flag: u8, letter: u8) -> Result<(), 
     put(out, &[letter])
 }
 
+/// An answer that is true or false.
 pub fn truth_word(truth: bool) -> &'static [u8]
     ensures { result.now ≡ truth_word truth }
 {
     if truth { b"true" } else { b"false" }
 }
 
+/// Whether a drain plugs its queue.
 pub fn mode_word(plug: bool) -> &'static [u8]
     ensures { result.now ≡ mode_word plug }
 {
     if plug { b"plug" } else { b"open" }
 }
 
+/// A call, as it is spelled in a scenario.
 pub fn call_word(word: Word) -> &'static [u8]
     ensures { result.now ≡ call_word word }
 {
@@ -125,6 +130,7 @@ pub fn put_answer(out: &mut Vec<u8>, answer: Answer) -> Result<(), NoMemory>
     }
 }
 
+/// How a player stands at the end.
 pub fn state_word(state: PlayerState) -> &'static [u8]
     ensures { result.now ≡ state_word state }
 {

@@ -36,7 +36,9 @@ pub enum Word {
 pub struct Answered {
     /// The number of the call's last step among all steps of the player, from 0.
     pub step: u32,
+    /// The call.
     pub word: Word,
+    /// What it answered.
     pub answer: Answer,
 }
 

@@ -50,9 +50,11 @@ pub enum Role {
 /// A script or a run that is open, and how far it has come.
 #[derive(Clone, Copy, Debug)]
 pub struct Frame {
+    /// What is played.
     pub role: Role,
     /// How many calls of the script are answered.
     pub next: u32,
+    /// How far the call is that comes next.
     pub stage: Stage,
 }
 

@@ -14,7 +14,10 @@ pub enum PlayerState {
 /// What a player has done.
 #[derive(Debug, Drop)]
 pub struct Log {
+    /// How it stands.
     pub state: PlayerState,
+    /// Where each of its steps stands, first to last.
     pub steps: Spots,
+    /// The calls that have their answers.
     pub answers: Answers,
 }

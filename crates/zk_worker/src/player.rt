@@ -164,6 +164,7 @@ impl Player {
         self.who
     }
 
+    /// How it stands.
     pub fn state(&self) -> PlayerState
         ensures { result ≡ state_at self.now }
     {
