@@ -26,9 +26,9 @@ use Rattle.zk_model_work.specs.State.{State}
 use Rattle.zk_model_work.specs.Machine.{work_next, work_machine, submission, submission_at, target, submit, admitted_to, disarm, drop_one, drop_waiting, set_life, with_life, begin, end_one, end_run}
 use Rattle.zk_model_work.specs.Laws.{OfEach, submitter, made_after, Cancels, NoneWaitsAfterCancel, NoneWaitsDuringCancel, NoneMadeDuringCancel, BegunMadeAfterCancel, BegunMadeAfterRun}
 use Rattle.zk_model_work.proofs.Lives.{Keeps, Kept, Kept-next, Kept-after}
-use Rattle.zk_model_work.proofs.Moves.{Stays, admissions-next, schedule-keeps, delayed-keeps}
+use Rattle.zk_model_work.proofs.Moves.{Stays, pushed, still-map, admissions-next, schedule-keeps, delayed-keeps}
 use Rattle.zk_model_work.proofs.Begins.{alive, Replays-parts}
-use Rattle.zk_model_work.proofs.Overlaps.{runs-open, pushed, second_of, and-true, running-not, not_both, still-map, still-cond, Handed-entry}
+use Rattle.zk_model_work.proofs.Overlaps.{runs-open, second_of, and-true, running-not, not_both, still-cond, Handed-entry}
 
 -- no admission of the item waits
 abbrev NoneWaits : ℕ → List Admission → Type 0

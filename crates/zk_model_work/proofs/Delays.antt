@@ -1,5 +1,5 @@
 -- What becomes of an arm.
-use Rattle.std.proofs.Common.{◌≡◌, ℕ, zero, suc, ◌+◌, ◌<◌, ◌≤◌, ◌⊎◌, inl, inr, Bool, true, false, ◌&&◌, cond, eqb, leb, Option, Some, None, is_some, option_map, List, [], ◌∷◌, ◌++◌, length, map, slice_get, refl, sym, ap, subst, ◌∙◌, arith}
+use Rattle.std.proofs.Common.{◌≡◌, ℕ, suc, ◌+◌, ◌<◌, ◌≤◌, ◌⊎◌, inl, inr, Bool, true, false, ◌&&◌, cond, eqb, leb, Option, Some, None, is_some, option_map, List, [], ◌∷◌, ◌++◌, length, map, slice_get, refl, sym, ap, subst, ◌∙◌, arith}
 use Rattle.std.specs.Cmp.{second_so}
 use Rattle.std.proofs.lemmas.Bool.{eq-eqb, false≢true}
 use Rattle.std.proofs.lemmas.Bool.Decides.{nat_tests}
@@ -21,7 +21,7 @@ use Rattle.zk_model_work.specs.Questions.{is_live, arms_item, armed, is_due, due
 use Rattle.zk_model_work.specs.State.{State}
 use Rattle.zk_model_work.specs.Machine.{submission, submit, expiries, arm, disarm, disarm_one, expire, expire_one, is_pending, delayed, work_reply, work_next, work_machine}
 use Rattle.zk_model_work.specs.Laws.{IsFreshHistory, OfEach, announces, disarms, arm_after, time_after, LiveAhead, ExpiresWhenDue, DisarmedWhenGivenUp, FateStays, OneLiveArm, ExpireInOrder}
-use Rattle.zk_model_work.proofs.Moves.{still-push, unarmed, none-there, DisarmsJust, DisarmsNone, arms-next}
+use Rattle.zk_model_work.proofs.Moves.{still-push, pushed, still-map, unarmed, none-there, DisarmsJust, DisarmsNone, arms-next}
 use Rattle.zk_model_work.proofs.Begins.{Replays-parts}
 use Rattle.zk_model_work.proofs.Overlaps.{position-none, second_of}
 
@@ -81,16 +81,6 @@ keep-expire xs time later keep =
     let is = unexpired later was.0 (ap (λ (a : Arm). is_live a.fate) was.2 ∙ live) in
     let same : was.0 ≡ b = sym is.0 ∙ was.2 in
     (was.1 ∙ ap Some same, subst (λ (a : Arm). later < a.deadline) same is.1)) keep
-
--- an arm more: it is an old one, or the new one in its place
-pushed : (xs : List Arm) (x : Arm) (n : ℕ) (b : Arm) → slice_get (xs ++ x ∷ []) n ≡ Some b → (slice_get xs n ≡ Some b) ⊎ ((n ≡ length xs) × (x ≡ b))
-pushed [] x zero b at = inr (refl, same_Some x b at)
-pushed [] x (suc n) b at = absurd (cc)
-pushed (y ∷ ys) x zero b at = inl at
-pushed (y ∷ ys) x (suc n) b at = up (pushed ys x n b at) where
-  up : (slice_get ys n ≡ Some b) ⊎ ((n ≡ length ys) × (x ≡ b)) → (slice_get ys n ≡ Some b) ⊎ ((suc n ≡ suc (length ys)) × (x ≡ b))
-  up (inl old) = inl old
-  up (inr new) = inr (ap suc new.0, new.1)
 
 abbrev live_arm_of : ℕ → ℕ → ℕ → Arm
 live_arm_of item queue deadline = record { item = item; queue = queue; deadline = deadline; fate = Live }
@@ -152,9 +142,6 @@ pub one_live_arm : OfEach OneLiveArm
 one_live_arm start h fresh place other a b at there same live_a live_b = (ArmsKeep-history start h fresh).one place other a b at there same (ap is_live live_a) (ap is_live live_b)
 
 -- what isn't live any more stays as it is
-stays-map : (f : Arm → Arm) (xs : List Arm) (n : ℕ) (a : Arm) → f a ≡ a → slice_get xs n ≡ Some a → slice_get (map f xs) n ≡ Some a
-stays-map f xs n a same at = slice_get-map f xs n ∙ ap (option_map f) at ∙ ap Some same
-
 over-disarm : (item : ℕ) (a : Arm) → is_live a.fate ≡ false → disarm_one item a ≡ a
 over-disarm item a over = ap (λ b. cond b (record a { fate = Disarmed }) a) (neither (eqb a.item item) (is_live a.fate) over) where
   neither : (b c : Bool) → c ≡ false → (b && c) ≡ false
@@ -167,10 +154,10 @@ over-expire time a over = ap (λ b. cond (b && leb a.deadline time) (record a { 
 fate-next : (s : State) (who : Who) (op : WorkOp) (n : ℕ) (a : Arm) → is_live a.fate ≡ false → slice_get s.arms n ≡ Some a → slice_get (work_next s who op).arms n ≡ Some a
 fate-next s who op n a over at =
     arms-next (λ ys time. slice_get ys n ≡ Some a) s who op
-    (λ item just. stays-map (disarm_one item) s.arms n a (over-disarm item a over) at)
+    (λ item just. still-map (disarm_one item) s.arms n a (over-disarm item a over) at)
     (λ item queue delay others none later. still-push s.arms (live_arm_of item queue (s.time + delay)) n a at)
-    (λ item queue delay just later. still-push (disarm s.arms item) (live_arm_of item queue (s.time + delay)) n a (stays-map (disarm_one item) s.arms n a (over-disarm item a over) at))
-    (λ ticks is. stays-map (expire_one (s.time + ticks)) s.arms n a (over-expire (s.time + ticks) a over) at)
+    (λ item queue delay just later. still-push (disarm s.arms item) (live_arm_of item queue (s.time + delay)) n a (still-map (disarm_one item) s.arms n a (over-disarm item a over) at))
+    (λ ticks is. still-map (expire_one (s.time + ticks)) s.arms n a (over-expire (s.time + ticks) a over) at)
     (λ others. at)
 
 fate-after : (s : State) (h : List (Entry WorkOp WorkReply)) (n : ℕ) (a : Arm) → is_live a.fate ≡ false → slice_get s.arms n ≡ Some a → slice_get (state_after work_machine s h).arms n ≡ Some a

@@ -78,17 +78,17 @@ set_life-aside (x ∷ xs) (suc m) zero life apart = refl
 set_life-aside (x ∷ xs) (suc m) (suc n) life apart = set_life-aside xs m n life (λ e. apart (ap suc e))
 
 -- what waits is open
-open_where_waiting : (life : Life) → is_waiting life ≡ true → is_open life ≡ true
-open_where_waiting Waiting w = refl
-open_where_waiting Running w = absurd (cc)
-open_where_waiting Ended w = absurd (cc)
-open_where_waiting Dropped w = absurd (cc)
+pub open-waiting : (life : Life) → is_waiting life ≡ true → is_open life ≡ true
+open-waiting Waiting w = refl
+open-waiting Running w = absurd (cc)
+open-waiting Ended w = absurd (cc)
+open-waiting Dropped w = absurd (cc)
 
-open_where_running : (life : Life) → is_running life ≡ true → is_open life ≡ true
-open_where_running Waiting w = absurd (cc)
-open_where_running Running w = refl
-open_where_running Ended w = absurd (cc)
-open_where_running Dropped w = absurd (cc)
+pub open-running : (life : Life) → is_running life ≡ true → is_open life ≡ true
+open-running Waiting w = absurd (cc)
+open-running Running w = refl
+open-running Ended w = absurd (cc)
+open-running Dropped w = absurd (cc)
 
 -- an open admission runs, ends or is dropped
 Keeps-with_life : (a : Admission) (life : Life) → is_open a.life ≡ true → is_waiting life ≡ false → Keeps a (with_life life a)
@@ -99,10 +99,10 @@ Keeps-cond true a life was goes = Keeps-with_life a life (was refl) goes
 Keeps-cond false a life was goes = Keeps-refl a
 
 Keeps-end_one : (queue : ℕ) (a : Admission) → Keeps a (end_one queue a)
-Keeps-end_one queue a = Keeps-cond (runs_on queue a) a Ended (λ r. open_where_running a.life (second_so (eqb a.queue queue) (is_running a.life) r)) refl
+Keeps-end_one queue a = Keeps-cond (runs_on queue a) a Ended (λ r. open-running a.life (second_so (eqb a.queue queue) (is_running a.life) r)) refl
 
 Keeps-drop_one : (item : ℕ) (a : Admission) → Keeps a (drop_one item a)
-Keeps-drop_one item a = Keeps-cond (waits_as item a) a Dropped (λ w. open_where_waiting a.life (second_so (eqb a.item item) (is_waiting a.life) w)) refl
+Keeps-drop_one item a = Keeps-cond (waits_as item a) a Dropped (λ w. open-waiting a.life (second_so (eqb a.item item) (is_waiting a.life) w)) refl
 
 Kept-submit : (xs : List Admission) (item : ℕ) (answer : Submitted) → Kept xs (submit xs item answer)
 Kept-submit xs item Already = Kept-refl xs
@@ -133,7 +133,7 @@ Kept-set_life xs queue m is n a at = here (eqb_tells m n) where
   here (inl same) =
       let there : slice_get xs m ≡ Some a = ap (slice_get xs) same.1 ∙ at in
       let waits = second_so (eqb a.queue queue) (is_waiting a.life) (is.waits a there) in
-      (with_life Running a, ap (slice_get (set_life xs m Running)) (sym same.1) ∙ set_life-at xs m Running a there, Keeps-with_life a Running (open_where_waiting a.life waits) refl)
+      (with_life Running a, ap (slice_get (set_life xs m Running)) (sym same.1) ∙ set_life-at xs m Running a there, Keeps-with_life a Running (open-waiting a.life waits) refl)
   here (inr other) = (a, set_life-aside xs m n Running other.1 ∙ at, Keeps-refl a)
 
 Kept-begin : (xs : List Admission) (queue : ℕ) → Kept xs (begin xs queue)

@@ -1,7 +1,7 @@
 -- What an operation makes of the parts of the state.
-use Rattle.std.proofs.Common.{◌≡◌, ℕ, zero, suc, ◌+◌, Bool, true, false, ◌||◌, cond, eqb, Option, Some, None, is_some, option_to_list, List, [], ◌∷◌, ◌++◌, slice_get, refl, inl, inr}
+use Rattle.std.proofs.Common.{◌≡◌, ℕ, zero, suc, ◌+◌, ◌⊎◌, inl, inr, Bool, true, false, ◌||◌, cond, eqb, Option, Some, None, is_some, option_map, option_to_list, List, [], ◌∷◌, ◌++◌, length, map, slice_get, refl, ap, ◌∙◌}
 use Rattle.std.specs.Option.{option_map_or}
-use Rattle.std.proofs.lemmas.Option.{same_Some}
+use Rattle.std.proofs.lemmas.Option.{slice_get-map, same_Some}
 use Rattle.zk_base.specs.declared.ids.Who.{Who}
 use Rattle.zk_model_work.specs.declared.parts.Admission.{Admission}
 use Rattle.zk_model_work.specs.declared.parts.Arm.{Arm}
@@ -27,6 +27,20 @@ pub still-push : {A : Type 0} (xs : List A) (x : A) → Stays xs (xs ++ x ∷ []
 still-push [] x n a at = absurd (cc)
 still-push (y ∷ ys) x zero a at = at
 still-push (y ∷ ys) x (suc n) a at = still-push ys x n a at
+
+-- one element more: it is an old one, or the new one in its place
+pub pushed : {A : Type 0} (xs : List A) (x : A) (n : ℕ) (b : A) → slice_get (xs ++ x ∷ []) n ≡ Some b → (slice_get xs n ≡ Some b) ⊎ ((n ≡ length xs) × (x ≡ b))
+pushed [] x zero b at = inr (refl, same_Some x b at)
+pushed [] x (suc n) b at = absurd (cc)
+pushed (y ∷ ys) x zero b at = inl at
+pushed {A} (y ∷ ys) x (suc n) b at = up (pushed ys x n b at) where
+  up : (slice_get ys n ≡ Some b) ⊎ ((n ≡ length ys) × (x ≡ b)) → (slice_get ys n ≡ Some b) ⊎ ((suc n ≡ suc (length ys)) × (x ≡ b))
+  up (inl old) = inl old
+  up (inr new) = inr (ap suc new.0, new.1)
+
+-- a change of each element that leaves this one
+pub still-map : {A : Type 0} (f : A → A) (xs : List A) (n : ℕ) (a : A) → f a ≡ a → slice_get xs n ≡ Some a → slice_get (map f xs) n ≡ Some a
+still-map f xs n a same at = slice_get-map f xs n ∙ ap (option_map f) at ∙ ap Some same
 
 pub still-submit : (xs : List Admission) (item : ℕ) (answer : Submitted) → Stays xs (submit xs item answer)
 still-submit xs item Already n a at = at

@@ -27,8 +27,8 @@ use Rattle.zk_model_work.specs.Questions.{is_waiting, is_running, is_open, waits
 use Rattle.zk_model_work.specs.State.{State}
 use Rattle.zk_model_work.specs.Machine.{work_next, work_reply, work_machine, target, admission, refusal, submission_to, submission_at, submission, admitted_to, submit, set_life, with_life, begin, end_one, drop_one, may_begin, is_worker, taken_up}
 use Rattle.zk_model_work.specs.Laws.{IsFreshHistory, OfEach, submitter, admission_after, ends, NotBegunDuringRun, RunsToItsEnd, EndsBetweenBegins}
-use Rattle.zk_model_work.proofs.Lives.{IsFirst, IsFirst-line, set_life-at, set_life-aside}
-use Rattle.zk_model_work.proofs.Moves.{admissions-next, still-submit, is_begin}
+use Rattle.zk_model_work.proofs.Lives.{open-waiting, open-running, IsFirst, IsFirst-line, set_life-at, set_life-aside}
+use Rattle.zk_model_work.proofs.Moves.{pushed, still-map, still-submit, admissions-next, is_begin}
 use Rattle.zk_model_work.proofs.Begins.{Begun, Begun-reply, Begun-entry, Replays-parts}
 
 -- what a life is
@@ -38,18 +38,6 @@ waiting-running Waiting w r = false≢true r
 waiting-running Running w r = false≢true w
 waiting-running Ended w r = false≢true w
 waiting-running Dropped w r = false≢true w
-
-pub open-waiting : (life : Life) → is_waiting life ≡ true → is_open life ≡ true
-open-waiting Waiting w = refl
-open-waiting Running w = absurd (cc)
-open-waiting Ended w = absurd (cc)
-open-waiting Dropped w = absurd (cc)
-
-pub open-running : (life : Life) → is_running life ≡ true → is_open life ≡ true
-open-running Waiting r = absurd (cc)
-open-running Running r = refl
-open-running Ended r = absurd (cc)
-open-running Dropped r = absurd (cc)
 
 pub runs-open : (life : Life) → is_open life ≡ true → is_waiting life ≡ false → is_running life ≡ true
 runs-open Waiting o w = absurd (cc)
@@ -120,16 +108,6 @@ kept-end_one queue a opens = kept-cond (runs_on queue a) a Ended refl opens
 
 kept-drop_one : (item : ℕ) (a : Admission) → is_open (drop_one item a).life ≡ true → drop_one item a ≡ a
 kept-drop_one item a opens = kept-cond (waits_as item a) a Dropped refl opens
-
--- an admission more: it is an old one, or the new one in its place
-pub pushed : (xs : List Admission) (x : Admission) (n : ℕ) (b : Admission) → slice_get (xs ++ x ∷ []) n ≡ Some b → (slice_get xs n ≡ Some b) ⊎ ((n ≡ length xs) × (x ≡ b))
-pushed [] x zero b at = inr (refl, same_Some x b at)
-pushed [] x (suc n) b at = absurd (cc)
-pushed (y ∷ ys) x zero b at = inl at
-pushed (y ∷ ys) x (suc n) b at = up (pushed ys x n b at) where
-  up : (slice_get ys n ≡ Some b) ⊎ ((n ≡ length ys) × (x ≡ b)) → (slice_get ys n ≡ Some b) ⊎ ((suc n ≡ suc (length ys)) × (x ≡ b))
-  up (inl old) = inl old
-  up (inr new) = inr (ap suc new.0, new.1)
 
 past : (b : Bool) (x y : Submitted) (queue : ℕ) → admitted_to x ≡ None → admitted_to (cond b x y) ≡ Some queue → (b ≡ false) × (admitted_to y ≡ Some queue)
 past true x y queue none is = absurd (cc)
@@ -378,9 +356,6 @@ not_begun_during_run start h fresh front rest e item number running a parts at i
     runs-alone s.admissions it.queue number running a it.was (Ordered-history start h front (e ∷ rest) fresh parts) at (ap is_running runs) it.there it.waits (item_is ∙ sym it.item_is) it.queue_is it.idle
 
 -- a running admission runs on, but for an end at its queue
-pub still-map : (f : Admission → Admission) (xs : List Admission) (n : ℕ) (a : Admission) → f a ≡ a → slice_get xs n ≡ Some a → slice_get (map f xs) n ≡ Some a
-still-map f xs n a same at = slice_get-map f xs n ∙ ap (option_map f) at ∙ ap Some same
-
 pub still-cond : (b : Bool) (a : Admission) (life : Life) → b ≡ false → cond b (with_life life a) a ≡ a
 still-cond true a life is = absurd (cc)
 still-cond false a life is = refl

@@ -19,10 +19,10 @@ use Rattle.zk_model_work.specs.Questions.{is_waiting, is_running, waits_as, runs
 use Rattle.zk_model_work.specs.State.{State}
 use Rattle.zk_model_work.specs.Machine.{work_reply, work_next, work_machine, submission, submit, set_life, with_life, begin, end_one, drop_one}
 use Rattle.zk_model_work.specs.Laws.{OfEach, submitter, OneWaitsOneRuns, OneRunsOnAQueue}
-use Rattle.zk_model_work.proofs.Moves.{admissions-next}
+use Rattle.zk_model_work.proofs.Moves.{pushed, admissions-next}
 use Rattle.zk_model_work.proofs.Lives.{IsFirst-line}
 use Rattle.zk_model_work.proofs.Begins.{Begun-reply}
-use Rattle.zk_model_work.proofs.Overlaps.{pushed, position-none, and-true, Ordered-history, Taken, taken, begin-is, idle-begin}
+use Rattle.zk_model_work.proofs.Overlaps.{position-none, and-true, Ordered-history, Taken, taken, begin-is, idle-begin}
 use Rattle.zk_model_work.proofs.Outcomes.{waits_is}
 
 runs_is : (life : Life) → is_running life ≡ true → life ≡ Running

@@ -12,7 +12,8 @@ use Rattle.zk_model_work.specs.declared.parts.Life.TheVariants.{Waiting, Running
 use Rattle.zk_model_work.specs.declared.parts.Admission.{Admission}
 use Rattle.zk_model_work.specs.Lists.{first}
 use Rattle.zk_model_work.specs.Questions.{is_waiting, is_running, is_open, waits_as, runs_as, waits_for, runs_on, waiting, running, last_queue, passes_at}
-use Rattle.zk_model_work.proofs.Overlaps.{position-none, open-waiting, open-running}
+use Rattle.zk_model_work.proofs.Lives.{open-waiting, open-running}
+use Rattle.zk_model_work.proofs.Overlaps.{position-none}
 use Rattle.zk_queue.specs.declared.ticket.Ticket.{Ticket}
 use Rattle.zk_queue.specs.Line.{is_of, has_number, number_in, number_among}
 use Rattle.zk_queue.specs.Open as active

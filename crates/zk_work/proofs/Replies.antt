@@ -17,7 +17,8 @@ use Rattle.zk_model_work.specs.Questions.{is_running, runs_as, waits_for, runs_o
 use Rattle.zk_model_work.specs.State.{State}
 use Rattle.zk_model_work.specs.Machine.{target, admission, refusal, submission_to, submission_at, submission, taken_up, may_begin, may_end, is_worker}
 use Rattle.zk_model_work.proofs.Lines.{first_of_places}
-use Rattle.zk_model_work.proofs.Overlaps.{position-none, found_queue, open-running}
+use Rattle.zk_model_work.proofs.Lives.{open-running}
+use Rattle.zk_model_work.proofs.Overlaps.{position-none, found_queue}
 use Rattle.zk_queue.specs.declared.ticket.Ticket.{Ticket}
 use Rattle.zk_queue.specs.declared.marks.Marks.{Marks}
 use Rattle.zk_queue.specs.Open as active

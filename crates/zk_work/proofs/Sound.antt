@@ -10,7 +10,9 @@ use Rattle.zk_model_work.specs.declared.parts.Life.TheVariants.{Waiting, Running
 use Rattle.zk_model_work.specs.declared.parts.Admission.{Admission}
 use Rattle.zk_model_work.specs.Questions.{is_waiting, is_running, is_open, waits_as, runs_as, runs_on, waiting, running, last_queue, weight}
 use Rattle.zk_model_work.specs.Machine.{with_life, set_life, drop_one, end_one}
-use Rattle.zk_model_work.proofs.Overlaps.{Admits, pushed, position-none, runs-open, Taken, taken, open-waiting, and-true, second_of}
+use Rattle.zk_model_work.proofs.Moves.{pushed}
+use Rattle.zk_model_work.proofs.Lives.{open-waiting}
+use Rattle.zk_model_work.proofs.Overlaps.{Admits, position-none, runs-open, Taken, taken, and-true, second_of}
 use Rattle.zk_work.specs.Kept.{IsSound, is_past_waiting}
 use Rattle.zk_work.proofs.Tickets.{count-cons, count-none, count-push, count-map_less}
 use Rattle.zk_work.proofs.Changes.{item-drop, queue-drop, item-end, queue-end}

@@ -20,7 +20,8 @@ use Rattle.zk_model_work.specs.Questions.{is_waiting, is_running, waits_as, runs
 use Rattle.zk_model_work.specs.State.{State}
 use Rattle.zk_model_work.specs.Machine.{with_life, set_life, drop_one, end_one, settle_from, end, cancel, change, drain, drain_start, drain_wait, drained_of, wait_for, awaiting}
 use Rattle.zk_model_work.proofs.Counts.{IsTimed-more, IsCounted-more, IsCounted-settled, IsCounted-changed, IsCounted-drain, length-settle_from, length-change, length-drain}
-use Rattle.zk_model_work.proofs.Overlaps.{Admits, open-running}
+use Rattle.zk_model_work.proofs.Lives.{open-running}
+use Rattle.zk_model_work.proofs.Overlaps.{Admits}
 use Rattle.zk_queue.specs.declared.ticket.Ticket.{Ticket}
 use Rattle.zk_queue.specs.Line.{without}
 use Rattle.zk_queue.specs.Open as active
