@@ -14,10 +14,10 @@ use Rattle.zk_trace.specs.Text.{trace_text}
 use Rattle.zk_replay.specs.Replay.{IsReplay}
 use Rattle.zk_replay.specs.Lawful.{IsLawful}
 use Rattle.zk_replay.specs.Over.{IsOver}
-use Rattle.zk_cli.specs.Kept.{KeepsLaws, KeepsClockLaws}
+use Rattle.zk_cli.specs.Kept.{KeepsLaws, KeepsClockLaws, AtEachMoment}
 use Rattle.zk_cli.specs.Refusal.{refusal_text}
 
--- the input is the text of a scenario, and the output is that text and the trace of its round robin run, which ends so; the trace is lawful for the scenario, its histories keep the laws, and where the run has ended each admission has ended or was dropped
+-- the input is the text of a scenario, and the output is that text and the trace of its round robin run, which ends so; the trace is lawful for the scenario, its histories keep the laws at each moment, and where the run has ended each admission has ended or was dropped
 pub record IsRun (ending : Ending) (input output : List ℕ) : Type 0 where
   pub scenario : Parts
   pub trace : Trace
@@ -25,8 +25,8 @@ pub record IsRun (ending : Ending) (input output : List ℕ) : Type 0 where
   pub spelled : input ≡ text_of scenario
   pub run : IsReplay scenario trace
   pub lawful : IsLawful scenario trace
-  pub laws : KeepsLaws (work_start_of scenario) trace.work
-  pub clock_laws : KeepsClockLaws trace.clock
+  pub laws : AtEachMoment (KeepsLaws (work_start_of scenario)) trace.work
+  pub clock_laws : AtEachMoment KeepsClockLaws trace.clock
   pub over : IsOver scenario trace
   pub ends : trace.ending ≡ ending
   pub printed : output ≡ text_of scenario ++ trace_text scenario trace

@@ -1,4 +1,4 @@
-use Rattle.std.specs.Prelude.{List}
+use Rattle.std.specs.Prelude.{◌≡◌, List, ◌++◌}
 use Rattle.zk_base.specs.declared.ids.Entry.{Entry}
 use Rattle.zk_model_wait.specs.ClockLaws.{ClockHistory, IsClockHistory, TimeIsAllTicks, TimeNeverFalls, TimeIsShort, AnnounceTellsTheTime, AlarmTellsItsMoment, DueWhenItsMomentHasCome, EachEndsOnce, MayEndOnceItHasCome}
 use Rattle.zk_model_work.specs.declared.ops.WorkOp.{WorkOp}
@@ -61,6 +61,10 @@ pub record KeepsClockLaws (h : ClockHistory) : Type 0 where
   pub due : DueWhenItsMomentHasCome h
   pub once : EachEndsOnce h
   pub may : MayEndOnceItHasCome h
+
+-- it holds of each front of a history: at each moment of it, the last one too
+abbrev pub AtEachMoment : {A : Type 0} → (List A → Type 0) → List A → Type 0
+AtEachMoment {A} P h = (front rest : List A) → h ≡ front ++ rest → P front
 
 -- every work history keeps them, and so does every history of the clock
 abbrev pub HistoriesKeepLaws : Type 0
