@@ -36,7 +36,7 @@ impl Service for Clock {
 
     ghost use Rattle.std.specs.Prelude.{false};
     ghost use Rattle.zk_model_wait.specs.Clock.{clock_machine};
-    ghost use Rattle.zk_time.specs.ClockKept.{clock_closes};
+    ghost use Rattle.zk_time.specs.ClockOwed.{clock_closes};
     ghost use Rattle.zk_time.specs.ClockSeen.{clock_start, clock_history};
 
     ghost machine = { clock_machine };

@@ -8,12 +8,12 @@ use Rattle.zk_base.specs.Order.{Ascends}
 use Rattle.zk_model_work.specs.declared.parts.Admission.{Admission}
 use Rattle.zk_model_work.specs.declared.parts.Fate.TheVariants.{Live}
 use Rattle.zk_model_work.specs.declared.parts.Arm.{Arm}
-use Rattle.zk_model_work.specs.declared.ops.Submitted.{Submitted}
 use Rattle.zk_model_work.specs.declared.ops.Expiry.{Expiry}
 use Rattle.zk_model_work.specs.declared.ops.WorkReply.TheVariants.{Now}
-use Rattle.zk_model_work.specs.Questions.{due}
+use Rattle.zk_model_work.specs.Questions.{due, item_of as machine_item}
+use Rattle.zk_model_work.specs.Answers.{submission}
+use Rattle.zk_model_work.specs.Machine.{submit, submit_arms, expiries, expire, announce, announce_reply}
 use Rattle.zk_model_work.specs.State.{State, IsTimed}
-use Rattle.zk_model_work.specs.Machine.{submission, submit, submit_arms, expiries, admitted_to, expire, announce, announce_reply}
 use Rattle.zk_model_work.proofs.Counts.{IsTimed-ticks}
 use Rattle.zk_model_work.proofs.Lines.{submit_arms-more, expiries-more}
 use Rattle.zk_time.specs.declared.timeout.Timeout.{Timeout}
@@ -24,8 +24,8 @@ use Rattle.zk_work.specs.Engine as engine
 use Rattle.zk_work.specs.Engine.{answer_of, admitted, submitted, expired_next, expired, told, expiry_of}
 use Rattle.zk_work.proofs.Arms.{timeouts-expire, timeouts-due, arm_for, timeouts-for, front-due, first-due, rest-due}
 use Rattle.zk_work.proofs.Replies.{answer-same}
-use Rattle.zk_work.proofs.Delaying.{rearmed, submit-stands, drop-room}
-use Rattle.zk_work.proofs.Standing.{counted-stands}
+use Rattle.zk_work.proofs.Delaying.{submit-stands, drop-room}
+use Rattle.zk_work.proofs.Beside.{submitted-same, counted-stands, rearmed, retimed}
 
 Ascends-drop : (n : ℕ) (ts : List Timeout) → Ascends (λ t. t.deadline) ts → Ascends (λ t. t.deadline) (drop n ts)
 Ascends-drop zero ts ascends = ascends
@@ -33,17 +33,11 @@ Ascends-drop (suc n) [] ascends = ascends
 Ascends-drop (suc n) (t ∷ ts) ascends = Ascends-drop n ts ascends.1
 
 -- no submission counts an entry
-entries-submitted : (k : Kept) (item : ℕ) (a : Submitted) → (submitted k item a).entries ≡ k.entries
-entries-submitted k item a = by (admitted_to a) where
-  by : (o : Option ℕ) → (option_map_or (admitted k item) o k).entries ≡ k.entries
-  by None = refl
-  by (Some queue) = refl
-
 entries-next : (time : ℕ) (j : Kept) → (expired_next time j).entries ≡ j.entries
 entries-next time j = by (due_first time j.timeouts.live) where
   by : (o : Option Timeout) → (option_map_or (λ (t : Timeout). submitted (record j { timeouts = drop_due j.timeouts time }) t.item (answer_of j None t.item (Some t.queue))) o j).entries ≡ j.entries
   by None = refl
-  by (Some t) = entries-submitted (record j { timeouts = drop_due j.timeouts time }) t.item (answer_of j None t.item (Some t.queue))
+  by (Some t) = submitted-same (λ (i : Kept). i.entries) (record j { timeouts = drop_due j.timeouts time }) t.item (answer_of j None t.item (Some t.queue)) (λ queue. refl)
 
 pub entries-expired : (n time : ℕ) (k : Kept) → (expired n time k).entries ≡ k.entries
 entries-expired zero time k = refl
@@ -91,15 +85,15 @@ module _ (k : Kept) (s : State) (st : StandsFor k s) (time : ℕ) where
       let inside = st.whole.ordered.within n (timeout_of none) front.0 in
       let item : a.item ≡ (get_or k.timeouts.live n (timeout_of none)).item = ap (λ (t : Timeout). t.item) (next-same n within) in
       let armed = st.whole.armed in
-      let items = st.items in
+      let items = st.admissions.items in
       let popped = rearmed j (mid n) (drop_due j.timeouts time) (map arm_for (drop (suc n) k.timeouts.live)) stands stands.whole.armed (IsOrdered-due j.timeouts time stands.whole.ordered) (omega arith)
       (it.1 ∙ sym (timeouts-for (drop (suc n) k.timeouts.live) (Ascends-drop (suc n) k.timeouts.live st.whole.ordered.ascends))) in
       let P : Kept = record j { timeouts = drop_due j.timeouts time } in
       let done = submit-stands P (record (mid n) { arms = map arm_for (drop (suc n) k.timeouts.live) }) None a.item (Some a.queue) popped (omega arith) (omega arith) in
       let suc_is : n + 1 ≡ suc n = omega arith in
       let more = submit_arms-more s.marks s.queues None (due time s.arms) n none s.admissions (mid n).admissions
-      (submit (mid n).admissions a.item (submission (mid n).admissions s.marks s.queues None a.item (Some a.queue)))
-      (submission (mid n).admissions s.marks s.queues None a.item (Some a.queue)) (omega arith) refl refl refl in
+      (submit (mid n).admissions a.item (submission (machine_item (mid n).admissions s.marks a.item) s.queues None (Some a.queue)))
+      (submission (machine_item (mid n).admissions s.marks a.item) s.queues None (Some a.queue)) (omega arith) refl refl refl in
       subst (λ (o : Option Timeout). StandsFor (option_map_or (λ (t : Timeout). submitted P t.item (answer_of j None t.item (Some t.queue))) o j) (mid (suc n))) (sym it.0)
       (subst (λ (xs : List Admission). StandsFor (submitted P a.item (answer_of j None a.item (Some a.queue))) (record s { admissions = xs; arms = map arm_for (drop (suc n) k.timeouts.live) }))
       (more ∙ ap (λ m. submit_arms s.marks s.queues None (take m (due time s.arms)) s.admissions) suc_is) done)
@@ -145,40 +139,6 @@ module _ (k : Kept) (s : State) (st : StandsFor k s) (time : ℕ) where
       (rearmed e (mid count) e.timeouts (expire s.arms time) stands stands.whole.armed stands.whole.ordered stands.whole.fewer left)
 
 -- and so many ticks later, at an entry that is counted
-retimed : (k : Kept) (s : State) (time : ℕ) → StandsFor k s → IsTimed time k.entries → StandsFor (record k { time = time }) (record s { time = time })
-retimed k s time st timed =
-    let w = st.whole in
-    record {
-      whole = record {
-        counted = w.counted;
-        timed = timed;
-        fewer = w.fewer;
-        fewest = w.fewest;
-        items = w.items;
-        armed = w.armed;
-        ordered = w.ordered;
-        queues = w.queues;
-        shaped = w.shaped;
-        above = w.above;
-        busy = w.busy;
-        known = w.known;
-      };
-      time = refl;
-      entries = st.entries;
-      items = st.items;
-      queues = st.queues;
-      arms = st.arms;
-      waits = st.waits;
-      there = st.there;
-      made = st.made;
-      running = st.running;
-      last = st.last;
-      lines = st.lines;
-      runs = st.runs;
-      marks = st.marks;
-      sound = st.sound;
-    }
-
 pub announced-stands : (k : Kept) (s : State) (ticks : ℕ) → StandsFor k s → s.entries < 2 ^ 32 - 1 → ticks < 2 ^ 32 → StandsFor (record (engine.announced k ticks) { entries = k.entries + 1 }) (record (announce s ticks) { entries = s.entries + 1 })
 announced-stands k s ticks st few short =
     let time = k.time + ticks in
@@ -197,16 +157,10 @@ announce_reply-same k s ticks st =
     ap (Now (k.time + ticks)) (told-all k s st (k.time + ticks)) ∙ ap (λ n. Now (n + ticks) (expiries s.marks s.queues (due (n + ticks) s.arms) s.admissions)) st.time
 
 -- what is armed after so many
-timeouts-submitted : (k : Kept) (item : ℕ) (a : Submitted) → (submitted k item a).timeouts ≡ k.timeouts
-timeouts-submitted k item a = by (admitted_to a) where
-  by : (o : Option ℕ) → (option_map_or (admitted k item) o k).timeouts ≡ k.timeouts
-  by None = refl
-  by (Some queue) = refl
-
 live-next : (time : ℕ) (j : Kept) (t : Timeout) → due_first time j.timeouts.live ≡ Some t → (expired_next time j).timeouts.live ≡ due_rest time j.timeouts.live
 live-next time j t is =
     ap (λ (o : Option Timeout). (option_map_or (λ (t : Timeout). submitted (record j { timeouts = drop_due j.timeouts time }) t.item (answer_of j None t.item (Some t.queue))) o j).timeouts.live) is
-    ∙ ap (λ (ts : Timeouts). ts.live) (timeouts-submitted (record j { timeouts = drop_due j.timeouts time }) t.item (answer_of j None t.item (Some t.queue)))
+    ∙ ap (λ (ts : Timeouts). ts.live) (submitted-same (λ (i : Kept). i.timeouts) (record j { timeouts = drop_due j.timeouts time }) t.item (answer_of j None t.item (Some t.queue)) (λ queue. refl))
 
 live-expired : (n time : ℕ) (k : Kept) → Ascends (λ t. t.deadline) k.timeouts.live → n ≤ length (filter (is_due time) k.timeouts.live) → (expired n time k).timeouts.live ≡ drop n k.timeouts.live
 live-expired zero time k ascends most = refl

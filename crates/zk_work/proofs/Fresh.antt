@@ -48,18 +48,19 @@ fresh-stands items workers started same few =
       };
       time = refl;
       entries = refl;
-      items = refl;
       queues = refl;
       arms = refl;
-      waits = refl;
-      there = All-nil (λ (w : Wait). is_there [] w.awaited w.answered ≡ true);
-      made = refl;
-      running = refl;
-      last = λ i. alike items i None;
-      lines = λ q. alike (length workers) q [];
-      runs = λ q. ap option_to_list (alike (length workers) q None);
-      marks = λ i. alike items i active.unmarked;
-      sound = IsSound-fresh items;
+      waits = record { left = refl; there = All-nil (λ (w : Wait). is_there [] w.awaited w.answered ≡ true) };
+      admissions = record {
+        items = refl;
+        made = refl;
+        running = refl;
+        last = λ i. alike items i None;
+        lines = λ q. alike (length workers) q [];
+        runs = λ q. ap option_to_list (alike (length workers) q None);
+        marks = λ i. alike items i active.unmarked;
+        sound = IsSound-fresh items;
+      };
     } where
       none : (t : Ticket) → None ≡ Some t → ⊥
       none t is = cc

@@ -20,7 +20,7 @@ use Rattle.zk_queue.specs.Open as active
 use Rattle.zk_queue.specs.Open.{Open, line, run, is_run_of, runs_number}
 use Rattle.zk_work.specs.Tickets.{tickets_from, tickets}
 use Rattle.zk_work.proofs.Tickets.{ticket, Stands, first_stands, count-some, none_behind, less_behind}
-use Rattle.zk_work.proofs.Asked.{queued, runs_now, run_of}
+use Rattle.zk_work.proofs.Items.{queued, runs_now, run_of}
 
 -- two words that agree
 pub agree : (b c : Bool) → (b ≡ true → c ≡ true) → (c ≡ true → b ≡ true) → b ≡ c

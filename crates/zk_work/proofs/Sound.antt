@@ -8,7 +8,7 @@ use Rattle.std.proofs.lemmas.Option.{slice_get-map, same_Some}
 use Rattle.zk_model_work.specs.declared.parts.Life.{Life}
 use Rattle.zk_model_work.specs.declared.parts.Life.TheVariants.{Waiting, Running, Ended, Dropped}
 use Rattle.zk_model_work.specs.declared.parts.Admission.{Admission}
-use Rattle.zk_model_work.specs.Questions.{is_waiting, is_running, is_open, waits_as, runs_as, runs_on, waiting, running, last_queue, weight}
+use Rattle.zk_model_work.specs.Questions.{running_queue, is_waiting, is_running, is_open, waits_as, runs_as, runs_on, waiting, running, last_queue, weight, item_of as machine_item}
 use Rattle.zk_model_work.specs.Machine.{with_life, set_life, drop_one, end_one}
 use Rattle.zk_model_work.proofs.Moves.{pushed}
 use Rattle.zk_model_work.proofs.Lives.{open-waiting}
@@ -16,7 +16,7 @@ use Rattle.zk_model_work.proofs.Overlaps.{Admits, position-none, runs-open, Take
 use Rattle.zk_work.specs.Kept.{IsSound, is_past_waiting}
 use Rattle.zk_work.proofs.Tickets.{count-cons, count-none, count-push, count-map_less}
 use Rattle.zk_work.proofs.Changes.{item-drop, queue-drop, item-end, queue-end}
-use Rattle.zk_work.proofs.Homes.{last-push, last-map, last-set_life}
+use Rattle.zk_work.proofs.LastQueues.{last-push, last-map, last-set_life}
 use Rattle.zk_work.proofs.Cancelling.{remarked, marked-push, marked-drop, marked-end, marked-begin, marked-cancel}
 use Rattle.zk_work.proofs.Replies.{running_queue-last}
 
@@ -47,7 +47,7 @@ abbrev new : ℕ → ℕ → Admission
 new item queue = record { item = item; queue = queue; life = Waiting }
 
 -- a submission
-pub IsSound-push : (items : ℕ) (xs : List Admission) (marks : List ℕ) (item : ℕ) (named : Option ℕ) (queue : ℕ) → Admits xs marks item named queue → item < items → IsSound items xs marks →
+pub IsSound-push : (items : ℕ) (xs : List Admission) (marks : List ℕ) (item : ℕ) (named : Option ℕ) (queue : ℕ) → Admits (machine_item xs marks item) named queue → item < items → IsSound items xs marks →
     IsSound items (xs ++ record { item = item; queue = queue; life = Waiting } ∷ []) marks
 IsSound-push items xs marks item named queue admits within sound = record {
   known = λ n b at. known n b (pushed xs (new item queue) n b at);
@@ -80,9 +80,9 @@ IsSound-push items xs marks item named queue admits within sound = record {
   to b n at opens is =
       let runs = runs-open b.life opens (second_of (eqb b.item item) (is_waiting b.life) (eq-eqb b.item item is) (not_waiting n b at)) in
       let some = runs-some xs item n b at (and-true (eqb b.item item) (is_running b.life) (eq-eqb b.item item is) runs) in
-      same_Some queue b.queue (sym admits.target_is ∙ running_queue-last items xs marks item named sound
-      ∙ ap (λ c. cond c (last_queue xs item) (option_or named (last_queue xs item))) some
-      ∙ ap (last_queue xs) (sym is) ∙ sound.home n b at opens)
+      let runs_at : running_queue xs item ≡ Some b.queue =
+      running_queue-last items xs marks item sound ∙ ap (λ c. cond c (last_queue xs item) None) some ∙ ap (last_queue xs) (sym is) ∙ sound.home n b at opens in
+      same_Some queue b.queue (sym admits.target_is ∙ ap (λ (o : Option ℕ). option_or o (option_or named (last_queue xs item))) runs_at)
 
   old_home : (b : Admission) (n : ℕ) (c : Bool) → (item == b.item) ≡ c → slice_get xs n ≡ Some b → is_open b.life ≡ true → cond c (Some queue) (last_queue xs b.item) ≡ Some b.queue
   old_home b n true same at opens = ap Some (to b n at opens (sym (eqb-true item b.item same)))

@@ -105,27 +105,36 @@ pub record IsWhole (k : Kept) : Type 0 where
   pub busy : (queue : ℕ) (t : Ticket) → run k.active queue ≡ Some t → 0 < k.running
   pub known : (queue : ℕ) (t : Ticket) → run k.active queue ≡ Some t → t.item < k.active.items
 
+-- what is kept of the admissions is what answers need of all that were made
+pub record StandsForAdmissions (next open_runs : ℕ) (homes : List (Option ℕ)) (o : Open)
+    (known : ℕ) (admissions : List Admission) (found : List ℕ) : Type 0 where
+  pub items : o.items ≡ known
+  pub made : next ≡ length admissions
+  pub running : open_runs ≡ count_by (λ a. is_running a.life) admissions
+  pub last : (item : ℕ) → slice_index_or homes item None ≡ last_queue admissions item
+  -- each queue has the tickets of what waits for it, and of what it runs
+  pub lines : (queue : ℕ) → line o queue ≡ tickets (waits_for queue) admissions
+  pub runs : (queue : ℕ) → option_to_list (run o queue) ≡ tickets (runs_on queue) admissions
+  -- an item is marked where it is being cancelled
+  pub marks : (item : ℕ) →
+      marks_of o item ≡ record { cancelling = is_cancelling admissions found item; delayed = false; flushing = false }
+  pub sound : IsSound known admissions found
+
+-- the waits that are kept are those that aren't answered; and what each wait is for is there
+pub record StandsForWaits (kept : List Wait) (admissions : List Admission) (waits : List Wait) : Type 0 where
+  pub left : kept ≡ unanswered waits
+  pub there : All (λ w. is_there admissions w.awaited w.answered ≡ true) waits
+
 -- the engine stands for a state: what it keeps is what answers need of the state's lists
 pub record StandsFor (k : Kept) (s : State) : Type 0 where
   pub whole : IsWhole k
   pub time : k.time ≡ s.time
   pub entries : k.entries ≡ s.entries
-  pub items : k.active.items ≡ s.items
   pub queues : k.queues ≡ s.queues
   -- the live arms
   pub arms : k.timeouts.live ≡ timeouts_of s.arms
-  -- the waits that aren't answered; and what each wait is for is there
-  pub waits : k.waits ≡ unanswered s.waits
-  pub there : All (λ w. is_there s.admissions w.awaited w.answered ≡ true) s.waits
-  pub made : k.made ≡ length s.admissions
-  pub running : k.running ≡ count_by (λ a. is_running a.life) s.admissions
-  pub last : (item : ℕ) → last_of k item ≡ last_queue s.admissions item
-  -- each queue has the tickets of what waits for it, and of what it runs
-  pub lines : (queue : ℕ) → line k.active queue ≡ tickets (waits_for queue) s.admissions
-  pub runs : (queue : ℕ) → option_to_list (run k.active queue) ≡ tickets (runs_on queue) s.admissions
-  -- an item is marked where it is being cancelled
-  pub marks : (item : ℕ) → marks_of k.active item ≡ record { cancelling = is_cancelling s.admissions s.marks item; delayed = false; flushing = false }
-  pub sound : IsSound s.items s.admissions s.marks
+  pub waits : StandsForWaits k.waits s.admissions s.waits
+  pub admissions : StandsForAdmissions k.made k.running k.last k.active s.items s.admissions s.marks
 
 -- the entries still to come that end something: one for each run, and one for each wait that isn't answered
 abbrev pub work_owed : State → ℕ

@@ -1,21 +1,23 @@
 ghost use Rattle.std.specs.Prelude.{◌≡◌, ℕ, ◌+◌, ◌-◌, ◌^◌, ◌<◌, ◌≤◌, true, false, is_some, option_map, [], ◌++◌, option_to_list, vec_len, vec_capacity, length, AllPairs, ◌≢◌, None, Some, replicate, IsOk, IfOk, IfSome, OnErr};
+ghost use Rattle.zk_base.specs.History.{AddsNone};
 ghost use Rattle.zk_model_work.specs.State.{State, start_of};
-ghost use Rattle.zk_model_work.specs.Machine.{is_among, admitted_to};
-ghost use Rattle.zk_queue.specs.Open.{is_running};
+ghost use Rattle.zk_model_work.specs.Answers.{admitted_to};
+ghost use Rattle.zk_model_work.specs.Machine.{is_among};
 ghost use Rattle.zk_time.specs.Timeouts.{is_armed, due_first, drop_due, count_due, pair_of};
 ghost use Rattle.zk_work.specs.Kept.{IsWhole, StandsFor, work_closes, work_grows};
-ghost use Rattle.zk_work.specs.Engine.{target_of, admission_of, answer_at, answer_of, MayAdmit, admitted, submitted, disarmed, is_pending, delayed, delay_reply, hurried, expiry_of, expired_next, expired, told, announced, announce_reply, flags_of, may_close, closed, reply_of, after_reply, is_now, IsTimely};
+ghost use Rattle.zk_work.specs.Engine.{item_of, answer_of, MayAdmit, admitted, submitted, disarmed, is_pending_in, delayed, delay_reply_in, hurried, expiry_of, expired_next, expired, told, announced, announce_reply, flags_of, may_close, closed, reply_of, after_reply, is_now, IsTimely};
 
 use crate::active::{busy_with, cancel, settle};
 use crate::waits::{close, is_flushing, may_close};
 use bitflags::Flags;
 use std::alloc::Global;
 use std::marker::Model;
-use zk_base::{Engine, Errno, Listed, NoMemory, Who};
+use zk_base::{Engine, Listed, NoMemory, Who};
 use zk_model_work::{
-    Awaited, BusyFlags, Change, Closing, Expiry, Queue, Submitted, Wait, WorkOp, WorkReply,
-    WorkState, cancel_start_reply, change, drain, drain_reply, drained_of, flush_start_reply,
-    fresh_queues, is_worker, put_wait, refusal, start_reply, united, unplug_reply, wait_for,
+    BusyFlags, Change, Closing, Expiry, Item, Queue, Submitted, Wait, WorkOp, WorkReply, WorkState,
+    cancel_start_reply, cancel_wait, change, drain, drain_reply, drain_wait, flags,
+    flush_start_reply, flush_wait, fresh_queues, is_pending, is_worker, put_wait, remaining,
+    start_reply, submission, unplug_reply,
 };
 use zk_queue::Queues;
 use zk_time::TimeoutList;
@@ -86,7 +88,7 @@ fn tell(told: &mut Vec<Expiry>, expiry: Expiry)
 }
 
 /// The same reply once more. That of an announce holds a list, and isn't given here.
-fn again(reply: &WorkReply) -> WorkReply
+fn copy_of(reply: &WorkReply) -> WorkReply
     requires { is_now reply.now ≡ false }
     ensures { result ≡ reply.now }
 {
@@ -136,39 +138,21 @@ impl WorkEngine {
         })
     }
 
-    /// The queue that a submission goes to.
-    fn target(&self, item: u32, runs: bool, named: Option<u32>) -> Option<u32>
-        requires { item < length self.now.kept.last }
-        ensures { result ≡ target_of self.now.kept item runs named }
+    /// What the answers ask of an item.
+    fn item(&self, item: u32) -> Item
+        requires item { item < self.now.kept.active.items }
+        requires last { item < length self.now.kept.last }
+        ensures { result ≡ item_of self.now.kept item }
     {
+        let busy = busy_with(&self.active, item);
         let last = self.last[item as usize];
-        if runs { last } else { named.or(last) }
-    }
-
-    /// The answer where the item is admitted.
-    fn admission(&self, runs: bool, number: u32) -> Submitted
-        ensures { result ≡ admission_of self.now.kept runs number }
-    {
-        if runs {
-            Submitted::Rerun(self.made, number)
-        } else {
-            Submitted::Fresh(self.made, number)
-        }
-    }
-
-    /// The answer at the queue that the submission goes to.
-    fn answer_at(&self, caller: Option<u32>, runs: bool, to: Option<u32>) -> Submitted
-        ensures { result ≡ answer_at self.now.kept caller runs to }
-    {
-        let Some(number) = to else {
-            return Submitted::Refused(Errno::Inval);
-        };
-        match self.queues.get(number as usize) {
-            None => Submitted::Refused(Errno::Inval),
-            Some(queue) => match refusal(queue, caller) {
-                Some(errno) => Submitted::Refused(errno),
-                None => self.admission(runs, number),
-            },
+        Item {
+            cancelling: busy.cancelling,
+            queued: busy.waits,
+            running: busy.runs,
+            home: if busy.runs { last } else { None },
+            last,
+            next: self.made,
         }
     }
 
@@ -179,14 +163,7 @@ impl WorkEngine {
         ensures answer { result ≡ answer_of self.now.kept caller item named }
         ensures admits { (queue : ℕ) → admitted_to result ≡ Some queue → MayAdmit self.now.kept item queue }
     {
-        let busy = busy_with(&self.active, item);
-        if busy.cancelling {
-            return Submitted::Refused(Errno::Busy);
-        }
-        if busy.waits {
-            return Submitted::Already;
-        }
-        self.answer_at(caller, busy.runs, self.target(item, busy.runs, named))
+        submission(self.item(item), &self.queues, caller, named)
     }
 
     /// One more admission.
@@ -203,7 +180,7 @@ impl WorkEngine {
     }
 
     /// The item is admitted, where the answer to its submission says so.
-    fn take(&mut self, item: u32, answer: Submitted)
+    fn admit_if(&mut self, item: u32, answer: Submitted)
         requires whole { IsWhole self.old.kept }
         requires item { item < self.old.kept.active.items }
         requires may { (queue : ℕ) → admitted_to answer ≡ Some queue → MayAdmit self.old.kept item queue }
@@ -227,20 +204,20 @@ impl WorkEngine {
         ensures room { self.new.room ≡ self.old.room }
     {
         let answer = self.answer(Some(who.number), item, named);
-        self.take(item, answer);
+        self.admit_if(item, answer);
         self.entries += 1;
         Some(WorkReply::Sub(answer))
     }
 
     /// The busy flags of the item.
     fn flags(&self, item: u32) -> BusyFlags
-        requires { item < self.now.kept.active.items }
+        requires item { item < self.now.kept.active.items }
+        requires last { item < length self.now.kept.last }
         ensures { result.0 ≡ flags_of self.now.kept item }
     {
-        let busy = busy_with(&self.active, item);
         let armed = self.timeouts.is_armed(item);
         let flushing = is_flushing(&self.active, &self.waits, item);
-        united(busy.runs, busy.cancelling, busy.waits, armed, flushing)
+        flags(self.item(item), armed, flushing)
     }
 
     fn cancel(&mut self, who: Who, item: u32) -> Option<WorkReply>
@@ -267,13 +244,11 @@ impl WorkEngine {
         ensures unchanged { OnErr result (self.new.kept ≡ self.old.kept) }
         ensures roomy { 3 ≤ self.old.room → IsOk result }
         ensures room { self.old.room ≤ self.new.room + 3 }
+        ensures kept { AddsNone result → self.old.room ≤ self.new.room }
     {
         let flags = self.flags(item);
         let run = self.active.running(item);
-        let wait = match run {
-            None => None,
-            Some(number) => Some(wait_for(self.entries, who, Awaited::Cancel(number))),
-        };
+        let wait = cancel_wait(self.entries, who, run);
         put_wait(&mut self.waits, wait)?;
         self.timeouts.disarm(item);
         cancel(&mut self.active, item);
@@ -292,15 +267,13 @@ impl WorkEngine {
         ensures unchanged { OnErr result (self.new.kept ≡ self.old.kept) }
         ensures roomy { 3 ≤ self.old.room → IsOk result }
         ensures room { self.old.room ≤ self.new.room + 3 }
+        ensures kept { AddsNone result → self.old.room ≤ self.new.room }
     {
         self.waits.reserve(1)?;
         self.hurry(who, item);
         let waiting = self.active.waiting(item);
         let number = waiting.or(self.active.running(item));
-        let wait = match number {
-            None => None,
-            Some(number) => Some(wait_for(self.entries, who, Awaited::Flush(number))),
-        };
+        let wait = flush_wait(self.entries, who, number);
         put_wait(&mut self.waits, wait)?;
         self.entries += 1;
         Ok(Some(flush_start_reply(number)))
@@ -328,17 +301,17 @@ impl WorkEngine {
         self.disarm(item);
         if let Some(queue) = queue {
             let answer = self.answer(Some(who.number), item, Some(queue));
-            self.take(item, answer);
+            self.admit_if(item, answer);
         }
     }
 
     /// Whether the item is delayed, queued or being cancelled.
     fn is_pending(&self, item: u32) -> bool
-        requires { item < self.now.kept.active.items }
-        ensures { result ≡ is_pending self.now.kept item }
+        requires item { item < self.now.kept.active.items }
+        requires last { item < length self.now.kept.last }
+        ensures { result ≡ is_pending_in self.now.kept item }
     {
-        let busy = busy_with(&self.active, item);
-        self.timeouts.is_armed(item) || busy.waits || busy.cancelling
+        is_pending(self.item(item), self.timeouts.is_armed(item))
     }
 
     /// Gives an item that isn't armed a delay: with none it is submitted.
@@ -347,13 +320,13 @@ impl WorkEngine {
         requires item { item < self.old.kept.active.items }
         requires short { self.old.kept.entries < 2 ^ 32 - 1 }
         requires free { is_armed self.old.kept.timeouts item ≡ false }
-        ensures reply { result ≡ delay_reply self.old.kept who item queue delay }
+        ensures reply { result ≡ delay_reply_in self.old.kept who item queue delay }
         ensures next { self.new.kept ≡ delayed self.old.kept who item queue delay }
         ensures room { self.new.room ≡ self.old.room }
     {
         if delay == 0 {
             let answer = self.answer(Some(who.number), item, Some(queue));
-            self.take(item, answer);
+            self.admit_if(item, answer);
             return WorkReply::Sub(answer);
         }
         let deadline = self.time + u64::from(delay);
@@ -400,10 +373,7 @@ impl WorkEngine {
         ensures next { self.new.kept ≡ after_reply self.old.kept who (WorkOp.Remaining item) result }
         ensures room { self.new.room ≡ self.old.room }
     {
-        let remaining = match self.timeouts.deadline(item) {
-            None => 0,
-            Some(deadline) => deadline.saturating_sub(self.time),
-        };
+        let remaining = remaining(self.timeouts.deadline(item), self.time);
         self.entries += 1;
         Some(WorkReply::Number(remaining))
     }
@@ -433,31 +403,31 @@ impl WorkEngine {
             unreachable!();
         };
         let submitted = self.answer(None, item, Some(queue));
-        self.take(item, submitted);
+        self.admit_if(item, submitted);
         Expiry { item, submitted }
     }
 
     /// All items that are due by this time are submitted by nobody, and what became of each is told twice.
-    fn expire(&mut self, time: u64, one: &mut Vec<Expiry>, other: &mut Vec<Expiry>)
+    fn expire(&mut self, time: u64, expiries: &mut Vec<Expiry>, copy: &mut Vec<Expiry>)
         requires whole { IsWhole self.old.kept }
-        requires one { count_due self.old.kept.timeouts time ≤ vec_capacity one.old }
-        requires other { count_due self.old.kept.timeouts time ≤ vec_capacity other.old }
-        requires none { (one.old.items ≡ []) × (other.old.items ≡ []) }
+        requires room { count_due self.old.kept.timeouts time ≤ vec_capacity expiries.old }
+        requires copy { count_due self.old.kept.timeouts time ≤ vec_capacity copy.old }
+        requires none { (expiries.old.items ≡ []) × (copy.old.items ≡ []) }
         ensures next { self.new.kept ≡ expired (count_due self.old.kept.timeouts time) time self.old.kept }
-        ensures one { one.new.items ≡ told (count_due self.old.kept.timeouts time) time self.old.kept }
-        ensures other { other.new.items ≡ told (count_due self.old.kept.timeouts time) time self.old.kept }
+        ensures told { expiries.new.items ≡ told (count_due self.old.kept.timeouts time) time self.old.kept }
+        ensures copy { copy.new.items ≡ told (count_due self.old.kept.timeouts time) time self.old.kept }
         ensures entries { self.new.kept.entries ≡ self.old.kept.entries }
         ensures room { self.new.room ≡ self.old.room }
     {
         for _ in 0..self.timeouts.count_due(time) {
             let expiry = self.expire_next(time);
-            tell(one, expiry);
-            tell(other, expiry);
+            tell(expiries, expiry);
+            tell(copy, expiry);
         }
     }
 
-    /// It is this time, at an entry that is counted.
-    fn pass(&mut self, time: u64)
+    /// It is this time from now on, at an entry that is counted.
+    fn set_time(&mut self, time: u64)
         requires short { self.old.kept.entries < 2 ^ 32 - 1 }
         ensures next { self.new.kept ≡ record self.old.kept { time = time; entries = self.old.kept.entries + 1 } }
         ensures room { self.new.room ≡ self.old.room }
@@ -482,13 +452,13 @@ impl WorkEngine {
         let alloc = *self.waits.allocator();
         let time = self.time + u64::from(ticks);
         let due = self.timeouts.count_due(time);
-        let mut one = Vec::with_capacity(alloc, due)?;
-        let mut other = Vec::with_capacity(alloc, due)?;
-        self.expire(time, &mut one, &mut other);
-        self.pass(time);
+        let mut expiries = Vec::with_capacity(alloc, due)?;
+        let mut copy = Vec::with_capacity(alloc, due)?;
+        self.expire(time, &mut expiries, &mut copy);
+        self.set_time(time);
         Ok((
-            WorkReply::Now(time, Listed::from_vec(one)),
-            WorkReply::Now(time, Listed::from_vec(other)),
+            WorkReply::Now(time, Listed::from_vec(expiries)),
+            WorkReply::Now(time, Listed::from_vec(copy)),
         ))
     }
 
@@ -507,14 +477,10 @@ impl WorkEngine {
         ensures unchanged { OnErr result (self.new.kept ≡ self.old.kept) }
         ensures roomy { 3 ≤ self.old.room → IsOk result }
         ensures room { self.old.room ≤ self.new.room + 3 }
+        ensures kept { AddsNone result → self.old.room ≤ self.new.room }
     {
         let idle = self.active.is_idle(queue);
-        let wait = if idle {
-            None
-        } else {
-            let drained = drained_of(&self.queues, queue);
-            Some(wait_for(self.entries, who, Awaited::Drain(queue, drained)))
-        };
+        let wait = drain_wait(idle, self.entries, &self.queues, who, queue);
         put_wait(&mut self.waits, wait)?;
         drain(&mut self.queues, queue, idle, plug);
         self.entries += 1;
@@ -645,7 +611,7 @@ impl WorkEngine {
     }
 
     /// One operation that isn't an announce.
-    fn one(&mut self, who: Who, op: &WorkOp) -> Result<Option<WorkReply>, NoMemory>
+    fn operate(&mut self, who: Who, op: &WorkOp) -> Result<Option<WorkReply>, NoMemory>
         requires whole { IsWhole self.old.kept }
         requires range { is_among self.old.kept.active.items self.old.kept.active.queues op.now ≡ true }
         requires short { self.old.kept.entries < 2 ^ 32 - 1 }
@@ -658,6 +624,7 @@ impl WorkEngine {
         ensures timely { IsTimely op.now }
         ensures roomy { 3 ≤ self.old.room → IsOk result }
         ensures room { self.old.room ≤ self.new.room + 3 }
+        ensures kept { AddsNone result → self.old.room ≤ self.new.room }
     {
         match *op {
             WorkOp::Submit(item, named) => Ok(self.submit(who, item, named)),
@@ -709,11 +676,11 @@ impl Engine for WorkEngine {
         if let WorkOp::Announce(ticks) = *op {
             return Ok(Some(self.announce(ticks)?));
         }
-        match self.one(who, op)? {
+        match self.operate(who, op)? {
             None => Ok(None),
             Some(reply) => {
-                let again = again(&reply);
-                Ok(Some((reply, again)))
+                let copy = copy_of(&reply);
+                Ok(Some((reply, copy)))
             }
         }
     }

@@ -9,6 +9,6 @@ returns c = λ s stands.
     let running : c.self.inside.running ≡ c.args.self.now.kept.running = ap (λ (h : Held). h.kept.running) c.self.view_is in
     let waits : length c.self.inside.waits.items ≡ length c.args.self.now.kept.waits = ap (λ (h : Held). length h.kept.waits) c.self.view_is in
     let long : c.len.result ≡ length c.self.inside.waits.items = c.len.ensures ∙ c.self.inside.waits.ok.0 in
-    let count = stands.running in
-    let open_waits = ap length stands.waits ∙ length-filter (λ (w : Wait). Rattle.std.proofs.Common.not w.answered) s.waits in
+    let count = stands.admissions.running in
+    let open_waits = ap length stands.waits.left ∙ length-filter (λ (w : Wait). Rattle.std.proofs.Common.not w.answered) s.waits in
     omega arith
