@@ -3,7 +3,7 @@ use Rattle.zk_base.specs.declared.ids.Who.{Who}
 use Rattle.std.proofs.Common.{◌≡◌, ℕ, zero, suc, ◌+◌, ◌-◌, ◌^◌, ◌<◌, ◌≤◌, ◌⊎◌, inl, inr, ◌≢◌, Bool, true, false, not, ◌&&◌, cond, eqb, ◌==◌, Option, Some, None, is_some, option_map, option_to_list, List, [], ◌∷◌, ◌++◌, length, length-append, map, get_or, set, slice_get, count_by, All, refl, sym, ap, subst, ◌∙◌, arith}
 use Rattle.std.specs.Cmp.{first_so, second_so}
 use Rattle.std.proofs.Math.ListN.{get_or-map}
-use Rattle.std.proofs.lemmas.Bool.{eqb-true, eq-eqb, false≢true}
+use Rattle.std.proofs.lemmas.Bool.{eqb-true, eq-eqb, false≢true, and_right, and_from}
 use Rattle.std.proofs.lemmas.Bool.Decides.{eqb_tells}
 use Rattle.std.proofs.lemmas.List.{get_or-set_same, get_or-set_other, length-set, length-map, append-nil}
 use Rattle.std.proofs.lemmas.List.Elements.{All-set, All-append, All-cons, All-nil, All-weaker}
@@ -27,7 +27,7 @@ use Rattle.zk_queue.specs.Line.{without}
 use Rattle.zk_queue.specs.Open as active
 use Rattle.zk_queue.specs.Open.{Open, IsAbove}
 use Rattle.zk_queue.proofs.Numbers.{IsAbove-drop}
-use Rattle.zk_work.specs.Kept.{Kept, IsSound, IsWhole, StandsFor, is_there}
+use Rattle.zk_work.specs.EngineState.{EngineState, IsSound, IsWhole, StandsFor, is_there}
 use Rattle.zk_work.specs.Tickets.{tickets}
 use Rattle.zk_work.specs.Engine.{admitted, cancelled, settled, drained}
 use Rattle.zk_work.proofs.Tickets.{ticket, first_stands, Stands, tickets-push, tickets-map, tickets-map_none, tickets-one, count-push, count-map, count-some}
@@ -81,7 +81,7 @@ idle-same o xs queue line run =
       none (Some t) b = refl
 
 -- what the engine keeps is whole after an admission, for which there is an entry
-pub admitted-whole : (k : Kept) (item queue : ℕ) → IsWhole k → queue < k.active.queues → k.made + length k.timeouts.live < k.entries → IsWhole (admitted k item queue)
+pub admitted-whole : (k : EngineState) (item queue : ℕ) → IsWhole k → queue < k.active.queues → k.made + length k.timeouts.live < k.entries → IsWhole (admitted k item queue)
 admitted-whole k item queue w queue_in room =
     let fewest = w.fewest in
     let shaped_lines = w.shaped.lines in
@@ -109,7 +109,7 @@ admitted-whole k item queue w queue_in room =
           All-set (All P) k.active.lines queue (active.line k.active queue ++ t ∷ []) (All-append P (active.line k.active queue) (t ∷ []) (old queue [] within) (All-cons P t [] (omega arith) (All-nil P))) old
 
 -- a submission that admits
-pub admitted-stands : (k : Kept) (s : State) (item queue : ℕ) (named : Option ℕ) → StandsFor k s → Admits (machine_item s.admissions s.marks item) named queue → item < s.items → queue < length s.queues → k.made + length k.timeouts.live < k.entries →
+pub admitted-stands : (k : EngineState) (s : State) (item queue : ℕ) (named : Option ℕ) → StandsFor k s → Admits (machine_item s.admissions s.marks item) named queue → item < s.items → queue < length s.queues → k.made + length k.timeouts.live < k.entries →
     StandsFor (admitted k item queue) (record s { admissions = s.admissions ++ record { item = item; queue = queue; life = Waiting } ∷ [] })
 admitted-stands k s item queue named st admits item_in queue_in room =
     let w = st.whole in
@@ -136,7 +136,7 @@ admitted-stands k s item queue named st admits item_in queue_in room =
         running = (let more = count-push (λ (a : Admission). is_running a.life) xs a in omega arith);
         last = λ i. last i (eqb_tells item i) (omega arith);
         lines = λ q. lines q (eqb_tells queue q) (omega arith);
-        runs = λ q. st.admissions.runs q ∙ sym (tickets-push 0 (runs_on q) xs a ∙ ap (λ b. tickets (runs_on q) xs ++ cond b (ticket a (0 + length xs) ∷ []) []) (second_false (queue == q)) ∙ append-nil (tickets (runs_on q) xs));
+        runs = λ q. st.admissions.runs q ∙ sym (tickets-push 0 (runs_on q) xs a ∙ ap (λ b. tickets (runs_on q) xs ++ cond b (ticket a (0 + length xs) ∷ []) []) (and_right (queue == q) false refl) ∙ append-nil (tickets (runs_on q) xs));
         marks = λ i. st.admissions.marks i ∙ ap (λ b. record { cancelling = b; delayed = false; flushing = false }) (sym (cancelling-push xs s.marks item queue i));
         sound = IsSound-push s.items xs s.marks item named queue admits item_in st.admissions.sound;
       };
@@ -146,10 +146,6 @@ admitted-stands k s item queue named st admits item_in queue_in room =
 
       a : Admission
       a = record { item = item; queue = queue; life = Waiting }
-
-      second_false : (b : Bool) → (b && false) ≡ false
-      second_false true = refl
-      second_false false = refl
 
       last : (i : ℕ) → Same item i → item < length k.last → get_or (set k.last item (Some queue)) i None ≡ last_queue (xs ++ a ∷ []) i
       last i (inl same) within =
@@ -178,14 +174,14 @@ drain_wait-new false s who queue w is =
     (sym (ap (λ (v : Wait). v.answered) same), subst (λ (v : Wait). is_there s.admissions v.awaited v.answered ≡ true) same refl)
 
 -- the start of a drain
-pub drain-stands : (k : Kept) (s : State) (who : Who) (queue : ℕ) (plug : Bool) → StandsFor k s → s.entries < 2 ^ 32 - 1 →
+pub drain-stands : (k : EngineState) (s : State) (who : Who) (queue : ℕ) (plug : Bool) → StandsFor k s → s.entries < 2 ^ 32 - 1 →
     StandsFor (record (drained k who queue plug) { entries = k.entries + 1 }) (record (drain_start s who queue plug) { entries = s.entries + 1 })
 drain-stands k s who queue plug st few =
     let idle = idle-same k.active s.admissions queue (st.admissions.lines queue) (st.admissions.runs queue) in
     let i = is_empty_and_idle s.admissions queue in
     let new = drain_wait-new i s who queue in
     let S : State = record (drain_start s who queue plug) { entries = s.entries + 1 } in
-    let T : Bool → Option Wait → Kept = λ b o. record k { queues = drain b plug k.queues queue; waits = awaiting k.waits o; entries = k.entries + 1 } in
+    let T : Bool → Option Wait → EngineState = λ b o. record k { queues = drain b plug k.queues queue; waits = awaiting k.waits o; entries = k.entries + 1 } in
     let wait : drain_wait (active.is_idle k.active queue) k.entries k.queues who queue ≡ drain_wait i s.entries s.queues who queue =
     ap (λ b. drain_wait b k.entries k.queues who queue) idle ∙ ap (λ n. drain_wait i n k.queues who queue) st.entries
     ∙ ap (λ (qs : List Queue). drain_wait i s.entries qs who queue) st.queues in
@@ -203,7 +199,7 @@ same-cancelled : {B : Type 0} (f : Open → B) (o : Open) (item : ℕ) → f (ac
 same-cancelled f o item same = kept-cond f (active.is_running o item) (active.mark (active.drop_item o item) item 2) (active.drop_item o item) same
 
 -- a cancel, but for the arms
-pub cancel-stands : (k : Kept) (s : State) (item : ℕ) → StandsFor k s → item < s.items → s.entries < 2 ^ 32 - 1 →
+pub cancel-stands : (k : EngineState) (s : State) (item : ℕ) → StandsFor k s → item < s.items → s.entries < 2 ^ 32 - 1 →
     StandsFor (record (settled k (cancelled k.active item)) { entries = k.entries + 1 }) (record (cancel s item) { arms = s.arms; entries = s.entries + 1 })
 cancel-stands k s item st item_in few =
     let w = st.whole in
@@ -304,7 +300,7 @@ length-taken (x ∷ xs) zero = refl
 length-taken (x ∷ xs) (suc n) = ap suc (length-taken xs n)
 
 -- a begin of the lowest of a line, where nothing runs
-pub begin-stands : (k : Kept) (s : State) (queue : ℕ) (t : Ticket) → StandsFor k s → queue < length s.queues → s.entries < 2 ^ 32 - 1 → active.run k.active queue ≡ None → first (active.line k.active queue) ≡ Some t →
+pub begin-stands : (k : EngineState) (s : State) (queue : ℕ) (t : Ticket) → StandsFor k s → queue < length s.queues → s.entries < 2 ^ 32 - 1 → active.run k.active queue ≡ None → first (active.line k.active queue) ≡ Some t →
     StandsFor (record k { active = active.begun k.active queue t; running = k.running + 1; entries = k.entries + 1 })
     (record s { admissions = set_life s.admissions t.number Running; entries = s.entries + 1 })
 begin-stands k s queue t st queue_in few idle lowest =
@@ -383,12 +379,8 @@ begin-stands k s queue t st queue_in few idle lowest =
       on : a.queue ≡ queue
       on = eqb-true a.queue queue (first_so (eqb a.queue queue) (is_waiting a.life) stands.passes)
 
-      both : (b c : Bool) → b ≡ true → c ≡ true → (b && c) ≡ true
-      both true c is there = there
-      both false c is there = absurd (cc)
-
       waits_as_item : waits_as t.item a ≡ true
-      waits_as_item = both (eqb a.item t.item) (is_waiting a.life) (eq-eqb a.item t.item stands.item) waits
+      waits_as_item = and_from (eqb a.item t.item) (is_waiting a.life) (eq-eqb a.item t.item stands.item) waits
 
       none_runs : tickets (runs_on queue) xs ≡ []
       none_runs = sym (st.admissions.runs queue) ∙ ap option_to_list idle
@@ -408,7 +400,7 @@ begin-stands k s queue t st queue_in few idle lowest =
             not_same false is = refl
 
 -- an end of what a queue runs
-pub end-stands : (k : Kept) (s : State) (queue : ℕ) (t : Ticket) → StandsFor k s → queue < length s.queues → s.entries < 2 ^ 32 - 1 → active.run k.active queue ≡ Some t →
+pub end-stands : (k : EngineState) (s : State) (queue : ℕ) (t : Ticket) → StandsFor k s → queue < length s.queues → s.entries < 2 ^ 32 - 1 → active.run k.active queue ≡ Some t →
     StandsFor (record (settled k (active.mark (active.end k.active queue) t.item 0)) { running = k.running - 1; entries = k.entries + 1 }) (record (end s queue) { entries = s.entries + 1 })
 end-stands k s queue t st queue_in few run =
     let w = st.whole in
@@ -498,10 +490,7 @@ end-stands k s queue t st queue_in few run =
       over : (m : ℕ) (b : Admission) → slice_get ys m ≡ Some b → runs_as t.item b ≡ false
       over m b at = by (slice_get xs m) refl (sym (slice_get-map (end_one queue) xs m) ∙ at) where
         ends : (a : Admission) (c : Bool) → slice_get xs m ≡ Some a → runs_on queue a ≡ c → runs_as t.item (cond c (with_life Ended a) a) ≡ false
-        ends a true was is = second_false (eqb a.item t.item) where
-          second_false : (b : Bool) → (b && false) ≡ false
-          second_false true = refl
-          second_false false = refl
+        ends a true was is = and_right (eqb a.item t.item) false refl
         ends a false was is = not_so (runs_as t.item a) refl where
           not_so : (c : Bool) → runs_as t.item a ≡ c → c ≡ false
           not_so true runs_too =
@@ -512,10 +501,7 @@ end-stands k s queue t st queue_in few run =
               let same_item : a.item ≡ stands.admission.item = item_is ∙ sym stands.item in
               let same_queue : a.queue ≡ stands.admission.queue = same_Some a.queue stands.admission.queue (sym here ∙ ap (last_queue xs) same_item ∙ first_one) in
               let on : stands.admission.queue ≡ queue = eqb-true stands.admission.queue queue (first_so (eqb stands.admission.queue queue) (is_running stands.admission.life) stands.passes) in
-              absurd (false≢true (sym is ∙ both (eqb a.queue queue) (is_running a.life) (eq-eqb a.queue queue (same_queue ∙ on)) a_runs)) where
-                both : (b c : Bool) → b ≡ true → c ≡ true → (b && c) ≡ true
-                both true c is there = there
-                both false c is there = absurd (cc)
+              absurd (false≢true (sym is ∙ and_from (eqb a.queue queue) (is_running a.life) (eq-eqb a.queue queue (same_queue ∙ on)) a_runs))
           not_so false runs_too = refl
 
         by : (u : Option Admission) → slice_get xs m ≡ u → option_map (end_one queue) u ≡ Some b → runs_as t.item b ≡ false

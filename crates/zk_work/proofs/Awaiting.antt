@@ -3,7 +3,7 @@ use Rattle.std.proofs.Common.{◌≡◌, ℕ, ◌+◌, ◌-◌, ◌^◌, ◌<◌
 use Rattle.std.specs.Cmp.{first_so, second_so}
 use Rattle.std.specs.List.{position, list_any}
 use Rattle.std.specs.Option.{option_map_or, option_or}
-use Rattle.std.proofs.lemmas.Bool.{eqb-true, eq-eqb, false≢true}
+use Rattle.std.proofs.lemmas.Bool.{eqb-true, eq-eqb, false≢true, and_from}
 use Rattle.std.proofs.lemmas.List.Elements.{All-head, All-tail, All-cons, All-nil}
 use Rattle.std.proofs.lemmas.Option.{same_Some}
 use Rattle.zk_base.specs.declared.ids.Who.{Who}
@@ -24,10 +24,10 @@ use Rattle.zk_model_work.specs.State.{State}
 use Rattle.zk_model_work.proofs.Overlaps.{position-none}
 use Rattle.zk_time.specs.Timeouts.{is_of, is_armed}
 use Rattle.zk_queue.specs.Open as active
-use Rattle.zk_work.specs.Kept.{Kept, StandsFor, unanswered, is_there, is_begun}
+use Rattle.zk_work.specs.EngineState.{EngineState, StandsFor, unanswered, is_there, is_begun}
 use Rattle.zk_work.specs.Engine as engine
 use Rattle.zk_work.specs.Engine.{is_number, settled, cancelled, left_waits}
-use Rattle.zk_work.proofs.Numbers.{agree, both, IsAt, is_at, one-place, one-run, waiting-same, running-same, open-same}
+use Rattle.zk_work.proofs.Numbers.{agree, IsAt, is_at, one-place, one-run, waiting-same, running-same, open-same}
 use Rattle.zk_work.proofs.Replies.{item-same}
 use Rattle.zk_work.proofs.Awaited.{AllThere}
 use Rattle.zk_work.proofs.Arms.{armed-same}
@@ -46,7 +46,7 @@ open_as : (p : Admission → Bool) (item n : ℕ) (xs : List Admission) → ((a 
 open_as p item n xs opens at = ap (λ (o : Option Admission). option_map_or (is_open_as item) o false) at.there ∙ opens at.admission at.passes
 
 waits-open : (item : ℕ) (a : Admission) → waits_as item a ≡ true → is_open_as item a ≡ true
-waits-open item a is = both (eqb a.item item) (is_open a.life) (first_so (eqb a.item item) (is_waiting a.life) is) (by a.life (second_so (eqb a.item item) (is_waiting a.life) is)) where
+waits-open item a is = and_from (eqb a.item item) (is_open a.life) (first_so (eqb a.item item) (is_waiting a.life) is) (by a.life (second_so (eqb a.item item) (is_waiting a.life) is)) where
   by : (life : Life) → is_waiting life ≡ true → is_open life ≡ true
   by Waiting w = refl
   by Running w = absurd (cc)
@@ -54,7 +54,7 @@ waits-open item a is = both (eqb a.item item) (is_open a.life) (first_so (eqb a.
   by Dropped w = absurd (cc)
 
 runs-open_as : (item : ℕ) (a : Admission) → runs_as item a ≡ true → is_open_as item a ≡ true
-runs-open_as item a is = both (eqb a.item item) (is_open a.life) (first_so (eqb a.item item) (is_running a.life) is) (by a.life (second_so (eqb a.item item) (is_running a.life) is)) where
+runs-open_as item a is = and_from (eqb a.item item) (is_open a.life) (first_so (eqb a.item item) (is_running a.life) is) (by a.life (second_so (eqb a.item item) (is_running a.life) is)) where
   by : (life : Life) → is_running life ≡ true → is_open life ≡ true
   by Waiting w = absurd (cc)
   by Running w = refl
@@ -68,7 +68,7 @@ position-is p xs n a only at passes = by (position p xs) refl where
   by None is = absurd (false≢true (sym (position-none p xs n a is at) ∙ passes))
   by (Some m) is = let it = is_at p xs m is in is ∙ ap (λ (k : ℕ). Some k) (sym (only m it.admission it.there it.passes))
 
-module _ (k : Kept) (s : State) (st : StandsFor k s) where
+module _ (k : EngineState) (s : State) (st : StandsFor k s) where
   waits_by : (item : ℕ) → active.waiting k.active item ≡ waiting s.admissions item
   waits_by item = waiting-same k.active s.admissions st.admissions.lines st.admissions.runs item (st.admissions.sound.once item)
 
@@ -93,11 +93,11 @@ module _ (k : Kept) (s : State) (st : StandsFor k s) where
 
     by_life : (a : Admission) (life : Life) → slice_get xs n ≡ Some a → a.life ≡ life → eqb a.item item ≡ true → is_open life ≡ true → (is_number n (waiting xs item) || is_number n (running xs item)) ≡ true
     by_life a Waiting at is of opens =
-        let passes = both (eqb a.item item) (is_waiting a.life) of (ap is_waiting is) in
+        let passes = and_from (eqb a.item item) (is_waiting a.life) of (ap is_waiting is) in
         let place = position-is (waits_as item) xs n a (λ m b to passes_too. one-place (waits_as item) xs n m a b (st.admissions.sound.once item) at to passes passes_too) at passes in
         ap (λ (o : Option ℕ). is_number n o || is_number n (running xs item)) place ∙ ap (λ b. b || is_number n (running xs item)) (eq-eqb n n refl)
     by_life a Running at is of opens =
-        let passes = both (eqb a.item item) (is_running a.life) of (ap is_running is) in
+        let passes = and_from (eqb a.item item) (is_running a.life) of (ap is_running is) in
         let place = position-is (runs_as item) xs n a (λ m b to passes_too. one-run k.active xs st.admissions.lines st.admissions.runs st.admissions.sound.home item n m a b at to passes passes_too) at passes in
         ap (λ (o : Option ℕ). is_number n (waiting xs item) || is_number n o) place ∙ second (is_number n (waiting xs item)) (eqb n n) (eq-eqb n n refl) where
           second : (b c : Bool) → c ≡ true → (b || c) ≡ true

@@ -14,12 +14,12 @@ use Rattle.zk_model_work.specs.Machine.{change, drain, awaiting}
 use Rattle.zk_model_work.specs.State.{State, IsCounted, IsTimed}
 use Rattle.zk_model_work.proofs.Counts.{IsTimed-more, IsCounted-more, IsCounted-changed, IsCounted-drain, length-change, length-drain}
 use Rattle.zk_time.specs.Timeouts.{Timeouts, IsOrdered}
-use Rattle.zk_work.specs.Kept.{Kept, IsWhole, StandsFor, unanswered, is_there, timeouts_of}
+use Rattle.zk_work.specs.EngineState.{EngineState, IsWhole, StandsFor, unanswered, is_there, timeouts_of}
 use Rattle.zk_work.specs.Engine.{admitted, submitted}
 use Rattle.zk_work.proofs.Awaited.{AllThere}
 
 -- what a submission leaves alone, as each admission does
-pub submitted-same : {B : Type 0} (f : Kept → B) (k : Kept) (item : ℕ) (a : Submitted) → ((queue : ℕ) → f (admitted k item queue) ≡ f k) →
+pub submitted-same : {B : Type 0} (f : EngineState → B) (k : EngineState) (item : ℕ) (a : Submitted) → ((queue : ℕ) → f (admitted k item queue) ≡ f k) →
     f (submitted k item a) ≡ f k
 submitted-same {B} f k item a same = by (admitted_to a) where
   by : (o : Option ℕ) → f (option_map_or (admitted k item) o k) ≡ f k
@@ -27,7 +27,7 @@ submitted-same {B} f k item a same = by (admitted_to a) where
   by (Some queue) = same queue
 
 -- an entry is counted before or after a submission
-pub entries-later : (k : Kept) (item : ℕ) (a : Submitted) →
+pub entries-later : (k : EngineState) (item : ℕ) (a : Submitted) →
     submitted (record k { entries = k.entries + 1 }) item a ≡ record (submitted k item a) { entries = k.entries + 1 }
 entries-later k item a = by (admitted_to a) where
   by : (o : Option ℕ) →
@@ -37,7 +37,7 @@ entries-later k item a = by (admitted_to a) where
   by (Some queue) = refl
 
 -- what is kept is whole with other fields beside the open admissions
-pub whole-beside : (k : Kept) (time entries : ℕ) (t : Timeouts) (ws : List Wait) (qs : List Queue) → IsWhole k →
+pub whole-beside : (k : EngineState) (time entries : ℕ) (t : Timeouts) (ws : List Wait) (qs : List Queue) → IsWhole k →
     IsCounted entries qs → IsTimed time entries → k.made + length t.live ≤ entries →
     t.items ≡ k.active.items → IsOrdered t → length qs ≡ k.active.queues →
     IsWhole (record k { time = time; entries = entries; timeouts = t; waits = ws; queues = qs })
@@ -57,7 +57,7 @@ whole-beside k time entries t ws qs w counted timed fewer armed ordered queues =
 }
 
 -- a change of the queues, at an entry that is counted
-queues-stand : (f : List Queue → List Queue) (k : Kept) (s : State) → StandsFor k s →
+queues-stand : (f : List Queue → List Queue) (k : EngineState) (s : State) → StandsFor k s →
     IsCounted (k.entries + 1) (f k.queues) → length (f k.queues) ≡ length k.queues →
     StandsFor (record k { queues = f k.queues; entries = k.entries + 1 }) (record s { queues = f s.queues; entries = s.entries + 1 })
 queues-stand f k s st counted same =
@@ -75,14 +75,14 @@ queues-stand f k s st counted same =
     }
 
 -- an entry that changes nothing else
-pub counted-stands : (k : Kept) (s : State) → StandsFor k s → s.entries < 2 ^ 32 - 1 →
+pub counted-stands : (k : EngineState) (s : State) → StandsFor k s → s.entries < 2 ^ 32 - 1 →
     StandsFor (record k { entries = k.entries + 1 }) (record s { entries = s.entries + 1 })
 counted-stands k s st few =
     let entries = st.entries in
     queues-stand (λ qs. qs) k s st (IsCounted-more k.entries k.queues st.whole.counted (omega arith)) refl
 
 -- a change of a queue
-pub change-stands : (c : Change) (k : Kept) (s : State) (queue : ℕ) → StandsFor k s → s.entries < 2 ^ 32 - 1 →
+pub change-stands : (c : Change) (k : EngineState) (s : State) (queue : ℕ) → StandsFor k s → s.entries < 2 ^ 32 - 1 →
     StandsFor (record k { queues = change c k.queues queue; entries = k.entries + 1 })
     (record s { queues = change c s.queues queue; entries = s.entries + 1 })
 change-stands c k s queue st few =
@@ -90,7 +90,7 @@ change-stands c k s queue st few =
     queues-stand (λ qs. change c qs queue) k s st (IsCounted-changed c k.entries queue k.queues st.whole.counted (omega arith)) (length-change c k.queues queue)
 
 -- the queues after the start of a drain
-pub drains-stand : (idle plug : Bool) (k : Kept) (s : State) (queue : ℕ) → StandsFor k s → s.entries < 2 ^ 32 - 1 →
+pub drains-stand : (idle plug : Bool) (k : EngineState) (s : State) (queue : ℕ) → StandsFor k s → s.entries < 2 ^ 32 - 1 →
     StandsFor (record k { queues = drain idle plug k.queues queue; entries = k.entries + 1 })
     (record s { queues = drain idle plug s.queues queue; entries = s.entries + 1 })
 drains-stand idle plug k s queue st few =
@@ -100,7 +100,7 @@ drains-stand idle plug k s queue st few =
     (length-drain idle plug k.queues queue)
 
 -- other waits
-pub waits-stand : (k : Kept) (s : State) (ws all : List Wait) → StandsFor k s → ws ≡ unanswered all → AllThere s.admissions all →
+pub waits-stand : (k : EngineState) (s : State) (ws all : List Wait) → StandsFor k s → ws ≡ unanswered all → AllThere s.admissions all →
     StandsFor (record k { waits = ws }) (record s { waits = all })
 waits-stand k s ws all st left there =
     let w = st.whole in
@@ -130,7 +130,7 @@ unanswered-more ws (Some w) still =
     sym (filter-append (λ (w : Wait). not w.answered) ws (w ∷ []) ∙ ap (λ b. unanswered ws ++ cond (not b) (w ∷ []) []) (still w refl))
 
 -- one wait more
-pub wait-stands : (o : Option Wait) (k : Kept) (s : State) → StandsFor k s → ((w : Wait) → o ≡ Some w → w.answered ≡ false) →
+pub wait-stands : (o : Option Wait) (k : EngineState) (s : State) → StandsFor k s → ((w : Wait) → o ≡ Some w → w.answered ≡ false) →
     ((w : Wait) → o ≡ Some w → is_there s.admissions w.awaited w.answered ≡ true) →
     StandsFor (record k { waits = awaiting k.waits o }) (record s { waits = awaiting s.waits o })
 wait-stands o k s st still there =
@@ -138,7 +138,7 @@ wait-stands o k s st still there =
     (ap (λ (ws : List Wait). awaiting ws o) st.waits.left ∙ unanswered-more s.waits o still) (there-more s.admissions s.waits o there st.waits.there)
 
 -- another timeout list, and the arms that it keeps
-pub rearmed : (k : Kept) (s : State) (t : Timeouts) (arms : List Arm) → StandsFor k s → t.items ≡ k.active.items → IsOrdered t →
+pub rearmed : (k : EngineState) (s : State) (t : Timeouts) (arms : List Arm) → StandsFor k s → t.items ≡ k.active.items → IsOrdered t →
     k.made + length t.live ≤ k.entries → t.live ≡ timeouts_of arms → StandsFor (record k { timeouts = t }) (record s { arms = arms })
 rearmed k s t arms st items ordered fewer same =
     let w = st.whole in
@@ -153,7 +153,7 @@ rearmed k s t arms st items ordered fewer same =
     }
 
 -- another time
-pub retimed : (k : Kept) (s : State) (time : ℕ) → StandsFor k s → IsTimed time k.entries →
+pub retimed : (k : EngineState) (s : State) (time : ℕ) → StandsFor k s → IsTimed time k.entries →
     StandsFor (record k { time = time }) (record s { time = time })
 retimed k s time st timed =
     let w = st.whole in

@@ -22,7 +22,7 @@ use Rattle.zk_time.specs.declared.timeout.Timeout.{Timeout}
 use Rattle.zk_time.specs.Timeouts.{Timeouts, is_of, is_due, is_armed, deadline_of, queue_of, count_due, due_first, due_rest, drop_due, IsOrdered}
 use Rattle.zk_time.specs.Timeouts as timeouts
 use Rattle.zk_time.proofs.Orders.{IsOrdered-arm, IsOrdered-disarm, IsOrdered-due}
-use Rattle.zk_work.specs.Kept.{Kept, IsWhole, StandsFor, is_there, timeout_of, timeouts_of}
+use Rattle.zk_work.specs.EngineState.{EngineState, IsWhole, StandsFor, is_there, timeout_of, timeouts_of}
 use Rattle.zk_work.specs.Engine as engine
 use Rattle.zk_work.specs.Engine.{answer_of, admitted, submitted, disarmed, settled, cancelled, expired_next, expired, told, expiry_of}
 use Rattle.zk_work.proofs.Arms.{timeouts-arm, timeouts-disarm, armed-same, found-same}
@@ -39,7 +39,7 @@ fewer-filter p ts =
     omega arith
 
 -- an item is disarmed
-pub disarmed-stands : (k : Kept) (s : State) (item : ℕ) → StandsFor k s → StandsFor (disarmed k item) (record s { arms = disarm s.arms item })
+pub disarmed-stands : (k : EngineState) (s : State) (item : ℕ) → StandsFor k s → StandsFor (disarmed k item) (record s { arms = disarm s.arms item })
 disarmed-stands k s item st =
     let fewer = st.whole.fewer in
     let less = fewer-filter (λ (t : Timeout). not (is_of item t)) k.timeouts.live in
@@ -60,7 +60,7 @@ disarmed-free t item = none t.live where
     by false is so = ap (λ c. list_any (is_of item) (cond (not c) (a ∷ rest) rest)) is ∙ ap (λ c. c || list_any (is_of item) rest) is ∙ so
 
 -- an item is armed
-pub armed-stands : (k : Kept) (s : State) (item queue delay : ℕ) → StandsFor k s → item < s.items → is_armed k.timeouts item ≡ false → k.time + delay < 2 ^ 64 → k.made + length k.timeouts.live < k.entries →
+pub armed-stands : (k : EngineState) (s : State) (item queue delay : ℕ) → StandsFor k s → item < s.items → is_armed k.timeouts item ≡ false → k.time + delay < 2 ^ 64 → k.made + length k.timeouts.live < k.entries →
     StandsFor (record k { timeouts = timeouts.arm k.timeouts item queue (k.time + delay) }) (record s { arms = arm s.arms item queue (s.time + delay) })
 armed-stands k s item queue delay st item_in free fits room =
     let w = st.whole in
@@ -78,7 +78,7 @@ pub deadline-fits : (time entries delay : ℕ) → IsTimed time entries → entr
 deadline-fits time entries delay timed few short = let bound = timed.bound in omega arith
 
 -- a submission by a player or by nobody
-pub submit-stands : (k : Kept) (s : State) (caller : Option ℕ) (item : ℕ) (named : Option ℕ) → StandsFor k s → item < s.items → k.made + length k.timeouts.live < k.entries →
+pub submit-stands : (k : EngineState) (s : State) (caller : Option ℕ) (item : ℕ) (named : Option ℕ) → StandsFor k s → item < s.items → k.made + length k.timeouts.live < k.entries →
     StandsFor (submitted k item (answer_of k caller item named)) (record s { admissions = submit s.admissions item (submission (machine_item s.admissions s.marks item) s.queues caller named) })
 submit-stands k s caller item named st item_in room =
     subst (λ (a : Submitted). StandsFor (submitted k item a) (record s { admissions = submit s.admissions item (submission (machine_item s.admissions s.marks item) s.queues caller named) })) (sym (answer-same k s st caller item named)) (by (admitted_to answer) refl) where
@@ -93,17 +93,17 @@ submit-stands k s caller item named st item_in room =
           (submission-within (machine_item s.admissions s.marks item) s.queues caller named queue is) room
 
 -- whether the item is armed
-pub is_armed-same : (k : Kept) (s : State) (item : ℕ) → StandsFor k s → is_armed k.timeouts item ≡ is_some (armed s.arms item)
+pub is_armed-same : (k : EngineState) (s : State) (item : ℕ) → StandsFor k s → is_armed k.timeouts item ≡ is_some (armed s.arms item)
 is_armed-same k s item st = ap (list_any (is_of item)) st.arms ∙ armed-same s.arms item
 
 -- the item is pending alike
-pub pending-same : (k : Kept) (s : State) (item : ℕ) → StandsFor k s → engine.is_pending_in k item ≡ is_pending_in s item
+pub pending-same : (k : EngineState) (s : State) (item : ℕ) → StandsFor k s → engine.is_pending_in k item ≡ is_pending_in s item
 pending-same k s item st =
     ap (λ (i : Item). is_pending i (is_armed k.timeouts item)) (item-same k s st item)
     ∙ ap (is_pending (machine_item s.admissions s.marks item)) (is_armed-same k s item st)
 
 -- an item that isn't armed is given a delay
-pub delayed-stands : (k : Kept) (s : State) (who : Who) (item queue delay : ℕ) → StandsFor k s → item < s.items → is_armed k.timeouts item ≡ false → k.time + delay < 2 ^ 64 → k.made + length k.timeouts.live < k.entries →
+pub delayed-stands : (k : EngineState) (s : State) (who : Who) (item queue delay : ℕ) → StandsFor k s → item < s.items → is_armed k.timeouts item ≡ false → k.time + delay < 2 ^ 64 → k.made + length k.timeouts.live < k.entries →
     StandsFor (engine.delayed k who item queue delay) (delayed s who item queue delay)
 delayed-stands k s who item queue delay st item_in free fits room = by (eqb delay 0) where
   by : (b : Bool) →
@@ -113,13 +113,13 @@ delayed-stands k s who item queue delay st item_in free fits room = by (eqb dela
   by false = armed-stands k s item queue delay st item_in free fits room
 
 -- what it is answered
-pub delay_reply-same : (k : Kept) (s : State) (who : Who) (item queue delay : ℕ) → StandsFor k s →
+pub delay_reply-same : (k : EngineState) (s : State) (who : Who) (item queue delay : ℕ) → StandsFor k s →
     engine.delay_reply_in k who item queue delay ≡ delay_reply_in s who item queue delay
 delay_reply-same k s who item queue delay st =
     ap (λ (a : Submitted). delay_reply a delay) (answer-same k s st (Some who.number) item (Some queue))
 
 -- the timeout of the item's live arm
-found-arm : (k : Kept) (s : State) (item : ℕ) → StandsFor k s → find (is_of item) k.timeouts.live ≡ option_map timeout_of (live_arm s.arms item)
+found-arm : (k : EngineState) (s : State) (item : ℕ) → StandsFor k s → find (is_of item) k.timeouts.live ≡ option_map timeout_of (live_arm s.arms item)
 found-arm k s item st =
     ap (find (is_of item)) st.arms ∙ found-same s.arms item (subst (λ (ts : List Timeout). timeouts.Differ ts) st.arms st.whole.ordered.differ)
 
@@ -129,7 +129,7 @@ kept-arm f None = refl
 kept-arm f (Some a) = refl
 
 -- the ticks that are left
-pub remaining-same : (k : Kept) (s : State) (item : ℕ) → StandsFor k s →
+pub remaining-same : (k : EngineState) (s : State) (item : ℕ) → StandsFor k s →
     remaining (deadline_of k.timeouts item) k.time ≡ remaining (machine_deadline s.arms item) s.time
 remaining-same k s item st =
     let f : Timeout → ℕ = λ t. t.deadline in
@@ -137,7 +137,7 @@ remaining-same k s item st =
     ∙ ap (remaining (machine_deadline s.arms item)) st.time
 
 -- a flush ends the item's delay
-queue-same : (k : Kept) (s : State) (item : ℕ) → StandsFor k s → queue_of k.timeouts item ≡ option_map (λ (a : Arm). a.queue) (live_arm s.arms item)
+queue-same : (k : EngineState) (s : State) (item : ℕ) → StandsFor k s → queue_of k.timeouts item ≡ option_map (λ (a : Arm). a.queue) (live_arm s.arms item)
 queue-same k s item st =
     let f : Timeout → ℕ = λ t. t.queue in
     ap (option_map f) (found-arm k s item st) ∙ kept-arm f (live_arm s.arms item)
@@ -150,11 +150,11 @@ live-item (x ∷ xs) item a is = by (eqb x.item item) (Rattle.zk_model_work.spec
   by true false same is rest = rest is
   by false b same is rest = rest is
 
-pub hurried-stands : (k : Kept) (s : State) (who : Who) (item : ℕ) → StandsFor k s → item < s.items → k.made + length k.timeouts.live < k.entries →
+pub hurried-stands : (k : EngineState) (s : State) (who : Who) (item : ℕ) → StandsFor k s → item < s.items → k.made + length k.timeouts.live < k.entries →
     StandsFor (engine.hurried k who item) (record s { admissions = hurried s who item; arms = disarm s.arms item })
 hurried-stands k s who item st item_in room =
     subst (λ (o : Option ℕ). StandsFor (option_map_or (λ queue. submitted d item (answer_of d (Some who.number) item (Some queue))) o d) (record s { admissions = hurried s who item; arms = disarm s.arms item })) (sym (queue-same k s item st)) (by (live_arm s.arms item) refl) where
-      d : Kept
+      d : EngineState
       d = disarmed k item
 
       e : State
@@ -174,16 +174,16 @@ hurried-stands k s who item st item_in room =
           (submit-stands d e (Some who.number) item (Some a.queue) stands item_in (omega arith))
 
 -- the start of a flush, behind an entry that is counted
-pub flush_start-stands : (k : Kept) (s : State) (who : Who) (item : ℕ) → StandsFor k s → item < s.items → s.entries < 2 ^ 32 - 1 →
+pub flush_start-stands : (k : EngineState) (s : State) (who : Who) (item : ℕ) → StandsFor k s → item < s.items → s.entries < 2 ^ 32 - 1 →
     StandsFor (record (engine.flush_started k who item) { entries = k.entries + 1 }) (record (flush_start s who item) { entries = s.entries + 1 })
 flush_start-stands k s who item st item_in few =
     let fewer = st.whole.fewer in
     let c = counted-stands k s st few in
     let h = hurried-stands (record k { entries = k.entries + 1 }) (record s { entries = s.entries + 1 }) who item c item_in (omega arith) in
     let e : State = record s { admissions = hurried s who item; arms = disarm s.arms item; entries = s.entries + 1 } in
-    let K : Kept = record (engine.hurried k who item) { entries = k.entries + 1 } in
+    let K : EngineState = record (engine.hurried k who item) { entries = k.entries + 1 } in
     let same = entries_stay k who item in
-    let H : StandsFor K e = subst (λ (j : Kept). StandsFor j e) same h in
+    let H : StandsFor K e = subst (λ (j : EngineState). StandsFor j e) same h in
     let n = flushed_of s who item in
     let wait : flush_wait (engine.hurried k who item).entries who (engine.flushed_of (engine.hurried k who item).active item) ≡ flush_wait s.entries who n =
     ap (λ p. flush_wait p who (engine.flushed_of (engine.hurried k who item).active item)) (entries_of k who item ∙ st.entries)
@@ -194,7 +194,7 @@ flush_start-stands k s who item st item_in few =
     (λ w is. let new = new-wait K e H s.entries who Flush n w is in sym (ap (λ (v : Wait). v.answered) new.2))
     (λ w is. let new = new-wait K e H s.entries who Flush n w is in
     subst (λ (v : Wait). is_there (hurried s who item) v.awaited v.answered ≡ true) new.2 (found-made (hurried s who item) item new.0 new.1))) where
-      entries_stay : (k : Kept) (who : Who) (item : ℕ) → engine.hurried (record k { entries = k.entries + 1 }) who item ≡ record (engine.hurried k who item) { entries = k.entries + 1 }
+      entries_stay : (k : EngineState) (who : Who) (item : ℕ) → engine.hurried (record k { entries = k.entries + 1 }) who item ≡ record (engine.hurried k who item) { entries = k.entries + 1 }
       entries_stay k who item = by (queue_of k.timeouts item) where
         by : (o : Option ℕ) →
             option_map_or (λ queue. submitted (record (disarmed k item) { entries = k.entries + 1 }) item (answer_of (disarmed k item) (Some who.number) item (Some queue))) o (record (disarmed k item) { entries = k.entries + 1 })
@@ -202,25 +202,25 @@ flush_start-stands k s who item st item_in few =
         by None = refl
         by (Some queue) = entries-later (disarmed k item) item (answer_of (disarmed k item) (Some who.number) item (Some queue))
 
-      entries_of : (k : Kept) (who : Who) (item : ℕ) → (engine.hurried k who item).entries ≡ k.entries
+      entries_of : (k : EngineState) (who : Who) (item : ℕ) → (engine.hurried k who item).entries ≡ k.entries
       entries_of k who item = by (queue_of k.timeouts item) where
         by : (o : Option ℕ) → (option_map_or (λ queue. submitted (disarmed k item) item (answer_of (disarmed k item) (Some who.number) item (Some queue))) o (disarmed k item)).entries ≡ k.entries
         by None = refl
-        by (Some queue) = submitted-same (λ (j : Kept). j.entries) (disarmed k item) item (answer_of (disarmed k item) (Some who.number) item (Some queue)) (λ queue. refl)
+        by (Some queue) = submitted-same (λ (j : EngineState). j.entries) (disarmed k item) item (answer_of (disarmed k item) (Some who.number) item (Some queue)) (λ queue. refl)
 
 -- a cancel
-pub cancelled-stands : (k : Kept) (s : State) (item : ℕ) → StandsFor k s → item < s.items → s.entries < 2 ^ 32 - 1 →
+pub cancelled-stands : (k : EngineState) (s : State) (item : ℕ) → StandsFor k s → item < s.items → s.entries < 2 ^ 32 - 1 →
     StandsFor (record (settled (disarmed k item) (cancelled k.active item)) { entries = k.entries + 1 }) (record (cancel s item) { entries = s.entries + 1 })
 cancelled-stands k s item st item_in few = cancel-stands (disarmed k item) (record s { arms = disarm s.arms item }) item (disarmed-stands k s item st) item_in few
 
 -- the start of a sync cancel
-pub cancel_start-stands : (k : Kept) (s : State) (who : Who) (item : ℕ) → StandsFor k s → item < s.items → s.entries < 2 ^ 32 - 1 →
+pub cancel_start-stands : (k : EngineState) (s : State) (who : Who) (item : ℕ) → StandsFor k s → item < s.items → s.entries < 2 ^ 32 - 1 →
     StandsFor (record (engine.cancel_started k who item) { entries = k.entries + 1 }) (record (cancel_start s who item) { entries = s.entries + 1 })
 cancel_start-stands k s who item st item_in few =
     let run = running s.admissions item in
     let wait : cancel_wait k.entries who (active.running k.active item) ≡ cancel_wait s.entries who run =
     ap (λ p. cancel_wait p who (active.running k.active item)) st.entries ∙ ap (cancel_wait s.entries who) (runs_by k s st item) in
-    let T : Kept = record (settled (disarmed k item) (cancelled k.active item)) { entries = k.entries + 1 } in
+    let T : EngineState = record (settled (disarmed k item) (cancelled k.active item)) { entries = k.entries + 1 } in
     subst (λ (o : Option Wait). StandsFor (record T { waits = awaiting k.waits o }) (record (cancel_start s who item) { entries = s.entries + 1 })) (sym wait)
     (wait-stands (cancel_wait s.entries who run) T (record (cancel s item) { entries = s.entries + 1 }) (cancelled-stands k s item st item_in few)
     (λ w is. let new = new-wait k s st s.entries who Cancel run w is in sym (ap (λ (v : Wait). v.answered) new.2))
@@ -229,7 +229,7 @@ cancel_start-stands k s who item st item_in few =
     ((Later-drop item s.admissions).begun new.0 (found-begun s.admissions item new.0 new.1))))
 
 -- one more that is due is submitted
-pub next-whole : (k : Kept) (time : ℕ) → IsWhole k → IsWhole (record k { timeouts = drop_due k.timeouts time })
+pub next-whole : (k : EngineState) (time : ℕ) → IsWhole k → IsWhole (record k { timeouts = drop_due k.timeouts time })
 next-whole k time w =
     let fewer = w.fewer in
     let less = drop-less time k.timeouts.live in
@@ -250,14 +250,14 @@ drop-room time (t ∷ ts) some = by (is_due time t) some where
   by false some = absurd (cc)
 
 -- an item is disarmed
-pub disarmed-whole : (k : Kept) (item : ℕ) → IsWhole k → IsWhole (disarmed k item)
+pub disarmed-whole : (k : EngineState) (item : ℕ) → IsWhole k → IsWhole (disarmed k item)
 disarmed-whole k item w =
     let fewer = w.fewer in
     let less = fewer-filter (λ (t : Timeout). not (is_of item t)) k.timeouts.live in
     whole-beside k k.time k.entries (timeouts.disarm k.timeouts item) k.waits k.queues w w.counted w.timed (omega arith) w.armed (IsOrdered-disarm k.timeouts item w.ordered) w.queues
 
 -- a submission for which there is an entry
-pub submitted-whole : (k : Kept) (item : ℕ) (a : Submitted) → IsWhole k → ((queue : ℕ) → admitted_to a ≡ Some queue → engine.MayAdmit k item queue) → k.made + length k.timeouts.live < k.entries → IsWhole (submitted k item a)
+pub submitted-whole : (k : EngineState) (item : ℕ) (a : Submitted) → IsWhole k → ((queue : ℕ) → admitted_to a ≡ Some queue → engine.MayAdmit k item queue) → k.made + length k.timeouts.live < k.entries → IsWhole (submitted k item a)
 submitted-whole k item a w may room = by (admitted_to a) refl where
   by : (o : Option ℕ) → admitted_to a ≡ o → IsWhole (option_map_or (admitted k item) o k)
   by None is = w

@@ -1,17 +1,17 @@
-pub mod Admissions
-pub mod Announcing
-pub mod Arms
-pub mod Awaited
-pub mod Awaiting
-pub mod Beside
-pub mod Cancelling
-pub mod Changes
-pub mod Delaying
-pub mod Fresh
-pub mod Items
-pub mod LastQueues
-pub mod Numbers
-pub mod Replies
-pub mod Sound
-pub mod Steps
-pub mod Tickets
+mod Admissions
+mod Announcing
+mod Arms
+mod Awaited
+mod Awaiting
+mod Beside
+mod Cancelling
+mod Changes
+mod Delaying
+mod Fresh
+mod Items
+mod LastQueues
+mod Numbers
+mod Replies
+mod Sound
+mod Steps
+mod Tickets

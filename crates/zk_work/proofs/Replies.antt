@@ -20,13 +20,13 @@ use Rattle.zk_model_work.proofs.Overlaps.{position-none, found_queue}
 use Rattle.zk_queue.specs.declared.ticket.Ticket.{Ticket}
 use Rattle.zk_queue.specs.declared.marks.Marks.{Marks}
 use Rattle.zk_queue.specs.Open as active
-use Rattle.zk_work.specs.Kept.{Kept, last_of, IsSound, StandsFor}
+use Rattle.zk_work.specs.EngineState.{EngineState, last_of, IsSound, StandsFor}
 use Rattle.zk_work.specs.Tickets.{tickets}
 use Rattle.zk_work.specs.Engine.{item_of, answer_of}
 use Rattle.zk_work.proofs.Tickets.{position-first, first_stands}
 use Rattle.zk_work.proofs.Items.{found, queued, runs_now}
 
-module _ (k : Kept) (s : State) (st : StandsFor k s) where
+module _ (k : EngineState) (s : State) (st : StandsFor k s) where
   pub is_queued : (item : ℕ) → active.is_queued k.active item ≡ is_some (waiting s.admissions item)
   is_queued item = queued k.active s.admissions item st.admissions.lines
 
@@ -59,7 +59,7 @@ running_queue-last items xs marks item sound = by (running xs item) refl where
       (λ m b at runs. same_Some b.queue it.admission.queue (sym (home m b at runs) ∙ last)) it.there it.passes
       ∙ sym last
 
-module _ (k : Kept) (s : State) (st : StandsFor k s) where
+module _ (k : EngineState) (s : State) (st : StandsFor k s) where
   -- the item is asked alike
   pub item-same : (item : ℕ) → item_of k item ≡ machine_item s.admissions s.marks item
   item-same item =
@@ -107,7 +107,7 @@ taken-same queue xs =
           sym (ap (option_map (λ (a : Admission). Run a.item t.number)) there ∙ ap (λ i. Some (Run i t.number)) st.item)
 
 -- a begin
-pub begin-same : (k : Kept) (s : State) (st : StandsFor k s) (who : Who) (queue : ℕ) →
+pub begin-same : (k : EngineState) (s : State) (st : StandsFor k s) (who : Who) (queue : ℕ) →
     cond (is_worker k.queues queue who.number) (option_map (λ (t : Ticket). Run t.item t.number) (active.next k.active queue)) None
     ≡ cond (may_begin s.admissions s.queues who queue) (taken_up s.admissions queue) None
 begin-same k s st who queue =
@@ -126,7 +126,7 @@ begin-same k s st who queue =
       by (Some t) false = refl
 
 -- an end
-pub end-same : (k : Kept) (s : State) (st : StandsFor k s) (who : Who) (queue : ℕ) →
+pub end-same : (k : EngineState) (s : State) (st : StandsFor k s) (who : Who) (queue : ℕ) →
     cond (is_worker k.queues queue who.number) (option_map (λ (t : Ticket). Done) (active.run k.active queue)) None ≡ cond (may_end s.admissions s.queues who queue) (Some Done) None
 end-same k s st who queue =
     ap (λ (qs : List Queue). cond (is_worker qs queue who.number) (option_map (λ (t : Ticket). Done) (active.run k.active queue)) None) st.queues

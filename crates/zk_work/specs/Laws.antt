@@ -29,7 +29,7 @@ use Rattle.zk_model_work.specs.Machine.{work_reply, work_next, in_range, is_amon
 use Rattle.zk_model_work.specs.Answers.{is_worker, submission, cancel_wait, flush_wait, drain_wait, is_unanswered, closes}
 use Rattle.zk_model_work.proofs.Counts.{length-settle_from, length-change, length-drain}
 use Rattle.zk_model_work.proofs.Moves.{submit_arms-keeps, delayed-keeps, schedule-keeps}
-use Rattle.zk_work.specs.Kept.{work_owed, work_closes}
+use Rattle.zk_work.specs.EngineState.{work_owed, work_closes}
 
 -- each entry is counted
 pub counts : (s : State) (who : Who) (op : WorkOp) → (work_next s who op).entries ≡ s.entries + 1

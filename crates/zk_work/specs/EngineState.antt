@@ -19,7 +19,7 @@ use Rattle.zk_queue.specs.Open.{Open, line, run, marks_of, IsAbove}
 use Rattle.zk_work.specs.Tickets.{tickets}
 
 -- what the engine keeps: the ticks, the entries and the admissions so far, how many runs are open, the queue of each item's last admission, the open admissions, the items that are armed, the waits that aren't answered, and the queues
-pub record Kept : Type 0 where
+pub record EngineState : Type 0 where
   pub time : ℕ
   pub entries : ℕ
   pub made : ℕ
@@ -31,12 +31,12 @@ pub record Kept : Type 0 where
   pub queues : List Queue
 
 -- what a contract sees of the engine: what it keeps, and how many changes it takes without memory
-pub record Held : Type 0 where
-  pub kept : Kept
+pub record EngineView : Type 0 where
+  pub state : EngineState
   pub room : ℕ
 
 -- the queue of the item's last admission
-abbrev pub last_of : Kept → ℕ → Option ℕ
+abbrev pub last_of : EngineState → ℕ → Option ℕ
 last_of k item = slice_index_or k.last item None
 
 -- the admission of this number was made, and waits no longer
@@ -89,7 +89,7 @@ abbrev pub timeouts_of : List Arm → List Timeout
 timeouts_of arms = by_key (λ t. t.deadline) (live_of arms)
 
 -- what holds of all that the engine keeps
-pub record IsWhole (k : Kept) : Type 0 where
+pub record IsWhole (k : EngineState) : Type 0 where
   pub counted : IsCounted k.entries k.queues
   pub timed : IsTimed k.time k.entries
   -- each entry makes an admission or arms an item at most, and an item that is armed may still become an admission
@@ -126,7 +126,7 @@ pub record StandsForWaits (kept : List Wait) (admissions : List Admission) (wait
   pub there : All (λ w. is_there admissions w.awaited w.answered ≡ true) waits
 
 -- the engine stands for a state: what it keeps is what answers need of the state's lists
-pub record StandsFor (k : Kept) (s : State) : Type 0 where
+pub record StandsFor (k : EngineState) (s : State) : Type 0 where
   pub whole : IsWhole k
   pub time : k.time ≡ s.time
   pub entries : k.entries ≡ s.entries
