@@ -68,15 +68,21 @@ TimeIsShort h = All (λ e. ticks_of e.op < 2 ^ 32) h → length h < 2 ^ 32 - 1 �
 
 -- an announcement is answered the time before it and its ticks
 abbrev pub AnnounceTellsTheTime : ClockHistory → Type 0
-AnnounceTellsTheTime h = (front rest : ClockHistory) (e : Entry ClockOp ClockReply) (ticks : ℕ) → h ≡ front ++ e ∷ rest → e.op ≡ ops.Announce ticks → e.reply ≡ Now (time_after front + ticks)
+AnnounceTellsTheTime h =
+    (front rest : ClockHistory) (e : Entry ClockOp ClockReply) (ticks : ℕ) → h ≡ front ++ e ∷ rest →
+    e.op ≡ ops.Announce ticks → e.reply ≡ Now (time_after front + ticks)
 
 -- an alarm is answered its moment: the time at which it is set, and its ticks
 abbrev pub AlarmTellsItsMoment : ClockHistory → Type 0
-AlarmTellsItsMoment h = (front rest : ClockHistory) (e : Entry ClockOp ClockReply) (ticks : ℕ) → h ≡ front ++ e ∷ rest → e.op ≡ ops.Alarm ticks → e.reply ≡ At (time_after front + ticks)
+AlarmTellsItsMoment h =
+    (front rest : ClockHistory) (e : Entry ClockOp ClockReply) (ticks : ℕ) → h ≡ front ++ e ∷ rest →
+    e.op ≡ ops.Alarm ticks → e.reply ≡ At (time_after front + ticks)
 
 -- an alarm that is told to be due was set before, by the same player and for this moment, and its moment has come
 abbrev pub DueWhenItsMomentHasCome : ClockHistory → Type 0
-DueWhenItsMomentHasCome h = (front rest : ClockHistory) (e : Entry ClockOp ClockReply) (moment : ℕ) → h ≡ front ++ e ∷ rest → e.op ≡ ops.AlarmEnd moment →
+DueWhenItsMomentHasCome h =
+    (front rest : ClockHistory) (e : Entry ClockOp ClockReply) (moment : ℕ) → h ≡ front ++ e ∷ rest →
+    e.op ≡ ops.AlarmEnd moment →
     (e.reply ≡ Due) × (list_any (sets e.who.number moment) front ≡ true) × (moment ≤ time_after front)
 
 -- no more alarms of a player and moment end than were set
@@ -85,4 +91,7 @@ EachEndsOnce h = (player moment : ℕ) → count_by (ends player moment) h ≤ c
 
 -- an alarm that was set and hasn't ended may end once its moment has come
 abbrev pub MayEndOnceItHasCome : ClockHistory → Type 0
-MayEndOnceItHasCome h = (who : Who) (moment : ℕ) → count_by (ends who.number moment) h < count_by (sets who.number moment) h → moment ≤ time_after h → clock_reply (clock_after h) who (ops.AlarmEnd moment) ≡ Some Due
+MayEndOnceItHasCome h =
+    (who : Who) (moment : ℕ) →
+    count_by (ends who.number moment) h < count_by (sets who.number moment) h → moment ≤ time_after h →
+    clock_reply (clock_after h) who (ops.AlarmEnd moment) ≡ Some Due

@@ -182,7 +182,8 @@ impl ClockStore {
     fn announce(&mut self, who: Who, ticks: u32) -> Option<ClockReply>
         requires { self.old.clock.entries < 2 ^ 32 - 1 }
         ensures reply { result ≡ clock_reply self.old.clock who (ClockOp.Announce ticks) }
-        ensures next { self.new.clock ≡ after_reply self.old.clock who (ClockOp.Announce ticks) result }
+        ensures next { self.new.clock
+            ≡ after_reply self.old.clock who (ClockOp.Announce ticks) result }
         ensures room { self.new.room ≡ self.old.room }
     {
         self.time += ticks as u64;
@@ -210,7 +211,8 @@ impl ClockStore {
     fn alarm_end(&mut self, who: Who, moment: u64) -> Option<ClockReply>
         requires { self.old.clock.entries < 2 ^ 32 - 1 }
         ensures reply { result ≡ clock_reply self.old.clock who (ClockOp.AlarmEnd moment) }
-        ensures next { self.new.clock ≡ after_reply self.old.clock who (ClockOp.AlarmEnd moment) result }
+        ensures next { self.new.clock
+            ≡ after_reply self.old.clock who (ClockOp.AlarmEnd moment) result }
         ensures room { self.old.room ≤ self.new.room }
     {
         if !is_due(self.time, &self.alarms, who.number, moment) {

@@ -29,7 +29,8 @@ use Rattle.zk_model_work.specs.Questions.{is_open, is_ended, passes_at, waits_as
 -- the admissions after a submission with this answer: one more where it was admitted
 abbrev pub submit : List Admission → ℕ → Submitted → List Admission
 submit admissions item answer =
-    option_map_or (λ queue. admissions ++ record { item = item; queue = queue; life = Waiting } ∷ []) (admitted_to answer) admissions
+    option_map_or (λ queue. admissions ++ record { item = item; queue = queue; life = Waiting } ∷ [])
+      (admitted_to answer) admissions
 
 -- the answer to a submission in a state
 abbrev pub submission_in : State → Option ℕ → ℕ → Option ℕ → Submitted
@@ -257,7 +258,8 @@ flags_of s item =
 -- what a worker takes up: the first in the queue's line
 abbrev pub taken_up : List Admission → ℕ → Option WorkReply
 taken_up admissions queue =
-    option_and_then (λ number. option_map (λ a. Run a.item number) (slice_get admissions number)) (first (line admissions queue))
+    option_and_then (λ number. option_map (λ a. Run a.item number) (slice_get admissions number))
+      (first (line admissions queue))
 
 -- the player may take up the next of the queue: it is the queue's worker, and the queue runs nothing
 abbrev pub may_begin : List Admission → List Queue → Who → ℕ → Bool
@@ -287,7 +289,8 @@ announce_reply s ticks =
 abbrev pub work_reply : State → Who → WorkOp → Option WorkReply
 work_reply s who (Submit item named) = Some (Sub (submission_in s (Some who.number) item named))
 work_reply s who (Cancel item) = Some (Flags (flags_of (cancel s item) item))
-work_reply s who (CancelStart item) = Some (cancel_start_reply (flags_of s item) (is_some (running s.admissions item)))
+work_reply s who (CancelStart item) =
+    Some (cancel_start_reply (flags_of s item) (is_some (running s.admissions item)))
 work_reply s who (CancelDone place) = if may_close s closings.Cancel who place then Some (Truth true) else None
 work_reply s who (FlushStart item) = Some (flush_start_reply (flushed_of s who item))
 work_reply s who (FlushDone place) = if may_close s closings.Flush who place then Some (Truth true) else None

@@ -39,7 +39,8 @@ fn submit_arm(admissions: &mut Vec<Admission>, marks: &[u64], queues: &[Queue], 
     ensures item { result.item ≡ arm.item }
     ensures answer { result.submitted
         ≡ submission (item_of admissions.old.items marks.now arm.item) queues.now None (Some arm.queue) }
-    ensures admissions { admissions.new.items ≡ submit admissions.old.items arm.item result.submitted }
+    ensures admissions { admissions.new.items
+        ≡ submit admissions.old.items arm.item result.submitted }
     ensures len { vec_len admissions.new ≤ vec_len admissions.old + 1 }
     ensures capacity { vec_capacity admissions.old ≤ vec_capacity admissions.new }
 {

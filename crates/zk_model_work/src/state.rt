@@ -16,6 +16,9 @@ use std::alloc::Global;
 use std::marker::Model;
 use zk_base::{Listed, NoMemory, Who};
 
+/// What an operation answers, where there is memory: its reply, where it is possible.
+type Replied = Result<Option<WorkReply>, NoMemory>;
+
 /// The state of the work machine, which contracts see as its definition has it. Nothing that was
 /// ever admitted is forgotten.
 #[derive(Drop)]
@@ -101,12 +104,7 @@ impl WorkState {
         submission(self.item(item), &self.queues, Some(who.number), named)
     }
 
-    fn submit(
-        &mut self,
-        who: Who,
-        item: u32,
-        named: Option<u32>,
-    ) -> Result<Option<WorkReply>, NoMemory>
+    fn submit(&mut self, who: Who, item: u32, named: Option<u32>) -> Replied
         requires { self.old.entries < 2 ^ 32 - 1 }
         ensures reply { IfOk result (λ reply.
             reply ≡ work_reply self.old who (WorkOp.Submit item named)) }
@@ -159,12 +157,7 @@ impl WorkState {
         Some(reply)
     }
 
-    fn drain_start(
-        &mut self,
-        who: Who,
-        queue: u32,
-        plug: bool,
-    ) -> Result<Option<WorkReply>, NoMemory>
+    fn drain_start(&mut self, who: Who, queue: u32, plug: bool) -> Replied
         requires { self.old.entries < 2 ^ 32 - 1 }
         ensures reply { IfOk result (λ reply.
             reply ≡ work_reply self.old who (WorkOp.DrainStart queue plug)) }
@@ -180,7 +173,7 @@ impl WorkState {
         Ok(Some(drain_reply(idle)))
     }
 
-    fn cancel_start(&mut self, who: Who, item: u32) -> Result<Option<WorkReply>, NoMemory>
+    fn cancel_start(&mut self, who: Who, item: u32) -> Replied
         requires { self.old.entries < 2 ^ 32 - 1 }
         ensures reply { IfOk result (λ reply.
             reply ≡ work_reply self.old who (WorkOp.CancelStart item)) }
@@ -202,7 +195,7 @@ impl WorkState {
         Ok(Some(cancel_start_reply(flags.bits(), run.is_some())))
     }
 
-    fn flush_start(&mut self, who: Who, item: u32) -> Result<Option<WorkReply>, NoMemory>
+    fn flush_start(&mut self, who: Who, item: u32) -> Replied
         requires { self.old.entries < 2 ^ 32 - 1 }
         ensures reply { IfOk result (λ reply.
             reply ≡ work_reply self.old who (WorkOp.FlushStart item)) }
@@ -229,13 +222,7 @@ impl WorkState {
         is_pending(self.item(item), armed(&self.arms, item).is_some())
     }
 
-    fn schedule(
-        &mut self,
-        who: Who,
-        item: u32,
-        queue: u32,
-        delay: u32,
-    ) -> Result<Option<WorkReply>, NoMemory>
+    fn schedule(&mut self, who: Who, item: u32, queue: u32, delay: u32) -> Replied
         requires { self.old.entries < 2 ^ 32 - 1 }
         ensures reply { IfOk result (λ reply.
             reply ≡ work_reply self.old who (WorkOp.Schedule item queue delay)) }
@@ -250,13 +237,7 @@ impl WorkState {
         self.reschedule(who, item, queue, delay)
     }
 
-    fn reschedule(
-        &mut self,
-        who: Who,
-        item: u32,
-        queue: u32,
-        delay: u32,
-    ) -> Result<Option<WorkReply>, NoMemory>
+    fn reschedule(&mut self, who: Who, item: u32, queue: u32, delay: u32) -> Replied
         requires { self.old.entries < 2 ^ 32 - 1 }
         ensures reply { IfOk result (λ reply.
             reply ≡ work_reply self.old who (WorkOp.Reschedule item queue delay)) }
@@ -288,7 +269,7 @@ impl WorkState {
         Some(WorkReply::Number(remaining(deadline, self.time)))
     }
 
-    fn announce(&mut self, who: Who, ticks: u32) -> Result<Option<WorkReply>, NoMemory>
+    fn announce(&mut self, who: Who, ticks: u32) -> Replied
         requires { self.old.entries < 2 ^ 32 - 1 }
         ensures reply { IfOk result (λ reply.
             reply ≡ work_reply self.old who (WorkOp.Announce ticks)) }
@@ -353,7 +334,7 @@ impl WorkState {
         Some(reply)
     }
 
-    fn cancel(&mut self, who: Who, item: u32) -> Result<Option<WorkReply>, NoMemory>
+    fn cancel(&mut self, who: Who, item: u32) -> Replied
         requires { self.old.entries < 2 ^ 32 - 1 }
         ensures reply { IfOk result (λ reply.
             reply ≡ Some (WorkReply.Flags (flags_of self.new item))) }

@@ -3,12 +3,13 @@ use Rattle.std.specs.Int.RustNames.{bit_and}
 use Rattle.std.specs.List.{list_any}
 use Rattle.std.specs.Option.{option_map_or}
 use Rattle.zk_model_work.specs.Lists.{first}
-use Rattle.zk_model_work.specs.Questions.{weight}
+use Rattle.zk_model_work.specs.Questions.{busy_flags}
 use Rattle.zk_queue.specs.declared.ticket.Ticket.{Ticket}
 use Rattle.zk_queue.specs.declared.marks.Marks.{Marks}
 use Rattle.zk_queue.specs.Line.{is_of, has_number, without, number_among}
 
--- the open admissions: how many items and queues there are, what waits for each queue, lowest number first, what each queue runs, and the marks of each item
+-- the open admissions: how many items and queues there are, what waits for each queue, lowest number first,
+-- what each queue runs, and the marks of each item
 pub record Open : Type 0 where
   pub items : ℕ
   pub queues : ℕ
@@ -18,7 +19,8 @@ pub record Open : Type 0 where
 
 -- the marks among these busy flags: 2 cancelling, 8 delayed, 16 flushing
 abbrev pub marks_in : ℕ → Marks
-marks_in flags = record { cancelling = bit_and flags 2 == 2; delayed = bit_and flags 8 == 8; flushing = bit_and flags 16 == 16 }
+marks_in flags =
+    record { cancelling = bit_and flags 2 == 2; delayed = bit_and flags 8 == 8; flushing = bit_and flags 16 == 16 }
 
 -- no marks
 abbrev pub unmarked : Marks
@@ -27,7 +29,13 @@ unmarked = record { cancelling = false; delayed = false; flushing = false }
 -- before the first admission
 abbrev pub nothing_open : ℕ → ℕ → Open
 nothing_open items queues =
-    record { items = items; queues = queues; lines = replicate queues []; runs = replicate queues None; marks = replicate items unmarked }
+    record {
+      items = items;
+      queues = queues;
+      lines = replicate queues [];
+      runs = replicate queues None;
+      marks = replicate items unmarked;
+    }
 
 -- what waits for the queue, lowest number first
 abbrev pub line : Open → ℕ → List Ticket
@@ -77,7 +85,7 @@ IsAbove number o = All (λ line. All (λ t. t.number < number) line) o.lines
 abbrev pub flags : Open → ℕ → ℕ
 flags o item =
     let marks = marks_of o item in
-    weight 1 (is_running o item) + weight 2 marks.cancelling + weight 4 (is_queued o item) + weight 8 marks.delayed + weight 16 marks.flushing
+    busy_flags (is_running o item) marks.cancelling (is_queued o item) marks.delayed marks.flushing
 
 -- nothing waits for the queue, and it runs nothing
 abbrev pub is_idle : Open → ℕ → Bool
@@ -89,7 +97,8 @@ mark o item flags = record o { marks = set o.marks item (marks_in flags) }
 
 -- the item waits for the queue, behind all that wait already
 abbrev pub admit : Open → ℕ → ℕ → ℕ → Open
-admit o item queue number = record o { lines = set o.lines queue (line o queue ++ record { item = item; number = number } ∷ []) }
+admit o item queue number =
+    record o { lines = set o.lines queue (line o queue ++ record { item = item; number = number } ∷ []) }
 
 -- the item waits no longer
 abbrev pub drop_item : Open → ℕ → Open

@@ -33,10 +33,12 @@ was_due true some = refl
 was_due false some = some
 
 -- the end of an alarm gives one
-pub gives : (c : Clock) (who : Who) (op : ClockOp) → clock_closes op ≡ true → is_some (clock_reply c who op) ≡ true → 1 + clock_owed (clock_next c who op) ≤ clock_owed c
+pub gives : (c : Clock) (who : Who) (op : ClockOp) → clock_closes op ≡ true → is_some (clock_reply c who op) ≡ true →
+    1 + clock_owed (clock_next c who op) ≤ clock_owed c
 gives c who (ops.Announce ticks) closes some = absurd (cc)
 gives c who (ops.Alarm ticks) closes some = absurd (cc)
 gives c who (ops.AlarmEnd moment) closes some =
     let due = was_due (is_due c.time c.alarms who.number moment) some in
-    let one = length-without (is_alarm who.number moment) c.alarms (second_so (leb moment c.time) (has_alarm c.alarms who.number moment) due) in
+    let due_is = second_so (leb moment c.time) (has_alarm c.alarms who.number moment) due in
+    let one = length-without (is_alarm who.number moment) c.alarms due_is in
     omega arith

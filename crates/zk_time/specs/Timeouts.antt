@@ -38,7 +38,8 @@ count_due t now = length (filter (is_due now) t.live)
 
 -- the item is armed, behind all whose deadline isn't later
 abbrev pub arm : Timeouts → ℕ → ℕ → ℕ → Timeouts
-arm t item queue deadline = record t { live = put_by (λ a. a.deadline) (record { item = item; queue = queue; deadline = deadline }) t.live }
+arm t item queue deadline =
+    record t { live = put_by (λ a. a.deadline) (record { item = item; queue = queue; deadline = deadline }) t.live }
 
 -- the item isn't armed
 abbrev pub disarm : Timeouts → ℕ → Timeouts

@@ -3,7 +3,7 @@ use Rattle.std.proofs.Common.{◌≡◌, ℕ, ◌+◌, ◌-◌, ◌^◌, ◌<◌
 use Rattle.std.specs.Cmp.{first_so, second_so}
 use Rattle.std.specs.List.{position, list_any}
 use Rattle.std.specs.Option.{option_map_or, option_or}
-use Rattle.std.proofs.lemmas.Bool.{eqb-true, eq-eqb, false≢true, and_from}
+use Rattle.std.proofs.lemmas.Bool.{eqb-true, eq-eqb, false≢true, and_from, or_right}
 use Rattle.std.proofs.lemmas.List.Elements.{All-head, All-tail, All-cons, All-nil}
 use Rattle.std.proofs.lemmas.Option.{same_Some}
 use Rattle.zk_base.specs.declared.ids.Who.{Who}
@@ -32,10 +32,6 @@ use Rattle.zk_work.proofs.Replies.{item-same}
 use Rattle.zk_work.proofs.Awaited.{AllThere}
 use Rattle.zk_work.proofs.Arms.{armed-same}
 use Rattle.zk_work.proofs.Beside.{counted-stands, waits-stand}
-
-or-parts : (b c : Bool) → (b || c) ≡ true → (b ≡ false) → c ≡ true
-or-parts true c is none = absurd (cc)
-or-parts false c is none = is
 
 -- where this is said of an option that is there, it is of the number
 numbered : (n : ℕ) (o : Option ℕ) → is_number n o ≡ true → o ≡ Some n
@@ -99,10 +95,7 @@ module _ (k : EngineState) (s : State) (st : StandsFor k s) where
     by_life a Running at is of opens =
         let passes = and_from (eqb a.item item) (is_running a.life) of (ap is_running is) in
         let place = position-is (runs_as item) xs n a (λ m b to passes_too. one-run k.active xs st.admissions.lines st.admissions.runs st.admissions.sound.home item n m a b at to passes passes_too) at passes in
-        ap (λ (o : Option ℕ). is_number n (waiting xs item) || is_number n o) place ∙ second (is_number n (waiting xs item)) (eqb n n) (eq-eqb n n refl) where
-          second : (b c : Bool) → c ≡ true → (b || c) ≡ true
-          second true c is = refl
-          second false c is = is
+        ap (λ (o : Option ℕ). is_number n (waiting xs item) || is_number n o) place ∙ or_right (is_number n (waiting xs item)) (eqb n n) (eq-eqb n n refl)
     by_life a Ended at is of opens = absurd (cc)
     by_life a Dropped at is of opens = absurd (cc)
 

@@ -3,7 +3,7 @@ use Rattle.std.proofs.Common.{◌≡◌, ℕ, zero, suc, ◌≢◌, Bool, true, 
 use Rattle.std.specs.Cmp.{first_so, second_so}
 use Rattle.std.specs.List.{list_any}
 use Rattle.std.specs.Option.{option_map_or}
-use Rattle.std.proofs.lemmas.Bool.{eqb-true, false≢true, and_right}
+use Rattle.std.proofs.lemmas.Bool.{eqb-true, false≢true, and_right, or_right}
 use Rattle.std.proofs.lemmas.List.Elements.{All-head, All-tail, All-nil, All-cons, All-append}
 use Rattle.std.proofs.lemmas.List.Folds.{list_any-append, list_any_none}
 use Rattle.std.proofs.lemmas.List.Quantifiers.{position-Some}
@@ -111,11 +111,6 @@ cancelling-none xs marks item none = list_any_none (passes_at (runs_as item) xs)
   at m None is = refl
   at m (Some a) is = none m a is
 
--- a cancel of an item that runs
-or-true : (b c : Bool) → c ≡ true → (b || c) ≡ true
-or-true true c is = refl
-or-true false c is = is
-
 or-false : (b c : Bool) → c ≡ false → (b || c) ≡ b
 or-false true c is = refl
 or-false false c is = is
@@ -133,7 +128,7 @@ cancelling-drop xs marks item other =
 
 -- it is being cancelled then
 pub cancelling-cancel : (xs : List Admission) (marks : List ℕ) (item : ℕ) → is_some (running xs item) ≡ true → is_cancelling (map (drop_one item) xs) (remarked xs marks item) item ≡ true
-cancelling-cancel xs marks item runs = cancelling-drop xs marks item item ∙ or-true (is_cancelling xs marks item) _ (by (running xs item) refl runs) where
+cancelling-cancel xs marks item runs = cancelling-drop xs marks item item ∙ or_right (is_cancelling xs marks item) _ (by (running xs item) refl runs) where
   by : (o : Option ℕ) → running xs item ≡ o → is_some o ≡ true → list_any (passes_at (runs_as item) xs) (option_to_list o) ≡ true
   by None is runs = absurd (cc)
   by (Some n) is runs =

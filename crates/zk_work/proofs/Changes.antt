@@ -2,7 +2,7 @@
 use Rattle.std.proofs.Common.{◌≡◌, ℕ, zero, suc, ◌+◌, ◌≤◌, ◌≢◌, Bool, true, false, not, ◌&&◌, cond, eqb, ◌==◌, Some, List, [], ◌∷◌, length, map, slice_get, count_by, refl, sym, ap, ◌∙◌, add-zero, arith}
 use Rattle.std.specs.Cmp.{first_so, second_so}
 use Rattle.std.specs.List.{list_all}
-use Rattle.std.proofs.lemmas.Bool.{eqb-true, eq-eqb}
+use Rattle.std.proofs.lemmas.Bool.{eqb-true, eq-eqb, cond-false}
 use Rattle.std.proofs.lemmas.Bool.Decides.{nat_tests}
 use Rattle.std.proofs.lemmas.Option.{same_Some}
 use Rattle.zk_model_work.specs.declared.parts.Life.{Life}
@@ -17,10 +17,6 @@ use Rattle.zk_work.proofs.Tickets.{ticket, count-cons, none_behind, less_behind,
 
 -- an admission that ends or is dropped
 
-pub cond-same : {A : Type 0} (b : Bool) (x y : A) → b ≡ false → cond b x y ≡ y
-cond-same true x y is = absurd (cc)
-cond-same false x y is = refl
-
 not_waiting_for : (queue : ℕ) (a : Admission) (life : Life) → is_waiting life ≡ false → waits_for queue (with_life life a) ≡ false
 not_waiting_for queue a life is = by (eqb a.queue queue) where
   by : (b : Bool) → (b && is_waiting life) ≡ false
@@ -32,7 +28,7 @@ pub drop-none : (item : ℕ) (xs : List Admission) → count_by (waits_as item) 
 drop-none item [] none = refl
 drop-none item (x ∷ xs) none =
     let both = none_here (waits_as item) x xs none in
-    ap (λ (a : Admission). a ∷ map (drop_one item) xs) (cond-same (waits_as item x) (with_life Dropped x) x both.0) ∙ ap (λ (ys : List Admission). x ∷ ys) (drop-none item xs both.1)
+    ap (λ (a : Admission). a ∷ map (drop_one item) xs) (cond-false (waits_as item x) (with_life Dropped x) x both.0) ∙ ap (λ (ys : List Admission). x ∷ ys) (drop-none item xs both.1)
 
 -- the line without the item's ticket, by its first admission
 without-cond : (item : ℕ) (b : Bool) (t : Ticket) (ts : List Ticket) → without item (cond b (t ∷ ts) ts) ≡ cond b (cond (is_of item t) ts (t ∷ without item ts)) (without item ts)
@@ -87,7 +83,7 @@ without-drop item queue n (x ∷ xs) once =
       by true is same =
           let none = none_behind (waits_as item) x xs is once in
           dropped (eqb x.item item) (is_waiting x.life) (eqb x.queue queue) is (ap (tickets_from (n + 1) (waits_for queue)) (sym (drop-none item xs none))) same
-          ∙ sym (cond-same (waits_for queue (with_life Dropped x)) (ticket x n ∷ after) after (not_waiting_for queue x Dropped refl))
+          ∙ sym (cond-false (waits_for queue (with_life Dropped x)) (ticket x n ∷ after) after (not_waiting_for queue x Dropped refl))
       by false is same = kept (eqb x.item item) (is_waiting x.life) (eqb x.queue queue) is same
 
 -- an item's only waiting admission is taken up
@@ -96,7 +92,7 @@ pub without-begin : (item queue n : ℕ) (xs : List Admission) (m : ℕ) (a : Ad
 without-begin item queue n [] m a at waits once = absurd (cc)
 without-begin item queue n (x ∷ xs) zero a at waits once =
     let is : waits_as item x ≡ true = ap (waits_as item) (same_Some x a at) ∙ waits in
-    cond-same (waits_for queue (with_life Running x)) (ticket x n ∷ tickets_from (n + 1) (waits_for queue) xs) (tickets_from (n + 1) (waits_for queue) xs) (not_waiting_for queue x Running refl)
+    cond-false (waits_for queue (with_life Running x)) (ticket x n ∷ tickets_from (n + 1) (waits_for queue) xs) (tickets_from (n + 1) (waits_for queue) xs) (not_waiting_for queue x Running refl)
     ∙ sym (without-cond item (waits_for queue x) (ticket x n) (tickets_from (n + 1) (waits_for queue) xs)
     ∙ taken (eqb x.item item) (is_waiting x.life) (eqb x.queue queue) is (without-none item queue (n + 1) xs (none_behind (waits_as item) x xs is once))) where
       rest : List Ticket

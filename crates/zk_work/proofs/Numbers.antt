@@ -3,7 +3,7 @@ use Rattle.std.proofs.Common.{◌≡◌, ℕ, zero, suc, ◌+◌, ◌≤◌, Boo
 use Rattle.std.specs.Cmp.{first_so, second_so}
 use Rattle.std.specs.List.{position, list_any}
 use Rattle.std.specs.Option.{option_map_or, option_or}
-use Rattle.std.proofs.lemmas.Bool.{eqb-true, eq-eqb, false≢true, and_from}
+use Rattle.std.proofs.lemmas.Bool.{eqb-true, eq-eqb, false≢true, and_from, or_right, or_left}
 use Rattle.std.proofs.lemmas.List.Folds.{list_any_none}
 use Rattle.std.proofs.lemmas.List.Quantifiers.{position-Some}
 use Rattle.std.proofs.lemmas.Option.{same_Some, slice_get-get_or}
@@ -77,32 +77,24 @@ any_at p (x ∷ xs) d is = by (p x) refl is (any_at p xs d) where
   by true passes is behind = (0, passes)
   by false passes is behind = let further = behind is in (suc further.0, further.1)
 
-or-either : (b c : Bool) → c ≡ true → (b || c) ≡ true
-or-either true c is = refl
-or-either false c is = is
-
-or-left : (b c : Bool) → b ≡ true → (b || c) ≡ true
-or-left true c is = refl
-or-left false c is = absurd (cc)
-
 any_from : {A : Type 0} (p : A → Bool) (xs : List A) (i : ℕ) (d : A) → p d ≡ false → p (get_or xs i d) ≡ true → list_any p xs ≡ true
 any_from p [] i d none is = absurd (false≢true (sym none ∙ is))
-any_from p (x ∷ xs) zero d none is = or-left (p x) (list_any p xs) is
-any_from p (x ∷ xs) (suc i) d none is = or-either (p x) (list_any p xs) (any_from p xs i d none is)
+any_from p (x ∷ xs) zero d none is = or_left (p x) (list_any p xs) is
+any_from p (x ∷ xs) (suc i) d none is = or_right (p x) (list_any p xs) (any_from p xs i d none is)
 
 -- an admission that passes has its ticket
 ticket-any : (n : ℕ) (p : Admission → Bool) (xs : List Admission) (m : ℕ) (a : Admission) → slice_get xs m ≡ Some a → p a ≡ true → list_any (has_number (n + m)) (tickets_from n p xs) ≡ true
 ticket-any n p [] m a at passes = absurd (cc)
 ticket-any n p (x ∷ xs) zero a at passes = by (p x) (ap p (same_Some x a at) ∙ passes) where
   by : (b : Bool) → b ≡ true → list_any (has_number (n + 0)) (cond b (ticket x n ∷ tickets_from (n + 1) p xs) (tickets_from (n + 1) p xs)) ≡ true
-  by true is = or-left (eqb n (n + 0)) (list_any (has_number (n + 0)) (tickets_from (n + 1) p xs)) (eq-eqb n (n + 0) (sym (add-zero n)))
+  by true is = or_left (eqb n (n + 0)) (list_any (has_number (n + 0)) (tickets_from (n + 1) p xs)) (eq-eqb n (n + 0) (sym (add-zero n)))
   by false is = absurd (cc)
 ticket-any n p (x ∷ xs) (suc m) a at passes =
     let next : (n + 1) + m ≡ n + suc m = omega arith in
     by (p x) (subst (λ k. list_any (has_number k) (tickets_from (n + 1) p xs) ≡ true) next (ticket-any (n + 1) p xs m a at passes)) where
       by : (b : Bool) → list_any (has_number (n + suc m)) (tickets_from (n + 1) p xs) ≡ true →
           list_any (has_number (n + suc m)) (cond b (ticket x n ∷ tickets_from (n + 1) p xs) (tickets_from (n + 1) p xs)) ≡ true
-      by true is = or-either (eqb n (n + suc m)) (list_any (has_number (n + suc m)) (tickets_from (n + 1) p xs)) is
+      by true is = or_right (eqb n (n + suc m)) (list_any (has_number (n + suc m)) (tickets_from (n + 1) p xs)) is
       by false is = is
 
 -- where at most one passes, it has one place
@@ -179,12 +171,12 @@ module _ (o : Open) (xs : List Admission) (lines : (queue : ℕ) → line o queu
         let on = and_from (eqb a.queue a.queue) (is_waiting a.life) (eq-eqb a.queue a.queue refl) (ap is_waiting is) in
         let zero_first : 0 + number ≡ number = omega arith in
         let has = subst (λ n. list_any (has_number n) (tickets (waits_for a.queue) xs) ≡ true) zero_first (ticket-any 0 (waits_for a.queue) xs number a at on) in
-        or-either (list_any (runs_number number) o.runs) (list_any (list_any (has_number number)) o.lines)
+        or_right (list_any (runs_number number) o.runs) (list_any (list_any (has_number number)) o.lines)
         (any_from (list_any (has_number number)) o.lines a.queue [] refl (ap (list_any (has_number number)) (lines a.queue) ∙ has))
     by_life a Running at is opens =
         let on = and_from (eqb a.queue a.queue) (is_running a.life) (eq-eqb a.queue a.queue refl) (ap is_running is) in
         let it = run_of (run o a.queue) a.queue xs number a (runs a.queue) at on in
-        or-left (list_any (runs_number number) o.runs) (list_any (list_any (has_number number)) o.lines)
+        or_left (list_any (runs_number number) o.runs) (list_any (list_any (has_number number)) o.lines)
         (any_from (runs_number number) o.runs a.queue None refl (ap (runs_number number) it ∙ eq-eqb number number refl))
     by_life a Ended at is opens = absurd (cc)
     by_life a Dropped at is opens = absurd (cc)

@@ -6,7 +6,6 @@ use Rattle.std.proofs.lemmas.Option.{same_Some}
 use Rattle.zk_base.specs.declared.ids.Who.{Who}
 use Rattle.zk_model_work.specs.declared.parts.Admission.{Admission}
 use Rattle.zk_model_work.specs.declared.parts.Queue.{Queue}
-use Rattle.zk_model_work.specs.declared.ops.WorkReply.{WorkReply}
 use Rattle.zk_model_work.specs.declared.ops.WorkReply.TheVariants.{Done, Run}
 use Rattle.zk_model_work.specs.Lists.{first}
 use Rattle.zk_model_work.specs.declared.parts.Item.{Item}
@@ -84,10 +83,6 @@ module _ (k : EngineState) (s : State) (st : StandsFor k s) where
         only : (o : Option Ticket) → option_map (λ (t : Ticket). t.number) (first (option_to_list o)) ≡ option_map (λ (t : Ticket). t.number) o
         only None = refl
         only (Some t) = refl
-
-none-if : (b : Bool) (o : Option WorkReply) → o ≡ None → cond b o None ≡ None
-none-if true o none = none
-none-if false o none = refl
 
 -- what is taken up
 taken-same : (queue : ℕ) (xs : List Admission) → option_map (λ (t : Ticket). Run t.item t.number) (first (tickets (waits_for queue) xs)) ≡ taken_up xs queue

@@ -3,6 +3,7 @@ use Rattle.std.proofs.Common.{◌≡◌, ℕ, ◌+◌, ◌-◌, ◌^◌, ◌<◌
 use Rattle.std.specs.Cmp.{first_so}
 use Rattle.std.specs.Option.{option_map_or}
 use Rattle.std.proofs.lemmas.Bool.{ltb-true}
+use Rattle.zk_base.proofs.Lists.{cond_chosen}
 use Rattle.zk_base.specs.declared.ids.Who.{Who}
 use Rattle.zk_model_work.specs.declared.ops.WorkOp.{WorkOp}
 use Rattle.zk_model_work.specs.declared.ops.WorkOp.TheVariants.{Submit, Cancel, CancelStart, CancelDone, FlushStart, FlushDone, Schedule, Reschedule, Remaining, Start, DrainStart, DrainDone, Unplug, Announce, Begin, End}
@@ -105,10 +106,6 @@ reply-same k s who (Announce ticks) st range few = ap (λ (r : WorkReply). Some 
 reply-same k s who (Begin queue) st range few = begin-same k s st who queue
 reply-same k s who (End queue) st range few = end-same k s st who queue
 
-chosen : (b : Bool) (o : Option WorkReply) (reply : WorkReply) → cond b o None ≡ Some reply → o ≡ Some reply
-chosen true o reply is = is
-chosen false o reply is = absurd (cc)
-
 -- the state
 pub next-stands : (k : EngineState) (s : State) (who : Who) (op : WorkOp) (reply : WorkReply) → StandsFor k s → is_among s.items (length s.queues) op ≡ true → s.entries < 2 ^ 32 - 1 → IsTimely op → reply_of k who op ≡ Some reply →
     StandsFor (entered k who op) (work_next s who op)
@@ -142,7 +139,7 @@ next-stands k s who (Unplug queue) reply st range few timely is = change-stands 
 next-stands k s who (Announce ticks) reply st range few timely is = announced-stands k s ticks st few timely
 next-stands k s who (Begin queue) reply st range few timely is =
     by (active.run k.active queue) (first (active.line k.active queue)) refl refl
-    (chosen (is_worker k.queues queue who.number) (option_map (λ (t : Ticket). Run t.item t.number) (active.next k.active queue)) reply is) where
+    (cond_chosen (is_worker k.queues queue who.number) (option_map (λ (t : Ticket). Run t.item t.number) (active.next k.active queue)) reply is).1 where
       lowest : (t : Ticket) → first (active.line k.active queue) ≡ Some t → first (line s.admissions queue) ≡ Some t.number
       lowest t is =
           sym (first_of_places (waits_for queue) s.admissions) ∙ position-first (waits_for queue) s.admissions
@@ -158,7 +155,7 @@ next-stands k s who (Begin queue) reply st range few timely is =
           (record s { admissions = option_map_or (λ number. set_life s.admissions number Running) o s.admissions; entries = s.entries + 1 })) (sym (lowest t first_is))
           (begin-stands k s queue t st (ltb-true queue (length s.queues) range) few idle first_is)
 next-stands k s who (End queue) reply st range few timely is =
-    by (active.run k.active queue) refl (chosen (is_worker k.queues queue who.number) (option_map (λ (t : Ticket). Done) (active.run k.active queue)) reply is) where
+    by (active.run k.active queue) refl (cond_chosen (is_worker k.queues queue who.number) (option_map (λ (t : Ticket). Done) (active.run k.active queue)) reply is).1 where
       by : (r : Option Ticket) → active.run k.active queue ≡ r → option_map (λ (t : Ticket). Done) r ≡ Some reply →
           StandsFor (record (option_map_or (λ (t : Ticket). record (settled k (active.mark (active.end k.active queue) t.item 0)) { running = k.running - 1 }) r k) { entries = k.entries + 1 }) (work_next s who (End queue))
       by None run is = absurd (cc)

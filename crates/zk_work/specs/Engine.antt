@@ -63,7 +63,8 @@ settled k o = record k { active = o; queues = settle_from (is_idle o) 0 k.queues
 -- the queue's run is over, and its item has no marks
 abbrev pub ended : EngineState → ℕ → EngineState
 ended k queue =
-    option_map_or (λ t. record (settled k (mark (end k.active queue) t.item 0)) { running = k.running - 1 }) (run k.active queue) k
+    option_map_or (λ t. record (settled k (mark (end k.active queue) t.item 0)) { running = k.running - 1 })
+    (run k.active queue) k
 
 -- the item isn't armed
 abbrev pub disarmed : EngineState → ℕ → EngineState
@@ -92,7 +93,8 @@ schedule_reply_in k who item queue delay =
 abbrev pub hurried : EngineState → Who → ℕ → EngineState
 hurried k who item =
     let d = disarmed k item in
-    option_map_or (λ queue. submitted d item (answer_of d (Some who.number) item (Some queue))) (queue_of k.timeouts item) d
+    option_map_or (λ queue. submitted d item (answer_of d (Some who.number) item (Some queue)))
+    (queue_of k.timeouts item) d
 
 -- what becomes of the item of a timeout
 abbrev pub expiry_of : EngineState → Timeout → Expiry
@@ -102,7 +104,8 @@ expiry_of k t = record { item = t.item; submitted = answer_of k None t.item (Som
 abbrev pub expired_next : ℕ → EngineState → EngineState
 expired_next time k =
     let rest = record k { timeouts = drop_due k.timeouts time } in
-    option_map_or (λ t. submitted rest t.item (answer_of k None t.item (Some t.queue))) (due_first time k.timeouts.live) k
+    option_map_or (λ t. submitted rest t.item (answer_of k None t.item (Some t.queue)))
+    (due_first time k.timeouts.live) k
 
 -- after so many of them
 abbrev pub expired : ℕ → ℕ → EngineState → EngineState
@@ -118,7 +121,9 @@ told (suc n) time k =
 
 -- after so many ticks more, and all that is due by then
 abbrev pub announced : EngineState → ℕ → EngineState
-announced k ticks = let time = k.time + ticks in record (expired (count_due k.timeouts time) time k) { time = time }
+announced k ticks =
+    let time = k.time + ticks in
+    record (expired (count_due k.timeouts time) time k) { time = time }
 
 -- what an announce is answered
 abbrev pub announce_reply : EngineState → ℕ → WorkReply

@@ -18,7 +18,9 @@ use Rattle.zk_queue.specs.declared.ticket.Ticket.{Ticket}
 use Rattle.zk_queue.specs.Open.{Open, line, run, marks_of, IsAbove}
 use Rattle.zk_work.specs.Tickets.{tickets}
 
--- what the engine keeps: the ticks, the entries and the admissions so far, how many runs are open, the queue of each item's last admission, the open admissions, the items that are armed, the waits that aren't answered, and the queues
+-- what the engine keeps: the ticks, the entries and the admissions so far, how many runs are open,
+-- the queue of each item's last admission, the open admissions, the items that are armed,
+-- the waits that aren't answered, and the queues
 pub record EngineState : Type 0 where
   pub time : ℕ
   pub entries : ℕ
@@ -50,7 +52,8 @@ pub record IsSound (items : ℕ) (admissions : List Admission) (marks : List ℕ
   -- an item waits at most once
   pub once : (item : ℕ) → count_by (waits_as item) admissions ≤ 1
   -- an admission that waits or runs is to the queue of its item's last one
-  pub home : (number : ℕ) (a : Admission) → slice_get admissions number ≡ Some a → is_open a.life ≡ true → last_queue admissions a.item ≡ Some a.queue
+  pub home : (number : ℕ) (a : Admission) → slice_get admissions number ≡ Some a → is_open a.life ≡ true →
+      last_queue admissions a.item ≡ Some a.queue
   -- what a cancel has marked doesn't wait
   pub marked : All (λ number. is_past_waiting admissions number ≡ true) marks
 
@@ -64,7 +67,8 @@ is_begun Running = true
 is_begun Ended = true
 is_begun _ = false
 
--- what is awaited is there: the run that a sync cancel found has begun; the admission of a flush was made, and is over where the flush is answered
+-- what is awaited is there: the run that a sync cancel found has begun;
+-- the admission of a flush was made, and is over where the flush is answered
 abbrev pub is_there : List Admission → Awaited → Bool → Bool
 is_there admissions (Cancel number) answered = passes_at (λ a. is_begun a.life) admissions number
 is_there admissions (Flush number) answered = passes_at (λ a. not (answered && is_open a.life)) admissions number

@@ -22,6 +22,9 @@ use zk_model_work::{
 use zk_queue::Queues;
 use zk_time::TimeoutList;
 
+/// What an operation answers, where there is memory: its reply, where it is possible.
+type Replied = Result<Option<WorkReply>, NoMemory>;
+
 /// What the work service computes and keeps: the open admissions, and of all others only how many
 /// there were, and to which queue the last one of each item was.
 #[derive(Drop)]
@@ -161,7 +164,8 @@ impl WorkEngine {
         requires whole { IsWhole self.now.state }
         requires item { item < self.now.state.active.items }
         ensures answer { result ≡ answer_of self.now.state caller item named }
-        ensures admits { (queue : ℕ) → admitted_to result ≡ Some queue → MayAdmit self.now.state item queue }
+        ensures admits { (queue : ℕ) → admitted_to result
+            ≡ Some queue → MayAdmit self.now.state item queue }
     {
         submission(self.item(item), &self.queues, caller, named)
     }
@@ -183,7 +187,8 @@ impl WorkEngine {
     fn admit_if(&mut self, item: u32, answer: Submitted)
         requires whole { IsWhole self.old.state }
         requires item { item < self.old.state.active.items }
-        requires may { (queue : ℕ) → admitted_to answer ≡ Some queue → MayAdmit self.old.state item queue }
+        requires may { (queue : ℕ) → admitted_to answer
+            ≡ Some queue → MayAdmit self.old.state item queue }
         ensures next { self.new.state ≡ submitted self.old.state item answer }
         ensures whole { self.old.state.made + length self.old.state.timeouts.live < self.old.state.entries →
             IsWhole self.new.state }
@@ -200,7 +205,8 @@ impl WorkEngine {
         requires whole { IsWhole self.old.state }
         requires item { item < self.old.state.active.items }
         ensures reply { result ≡ reply_of self.old.state who (WorkOp.Submit item named) }
-        ensures next { self.new.state ≡ after_reply self.old.state who (WorkOp.Submit item named) result }
+        ensures next { self.new.state
+            ≡ after_reply self.old.state who (WorkOp.Submit item named) result }
         ensures room { self.new.room ≡ self.old.room }
     {
         let answer = self.answer(Some(who.number), item, named);
@@ -234,7 +240,7 @@ impl WorkEngine {
         Some(WorkReply::Flags(self.flags(item).bits()))
     }
 
-    fn cancel_start(&mut self, who: Who, item: u32) -> Result<Option<WorkReply>, NoMemory>
+    fn cancel_start(&mut self, who: Who, item: u32) -> Replied
         requires whole { IsWhole self.old.state }
         requires item { item < self.old.state.active.items }
         ensures reply { IfOk result (λ reply.
@@ -257,7 +263,7 @@ impl WorkEngine {
         Ok(Some(cancel_start_reply(flags.bits(), run.is_some())))
     }
 
-    fn flush_start(&mut self, who: Who, item: u32) -> Result<Option<WorkReply>, NoMemory>
+    fn flush_start(&mut self, who: Who, item: u32) -> Replied
         requires whole { IsWhole self.old.state }
         requires item { item < self.old.state.active.items }
         ensures reply { IfOk result (λ reply.
@@ -339,7 +345,8 @@ impl WorkEngine {
         requires item { item < self.old.state.active.items }
         requires short { self.old.state.entries < 2 ^ 32 - 1 }
         ensures reply { result ≡ reply_of self.old.state who (WorkOp.Schedule item queue delay) }
-        ensures next { self.new.state ≡ after_reply self.old.state who (WorkOp.Schedule item queue delay) result }
+        ensures next { self.new.state
+            ≡ after_reply self.old.state who (WorkOp.Schedule item queue delay) result }
         ensures timely { delay < 2 ^ 32 }
         ensures room { self.new.room ≡ self.old.room }
     {
@@ -357,7 +364,8 @@ impl WorkEngine {
         requires item { item < self.old.state.active.items }
         requires short { self.old.state.entries < 2 ^ 32 - 1 }
         ensures reply { result ≡ reply_of self.old.state who (WorkOp.Reschedule item queue delay) }
-        ensures next { self.new.state ≡ after_reply self.old.state who (WorkOp.Reschedule item queue delay) result }
+        ensures next { self.new.state
+            ≡ after_reply self.old.state who (WorkOp.Reschedule item queue delay) result }
         ensures timely { delay < 2 ^ 32 }
         ensures room { self.new.room ≡ self.old.room }
     {
@@ -370,7 +378,8 @@ impl WorkEngine {
     fn remaining(&mut self, who: Who, item: u32) -> Option<WorkReply>
         requires whole { IsWhole self.old.state }
         ensures reply { result ≡ reply_of self.old.state who (WorkOp.Remaining item) }
-        ensures next { self.new.state ≡ after_reply self.old.state who (WorkOp.Remaining item) result }
+        ensures next { self.new.state
+            ≡ after_reply self.old.state who (WorkOp.Remaining item) result }
         ensures room { self.new.room ≡ self.old.room }
     {
         let remaining = remaining(self.timeouts.deadline(item), self.time);
@@ -382,7 +391,8 @@ impl WorkEngine {
     fn take_due(&mut self, time: u64) -> Option<(u32, u32)>
         requires whole { IsWhole self.old.state }
         ensures reply { result ≡ option_map pair_of (due_first time self.old.state.timeouts.live) }
-        ensures next { self.new.state ≡ record self.old.state { timeouts = drop_due self.old.state.timeouts time } }
+        ensures next { self.new.state
+            ≡ record self.old.state { timeouts = drop_due self.old.state.timeouts time } }
         ensures whole { IsWhole self.new.state }
         ensures known { IfSome result (λ t. t.0 < self.old.state.active.items) }
         ensures room { self.new.room ≡ self.old.room }
@@ -394,7 +404,8 @@ impl WorkEngine {
     fn expire_next(&mut self, time: u64) -> Expiry
         requires whole { IsWhole self.old.state }
         requires due { is_some (due_first time self.old.state.timeouts.live) ≡ true }
-        ensures expiry { Some result ≡ option_map (expiry_of self.old.state) (due_first time self.old.state.timeouts.live) }
+        ensures expiry { Some result
+            ≡ option_map (expiry_of self.old.state) (due_first time self.old.state.timeouts.live) }
         ensures next { self.new.state ≡ expired_next time self.old.state }
         ensures whole { IsWhole self.new.state }
         ensures room { self.new.room ≡ self.old.room }
@@ -413,9 +424,12 @@ impl WorkEngine {
         requires room { count_due self.old.state.timeouts time ≤ vec_capacity expiries.old }
         requires copy { count_due self.old.state.timeouts time ≤ vec_capacity copy.old }
         requires none { (expiries.old.items ≡ []) × (copy.old.items ≡ []) }
-        ensures next { self.new.state ≡ expired (count_due self.old.state.timeouts time) time self.old.state }
-        ensures told { expiries.new.items ≡ told (count_due self.old.state.timeouts time) time self.old.state }
-        ensures copy { copy.new.items ≡ told (count_due self.old.state.timeouts time) time self.old.state }
+        ensures next { self.new.state
+            ≡ expired (count_due self.old.state.timeouts time) time self.old.state }
+        ensures told { expiries.new.items
+            ≡ told (count_due self.old.state.timeouts time) time self.old.state }
+        ensures copy { copy.new.items
+            ≡ told (count_due self.old.state.timeouts time) time self.old.state }
         ensures entries { self.new.state.entries ≡ self.old.state.entries }
         ensures room { self.new.room ≡ self.old.room }
     {
@@ -429,7 +443,8 @@ impl WorkEngine {
     /// It is this time from now on, at an entry that is counted.
     fn set_time(&mut self, time: u64)
         requires short { self.old.state.entries < 2 ^ 32 - 1 }
-        ensures next { self.new.state ≡ record self.old.state { time = time; entries = self.old.state.entries + 1 } }
+        ensures next { self.new.state
+            ≡ record self.old.state { time = time; entries = self.old.state.entries + 1 } }
         ensures room { self.new.room ≡ self.old.room }
     {
         self.time = time;
@@ -442,9 +457,10 @@ impl WorkEngine {
         requires short { self.old.state.entries < 2 ^ 32 - 1 }
         ensures reply { IfOk result (λ two. two.0 ≡ announce_reply self.old.state ticks) }
         ensures twice { IfOk result (λ two. two.1 ≡ two.0) }
-        ensures next { IfOk result (λ two. self.new.state ≡ record (announced self.old.state ticks) {
-          entries = self.old.state.entries + 1;
-        }) }
+        ensures next { IfOk result (λ two. self.new.state
+            ≡ record (announced self.old.state ticks) {
+              entries = self.old.state.entries + 1;
+            }) }
         ensures unchanged { OnErr result (self.new.state ≡ self.old.state) }
         ensures timely { ticks < 2 ^ 32 }
         ensures room { self.new.room ≡ self.old.room }
@@ -462,12 +478,7 @@ impl WorkEngine {
         ))
     }
 
-    fn drain_start(
-        &mut self,
-        who: Who,
-        queue: u32,
-        plug: bool,
-    ) -> Result<Option<WorkReply>, NoMemory>
+    fn drain_start(&mut self, who: Who, queue: u32, plug: bool) -> Replied
         requires whole { IsWhole self.old.state }
         requires queue { queue < self.old.state.active.queues }
         ensures reply { IfOk result (λ reply.
@@ -516,7 +527,8 @@ impl WorkEngine {
     fn cancel_done(&mut self, who: Who, place: u64) -> Option<WorkReply>
         requires whole { IsWhole self.old.state }
         ensures reply { result ≡ reply_of self.old.state who (WorkOp.CancelDone place) }
-        ensures next { self.new.state ≡ after_reply self.old.state who (WorkOp.CancelDone place) result }
+        ensures next { self.new.state
+            ≡ after_reply self.old.state who (WorkOp.CancelDone place) result }
         ensures room { self.old.room ≤ self.new.room }
     {
         if !self.may_close(Closing::Cancel, who, place) {
@@ -529,7 +541,8 @@ impl WorkEngine {
     fn flush_done(&mut self, who: Who, place: u64) -> Option<WorkReply>
         requires whole { IsWhole self.old.state }
         ensures reply { result ≡ reply_of self.old.state who (WorkOp.FlushDone place) }
-        ensures next { self.new.state ≡ after_reply self.old.state who (WorkOp.FlushDone place) result }
+        ensures next { self.new.state
+            ≡ after_reply self.old.state who (WorkOp.FlushDone place) result }
         ensures room { self.old.room ≤ self.new.room }
     {
         if !self.may_close(Closing::Flush, who, place) {
@@ -542,7 +555,8 @@ impl WorkEngine {
     fn drain_done(&mut self, who: Who, place: u64) -> Option<WorkReply>
         requires whole { IsWhole self.old.state }
         ensures reply { result ≡ reply_of self.old.state who (WorkOp.DrainDone place) }
-        ensures next { self.new.state ≡ after_reply self.old.state who (WorkOp.DrainDone place) result }
+        ensures next { self.new.state
+            ≡ after_reply self.old.state who (WorkOp.DrainDone place) result }
         ensures room { self.old.room ≤ self.new.room }
     {
         if !self.may_close(Closing::Drain, who, place) {
@@ -555,7 +569,8 @@ impl WorkEngine {
     fn unplug(&mut self, who: Who, queue: u32) -> Option<WorkReply>
         requires whole { IsWhole self.old.state }
         ensures reply { result ≡ reply_of self.old.state who (WorkOp.Unplug queue) }
-        ensures next { self.new.state ≡ after_reply self.old.state who (WorkOp.Unplug queue) result }
+        ensures next { self.new.state
+            ≡ after_reply self.old.state who (WorkOp.Unplug queue) result }
         ensures room { self.new.room ≡ self.old.room }
     {
         let reply = unplug_reply(&self.queues, queue);
@@ -611,9 +626,10 @@ impl WorkEngine {
     }
 
     /// One operation that isn't an announce.
-    fn operate(&mut self, who: Who, op: &WorkOp) -> Result<Option<WorkReply>, NoMemory>
+    fn operate(&mut self, who: Who, op: &WorkOp) -> Replied
         requires whole { IsWhole self.old.state }
-        requires range { is_among self.old.state.active.items self.old.state.active.queues op.now ≡ true }
+        requires range { is_among self.old.state.active.items self.old.state.active.queues op.now
+            ≡ true }
         requires short { self.old.state.entries < 2 ^ 32 - 1 }
         requires plain { work_grows op.now ≡ false }
         ensures reply { IfOk result (λ reply. reply ≡ reply_of self.old.state who op.now) }
