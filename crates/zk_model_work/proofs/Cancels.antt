@@ -24,7 +24,7 @@ use Rattle.zk_model_work.specs.Lists.{first}
 use Rattle.zk_model_work.specs.Questions.{is_waiting, is_running, is_open, waits_as, runs_as, line, waiting, running, passes_at, is_cancelling}
 use Rattle.zk_model_work.specs.State.{State}
 use Rattle.zk_model_work.specs.Machine.{work_next, work_machine, submission, submission_at, target, submit, admitted_to, disarm, drop_one, drop_waiting, set_life, with_life, begin, end_one, end_run}
-use Rattle.zk_model_work.specs.Laws.{OfEach, submitter, made_after, Cancels, NoneWaitsAfterCancel, NoneWaitsDuringCancel, NoneMadeDuringCancel, BegunMadeAfterCancel, BegunMadeAfterRun}
+use Rattle.zk_model_work.specs.Laws.{OfEach, submitter, made_after, Cancels, NoneWaitsAfterCancel, NoneMadeDuringCancel, BegunMadeAfterCancel, BegunMadeAfterRun}
 use Rattle.zk_model_work.proofs.Lives.{Keeps, Kept, Kept-next, Kept-after}
 use Rattle.zk_model_work.proofs.Moves.{Stays, pushed, still-map, admissions-next, schedule-keeps, delayed-keeps}
 use Rattle.zk_model_work.proofs.Begins.{alive, Replays-parts}
@@ -260,17 +260,11 @@ During-entry s who op item number is found = record {
 }
 
 pub none_waits_after_cancel : OfEach NoneWaitsAfterCancel
-none_waits_after_cancel start h fresh front rest e item number a parts op at item_is =
-    let s = state_after work_machine start front in
-    NoneWaits-entry s e.who e.op item op number a (sym (ap (λ (u : State). slice_get u.admissions number) (state_after-append work_machine start front (e ∷ []))) ∙ at) item_is
-
-pub none_waits_during_cancel : OfEach NoneWaitsDuringCancel
-none_waits_during_cancel start h fresh front during e item run number a parts op found still at item_is =
-    let s = state_after work_machine start front in
-    let c = work_next s e.who e.op in
-    let same : state_after work_machine start h ≡ state_after work_machine c during = ap (state_after work_machine start) parts ∙ state_after-append work_machine start front (e ∷ during) in
-    let it = During-after c during item run (sym (ap (λ (u : State). life_at u run) same) ∙ still) (During-entry s e.who e.op item run op found) in
-    it.none number a (sym (ap (λ (u : State). slice_get u.admissions number) same) ∙ at) item_is
+none_waits_after_cancel start h fresh = record {
+  each = λ front rest e parts item number a op at item_is.
+      let s = state_after work_machine start front in
+      NoneWaits-entry s e.who e.op item op number a (sym (ap (λ (u : State). slice_get u.admissions number) (state_after-append work_machine start front (e ∷ []))) ∙ at) item_is;
+}
 
 pub none_made_during_cancel : OfEach NoneMadeDuringCancel
 none_made_during_cancel start h fresh front during rest e next item run number a parts op found still makes item_is =

@@ -197,15 +197,19 @@ live-next s who op n a silent live at =
       as_it_was others = at ∙ ap (λ b. Some (cond b (record a { fate = Disarmed }) a)) (sym (others a.item))
 
 pub disarmed_when_given_up : OfEach DisarmedWhenGivenUp
-disarmed_when_given_up start h fresh front rest e place a parts silent at live =
-    let s = state_after work_machine start front in
-    ap (λ (u : State). slice_get u.arms place) (state_after-append work_machine start front (e ∷ [])) ∙ live-next s e.who e.op place a silent (ap is_live live) at
+disarmed_when_given_up start h fresh = record {
+  each = λ front rest e parts place a silent at live.
+      let s = state_after work_machine start front in
+      ap (λ (u : State). slice_get u.arms place) (state_after-append work_machine start front (e ∷ [])) ∙ live-next s e.who e.op place a silent (ap is_live live) at;
+}
 
 pub expires_when_due : OfEach ExpiresWhenDue
-expires_when_due start h fresh front rest e ticks place a parts op at live =
-    let s = state_after work_machine start front in
-    let same : state_after work_machine start (front ++ e ∷ []) ≡ work_next s e.who (Announce ticks) = state_after-append work_machine start front (e ∷ []) ∙ ap (work_next s e.who) op in
-    subst (λ (u : State). slice_get u.arms place ≡ Some (cond (leb a.deadline u.time) (record a { fate = Expired }) a)) (sym same) (live-expire s.arms (s.time + ticks) place a (ap is_live live) at)
+expires_when_due start h fresh = record {
+  each = λ front rest e parts ticks place a op at live.
+      let s = state_after work_machine start front in
+      let same : state_after work_machine start (front ++ e ∷ []) ≡ work_next s e.who (Announce ticks) = state_after-append work_machine start front (e ∷ []) ∙ ap (work_next s e.who) op in
+      subst (λ (u : State). slice_get u.arms place ≡ Some (cond (leb a.deadline u.time) (record a { fate = Expired }) a)) (sym same) (live-expire s.arms (s.time + ticks) place a (ap is_live live) at);
+}
 
 -- an announce tells the items of the arms that are due, in order
 told_items : (marks : List ℕ) (queues : List Queue) (arms : List Arm) (xs : List Admission) → map (λ (x : Expiry). x.item) (expiries marks queues arms xs) ≡ map (λ (a : Arm). a.item) arms
@@ -217,16 +221,18 @@ same_now : (time time' : ℕ) (told told' : List Expiry) (reply : WorkReply) →
 same_now time time' told told' reply one other = (cc, cc)
 
 pub expire_in_order : OfEach ExpireInOrder
-expire_in_order start h fresh front rest e ticks time told parts op reply =
-    let s = state_after work_machine start front in
-    let same = state_after-append work_machine start front (e ∷ []) in
-    let replied : work_reply s e.who (Announce ticks) ≡ Some e.reply = ap (work_reply s e.who) (sym op) ∙ (Replays-rest work_machine start front (e ∷ rest) (Replays-parts start h (front ++ e ∷ rest) fresh parts)).0 in
-    let ended : List Expiry = expiries s.marks s.queues (due (s.time + ticks) s.arms) s.admissions in
-    let is = same_now time (s.time + ticks) told ended e.reply (same_Some (Now (s.time + ticks) ended) e.reply replied) reply in
-    let after : time_after start (front ++ e ∷ []) ≡ s.time + ticks = ap (λ (u : State). u.time) same ∙ ap (λ o. (work_next s e.who o).time) op in (
-      is.0 ∙ sym after,
-      ap (map (λ (x : Expiry). x.item)) is.1 ∙ told_items s.marks s.queues (due (s.time + ticks) s.arms) s.admissions ∙ ap (λ t. map (λ (a : Arm). a.item) (due t s.arms)) (sym is.0),
-    )
+expire_in_order start h fresh = record {
+  each = λ front rest e parts ticks time told op reply.
+      let s = state_after work_machine start front in
+      let same = state_after-append work_machine start front (e ∷ []) in
+      let replied : work_reply s e.who (Announce ticks) ≡ Some e.reply = ap (work_reply s e.who) (sym op) ∙ (Replays-rest work_machine start front (e ∷ rest) (Replays-parts start h (front ++ e ∷ rest) fresh parts)).0 in
+      let ended : List Expiry = expiries s.marks s.queues (due (s.time + ticks) s.arms) s.admissions in
+      let is = same_now time (s.time + ticks) told ended e.reply (same_Some (Now (s.time + ticks) ended) e.reply replied) reply in
+      let after : time_after start (front ++ e ∷ []) ≡ s.time + ticks = ap (λ (u : State). u.time) same ∙ ap (λ o. (work_next s e.who o).time) op in (
+        is.0 ∙ sym after,
+        ap (map (λ (x : Expiry). x.item)) is.1 ∙ told_items s.marks s.queues (due (s.time + ticks) s.arms) s.admissions ∙ ap (λ t. map (λ (a : Arm). a.item) (due t s.arms)) (sym is.0),
+      );
+}
 
 -- where an item isn't pending, a schedule is a reschedule
 same-map : (f : Arm → Arm) (xs : List Arm) → ((n : ℕ) (a : Arm) → slice_get xs n ≡ Some a → f a ≡ a) → map f xs ≡ xs

@@ -3,11 +3,15 @@ pub mod Cancels
 pub mod Counts
 pub mod Delays
 pub mod Drains
+pub mod Entries
+pub mod Found
 pub mod Lines
 pub mod Lives
 pub mod Moves
 pub mod Outcomes
 pub mod Overlaps
+pub mod Queues
+pub mod Replies
 pub mod Singles
 pub mod Weights
 pub mod Writes

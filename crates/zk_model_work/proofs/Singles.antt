@@ -25,7 +25,7 @@ use Rattle.zk_model_work.proofs.Begins.{Begun-reply}
 use Rattle.zk_model_work.proofs.Overlaps.{position-none, and-true, Ordered-history, Taken, taken, begin-is, idle-begin}
 use Rattle.zk_model_work.proofs.Outcomes.{waits_is}
 
-runs_is : (life : Life) → is_running life ≡ true → life ≡ Running
+pub runs_is : (life : Life) → is_running life ≡ true → life ≡ Running
 runs_is Waiting r = absurd (cc)
 runs_is Running r = refl
 runs_is Ended r = absurd (cc)

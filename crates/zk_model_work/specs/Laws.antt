@@ -1,39 +1,50 @@
-use Rattle.std.specs.Prelude.{◌≡◌, ℕ, ◌<◌, ◌≤◌, ◌⊎◌, Bool, true, false, ◌==◌, nat_le, if◌then◌else◌, count_by, Option, Some, None, option_map, List, [], ◌∷◌, ◌++◌, length, map, slice_get, All}
+use Rattle.std.specs.Prelude.{◌≡◌, ℕ, ◌+◌, ◌-◌, ◌<◌, ◌≤◌, ◌⊎◌, Bool, true, false, not, ◌&&◌, ◌||◌, ◌==◌, nat_le, if◌then◌else◌, count_by, Option, Some, None, is_some, option_map, List, [], ◌∷◌, ◌++◌, length, map, drop, slice_get, All}
 use Rattle.std.specs.List.{list_any}
 use Rattle.zk_base.specs.declared.ids.Who.{Who}
 use Rattle.zk_base.specs.declared.ids.Entry.{Entry}
 use Rattle.zk_base.specs.Legal.{state_after, IsLegal}
 use Rattle.zk_model_work.specs.declared.ops.WorkOp.{WorkOp}
-use Rattle.zk_model_work.specs.declared.ops.WorkOp.TheVariants.{Cancel, CancelStart, CancelDone, FlushStart, FlushDone, Reschedule, DrainStart, DrainDone, Announce, Begin, End}
+use Rattle.zk_model_work.specs.declared.ops.WorkOp.TheVariants.{Submit, Cancel, CancelStart, CancelDone, FlushStart, FlushDone, Schedule, Reschedule, Remaining, Start, DrainStart, DrainDone, Unplug, Announce, Begin, End}
 use Rattle.zk_model_work.specs.declared.ops.Expiry.{Expiry}
 use Rattle.zk_model_work.specs.declared.ops.WorkReply.{WorkReply}
-use Rattle.zk_model_work.specs.declared.ops.WorkReply.TheVariants.{WaitFor, Now, Run}
+use Rattle.zk_model_work.specs.declared.ops.WorkReply.TheVariants.{Sub, Flags, Truth, WaitFor, Number, Done, Now, Run}
+use Rattle.zk_model_work.specs.declared.ops.WorkReply.TheVariants as replies
 use Rattle.zk_model_work.specs.declared.parts.Life.{Life}
 use Rattle.zk_model_work.specs.declared.parts.Life.TheVariants.{Waiting, Running, Ended, Dropped}
 use Rattle.zk_model_work.specs.declared.parts.Admission.{Admission}
 use Rattle.zk_model_work.specs.declared.parts.Fate.TheVariants.{Live, Expired, Disarmed}
 use Rattle.zk_model_work.specs.declared.parts.Arm.{Arm}
 use Rattle.zk_model_work.specs.declared.parts.Queue.{Queue}
-use Rattle.zk_model_work.specs.Questions.{is_waiting, is_open, is_live, is_empty_and_idle, running, due}
+use Rattle.zk_model_work.specs.Questions.{is_waiting, is_open, is_live, is_empty_and_idle, waiting, running, armed, due}
 use Rattle.zk_model_work.specs.State.{State}
 use Rattle.zk_model_work.specs.Machine.{drained_of, work_machine}
 
+-- a history of the work service
+abbrev pub WorkHistory : Type 0
+WorkHistory = List (Entry WorkOp WorkReply)
+
 -- a history that the work machine lets stand from a state in which nothing was admitted
-pub record IsWorkHistory (start : State) (h : List (Entry WorkOp WorkReply)) : Type 0 where
+pub record IsWorkHistory (start : State) (h : WorkHistory) : Type 0 where
   pub fresh : start.admissions ≡ []
   pub legal : IsLegal work_machine start h
 
--- one from a state before the first entry, in which nobody waits, no item is armed, no queue drains, and none is plugged
-pub record IsFreshHistory (start : State) (h : List (Entry WorkOp WorkReply)) : Type 0 where
+-- one from a state before the first entry, in which nobody waits, no item is armed, no run is marked, no queue drains, and none is plugged
+pub record IsFreshHistory (start : State) (h : WorkHistory) : Type 0 where
   pub work : IsWorkHistory start h
   pub first : start.entries ≡ 0
   pub arms : start.arms ≡ []
+  pub marks : start.marks ≡ []
   pub waits : start.waits ≡ []
   pub undrained : All (λ q. (q.draining ≡ false) × (q.plugged ≡ false)) start.queues
 
+-- it holds of each entry of a history, with the state before it and the state after it
+pub record AtEach (P : State → Entry WorkOp WorkReply → State → Type 0) (start : State) (h : WorkHistory) : Type 0 where
+  pub each : (front rest : WorkHistory) (e : Entry WorkOp WorkReply) → h ≡ front ++ e ∷ rest →
+      P (state_after work_machine start front) e (state_after work_machine start (front ++ e ∷ []))
+
 -- it holds of each work history
-abbrev pub OfEach : (State → List (Entry WorkOp WorkReply) → Type 0) → Type 0
-OfEach P = (start : State) (h : List (Entry WorkOp WorkReply)) → IsFreshHistory start h → P start h
+abbrev pub OfEach : (State → WorkHistory → Type 0) → Type 0
+OfEach P = (start : State) (h : WorkHistory) → IsFreshHistory start h → P start h
 
 -- the reply hands out the admission of this number
 abbrev pub hands_out : ℕ → WorkReply → Bool
@@ -72,205 +83,479 @@ announces (Announce ticks) = true
 announces op = false
 
 -- the admission of this number after a history, if it was made
-abbrev pub admission_after : State → List (Entry WorkOp WorkReply) → ℕ → Option Admission
+abbrev pub admission_after : State → WorkHistory → ℕ → Option Admission
 admission_after start h number = slice_get (state_after work_machine start h).admissions number
 
 -- what has become of it by then
-abbrev pub life_after : State → List (Entry WorkOp WorkReply) → ℕ → Option Life
+abbrev pub life_after : State → WorkHistory → ℕ → Option Life
 life_after start h number = option_map (λ a. a.life) (admission_after start h number)
 
 -- how many admissions a history makes, which is the number of the next one
-abbrev pub made_after : State → List (Entry WorkOp WorkReply) → ℕ
+abbrev pub made_after : State → WorkHistory → ℕ
 made_after start h = length (state_after work_machine start h).admissions
 
--- the entry after this history makes this admission, which gets this number
-abbrev pub Makes : State → List (Entry WorkOp WorkReply) → Entry WorkOp WorkReply → ℕ → Admission → Type 0
-Makes start h e number a = (made_after start h ≤ number) × (admission_after start (h ++ e ∷ []) number ≡ Some a)
+-- this admission, of this number, is there later and wasn't before
+abbrev pub Makes : State → State → ℕ → Admission → Type 0
+Makes before later number a = (length before.admissions ≤ number) × (slice_get later.admissions number ≡ Some a)
+
+-- the admission of this number is the newest of the item that waits or runs
+abbrev pub IsNewest : State → ℕ → ℕ → Type 0
+IsNewest s item number = (a : Admission) × (slice_get s.admissions number ≡ Some a) × (a.item ≡ item) × (is_open a.life ≡ true)
+    × ((other : ℕ) (b : Admission) → slice_get s.admissions other ≡ Some b → b.item ≡ item → is_open b.life ≡ true → other ≤ number)
+
+-- no admission of the item waits or runs
+abbrev pub NoneIsOpen : State → ℕ → Type 0
+NoneIsOpen s item = (number : ℕ) (a : Admission) → slice_get s.admissions number ≡ Some a → a.item ≡ item → is_open a.life ≡ false
 
 -- the number of the item's running admission after a history, if it runs
-abbrev pub running_after : State → List (Entry WorkOp WorkReply) → ℕ → Option ℕ
+abbrev pub running_after : State → WorkHistory → ℕ → Option ℕ
 running_after start h item = running (state_after work_machine start h).admissions item
 
 -- the queue of this number after a history
-abbrev pub queue_after : State → List (Entry WorkOp WorkReply) → ℕ → Option Queue
+abbrev pub queue_after : State → WorkHistory → ℕ → Option Queue
 queue_after start h queue = slice_get (state_after work_machine start h).queues queue
 
 -- no admission to the queue waits or runs after a history
-abbrev pub rests_after : State → List (Entry WorkOp WorkReply) → ℕ → Bool
+abbrev pub rests_after : State → WorkHistory → ℕ → Bool
 rests_after start h queue = is_empty_and_idle (state_after work_machine start h).admissions queue
 
 -- how many drainings of the queue have ended after a history
-abbrev pub drained_after : State → List (Entry WorkOp WorkReply) → ℕ → ℕ
+abbrev pub drained_after : State → WorkHistory → ℕ → ℕ
 drained_after start h queue = drained_of (state_after work_machine start h).queues queue
 
 -- the arm of this place after a history, if it was made
-abbrev pub arm_after : State → List (Entry WorkOp WorkReply) → ℕ → Option Arm
+abbrev pub arm_after : State → WorkHistory → ℕ → Option Arm
 arm_after start h place = slice_get (state_after work_machine start h).arms place
 
 -- the ticks that have passed after a history
-abbrev pub time_after : State → List (Entry WorkOp WorkReply) → ℕ
+abbrev pub time_after : State → WorkHistory → ℕ
 time_after start h = (state_after work_machine start h).time
+
+-- the ticks that pass by an operation
+abbrev pub ticks_of : WorkOp → ℕ
+ticks_of (Announce ticks) = ticks
+ticks_of op = 0
+
+-- it starts the queue
+abbrev pub starts : ℕ → WorkOp → Bool
+starts queue (Start other) = queue == other
+starts queue op = false
+
+-- it starts a drain of the queue
+abbrev pub drains : ℕ → WorkOp → Bool
+drains queue (DrainStart other plug) = queue == other
+drains queue op = false
+
+-- the worker of the queue does it
+abbrev pub is_worked_by : ℕ → WorkOp → Bool
+is_worked_by queue (Begin other) = queue == other
+is_worked_by queue (End other) = queue == other
+is_worked_by queue op = false
+
+-- whether the queue is plugged after an operation, where this says whether it was before
+abbrev pub plug_after : ℕ → WorkOp → Bool → Bool
+plug_after queue (DrainStart other plug) was = was || (plug && (queue == other))
+plug_after queue (Unplug other) was = was && not (queue == other)
+plug_after queue op was = was
+
+-- the arm that an operation asks for at this time
+abbrev pub asked_arm : ℕ → WorkOp → List Arm
+asked_arm time (Schedule item queue delay) = record { item = item; queue = queue; deadline = time + delay; fate = Live } ∷ []
+asked_arm time (Reschedule item queue delay) = record { item = item; queue = queue; deadline = time + delay; fate = Live } ∷ []
+asked_arm time op = []
+
+-- the reply says that the item is delayed from now on
+abbrev pub is_armed : WorkReply → Bool
+is_armed replies.Armed = true
+is_armed reply = false
+
+-- the answer is of the form that answers to this operation have
+abbrev pub fits : WorkOp → WorkReply → Bool
+fits (Submit item named) (Sub answer) = true
+fits (Cancel item) (Flags flags) = true
+fits (CancelStart item) replies.Wait = true
+fits (CancelStart item) (Truth b) = true
+fits (CancelDone place) (Truth b) = b
+fits (FlushStart item) (WaitFor number) = true
+fits (FlushStart item) (Truth b) = not b
+fits (FlushDone place) (Truth b) = b
+fits (Schedule item queue delay) (Sub answer) = true
+fits (Schedule item queue delay) replies.Armed = true
+fits (Reschedule item queue delay) (Sub answer) = true
+fits (Reschedule item queue delay) replies.Armed = true
+fits (Remaining item) (Number n) = true
+fits (Start queue) Done = true
+fits (Start queue) replies.Already = true
+fits (DrainStart queue plug) (Number n) = n == 0
+fits (DrainStart queue plug) replies.Wait = true
+fits (DrainDone place) (Number n) = n == 1
+fits (Unplug queue) Done = true
+fits (Unplug queue) replies.Already = true
+fits (Announce ticks) (Now time told) = true
+fits (Begin queue) (Run item number) = true
+fits (End queue) Done = true
+fits op reply = false
+
+-- a player may make this entry after a history: there is an answer
+abbrev pub MayGoOn : State → WorkHistory → Who → WorkOp → Type 0
+MayGoOn start h who op = (reply : WorkReply) × (work_machine.reply_of (state_after work_machine start h) who op ≡ Some reply)
+
+-- it has to be waited for: it is a begin, an end, or tells a player that its wait is over
+abbrev pub is_awaited : WorkOp → Bool
+is_awaited (CancelDone place) = true
+is_awaited (FlushDone place) = true
+is_awaited (DrainDone place) = true
+is_awaited (Begin queue) = true
+is_awaited (End queue) = true
+is_awaited op = false
 
 -- Each of what follows is said of one history.
 
+-- Runs once.
+
 -- an admission stays, with its item and its queue
-abbrev pub AdmissionStays : State → List (Entry WorkOp WorkReply) → Type 0
-AdmissionStays start h = (front rest : List (Entry WorkOp WorkReply)) (number : ℕ) (a : Admission) → h ≡ front ++ rest → admission_after start front number ≡ Some a →
+abbrev pub AdmissionStays : State → WorkHistory → Type 0
+AdmissionStays start h = (front rest : WorkHistory) (number : ℕ) (a : Admission) → h ≡ front ++ rest → admission_after start front number ≡ Some a →
     (b : Admission) × (admission_after start h number ≡ Some b) × (b.item ≡ a.item) × (b.queue ≡ a.queue)
 
 -- one that has ended or was dropped stays so
-abbrev pub OutcomeStays : State → List (Entry WorkOp WorkReply) → Type 0
-OutcomeStays start h = (front rest : List (Entry WorkOp WorkReply)) (number : ℕ) (a : Admission) → h ≡ front ++ rest → admission_after start front number ≡ Some a → is_open a.life ≡ false →
-    admission_after start h number ≡ Some a
+abbrev pub OutcomeStays : State → WorkHistory → Type 0
+OutcomeStays start h = (front rest : WorkHistory) (number : ℕ) (a : Admission) → h ≡ front ++ rest →
+    admission_after start front number ≡ Some a → is_open a.life ≡ false → admission_after start h number ≡ Some a
 
 -- an admission is begun by a begin on its queue, waits until then, and runs after it
-abbrev pub BegunFromItsQueue : State → List (Entry WorkOp WorkReply) → Type 0
-BegunFromItsQueue start h = (front rest : List (Entry WorkOp WorkReply)) (e : Entry WorkOp WorkReply) (item number : ℕ) → h ≡ front ++ e ∷ rest → e.reply ≡ Run item number → (queue : ℕ) × (e.op ≡ Begin queue)
-    × (admission_after start front number ≡ Some (record { item = item; queue = queue; life = Waiting })) × (admission_after start (front ++ e ∷ []) number ≡ Some (record { item = item; queue = queue; life = Running }))
-
--- an admission is dropped while it waits, by a cancel of its item
-abbrev pub DroppedByACancel : State → List (Entry WorkOp WorkReply) → Type 0
-DroppedByACancel start h = (front rest : List (Entry WorkOp WorkReply)) (e : Entry WorkOp WorkReply) (number : ℕ) (a : Admission) → h ≡ front ++ e ∷ rest → admission_after start front number ≡ Some a → is_open a.life ≡ true →
-    life_after start (front ++ e ∷ []) number ≡ Some Dropped → (a.life ≡ Waiting) × Cancels a.item e.op
+abbrev pub BegunFromItsQueue : State → WorkHistory → Type 0
+BegunFromItsQueue = AtEach (λ before e later. (item number : ℕ) → e.reply ≡ Run item number → (queue : ℕ) × (e.op ≡ Begin queue)
+    × (slice_get before.admissions number ≡ Some (record { item = item; queue = queue; life = Waiting }))
+    × (slice_get later.admissions number ≡ Some (record { item = item; queue = queue; life = Running })))
 
 -- each admission is begun at most once
-abbrev pub EachBegunOnce : State → List (Entry WorkOp WorkReply) → Type 0
+abbrev pub EachBegunOnce : State → WorkHistory → Type 0
 EachBegunOnce start h = (number : ℕ) → count_by (begins number) h ≤ 1
 
 -- an admission that was dropped at some time is never begun, neither before nor after
-abbrev pub DroppedNeverBegun : State → List (Entry WorkOp WorkReply) → Type 0
-DroppedNeverBegun start h = (front rest : List (Entry WorkOp WorkReply)) (number : ℕ) → h ≡ front ++ rest → life_after start front number ≡ Some Dropped → count_by (begins number) h ≡ 0
+abbrev pub DroppedNeverBegun : State → WorkHistory → Type 0
+DroppedNeverBegun start h = (front rest : WorkHistory) (number : ℕ) → h ≡ front ++ rest →
+    life_after start front number ≡ Some Dropped → count_by (begins number) h ≡ 0
 
 -- an admission that neither waits nor runs any more was begun once and has ended, or was dropped and never begun
-abbrev pub RunOrDropped : State → List (Entry WorkOp WorkReply) → Type 0
+abbrev pub RunOrDropped : State → WorkHistory → Type 0
 RunOrDropped start h = (number : ℕ) (life : Life) → life_after start h number ≡ Some life → is_open life ≡ false →
     ((life ≡ Ended) × (count_by (begins number) h ≡ 1)) ⊎ ((life ≡ Dropped) × (count_by (begins number) h ≡ 0))
 
+-- each admission is run or dropped, once
+pub record RunsOnce (start : State) (h : WorkHistory) : Type 0 where
+  pub kept : AdmissionStays start h
+  pub over : OutcomeStays start h
+  pub begun : BegunFromItsQueue start h
+  pub once : EachBegunOnce start h
+  pub dropped : DroppedNeverBegun start h
+  pub outcome : RunOrDropped start h
+
+-- In order.
+
 -- where a worker takes up an admission, none to its queue with a lower number waits: each was begun before, or dropped
-abbrev pub NoneWaitsBefore : State → List (Entry WorkOp WorkReply) → Type 0
-NoneWaitsBefore start h = (front rest : List (Entry WorkOp WorkReply)) (e : Entry WorkOp WorkReply) (queue item number lower : ℕ) (a : Admission) → h ≡ front ++ e ∷ rest →
-    e.op ≡ Begin queue → e.reply ≡ Run item number → lower < number → admission_after start front lower ≡ Some a → a.queue ≡ queue → is_waiting a.life ≡ false
+abbrev pub NoneWaitsBefore : State → WorkHistory → Type 0
+NoneWaitsBefore = AtEach (λ before e later. (queue item number lower : ℕ) (a : Admission) → e.op ≡ Begin queue → e.reply ≡ Run item number →
+    lower < number → slice_get before.admissions lower ≡ Some a → a.queue ≡ queue → is_waiting a.life ≡ false)
 
 -- the begins on one queue rise in the number of the admission
-abbrev pub BeginsRise : State → List (Entry WorkOp WorkReply) → Type 0
-BeginsRise start h = (front between rest : List (Entry WorkOp WorkReply)) (first second : Entry WorkOp WorkReply) (queue item next_item number next : ℕ) → h ≡ front ++ first ∷ (between ++ second ∷ rest) →
-    first.op ≡ Begin queue → first.reply ≡ Run item number → second.op ≡ Begin queue → second.reply ≡ Run next_item next → number < next
+abbrev pub BeginsRise : State → WorkHistory → Type 0
+BeginsRise start h = (front between rest : WorkHistory) (first second : Entry WorkOp WorkReply) (queue item next_item number next : ℕ) →
+    h ≡ front ++ first ∷ (between ++ second ∷ rest) → first.op ≡ Begin queue → first.reply ≡ Run item number →
+    second.op ≡ Begin queue → second.reply ≡ Run next_item next → number < next
+
+-- each queue runs its admissions in the order of their numbers
+pub record BeginsInOrder (start : State) (h : WorkHistory) : Type 0 where
+  pub first : NoneWaitsBefore start h
+  pub rise : BeginsRise start h
+
+-- Never overlaps.
 
 -- of two admissions of an item that wait or run the lower one runs, and the other waits for its queue; so one waits at most, and one runs
-abbrev pub OneWaitsOneRuns : State → List (Entry WorkOp WorkReply) → Type 0
-OneWaitsOneRuns start h = (lower higher : ℕ) (a b : Admission) → lower < higher → admission_after start h lower ≡ Some a → admission_after start h higher ≡ Some b → a.item ≡ b.item → is_open a.life ≡ true → is_open b.life ≡ true →
+abbrev pub OneWaitsOneRuns : State → WorkHistory → Type 0
+OneWaitsOneRuns start h = (lower higher : ℕ) (a b : Admission) → lower < higher → admission_after start h lower ≡ Some a →
+    admission_after start h higher ≡ Some b → a.item ≡ b.item → is_open a.life ≡ true → is_open b.life ≡ true →
     (a.life ≡ Running) × (b.life ≡ Waiting) × (a.queue ≡ b.queue)
 
 -- a queue runs one admission at most
-abbrev pub OneRunsOnAQueue : State → List (Entry WorkOp WorkReply) → Type 0
-OneRunsOnAQueue start h = (number other : ℕ) (a b : Admission) → admission_after start h number ≡ Some a → admission_after start h other ≡ Some b → a.queue ≡ b.queue → a.life ≡ Running → b.life ≡ Running → number ≡ other
+abbrev pub OneRunsOnAQueue : State → WorkHistory → Type 0
+OneRunsOnAQueue start h = (number other : ℕ) (a b : Admission) → admission_after start h number ≡ Some a →
+    admission_after start h other ≡ Some b → a.queue ≡ b.queue → a.life ≡ Running → b.life ≡ Running → number ≡ other
 
 -- an admission that runs goes on until an end at its queue
-abbrev pub RunsToItsEnd : State → List (Entry WorkOp WorkReply) → Type 0
-RunsToItsEnd start h = (front between : List (Entry WorkOp WorkReply)) (number : ℕ) (a : Admission) → h ≡ front ++ between →
-    admission_after start front number ≡ Some a → a.life ≡ Running → list_any (λ e. ends a.queue e.op) between ≡ false → admission_after start h number ≡ Some a
+abbrev pub RunsToItsEnd : State → WorkHistory → Type 0
+RunsToItsEnd start h = (front between : WorkHistory) (number : ℕ) (a : Admission) → h ≡ front ++ between →
+    admission_after start front number ≡ Some a → a.life ≡ Running →
+    list_any (λ e. ends a.queue e.op) between ≡ false → admission_after start h number ≡ Some a
 
 -- and is ended by it
-abbrev pub EndedByItsEnd : State → List (Entry WorkOp WorkReply) → Type 0
-EndedByItsEnd start h = (front rest : List (Entry WorkOp WorkReply)) (e : Entry WorkOp WorkReply) (number : ℕ) (a : Admission) → h ≡ front ++ e ∷ rest → admission_after start front number ≡ Some a → a.life ≡ Running →
-    ends a.queue e.op ≡ true → admission_after start (front ++ e ∷ []) number ≡ Some (record a { life = Ended })
-
--- while an admission of an item runs, none of that item is begun, on any queue
-abbrev pub NotBegunDuringRun : State → List (Entry WorkOp WorkReply) → Type 0
-NotBegunDuringRun start h = (front rest : List (Entry WorkOp WorkReply)) (e : Entry WorkOp WorkReply) (item number running : ℕ) (a : Admission) → h ≡ front ++ e ∷ rest →
-    admission_after start front running ≡ Some a → a.item ≡ item → a.life ≡ Running → e.reply ≡ Run item number → ⊥
+abbrev pub EndedByItsEnd : State → WorkHistory → Type 0
+EndedByItsEnd = AtEach (λ before e later. (number : ℕ) (a : Admission) → slice_get before.admissions number ≡ Some a → a.life ≡ Running →
+    ends a.queue e.op ≡ true → slice_get later.admissions number ≡ Some (record a { life = Ended }))
 
 -- between two begins of one item, on whatever queues, stands an end at the queue of the first
-abbrev pub EndsBetweenBegins : State → List (Entry WorkOp WorkReply) → Type 0
-EndsBetweenBegins start h = (front between rest : List (Entry WorkOp WorkReply)) (first second : Entry WorkOp WorkReply) (queue item number next : ℕ) → h ≡ front ++ first ∷ (between ++ second ∷ rest) →
-    first.op ≡ Begin queue → first.reply ≡ Run item number → second.reply ≡ Run item next → list_any (λ e. ends queue e.op) between ≡ true
+abbrev pub EndsBetweenBegins : State → WorkHistory → Type 0
+EndsBetweenBegins start h = (front between rest : WorkHistory) (first second : Entry WorkOp WorkReply) (queue item number next : ℕ) →
+    h ≡ front ++ first ∷ (between ++ second ∷ rest) → first.op ≡ Begin queue → first.reply ≡ Run item number →
+    second.reply ≡ Run item next → list_any (λ e. ends queue e.op) between ≡ true
+
+-- begins and ends are of the queue's worker
+abbrev pub ByItsWorker : State → WorkHistory → Type 0
+ByItsWorker = AtEach (λ before e later. (queue : ℕ) → is_worked_by queue e.op ≡ true →
+    (q : Queue) × (slice_get before.queues queue ≡ Some q) × (e.who.number ≡ q.worker))
+
+-- an end finds a run of its queue
+abbrev pub EndFindsARun : State → WorkHistory → Type 0
+EndFindsARun = AtEach (λ before e later. (queue : ℕ) → e.op ≡ End queue →
+    (number : ℕ) × (a : Admission) × (slice_get before.admissions number ≡ Some a) × (a.queue ≡ queue) × (a.life ≡ Running))
+
+-- an item never overlaps itself, and a queue runs one admission at a time, from a begin to an end of its worker
+pub record NeverOverlaps (start : State) (h : WorkHistory) : Type 0 where
+  pub one : OneWaitsOneRuns start h
+  pub queue : OneRunsOnAQueue start h
+  pub ends : RunsToItsEnd start h
+  pub ended : EndedByItsEnd start h
+  pub between : EndsBetweenBegins start h
+  pub worker : ByItsWorker start h
+  pub found : EndFindsARun start h
+
+-- Cancels.
 
 -- after a cancel no admission of its item waits
-abbrev pub NoneWaitsAfterCancel : State → List (Entry WorkOp WorkReply) → Type 0
-NoneWaitsAfterCancel start h = (front rest : List (Entry WorkOp WorkReply)) (e : Entry WorkOp WorkReply) (item number : ℕ) (a : Admission) → h ≡ front ++ e ∷ rest →
-    Cancels item e.op → admission_after start (front ++ e ∷ []) number ≡ Some a → a.item ≡ item → is_waiting a.life ≡ false
+abbrev pub NoneWaitsAfterCancel : State → WorkHistory → Type 0
+NoneWaitsAfterCancel = AtEach (λ before e later. (item number : ℕ) (a : Admission) → Cancels item e.op →
+    slice_get later.admissions number ≡ Some a → a.item ≡ item → is_waiting a.life ≡ false)
 
--- and where the cancel found a run, none waits until that run has ended
-abbrev pub NoneWaitsDuringCancel : State → List (Entry WorkOp WorkReply) → Type 0
-NoneWaitsDuringCancel start h = (front during : List (Entry WorkOp WorkReply)) (e : Entry WorkOp WorkReply) (item run number : ℕ) (a : Admission) → h ≡ front ++ e ∷ during →
-    Cancels item e.op → running_after start front item ≡ Some run → life_after start h run ≡ Some Running → admission_after start h number ≡ Some a → a.item ≡ item → is_waiting a.life ≡ false
-
--- and no admission of the item is made until then
-abbrev pub NoneMadeDuringCancel : State → List (Entry WorkOp WorkReply) → Type 0
-NoneMadeDuringCancel start h = (front during rest : List (Entry WorkOp WorkReply)) (e next : Entry WorkOp WorkReply) (item run number : ℕ) (a : Admission) → h ≡ front ++ e ∷ (during ++ next ∷ rest) →
-    Cancels item e.op → running_after start front item ≡ Some run → life_after start (front ++ e ∷ during) run ≡ Some Running → Makes start (front ++ e ∷ during) next number a → a.item ≡ item → ⊥
+-- and where it found a run, no admission of the item is made until that run has ended
+abbrev pub NoneMadeDuringCancel : State → WorkHistory → Type 0
+NoneMadeDuringCancel start h = (front during rest : WorkHistory) (e next : Entry WorkOp WorkReply) (item run number : ℕ) (a : Admission) →
+    h ≡ front ++ e ∷ (during ++ next ∷ rest) → Cancels item e.op → running_after start front item ≡ Some run →
+    life_after start (front ++ e ∷ during) run ≡ Some Running →
+    Makes (state_after work_machine start (front ++ e ∷ during)) (state_after work_machine start ((front ++ e ∷ during) ++ next ∷ [])) number a →
+    a.item ≡ item → ⊥
 
 -- each begin of an item after a cancel of it is of an admission made after the cancel
-abbrev pub BegunMadeAfterCancel : State → List (Entry WorkOp WorkReply) → Type 0
-BegunMadeAfterCancel start h = (front between rest : List (Entry WorkOp WorkReply)) (e later : Entry WorkOp WorkReply) (item number : ℕ) → h ≡ front ++ e ∷ (between ++ later ∷ rest) →
-    Cancels item e.op → later.reply ≡ Run item number → made_after start (front ++ e ∷ []) ≤ number
+abbrev pub BegunMadeAfterCancel : State → WorkHistory → Type 0
+BegunMadeAfterCancel start h = (front between rest : WorkHistory) (e later : Entry WorkOp WorkReply) (item number : ℕ) →
+    h ≡ front ++ e ∷ (between ++ later ∷ rest) → Cancels item e.op → later.reply ≡ Run item number →
+    made_after start (front ++ e ∷ []) ≤ number
 
 -- and, where the cancel found a run, of an admission made after the end of that run
-abbrev pub BegunMadeAfterRun : State → List (Entry WorkOp WorkReply) → Type 0
-BegunMadeAfterRun start h = (front during between rest : List (Entry WorkOp WorkReply)) (e later : Entry WorkOp WorkReply) (item run number : ℕ) → h ≡ front ++ e ∷ (during ++ (between ++ later ∷ rest)) →
-    Cancels item e.op → running_after start front item ≡ Some run → life_after start (front ++ e ∷ during) run ≡ Some Running → later.reply ≡ Run item number → made_after start (front ++ e ∷ during) ≤ number
+abbrev pub BegunMadeAfterRun : State → WorkHistory → Type 0
+BegunMadeAfterRun start h = (front during between rest : WorkHistory) (e later : Entry WorkOp WorkReply) (item run number : ℕ) →
+    h ≡ front ++ e ∷ (during ++ (between ++ later ∷ rest)) → Cancels item e.op → running_after start front item ≡ Some run →
+    life_after start (front ++ e ∷ during) run ≡ Some Running → later.reply ≡ Run item number →
+    made_after start (front ++ e ∷ during) ≤ number
 
 -- a sync cancel that found a run is told to be done only after that run has ended
-abbrev pub CancelDoneAfterRun : State → List (Entry WorkOp WorkReply) → Type 0
-CancelDoneAfterRun start h = (front between rest : List (Entry WorkOp WorkReply)) (first done : Entry WorkOp WorkReply) (item run : ℕ) → h ≡ front ++ first ∷ (between ++ done ∷ rest) →
-    first.op ≡ CancelStart item → running_after start front item ≡ Some run → done.op ≡ CancelDone (length front) → life_after start (front ++ first ∷ between) run ≡ Some Ended
+abbrev pub CancelDoneAfterRun : State → WorkHistory → Type 0
+CancelDoneAfterRun start h = (front between rest : WorkHistory) (first done : Entry WorkOp WorkReply) (item run : ℕ) →
+    h ≡ front ++ first ∷ (between ++ done ∷ rest) → first.op ≡ CancelStart item → running_after start front item ≡ Some run →
+    done.op ≡ CancelDone (length front) → life_after start (front ++ first ∷ between) run ≡ Some Ended
+
+-- a sync cancel waits where the item runs; else it tells whether one of it waited or was to come after a delay
+abbrev pub CancelStartTellsTheRun : State → WorkHistory → Type 0
+CancelStartTellsTheRun = AtEach (λ before e later. (item : ℕ) → e.op ≡ CancelStart item →
+    e.reply ≡ (if is_some (running before.admissions item) then replies.Wait
+    else Truth (is_some (waiting before.admissions item) || is_some (armed before.arms item))))
+
+-- a cancel holds
+pub record CancelsHold (start : State) (h : WorkHistory) : Type 0 where
+  pub empty : NoneWaitsAfterCancel start h
+  pub none : NoneMadeDuringCancel start h
+  pub after : BegunMadeAfterCancel start h
+  pub run : BegunMadeAfterRun start h
+  pub done : CancelDoneAfterRun start h
+  pub waits : CancelStartTellsTheRun start h
+
+-- Flushes.
 
 -- a flush that waits for an admission is told to be done only after that admission has ended or was dropped
-abbrev pub FlushDoneAfterItsEnd : State → List (Entry WorkOp WorkReply) → Type 0
-FlushDoneAfterItsEnd start h = (front between rest : List (Entry WorkOp WorkReply)) (first done : Entry WorkOp WorkReply) (item number : ℕ) → h ≡ front ++ first ∷ (between ++ done ∷ rest) →
-    first.op ≡ FlushStart item → first.reply ≡ WaitFor number → done.op ≡ FlushDone (length front) → option_map is_open (life_after start (front ++ first ∷ between) number) ≡ Some false
+abbrev pub FlushDoneAfterItsEnd : State → WorkHistory → Type 0
+FlushDoneAfterItsEnd start h = (front between rest : WorkHistory) (first done : Entry WorkOp WorkReply) (item number : ℕ) →
+    h ≡ front ++ first ∷ (between ++ done ∷ rest) → first.op ≡ FlushStart item → first.reply ≡ WaitFor number →
+    done.op ≡ FlushDone (length front) → option_map is_open (life_after start (front ++ first ∷ between) number) ≡ Some false
+
+-- a flush waits for the newest admission of the item that waits or runs after it, and is answered false where there is none
+abbrev pub FlushWaitsForNewest : State → WorkHistory → Type 0
+FlushWaitsForNewest = AtEach (λ before e later. (item : ℕ) → e.op ≡ FlushStart item →
+    ((number : ℕ) × (e.reply ≡ WaitFor number) × IsNewest later item number) ⊎ ((e.reply ≡ Truth false) × NoneIsOpen later item))
+
+-- a flush holds
+pub record FlushesHold (start : State) (h : WorkHistory) : Type 0 where
+  pub done : FlushDoneAfterItsEnd start h
+  pub newest : FlushWaitsForNewest start h
+
+-- Drains and plugs.
 
 -- while a queue drains, each admission to it is submitted by its own worker
-abbrev pub DrainAdmitsItsOwn : State → List (Entry WorkOp WorkReply) → Type 0
-DrainAdmitsItsOwn start h = (front rest : List (Entry WorkOp WorkReply)) (e : Entry WorkOp WorkReply) (queue number : ℕ) (q : Queue) (a : Admission) → h ≡ front ++ e ∷ rest →
-    queue_after start front queue ≡ Some q → q.draining ≡ true → Makes start front e number a → a.queue ≡ queue → submitter e.who e.op ≡ Some q.worker
+abbrev pub DrainAdmitsItsOwn : State → WorkHistory → Type 0
+DrainAdmitsItsOwn = AtEach (λ before e later. (queue number : ℕ) (q : Queue) (a : Admission) → slice_get before.queues queue ≡ Some q →
+    q.draining ≡ true → Makes before later number a → a.queue ≡ queue → submitter e.who e.op ≡ Some q.worker)
 
 -- while a queue is plugged and doesn't drain, no admission to it is made
-abbrev pub PluggedAdmitsNone : State → List (Entry WorkOp WorkReply) → Type 0
-PluggedAdmitsNone start h = (front rest : List (Entry WorkOp WorkReply)) (e : Entry WorkOp WorkReply) (queue number : ℕ) (q : Queue) (a : Admission) → h ≡ front ++ e ∷ rest →
-    queue_after start front queue ≡ Some q → q.plugged ≡ true → q.draining ≡ false → Makes start front e number a → a.queue ≡ queue → ⊥
+abbrev pub PluggedAdmitsNone : State → WorkHistory → Type 0
+PluggedAdmitsNone = AtEach (λ before e later. (queue number : ℕ) (q : Queue) (a : Admission) → slice_get before.queues queue ≡ Some q →
+    q.plugged ≡ true → q.draining ≡ false → Makes before later number a → a.queue ≡ queue → ⊥)
 
 -- a queue drains only as long as something of it waits or runs
-abbrev pub DrainsUntilItRests : State → List (Entry WorkOp WorkReply) → Type 0
+abbrev pub DrainsUntilItRests : State → WorkHistory → Type 0
 DrainsUntilItRests start h = (queue : ℕ) (q : Queue) → queue_after start h queue ≡ Some q → q.draining ≡ true → rests_after start h queue ≡ false
 
 -- a queue that is plugged and doesn't drain is empty and idle
-abbrev pub PluggedRests : State → List (Entry WorkOp WorkReply) → Type 0
-PluggedRests start h = (queue : ℕ) (q : Queue) → queue_after start h queue ≡ Some q → q.plugged ≡ true → q.draining ≡ false → rests_after start h queue ≡ true
+abbrev pub PluggedRests : State → WorkHistory → Type 0
+PluggedRests start h = (queue : ℕ) (q : Queue) → queue_after start h queue ≡ Some q → q.plugged ≡ true → q.draining ≡ false →
+    rests_after start h queue ≡ true
+
+-- a draining begins at the start of a drain, and goes on until an entry leaves its queue at rest; there it is counted
+abbrev pub DrainingStays : State → WorkHistory → Type 0
+DrainingStays = AtEach (λ before e later. (queue : ℕ) (q r : Queue) →
+    slice_get before.queues queue ≡ Some q → slice_get later.queues queue ≡ Some r →
+    (r.draining ≡ ((q.draining || drains queue e.op) && not (is_empty_and_idle later.admissions queue)))
+    × (r.drained ≡ q.drained + (if q.draining && not r.draining then 1 else 0)))
 
 -- a draining ends at an entry that leaves the queue empty and idle, and nowhere else are its drainings counted
-abbrev pub DrainEndsAtRest : State → List (Entry WorkOp WorkReply) → Type 0
-DrainEndsAtRest start h = (front rest : List (Entry WorkOp WorkReply)) (e : Entry WorkOp WorkReply) (queue : ℕ) → h ≡ front ++ e ∷ rest →
-    drained_after start front queue < drained_after start (front ++ e ∷ []) queue → rests_after start (front ++ e ∷ []) queue ≡ true
+abbrev pub DrainEndsAtRest : State → WorkHistory → Type 0
+DrainEndsAtRest = AtEach (λ before e later. (queue : ℕ) → drained_of before.queues queue < drained_of later.queues queue →
+    is_empty_and_idle later.admissions queue ≡ true)
 
 -- a drain that had to wait is told to be done only after a draining of its queue has ended
-abbrev pub DrainDoneAfterItsEnd : State → List (Entry WorkOp WorkReply) → Type 0
-DrainDoneAfterItsEnd start h = (front between rest : List (Entry WorkOp WorkReply)) (first done : Entry WorkOp WorkReply) (queue : ℕ) (plug : Bool) → h ≡ front ++ first ∷ (between ++ done ∷ rest) →
-    first.op ≡ DrainStart queue plug → done.op ≡ DrainDone (length front) → drained_after start front queue < drained_after start (front ++ first ∷ between) queue
+abbrev pub DrainDoneAfterItsEnd : State → WorkHistory → Type 0
+DrainDoneAfterItsEnd start h = (front between rest : WorkHistory) (first done : Entry WorkOp WorkReply) (queue : ℕ) (plug : Bool) →
+    h ≡ front ++ first ∷ (between ++ done ∷ rest) → first.op ≡ DrainStart queue plug → done.op ≡ DrainDone (length front) →
+    drained_after start front queue < drained_after start (front ++ first ∷ between) queue
+
+-- a drain is answered 0 where its queue rests; else it waits, and the queue drains
+abbrev pub DrainTells : State → WorkHistory → Type 0
+DrainTells = AtEach (λ before e later. (queue : ℕ) (plug : Bool) → e.op ≡ DrainStart queue plug →
+    (e.reply ≡ (if is_empty_and_idle before.admissions queue then Number 0 else replies.Wait))
+    × ((r : Queue) → slice_get later.queues queue ≡ Some r → r.draining ≡ not (is_empty_and_idle before.admissions queue)))
+
+-- a plug is set by the start of a drain that asks for it, taken by an unplug, and else stays as it was
+abbrev pub PluggedAsAsked : State → WorkHistory → Type 0
+PluggedAsAsked = AtEach (λ before e later. (queue : ℕ) (q r : Queue) →
+    slice_get before.queues queue ≡ Some q → slice_get later.queues queue ≡ Some r → r.plugged ≡ plug_after queue e.op q.plugged)
+
+-- a queue stays, with its worker; it is started by a start of it, and stays so
+abbrev pub StartedStays : State → WorkHistory → Type 0
+StartedStays = AtEach (λ before e later. (queue : ℕ) (q : Queue) → slice_get before.queues queue ≡ Some q →
+    (r : Queue) × (slice_get later.queues queue ≡ Some r) × (r.worker ≡ q.worker) × (r.started ≡ (q.started || starts queue e.op)))
+
+-- a start tells whether the queue was started already, and an unplug whether it was plugged
+abbrev pub StartTells : State → WorkHistory → Type 0
+StartTells = AtEach (λ before e later. (queue : ℕ) (q : Queue) → slice_get before.queues queue ≡ Some q →
+    (e.op ≡ Start queue → e.reply ≡ (if q.started then replies.Already else Done))
+    × (e.op ≡ Unplug queue → e.reply ≡ (if q.plugged then Done else replies.Already)))
+
+-- a drain, a plug and a start hold
+pub record DrainsHold (start : State) (h : WorkHistory) : Type 0 where
+  pub own : DrainAdmitsItsOwn start h
+  pub until : DrainsUntilItRests start h
+  pub stays : DrainingStays start h
+  pub ends : DrainEndsAtRest start h
+  pub done : DrainDoneAfterItsEnd start h
+  pub told : DrainTells start h
+  pub plugged : PluggedAdmitsNone start h
+  pub rests : PluggedRests start h
+  pub plugs : PluggedAsAsked start h
+  pub started : StartedStays start h
+  pub starts : StartTells start h
+
+-- Delays.
 
 -- a live arm's deadline is still ahead
-abbrev pub LiveAhead : State → List (Entry WorkOp WorkReply) → Type 0
+abbrev pub LiveAhead : State → WorkHistory → Type 0
 LiveAhead start h = (place : ℕ) (a : Arm) → arm_after start h place ≡ Some a → a.fate ≡ Live → time_after start h < a.deadline
 
 -- at an announce a live arm expires where the time reaches its deadline, and else stays
-abbrev pub ExpiresWhenDue : State → List (Entry WorkOp WorkReply) → Type 0
-ExpiresWhenDue start h = (front rest : List (Entry WorkOp WorkReply)) (e : Entry WorkOp WorkReply) (ticks place : ℕ) (a : Arm) → h ≡ front ++ e ∷ rest → e.op ≡ Announce ticks → arm_after start front place ≡ Some a → a.fate ≡ Live →
-    arm_after start (front ++ e ∷ []) place ≡ Some (if nat_le a.deadline (time_after start (front ++ e ∷ [])) then record a { fate = Expired } else a)
+abbrev pub ExpiresWhenDue : State → WorkHistory → Type 0
+ExpiresWhenDue = AtEach (λ before e later. (ticks place : ℕ) (a : Arm) → e.op ≡ Announce ticks → slice_get before.arms place ≡ Some a → a.fate ≡ Live →
+    slice_get later.arms place ≡ Some (if nat_le a.deadline later.time then record a { fate = Expired } else a))
 
 -- at any other entry it is disarmed where its item's delay is given up, and else stays
-abbrev pub DisarmedWhenGivenUp : State → List (Entry WorkOp WorkReply) → Type 0
-DisarmedWhenGivenUp start h = (front rest : List (Entry WorkOp WorkReply)) (e : Entry WorkOp WorkReply) (place : ℕ) (a : Arm) → h ≡ front ++ e ∷ rest → announces e.op ≡ false → arm_after start front place ≡ Some a → a.fate ≡ Live →
-    arm_after start (front ++ e ∷ []) place ≡ Some (if disarms a.item e.op then record a { fate = Disarmed } else a)
+abbrev pub DisarmedWhenGivenUp : State → WorkHistory → Type 0
+DisarmedWhenGivenUp = AtEach (λ before e later. (place : ℕ) (a : Arm) → announces e.op ≡ false → slice_get before.arms place ≡ Some a → a.fate ≡ Live →
+    slice_get later.arms place ≡ Some (if disarms a.item e.op then record a { fate = Disarmed } else a))
 
 -- an arm that has expired or was disarmed stays so
-abbrev pub FateStays : State → List (Entry WorkOp WorkReply) → Type 0
-FateStays start h = (front rest : List (Entry WorkOp WorkReply)) (place : ℕ) (a : Arm) → h ≡ front ++ rest → arm_after start front place ≡ Some a → is_live a.fate ≡ false → arm_after start h place ≡ Some a
+abbrev pub FateStays : State → WorkHistory → Type 0
+FateStays start h = (front rest : WorkHistory) (place : ℕ) (a : Arm) → h ≡ front ++ rest → arm_after start front place ≡ Some a →
+    is_live a.fate ≡ false → arm_after start h place ≡ Some a
 
 -- an item has at most one live arm
-abbrev pub OneLiveArm : State → List (Entry WorkOp WorkReply) → Type 0
-OneLiveArm start h = (place other : ℕ) (a b : Arm) → arm_after start h place ≡ Some a → arm_after start h other ≡ Some b → a.item ≡ b.item → a.fate ≡ Live → b.fate ≡ Live → place ≡ other
+abbrev pub OneLiveArm : State → WorkHistory → Type 0
+OneLiveArm start h = (place other : ℕ) (a b : Arm) → arm_after start h place ≡ Some a → arm_after start h other ≡ Some b →
+    a.item ≡ b.item → a.fate ≡ Live → b.fate ≡ Live → place ≡ other
 
 -- an announce tells the items of the arms that expire at it, by deadline and, at one deadline, in the order of arming
-abbrev pub ExpireInOrder : State → List (Entry WorkOp WorkReply) → Type 0
-ExpireInOrder start h = (front rest : List (Entry WorkOp WorkReply)) (e : Entry WorkOp WorkReply) (ticks time : ℕ) (told : List Expiry) → h ≡ front ++ e ∷ rest →
-    e.op ≡ Announce ticks → e.reply ≡ Now time told → (time ≡ time_after start (front ++ e ∷ [])) × (map (λ x. x.item) told ≡ map (λ a. a.item) (due time (state_after work_machine start front).arms))
+abbrev pub ExpireInOrder : State → WorkHistory → Type 0
+ExpireInOrder = AtEach (λ before e later. (ticks time : ℕ) (told : List Expiry) → e.op ≡ Announce ticks → e.reply ≡ Now time told →
+    (time ≡ later.time) × (map (λ x. x.item) told ≡ map (λ a. a.item) (due time before.arms)))
+
+-- an arm is made just where the answer says so: of the item, to the queue and for the tick that were asked for, and live
+abbrev pub ArmedAsAsked : State → WorkHistory → Type 0
+ArmedAsAsked = AtEach (λ before e later.
+    drop (length before.arms) later.arms ≡ (if is_armed e.reply then asked_arm before.time e.op else []))
+
+-- what remains of a delay is told: the live arm's deadline less the time, and 0 where the item has none
+abbrev pub RemainingTells : State → WorkHistory → Type 0
+RemainingTells = AtEach (λ before e later. (item : ℕ) → e.op ≡ Remaining item →
+    ((place : ℕ) (a : Arm) → slice_get before.arms place ≡ Some a → a.item ≡ item → a.fate ≡ Live → e.reply ≡ Number (a.deadline - before.time))
+    × (((place : ℕ) (a : Arm) → slice_get before.arms place ≡ Some a → a.item ≡ item → a.fate ≡ Live → ⊥) → e.reply ≡ Number 0))
+
+-- the time grows by the ticks of an announce, and nowhere else
+abbrev pub OnlyAnnouncesPassTime : State → WorkHistory → Type 0
+OnlyAnnouncesPassTime = AtEach (λ before e later. later.time ≡ before.time + ticks_of e.op)
+
+-- a delay ends once, when it is over or is given up
+pub record DelaysHold (start : State) (h : WorkHistory) : Type 0 where
+  pub armed : ArmedAsAsked start h
+  pub ahead : LiveAhead start h
+  pub due : ExpiresWhenDue start h
+  pub disarmed : DisarmedWhenGivenUp start h
+  pub once : FateStays start h
+  pub one : OneLiveArm start h
+  pub order : ExpireInOrder start h
+  pub remaining : RemainingTells start h
+  pub passes : OnlyAnnouncesPassTime start h
+
+-- What may go on.
+
+-- the worker may begin where something of its queue waits and nothing of it runs
+abbrev pub MayBegin : State → WorkHistory → Type 0
+MayBegin start h = (who : Who) (queue number : ℕ) (q : Queue) (a : Admission) → queue_after start h queue ≡ Some q → q.worker ≡ who.number →
+    admission_after start h number ≡ Some a → a.queue ≡ queue → a.life ≡ Waiting →
+    ((other : ℕ) (b : Admission) → admission_after start h other ≡ Some b → b.queue ≡ queue → b.life ≡ Running → ⊥) →
+    MayGoOn start h who (Begin queue)
+
+-- and may end what its queue runs
+abbrev pub MayEnd : State → WorkHistory → Type 0
+MayEnd start h = (who : Who) (queue number : ℕ) (q : Queue) (a : Admission) → queue_after start h queue ≡ Some q → q.worker ≡ who.number →
+    admission_after start h number ≡ Some a → a.queue ≡ queue → a.life ≡ Running → MayGoOn start h who (End queue)
+
+-- what needn't be waited for may be done at any time
+abbrev pub MayAlways : State → WorkHistory → Type 0
+MayAlways start h = (who : Who) (op : WorkOp) → is_awaited op ≡ false → MayGoOn start h who op
+
+-- each operation is answered in its form
+abbrev pub AnswersFit : State → WorkHistory → Type 0
+AnswersFit = AtEach (λ before e later. fits e.op e.reply ≡ true)
+
+-- who may go on, and what is answered
+pub record GoesOn (start : State) (h : WorkHistory) : Type 0 where
+  pub begin : MayBegin start h
+  pub end : MayEnd start h
+  pub always : MayAlways start h
+  pub fits : AnswersFit start h
+
+-- all of it
+pub record KeepsLaws (start : State) (h : WorkHistory) : Type 0 where
+  pub once : RunsOnce start h
+  pub order : BeginsInOrder start h
+  pub alone : NeverOverlaps start h
+  pub cancels : CancelsHold start h
+  pub flushes : FlushesHold start h
+  pub drains : DrainsHold start h
+  pub delays : DelaysHold start h
+  pub goes_on : GoesOn start h
