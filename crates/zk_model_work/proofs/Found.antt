@@ -21,7 +21,8 @@ use Rattle.zk_model_work.specs.declared.ops.WorkReply.{WorkReply}
 use Rattle.zk_model_work.specs.declared.ops.WorkReply.TheVariants as replies
 use Rattle.zk_model_work.specs.Questions.{is_waiting, is_running, is_open, waits_as, runs_as, is_open_as, passes_at, waiting, running, armed, is_cancelling, flushes, is_flushing, weight}
 use Rattle.zk_model_work.specs.State.{State}
-use Rattle.zk_model_work.specs.Machine.{hurried, flushed, flags_of, cancel_start_reply, flush_start_reply, work_reply, work_next, work_machine}
+use Rattle.zk_model_work.specs.Machine.{hurried, flushed_of, flags_of, work_reply, work_next, work_machine}
+use Rattle.zk_model_work.specs.Answers.{flushed, cancel_start_reply, flush_start_reply}
 use Rattle.zk_model_work.specs.Laws.{WorkHistory, IsFreshHistory, AtEach, OfEach, IsNewest, NoneIsOpen, CancelStartTellsTheRun, FlushWaitsForNewest}
 use Rattle.zk_model_work.proofs.Lives.{open-waiting, open-running}
 use Rattle.zk_model_work.proofs.Overlaps.{position-none, and-true, not_both, runs-open, waiting-running, Ordered, Ordered-next, Ordered-history}
@@ -148,7 +149,7 @@ newest-runs s item n ordered empty is =
           absurd (false≢true (sym (position-none (waits_as item) s.admissions m b empty at) ∙ and-true (eqb b.item item) (is_waiting b.life) (eq-eqb b.item item same) waits))
 
 flush-found : (s t : State) (who : Who) (item : ℕ) → t.admissions ≡ hurried s who item → Ordered t.admissions →
-    ((number : ℕ) × (flush_start_reply (flushed t.admissions item) ≡ replies.WaitFor number) × IsNewest t item number) ⊎ ((flush_start_reply (flushed t.admissions item) ≡ replies.Truth false) × NoneIsOpen t item)
+    ((number : ℕ) × (flush_start_reply (flushed (waiting t.admissions item) (running t.admissions item)) ≡ replies.WaitFor number) × IsNewest t item number) ⊎ ((flush_start_reply (flushed (waiting t.admissions item) (running t.admissions item)) ≡ replies.Truth false) × NoneIsOpen t item)
 flush-found s t who item same ordered = by (waiting t.admissions item) (running t.admissions item) refl refl where
   by : (w r : Option ℕ) → waiting t.admissions item ≡ w → running t.admissions item ≡ r →
       ((number : ℕ) × (flush_start_reply (Rattle.std.specs.Option.option_or w r) ≡ replies.WaitFor number) × IsNewest t item number) ⊎ ((flush_start_reply (Rattle.std.specs.Option.option_or w r) ≡ replies.Truth false) × NoneIsOpen t item)
@@ -166,6 +167,6 @@ pub flush_waits_for_newest : OfEach FlushWaitsForNewest
 flush_waits_for_newest = at_each_in (λ s. Ordered s.admissions) Ordered-always _ (λ s e ordered is item op.
     let t = work_next s e.who (FlushStart item) in
     let replied : work_reply s e.who (FlushStart item) ≡ Some e.reply = ap (work_reply s e.who) (sym op) ∙ is in
-    let said = same_Some (flush_start_reply (flushed (hurried s e.who item) item)) e.reply replied in
+    let said = same_Some (flush_start_reply (flushed_of s e.who item)) e.reply replied in
     subst (λ (o : WorkOp). FlushFound (work_next s e.who o) e.reply item) (sym op)
     (subst (λ (r : WorkReply). FlushFound t r item) said (flush-found s t e.who item refl (Ordered-next s e.who (FlushStart item) e.reply replied ordered))))

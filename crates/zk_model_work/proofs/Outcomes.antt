@@ -17,9 +17,10 @@ use Rattle.zk_model_work.specs.declared.ops.WorkOp.TheVariants.{Submit, Cancel, 
 use Rattle.zk_model_work.specs.declared.ops.WorkReply.{WorkReply}
 use Rattle.zk_model_work.specs.declared.ops.WorkReply.TheVariants.{Run}
 use Rattle.zk_model_work.specs.Lists.{first}
-use Rattle.zk_model_work.specs.Questions.{is_waiting, is_running, is_open, waits_as, runs_on, line}
+use Rattle.zk_model_work.specs.Questions.{is_waiting, is_running, is_open, waits_as, runs_on, line, item_of}
 use Rattle.zk_model_work.specs.State.{State}
-use Rattle.zk_model_work.specs.Machine.{work_reply, work_next, work_machine, submission, submit, set_life, with_life, begin, end_one, drop_one}
+use Rattle.zk_model_work.specs.Machine.{work_reply, work_next, work_machine, submit, set_life, with_life, begin, end_one, drop_one}
+use Rattle.zk_model_work.specs.Answers.{submission}
 use Rattle.zk_model_work.specs.Laws.{OfEach, Cancels, submitter, ends, admission_after, AdmissionStays, OutcomeStays, BegunFromItsQueue, EndedByItsEnd}
 use Rattle.zk_model_work.proofs.Moves.{still-submit, admissions-next, is_begin}
 use Rattle.zk_model_work.proofs.Lives.{Keeps, Kept-after, IsFirst-line, set_life-at, set_life-aside}

@@ -20,7 +20,8 @@ use Rattle.zk_model_work.specs.declared.ops.WorkReply.{WorkReply}
 use Rattle.zk_model_work.specs.declared.ops.WorkReply.TheVariants as replies
 use Rattle.zk_model_work.specs.Questions.{is_empty_and_idle}
 use Rattle.zk_model_work.specs.State.{State}
-use Rattle.zk_model_work.specs.Machine.{work_reply, work_next, work_machine, disarm, drop_waiting, end_run, settle_one, changed_queue, change, change_where, drain, start_reply, unplug_reply, drain_reply}
+use Rattle.zk_model_work.specs.Machine.{work_reply, work_next, work_machine, disarm, drop_waiting, end_run, settle_one, changed_queue, change, change_where, drain}
+use Rattle.zk_model_work.specs.Answers.{start_reply, unplug_reply, drain_reply}
 use Rattle.zk_model_work.specs.Laws.{WorkHistory, IsFreshHistory, AtEach, OfEach, starts, drains, plug_after, StartedStays, PluggedAsAsked, StartTells, DrainTells, DrainingStays, DrainEndsAtRest}
 use Rattle.zk_model_work.proofs.Moves.{schedule-keeps, delayed-keeps}
 use Rattle.zk_model_work.proofs.Drains.{Keeps, AllKeep, AllKeep-next, AllKeep-after, AllKeep-fresh, settled-at}

@@ -23,9 +23,10 @@ use Rattle.zk_model_work.specs.declared.ops.Submitted.TheVariants.{Already}
 use Rattle.zk_model_work.specs.declared.ops.WorkReply.{WorkReply}
 use Rattle.zk_model_work.specs.declared.ops.WorkReply.TheVariants as replies
 use Rattle.zk_model_work.specs.Lists.{first}
-use Rattle.zk_model_work.specs.Questions.{is_live, is_waiting, is_running, waits_for, runs_on, arms_item, line, run, running, armed, live_arm, remaining, is_empty_and_idle}
+use Rattle.zk_model_work.specs.Questions.{is_live, is_waiting, is_running, waits_for, runs_on, arms_item, line, run, running, armed, live_arm, deadline_of, is_empty_and_idle}
 use Rattle.zk_model_work.specs.State.{State}
-use Rattle.zk_model_work.specs.Machine.{submission_in, arm, disarm, disarm_one, is_pending, delayed, schedule, flushed, hurried, may_close, flags_of, is_worker, taken_up, may_begin, may_end, is_started, is_plugged, cancel_start_reply, flush_start_reply, schedule_reply, delay_reply, work_reply, work_next, work_machine}
+use Rattle.zk_model_work.specs.Machine.{submission_in, arm, disarm, disarm_one, is_pending_in, delayed, schedule, flushed_of, may_close, flags_of, taken_up, may_begin, may_end, schedule_reply_in, delay_reply_in, work_reply, work_next, work_machine}
+use Rattle.zk_model_work.specs.Answers.{is_worker, is_started, is_plugged, cancel_start_reply, flush_start_reply, remaining}
 use Rattle.zk_model_work.specs.Laws.{AtEach, OfEach, is_worked_by, is_armed, asked_arm, fits, is_awaited, MayGoOn, ByItsWorker, EndFindsARun, RemainingTells, AnswersFit, ArmedAsAsked, MayBegin, MayEnd, MayAlways}
 use Rattle.zk_model_work.proofs.Lives.{IsFirst-line}
 use Rattle.zk_model_work.proofs.Lines.{first_of_places}
@@ -138,9 +139,9 @@ live-arm s item place a one at item_is live =
 
 pub remaining_tells : OfEach RemainingTells
 remaining_tells = at_each_in OneIsLive one_live_arm _ (λ s e one is item op.
-    let said : replies.Number (remaining s.arms s.time item) ≡ e.reply = same_Some (replies.Number (remaining s.arms s.time item)) e.reply (ap (work_reply s e.who) (sym op) ∙ is) in (
-      λ place a at item_is live. sym said ∙ ap (λ (o : Option Arm). replies.Number (option_map_or (λ (a : Arm). a.deadline - s.time) o 0)) (live-arm s item place a one at item_is live),
-      λ none. sym said ∙ ap (λ (o : Option Arm). replies.Number (option_map_or (λ (a : Arm). a.deadline - s.time) o 0))
+    let said : replies.Number (remaining (deadline_of s.arms item) s.time) ≡ e.reply = same_Some (replies.Number (remaining (deadline_of s.arms item) s.time)) e.reply (ap (work_reply s e.who) (sym op) ∙ is) in (
+      λ place a at item_is live. sym said ∙ ap (λ (o : Option Arm). replies.Number (remaining (option_map (λ (a : Arm). a.deadline) o) s.time)) (live-arm s item place a one at item_is live),
+      λ none. sym said ∙ ap (λ (o : Option Arm). replies.Number (remaining (option_map (λ (a : Arm). a.deadline) o) s.time))
           (find-none (arms_item item) s.arms (λ n a at passes. let it = item-live item a passes in none n a at it.0 it.1)),
     ))
 
@@ -164,11 +165,11 @@ fits-reply s who (CancelStart item) reply is =
     (fits-cond (CancelStart item) (eqb (flags_of s item) 0) (replies.Truth false) (cond (is_some (running s.admissions item)) replies.Wait (replies.Truth true)) refl
     (fits-cond (CancelStart item) (is_some (running s.admissions item)) replies.Wait (replies.Truth true) refl refl))
 fits-reply s who (CancelDone place) reply is = ap (fits (CancelDone place)) (sym (said-where (may_close s closings.Cancel who place) (replies.Truth true) reply is).1)
-fits-reply s who (FlushStart item) reply is = fits-said (FlushStart item) _ reply is (fits-flush item (flushed (hurried s who item) item))
+fits-reply s who (FlushStart item) reply is = fits-said (FlushStart item) _ reply is (fits-flush item (flushed_of s who item))
 fits-reply s who (FlushDone place) reply is = ap (fits (FlushDone place)) (sym (said-where (may_close s closings.Flush who place) (replies.Truth true) reply is).1)
 fits-reply s who (Schedule item queue delay) reply is =
     fits-said (Schedule item queue delay) _ reply is
-    (fits-cond (Schedule item queue delay) (is_pending s item) (replies.Sub Already) (delay_reply s who item queue delay) refl
+    (fits-cond (Schedule item queue delay) (is_pending_in s item) (replies.Sub Already) (delay_reply_in s who item queue delay) refl
     (fits-cond (Schedule item queue delay) (eqb delay 0) (replies.Sub (submission_in s (Some who.number) item (Some queue))) replies.Armed refl refl))
 fits-reply s who (Reschedule item queue delay) reply is =
     fits-said (Reschedule item queue delay) _ reply is (fits-cond (Reschedule item queue delay) (eqb delay 0) (replies.Sub (submission_in s (Some who.number) item (Some queue))) replies.Armed refl refl)
@@ -212,7 +213,7 @@ made-next s who (CancelStart item) reply is = drop-disarmed s.arms item ∙ none
 made-next s who (CancelDone place) reply is = none-made s.arms (is_armed reply)
 made-next s who (FlushStart item) reply is = drop-disarmed s.arms item ∙ none-asked (is_armed reply)
 made-next s who (FlushDone place) reply is = none-made s.arms (is_armed reply)
-made-next s who (Schedule item queue delay) reply is = by (is_pending s item) (eqb delay 0) (same_Some (schedule_reply s who item queue delay) reply is) where
+made-next s who (Schedule item queue delay) reply is = by (is_pending_in s item) (eqb delay 0) (same_Some (schedule_reply_in s who item queue delay) reply is) where
   a : Arm
   a = record { item = item; queue = queue; deadline = s.time + delay; fate = Live }
 
@@ -222,7 +223,7 @@ made-next s who (Schedule item queue delay) reply is = by (is_pending s item) (e
   by true d said = drop-length s.arms ∙ ap (λ (r : WorkReply). cond (is_armed r) (a ∷ []) []) said
   by false true said = drop-length s.arms ∙ ap (λ (r : WorkReply). cond (is_armed r) (a ∷ []) []) said
   by false false said = drop-append_seam s.arms (a ∷ []) ∙ ap (λ (r : WorkReply). cond (is_armed r) (a ∷ []) []) said
-made-next s who (Reschedule item queue delay) reply is = by (eqb delay 0) (same_Some (delay_reply s who item queue delay) reply is) where
+made-next s who (Reschedule item queue delay) reply is = by (eqb delay 0) (same_Some (delay_reply_in s who item queue delay) reply is) where
   a : Arm
   a = record { item = item; queue = queue; deadline = s.time + delay; fate = Live }
 
