@@ -32,7 +32,7 @@ use Rattle.zk_model_work.proofs.Begins.{alive, Replays-parts}
 use Rattle.zk_model_work.proofs.Overlaps.{runs-open, second_of, and-true, running-not, not_both, still-cond, Handed-entry}
 
 -- no admission of the item waits
-abbrev NoneWaits : ℕ → List Admission → Type 0
+abbrev pub NoneWaits : ℕ → List Admission → Type 0
 NoneWaits item xs = (n : ℕ) (a : Admission) → slice_get xs n ≡ Some a → a.item ≡ item → is_waiting a.life ≡ false
 
 -- the number is among the marks, so any test that it passes is passed by one of them

@@ -87,7 +87,7 @@ abbrev live_arm_of : ℕ → ℕ → ℕ → Arm
 live_arm_of item queue deadline = record { item = item; queue = queue; deadline = deadline; fate = Live }
 
 -- no live arm of the item
-abbrev Unarmed : ℕ → List Arm → Type 0
+abbrev pub Unarmed : ℕ → List Arm → Type 0
 Unarmed item xs = (n : ℕ) (a : Arm) → slice_get xs n ≡ Some a → arms_item item a ≡ false
 
 other_item : (item : ℕ) (a : Arm) → arms_item item a ≡ false → is_live a.fate ≡ true → a.item ≡ item → ⊥
@@ -114,7 +114,7 @@ keep-arm xs time item queue deadline none later keep = record {
 positive : (time delay : ℕ) → eqb delay 0 ≡ false → time < time + delay
 positive time delay is = grind (arith, nat_tests)
 
-unarmed-disarm : (xs : List Arm) (item : ℕ) → Unarmed item (disarm xs item)
+pub unarmed-disarm : (xs : List Arm) (item : ℕ) → Unarmed item (disarm xs item)
 unarmed-disarm xs item n b at = by (arms_item item b) refl where
   by : (c : Bool) → arms_item item b ≡ c → arms_item item b ≡ false
   by true is = absurd (false≢true (sym (still-armed xs item n b at (second_so (eqb b.item item) (is_live b.fate) is)).1 ∙ is))

@@ -7,11 +7,14 @@ pub mod Entries
 pub mod Found
 pub mod Lines
 pub mod Lives
+pub mod Marks
 pub mod Moves
 pub mod Outcomes
 pub mod Overlaps
 pub mod Queues
 pub mod Replies
 pub mod Singles
+pub mod Tells
+pub mod Waits
 pub mod Weights
 pub mod Writes

@@ -28,7 +28,7 @@ use Rattle.zk_model_work.proofs.Begins.{Begun-reply, Replays-parts}
 use Rattle.zk_model_work.proofs.Overlaps.{and-true, begin-is, same_item}
 
 -- what the front holds is kept in the whole
-kept-in_whole : (start : State) (h front rest : List (Entry WorkOp WorkReply)) (number : ℕ) (a : Admission) → h ≡ front ++ rest → admission_after start front number ≡ Some a → (b : Admission) × (admission_after start h number ≡ Some b) × Keeps a b
+pub kept-in_whole : (start : State) (h front rest : List (Entry WorkOp WorkReply)) (number : ℕ) (a : Admission) → h ≡ front ++ rest → admission_after start front number ≡ Some a → (b : Admission) × (admission_after start h number ≡ Some b) × Keeps a b
 kept-in_whole start h front rest number a parts at =
     let kept = Kept-after (state_after work_machine start front) rest number a at in
     (kept.0, ap (λ (l : List (Entry WorkOp WorkReply)). admission_after start l number) parts ∙ ap (λ (s : State). slice_get s.admissions number) (state_after-append work_machine start front rest) ∙ kept.1, kept.2)

@@ -363,7 +363,7 @@ pub not_both : (b c : Bool) → c ≡ false → (b && c) ≡ false
 not_both true c is = is
 not_both false c is = refl
 
-not_first : (b c : Bool) → b ≡ false → (b && c) ≡ false
+pub not_first : (b c : Bool) → b ≡ false → (b && c) ≡ false
 not_first true c is = absurd (cc)
 not_first false c is = refl
 

@@ -37,7 +37,7 @@ use Rattle.zk_model_work.proofs.Delays.{one_live_arm}
 use Rattle.zk_model_work.proofs.Entries.{at_each, at_each_in}
 
 -- where something is possible, and what is said then
-said-where : (b : Bool) (said reply : WorkReply) → cond b (Some said) None ≡ Some reply → (b ≡ true) × (said ≡ reply)
+pub said-where : (b : Bool) (said reply : WorkReply) → cond b (Some said) None ≡ Some reply → (b ≡ true) × (said ≡ reply)
 said-where true said reply is = (refl, same_Some said reply is)
 said-where false said reply is = absurd (cc)
 
@@ -157,7 +157,7 @@ fits-flush : (item : ℕ) (o : Option ℕ) → fits (FlushStart item) (flush_sta
 fits-flush item None = refl
 fits-flush item (Some n) = refl
 
-fits-reply : (s : State) (who : Who) (op : WorkOp) (reply : WorkReply) → work_reply s who op ≡ Some reply → fits op reply ≡ true
+pub fits-reply : (s : State) (who : Who) (op : WorkOp) (reply : WorkReply) → work_reply s who op ≡ Some reply → fits op reply ≡ true
 fits-reply s who (Submit item named) reply is = fits-said (Submit item named) (replies.Sub (submission_in s (Some who.number) item named)) reply is refl
 fits-reply s who (Cancel item) reply is = fits-said (Cancel item) _ reply is refl
 fits-reply s who (CancelStart item) reply is =

@@ -132,6 +132,27 @@ arm_after start h place = slice_get (state_after work_machine start h).arms plac
 abbrev pub time_after : State → WorkHistory → ℕ
 time_after start h = (state_after work_machine start h).time
 
+-- an earlier cancel of the item found a run that goes on still: the item is being cancelled
+pub record IsBeingCancelled (start : State) (h : WorkHistory) (item : ℕ) : Type 0 where
+  pub before : WorkHistory
+  pub since : WorkHistory
+  pub cancel : Entry WorkOp WorkReply
+  pub run : ℕ
+  pub parts : h ≡ before ++ cancel ∷ since
+  pub cancels : Cancels item cancel.op
+  pub found : running_after start before item ≡ Some run
+  pub runs : life_after start h run ≡ Some Running
+
+-- the reply tells the player to wait for this admission
+abbrev pub awaits : ℕ → WorkReply → Bool
+awaits number (WaitFor other) = number == other
+awaits number reply = false
+
+-- the flags that a cancel tells: none where the item doesn't run; else that it runs and is being cancelled, and whether a flush awaits that run
+abbrev pub cancel_flags : WorkHistory → Option ℕ → ℕ
+cancel_flags front None = 0
+cancel_flags front (Some run) = if list_any (λ e. awaits run e.reply) front then 19 else 3
+
 -- the ticks that pass by an operation
 abbrev pub ticks_of : WorkOp → ℕ
 ticks_of (Announce ticks) = ticks
@@ -355,6 +376,11 @@ CancelDoneAfterRun start h = (front between rest : WorkHistory) (first done : En
     h ≡ front ++ first ∷ (between ++ done ∷ rest) → first.op ≡ CancelStart item → running_after start front item ≡ Some run →
     done.op ≡ CancelDone (length front) → life_after start (front ++ first ∷ between) run ≡ Some Ended
 
+-- a cancel tells whether the item runs after it, and whether an earlier flush waits for that run
+abbrev pub CancelTellsTheRun : State → WorkHistory → Type 0
+CancelTellsTheRun start h = (front rest : WorkHistory) (e : Entry WorkOp WorkReply) (item : ℕ) → h ≡ front ++ e ∷ rest →
+    e.op ≡ Cancel item → e.reply ≡ Flags (cancel_flags front (running_after start (front ++ e ∷ []) item))
+
 -- a sync cancel waits where the item runs; else it tells whether one of it waited or was to come after a delay
 abbrev pub CancelStartTellsTheRun : State → WorkHistory → Type 0
 CancelStartTellsTheRun = AtEach (λ before e later. (item : ℕ) → e.op ≡ CancelStart item →
@@ -368,6 +394,7 @@ pub record CancelsHold (start : State) (h : WorkHistory) : Type 0 where
   pub after : BegunMadeAfterCancel start h
   pub run : BegunMadeAfterRun start h
   pub done : CancelDoneAfterRun start h
+  pub told : CancelTellsTheRun start h
   pub waits : CancelStartTellsTheRun start h
 
 -- Flushes.
