@@ -2,6 +2,7 @@ pub mod Begins
 pub mod Cancels
 pub mod Counts
 pub mod Delays
+pub mod Dones
 pub mod Drains
 pub mod Entries
 pub mod Found

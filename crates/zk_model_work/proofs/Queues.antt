@@ -59,7 +59,7 @@ with_plug b q = cond b (changed_queue changes.Plug q) q
 abbrev draining_more : Bool → Queue → Queue
 draining_more b q = cond b (changed_queue changes.Drain q) q
 
-abbrev queue_next : State → WorkOp → ℕ → Queue → Queue
+abbrev pub queue_next : State → WorkOp → ℕ → Queue → Queue
 queue_next s (Cancel item) n q = settle_one (is_empty_and_idle (drop_waiting s.admissions item)) n q
 queue_next s (CancelStart item) n q = settle_one (is_empty_and_idle (drop_waiting s.admissions item)) n q
 queue_next s (Start k) n q = cond (eqb n k) (changed_queue changes.Start q) q
@@ -71,7 +71,7 @@ queue_next s op n q = q
 settled-get : (idle : ℕ → Bool) (qs : List Queue) (n : ℕ) → slice_get (Rattle.zk_model_work.specs.Machine.settle_from idle 0 qs) n ≡ option_map (settle_one idle n) (slice_get qs n)
 settled-get idle qs n = let same : 0 + n ≡ n = omega arith in settled-at idle 0 qs n ∙ ap (λ m. option_map (settle_one idle m) (slice_get qs n)) same
 
-queues-next : (s : State) (who : Who) (op : WorkOp) (n : ℕ) → slice_get (work_next s who op).queues n ≡ option_map (queue_next s op n) (slice_get s.queues n)
+pub queues-next : (s : State) (who : Who) (op : WorkOp) (n : ℕ) → slice_get (work_next s who op).queues n ≡ option_map (queue_next s op n) (slice_get s.queues n)
 queues-next s who (Submit item named) n = sym (option_map_id (slice_get s.queues n))
 queues-next s who (Cancel item) n = settled-get (is_empty_and_idle (drop_waiting s.admissions item)) s.queues n
 queues-next s who (CancelStart item) n = settled-get (is_empty_and_idle (drop_waiting s.admissions item)) s.queues n
@@ -253,7 +253,7 @@ draining-started rests there here plug q same until = by there here q.draining r
 kept-next : (s : State) (who : Who) (op : WorkOp) (n : ℕ) (q : Queue) → AllKeep s → slice_get s.queues n ≡ Some q → Keeps (work_next s who op).admissions n (queue_next s op n q)
 kept-next s who op n q keep at = AllKeep-next s who op keep n (queue_next s op n q) (queues-next s who op n ∙ ap (option_map (queue_next s op n)) at)
 
-draining-next : (s : State) (who : Who) (op : WorkOp) (n : ℕ) (q : Queue) → AllKeep s → slice_get s.queues n ≡ Some q →
+pub draining-next : (s : State) (who : Who) (op : WorkOp) (n : ℕ) (q : Queue) → AllKeep s → slice_get s.queues n ≡ Some q →
     (queue_next s op n q).draining ≡ ((q.draining || drains n op) && not (is_empty_and_idle (work_next s who op).admissions n))
 draining-next s who (Submit item named) n q keep at =
     unsettled q.draining (is_empty_and_idle (work_next s who (Submit item named)).admissions n) (kept-next s who (Submit item named) n q keep at).until
@@ -297,7 +297,7 @@ counted-settled rests q = by q.draining rests refl where
   by false true is = sym (add-zero q.drained)
   by false false is = sym (add-zero q.drained)
 
-counted-next : (s : State) (op : WorkOp) (n : ℕ) (q : Queue) → (queue_next s op n q).drained ≡ q.drained + cond (q.draining && not (queue_next s op n q).draining) 1 0
+pub counted-next : (s : State) (op : WorkOp) (n : ℕ) (q : Queue) → (queue_next s op n q).drained ≡ q.drained + cond (q.draining && not (queue_next s op n q).draining) 1 0
 counted-next s (Submit item named) n q = not-counted q q refl (λ d. d)
 counted-next s (Cancel item) n q = counted-settled (is_empty_and_idle (drop_waiting s.admissions item) n) q
 counted-next s (CancelStart item) n q = counted-settled (is_empty_and_idle (drop_waiting s.admissions item) n) q
@@ -335,7 +335,7 @@ draining_stays = at_each_in AllKeep AllKeep-history _ (λ s e keep is queue q r 
     ))
 
 -- a drain that is started
-drained-start : (s : State) (who : Who) (queue : ℕ) (plug : Bool) (r : Queue) → AllKeep s → slice_get (work_next s who (DrainStart queue plug)).queues queue ≡ Some r → r.draining ≡ not (is_empty_and_idle s.admissions queue)
+pub drained-start : (s : State) (who : Who) (queue : ℕ) (plug : Bool) (r : Queue) → AllKeep s → slice_get (work_next s who (DrainStart queue plug)).queues queue ≡ Some r → r.draining ≡ not (is_empty_and_idle s.admissions queue)
 drained-start s who queue plug r keep there = by (slice_get s.queues queue) refl where
   or-true : (b : Bool) → (b || true) ≡ true
   or-true true = refl

@@ -153,6 +153,56 @@ abbrev pub cancel_flags : WorkHistory → Option ℕ → ℕ
 cancel_flags front None = 0
 cancel_flags front (Some run) = if list_any (λ e. awaits run e.reply) front then 19 else 3
 
+-- it tells a player that the wait which began with the entry of this place is over
+abbrev pub is_done_of : ℕ → WorkOp → Bool
+is_done_of place (CancelDone other) = place == other
+is_done_of place (FlushDone other) = place == other
+is_done_of place (DrainDone other) = place == other
+is_done_of place op = false
+
+-- the first of these tells the end of what the second one starts
+abbrev pub ends_wait_of : WorkOp → WorkOp → Bool
+ends_wait_of (CancelDone place) (CancelStart item) = true
+ends_wait_of (FlushDone place) (FlushStart item) = true
+ends_wait_of (DrainDone place) (DrainStart queue plug) = true
+ends_wait_of op other = false
+
+-- what tells the end of the wait that this operation starts at this place
+abbrev pub done_for : WorkOp → ℕ → WorkOp
+done_for (CancelStart item) place = CancelDone place
+done_for (FlushStart item) place = FlushDone place
+done_for (DrainStart queue plug) place = DrainDone place
+done_for op place = op
+
+-- the reply tells the player to wait
+abbrev pub has_to_wait : WorkReply → Bool
+has_to_wait replies.Wait = true
+has_to_wait (WaitFor number) = true
+has_to_wait reply = false
+
+-- at this place of a history stands a start of the player that had to wait, and that hasn't been told to be done; this operation tells it
+pub record HasStart (front : WorkHistory) (who : Who) (op : WorkOp) (place : ℕ) : Type 0 where
+  pub before : WorkHistory
+  pub since : WorkHistory
+  pub first : Entry WorkOp WorkReply
+  pub parts : front ≡ before ++ first ∷ since
+  pub at : length before ≡ place
+  pub same : first.who.number ≡ who.number
+  pub starts : ends_wait_of op first.op ≡ true
+  pub waits : has_to_wait first.reply ≡ true
+  pub untold : list_any (λ e. is_done_of place e.op) since ≡ false
+
+-- what an operation waits for that was done after one history and before another one has come:
+-- the run found has ended, the admission told neither waits nor runs, the queue has rested at some moment
+abbrev pub HasCome : State → WorkHistory → Entry WorkOp WorkReply → WorkHistory → WorkOp → Type 0
+HasCome start before first since (CancelStart item) =
+    (run : ℕ) × (running_after start before item ≡ Some run) × (life_after start (before ++ first ∷ since) run ≡ Some Ended)
+HasCome start before first since (FlushStart item) =
+    (number : ℕ) × (first.reply ≡ WaitFor number) × (option_map is_open (life_after start (before ++ first ∷ since) number) ≡ Some false)
+HasCome start before first since (DrainStart queue plug) =
+    (soon late : WorkHistory) × (since ≡ soon ++ late) × (rests_after start (before ++ first ∷ soon) queue ≡ true)
+HasCome start before first since op = ⊥
+
 -- the ticks that pass by an operation
 abbrev pub ticks_of : WorkOp → ℕ
 ticks_of (Announce ticks) = ticks
@@ -566,6 +616,17 @@ MayEnd start h = (who : Who) (queue number : ℕ) (q : Queue) (a : Admission) �
 abbrev pub MayAlways : State → WorkHistory → Type 0
 MayAlways start h = (who : Who) (op : WorkOp) → is_awaited op ≡ false → MayGoOn start h who op
 
+-- a start that had to wait and isn't told to be done yet may be told so once what it waits for has come
+abbrev pub MayBeDone : State → WorkHistory → Type 0
+MayBeDone start h = (before since : WorkHistory) (first : Entry WorkOp WorkReply) (who : Who) → h ≡ before ++ first ∷ since →
+    has_to_wait first.reply ≡ true → who.number ≡ first.who.number → list_any (λ e. is_done_of (length before) e.op) since ≡ false →
+    HasCome start before first since first.op → MayGoOn start h who (done_for first.op (length before))
+
+-- only the player who started is told to be done, of a start that had to wait, and once
+abbrev pub DoneHasItsStart : State → WorkHistory → Type 0
+DoneHasItsStart start h = (front rest : WorkHistory) (e : Entry WorkOp WorkReply) (place : ℕ) → h ≡ front ++ e ∷ rest →
+    is_done_of place e.op ≡ true → HasStart front e.who e.op place
+
 -- each operation is answered in its form
 abbrev pub AnswersFit : State → WorkHistory → Type 0
 AnswersFit = AtEach (λ before e later. fits e.op e.reply ≡ true)
@@ -575,6 +636,8 @@ pub record GoesOn (start : State) (h : WorkHistory) : Type 0 where
   pub begin : MayBegin start h
   pub end : MayEnd start h
   pub always : MayAlways start h
+  pub done : MayBeDone start h
+  pub first : DoneHasItsStart start h
   pub fits : AnswersFit start h
 
 -- all of it
