@@ -129,13 +129,13 @@ length-set_life [] n life = refl
 length-set_life (a ∷ rest) zero life = refl
 length-set_life (a ∷ rest) (suc n) life = ap suc (length-set_life rest n life)
 
-length-begin : (xs : List Admission) (queue : ℕ) → length (begin xs queue) ≡ length xs
+pub length-begin : (xs : List Admission) (queue : ℕ) → length (begin xs queue) ≡ length xs
 length-begin xs queue = by (first (line xs queue)) where
   by : (o : Option ℕ) → length (option_map_or (λ number. set_life xs number Running) o xs) ≡ length xs
   by None = refl
   by (Some number) = length-set_life xs number Running
 
-none-new : (xs ys : List Admission) (n : ℕ) (b : Admission) → length ys ≡ length xs → slice_get ys n ≡ Some b → length xs ≤ n → ⊥
+pub none-new : (xs ys : List Admission) (n : ℕ) (b : Admission) → length ys ≡ length xs → slice_get ys n ≡ Some b → length xs ≤ n → ⊥
 none-new xs ys n b long at past = let within = slice_get_within ys n b at in omega arith
 
 length-mapped : (f : Admission → Admission) (xs : List Admission) → length (map f xs) ≡ length xs

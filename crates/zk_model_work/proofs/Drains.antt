@@ -76,7 +76,7 @@ took xs marks queues caller item named queue is =
     took_at i queues caller (target i named) queue (took_if (is_some (waiting xs item)) Already at queue refl one)
 
 -- what took each admission that an entry makes
-made-took : (start : State) (front : List (Entry WorkOp WorkReply)) (e : Entry WorkOp WorkReply) (number : ℕ) (a : Admission) →
+pub made-took : (start : State) (front : List (Entry WorkOp WorkReply)) (e : Entry WorkOp WorkReply) (number : ℕ) (a : Admission) →
     Makes (state_after work_machine start front) (state_after work_machine start (front ++ e ∷ [])) number a →
     Took (state_after work_machine start front).queues (submitter e.who e.op) a.queue
 made-took start front e number a makes =

@@ -8,13 +8,16 @@ pub mod Entries
 pub mod Found
 pub mod Lines
 pub mod Lives
+pub mod Made
 pub mod Marks
 pub mod Moves
 pub mod Outcomes
 pub mod Overlaps
+pub mod Pending
 pub mod Queues
 pub mod Replies
 pub mod Singles
+pub mod Submissions
 pub mod Tells
 pub mod Waits
 pub mod Weights

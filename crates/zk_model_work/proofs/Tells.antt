@@ -106,7 +106,7 @@ only-run xs item run ordered runs empty n = at_place (eqb_tells run n) where
       so false is = is
       so true is = absurd (other n b differ.1 at (eqb-true b.item item (first_so (eqb b.item item) (is_open b.life) is)) (second_so (eqb b.item item) (is_open b.life) is))
 
-any-same : {A : Type 0} (p q : A → Bool) → ((x : A) → p x ≡ q x) → (xs : List A) → list_any p xs ≡ list_any q xs
+pub any-same : {A : Type 0} (p q : A → Bool) → ((x : A) → p x ≡ q x) → (xs : List A) → list_any p xs ≡ list_any q xs
 any-same p q same [] = refl
 any-same p q same (x ∷ xs) = ap (λ b. b || list_any p xs) (same x) ∙ ap (λ b. q x || b) (any-same p q same xs)
 

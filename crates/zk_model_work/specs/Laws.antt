@@ -1,10 +1,15 @@
 use Rattle.std.specs.Prelude.{◌≡◌, ℕ, ◌+◌, ◌-◌, ◌<◌, ◌≤◌, ◌⊎◌, Bool, true, false, not, ◌&&◌, ◌||◌, ◌==◌, nat_le, if◌then◌else◌, count_by, Option, Some, None, is_some, option_map, List, [], ◌∷◌, ◌++◌, length, map, drop, slice_get, All}
 use Rattle.std.specs.List.{list_any}
+use Rattle.std.specs.Option.{option_or}
+use Rattle.zk_base.specs.declared.errors.Errno.{Errno}
+use Rattle.zk_base.specs.declared.errors.Errno.TheVariants as errnos
 use Rattle.zk_base.specs.declared.ids.Who.{Who}
 use Rattle.zk_base.specs.declared.ids.Entry.{Entry}
 use Rattle.zk_base.specs.Legal.{state_after, IsLegal}
 use Rattle.zk_model_work.specs.declared.ops.WorkOp.{WorkOp}
 use Rattle.zk_model_work.specs.declared.ops.WorkOp.TheVariants.{Submit, Cancel, CancelStart, CancelDone, FlushStart, FlushDone, Schedule, Reschedule, Remaining, Start, DrainStart, DrainDone, Unplug, Announce, Begin, End}
+use Rattle.zk_model_work.specs.declared.ops.Submitted.{Submitted}
+use Rattle.zk_model_work.specs.declared.ops.Submitted.TheVariants as submitteds
 use Rattle.zk_model_work.specs.declared.ops.Expiry.{Expiry}
 use Rattle.zk_model_work.specs.declared.ops.WorkReply.{WorkReply}
 use Rattle.zk_model_work.specs.declared.ops.WorkReply.TheVariants.{Sub, Flags, Truth, WaitFor, Number, Done, Now, Run}
@@ -15,7 +20,7 @@ use Rattle.zk_model_work.specs.declared.parts.Admission.{Admission}
 use Rattle.zk_model_work.specs.declared.parts.Fate.TheVariants.{Live, Expired, Disarmed}
 use Rattle.zk_model_work.specs.declared.parts.Arm.{Arm}
 use Rattle.zk_model_work.specs.declared.parts.Queue.{Queue}
-use Rattle.zk_model_work.specs.Questions.{is_waiting, is_open, is_live, is_empty_and_idle, waiting, running, armed, due}
+use Rattle.zk_model_work.specs.Questions.{is_waiting, is_open, is_live, is_empty_and_idle, waiting, running, running_queue, last_queue, armed, due}
 use Rattle.zk_model_work.specs.State.{State}
 use Rattle.zk_model_work.specs.Machine.{work_machine}
 use Rattle.zk_model_work.specs.Answers.{drained_of}
@@ -64,6 +69,12 @@ ends queue _ = false
 -- it is a cancel of the item, one that waits or one that doesn't
 abbrev pub Cancels : ℕ → WorkOp → Type 0
 Cancels item op = (op ≡ Cancel item) ⊎ (op ≡ CancelStart item)
+
+-- the same, as a test
+abbrev pub cancels : ℕ → WorkOp → Bool
+cancels item (Cancel other) = item == other
+cancels item (CancelStart other) = item == other
+cancels item op = false
 
 -- it gives up the delay of the item, if it has one
 abbrev pub disarms : ℕ → WorkOp → Bool
@@ -143,6 +154,50 @@ pub record IsBeingCancelled (start : State) (h : WorkHistory) (item : ℕ) : Typ
   pub found : running_after start before item ≡ Some run
   pub runs : life_after start h run ≡ Some Running
 
+-- the queue that runs the item, else the named one, else that of its last admission
+abbrev pub target_of : State → ℕ → Option ℕ → Option ℕ
+target_of s item named = option_or (running_queue s.admissions item) (option_or named (last_queue s.admissions item))
+
+-- the submitter is the queue's worker
+abbrev pub is_own : Queue → Option ℕ → Bool
+is_own q None = false
+is_own q (Some player) = player == q.worker
+
+-- a started queue takes no submission of this submitter: it drains and isn't the submitter's own, or it is plugged and doesn't drain
+abbrev pub bars : Queue → Option ℕ → Bool
+bars q caller = (q.draining && not (is_own q caller)) || (q.plugged && not q.draining)
+
+-- the item has a live arm, which is for this queue
+abbrev pub IsArmedFor : State → ℕ → ℕ → Type 0
+IsArmedFor s item queue = (place : ℕ) × (a : Arm) × (slice_get s.arms place ≡ Some a) × (a.item ≡ item) × (a.fate ≡ Live) × (a.queue ≡ queue)
+
+-- the queue, if any, that an operation names for an item that it submits: an announce and a flush name that of the item's live arm
+abbrev pub Named : State → WorkOp → ℕ → Option ℕ → Type 0
+Named s (Submit other queue) item named = named ≡ queue
+Named s (Schedule other queue delay) item named = named ≡ Some queue
+Named s (Reschedule other queue delay) item named = named ≡ Some queue
+Named s (FlushStart other) item named = (queue : ℕ) × (named ≡ Some queue) × IsArmedFor s item queue
+Named s (Announce ticks) item named = (queue : ℕ) × (named ≡ Some queue) × IsArmedFor s item queue
+Named s op item named = ⊥
+
+-- by this reply to the operation the item was submitted, and its submission answered so; of a schedule the 0 apart
+abbrev pub Told : WorkOp → WorkReply → ℕ → Submitted → Type 0
+Told (Submit other queue) (Sub told) item answer = (other ≡ item) × (told ≡ answer)
+Told (Schedule other queue delay) (Sub told) item answer = (other ≡ item) × (told ≡ answer) × (answer ≡ submitteds.Already → ⊥)
+Told (Reschedule other queue delay) (Sub told) item answer = (other ≡ item) × (told ≡ answer)
+Told (Announce ticks) (Now time told) item answer =
+    (number : ℕ) × (x : Expiry) × (slice_get told number ≡ Some x) × (x.item ≡ item) × (x.submitted ≡ answer)
+Told op reply item answer = ⊥
+
+-- what an answer to a submission says is so: 1 and 2 make an admission that waits, 2 of an item that ran; 0 is of one that waited
+abbrev pub IsSo : State → State → ℕ → Submitted → Type 0
+IsSo before later item (submitteds.Fresh number queue) =
+    Makes before later number (record { item = item; queue = queue; life = Waiting }) × (is_some (running before.admissions item) ≡ false)
+IsSo before later item (submitteds.Rerun number queue) =
+    Makes before later number (record { item = item; queue = queue; life = Waiting }) × (is_some (running before.admissions item) ≡ true)
+IsSo before later item submitteds.Already = is_some (waiting before.admissions item) ≡ true
+IsSo before later item (submitteds.Refused cause) = Unit {0}
+
 -- the reply tells the player to wait for this admission
 abbrev pub awaits : ℕ → WorkReply → Bool
 awaits number (WaitFor other) = number == other
@@ -179,6 +234,22 @@ abbrev pub has_to_wait : WorkReply → Bool
 has_to_wait replies.Wait = true
 has_to_wait (WaitFor number) = true
 has_to_wait reply = false
+
+-- why a submission after a history is refused: busy where the item is being cancelled, or its target is started and bars the submitter;
+-- else nodev where its target isn't started, and inval where it has none
+abbrev pub IsCause : State → WorkHistory → State → Option ℕ → ℕ → Option ℕ → Errno → Type 0
+IsCause start front s caller item named errnos.Busy = IsBeingCancelled start front item
+    ⊎ ((queue : ℕ) × (q : Queue) × (target_of s item named ≡ Some queue) × (slice_get s.queues queue ≡ Some q) × (q.started ≡ true) × (bars q caller ≡ true))
+IsCause start front s caller item named errnos.NoDev = (IsBeingCancelled start front item → ⊥)
+    × ((queue : ℕ) × (q : Queue) × (target_of s item named ≡ Some queue) × (slice_get s.queues queue ≡ Some q) × (q.started ≡ false))
+IsCause start front s caller item named errnos.Inval = (IsBeingCancelled start front item → ⊥)
+    × ((queue : ℕ) (q : Queue) → target_of s item named ≡ Some queue → slice_get s.queues queue ≡ Some q → ⊥)
+IsCause start front s caller item named cause = ⊥
+
+-- the item is delayed, waits or is being cancelled after a history
+abbrev pub IsPending : State → WorkHistory → ℕ → Type 0
+IsPending start h item = (is_some (armed (state_after work_machine start h).arms item) ≡ true)
+    ⊎ ((is_some (waiting (state_after work_machine start h).admissions item) ≡ true) ⊎ IsBeingCancelled start h item)
 
 -- at this place of a history stands a start of the player that had to wait, and that hasn't been told to be done; this operation tells it
 pub record HasStart (front : WorkHistory) (who : Who) (op : WorkOp) (place : ℕ) : Type 0 where
@@ -392,6 +463,48 @@ pub record NeverOverlaps (start : State) (h : WorkHistory) : Type 0 where
   pub worker : ByItsWorker start h
   pub found : EndFindsARun start h
 
+-- Submissions.
+
+-- an admission is made only by a submission that tells its number and queue, or a flush that waits for it, and it waits
+abbrev pub MadeWaiting : State → WorkHistory → Type 0
+MadeWaiting = AtEach (λ before e later. (number : ℕ) (a : Admission) → Makes before later number a → (a.life ≡ Waiting)
+    × (Told e.op e.reply a.item (submitteds.Fresh number a.queue) ⊎ (Told e.op e.reply a.item (submitteds.Rerun number a.queue)
+    ⊎ ((e.op ≡ FlushStart a.item) × (e.reply ≡ WaitFor number)))))
+
+-- it waits on, unchanged, until a begin hands it out or a cancel of its item drops it
+abbrev pub WaitsOn : State → WorkHistory → Type 0
+WaitsOn = AtEach (λ before e later. (number : ℕ) (a : Admission) → slice_get before.admissions number ≡ Some a → a.life ≡ Waiting →
+    hands_out number e.reply ≡ false → slice_get later.admissions number ≡ Some (if cancels a.item e.op then record a { life = Dropped } else a))
+
+-- what the answer to a submission says is so
+abbrev pub AnsweredIsMade : State → WorkHistory → Type 0
+AnsweredIsMade = AtEach (λ before e later. (item : ℕ) (answer : Submitted) → Told e.op e.reply item answer → IsSo before later item answer)
+
+-- a submission is refused for its cause
+abbrev pub RefusedWithCause : State → WorkHistory → Type 0
+RefusedWithCause start h = (front rest : WorkHistory) (e : Entry WorkOp WorkReply) (item : ℕ) (named : Option ℕ) (cause : Errno) → h ≡ front ++ e ∷ rest →
+    Told e.op e.reply item (submitteds.Refused cause) → Named (state_after work_machine start front) e.op item named →
+    IsCause start front (state_after work_machine start front) (submitter e.who e.op) item named cause
+
+-- an admission is made to the target of its submission
+abbrev pub GoesToItsQueue : State → WorkHistory → Type 0
+GoesToItsQueue = AtEach (λ before e later. (number : ℕ) (a : Admission) (named : Option ℕ) → Makes before later number a →
+    Named before e.op a.item named → target_of before a.item named ≡ Some a.queue)
+
+-- and that queue is started
+abbrev pub StartedAdmits : State → WorkHistory → Type 0
+StartedAdmits = AtEach (λ before e later. (number : ℕ) (a : Admission) → Makes before later number a →
+    (q : Queue) × (slice_get before.queues a.queue ≡ Some q) × (q.started ≡ true))
+
+-- a submission is answered as it is
+pub record SubmissionsHold (start : State) (h : WorkHistory) : Type 0 where
+  pub made : MadeWaiting start h
+  pub waits : WaitsOn start h
+  pub so : AnsweredIsMade start h
+  pub refused : RefusedWithCause start h
+  pub queue : GoesToItsQueue start h
+  pub started : StartedAdmits start h
+
 -- Cancels.
 
 -- after a cancel no admission of its item waits
@@ -460,10 +573,22 @@ abbrev pub FlushWaitsForNewest : State → WorkHistory → Type 0
 FlushWaitsForNewest = AtEach (λ before e later. (item : ℕ) → e.op ≡ FlushStart item →
     ((number : ℕ) × (e.reply ≡ WaitFor number) × IsNewest later item number) ⊎ ((e.reply ≡ Truth false) × NoneIsOpen later item))
 
+-- a flush of an item with a live arm submits it, as its player: then one of it waits, unless it was being cancelled or its target takes
+-- nothing of that player; without a live arm it makes nothing
+abbrev pub FlushHurries : State → WorkHistory → Type 0
+FlushHurries start h = (front rest : WorkHistory) (e : Entry WorkOp WorkReply) (item : ℕ) → h ≡ front ++ e ∷ rest → e.op ≡ FlushStart item →
+    ((queue target : ℕ) (q : Queue) → IsArmedFor (state_after work_machine start front) item queue → (IsBeingCancelled start front item → ⊥) →
+        target_of (state_after work_machine start front) item (Some queue) ≡ Some target →
+        slice_get (state_after work_machine start front).queues target ≡ Some q → q.started ≡ true → bars q (Some e.who.number) ≡ false →
+        is_some (waiting (state_after work_machine start (front ++ e ∷ [])).admissions item) ≡ true)
+    × (((queue : ℕ) → IsArmedFor (state_after work_machine start front) item queue → ⊥) →
+        (state_after work_machine start (front ++ e ∷ [])).admissions ≡ (state_after work_machine start front).admissions)
+
 -- a flush holds
 pub record FlushesHold (start : State) (h : WorkHistory) : Type 0 where
   pub done : FlushDoneAfterItsEnd start h
   pub newest : FlushWaitsForNewest start h
+  pub hurries : FlushHurries start h
 
 -- Drains and plugs.
 
@@ -576,6 +701,17 @@ abbrev pub ArmedAsAsked : State → WorkHistory → Type 0
 ArmedAsAsked = AtEach (λ before e later.
     drop (length before.arms) later.arms ≡ (if is_armed e.reply then asked_arm before.time e.op else []))
 
+-- a schedule of an item that is delayed, waits or is being cancelled is answered 0 and changes nothing; else it delays the item
+-- just where there is a delay, and so does each reschedule
+abbrev pub ScheduleTells : State → WorkHistory → Type 0
+ScheduleTells start h = (front rest : WorkHistory) (e : Entry WorkOp WorkReply) (item queue delay : ℕ) → h ≡ front ++ e ∷ rest →
+    (e.op ≡ Schedule item queue delay → IsPending start front item → (e.reply ≡ Sub submitteds.Already)
+        × ((state_after work_machine start (front ++ e ∷ [])).admissions ≡ (state_after work_machine start front).admissions)
+        × ((state_after work_machine start (front ++ e ∷ [])).arms ≡ (state_after work_machine start front).arms))
+    × (e.op ≡ Schedule item queue delay → (IsPending start front item → ⊥) →
+        (e.reply ≡ Sub submitteds.Already → ⊥) × (is_armed e.reply ≡ not (delay == 0)))
+    × (e.op ≡ Reschedule item queue delay → is_armed e.reply ≡ not (delay == 0))
+
 -- what remains of a delay is told: the live arm's deadline less the time, and 0 where the item has none
 abbrev pub RemainingTells : State → WorkHistory → Type 0
 RemainingTells = AtEach (λ before e later. (item : ℕ) → e.op ≡ Remaining item →
@@ -595,6 +731,7 @@ pub record DelaysHold (start : State) (h : WorkHistory) : Type 0 where
   pub once : FateStays start h
   pub one : OneLiveArm start h
   pub order : ExpireInOrder start h
+  pub scheduled : ScheduleTells start h
   pub remaining : RemainingTells start h
   pub passes : OnlyAnnouncesPassTime start h
 
@@ -645,6 +782,7 @@ pub record KeepsLaws (start : State) (h : WorkHistory) : Type 0 where
   pub once : RunsOnce start h
   pub order : BeginsInOrder start h
   pub alone : NeverOverlaps start h
+  pub submissions : SubmissionsHold start h
   pub cancels : CancelsHold start h
   pub flushes : FlushesHold start h
   pub drains : DrainsHold start h

@@ -1,4 +1,4 @@
-ghost use Rattle.zk_model_work.specs.Laws.{OfEach, RunsOnce, BeginsInOrder, NeverOverlaps, CancelsHold, FlushesHold, DrainsHold, DelaysHold, GoesOn, KeepsLaws};
+ghost use Rattle.zk_model_work.specs.Laws.{OfEach, RunsOnce, BeginsInOrder, NeverOverlaps, SubmissionsHold, CancelsHold, FlushesHold, DrainsHold, DelaysHold, GoesOn, KeepsLaws};
 
 /// Of every legal work history: what has become of an admission stays so. It is begun by a begin on
 /// its queue, which finds it waiting; at most once, and one that was dropped never.
@@ -16,6 +16,14 @@ pub fn begins_in_order()
 /// first run has ended.
 pub fn never_overlaps()
     ensures { OfEach NeverOverlaps }
+{}
+
+/// Of every legal work history: a submission that is answered 1 or 2 makes an admission, which waits
+/// until a begin hands it out or a cancel of its item drops it; no other is made. It goes to the queue
+/// that runs the item, else to the named one, else to that of the item's last admission, and that is
+/// started. One that is refused has its cause.
+pub fn submissions_hold()
+    ensures { OfEach SubmissionsHold }
 {}
 
 /// Of every legal work history: after a cancel no admission of its item waits, and where it found a
@@ -61,6 +69,7 @@ pub fn keeps_laws()
     runs_once();
     begins_in_order();
     never_overlaps();
+    submissions_hold();
     cancels_hold();
     flushes_hold();
     drains_hold();

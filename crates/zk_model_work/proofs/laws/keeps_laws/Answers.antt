@@ -5,6 +5,7 @@ returns c = λ start h fresh. record {
   once = c.runs_once.ensures start h fresh;
   order = c.begins_in_order.ensures start h fresh;
   alone = c.never_overlaps.ensures start h fresh;
+  submissions = c.submissions_hold.ensures start h fresh;
   cancels = c.cancels_hold.ensures start h fresh;
   flushes = c.flushes_hold.ensures start h fresh;
   drains = c.drains_hold.ensures start h fresh;
