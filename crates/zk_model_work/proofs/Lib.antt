@@ -16,6 +16,7 @@ pub mod Overlaps
 pub mod Pending
 pub mod Queues
 pub mod Replies
+pub mod Runs
 pub mod Singles
 pub mod Submissions
 pub mod Tells
