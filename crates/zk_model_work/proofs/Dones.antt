@@ -11,7 +11,7 @@ use Rattle.zk_base.specs.declared.ids.Entry.{Entry}
 use Rattle.zk_base.specs.Legal.{state_after}
 use Rattle.zk_base.proofs.Histories.{state_after-append}
 use Rattle.zk_model_work.specs.declared.parts.Life.{Life}
-use Rattle.zk_model_work.specs.declared.parts.Life.TheVariants.{Waiting, Running, Ended, Dropped}
+use Rattle.zk_model_work.specs.declared.parts.Life.TheVariants.{Ended}
 use Rattle.zk_model_work.specs.declared.parts.Admission.{Admission}
 use Rattle.zk_model_work.specs.declared.parts.Queue.{Queue}
 use Rattle.zk_model_work.specs.declared.parts.Awaited.{Awaited}
@@ -26,15 +26,15 @@ use Rattle.zk_model_work.specs.declared.ops.WorkReply.TheVariants as replies
 use Rattle.zk_model_work.specs.Questions.{is_open, is_ended, passes_at, running, waiting, armed, is_empty_and_idle}
 use Rattle.zk_model_work.specs.State.{State}
 use Rattle.zk_model_work.specs.Machine.{has_come, may_close, flags_of, flushed_of, work_reply, work_next, work_machine, in_range}
-use Rattle.zk_model_work.specs.Answers.{comes, cancel_start_reply, flush_start_reply, drain_reply, cancel_wait, flush_wait, drain_wait, drained_of, wait_for, is_unanswered, closes}
+use Rattle.zk_model_work.specs.Answers.{cancel_start_reply, flush_start_reply, drain_reply, cancel_wait, flush_wait, drain_wait, drained_of, wait_for, is_unanswered, closes}
 use Rattle.zk_model_work.specs.Laws.{WorkHistory, IsFreshHistory, OfEach, is_done_of, ends_wait_of, done_for, has_to_wait, HasStart, HasCome, MayGoOn, MayBeDone, DoneHasItsStart}
 use Rattle.zk_model_work.proofs.Drains.{AllKeep, AllKeep-after, AllKeep-fresh, entries-after}
 use Rattle.zk_model_work.proofs.Overlaps.{and-true}
 use Rattle.zk_model_work.proofs.Entries.{entry-replied, fresh-front}
 use Rattle.zk_model_work.proofs.Replies.{said-where}
 use Rattle.zk_model_work.proofs.Found.{cancel-start-said}
-use Rattle.zk_model_work.proofs.Queues.{queue_next, queues-next, counted-next, draining-next, drained-start}
-use Rattle.zk_model_work.proofs.Waits.{new_wait, new-parts, unanswered, HasWait, same-start, wait-at, at-any, Closing_of, closing-of, all-have, has-wait}
+use Rattle.zk_model_work.proofs.Queues.{queue_next, queues-next, counted-next, drained-start}
+use Rattle.zk_model_work.proofs.Waits.{new_wait, new-parts, unanswered, same-start, wait-at, at-any, closing-of, all-have, has-wait}
 
 -- what an operation that begins a wait was answered
 waits-told : (s : State) (who : Who) (op : WorkOp) (reply : WorkReply) (w : Wait) → work_reply s who op ≡ Some reply → new_wait s who op ≡ Some w → has_to_wait reply ≡ true

@@ -1,5 +1,5 @@
 -- What a cancel and a flush find of an item, and are answered.
-use Rattle.std.proofs.Common.{◌≡◌, ℕ, suc, ◌+◌, ◌<◌, ◌≤◌, ◌⊎◌, inl, inr, Bool, true, false, ◌&&◌, ◌||◌, cond, eqb, Option, Some, None, is_some, List, [], ◌∷◌, ◌++◌, slice_get, refl, sym, ap, subst, ◌∙◌, arith}
+use Rattle.std.proofs.Common.{◌≡◌, ℕ, ◌+◌, ◌<◌, ◌≤◌, ◌⊎◌, inl, inr, Bool, true, false, ◌&&◌, ◌||◌, cond, eqb, Option, Some, None, is_some, List, [], ◌∷◌, slice_get, refl, sym, ap, subst, ◌∙◌, arith}
 use Rattle.std.specs.Cmp.{first_so, second_so}
 use Rattle.std.specs.List.{position, list_any}
 use Rattle.std.specs.Option.{option_map_or}
@@ -8,7 +8,6 @@ use Rattle.std.proofs.lemmas.Bool.Decides.{nat_tests}
 use Rattle.std.proofs.lemmas.List.{append-nil}
 use Rattle.std.proofs.lemmas.Option.{same_Some}
 use Rattle.zk_base.specs.declared.ids.Who.{Who}
-use Rattle.zk_base.specs.declared.ids.Entry.{Entry}
 use Rattle.zk_base.specs.Legal.{state_after}
 use Rattle.zk_model_work.specs.declared.parts.Life.{Life}
 use Rattle.zk_model_work.specs.declared.parts.Life.TheVariants.{Waiting, Running, Ended, Dropped}
@@ -17,16 +16,16 @@ use Rattle.zk_model_work.specs.declared.parts.Awaited.{Awaited}
 use Rattle.zk_model_work.specs.declared.parts.Awaited.TheVariants as awaiteds
 use Rattle.zk_model_work.specs.declared.parts.Wait.{Wait}
 use Rattle.zk_model_work.specs.declared.ops.WorkOp.{WorkOp}
-use Rattle.zk_model_work.specs.declared.ops.WorkOp.TheVariants.{CancelStart, FlushStart}
+use Rattle.zk_model_work.specs.declared.ops.WorkOp.TheVariants.{FlushStart}
 use Rattle.zk_model_work.specs.declared.ops.WorkReply.{WorkReply}
 use Rattle.zk_model_work.specs.declared.ops.WorkReply.TheVariants as replies
 use Rattle.zk_model_work.specs.Questions.{is_waiting, is_running, is_open, waits_as, runs_as, is_open_as, passes_at, waiting, running, armed, is_cancelling, flushes, is_flushing, weight}
 use Rattle.zk_model_work.specs.State.{State}
 use Rattle.zk_model_work.specs.Machine.{hurried, flushed_of, flags_of, work_reply, work_next, work_machine}
 use Rattle.zk_model_work.specs.Answers.{flushed, cancel_start_reply, flush_start_reply}
-use Rattle.zk_model_work.specs.Laws.{WorkHistory, IsFreshHistory, AtEach, OfEach, IsNewest, NoneIsOpen, CancelStartTellsTheRun, FlushWaitsForNewest}
+use Rattle.zk_model_work.specs.Laws.{WorkHistory, IsFreshHistory, OfEach, IsNewest, NoneIsOpen, CancelStartTellsTheRun, FlushWaitsForNewest}
 use Rattle.zk_model_work.proofs.Lives.{open-waiting, open-running}
-use Rattle.zk_model_work.proofs.Overlaps.{position-none, and-true, not_both, runs-open, waiting-running, Ordered, Ordered-next, Ordered-history}
+use Rattle.zk_model_work.proofs.Overlaps.{position-none, and-true, runs-open, waiting-running, Ordered, Ordered-next, Ordered-history}
 use Rattle.zk_model_work.proofs.Entries.{at_each, at_each_in}
 use Rattle.zk_model_work.proofs.Replies.{position-at}
 

@@ -1,24 +1,14 @@
 -- What an entry makes, and where it goes.
-use Rattle.std.proofs.Common.{◌≡◌, ℕ, zero, suc, ◌+◌, ◌<◌, ◌≤◌, ◌≢◌, ◌⊎◌, inl, inr, Bool, true, false, not, ◌&&◌, ◌||◌, cond, eqb, ltb, leb, ◌==◌, get_or, Option, Some, None, is_some, option_map, option_to_list, List, [], ◌∷◌, ◌++◌, length, map, find, filter, reverse, slice_get, All, refl, sym, ap, subst, ◌∙◌, append_assoc, arith}
-use Rattle.std.specs.Cmp.{first_so, second_so}
-use Rattle.std.specs.List.{position, list_any}
-use Rattle.std.specs.Option.{option_map_or, option_or}
-use Rattle.std.proofs.lemmas.Bool.{eqb-true, eq-eqb, false≢true}
-use Rattle.std.proofs.lemmas.List.{append-nil, length-append, length-map}
-use Rattle.std.proofs.lemmas.List.Elements.{All-nil, All-cons, All-head, All-tail}
-use Rattle.std.proofs.lemmas.Option.{same_Some, slice_get_within, slice_get-map, get_or_from_slice_get}
+use Rattle.std.proofs.Common.{◌≡◌, ℕ, suc, ◌+◌, ◌≤◌, ◌⊎◌, inl, inr, Bool, true, false, not, ◌&&◌, cond, eqb, ◌==◌, Option, Some, None, option_map, option_to_list, List, [], ◌∷◌, ◌++◌, length, map, find, slice_get, refl, sym, ap, subst, ◌∙◌, arith}
+use Rattle.std.proofs.lemmas.Bool.{eq-eqb, false≢true}
+use Rattle.std.proofs.lemmas.List.{length-append, length-map}
+use Rattle.std.proofs.lemmas.Option.{same_Some, slice_get_within, slice_get-map}
 use Rattle.zk_base.specs.declared.ids.Who.{Who}
-use Rattle.zk_base.specs.declared.ids.Entry.{Entry}
-use Rattle.zk_base.specs.declared.errors.Errno.{Errno}
 use Rattle.zk_base.specs.declared.errors.Errno.TheVariants as errnos
 use Rattle.zk_base.specs.Legal.{state_after}
-use Rattle.zk_base.specs.Order.{put_by, put_all_by}
-use Rattle.zk_base.proofs.Order.{All-put_by, All-by_key}
 use Rattle.zk_base.proofs.Histories.{state_after-snoc}
-use Rattle.zk_model_work.specs.declared.parts.Life.{Life}
 use Rattle.zk_model_work.specs.declared.parts.Life.TheVariants.{Waiting, Running, Ended, Dropped}
 use Rattle.zk_model_work.specs.declared.parts.Admission.{Admission}
-use Rattle.zk_model_work.specs.declared.parts.Fate.TheVariants.{Live}
 use Rattle.zk_model_work.specs.declared.parts.Arm.{Arm}
 use Rattle.zk_model_work.specs.declared.parts.Item.{Item}
 use Rattle.zk_model_work.specs.declared.parts.Queue.{Queue}
@@ -29,25 +19,22 @@ use Rattle.zk_model_work.specs.declared.ops.Submitted.TheVariants.{Already, Fres
 use Rattle.zk_model_work.specs.declared.ops.Expiry.{Expiry}
 use Rattle.zk_model_work.specs.declared.ops.WorkReply.{WorkReply}
 use Rattle.zk_model_work.specs.declared.ops.WorkReply.TheVariants as replies
-use Rattle.zk_model_work.specs.Questions.{is_waiting, is_running, is_open, is_live, waits_as, runs_as, runs_on, arms_item, passes_at, waiting, running, running_queue, last_queue, armed, live_arm, is_due, due, is_cancelling, item_of}
+use Rattle.zk_model_work.specs.Questions.{is_waiting, is_running, is_open, runs_on, arms_item, live_arm, due, item_of}
 use Rattle.zk_model_work.specs.State.{State}
-use Rattle.zk_model_work.specs.Answers.{is_chained, target, admission, refusal, submission_to, submission_at, submission}
-use Rattle.zk_model_work.specs.Machine.{submission_in, submit, submit_arms, expiries, arm, disarm, hurried, flushed_of, drop_one, set_life, begin, end_one, with_life, is_pending_in, delayed, schedule, schedule_reply_in, delay_reply_in, announce_reply, work_reply, work_next, work_machine}
-use Rattle.zk_model_work.specs.Laws.{WorkHistory, IsFreshHistory, AtEach, OfEach, Cancels, cancels, hands_out, submitter, Makes, is_armed, target_of, is_own, bars, IsArmedFor, Named, Told, IsSo, IsCause, IsPending, IsBeingCancelled, IsNewest, NoneIsOpen, MadeWaiting, WaitsOn, AnsweredIsMade, RefusedWithCause, GoesToItsQueue, StartedAdmits, ScheduleTells, FlushHurries}
-use Rattle.zk_model_work.proofs.Moves.{Stays, pushed, still-push, still-submit, submit_arms-keeps, schedule-keeps, delayed-keeps}
-use Rattle.zk_model_work.proofs.Overlaps.{position-none, and-true, not_both, begin-is, still-cond}
+use Rattle.zk_model_work.specs.Answers.{is_chained, target, refusal, submission}
+use Rattle.zk_model_work.specs.Machine.{submission_in, submit, submit_arms, expiries, arm, disarm, hurried, drop_one, begin, end_one, with_life, is_pending_in, schedule_reply_in, delay_reply_in, announce_reply, work_reply, work_next, work_machine}
+use Rattle.zk_model_work.specs.Laws.{OfEach, cancels, hands_out, submitter, Makes, target_of, IsArmedFor, Named, Told, IsNewest, NoneIsOpen, MadeWaiting, WaitsOn, GoesToItsQueue, StartedAdmits}
+use Rattle.zk_model_work.proofs.Moves.{still-submit, schedule-keeps, delayed-keeps}
+use Rattle.zk_model_work.proofs.Overlaps.{not_both, begin-is, still-cond}
 use Rattle.zk_model_work.proofs.Lives.{set_life-aside}
 use Rattle.zk_model_work.proofs.Begins.{Begun-reply}
 use Rattle.zk_model_work.proofs.Drains.{made-took}
 use Rattle.zk_model_work.proofs.Found.{flush_waits_for_newest}
 use Rattle.zk_model_work.proofs.Cancels.{length-begin, none-new}
 use Rattle.zk_model_work.proofs.Delays.{one_live_arm}
-use Rattle.zk_model_work.proofs.Waits.{at-any}
-use Rattle.zk_model_work.proofs.Tells.{any-same}
-use Rattle.zk_model_work.proofs.Entries.{entry-replied, at_each, at_each_in, fresh-front}
-use Rattle.zk_model_work.proofs.Replies.{OneIsLive, live-arm, live-is, item-live, position-at}
-use Rattle.zk_model_work.proofs.Marks.{cancelling-is, is-cancelling}
-use Rattle.zk_model_work.proofs.Submissions.{Says, says, waiting_one, Makes_one, made-one, Submits, submits, named-once, stays-arms}
+use Rattle.zk_model_work.proofs.Entries.{entry-replied, at_each, at_each_in}
+use Rattle.zk_model_work.proofs.Replies.{OneIsLive, item-live}
+use Rattle.zk_model_work.proofs.Submissions.{Says, says, waiting_one, Makes_one, made-one, submits, named-once, stays-arms}
 
 -- what an entry makes
 

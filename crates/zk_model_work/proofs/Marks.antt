@@ -1,7 +1,7 @@
 -- The marks are just the runs that cancels found.
-use Rattle.std.proofs.Common.{◌≡◌, ℕ, zero, suc, ◌+◌, ◌<◌, ◌⊎◌, inl, inr, Bool, true, false, not, ◌&&◌, ◌||◌, cond, eqb, ltb, Option, Some, None, is_some, option_map, option_to_list, List, [], ◌∷◌, ◌++◌, length, map, slice_get, refl, sym, ap, subst, ◌∙◌, append_assoc, arith}
+use Rattle.std.proofs.Common.{◌≡◌, ℕ, ◌⊎◌, inl, inr, Bool, true, false, ◌||◌, eqb, Option, Some, None, option_map, option_to_list, List, [], ◌∷◌, ◌++◌, slice_get, refl, sym, ap, subst, ◌∙◌, append_assoc}
 use Rattle.std.specs.Cmp.{first_so, second_so}
-use Rattle.std.specs.List.{position, position_or_len, list_any}
+use Rattle.std.specs.List.{list_any}
 use Rattle.std.specs.Option.{option_map_or}
 use Rattle.std.proofs.lemmas.Bool.{eqb-true, eq-eqb, false≢true}
 use Rattle.std.proofs.lemmas.List.{append-nil}
@@ -10,9 +10,7 @@ use Rattle.std.proofs.lemmas.Option.{same_Some}
 use Rattle.zk_base.specs.declared.ids.Who.{Who}
 use Rattle.zk_base.specs.declared.ids.Entry.{Entry}
 use Rattle.zk_base.specs.Legal.{state_after}
-use Rattle.zk_base.proofs.Histories.{state_after-append, state_after-snoc}
-use Rattle.zk_model_work.specs.declared.parts.Life.{Life}
-use Rattle.zk_model_work.specs.declared.parts.Life.TheVariants.{Waiting, Running, Ended, Dropped}
+use Rattle.zk_model_work.specs.declared.parts.Life.TheVariants.{Running}
 use Rattle.zk_model_work.specs.declared.parts.Admission.{Admission}
 use Rattle.zk_model_work.specs.declared.ops.WorkOp.{WorkOp}
 use Rattle.zk_model_work.specs.declared.ops.WorkOp.TheVariants.{Submit, Cancel, CancelStart, CancelDone, FlushStart, FlushDone, Schedule, Reschedule, Remaining, Start, DrainStart, DrainDone, Unplug, Announce, Begin, End}
@@ -20,9 +18,8 @@ use Rattle.zk_model_work.specs.declared.ops.WorkReply.{WorkReply}
 use Rattle.zk_model_work.specs.Questions.{is_running, runs_as, passes_at, running, is_cancelling}
 use Rattle.zk_model_work.specs.State.{State}
 use Rattle.zk_model_work.specs.Machine.{disarm, work_next, work_machine}
-use Rattle.zk_model_work.specs.Laws.{WorkHistory, IsFreshHistory, Cancels, IsBeingCancelled, admission_after, running_after}
+use Rattle.zk_model_work.specs.Laws.{WorkHistory, IsFreshHistory, Cancels, IsBeingCancelled, running_after}
 use Rattle.zk_model_work.proofs.Moves.{schedule-keeps, delayed-keeps}
-use Rattle.zk_model_work.proofs.Lives.{Kept-after}
 use Rattle.zk_model_work.proofs.Outcomes.{kept-in_whole}
 use Rattle.zk_model_work.proofs.Overlaps.{and-true}
 use Rattle.zk_model_work.proofs.Singles.{runs_is}

@@ -1,11 +1,8 @@
 -- What becomes of an admission, and by which entry.
-use Rattle.std.proofs.Common.{◌≡◌, ◌≢◌, ℕ, ◌⊎◌, inl, inr, Bool, true, false, cond, eqb, Option, Some, None, option_map, List, [], ◌∷◌, ◌++◌, map, slice_get, refl, sym, ap, subst, ◌∙◌}
+use Rattle.std.proofs.Common.{◌≡◌, ℕ, true, cond, eqb, Some, option_map, List, [], ◌∷◌, ◌++◌, slice_get, refl, sym, ap, ◌∙◌}
 use Rattle.std.specs.Cmp.{first_so, second_so}
-use Rattle.std.specs.Option.{option_map_or}
-use Rattle.std.proofs.lemmas.Bool.{eqb-true, eq-eqb, false≢true}
-use Rattle.std.proofs.lemmas.Bool.Decides.{eqb_tells}
-use Rattle.std.proofs.lemmas.Option.{slice_get-map, same_Some}
-use Rattle.zk_base.specs.declared.ids.Who.{Who}
+use Rattle.std.proofs.lemmas.Bool.{eqb-true, eq-eqb}
+use Rattle.std.proofs.lemmas.Option.{slice_get-map}
 use Rattle.zk_base.specs.declared.ids.Entry.{Entry}
 use Rattle.zk_base.specs.Legal.{state_after}
 use Rattle.zk_base.proofs.Histories.{state_after-append, Replays-rest}
@@ -16,14 +13,12 @@ use Rattle.zk_model_work.specs.declared.ops.WorkOp.{WorkOp}
 use Rattle.zk_model_work.specs.declared.ops.WorkOp.TheVariants.{Submit, Cancel, CancelStart, CancelDone, FlushStart, FlushDone, Schedule, Reschedule, Remaining, Start, DrainStart, DrainDone, Unplug, Announce, Begin, End}
 use Rattle.zk_model_work.specs.declared.ops.WorkReply.{WorkReply}
 use Rattle.zk_model_work.specs.declared.ops.WorkReply.TheVariants.{Run}
-use Rattle.zk_model_work.specs.Lists.{first}
-use Rattle.zk_model_work.specs.Questions.{is_waiting, is_running, is_open, waits_as, runs_on, line, item_of}
+use Rattle.zk_model_work.specs.Questions.{is_waiting, is_running}
 use Rattle.zk_model_work.specs.State.{State}
-use Rattle.zk_model_work.specs.Machine.{work_reply, work_next, work_machine, submit, set_life, with_life, begin, end_one, drop_one}
-use Rattle.zk_model_work.specs.Answers.{submission}
-use Rattle.zk_model_work.specs.Laws.{OfEach, Cancels, submitter, ends, admission_after, AdmissionStays, OutcomeStays, BegunFromItsQueue, EndedByItsEnd}
-use Rattle.zk_model_work.proofs.Moves.{still-submit, admissions-next, is_begin}
-use Rattle.zk_model_work.proofs.Lives.{Keeps, Kept-after, IsFirst-line, set_life-at, set_life-aside}
+use Rattle.zk_model_work.specs.Machine.{work_reply, work_next, work_machine, with_life, begin, end_one}
+use Rattle.zk_model_work.specs.Laws.{OfEach, ends, admission_after, AdmissionStays, OutcomeStays, BegunFromItsQueue, EndedByItsEnd}
+use Rattle.zk_model_work.proofs.Moves.{is_begin}
+use Rattle.zk_model_work.proofs.Lives.{Keeps, Kept-after, IsFirst-line, set_life-at}
 use Rattle.zk_model_work.proofs.Begins.{Begun-reply, Replays-parts}
 use Rattle.zk_model_work.proofs.Overlaps.{and-true, begin-is, same_item}
 

@@ -1,51 +1,29 @@
 -- What a schedule tells, and what a flush hurries.
-use Rattle.std.proofs.Common.{◌≡◌, ℕ, zero, suc, ◌+◌, ◌<◌, ◌≤◌, ◌≢◌, ◌⊎◌, inl, inr, Bool, true, false, not, ◌&&◌, ◌||◌, cond, eqb, ltb, leb, ◌==◌, get_or, Option, Some, None, is_some, option_map, option_to_list, List, [], ◌∷◌, ◌++◌, length, map, find, filter, reverse, slice_get, All, refl, sym, ap, subst, ◌∙◌, append_assoc, arith}
-use Rattle.std.specs.Cmp.{first_so, second_so}
-use Rattle.std.specs.List.{position, list_any}
-use Rattle.std.specs.Option.{option_map_or, option_or}
-use Rattle.std.proofs.lemmas.Bool.{eqb-true, eq-eqb, false≢true}
-use Rattle.std.proofs.lemmas.List.{append-nil, length-append, length-map}
-use Rattle.std.proofs.lemmas.List.Elements.{All-nil, All-cons, All-head, All-tail}
-use Rattle.std.proofs.lemmas.Option.{same_Some, slice_get_within, slice_get-map, get_or_from_slice_get}
-use Rattle.zk_base.specs.declared.ids.Who.{Who}
-use Rattle.zk_base.specs.declared.ids.Entry.{Entry}
+use Rattle.std.proofs.Common.{◌≡◌, ℕ, ◌⊎◌, inl, inr, Bool, true, false, not, ◌||◌, cond, eqb, ◌==◌, Option, Some, None, is_some, option_to_list, List, [], ◌∷◌, ◌++◌, length, slice_get, refl, sym, ap, ◌∙◌}
+use Rattle.std.proofs.lemmas.Bool.{eq-eqb, false≢true}
+use Rattle.std.proofs.lemmas.Option.{same_Some}
 use Rattle.zk_base.specs.declared.errors.Errno.{Errno}
 use Rattle.zk_base.specs.declared.errors.Errno.TheVariants as errnos
 use Rattle.zk_base.specs.Legal.{state_after}
-use Rattle.zk_base.specs.Order.{put_by, put_all_by}
-use Rattle.zk_base.proofs.Order.{All-put_by, All-by_key}
 use Rattle.zk_base.proofs.Histories.{state_after-snoc}
-use Rattle.zk_model_work.specs.declared.parts.Life.{Life}
-use Rattle.zk_model_work.specs.declared.parts.Life.TheVariants.{Waiting, Running, Ended, Dropped}
 use Rattle.zk_model_work.specs.declared.parts.Admission.{Admission}
-use Rattle.zk_model_work.specs.declared.parts.Fate.TheVariants.{Live}
 use Rattle.zk_model_work.specs.declared.parts.Arm.{Arm}
 use Rattle.zk_model_work.specs.declared.parts.Item.{Item}
 use Rattle.zk_model_work.specs.declared.parts.Queue.{Queue}
-use Rattle.zk_model_work.specs.declared.ops.WorkOp.{WorkOp}
-use Rattle.zk_model_work.specs.declared.ops.WorkOp.TheVariants.{Submit, Cancel, CancelStart, CancelDone, FlushStart, FlushDone, Schedule, Reschedule, Remaining, Start, DrainStart, DrainDone, Unplug, Announce, Begin, End}
+use Rattle.zk_model_work.specs.declared.ops.WorkOp.TheVariants.{FlushStart, Schedule, Reschedule}
 use Rattle.zk_model_work.specs.declared.ops.Submitted.{Submitted}
 use Rattle.zk_model_work.specs.declared.ops.Submitted.TheVariants.{Already, Fresh, Rerun, Refused}
-use Rattle.zk_model_work.specs.declared.ops.Expiry.{Expiry}
 use Rattle.zk_model_work.specs.declared.ops.WorkReply.{WorkReply}
 use Rattle.zk_model_work.specs.declared.ops.WorkReply.TheVariants as replies
-use Rattle.zk_model_work.specs.Questions.{is_waiting, is_running, is_open, is_live, waits_as, runs_as, runs_on, arms_item, passes_at, waiting, running, running_queue, last_queue, armed, live_arm, is_due, due, is_cancelling, item_of}
+use Rattle.zk_model_work.specs.Questions.{is_waiting, waits_as, waiting, armed, live_arm, is_cancelling, item_of}
 use Rattle.zk_model_work.specs.State.{State}
-use Rattle.zk_model_work.specs.Answers.{is_chained, target, admission, refusal, submission_to, submission_at, submission}
-use Rattle.zk_model_work.specs.Machine.{submission_in, submit, submit_arms, expiries, arm, disarm, hurried, flushed_of, drop_one, set_life, begin, end_one, with_life, is_pending_in, delayed, schedule, schedule_reply_in, delay_reply_in, announce_reply, work_reply, work_next, work_machine}
-use Rattle.zk_model_work.specs.Laws.{WorkHistory, IsFreshHistory, AtEach, OfEach, Cancels, cancels, hands_out, submitter, Makes, is_armed, target_of, is_own, bars, IsArmedFor, Named, Told, IsSo, IsCause, IsPending, IsBeingCancelled, IsNewest, NoneIsOpen, MadeWaiting, WaitsOn, AnsweredIsMade, RefusedWithCause, GoesToItsQueue, StartedAdmits, ScheduleTells, FlushHurries}
-use Rattle.zk_model_work.proofs.Moves.{Stays, pushed, still-push, still-submit, submit_arms-keeps, schedule-keeps, delayed-keeps}
-use Rattle.zk_model_work.proofs.Overlaps.{position-none, and-true, not_both, begin-is, still-cond}
-use Rattle.zk_model_work.proofs.Lives.{set_life-aside}
-use Rattle.zk_model_work.proofs.Begins.{Begun-reply}
-use Rattle.zk_model_work.proofs.Drains.{made-took}
-use Rattle.zk_model_work.proofs.Found.{flush_waits_for_newest}
-use Rattle.zk_model_work.proofs.Cancels.{length-begin, none-new}
+use Rattle.zk_model_work.specs.Answers.{target, submission}
+use Rattle.zk_model_work.specs.Machine.{submission_in, submit, submit_arms, hurried, is_pending_in, delayed, schedule, schedule_reply_in, delay_reply_in, work_reply, work_next, work_machine}
+use Rattle.zk_model_work.specs.Laws.{WorkHistory, IsFreshHistory, OfEach, is_armed, target_of, bars, IsArmedFor, IsPending, IsBeingCancelled, ScheduleTells, FlushHurries}
+use Rattle.zk_model_work.proofs.Overlaps.{position-none, and-true}
 use Rattle.zk_model_work.proofs.Delays.{one_live_arm}
-use Rattle.zk_model_work.proofs.Waits.{at-any}
-use Rattle.zk_model_work.proofs.Tells.{any-same}
-use Rattle.zk_model_work.proofs.Entries.{entry-replied, at_each, at_each_in, fresh-front}
-use Rattle.zk_model_work.proofs.Replies.{OneIsLive, live-arm, live-is, item-live, position-at}
+use Rattle.zk_model_work.proofs.Entries.{entry-replied, fresh-front}
+use Rattle.zk_model_work.proofs.Replies.{live-arm}
 use Rattle.zk_model_work.proofs.Marks.{cancelling-is, is-cancelling}
 use Rattle.zk_model_work.proofs.Submissions.{Says, says, waiting_one}
 use Rattle.zk_model_work.proofs.Made.{hurried-item}

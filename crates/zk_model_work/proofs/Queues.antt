@@ -7,22 +7,18 @@ use Rattle.std.proofs.lemmas.Bool.Decides.{nat_tests}
 use Rattle.std.proofs.lemmas.Iterator.Adapters.{option_map_id}
 use Rattle.std.proofs.lemmas.Option.{same_Some}
 use Rattle.zk_base.specs.declared.ids.Who.{Who}
-use Rattle.zk_base.specs.declared.ids.Entry.{Entry}
 use Rattle.zk_base.specs.Legal.{state_after}
-use Rattle.zk_base.proofs.Histories.{state_after-snoc}
-use Rattle.zk_model_work.specs.declared.parts.Admission.{Admission}
 use Rattle.zk_model_work.specs.declared.parts.Queue.{Queue}
 use Rattle.zk_model_work.specs.declared.parts.Change.{Change}
 use Rattle.zk_model_work.specs.declared.parts.Change.TheVariants as changes
 use Rattle.zk_model_work.specs.declared.ops.WorkOp.{WorkOp}
 use Rattle.zk_model_work.specs.declared.ops.WorkOp.TheVariants.{Submit, Cancel, CancelStart, CancelDone, FlushStart, FlushDone, Schedule, Reschedule, Remaining, Start, DrainStart, DrainDone, Unplug, Announce, Begin, End}
-use Rattle.zk_model_work.specs.declared.ops.WorkReply.{WorkReply}
 use Rattle.zk_model_work.specs.declared.ops.WorkReply.TheVariants as replies
 use Rattle.zk_model_work.specs.Questions.{is_empty_and_idle}
 use Rattle.zk_model_work.specs.State.{State}
 use Rattle.zk_model_work.specs.Machine.{work_reply, work_next, work_machine, disarm, drop_waiting, end_run, settle_one, changed_queue, change, change_where, drain}
 use Rattle.zk_model_work.specs.Answers.{start_reply, unplug_reply, drain_reply}
-use Rattle.zk_model_work.specs.Laws.{WorkHistory, IsFreshHistory, AtEach, OfEach, starts, drains, plug_after, StartedStays, PluggedAsAsked, StartTells, DrainTells, DrainingStays, DrainEndsAtRest}
+use Rattle.zk_model_work.specs.Laws.{WorkHistory, IsFreshHistory, OfEach, starts, drains, plug_after, StartedStays, PluggedAsAsked, StartTells, DrainTells, DrainingStays}
 use Rattle.zk_model_work.proofs.Moves.{schedule-keeps, delayed-keeps}
 use Rattle.zk_model_work.proofs.Drains.{Keeps, AllKeep, AllKeep-next, AllKeep-after, AllKeep-fresh, settled-at}
 use Rattle.zk_model_work.proofs.Entries.{at_each, at_each_in}

@@ -1,5 +1,5 @@
 -- What an entry is answered, and which entries are possible.
-use Rattle.std.proofs.Common.{◌≡◌, ℕ, zero, suc, ◌+◌, ◌-◌, ◌≤◌, ◌⊎◌, inl, inr, Bool, true, false, not, ◌&&◌, cond, eqb, Option, Some, None, is_some, is_none, option_map, List, [], ◌∷◌, ◌++◌, length, map, find, drop, get_or, slice_get, refl, sym, ap, subst, ◌∙◌, arith}
+use Rattle.std.proofs.Common.{◌≡◌, ℕ, zero, suc, ◌+◌, Bool, true, false, cond, eqb, Option, Some, None, is_some, is_none, option_map, List, [], ◌∷◌, ◌++◌, length, map, find, drop, get_or, slice_get, refl, sym, ap, ◌∙◌}
 use Rattle.std.specs.Cmp.{first_so, second_so}
 use Rattle.std.specs.List.{position}
 use Rattle.std.specs.Option.{option_map_or, option_and_then}
@@ -8,9 +8,8 @@ use Rattle.std.proofs.lemmas.Bool.{eqb-true, eq-eqb, false≢true}
 use Rattle.std.proofs.lemmas.List.Quantifiers.{position-Some}
 use Rattle.std.proofs.lemmas.Option.{same_Some, slice_get-get_or}
 use Rattle.zk_base.specs.declared.ids.Who.{Who}
-use Rattle.zk_base.specs.declared.ids.Entry.{Entry}
 use Rattle.zk_base.specs.Legal.{state_after}
-use Rattle.zk_model_work.specs.declared.parts.Life.TheVariants.{Waiting, Running}
+use Rattle.zk_model_work.specs.declared.parts.Life.TheVariants.{Running}
 use Rattle.zk_model_work.specs.declared.parts.Admission.{Admission}
 use Rattle.zk_model_work.specs.declared.parts.Fate.{Fate}
 use Rattle.zk_model_work.specs.declared.parts.Fate.TheVariants.{Live, Expired, Disarmed}
@@ -23,11 +22,11 @@ use Rattle.zk_model_work.specs.declared.ops.Submitted.TheVariants.{Already}
 use Rattle.zk_model_work.specs.declared.ops.WorkReply.{WorkReply}
 use Rattle.zk_model_work.specs.declared.ops.WorkReply.TheVariants as replies
 use Rattle.zk_model_work.specs.Lists.{first}
-use Rattle.zk_model_work.specs.Questions.{is_live, is_waiting, is_running, waits_for, runs_on, arms_item, line, run, running, armed, live_arm, deadline_of, is_empty_and_idle}
+use Rattle.zk_model_work.specs.Questions.{is_live, is_waiting, is_running, waits_for, runs_on, arms_item, line, run, running, live_arm, deadline_of, is_empty_and_idle}
 use Rattle.zk_model_work.specs.State.{State}
 use Rattle.zk_model_work.specs.Machine.{submission_in, arm, disarm, disarm_one, is_pending_in, delayed, schedule, flushed_of, may_close, flags_of, taken_up, may_begin, may_end, schedule_reply_in, delay_reply_in, work_reply, work_next, work_machine}
-use Rattle.zk_model_work.specs.Answers.{is_worker, is_started, is_plugged, cancel_start_reply, flush_start_reply, remaining}
-use Rattle.zk_model_work.specs.Laws.{AtEach, OfEach, is_worked_by, is_armed, asked_arm, fits, is_awaited, MayGoOn, ByItsWorker, EndFindsARun, RemainingTells, AnswersFit, ArmedAsAsked, MayBegin, MayEnd, MayAlways}
+use Rattle.zk_model_work.specs.Answers.{is_worker, is_started, is_plugged, flush_start_reply, remaining}
+use Rattle.zk_model_work.specs.Laws.{OfEach, is_worked_by, is_armed, asked_arm, fits, is_awaited, ByItsWorker, EndFindsARun, RemainingTells, AnswersFit, ArmedAsAsked, MayBegin, MayEnd, MayAlways}
 use Rattle.zk_model_work.proofs.Lives.{IsFirst-line}
 use Rattle.zk_model_work.proofs.Lines.{first_of_places}
 use Rattle.zk_model_work.proofs.Begins.{Begun-reply}

@@ -1,20 +1,18 @@
 -- What a submission is answered, and what it makes.
-use Rattle.std.proofs.Common.{◌≡◌, ℕ, zero, suc, ◌+◌, ◌<◌, ◌≤◌, ◌≢◌, ◌⊎◌, inl, inr, Bool, true, false, not, ◌&&◌, ◌||◌, cond, eqb, ltb, leb, ◌==◌, get_or, Option, Some, None, is_some, option_map, option_to_list, List, [], ◌∷◌, ◌++◌, length, map, find, filter, reverse, slice_get, All, refl, sym, ap, subst, ◌∙◌, append_assoc, arith}
-use Rattle.std.specs.Cmp.{first_so, second_so}
+use Rattle.std.proofs.Common.{◌≡◌, ℕ, zero, suc, ◌+◌, ◌≤◌, ◌⊎◌, inl, inr, Bool, true, false, not, ◌&&◌, ◌||◌, cond, eqb, ltb, leb, get_or, Option, Some, None, is_some, option_map, List, [], ◌∷◌, ◌++◌, length, find, filter, slice_get, All, refl, sym, ap, subst, ◌∙◌, append_assoc, arith}
+use Rattle.std.specs.Cmp.{first_so}
 use Rattle.std.specs.List.{position, list_any}
 use Rattle.std.specs.Option.{option_map_or, option_or}
-use Rattle.std.proofs.lemmas.Bool.{eqb-true, eq-eqb, false≢true}
-use Rattle.std.proofs.lemmas.List.{append-nil, length-append, length-map}
+use Rattle.std.proofs.lemmas.Bool.{eqb-true, false≢true}
+use Rattle.std.proofs.lemmas.List.{append-nil, length-append}
 use Rattle.std.proofs.lemmas.List.Elements.{All-nil, All-cons, All-head, All-tail}
-use Rattle.std.proofs.lemmas.Option.{same_Some, slice_get_within, slice_get-map, get_or_from_slice_get}
+use Rattle.std.proofs.lemmas.Option.{same_Some, slice_get_within, get_or_from_slice_get}
 use Rattle.zk_base.specs.declared.ids.Who.{Who}
-use Rattle.zk_base.specs.declared.ids.Entry.{Entry}
 use Rattle.zk_base.specs.declared.errors.Errno.{Errno}
 use Rattle.zk_base.specs.declared.errors.Errno.TheVariants as errnos
 use Rattle.zk_base.specs.Legal.{state_after}
 use Rattle.zk_base.specs.Order.{put_by, put_all_by}
 use Rattle.zk_base.proofs.Order.{All-put_by, All-by_key}
-use Rattle.zk_base.proofs.Histories.{state_after-snoc}
 use Rattle.zk_model_work.specs.declared.parts.Life.{Life}
 use Rattle.zk_model_work.specs.declared.parts.Life.TheVariants.{Waiting, Running, Ended, Dropped}
 use Rattle.zk_model_work.specs.declared.parts.Admission.{Admission}
@@ -29,23 +27,18 @@ use Rattle.zk_model_work.specs.declared.ops.Submitted.TheVariants.{Already, Fres
 use Rattle.zk_model_work.specs.declared.ops.Expiry.{Expiry}
 use Rattle.zk_model_work.specs.declared.ops.WorkReply.{WorkReply}
 use Rattle.zk_model_work.specs.declared.ops.WorkReply.TheVariants as replies
-use Rattle.zk_model_work.specs.Questions.{is_waiting, is_running, is_open, is_live, waits_as, runs_as, runs_on, arms_item, passes_at, waiting, running, running_queue, last_queue, armed, live_arm, is_due, due, is_cancelling, item_of}
+use Rattle.zk_model_work.specs.Questions.{is_waiting, is_running, is_live, waits_as, runs_as, passes_at, is_due, due, item_of}
 use Rattle.zk_model_work.specs.State.{State}
-use Rattle.zk_model_work.specs.Answers.{is_chained, target, admission, refusal, submission_to, submission_at, submission}
-use Rattle.zk_model_work.specs.Machine.{submission_in, submit, submit_arms, expiries, arm, disarm, hurried, flushed_of, drop_one, set_life, begin, end_one, with_life, is_pending_in, delayed, schedule, schedule_reply_in, delay_reply_in, announce_reply, work_reply, work_next, work_machine}
-use Rattle.zk_model_work.specs.Laws.{WorkHistory, IsFreshHistory, AtEach, OfEach, Cancels, cancels, hands_out, submitter, Makes, is_armed, target_of, is_own, bars, IsArmedFor, Named, Told, IsSo, IsCause, IsPending, IsBeingCancelled, IsNewest, NoneIsOpen, MadeWaiting, WaitsOn, AnsweredIsMade, RefusedWithCause, GoesToItsQueue, StartedAdmits, ScheduleTells, FlushHurries}
-use Rattle.zk_model_work.proofs.Moves.{Stays, pushed, still-push, still-submit, submit_arms-keeps, schedule-keeps, delayed-keeps}
-use Rattle.zk_model_work.proofs.Overlaps.{position-none, and-true, not_both, begin-is, still-cond}
-use Rattle.zk_model_work.proofs.Lives.{set_life-aside}
-use Rattle.zk_model_work.proofs.Begins.{Begun-reply}
-use Rattle.zk_model_work.proofs.Drains.{made-took}
-use Rattle.zk_model_work.proofs.Found.{flush_waits_for_newest}
-use Rattle.zk_model_work.proofs.Cancels.{length-begin, none-new}
+use Rattle.zk_model_work.specs.Answers.{is_chained, target, admission, submission_to, submission_at, submission}
+use Rattle.zk_model_work.specs.Machine.{submission_in, submit, submit_arms, expiries, arm, disarm, is_pending_in, schedule_reply_in, delay_reply_in, announce_reply, work_reply, work_next, work_machine}
+use Rattle.zk_model_work.specs.Laws.{WorkHistory, IsFreshHistory, OfEach, submitter, is_own, bars, IsArmedFor, Named, Told, IsSo, IsCause, IsBeingCancelled, AnsweredIsMade, RefusedWithCause}
+use Rattle.zk_model_work.proofs.Moves.{Stays, pushed, still-submit, submit_arms-keeps}
+use Rattle.zk_model_work.proofs.Overlaps.{position-none, not_both}
 use Rattle.zk_model_work.proofs.Delays.{one_live_arm}
 use Rattle.zk_model_work.proofs.Waits.{at-any}
 use Rattle.zk_model_work.proofs.Tells.{any-same}
-use Rattle.zk_model_work.proofs.Entries.{entry-replied, at_each, at_each_in, fresh-front}
-use Rattle.zk_model_work.proofs.Replies.{OneIsLive, live-arm, live-is, item-live, position-at}
+use Rattle.zk_model_work.proofs.Entries.{entry-replied, at_each_in, fresh-front}
+use Rattle.zk_model_work.proofs.Replies.{OneIsLive, live-is, position-at}
 use Rattle.zk_model_work.proofs.Marks.{cancelling-is, is-cancelling}
 
 -- why a submission is answered so
@@ -183,9 +176,10 @@ Apart-either false l m left right = right
 Apart-put_by : (key : Arm → ℕ) (x : Arm) (arms : List Arm) → Apart arms → All (λ (b : Arm). b.item ≡ x.item → ⊥) arms → Apart (put_by key x arms)
 Apart-put_by key x [] apart other = (All-nil (λ (b : Arm). b.item ≡ x.item → ⊥), tt)
 Apart-put_by key x (y ∷ ys) apart other =
-    Apart-either (ltb (key x) (key y)) (x ∷ y ∷ ys) (y ∷ put_by key x ys) (other, apart)
-    (All-put_by (λ (b : Arm). b.item ≡ y.item → ⊥) key x ys (λ same. All-head (λ (b : Arm). b.item ≡ x.item → ⊥) y ys other (sym same)) apart.0,
-     Apart-put_by key x ys apart.1 (All-tail (λ (b : Arm). b.item ≡ x.item → ⊥) y ys other))
+    Apart-either (ltb (key x) (key y)) (x ∷ y ∷ ys) (y ∷ put_by key x ys) (other, apart) (
+      All-put_by (λ (b : Arm). b.item ≡ y.item → ⊥) key x ys (λ same. All-head (λ (b : Arm). b.item ≡ x.item → ⊥) y ys other (sym same)) apart.0,
+      Apart-put_by key x ys apart.1 (All-tail (λ (b : Arm). b.item ≡ x.item → ⊥) y ys other),
+    )
 
 Apart-put_all : (key : Arm → ℕ) (sorted xs : List Arm) → Apart sorted → Apart xs → All (λ (x : Arm). All (λ (b : Arm). b.item ≡ x.item → ⊥) sorted) xs → Apart (put_all_by key sorted xs)
 Apart-put_all key sorted [] one two other = one

@@ -1,5 +1,5 @@
 -- What a cancel tells.
-use Rattle.std.proofs.Common.{◌≡◌, ℕ, zero, suc, ◌+◌, ◌<◌, ◌≢◌, ◌⊎◌, inl, inr, Bool, true, false, not, ◌&&◌, ◌||◌, cond, eqb, ltb, Option, Some, None, is_some, option_map, List, [], ◌∷◌, ◌++◌, length, map, slice_get, refl, sym, ap, subst, ◌∙◌, append_assoc, arith}
+use Rattle.std.proofs.Common.{◌≡◌, ℕ, ◌+◌, ◌<◌, ◌≢◌, ◌⊎◌, inl, inr, Bool, true, false, not, ◌&&◌, ◌||◌, cond, eqb, ltb, Option, Some, None, is_some, option_map, List, [], ◌∷◌, ◌++◌, length, map, slice_get, refl, sym, ap, subst, ◌∙◌, append_assoc}
 use Rattle.std.specs.Cmp.{first_so, second_so}
 use Rattle.std.specs.List.{position, position_or_len, list_any}
 use Rattle.std.specs.Option.{option_map_or}
@@ -7,7 +7,6 @@ use Rattle.std.proofs.lemmas.Bool.{eqb-true, eq-eqb, false≢true, cases_order}
 use Rattle.std.proofs.lemmas.Bool.Decides.{eqb_tells}
 use Rattle.std.proofs.lemmas.List.{length-map}
 use Rattle.std.proofs.lemmas.Option.{same_Some}
-use Rattle.zk_base.specs.declared.ids.Who.{Who}
 use Rattle.zk_base.specs.declared.ids.Entry.{Entry}
 use Rattle.zk_base.specs.Legal.{state_after}
 use Rattle.zk_base.proofs.Histories.{state_after-snoc}
@@ -24,11 +23,10 @@ use Rattle.zk_model_work.specs.declared.ops.WorkReply.TheVariants as replies
 use Rattle.zk_model_work.specs.Questions.{is_waiting, is_running, is_open, waits_as, runs_as, is_open_as, arms_item, passes_at, waiting, running, armed, is_cancelling, flushes, is_flushing, busy_flags}
 use Rattle.zk_model_work.specs.State.{State}
 use Rattle.zk_model_work.specs.Machine.{drop_one, drop_waiting, cancel, flags_of, work_reply, work_next, work_machine}
-use Rattle.zk_model_work.specs.Laws.{WorkHistory, IsFreshHistory, OfEach, awaits, cancel_flags, running_after, CancelTellsTheRun}
+use Rattle.zk_model_work.specs.Laws.{WorkHistory, IsFreshHistory, OfEach, awaits, cancel_flags, CancelTellsTheRun}
 use Rattle.zk_model_work.proofs.Lives.{open-running}
-use Rattle.zk_model_work.proofs.Overlaps.{position-none, and-true, runs-open, waiting-running, Ordered, Ordered-history}
+use Rattle.zk_model_work.proofs.Overlaps.{position-none, and-true, Ordered, Ordered-history}
 use Rattle.zk_model_work.proofs.Singles.{runs_is}
-use Rattle.zk_model_work.proofs.Begins.{Replays-parts}
 use Rattle.zk_model_work.proofs.Cancels.{NoneWaits-entry}
 use Rattle.zk_model_work.proofs.Delays.{unarmed-disarm}
 use Rattle.zk_model_work.proofs.Entries.{entry-replied, fresh-front}
@@ -172,7 +170,7 @@ flags-cancel start h front rest e item fresh parts op = by (running c.admissions
         cancels = inl op;
         found = sym (running-drop s.admissions item) ∙ runs;
         runs = ap (λ (u : State). option_map (λ (a : Admission). a.life) (slice_get u.admissions run)) next ∙ ap (option_map (λ (a : Admission). a.life)) it.1
-        ∙ ap Some (runs_is it.0.life (second_so (eqb it.0.item item) (is_running it.0.life) it.2));
+            ∙ ap Some (runs_is it.0.life (second_so (eqb it.0.item item) (is_running it.0.life) it.2));
       }))
 
   awaited : (run : ℕ) → list_any (λ (w : Wait). is_flush_of run w.awaited) s.waits ≡ list_any (λ (e : Entry WorkOp WorkReply). awaits run e.reply) front

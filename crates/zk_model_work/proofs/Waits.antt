@@ -1,13 +1,12 @@
 -- The waits are just the starts that had to wait, in order, and one is answered where its Done stands.
-use Rattle.std.proofs.Common.{◌≡◌, ℕ, zero, suc, ◌+◌, ◌<◌, ◌⊎◌, inl, inr, Bool, true, false, not, ◌&&◌, ◌||◌, cond, eqb, ltb, ◌==◌, Option, Some, None, is_some, option_map, option_to_list, List, [], ◌∷◌, ◌++◌, length, map, slice_get, refl, sym, ap, subst, ◌∙◌, append_assoc, arith}
+use Rattle.std.proofs.Common.{◌≡◌, ℕ, zero, suc, ◌+◌, ◌⊎◌, inl, inr, Bool, true, false, not, ◌&&◌, ◌||◌, ◌==◌, Option, Some, None, option_map, option_to_list, List, [], ◌∷◌, ◌++◌, length, map, slice_get, refl, sym, ap, subst, ◌∙◌, append_assoc, arith}
 use Rattle.std.specs.Cmp.{first_so, second_so}
 use Rattle.std.specs.List.{list_any}
-use Rattle.std.specs.Option.{option_map_or}
 use Rattle.std.proofs.Math.Bool.{or-false}
-use Rattle.std.proofs.lemmas.Bool.{eqb-true, eq-eqb, false≢true}
+use Rattle.std.proofs.lemmas.Bool.{eqb-true, false≢true}
 use Rattle.std.proofs.lemmas.List.{append-nil, map-id}
 use Rattle.std.proofs.lemmas.List.Folds.{list_any-append}
-use Rattle.std.proofs.lemmas.Option.{same_Some, slice_get-map}
+use Rattle.std.proofs.lemmas.Option.{same_Some}
 use Rattle.zk_base.specs.declared.ids.Who.{Who}
 use Rattle.zk_base.specs.declared.ids.Entry.{Entry}
 use Rattle.zk_base.specs.Legal.{state_after, Replays}
@@ -28,7 +27,6 @@ use Rattle.zk_model_work.specs.Answers.{cancel_wait, flush_wait, flush_start_rep
 use Rattle.zk_model_work.specs.Laws.{WorkHistory, IsFreshHistory, fits, awaits, is_done_of}
 use Rattle.zk_model_work.proofs.Moves.{schedule-keeps, delayed-keeps}
 use Rattle.zk_model_work.proofs.Drains.{entries-after}
-use Rattle.zk_model_work.proofs.Overlaps.{and-true, not_first}
 use Rattle.zk_model_work.proofs.Replies.{said-where, fits-reply}
 
 -- the wait that an operation begins, if it begins one
@@ -390,9 +388,9 @@ have-next start past e is all n v at = by (mapped-more (answered_by s e.who e.op
         begins = has.begins ∙ ap Some same;
         replied = has.replied;
         answered =
-        ap (λ (w : Wait). w.answered) (sym old.2) ∙ answered-next start past e.who e.op e.reply old.0 all has is ∙ ap (λ b. b || is_done_of old.0.place e.op) has.answered
-        ∙ ap (λ b. list_any done has.since || b) (sym (or-false (is_done_of old.0.place e.op))) ∙ sym (list_any-append done has.since (e ∷ []))
-        ∙ ap (λ p. list_any (λ (f : Entry WorkOp WorkReply). is_done_of p f.op) (has.since ++ e ∷ [])) place;
+            ap (λ (w : Wait). w.answered) (sym old.2) ∙ answered-next start past e.who e.op e.reply old.0 all has is ∙ ap (λ b. b || is_done_of old.0.place e.op) has.answered
+            ∙ ap (λ b. list_any done has.since || b) (sym (or-false (is_done_of old.0.place e.op))) ∙ sym (list_any-append done has.since (e ∷ []))
+            ∙ ap (λ p. list_any (λ (f : Entry WorkOp WorkReply). is_done_of p f.op) (has.since ++ e ∷ [])) place;
       }
   by (inr new) =
       let told : v.answered ≡ false = (new-parts s e.who e.op v new).2 in

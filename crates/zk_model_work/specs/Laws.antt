@@ -578,11 +578,11 @@ FlushWaitsForNewest = AtEach (λ before e later. (item : ℕ) → e.op ≡ Flush
 abbrev pub FlushHurries : State → WorkHistory → Type 0
 FlushHurries start h = (front rest : WorkHistory) (e : Entry WorkOp WorkReply) (item : ℕ) → h ≡ front ++ e ∷ rest → e.op ≡ FlushStart item →
     ((queue target : ℕ) (q : Queue) → IsArmedFor (state_after work_machine start front) item queue → (IsBeingCancelled start front item → ⊥) →
-        target_of (state_after work_machine start front) item (Some queue) ≡ Some target →
-        slice_get (state_after work_machine start front).queues target ≡ Some q → q.started ≡ true → bars q (Some e.who.number) ≡ false →
-        is_some (waiting (state_after work_machine start (front ++ e ∷ [])).admissions item) ≡ true)
+    target_of (state_after work_machine start front) item (Some queue) ≡ Some target →
+    slice_get (state_after work_machine start front).queues target ≡ Some q → q.started ≡ true → bars q (Some e.who.number) ≡ false →
+    is_some (waiting (state_after work_machine start (front ++ e ∷ [])).admissions item) ≡ true)
     × (((queue : ℕ) → IsArmedFor (state_after work_machine start front) item queue → ⊥) →
-        (state_after work_machine start (front ++ e ∷ [])).admissions ≡ (state_after work_machine start front).admissions)
+    (state_after work_machine start (front ++ e ∷ [])).admissions ≡ (state_after work_machine start front).admissions)
 
 -- a flush holds
 pub record FlushesHold (start : State) (h : WorkHistory) : Type 0 where
@@ -706,10 +706,10 @@ ArmedAsAsked = AtEach (λ before e later.
 abbrev pub ScheduleTells : State → WorkHistory → Type 0
 ScheduleTells start h = (front rest : WorkHistory) (e : Entry WorkOp WorkReply) (item queue delay : ℕ) → h ≡ front ++ e ∷ rest →
     (e.op ≡ Schedule item queue delay → IsPending start front item → (e.reply ≡ Sub submitteds.Already)
-        × ((state_after work_machine start (front ++ e ∷ [])).admissions ≡ (state_after work_machine start front).admissions)
-        × ((state_after work_machine start (front ++ e ∷ [])).arms ≡ (state_after work_machine start front).arms))
+    × ((state_after work_machine start (front ++ e ∷ [])).admissions ≡ (state_after work_machine start front).admissions)
+    × ((state_after work_machine start (front ++ e ∷ [])).arms ≡ (state_after work_machine start front).arms))
     × (e.op ≡ Schedule item queue delay → (IsPending start front item → ⊥) →
-        (e.reply ≡ Sub submitteds.Already → ⊥) × (is_armed e.reply ≡ not (delay == 0)))
+    (e.reply ≡ Sub submitteds.Already → ⊥) × (is_armed e.reply ≡ not (delay == 0)))
     × (e.op ≡ Reschedule item queue delay → is_armed e.reply ≡ not (delay == 0))
 
 -- what remains of a delay is told: the live arm's deadline less the time, and 0 where the item has none
