@@ -25,7 +25,8 @@ use Rattle.zk_model_work.specs.Questions.{is_waiting, is_running, is_open, waits
 use Rattle.zk_model_work.specs.State.{State}
 use Rattle.zk_model_work.specs.Machine.{work_next, work_reply, work_machine, submit, set_life, with_life, begin, end_one, drop_one, taken_up, may_begin}
 use Rattle.zk_model_work.specs.Answers.{submission}
-use Rattle.zk_model_work.specs.Laws.{IsWorkHistory, IsFreshHistory, OfEach, submitter, hands_out, begins, admission_after, EachBegunOnce, DroppedNeverBegun, RunOrDropped, NoneWaitsBefore, BeginsRise}
+use Rattle.zk_model_work.specs.Histories.{IsWorkHistory, IsFreshHistory, OfEach, submitter, hands_out, begins, admission_after}
+use Rattle.zk_model_work.specs.Laws.{EachBegunOnce, DroppedNeverBegun, RunOrDropped, NoneWaitsBefore, BeginsRise}
 use Rattle.zk_model_work.proofs.Moves.{admissions-next, is_begin}
 use Rattle.zk_model_work.proofs.Lives.{Kept, Kept-after, IsFirst, IsFirst-line, set_life-at, set_life-aside}
 

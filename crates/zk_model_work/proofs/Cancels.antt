@@ -25,7 +25,8 @@ use Rattle.zk_model_work.specs.Questions.{is_waiting, is_running, is_open, waits
 use Rattle.zk_model_work.specs.State.{State}
 use Rattle.zk_model_work.specs.Machine.{work_next, work_machine, submit, disarm, drop_one, drop_waiting, set_life, with_life, begin, end_one, end_run}
 use Rattle.zk_model_work.specs.Answers.{submission, submission_at, target, admitted_to}
-use Rattle.zk_model_work.specs.Laws.{OfEach, submitter, made_after, Cancels, NoneWaitsAfterCancel, NoneMadeDuringCancel, BegunMadeAfterCancel, BegunMadeAfterRun}
+use Rattle.zk_model_work.specs.Histories.{OfEach, submitter, made_after, Cancels}
+use Rattle.zk_model_work.specs.Laws.{NoneWaitsAfterCancel, NoneMadeDuringCancel, BegunMadeAfterCancel, BegunMadeAfterRun}
 use Rattle.zk_model_work.proofs.Lives.{Keeps, Kept, Kept-next, Kept-after}
 use Rattle.zk_model_work.proofs.Moves.{Stays, pushed, still-map, admissions-next, schedule-keeps, delayed-keeps}
 use Rattle.zk_model_work.proofs.Begins.{alive, Replays-parts}

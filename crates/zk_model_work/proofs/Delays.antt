@@ -21,7 +21,8 @@ use Rattle.zk_model_work.specs.Questions.{is_live, arms_item, armed, is_due, due
 use Rattle.zk_model_work.specs.State.{State}
 use Rattle.zk_model_work.specs.Machine.{submit, expiries, arm, disarm, disarm_one, expire, expire_one, is_pending_in, delayed, work_reply, work_next, work_machine}
 use Rattle.zk_model_work.specs.Answers.{submission}
-use Rattle.zk_model_work.specs.Laws.{IsFreshHistory, OfEach, announces, disarms, arm_after, time_after, LiveAhead, ExpiresWhenDue, DisarmedWhenGivenUp, FateStays, OneLiveArm, ExpireInOrder}
+use Rattle.zk_model_work.specs.Histories.{IsFreshHistory, OfEach, announces, disarms, arm_after, time_after}
+use Rattle.zk_model_work.specs.Laws.{LiveAhead, ExpiresWhenDue, DisarmedWhenGivenUp, FateStays, OneLiveArm, ExpireInOrder}
 use Rattle.zk_model_work.proofs.Moves.{still-push, pushed, still-map, unarmed, none-there, DisarmsJust, DisarmsNone, arms-next}
 use Rattle.zk_model_work.proofs.Begins.{Replays-parts}
 use Rattle.zk_model_work.proofs.Overlaps.{position-none, second_of}

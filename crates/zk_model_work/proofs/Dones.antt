@@ -27,7 +27,8 @@ use Rattle.zk_model_work.specs.Questions.{is_open, is_ended, passes_at, running,
 use Rattle.zk_model_work.specs.State.{State}
 use Rattle.zk_model_work.specs.Machine.{has_come, may_close, flags_of, flushed_of, work_reply, work_next, work_machine, in_range}
 use Rattle.zk_model_work.specs.Answers.{cancel_start_reply, flush_start_reply, drain_reply, cancel_wait, flush_wait, drain_wait, drained_of, wait_for, is_unanswered, closes}
-use Rattle.zk_model_work.specs.Laws.{WorkHistory, IsFreshHistory, OfEach, is_done_of, ends_wait_of, done_for, has_to_wait, HasStart, HasCome, MayGoOn, MayBeDone, DoneHasItsStart}
+use Rattle.zk_model_work.specs.Histories.{WorkHistory, IsFreshHistory, OfEach, is_done_of, ends_wait_of, done_for, has_to_wait, HasStart, HasCome, MayGoOn}
+use Rattle.zk_model_work.specs.Laws.{MayBeDone, DoneHasItsStart}
 use Rattle.zk_model_work.proofs.Drains.{AllKeep, AllKeep-after, AllKeep-fresh, entries-after}
 use Rattle.zk_model_work.proofs.Overlaps.{and-true}
 use Rattle.zk_model_work.proofs.Entries.{entry-replied, fresh-front}

@@ -37,7 +37,8 @@ use Rattle.zk_model_work.specs.State.{State, fresh_queue, fresh_queues}
 use Rattle.zk_model_work.specs.Machine.{submit, submit_arms, disarm, with_life, set_life, begin, end_one, end_run, drop_one, drop_waiting, settle_one, settle_from, settle, changed_queue, change, change_where, drain, answer_one, work_reply, work_next, work_machine, awaiting, has_come, may_close, answer_where, answered_waits, flushed_of}
 use Rattle.zk_model_work.specs.Answers.{is_chained, target, admission, refusal, submission_to, submission_at, submission, admitted_to, drained_of, drain_wait, is_unanswered, wait_for, cancel_wait, flush_wait, closes, flush_start_reply}
 use Rattle.zk_model_work.specs.declared.parts.Item.{Item}
-use Rattle.zk_model_work.specs.Laws.{IsFreshHistory, OfEach, submitter, Makes, queue_after, DrainAdmitsItsOwn, PluggedAdmitsNone, DrainsUntilItRests, PluggedRests, DrainEndsAtRest, DrainDoneAfterItsEnd, CancelDoneAfterRun, FlushDoneAfterItsEnd}
+use Rattle.zk_model_work.specs.Histories.{IsFreshHistory, OfEach, submitter, Makes, queue_after}
+use Rattle.zk_model_work.specs.Laws.{DrainAdmitsItsOwn, PluggedAdmitsNone, DrainsUntilItRests, PluggedRests, DrainEndsAtRest, DrainDoneAfterItsEnd, CancelDoneAfterRun, FlushDoneAfterItsEnd}
 use Rattle.zk_model_work.proofs.Lives.{IsFirst-line}
 use Rattle.zk_model_work.proofs.Moves.{Stays, submit_arms-keeps, schedule-keeps, delayed-keeps}
 use Rattle.zk_model_work.proofs.Begins.{Replays-parts}

@@ -9,7 +9,8 @@ use Rattle.zk_model_work.specs.declared.ops.WorkOp.TheVariants.{Submit, Cancel, 
 use Rattle.zk_model_work.specs.declared.ops.WorkReply.{WorkReply}
 use Rattle.zk_model_work.specs.State.{State}
 use Rattle.zk_model_work.specs.Machine.{work_reply, work_next, work_machine, disarm}
-use Rattle.zk_model_work.specs.Laws.{WorkHistory, AtEach, IsFreshHistory, OfEach, ticks_of, OnlyAnnouncesPassTime}
+use Rattle.zk_model_work.specs.Histories.{WorkHistory, AtEach, IsFreshHistory, OfEach, ticks_of}
+use Rattle.zk_model_work.specs.Laws.{OnlyAnnouncesPassTime}
 use Rattle.zk_model_work.proofs.Moves.{schedule-keeps, delayed-keeps}
 use Rattle.zk_model_work.proofs.Begins.{Replays-parts}
 

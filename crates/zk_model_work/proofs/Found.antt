@@ -23,7 +23,8 @@ use Rattle.zk_model_work.specs.Questions.{is_waiting, is_running, is_open, waits
 use Rattle.zk_model_work.specs.State.{State}
 use Rattle.zk_model_work.specs.Machine.{hurried, flushed_of, flags_of, work_reply, work_next, work_machine}
 use Rattle.zk_model_work.specs.Answers.{flushed, cancel_start_reply, flush_start_reply}
-use Rattle.zk_model_work.specs.Laws.{WorkHistory, IsFreshHistory, OfEach, IsNewest, NoneIsOpen, CancelStartTellsTheRun, FlushWaitsForNewest}
+use Rattle.zk_model_work.specs.Histories.{WorkHistory, IsFreshHistory, OfEach, IsNewest, NoneIsOpen}
+use Rattle.zk_model_work.specs.Laws.{CancelStartTellsTheRun, FlushWaitsForNewest}
 use Rattle.zk_model_work.proofs.Lives.{open-waiting, open-running}
 use Rattle.zk_model_work.proofs.Overlaps.{position-none, and-true, runs-open, waiting-running, Ordered, Ordered-next, Ordered-history}
 use Rattle.zk_model_work.proofs.Entries.{at_each, at_each_in}

@@ -23,7 +23,8 @@ use Rattle.zk_model_work.specs.Questions.{is_waiting, is_running, is_open, runs_
 use Rattle.zk_model_work.specs.State.{State}
 use Rattle.zk_model_work.specs.Answers.{is_chained, target, refusal, submission}
 use Rattle.zk_model_work.specs.Machine.{submission_in, submit, submit_arms, expiries, arm, disarm, hurried, drop_one, begin, end_one, with_life, is_pending_in, schedule_reply_in, delay_reply_in, announce_reply, work_reply, work_next, work_machine}
-use Rattle.zk_model_work.specs.Laws.{OfEach, cancels, hands_out, submitter, Makes, target_of, IsArmedFor, Named, Told, IsNewest, NoneIsOpen, MadeWaiting, WaitsOn, GoesToItsQueue, StartedAdmits}
+use Rattle.zk_model_work.specs.Histories.{OfEach, cancels, hands_out, submitter, Makes, target_of, IsArmedFor, Named, Told, IsNewest, NoneIsOpen}
+use Rattle.zk_model_work.specs.Laws.{MadeWaiting, WaitsOn, GoesToItsQueue, StartedAdmits}
 use Rattle.zk_model_work.proofs.Moves.{still-submit, schedule-keeps, delayed-keeps}
 use Rattle.zk_model_work.proofs.Overlaps.{not_both, begin-is, still-cond}
 use Rattle.zk_model_work.proofs.Lives.{set_life-aside}

@@ -18,7 +18,7 @@ use Rattle.zk_model_work.specs.declared.ops.WorkReply.{WorkReply}
 use Rattle.zk_model_work.specs.Questions.{is_running, runs_as, passes_at, running, is_cancelling}
 use Rattle.zk_model_work.specs.State.{State}
 use Rattle.zk_model_work.specs.Machine.{disarm, work_next, work_machine}
-use Rattle.zk_model_work.specs.Laws.{WorkHistory, IsFreshHistory, Cancels, IsBeingCancelled, running_after}
+use Rattle.zk_model_work.specs.Histories.{WorkHistory, IsFreshHistory, Cancels, IsBeingCancelled, running_after}
 use Rattle.zk_model_work.proofs.Moves.{schedule-keeps, delayed-keeps}
 use Rattle.zk_model_work.proofs.Outcomes.{kept-in_whole}
 use Rattle.zk_model_work.proofs.Overlaps.{and-true}

@@ -16,7 +16,8 @@ use Rattle.zk_model_work.specs.declared.ops.WorkReply.TheVariants.{Run}
 use Rattle.zk_model_work.specs.Questions.{is_waiting, is_running}
 use Rattle.zk_model_work.specs.State.{State}
 use Rattle.zk_model_work.specs.Machine.{work_reply, work_next, work_machine, with_life, begin, end_one}
-use Rattle.zk_model_work.specs.Laws.{OfEach, ends, admission_after, AdmissionStays, OutcomeStays, BegunFromItsQueue, EndedByItsEnd}
+use Rattle.zk_model_work.specs.Histories.{OfEach, ends, admission_after}
+use Rattle.zk_model_work.specs.Laws.{AdmissionStays, OutcomeStays, BegunFromItsQueue, EndedByItsEnd}
 use Rattle.zk_model_work.proofs.Moves.{is_begin}
 use Rattle.zk_model_work.proofs.Lives.{Keeps, Kept-after, IsFirst-line, set_life-at}
 use Rattle.zk_model_work.proofs.Begins.{Begun-reply, Replays-parts}

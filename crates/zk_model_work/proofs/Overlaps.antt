@@ -28,7 +28,8 @@ use Rattle.zk_model_work.specs.State.{State}
 use Rattle.zk_model_work.specs.Machine.{work_next, work_reply, work_machine, submit, set_life, with_life, begin, end_one, drop_one, may_begin, taken_up}
 use Rattle.zk_model_work.specs.Answers.{target, admission, refusal, submission_to, submission_at, submission, admitted_to, is_worker}
 use Rattle.zk_model_work.specs.declared.parts.Item.{Item}
-use Rattle.zk_model_work.specs.Laws.{IsFreshHistory, OfEach, submitter, admission_after, ends, RunsToItsEnd, EndsBetweenBegins}
+use Rattle.zk_model_work.specs.Histories.{IsFreshHistory, OfEach, submitter, admission_after, ends}
+use Rattle.zk_model_work.specs.Laws.{RunsToItsEnd, EndsBetweenBegins}
 use Rattle.zk_model_work.proofs.Lives.{open-waiting, open-running, IsFirst, IsFirst-line, set_life-at, set_life-aside}
 use Rattle.zk_model_work.proofs.Moves.{pushed, still-map, still-submit, admissions-next, is_begin}
 use Rattle.zk_model_work.proofs.Begins.{Begun, Begun-reply, Begun-entry, Replays-parts}

@@ -19,7 +19,8 @@ use Rattle.zk_model_work.specs.Questions.{is_waiting, waits_as, waiting, armed, 
 use Rattle.zk_model_work.specs.State.{State}
 use Rattle.zk_model_work.specs.Answers.{target, submission}
 use Rattle.zk_model_work.specs.Machine.{submission_in, submit, submit_arms, hurried, is_pending_in, delayed, schedule, schedule_reply_in, delay_reply_in, work_reply, work_next, work_machine}
-use Rattle.zk_model_work.specs.Laws.{WorkHistory, IsFreshHistory, OfEach, is_armed, target_of, bars, IsArmedFor, IsPending, IsBeingCancelled, ScheduleTells, FlushHurries}
+use Rattle.zk_model_work.specs.Histories.{WorkHistory, IsFreshHistory, OfEach, is_armed, target_of, bars, IsArmedFor, IsPending, IsBeingCancelled}
+use Rattle.zk_model_work.specs.Laws.{ScheduleTells, FlushHurries}
 use Rattle.zk_model_work.proofs.Overlaps.{position-none, and-true}
 use Rattle.zk_model_work.proofs.Delays.{one_live_arm}
 use Rattle.zk_model_work.proofs.Entries.{entry-replied, fresh-front}

@@ -18,7 +18,8 @@ use Rattle.zk_model_work.specs.Questions.{is_empty_and_idle}
 use Rattle.zk_model_work.specs.State.{State}
 use Rattle.zk_model_work.specs.Machine.{work_reply, work_next, work_machine, disarm, drop_waiting, end_run, settle_one, changed_queue, change, change_where, drain}
 use Rattle.zk_model_work.specs.Answers.{start_reply, unplug_reply, drain_reply}
-use Rattle.zk_model_work.specs.Laws.{WorkHistory, IsFreshHistory, OfEach, starts, drains, plug_after, StartedStays, PluggedAsAsked, StartTells, DrainTells, DrainingStays}
+use Rattle.zk_model_work.specs.Histories.{WorkHistory, IsFreshHistory, OfEach, starts, drains, plug_after}
+use Rattle.zk_model_work.specs.Laws.{StartedStays, PluggedAsAsked, StartTells, DrainTells, DrainingStays}
 use Rattle.zk_model_work.proofs.Moves.{schedule-keeps, delayed-keeps}
 use Rattle.zk_model_work.proofs.Drains.{Keeps, AllKeep, AllKeep-next, AllKeep-after, AllKeep-fresh, settled-at}
 use Rattle.zk_model_work.proofs.Entries.{at_each, at_each_in}

@@ -26,7 +26,8 @@ use Rattle.zk_model_work.specs.Questions.{is_live, is_waiting, is_running, waits
 use Rattle.zk_model_work.specs.State.{State}
 use Rattle.zk_model_work.specs.Machine.{submission_in, arm, disarm, disarm_one, is_pending_in, delayed, schedule, flushed_of, may_close, flags_of, taken_up, may_begin, may_end, schedule_reply_in, delay_reply_in, work_reply, work_next, work_machine}
 use Rattle.zk_model_work.specs.Answers.{is_worker, is_started, is_plugged, flush_start_reply, remaining}
-use Rattle.zk_model_work.specs.Laws.{OfEach, is_worked_by, is_armed, asked_arm, fits, is_awaited, ByItsWorker, EndFindsARun, RemainingTells, AnswersFit, ArmedAsAsked, MayBegin, MayEnd, MayAlways}
+use Rattle.zk_model_work.specs.Histories.{OfEach, is_worked_by, is_armed, asked_arm, fits, is_awaited}
+use Rattle.zk_model_work.specs.Laws.{ByItsWorker, EndFindsARun, RemainingTells, AnswersFit, ArmedAsAsked, MayBegin, MayEnd, MayAlways}
 use Rattle.zk_model_work.proofs.Lives.{IsFirst-line}
 use Rattle.zk_model_work.proofs.Lines.{first_of_places}
 use Rattle.zk_model_work.proofs.Begins.{Begun-reply}

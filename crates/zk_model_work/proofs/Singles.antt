@@ -19,7 +19,8 @@ use Rattle.zk_model_work.specs.Questions.{is_waiting, is_running, waits_as, runs
 use Rattle.zk_model_work.specs.State.{State}
 use Rattle.zk_model_work.specs.Machine.{work_reply, work_next, work_machine, submit, set_life, with_life, begin, end_one, drop_one}
 use Rattle.zk_model_work.specs.Answers.{submission}
-use Rattle.zk_model_work.specs.Laws.{OfEach, submitter, OneWaitsOneRuns, OneRunsOnAQueue}
+use Rattle.zk_model_work.specs.Histories.{OfEach, submitter}
+use Rattle.zk_model_work.specs.Laws.{OneWaitsOneRuns, OneRunsOnAQueue}
 use Rattle.zk_model_work.proofs.Moves.{pushed, admissions-next}
 use Rattle.zk_model_work.proofs.Lives.{IsFirst-line}
 use Rattle.zk_model_work.proofs.Begins.{Begun-reply}

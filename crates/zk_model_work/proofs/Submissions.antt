@@ -31,7 +31,8 @@ use Rattle.zk_model_work.specs.Questions.{is_waiting, is_running, is_live, waits
 use Rattle.zk_model_work.specs.State.{State}
 use Rattle.zk_model_work.specs.Answers.{is_chained, target, admission, submission_to, submission_at, submission}
 use Rattle.zk_model_work.specs.Machine.{submission_in, submit, submit_arms, expiries, arm, disarm, is_pending_in, schedule_reply_in, delay_reply_in, announce_reply, work_reply, work_next, work_machine}
-use Rattle.zk_model_work.specs.Laws.{WorkHistory, IsFreshHistory, OfEach, submitter, is_own, bars, IsArmedFor, Named, Told, IsSo, IsCause, IsBeingCancelled, AnsweredIsMade, RefusedWithCause}
+use Rattle.zk_model_work.specs.Histories.{WorkHistory, IsFreshHistory, OfEach, submitter, is_own, bars, IsArmedFor, Named, Told, IsSo, IsCause, IsBeingCancelled}
+use Rattle.zk_model_work.specs.Laws.{AnsweredIsMade, RefusedWithCause}
 use Rattle.zk_model_work.proofs.Moves.{Stays, pushed, still-submit, submit_arms-keeps}
 use Rattle.zk_model_work.proofs.Overlaps.{position-none, not_both}
 use Rattle.zk_model_work.proofs.Delays.{one_live_arm}

@@ -23,7 +23,8 @@ use Rattle.zk_model_work.specs.declared.ops.WorkReply.TheVariants as replies
 use Rattle.zk_model_work.specs.Questions.{is_waiting, is_running, is_open, waits_as, runs_as, is_open_as, arms_item, passes_at, waiting, running, armed, is_cancelling, flushes, is_flushing, busy_flags}
 use Rattle.zk_model_work.specs.State.{State}
 use Rattle.zk_model_work.specs.Machine.{drop_one, drop_waiting, cancel, flags_of, work_reply, work_next, work_machine}
-use Rattle.zk_model_work.specs.Laws.{WorkHistory, IsFreshHistory, OfEach, awaits, cancel_flags, CancelTellsTheRun}
+use Rattle.zk_model_work.specs.Histories.{WorkHistory, IsFreshHistory, OfEach, awaits, cancel_flags}
+use Rattle.zk_model_work.specs.Laws.{CancelTellsTheRun}
 use Rattle.zk_model_work.proofs.Lives.{open-running}
 use Rattle.zk_model_work.proofs.Overlaps.{position-none, and-true, Ordered, Ordered-history}
 use Rattle.zk_model_work.proofs.Singles.{runs_is}

@@ -24,7 +24,7 @@ use Rattle.zk_model_work.specs.Questions.{running, is_empty_and_idle}
 use Rattle.zk_model_work.specs.State.{State}
 use Rattle.zk_model_work.specs.Machine.{disarm, flushed_of, has_come, may_close, answer_where, answer_one, work_reply, work_next, work_machine}
 use Rattle.zk_model_work.specs.Answers.{cancel_wait, flush_wait, flush_start_reply, drain_wait, drained_of, wait_for, is_unanswered, closes}
-use Rattle.zk_model_work.specs.Laws.{WorkHistory, IsFreshHistory, fits, awaits, is_done_of}
+use Rattle.zk_model_work.specs.Histories.{WorkHistory, IsFreshHistory, fits, awaits, is_done_of}
 use Rattle.zk_model_work.proofs.Moves.{schedule-keeps, delayed-keeps}
 use Rattle.zk_model_work.proofs.Drains.{entries-after}
 use Rattle.zk_model_work.proofs.Replies.{said-where, fits-reply}

@@ -1,4 +1,5 @@
-ghost use Rattle.zk_model_work.specs.Laws.{OfEach, RunsOnce, BeginsInOrder, NeverOverlaps, SubmissionsHold, CancelsHold, FlushesHold, DrainsHold, DelaysHold, GoesOn, KeepsLaws};
+ghost use Rattle.zk_model_work.specs.Histories.{OfEach};
+ghost use Rattle.zk_model_work.specs.Laws.{RunsOnce, BeginsInOrder, NeverOverlaps, SubmissionsHold, CancelsHold, FlushesHold, DrainsHold, DelaysHold, GoesOn, KeepsLaws};
 
 /// Of every legal work history: what has become of an admission stays so. It is begun by a begin on
 /// its queue, which finds it waiting; at most once, and one that was dropped never.
