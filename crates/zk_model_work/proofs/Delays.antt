@@ -7,7 +7,7 @@ use Rattle.std.proofs.lemmas.Option.{slice_get-map, same_Some}
 use Rattle.zk_base.specs.declared.ids.Who.{Who}
 use Rattle.zk_base.specs.declared.ids.Entry.{Entry}
 use Rattle.zk_base.specs.Legal.{state_after}
-use Rattle.zk_base.proofs.Histories.{state_after-append, Replays-rest}
+use Rattle.zk_base.proofs.Histories.{state_after-append}
 use Rattle.zk_model_work.specs.declared.parts.Admission.{Admission}
 use Rattle.zk_model_work.specs.declared.parts.Queue.{Queue}
 use Rattle.zk_model_work.specs.declared.parts.Fate.TheVariants.{Live, Expired, Disarmed}
@@ -16,15 +16,13 @@ use Rattle.zk_model_work.specs.declared.ops.WorkOp.{WorkOp}
 use Rattle.zk_model_work.specs.declared.ops.WorkOp.TheVariants.{Schedule, Reschedule, Announce}
 use Rattle.zk_model_work.specs.declared.ops.Expiry.{Expiry}
 use Rattle.zk_model_work.specs.declared.ops.WorkReply.{WorkReply}
-use Rattle.zk_model_work.specs.declared.ops.WorkReply.TheVariants.{Now}
-use Rattle.zk_model_work.specs.Questions.{is_live, arms_item, armed, is_due, due, waiting, is_cancelling, item_of}
+use Rattle.zk_model_work.specs.Questions.{is_live, arms_item, armed, is_due, waiting, is_cancelling, item_of}
 use Rattle.zk_model_work.specs.State.{State}
-use Rattle.zk_model_work.specs.Machine.{submit, expiries, arm, disarm, disarm_one, expire, expire_one, is_pending_in, delayed, work_reply, work_next, work_machine}
+use Rattle.zk_model_work.specs.Machine.{submit, expiries, arm, disarm, disarm_one, expire, expire_one, is_pending_in, delayed, work_next, work_machine}
 use Rattle.zk_model_work.specs.Answers.{submission}
-use Rattle.zk_model_work.specs.Histories.{IsFreshHistory, OfEach, announces, disarms, arm_after, time_after}
-use Rattle.zk_model_work.specs.Laws.{LiveAhead, ExpiresWhenDue, DisarmedWhenGivenUp, FateStays, OneLiveArm, ExpireInOrder}
+use Rattle.zk_model_work.specs.Histories.{IsFreshHistory, OfEach, announces, disarms, arm_after}
+use Rattle.zk_model_work.specs.Laws.{LiveAhead, ExpiresWhenDue, DisarmedWhenGivenUp, FateStays, OneLiveArm}
 use Rattle.zk_model_work.proofs.Moves.{still-push, pushed, still-map, unarmed, none-there, DisarmsJust, DisarmsNone, arms-next}
-use Rattle.zk_model_work.proofs.Begins.{Replays-parts}
 use Rattle.zk_model_work.proofs.Overlaps.{position-none, second_of}
 
 -- in every state each live arm is ahead of the time, and an item has one at most
@@ -214,27 +212,10 @@ expires_when_due start h fresh = record {
 }
 
 -- an announce tells the items of the arms that are due, in order
-told_items : (marks : List ℕ) (queues : List Queue) (arms : List Arm) (xs : List Admission) → map (λ (x : Expiry). x.item) (expiries marks queues arms xs) ≡ map (λ (a : Arm). a.item) arms
+pub told_items : (marks : List ℕ) (queues : List Queue) (arms : List Arm) (xs : List Admission) → map (λ (x : Expiry). x.item) (expiries marks queues arms xs) ≡ map (λ (a : Arm). a.item) arms
 told_items marks queues [] xs = refl
 told_items marks queues (a ∷ arms) xs =
     ap (λ (items : List ℕ). a.item ∷ items) (told_items marks queues arms (submit xs a.item (submission (item_of xs marks a.item) queues None (Some a.queue))))
-
-same_now : (time time' : ℕ) (told told' : List Expiry) (reply : WorkReply) → Now time' told' ≡ reply → reply ≡ Now time told → (time ≡ time') × (told ≡ told')
-same_now time time' told told' reply one other = (cc, cc)
-
-pub expire_in_order : OfEach ExpireInOrder
-expire_in_order start h fresh = record {
-  each = λ front rest e parts ticks time told op reply.
-      let s = state_after work_machine start front in
-      let same = state_after-append work_machine start front (e ∷ []) in
-      let replied : work_reply s e.who (Announce ticks) ≡ Some e.reply = ap (work_reply s e.who) (sym op) ∙ (Replays-rest work_machine start front (e ∷ rest) (Replays-parts start h (front ++ e ∷ rest) fresh parts)).0 in
-      let ended : List Expiry = expiries s.marks s.queues (due (s.time + ticks) s.arms) s.admissions in
-      let is = same_now time (s.time + ticks) told ended e.reply (same_Some (Now (s.time + ticks) ended) e.reply replied) reply in
-      let after : time_after start (front ++ e ∷ []) ≡ s.time + ticks = ap (λ (u : State). u.time) same ∙ ap (λ o. (work_next s e.who o).time) op in (
-        is.0 ∙ sym after,
-        ap (map (λ (x : Expiry). x.item)) is.1 ∙ told_items s.marks s.queues (due (s.time + ticks) s.arms) s.admissions ∙ ap (λ t. map (λ (a : Arm). a.item) (due t s.arms)) (sym is.0),
-      );
-}
 
 -- where an item isn't pending, a schedule is a reschedule
 same-map : (f : Arm → Arm) (xs : List Arm) → ((n : ℕ) (a : Arm) → slice_get xs n ≡ Some a → f a ≡ a) → map f xs ≡ xs

@@ -11,6 +11,7 @@ pub mod Lives
 pub mod Made
 pub mod Marks
 pub mod Moves
+pub mod Orders
 pub mod Outcomes
 pub mod Overlaps
 pub mod Pending

@@ -1,4 +1,4 @@
-use Rattle.std.specs.Prelude.{◌≡◌, ℕ, ◌+◌, ◌≤◌, ◌⊎◌, Bool, true, false, not, ◌&&◌, ◌||◌, ◌==◌, if◌then◌else◌, Option, Some, None, is_some, option_map, List, [], ◌∷◌, ◌++◌, length, slice_get, All}
+use Rattle.std.specs.Prelude.{◌≡◌, ℕ, ◌+◌, ◌<◌, ◌≤◌, ◌⊎◌, Bool, true, false, not, ◌&&◌, ◌||◌, ◌==◌, if◌then◌else◌, Option, Some, None, is_some, option_map, List, [], ◌∷◌, ◌++◌, length, slice_get, All}
 use Rattle.std.specs.List.{list_any}
 use Rattle.std.specs.Option.{option_or}
 use Rattle.zk_base.specs.declared.errors.Errno.{Errno}
@@ -376,3 +376,18 @@ is_awaited (DrainDone place) = true
 is_awaited (Begin queue) = true
 is_awaited (End queue) = true
 is_awaited op = false
+
+-- a live arm of this place that is over by this time
+abbrev pub IsDueAt : State → ℕ → ℕ → Arm → Type 0
+IsDueAt s time place a = (slice_get s.arms place ≡ Some a) × (a.fate ≡ Live) × (a.deadline ≤ time)
+
+-- told are just the items of the arms that are over by this time; of two the earlier has the lower deadline, or the same and the
+-- lower place
+pub record AreToldInOrder (s : State) (time : ℕ) (told : List Expiry) : Type 0 where
+  pub over : (number : ℕ) (x : Expiry) → slice_get told number ≡ Some x →
+      (place : ℕ) × (a : Arm) × IsDueAt s time place a × (a.item ≡ x.item)
+  pub all : (place : ℕ) (a : Arm) → IsDueAt s time place a →
+      (number : ℕ) × (x : Expiry) × (slice_get told number ≡ Some x) × (x.item ≡ a.item)
+  pub order : (number next place other : ℕ) (x y : Expiry) (a b : Arm) → number < next →
+      slice_get told number ≡ Some x → slice_get told next ≡ Some y → IsDueAt s time place a → IsDueAt s time other b →
+      a.item ≡ x.item → b.item ≡ y.item → (a.deadline < b.deadline) ⊎ ((a.deadline ≡ b.deadline) × (place < other))

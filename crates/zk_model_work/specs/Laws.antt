@@ -1,4 +1,4 @@
-use Rattle.std.specs.Prelude.{◌≡◌, ℕ, ◌+◌, ◌-◌, ◌<◌, ◌≤◌, ◌⊎◌, Bool, true, false, not, ◌&&◌, ◌||◌, ◌==◌, nat_le, if◌then◌else◌, count_by, Option, Some, is_some, option_map, List, [], ◌∷◌, ◌++◌, length, map, drop, slice_get}
+use Rattle.std.specs.Prelude.{◌≡◌, ℕ, ◌+◌, ◌-◌, ◌<◌, ◌≤◌, ◌⊎◌, Bool, true, false, not, ◌&&◌, ◌||◌, ◌==◌, nat_le, if◌then◌else◌, count_by, Option, Some, is_some, option_map, List, [], ◌∷◌, ◌++◌, length, drop, slice_get}
 use Rattle.std.specs.List.{list_any}
 use Rattle.zk_base.specs.declared.errors.Errno.{Errno}
 use Rattle.zk_base.specs.declared.ids.Who.{Who}
@@ -15,10 +15,10 @@ use Rattle.zk_model_work.specs.declared.parts.Admission.{Admission}
 use Rattle.zk_model_work.specs.declared.parts.Fate.TheVariants.{Live, Expired, Disarmed}
 use Rattle.zk_model_work.specs.declared.parts.Arm.{Arm}
 use Rattle.zk_model_work.specs.declared.parts.Queue.{Queue}
-use Rattle.zk_model_work.specs.Questions.{is_waiting, is_open, is_live, is_empty_and_idle, waiting, running, armed, due}
+use Rattle.zk_model_work.specs.Questions.{is_waiting, is_open, is_live, is_empty_and_idle, waiting, running, armed}
 use Rattle.zk_model_work.specs.State.{State}
 use Rattle.zk_model_work.specs.Answers.{drained_of}
-use Rattle.zk_model_work.specs.Histories.{WorkEntry, WorkHistory, after, AtEach, hands_out, begins, ends, Cancels, cancels, disarms, submitter, announces, admission_after, life_after, made_after, Makes, IsNewest, NoneIsOpen, running_after, queue_after, rests_after, drained_after, arm_after, time_after, IsBeingCancelled, target_of, bars, IsArmedFor, Named, Told, IsSo, cancel_flags, is_done_of, done_for, has_to_wait, IsCause, IsPending, HasStart, HasCome, ticks_of, starts, drains, is_worked_by, plug_after, asked_arm, is_armed, fits, MayGoOn, is_awaited}
+use Rattle.zk_model_work.specs.Histories.{AreToldInOrder, WorkEntry, WorkHistory, after, AtEach, hands_out, begins, ends, Cancels, cancels, disarms, submitter, announces, admission_after, life_after, made_after, Makes, IsNewest, NoneIsOpen, running_after, queue_after, rests_after, drained_after, arm_after, time_after, IsBeingCancelled, target_of, bars, IsArmedFor, Named, Told, IsSo, cancel_flags, is_done_of, done_for, has_to_wait, IsCause, IsPending, HasStart, HasCome, ticks_of, starts, drains, is_worked_by, plug_after, asked_arm, is_armed, fits, MayGoOn, is_awaited}
 
 -- Each of what follows is said of one history.
 
@@ -380,11 +380,10 @@ abbrev pub OneLiveArm : State → WorkHistory → Type 0
 OneLiveArm start h = (place other : ℕ) (a b : Arm) → arm_after start h place ≡ Some a → arm_after start h other ≡ Some b →
     a.item ≡ b.item → a.fate ≡ Live → b.fate ≡ Live → place ≡ other
 
--- an announce tells the items of the arms that expire at it, by deadline and, at one deadline, in the order of arming
+-- an announce tells the items of just the arms that expire at it, by deadline and, at one deadline, in the order of arming
 abbrev pub ExpireInOrder : State → WorkHistory → Type 0
-ExpireInOrder = AtEach (λ before e later. (ticks time : ℕ) (told : List Expiry) → e.op ≡ Announce ticks →
-    e.reply ≡ Now time told →
-    (time ≡ later.time) × (map (λ x. x.item) told ≡ map (λ a. a.item) (due time before.arms)))
+ExpireInOrder = AtEach (λ before e later. (ticks time : ℕ) (told : List Expiry) → e.op ≡ Announce ticks → e.reply ≡ Now time told →
+    (time ≡ later.time) × AreToldInOrder before time told)
 
 -- an arm is made just where the answer says so: of the item, to the queue and for the tick that were asked for, and live
 abbrev pub ArmedAsAsked : State → WorkHistory → Type 0

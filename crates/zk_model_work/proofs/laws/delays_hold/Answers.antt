@@ -1,5 +1,6 @@
 use Rattle.zk_model_work.proofs.Replies.{armed_as_asked, remaining_tells}
-use Rattle.zk_model_work.proofs.Delays.{live_ahead, expires_when_due, disarmed_when_given_up, fate_stays, one_live_arm, expire_in_order}
+use Rattle.zk_model_work.proofs.Delays.{live_ahead, expires_when_due, disarmed_when_given_up, fate_stays, one_live_arm}
+use Rattle.zk_model_work.proofs.Orders.{expire_in_order}
 use Rattle.zk_model_work.proofs.Pending.{schedule_tells}
 use Rattle.zk_model_work.proofs.Entries.{only_announces_pass_time}
 use Rattle.zk_model_work.proofs.laws.delays_hold.Goals as goal
