@@ -35,7 +35,7 @@ abbrev pub OutcomeStays : State → WorkHistory → Type 0
 OutcomeStays start h = (front rest : WorkHistory) (number : ℕ) (a : Admission) → h ≡ front ++ rest →
     admission_after start front number ≡ Some a → is_open a.life ≡ false → admission_after start h number ≡ Some a
 
--- an admission is begun by a begin on its queue, waits until then, and runs after it
+-- an admission is begun by a begin on its queue, waits just before it, and runs just after it
 abbrev pub BegunFromItsQueue : State → WorkHistory → Type 0
 BegunFromItsQueue = AtEach (λ before e later. (item number : ℕ) → e.reply ≡ Run item number → (queue : ℕ)
     × (e.op ≡ Begin queue)
