@@ -1,6 +1,8 @@
 use Rattle.std.specs.Prelude.{◌≡◌, ℕ, Result, Ok, Err, List, ◌++◌}
 use Rattle.zk_base.specs.declared.errors.Status.{Status}
 use Rattle.zk_base.specs.declared.errors.Status.TheVariants as statuses
+use Rattle.zk_model_wait.specs.ClockLaws.{KeepsClockLaws}
+use Rattle.zk_model_work.specs.Laws.{KeepsLaws}
 use Rattle.zk_scenario.specs.Parts.{Parts}
 use Rattle.zk_scenario.specs.declared.refused.ScenarioRefused.{ScenarioRefused}
 use Rattle.zk_scenario.specs.declared.refused.ScenarioRefused.TheVariants as refusals
@@ -14,7 +16,7 @@ use Rattle.zk_trace.specs.Text.{trace_text}
 use Rattle.zk_replay.specs.Replay.{IsReplay}
 use Rattle.zk_replay.specs.Lawful.{IsLawful}
 use Rattle.zk_replay.specs.Over.{IsOver}
-use Rattle.zk_cli.specs.Kept.{KeepsLaws, KeepsClockLaws, AtEachMoment}
+use Rattle.zk_cli.specs.Moments.{AtEachMoment}
 use Rattle.zk_cli.specs.Refusal.{refusal_text}
 
 -- the input is the text of a scenario, and the output is that text and the trace of its round robin run, which ends so; the trace is lawful for the scenario, its histories keep the laws at each moment, and where the run has ended each admission has ended or was dropped

@@ -1,6 +1,6 @@
 pub mod Answer
 pub mod Input
-pub mod Kept
+pub mod Moments
 pub mod Output
 pub mod Refusal
 pub mod Top

@@ -3,15 +3,11 @@ ghost use Rattle.zk_scenario.specs.Grammar.{scenario_of};
 ghost use Rattle.zk_scenario.specs.Spelling.{text_of};
 ghost use Rattle.zk_cli.specs.Refusal.{refusal_text};
 ghost use Rattle.zk_cli.specs.Answer.{IsRun, IsOutput, status_of};
-ghost use Rattle.zk_cli.specs.Kept.{HistoriesKeepLaws, ClocksKeepLaws};
 
 use std::alloc::Global;
 use zk_base::{NoMemory, Status, put, put_decimal};
-use zk_model_wait::{alarms_hold, time_passes};
-use zk_model_work::{
-    begins_in_order, cancel_holds, delays_hold, drain_holds, flush_holds, never_overlaps,
-    plug_holds, runs_once,
-};
+use zk_model_wait::keeps_clock_laws;
+use zk_model_work::keeps_laws;
 use zk_replay::replay;
 use zk_scenario::{Scenario, ScenarioRefused, Why, read_scenario};
 use zk_trace::{Ending, put_trace};
@@ -33,34 +29,12 @@ fn run(alloc: Global, text: Vec<u8>, scenario: &Scenario) -> Result<(Vec<u8>, St
     requires spelled { text.items ≡ text_of scenario.now }
     ensures { IfOk result (λ made. IsOutput made.1 text.items made.0.items) }
 {
-    histories_keep_laws();
-    clocks_keep_laws();
+    keeps_laws();
+    keeps_clock_laws();
     let trace = replay(alloc, scenario)?;
     let mut output = text;
     put_trace(&mut output, scenario, &trace)?;
     Ok((output, status_of(trace.ending)))
-}
-
-/// The laws of the work service, of each history by itself. It does nothing when it runs.
-fn histories_keep_laws()
-    ensures { HistoriesKeepLaws }
-{
-    runs_once();
-    begins_in_order();
-    never_overlaps();
-    cancel_holds();
-    flush_holds();
-    drain_holds();
-    plug_holds();
-    delays_hold();
-}
-
-/// The laws of the clock, the same way.
-fn clocks_keep_laws()
-    ensures { ClocksKeepLaws }
-{
-    time_passes();
-    alarms_hold();
 }
 
 /// The status of a run with this ending.

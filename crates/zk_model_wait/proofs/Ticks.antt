@@ -13,7 +13,7 @@ use Rattle.zk_model_wait.specs.declared.clock.ClockOp.TheVariants as ops
 use Rattle.zk_model_wait.specs.declared.clock.ClockReply.{ClockReply}
 use Rattle.zk_model_wait.specs.declared.clock.ClockReply.TheVariants.{Now, At}
 use Rattle.zk_model_wait.specs.Clock.{Clock, new_clock, clock_reply, clock_next, clock_machine}
-use Rattle.zk_model_wait.specs.ClockLaws.{ClockHistory, time_after, clock_after, ticks_of, IsClockHistory, OfEach, TimeIsAllTicks, TimeNeverFalls, TimeIsShort, AnnounceTellsTheTime, AlarmTellsItsMoment}
+use Rattle.zk_model_wait.specs.ClockLaws.{ClockHistory, time_after, clock_after, ticks_of, IsClockHistory, OfEach, TimeIsAllTicks, TimeNeverFalls, AnnounceTellsTheTime, AlarmTellsItsMoment, MayAlways}
 
 time-next : (c : Clock) (who : Who) (op : ClockOp) → (clock_next c who op).time ≡ c.time + ticks_of op
 time-next c who (ops.Announce ticks) = refl
@@ -36,19 +36,10 @@ time_never_falls h front rest parts =
     let later = time-state (clock_after front) rest in
     omega arith
 
-time-most : (h : ClockHistory) → All (λ (e : Entry ClockOp ClockReply). ticks_of e.op < 2 ^ 32) h → sum_by (λ (e : Entry ClockOp ClockReply). ticks_of e.op) h ≤ length h * (2 ^ 32 - 1)
-time-most [] few = omega arith
-time-most (e ∷ es) few =
-    let P : Entry ClockOp ClockReply → Type 0 = λ e. ticks_of e.op < 2 ^ 32 in
-    let here = All-head P e es few in
-    let rest = time-most es (All-tail P e es few) in
-    omega (arith, sum_by-cons (λ (e : Entry ClockOp ClockReply). ticks_of e.op) e es)
-
-pub time_is_short : (h : ClockHistory) → TimeIsShort h
-time_is_short h few short =
-    let all = time-state new_clock h in
-    let most = time-most h few in
-    omega arith
+pub may_always : (h : ClockHistory) → MayAlways h
+may_always h who (ops.Announce ticks) never = (_, refl)
+may_always h who (ops.Alarm ticks) never = (_, refl)
+may_always h who (ops.AlarmEnd moment) never = absurd (cc)
 
 -- what an entry of a history is answered
 pub replied : (h front rest : ClockHistory) (e : Entry ClockOp ClockReply) → IsClockHistory h → h ≡ front ++ e ∷ rest → clock_reply (clock_after front) e.who e.op ≡ Some e.reply

@@ -1,4 +1,4 @@
-use Rattle.std.specs.Prelude.{◌≡◌, ℕ, ◌+◌, ◌-◌, ◌^◌, ◌<◌, ◌≤◌, Bool, true, false, ◌==◌, ◌&&◌, count_by, sum_by, Some, List, ◌∷◌, ◌++◌, length, All}
+use Rattle.std.specs.Prelude.{◌≡◌, ℕ, ◌+◌, ◌<◌, ◌≤◌, Bool, true, false, ◌==◌, ◌&&◌, count_by, sum_by, Some, List, ◌∷◌, ◌++◌}
 use Rattle.std.specs.List.{list_any}
 use Rattle.zk_base.specs.declared.ids.Who.{Who}
 use Rattle.zk_base.specs.declared.ids.Entry.{Entry}
@@ -40,6 +40,11 @@ abbrev pub is_end_of : ℕ → ClockOp → Bool
 is_end_of moment (ops.AlarmEnd ended) = ended == moment
 is_end_of moment _ = false
 
+-- the operation ends an alarm
+abbrev pub is_end : ClockOp → Bool
+is_end (ops.AlarmEnd moment) = true
+is_end _ = false
+
 -- the entry sets an alarm of this player and moment
 abbrev pub sets : ℕ → ℕ → Entry ClockOp ClockReply → Bool
 sets player moment e = e.who.number == player && is_at moment e.reply
@@ -62,27 +67,20 @@ TimeIsAllTicks h = time_after h ≡ sum_by (λ e. ticks_of e.op) h
 abbrev pub TimeNeverFalls : ClockHistory → Type 0
 TimeNeverFalls h = (front rest : ClockHistory) → h ≡ front ++ rest → time_after front ≤ time_after h
 
--- after fewer than 2^32 - 1 entries, each of fewer than 2^32 ticks, the time is below 2^64 - 2^33
-abbrev pub TimeIsShort : ClockHistory → Type 0
-TimeIsShort h = All (λ e. ticks_of e.op < 2 ^ 32) h → length h < 2 ^ 32 - 1 → time_after h < 2 ^ 64 - 2 ^ 33
-
 -- an announcement is answered the time before it and its ticks
 abbrev pub AnnounceTellsTheTime : ClockHistory → Type 0
-AnnounceTellsTheTime h =
-    (front rest : ClockHistory) (e : Entry ClockOp ClockReply) (ticks : ℕ) → h ≡ front ++ e ∷ rest →
-    e.op ≡ ops.Announce ticks → e.reply ≡ Now (time_after front + ticks)
+AnnounceTellsTheTime h = (front rest : ClockHistory) (e : Entry ClockOp ClockReply) (ticks : ℕ) →
+    h ≡ front ++ e ∷ rest → e.op ≡ ops.Announce ticks → e.reply ≡ Now (time_after front + ticks)
 
 -- an alarm is answered its moment: the time at which it is set, and its ticks
 abbrev pub AlarmTellsItsMoment : ClockHistory → Type 0
-AlarmTellsItsMoment h =
-    (front rest : ClockHistory) (e : Entry ClockOp ClockReply) (ticks : ℕ) → h ≡ front ++ e ∷ rest →
-    e.op ≡ ops.Alarm ticks → e.reply ≡ At (time_after front + ticks)
+AlarmTellsItsMoment h = (front rest : ClockHistory) (e : Entry ClockOp ClockReply) (ticks : ℕ) →
+    h ≡ front ++ e ∷ rest → e.op ≡ ops.Alarm ticks → e.reply ≡ At (time_after front + ticks)
 
 -- an alarm that is told to be due was set before, by the same player and for this moment, and its moment has come
 abbrev pub DueWhenItsMomentHasCome : ClockHistory → Type 0
-DueWhenItsMomentHasCome h =
-    (front rest : ClockHistory) (e : Entry ClockOp ClockReply) (moment : ℕ) → h ≡ front ++ e ∷ rest →
-    e.op ≡ ops.AlarmEnd moment →
+DueWhenItsMomentHasCome h = (front rest : ClockHistory) (e : Entry ClockOp ClockReply) (moment : ℕ) →
+    h ≡ front ++ e ∷ rest → e.op ≡ ops.AlarmEnd moment →
     (e.reply ≡ Due) × (list_any (sets e.who.number moment) front ≡ true) × (moment ≤ time_after front)
 
 -- no more alarms of a player and moment end than were set
@@ -91,7 +89,21 @@ EachEndsOnce h = (player moment : ℕ) → count_by (ends player moment) h ≤ c
 
 -- an alarm that was set and hasn't ended may end once its moment has come
 abbrev pub MayEndOnceItHasCome : ClockHistory → Type 0
-MayEndOnceItHasCome h =
-    (who : Who) (moment : ℕ) →
-    count_by (ends who.number moment) h < count_by (sets who.number moment) h → moment ≤ time_after h →
-    clock_reply (clock_after h) who (ops.AlarmEnd moment) ≡ Some Due
+MayEndOnceItHasCome h = (who : Who) (moment : ℕ) → count_by (ends who.number moment) h < count_by (sets who.number moment) h →
+    moment ≤ time_after h → clock_reply (clock_after h) who (ops.AlarmEnd moment) ≡ Some Due
+
+-- an announcement and an alarm are possible at any time
+abbrev pub MayAlways : ClockHistory → Type 0
+MayAlways h = (who : Who) (op : ClockOp) → is_end op ≡ false →
+    (reply : ClockReply) × (clock_reply (clock_after h) who op ≡ Some reply)
+
+-- the laws of the clock: its time is all ticks and is told, and an alarm ends once, when its moment has come
+pub record KeepsClockLaws (h : ClockHistory) : Type 0 where
+  pub sum : TimeIsAllTicks h
+  pub rises : TimeNeverFalls h
+  pub told : AnnounceTellsTheTime h
+  pub moment : AlarmTellsItsMoment h
+  pub due : DueWhenItsMomentHasCome h
+  pub once : EachEndsOnce h
+  pub may : MayEndOnceItHasCome h
+  pub always : MayAlways h

@@ -5,7 +5,7 @@ mod clock;
 mod clock_laws;
 
 pub use clock::{Alarm, ClockOp, ClockReply, ClockState, ClockStore, clock_next};
-pub use clock_laws::{alarms_hold, time_passes};
+pub use clock_laws::{alarms_hold, keeps_clock_laws, time_passes};
 
 #[cfg(test)]
 mod clock_tests;

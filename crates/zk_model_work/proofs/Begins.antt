@@ -25,7 +25,8 @@ use Rattle.zk_model_work.specs.Questions.{is_waiting, is_running, is_open, waits
 use Rattle.zk_model_work.specs.State.{State}
 use Rattle.zk_model_work.specs.Machine.{work_next, work_reply, work_machine, submit, set_life, with_life, begin, end_one, drop_one, taken_up, may_begin}
 use Rattle.zk_model_work.specs.Answers.{submission}
-use Rattle.zk_model_work.specs.Laws.{IsWorkHistory, IsFreshHistory, OfEach, submitter, hands_out, begins, admission_after, EachBegunOnce, DroppedNeverBegun, RunOrDropped, NoneWaitsBefore, BeginsRise}
+use Rattle.zk_model_work.specs.Histories.{IsWorkHistory, IsFreshHistory, OfEach, submitter, hands_out, begins, admission_after}
+use Rattle.zk_model_work.specs.Laws.{EachBegunOnce, DroppedNeverBegun, RunOrDropped, NoneWaitsBefore, BeginsRise}
 use Rattle.zk_model_work.proofs.Moves.{admissions-next, is_begin}
 use Rattle.zk_model_work.proofs.Lives.{Kept, Kept-after, IsFirst, IsFirst-line, set_life-at, set_life-aside}
 
@@ -245,11 +246,13 @@ not_before : (xs : List Admission) (queue number lower : ℕ) (a : Admission) �
 not_before xs queue number lower a is below there same = second_false (eqb a.queue queue) (is_waiting a.life) (eq-eqb a.queue queue same) (is.none_before lower a below there)
 
 pub none_waits_before : OfEach NoneWaitsBefore
-none_waits_before start h fresh front rest e queue item number lower a parts op reply below there same =
-    let before = state_after work_machine start front in
-    let it = Begun-entry before e queue op (Replays-rest work_machine start front (e ∷ rest) (Replays-parts start h (front ++ e ∷ rest) fresh parts)).0 in
-    let number_is = same_run item it.taken.item number it.number e.reply reply it.replied in
-    not_before before.admissions queue it.number lower a (IsFirst-line before.admissions queue it.number it.first_is) (omega arith) there same
+none_waits_before start h fresh = record {
+  each = λ front rest e parts queue item number lower a op reply below there same.
+      let before = state_after work_machine start front in
+      let it = Begun-entry before e queue op (Replays-rest work_machine start front (e ∷ rest) (Replays-parts start h (front ++ e ∷ rest) fresh parts)).0 in
+      let number_is = same_run item it.taken.item number it.number e.reply reply it.replied in
+      not_before before.admissions queue it.number lower a (IsFirst-line before.admissions queue it.number it.first_is) (omega arith) there same;
+}
 
 -- no admission that is first in the line later stood before the first in the line now
 rises : (xs ys : List Admission) (queue number next : ℕ) → IsFirst xs queue number → IsFirst ys queue next → Kept xs ys → (c : Admission) → slice_get ys next ≡ Some c → next < number → ⊥

@@ -25,14 +25,15 @@ use Rattle.zk_model_work.specs.Questions.{is_waiting, is_running, is_open, waits
 use Rattle.zk_model_work.specs.State.{State}
 use Rattle.zk_model_work.specs.Machine.{work_next, work_machine, submit, disarm, drop_one, drop_waiting, set_life, with_life, begin, end_one, end_run}
 use Rattle.zk_model_work.specs.Answers.{submission, submission_at, target, admitted_to}
-use Rattle.zk_model_work.specs.Laws.{OfEach, submitter, made_after, Cancels, NoneWaitsAfterCancel, NoneWaitsDuringCancel, NoneMadeDuringCancel, BegunMadeAfterCancel, BegunMadeAfterRun}
+use Rattle.zk_model_work.specs.Histories.{OfEach, submitter, made_after, Cancels}
+use Rattle.zk_model_work.specs.Laws.{NoneWaitsAfterCancel, NoneMadeDuringCancel, BegunMadeAfterCancel, BegunMadeAfterRun}
 use Rattle.zk_model_work.proofs.Lives.{Keeps, Kept, Kept-next, Kept-after}
 use Rattle.zk_model_work.proofs.Moves.{Stays, pushed, still-map, admissions-next, schedule-keeps, delayed-keeps}
 use Rattle.zk_model_work.proofs.Begins.{alive, Replays-parts}
 use Rattle.zk_model_work.proofs.Overlaps.{runs-open, second_of, and-true, running-not, not_both, still-cond, Handed-entry}
 
 -- no admission of the item waits
-abbrev NoneWaits : ℕ → List Admission → Type 0
+abbrev pub NoneWaits : ℕ → List Admission → Type 0
 NoneWaits item xs = (n : ℕ) (a : Admission) → slice_get xs n ≡ Some a → a.item ≡ item → is_waiting a.life ≡ false
 
 -- the number is among the marks, so any test that it passes is passed by one of them
@@ -129,13 +130,13 @@ length-set_life [] n life = refl
 length-set_life (a ∷ rest) zero life = refl
 length-set_life (a ∷ rest) (suc n) life = ap suc (length-set_life rest n life)
 
-length-begin : (xs : List Admission) (queue : ℕ) → length (begin xs queue) ≡ length xs
+pub length-begin : (xs : List Admission) (queue : ℕ) → length (begin xs queue) ≡ length xs
 length-begin xs queue = by (first (line xs queue)) where
   by : (o : Option ℕ) → length (option_map_or (λ number. set_life xs number Running) o xs) ≡ length xs
   by None = refl
   by (Some number) = length-set_life xs number Running
 
-none-new : (xs ys : List Admission) (n : ℕ) (b : Admission) → length ys ≡ length xs → slice_get ys n ≡ Some b → length xs ≤ n → ⊥
+pub none-new : (xs ys : List Admission) (n : ℕ) (b : Admission) → length ys ≡ length xs → slice_get ys n ≡ Some b → length xs ≤ n → ⊥
 none-new xs ys n b long at past = let within = slice_get_within ys n b at in omega arith
 
 length-mapped : (f : Admission → Admission) (xs : List Admission) → length (map f xs) ≡ length xs
@@ -262,17 +263,11 @@ During-entry s who op item number is found = record {
 }
 
 pub none_waits_after_cancel : OfEach NoneWaitsAfterCancel
-none_waits_after_cancel start h fresh front rest e item number a parts op at item_is =
-    let s = state_after work_machine start front in
-    NoneWaits-entry s e.who e.op item op number a (sym (ap (λ (u : State). slice_get u.admissions number) (state_after-append work_machine start front (e ∷ []))) ∙ at) item_is
-
-pub none_waits_during_cancel : OfEach NoneWaitsDuringCancel
-none_waits_during_cancel start h fresh front during e item run number a parts op found still at item_is =
-    let s = state_after work_machine start front in
-    let c = work_next s e.who e.op in
-    let same : state_after work_machine start h ≡ state_after work_machine c during = ap (state_after work_machine start) parts ∙ state_after-append work_machine start front (e ∷ during) in
-    let it = During-after c during item run (sym (ap (λ (u : State). life_at u run) same) ∙ still) (During-entry s e.who e.op item run op found) in
-    it.none number a (sym (ap (λ (u : State). slice_get u.admissions number) same) ∙ at) item_is
+none_waits_after_cancel start h fresh = record {
+  each = λ front rest e parts item number a op at item_is.
+      let s = state_after work_machine start front in
+      NoneWaits-entry s e.who e.op item op number a (sym (ap (λ (u : State). slice_get u.admissions number) (state_after-append work_machine start front (e ∷ []))) ∙ at) item_is;
+}
 
 pub none_made_during_cancel : OfEach NoneMadeDuringCancel
 none_made_during_cancel start h fresh front during rest e next item run number a parts op found still makes item_is =

@@ -7,7 +7,7 @@ use Rattle.std.proofs.lemmas.Option.{slice_get-map, same_Some}
 use Rattle.zk_base.specs.declared.ids.Who.{Who}
 use Rattle.zk_base.specs.declared.ids.Entry.{Entry}
 use Rattle.zk_base.specs.Legal.{state_after}
-use Rattle.zk_base.proofs.Histories.{state_after-append, Replays-rest}
+use Rattle.zk_base.proofs.Histories.{state_after-append}
 use Rattle.zk_model_work.specs.declared.parts.Admission.{Admission}
 use Rattle.zk_model_work.specs.declared.parts.Queue.{Queue}
 use Rattle.zk_model_work.specs.declared.parts.Fate.TheVariants.{Live, Expired, Disarmed}
@@ -16,14 +16,13 @@ use Rattle.zk_model_work.specs.declared.ops.WorkOp.{WorkOp}
 use Rattle.zk_model_work.specs.declared.ops.WorkOp.TheVariants.{Schedule, Reschedule, Announce}
 use Rattle.zk_model_work.specs.declared.ops.Expiry.{Expiry}
 use Rattle.zk_model_work.specs.declared.ops.WorkReply.{WorkReply}
-use Rattle.zk_model_work.specs.declared.ops.WorkReply.TheVariants.{Now}
-use Rattle.zk_model_work.specs.Questions.{is_live, arms_item, armed, is_due, due, waiting, is_cancelling, item_of}
+use Rattle.zk_model_work.specs.Questions.{is_live, arms_item, armed, is_due, waiting, is_cancelling, item_of}
 use Rattle.zk_model_work.specs.State.{State}
-use Rattle.zk_model_work.specs.Machine.{submit, expiries, arm, disarm, disarm_one, expire, expire_one, is_pending_in, delayed, work_reply, work_next, work_machine}
+use Rattle.zk_model_work.specs.Machine.{submit, expiries, arm, disarm, disarm_one, expire, expire_one, is_pending_in, delayed, work_next, work_machine}
 use Rattle.zk_model_work.specs.Answers.{submission}
-use Rattle.zk_model_work.specs.Laws.{IsFreshHistory, OfEach, announces, disarms, arm_after, time_after, LiveAhead, ExpiresWhenDue, DisarmedWhenGivenUp, FateStays, OneLiveArm, ExpireInOrder}
+use Rattle.zk_model_work.specs.Histories.{IsFreshHistory, OfEach, announces, disarms, arm_after}
+use Rattle.zk_model_work.specs.Laws.{LiveAhead, ExpiresWhenDue, DisarmedWhenGivenUp, FateStays, OneLiveArm}
 use Rattle.zk_model_work.proofs.Moves.{still-push, pushed, still-map, unarmed, none-there, DisarmsJust, DisarmsNone, arms-next}
-use Rattle.zk_model_work.proofs.Begins.{Replays-parts}
 use Rattle.zk_model_work.proofs.Overlaps.{position-none, second_of}
 
 -- in every state each live arm is ahead of the time, and an item has one at most
@@ -87,7 +86,7 @@ abbrev live_arm_of : ℕ → ℕ → ℕ → Arm
 live_arm_of item queue deadline = record { item = item; queue = queue; deadline = deadline; fate = Live }
 
 -- no live arm of the item
-abbrev Unarmed : ℕ → List Arm → Type 0
+abbrev pub Unarmed : ℕ → List Arm → Type 0
 Unarmed item xs = (n : ℕ) (a : Arm) → slice_get xs n ≡ Some a → arms_item item a ≡ false
 
 other_item : (item : ℕ) (a : Arm) → arms_item item a ≡ false → is_live a.fate ≡ true → a.item ≡ item → ⊥
@@ -114,7 +113,7 @@ keep-arm xs time item queue deadline none later keep = record {
 positive : (time delay : ℕ) → eqb delay 0 ≡ false → time < time + delay
 positive time delay is = grind (arith, nat_tests)
 
-unarmed-disarm : (xs : List Arm) (item : ℕ) → Unarmed item (disarm xs item)
+pub unarmed-disarm : (xs : List Arm) (item : ℕ) → Unarmed item (disarm xs item)
 unarmed-disarm xs item n b at = by (arms_item item b) refl where
   by : (c : Bool) → arms_item item b ≡ c → arms_item item b ≡ false
   by true is = absurd (false≢true (sym (still-armed xs item n b at (second_so (eqb b.item item) (is_live b.fate) is)).1 ∙ is))
@@ -198,36 +197,25 @@ live-next s who op n a silent live at =
       as_it_was others = at ∙ ap (λ b. Some (cond b (record a { fate = Disarmed }) a)) (sym (others a.item))
 
 pub disarmed_when_given_up : OfEach DisarmedWhenGivenUp
-disarmed_when_given_up start h fresh front rest e place a parts silent at live =
-    let s = state_after work_machine start front in
-    ap (λ (u : State). slice_get u.arms place) (state_after-append work_machine start front (e ∷ [])) ∙ live-next s e.who e.op place a silent (ap is_live live) at
+disarmed_when_given_up start h fresh = record {
+  each = λ front rest e parts place a silent at live.
+      let s = state_after work_machine start front in
+      ap (λ (u : State). slice_get u.arms place) (state_after-append work_machine start front (e ∷ [])) ∙ live-next s e.who e.op place a silent (ap is_live live) at;
+}
 
 pub expires_when_due : OfEach ExpiresWhenDue
-expires_when_due start h fresh front rest e ticks place a parts op at live =
-    let s = state_after work_machine start front in
-    let same : state_after work_machine start (front ++ e ∷ []) ≡ work_next s e.who (Announce ticks) = state_after-append work_machine start front (e ∷ []) ∙ ap (work_next s e.who) op in
-    subst (λ (u : State). slice_get u.arms place ≡ Some (cond (leb a.deadline u.time) (record a { fate = Expired }) a)) (sym same) (live-expire s.arms (s.time + ticks) place a (ap is_live live) at)
+expires_when_due start h fresh = record {
+  each = λ front rest e parts ticks place a op at live.
+      let s = state_after work_machine start front in
+      let same : state_after work_machine start (front ++ e ∷ []) ≡ work_next s e.who (Announce ticks) = state_after-append work_machine start front (e ∷ []) ∙ ap (work_next s e.who) op in
+      subst (λ (u : State). slice_get u.arms place ≡ Some (cond (leb a.deadline u.time) (record a { fate = Expired }) a)) (sym same) (live-expire s.arms (s.time + ticks) place a (ap is_live live) at);
+}
 
 -- an announce tells the items of the arms that are due, in order
-told_items : (marks : List ℕ) (queues : List Queue) (arms : List Arm) (xs : List Admission) → map (λ (x : Expiry). x.item) (expiries marks queues arms xs) ≡ map (λ (a : Arm). a.item) arms
+pub told_items : (marks : List ℕ) (queues : List Queue) (arms : List Arm) (xs : List Admission) → map (λ (x : Expiry). x.item) (expiries marks queues arms xs) ≡ map (λ (a : Arm). a.item) arms
 told_items marks queues [] xs = refl
 told_items marks queues (a ∷ arms) xs =
     ap (λ (items : List ℕ). a.item ∷ items) (told_items marks queues arms (submit xs a.item (submission (item_of xs marks a.item) queues None (Some a.queue))))
-
-same_now : (time time' : ℕ) (told told' : List Expiry) (reply : WorkReply) → Now time' told' ≡ reply → reply ≡ Now time told → (time ≡ time') × (told ≡ told')
-same_now time time' told told' reply one other = (cc, cc)
-
-pub expire_in_order : OfEach ExpireInOrder
-expire_in_order start h fresh front rest e ticks time told parts op reply =
-    let s = state_after work_machine start front in
-    let same = state_after-append work_machine start front (e ∷ []) in
-    let replied : work_reply s e.who (Announce ticks) ≡ Some e.reply = ap (work_reply s e.who) (sym op) ∙ (Replays-rest work_machine start front (e ∷ rest) (Replays-parts start h (front ++ e ∷ rest) fresh parts)).0 in
-    let ended : List Expiry = expiries s.marks s.queues (due (s.time + ticks) s.arms) s.admissions in
-    let is = same_now time (s.time + ticks) told ended e.reply (same_Some (Now (s.time + ticks) ended) e.reply replied) reply in
-    let after : time_after start (front ++ e ∷ []) ≡ s.time + ticks = ap (λ (u : State). u.time) same ∙ ap (λ o. (work_next s e.who o).time) op in (
-      is.0 ∙ sym after,
-      ap (map (λ (x : Expiry). x.item)) is.1 ∙ told_items s.marks s.queues (due (s.time + ticks) s.arms) s.admissions ∙ ap (λ t. map (λ (a : Arm). a.item) (due t s.arms)) (sym is.0),
-    )
 
 -- where an item isn't pending, a schedule is a reschedule
 same-map : (f : Arm → Arm) (xs : List Arm) → ((n : ℕ) (a : Arm) → slice_get xs n ≡ Some a → f a ≡ a) → map f xs ≡ xs

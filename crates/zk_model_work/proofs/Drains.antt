@@ -37,7 +37,8 @@ use Rattle.zk_model_work.specs.State.{State, fresh_queue, fresh_queues}
 use Rattle.zk_model_work.specs.Machine.{submit, submit_arms, disarm, with_life, set_life, begin, end_one, end_run, drop_one, drop_waiting, settle_one, settle_from, settle, changed_queue, change, change_where, drain, answer_one, work_reply, work_next, work_machine, awaiting, has_come, may_close, answer_where, answered_waits, flushed_of}
 use Rattle.zk_model_work.specs.Answers.{is_chained, target, admission, refusal, submission_to, submission_at, submission, admitted_to, drained_of, drain_wait, is_unanswered, wait_for, cancel_wait, flush_wait, closes, flush_start_reply}
 use Rattle.zk_model_work.specs.declared.parts.Item.{Item}
-use Rattle.zk_model_work.specs.Laws.{IsFreshHistory, OfEach, submitter, Makes, queue_after, DrainAdmitsItsOwn, PluggedAdmitsNone, DrainsUntilItRests, PluggedRests, DrainEndsAtRest, DrainDoneAfterItsEnd, CancelDoneAfterRun, FlushDoneAfterItsEnd}
+use Rattle.zk_model_work.specs.Histories.{IsFreshHistory, OfEach, submitter, Makes, queue_after}
+use Rattle.zk_model_work.specs.Laws.{DrainAdmitsItsOwn, PluggedAdmitsNone, DrainsUntilItRests, PluggedRests, DrainEndsAtRest, DrainDoneAfterItsEnd, CancelDoneAfterRun, FlushDoneAfterItsEnd}
 use Rattle.zk_model_work.proofs.Lives.{IsFirst-line}
 use Rattle.zk_model_work.proofs.Moves.{Stays, submit_arms-keeps, schedule-keeps, delayed-keeps}
 use Rattle.zk_model_work.proofs.Begins.{Replays-parts}
@@ -76,7 +77,8 @@ took xs marks queues caller item named queue is =
     took_at i queues caller (target i named) queue (took_if (is_some (waiting xs item)) Already at queue refl one)
 
 -- what took each admission that an entry makes
-made-took : (start : State) (front : List (Entry WorkOp WorkReply)) (e : Entry WorkOp WorkReply) (number : ℕ) (a : Admission) → Makes start front e number a →
+pub made-took : (start : State) (front : List (Entry WorkOp WorkReply)) (e : Entry WorkOp WorkReply) (number : ℕ) (a : Admission) →
+    Makes (state_after work_machine start front) (state_after work_machine start (front ++ e ∷ [])) number a →
     Took (state_after work_machine start front).queues (submitter e.who e.op) a.queue
 made-took start front e number a makes =
     let s = state_after work_machine start front in
@@ -107,7 +109,8 @@ free-plugged q caller free plugged still =
       by false free = cc
 
 -- the queue that took it is the one that is there
-taken_by : (start : State) (front : List (Entry WorkOp WorkReply)) (e : Entry WorkOp WorkReply) (queue number : ℕ) (q : Queue) (a : Admission) → queue_after start front queue ≡ Some q → Makes start front e number a → a.queue ≡ queue →
+taken_by : (start : State) (front : List (Entry WorkOp WorkReply)) (e : Entry WorkOp WorkReply) (queue number : ℕ) (q : Queue) (a : Admission) → queue_after start front queue ≡ Some q →
+    Makes (state_after work_machine start front) (state_after work_machine start (front ++ e ∷ [])) number a → a.queue ≡ queue →
     refusal (submitter e.who e.op) q ≡ None
 taken_by start front e queue number q a there makes same =
     let it = made-took start front e number a makes in
@@ -115,14 +118,20 @@ taken_by start front e queue number q a there makes same =
     ap (refusal (submitter e.who e.op)) (sym q_is) ∙ it.free
 
 pub drain_admits_its_own : OfEach DrainAdmitsItsOwn
-drain_admits_its_own start h fresh front rest e queue number q a parts there drains makes same = free-drains q (submitter e.who e.op) (taken_by start front e queue number q a there makes same) drains
+drain_admits_its_own start h fresh = record {
+  each = λ front rest e parts queue number q a there drains makes same.
+      free-drains q (submitter e.who e.op) (taken_by start front e queue number q a there makes same) drains;
+}
 
 pub plugged_admits_none : OfEach PluggedAdmitsNone
-plugged_admits_none start h fresh front rest e queue number q a parts there plugged still makes same = free-plugged q (submitter e.who e.op) (taken_by start front e queue number q a there makes same) plugged still
+plugged_admits_none start h fresh = record {
+  each = λ front rest e parts queue number q a there plugged still makes same.
+      free-plugged q (submitter e.who e.op) (taken_by start front e queue number q a there makes same) plugged still;
+}
 
 -- the queues after a settling and after a change, one by one
 
-settled-at : (idle : ℕ → Bool) (n : ℕ) (qs : List Queue) (k : ℕ) → slice_get (settle_from idle n qs) k ≡ option_map (settle_one idle (n + k)) (slice_get qs k)
+pub settled-at : (idle : ℕ → Bool) (n : ℕ) (qs : List Queue) (k : ℕ) → slice_get (settle_from idle n qs) k ≡ option_map (settle_one idle (n + k)) (slice_get qs k)
 settled-at idle n [] k = refl
 settled-at idle n (q ∷ qs) zero = ap (λ m. Some (settle_one idle m q)) (sym (add-zero n))
 settled-at idle n (q ∷ qs) (suc k) =
@@ -214,11 +223,11 @@ rests-push xs a queue = list_all-append (λ (b : Admission). not (is_open_at que
 -- what holds of each queue in every state
 
 -- it drains only where something of it waits or runs, and is plugged without draining only where nothing does
-record Keeps (xs : List Admission) (queue : ℕ) (q : Queue) : Type 0 where
+pub record Keeps (xs : List Admission) (queue : ℕ) (q : Queue) : Type 0 where
   pub until : q.draining ≡ true → is_empty_and_idle xs queue ≡ false
   pub rests : q.plugged ≡ true → q.draining ≡ false → is_empty_and_idle xs queue ≡ true
 
-abbrev AllKeep : State → Type 0
+abbrev pub AllKeep : State → Type 0
 AllKeep s = (queue : ℕ) (q : Queue) → slice_get s.queues queue ≡ Some q → Keeps s.admissions queue q
 
 -- after a settling
@@ -321,7 +330,7 @@ keeps-submission s caller ys item named stays keep =
 keeps-arms : (s : State) (caller : Option ℕ) (arms : List Arm) → KeepAll s.queues s.admissions → KeepAll s.queues (submit_arms s.marks s.queues caller arms s.admissions)
 keeps-arms s caller arms keep = submit_arms-keeps (KeepAll s.queues) s.admissions s.marks s.queues caller (keeps-submission s caller) arms s.admissions (λ n a at. at) keep
 
-AllKeep-next : (s : State) (who : Who) (op : WorkOp) → AllKeep s → AllKeep (work_next s who op)
+pub AllKeep-next : (s : State) (who : Who) (op : WorkOp) → AllKeep s → AllKeep (work_next s who op)
 AllKeep-next s who (Submit item named) keep = keeps-submission s (Some who.number) s.admissions item named (λ n a at. at) keep
 AllKeep-next s who (Cancel item) keep = keeps-settle s (drop_waiting s.admissions item) (λ queue rests. rests-drop s.admissions item queue rests) keep
 AllKeep-next s who (CancelStart item) keep = keeps-settle s (drop_waiting s.admissions item) (λ queue rests. rests-drop s.admissions item queue rests) keep
@@ -347,11 +356,11 @@ AllKeep-next s who (Begin k) keep = λ queue q at.
     }
 AllKeep-next s who (End k) keep = keeps-settle s (end_run s.admissions k) (λ queue rests. rests-end s.admissions k queue rests) keep
 
-AllKeep-after : (s : State) (h : List (Entry WorkOp WorkReply)) → AllKeep s → AllKeep (state_after work_machine s h)
+pub AllKeep-after : (s : State) (h : List (Entry WorkOp WorkReply)) → AllKeep s → AllKeep (state_after work_machine s h)
 AllKeep-after s [] keep = keep
 AllKeep-after s (e ∷ es) keep = AllKeep-after (work_next s e.who e.op) es (AllKeep-next s e.who e.op keep)
 
-AllKeep-fresh : (start : State) (h : List (Entry WorkOp WorkReply)) → IsFreshHistory start h → AllKeep start
+pub AllKeep-fresh : (start : State) (h : List (Entry WorkOp WorkReply)) → IsFreshHistory start h → AllKeep start
 AllKeep-fresh start h fresh queue q at =
     let P : Queue → Type 0 = λ q. (q.draining ≡ false) × (q.plugged ≡ false) in
     let both : (q.draining ≡ false) × (q.plugged ≡ false) =
@@ -426,15 +435,17 @@ counted-next s who (Begin k) queue more = absurd (omega arith)
 counted-next s who (End k) queue more = counted-settle s.queues (end_run s.admissions k) queue more
 
 pub drain_ends_at_rest : OfEach DrainEndsAtRest
-drain_ends_at_rest start h fresh front rest e queue parts more =
-    let s = state_after work_machine start front in
-    let same = state_after-append work_machine start front (e ∷ []) in
-    ap (λ (t : State). is_empty_and_idle t.admissions queue) same
-    ∙ counted-next s e.who e.op queue (subst (λ (t : State). drained_of s.queues queue < drained_of t.queues queue) same more)
+drain_ends_at_rest start h fresh = record {
+  each = λ front rest e parts queue more.
+      let s = state_after work_machine start front in
+      let same = state_after-append work_machine start front (e ∷ []) in
+      ap (λ (t : State). is_empty_and_idle t.admissions queue) same
+      ∙ counted-next s e.who e.op queue (subst (λ (t : State). drained_of s.queues queue < drained_of t.queues queue) same more);
+}
 
 -- the wait that a drain began
 
-entries-next : (s : State) (who : Who) (op : WorkOp) → (work_next s who op).entries ≡ s.entries + 1
+pub entries-next : (s : State) (who : Who) (op : WorkOp) → (work_next s who op).entries ≡ s.entries + 1
 entries-next s who (Submit item named) = refl
 entries-next s who (Cancel item) = refl
 entries-next s who (CancelStart item) = refl
@@ -452,7 +463,7 @@ entries-next s who (Announce ticks) = refl
 entries-next s who (Begin k) = refl
 entries-next s who (End k) = refl
 
-entries-after : (s : State) (h : List (Entry WorkOp WorkReply)) → (state_after work_machine s h).entries ≡ s.entries + length h
+pub entries-after : (s : State) (h : List (Entry WorkOp WorkReply)) → (state_after work_machine s h).entries ≡ s.entries + length h
 entries-after s [] = sym (add-zero s.entries)
 entries-after s (e ∷ es) =
     let next = entries-next s e.who e.op in

@@ -22,7 +22,7 @@ use Rattle.zk_model_work.specs.Questions.{is_waiting, is_running, is_open, waits
 use Rattle.zk_model_work.specs.State.{State}
 use Rattle.zk_model_work.specs.Machine.{work_next, work_machine, submit, set_life, with_life, begin, end_one, drop_one}
 use Rattle.zk_model_work.specs.Answers.{submission}
-use Rattle.zk_model_work.specs.Laws.{submitter}
+use Rattle.zk_model_work.specs.Histories.{submitter}
 use Rattle.zk_model_work.proofs.Lines.{first_of_places}
 use Rattle.zk_model_work.proofs.Moves.{admissions-next}
 

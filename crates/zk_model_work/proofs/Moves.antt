@@ -18,7 +18,7 @@ use Rattle.zk_model_work.specs.Questions.{waiting, running, is_empty_and_idle, i
 use Rattle.zk_model_work.specs.State.{State}
 use Rattle.zk_model_work.specs.Machine.{submission_in, submit, submit_arms, arm, disarm, expire, begin, end_run, drop_waiting, is_pending_in, delayed, schedule, flushed_of, may_close, may_end, flags_of, work_reply, work_next}
 use Rattle.zk_model_work.specs.Answers.{submission, is_started, is_plugged}
-use Rattle.zk_model_work.specs.Laws.{Cancels, disarms, submitter}
+use Rattle.zk_model_work.specs.Histories.{Cancels, disarms, submitter}
 
 -- each element of the first list stands in its place in the second
 abbrev pub Stays : {A : Type 0} → List A → List A → Type 0

@@ -28,7 +28,8 @@ use Rattle.zk_model_work.specs.State.{State}
 use Rattle.zk_model_work.specs.Machine.{work_next, work_reply, work_machine, submit, set_life, with_life, begin, end_one, drop_one, may_begin, taken_up}
 use Rattle.zk_model_work.specs.Answers.{target, admission, refusal, submission_to, submission_at, submission, admitted_to, is_worker}
 use Rattle.zk_model_work.specs.declared.parts.Item.{Item}
-use Rattle.zk_model_work.specs.Laws.{IsFreshHistory, OfEach, submitter, admission_after, ends, NotBegunDuringRun, RunsToItsEnd, EndsBetweenBegins}
+use Rattle.zk_model_work.specs.Histories.{IsFreshHistory, OfEach, submitter, admission_after, ends}
+use Rattle.zk_model_work.specs.Laws.{RunsToItsEnd, EndsBetweenBegins}
 use Rattle.zk_model_work.proofs.Lives.{open-waiting, open-running, IsFirst, IsFirst-line, set_life-at, set_life-aside}
 use Rattle.zk_model_work.proofs.Moves.{pushed, still-map, still-submit, admissions-next, is_begin}
 use Rattle.zk_model_work.proofs.Begins.{Begun, Begun-reply, Begun-entry, Replays-parts}
@@ -289,7 +290,7 @@ Ordered-begin xs queue reply it idle ordered =
     subst Ordered (sym (begin-is xs queue reply it)) (Ordered-set_life xs queue it.number it.taken (IsFirst-line xs queue it.number it.first_is) it.there idle ordered)
 
 -- each entry keeps the order
-Ordered-next : (s : State) (who : Who) (op : WorkOp) (reply : WorkReply) → work_reply s who op ≡ Some reply → Ordered s.admissions → Ordered (work_next s who op).admissions
+pub Ordered-next : (s : State) (who : Who) (op : WorkOp) (reply : WorkReply) → work_reply s who op ≡ Some reply → Ordered s.admissions → Ordered (work_next s who op).admissions
 Ordered-next s who op reply is ordered =
     admissions-next Ordered s who op
     (λ ys item named stays so_far. Ordered-submit ys s.marks item named (submission (item_of ys s.marks item) s.queues (submitter who op) named)
@@ -354,12 +355,6 @@ runs-alone xs queue number running a b ordered at runs there waits same queue_is
       false≢true (sym (position-none (runs_on queue) xs running a idle at) ∙ on)
   by (inr (inr above)) = waiting-running b.life waits (ordered number running b a above there at (sym same) (open-waiting b.life waits) (open-running a.life runs)).0
 
-pub not_begun_during_run : OfEach NotBegunDuringRun
-not_begun_during_run start h fresh front rest e item number running a parts at item_is runs reply =
-    let s = state_after work_machine start front in
-    let it = Handed-entry s e item number reply (Replays-rest work_machine start front (e ∷ rest) (Replays-parts start h (front ++ e ∷ rest) fresh parts)).0 in
-    runs-alone s.admissions it.queue number running a it.was (Ordered-history start h front (e ∷ rest) fresh parts) at (ap is_running runs) it.there it.waits (item_is ∙ sym it.item_is) it.queue_is it.idle
-
 -- a running admission runs on, but for an end at its queue
 pub still-cond : (b : Bool) (a : Admission) (life : Life) → b ≡ false → cond b (with_life life a) a ≡ a
 still-cond true a life is = absurd (cc)
@@ -369,7 +364,7 @@ pub not_both : (b c : Bool) → c ≡ false → (b && c) ≡ false
 not_both true c is = is
 not_both false c is = refl
 
-not_first : (b c : Bool) → b ≡ false → (b && c) ≡ false
+pub not_first : (b c : Bool) → b ≡ false → (b && c) ≡ false
 not_first true c is = absurd (cc)
 not_first false c is = refl
 

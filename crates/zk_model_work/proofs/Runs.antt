@@ -24,7 +24,7 @@ use Rattle.zk_model_work.specs.Questions.{item_of, is_waiting, waits_for, waits_
 use Rattle.zk_model_work.specs.State.{State}
 use Rattle.zk_model_work.specs.Answers.{submission, admitted_to, is_worker}
 use Rattle.zk_model_work.specs.Machine.{work_reply, work_next, submit, set_life, with_life, begin, end_one, end_run, disarm, drop_one, drop_waiting, changed_queue, change, change_where, settle_from, may_begin, taken_up}
-use Rattle.zk_model_work.specs.Laws.{submitter}
+use Rattle.zk_model_work.specs.Histories.{submitter}
 use Rattle.zk_model_work.proofs.Moves.{delayed-keeps, schedule-keeps, admissions-next}
 use Rattle.zk_base.proofs.Lists.{All-at}
 use Rattle.zk_model_work.proofs.Overlaps.{submission-within}

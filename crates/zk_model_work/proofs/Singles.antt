@@ -19,14 +19,15 @@ use Rattle.zk_model_work.specs.Questions.{is_waiting, is_running, waits_as, runs
 use Rattle.zk_model_work.specs.State.{State}
 use Rattle.zk_model_work.specs.Machine.{work_reply, work_next, work_machine, submit, set_life, with_life, begin, end_one, drop_one}
 use Rattle.zk_model_work.specs.Answers.{submission}
-use Rattle.zk_model_work.specs.Laws.{OfEach, submitter, OneWaitsOneRuns, OneRunsOnAQueue}
+use Rattle.zk_model_work.specs.Histories.{OfEach, submitter}
+use Rattle.zk_model_work.specs.Laws.{OneWaitsOneRuns, OneRunsOnAQueue}
 use Rattle.zk_model_work.proofs.Moves.{pushed, admissions-next}
 use Rattle.zk_model_work.proofs.Lives.{IsFirst-line}
 use Rattle.zk_model_work.proofs.Begins.{Begun-reply}
 use Rattle.zk_model_work.proofs.Overlaps.{position-none, and-true, Ordered-history, Taken, taken, begin-is, idle-begin}
 use Rattle.zk_model_work.proofs.Outcomes.{waits_is}
 
-runs_is : (life : Life) → is_running life ≡ true → life ≡ Running
+pub runs_is : (life : Life) → is_running life ≡ true → life ≡ Running
 runs_is Waiting r = absurd (cc)
 runs_is Running r = refl
 runs_is Ended r = absurd (cc)

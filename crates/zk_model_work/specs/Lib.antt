@@ -1,4 +1,5 @@
 pub mod Answers
+pub mod Histories
 pub mod Laws
 pub mod Lists
 pub mod Machine

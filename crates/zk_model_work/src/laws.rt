@@ -1,78 +1,79 @@
-ghost use Rattle.zk_model_work.specs.Laws.{OfEach, AdmissionStays, OutcomeStays, BegunFromItsQueue, DroppedByACancel, EachBegunOnce, DroppedNeverBegun, RunOrDropped, NoneWaitsBefore, BeginsRise, OneWaitsOneRuns, OneRunsOnAQueue, RunsToItsEnd, EndedByItsEnd, NotBegunDuringRun, EndsBetweenBegins, NoneWaitsAfterCancel, NoneWaitsDuringCancel, NoneMadeDuringCancel, BegunMadeAfterCancel, BegunMadeAfterRun, CancelDoneAfterRun, FlushDoneAfterItsEnd, DrainAdmitsItsOwn, DrainsUntilItRests, DrainEndsAtRest, DrainDoneAfterItsEnd, PluggedAdmitsNone, PluggedRests, LiveAhead, ExpiresWhenDue, DisarmedWhenGivenUp, FateStays, OneLiveArm, ExpireInOrder};
+ghost use Rattle.zk_model_work.specs.Histories.{OfEach};
+ghost use Rattle.zk_model_work.specs.Laws.{RunsOnce, BeginsInOrder, NeverOverlaps, SubmissionsHold, CancelsHold, FlushesHold, DrainsHold, DelaysHold, GoesOn, KeepsLaws};
 
-/// Of every legal work history: an admission waits in its queue until it is begun or dropped, and what
-/// has become of it stays so. It is run at most once, and one that was dropped never.
+/// Of every legal work history: what has become of an admission stays so. It is begun by a begin on
+/// its queue, which finds it waiting; at most once, and one that was dropped never.
 pub fn runs_once()
-    ensures kept { OfEach AdmissionStays }
-    ensures over { OfEach OutcomeStays }
-    ensures begun { OfEach BegunFromItsQueue }
-    ensures cancelled { OfEach DroppedByACancel }
-    ensures once { OfEach EachBegunOnce }
-    ensures dropped { OfEach DroppedNeverBegun }
-    ensures outcome { OfEach RunOrDropped }
+    ensures { OfEach RunsOnce }
 {}
 
 /// Of every legal work history: each queue runs its admissions in the order of their numbers.
 pub fn begins_in_order()
-    ensures rise { OfEach BeginsRise }
-    ensures first { OfEach NoneWaitsBefore }
+    ensures { OfEach BeginsInOrder }
 {}
 
 /// Of every legal work history: of an item one admission waits at most, and one runs; a queue runs one
-/// at a time. An item that runs isn't begun again, on any queue, until that run has ended.
+/// at a time, from a begin to an end of its worker. Between two begins of an item, on any queues, the
+/// first run has ended.
 pub fn never_overlaps()
-    ensures one { OfEach OneWaitsOneRuns }
-    ensures queue { OfEach OneRunsOnAQueue }
-    ensures ends { OfEach RunsToItsEnd }
-    ensures ended { OfEach EndedByItsEnd }
-    ensures apart { OfEach NotBegunDuringRun }
-    ensures between { OfEach EndsBetweenBegins }
+    ensures { OfEach NeverOverlaps }
 {}
 
-/// Of every legal work history: a cancel completes at the end of the run that it found, or at once
-/// where it found none. Until then no admission of its item waits or is made, and what is begun of the
-/// item later was admitted after that. A sync cancel is told to be done only after the end of the run.
-pub fn cancel_holds()
-    ensures dropped { OfEach NoneWaitsAfterCancel }
-    ensures empty { OfEach NoneWaitsDuringCancel }
-    ensures none { OfEach NoneMadeDuringCancel }
-    ensures after { OfEach BegunMadeAfterCancel }
-    ensures run { OfEach BegunMadeAfterRun }
-    ensures done { OfEach CancelDoneAfterRun }
+/// Of every legal work history: a submission that is answered 1 or 2 makes an admission, which waits
+/// until a begin hands it out or a cancel of its item drops it; no other is made. It goes to the queue
+/// that runs the item, else to the named one, else to that of the item's last admission, and that is
+/// started. One that is refused has its cause.
+pub fn submissions_hold()
+    ensures { OfEach SubmissionsHold }
 {}
 
-/// Of every legal work history: a flush is told to be done only after the admission that it waits for
-/// has ended or was dropped.
-pub fn flush_holds()
-    ensures done { OfEach FlushDoneAfterItsEnd }
+/// Of every legal work history: after a cancel no admission of its item waits, and where it found a
+/// run none is made until that run has ended; what is begun of the item later was admitted after that.
+/// A sync cancel waits where the item runs, and is told to be done only after the end of that run.
+pub fn cancels_hold()
+    ensures { OfEach CancelsHold }
+{}
+
+/// Of every legal work history: a flush waits for the newest admission of its item that waits or runs
+/// after it, and is told to be done only after that one has ended or was dropped.
+pub fn flushes_hold()
+    ensures { OfEach FlushesHold }
 {}
 
 /// Of every legal work history: a draining goes on until nothing of its queue waits or runs, and ends
 /// there. Meanwhile only the queue's own worker submits to it, and no drain that waits is told to be
-/// done before.
-pub fn drain_holds()
-    ensures own { OfEach DrainAdmitsItsOwn }
-    ensures until { OfEach DrainsUntilItRests }
-    ensures ends { OfEach DrainEndsAtRest }
-    ensures done { OfEach DrainDoneAfterItsEnd }
+/// done before. A queue that is plugged and doesn't drain takes nothing, and nothing of it waits or
+/// runs; it is plugged and started as was asked.
+pub fn drains_hold()
+    ensures { OfEach DrainsHold }
 {}
 
-/// Of every legal work history: a queue that is plugged and doesn't drain takes nothing, and nothing of
-/// it waits or runs.
-pub fn plug_holds()
-    ensures none { OfEach PluggedAdmitsNone }
-    ensures rests { OfEach PluggedRests }
-{}
-
-/// Of every legal work history: an arm expires at the first announce whose time reaches its deadline,
-/// unless it was disarmed before, by a cancel, a flush or a reschedule of its item; once, and never
-/// both. An item has at most one live arm. Those that expire at one announce do it by deadline and then
-/// in the order of arming.
+/// Of every legal work history: an arm is made as was asked, and expires at the first announce whose
+/// time reaches its deadline, unless it was disarmed before, by a cancel, a flush or a reschedule of its
+/// item; once, and never both. An item has at most one live arm. Those that expire at one announce do
+/// it by deadline and then in the order of arming.
 pub fn delays_hold()
-    ensures ahead { OfEach LiveAhead }
-    ensures due { OfEach ExpiresWhenDue }
-    ensures disarmed { OfEach DisarmedWhenGivenUp }
-    ensures once { OfEach FateStays }
-    ensures one { OfEach OneLiveArm }
-    ensures order { OfEach ExpireInOrder }
+    ensures { OfEach DelaysHold }
 {}
+
+/// Of every legal work history: a worker may begin what waits for its queue while that runs nothing,
+/// and may end what it runs; whatever isn't the end of a wait may be asked at any time. Each operation
+/// is answered in its form.
+pub fn goes_on()
+    ensures { OfEach GoesOn }
+{}
+
+/// All of it, of every legal work history. It does nothing when it runs.
+pub fn keeps_laws()
+    ensures { OfEach KeepsLaws }
+{
+    runs_once();
+    begins_in_order();
+    never_overlaps();
+    submissions_hold();
+    cancels_hold();
+    flushes_hold();
+    drains_hold();
+    delays_hold();
+    goes_on();
+}

@@ -2,7 +2,7 @@ use Rattle.std.specs.Prelude.{◌≡◌, ℕ, false, Some}
 use Rattle.zk_scenario.specs.Parts.{Parts}
 use Rattle.zk_model_work.specs.declared.parts.Life.{Life}
 use Rattle.zk_model_work.specs.Questions.{is_open}
-use Rattle.zk_model_work.specs.Laws.{life_after}
+use Rattle.zk_model_work.specs.Histories.{life_after}
 use Rattle.zk_worker.specs.Machines.{work_start_of}
 use Rattle.zk_trace.specs.declared.trace.Ending.TheVariants.{Ended}
 use Rattle.zk_trace.specs.declared.trace.Trace.{Trace}

@@ -23,15 +23,16 @@ returns c =
       spelled = c.requires.spelled;
       run = run;
       lawful = c.in_ok-trace.ensures.lawful;
-      laws = λ front rest parts. c.histories_keep_laws.ensures start front (record {
+      laws = λ front rest parts. c.keeps_laws.ensures start front (record {
         work = record { fresh = refl; legal = IsLegal-front work_machine start front rest (subst (IsLegal work_machine start) parts c.in_ok-trace.ensures.lawful.legal) };
         first = refl;
         arms = refl;
+        marks = refl;
         waits = refl;
         undrained = undrained-fresh _ _;
       });
       clock_laws = λ front rest parts.
-          c.clocks_keep_laws.ensures front (IsLegal-front clock_machine new_clock front rest (subst (IsLegal clock_machine new_clock) parts c.in_ok-trace.ensures.lawful.legal_clock));
+          c.keeps_clock_laws.ensures front (IsLegal-front clock_machine new_clock front rest (subst (IsLegal clock_machine new_clock) parts c.in_ok-trace.ensures.lawful.legal_clock));
       over = c.in_ok-trace.ensures.over;
       ends = refl;
       printed = c.in_ok-put_trace.ensures ∙ ap (λ (text : List ℕ). text ++ trace_text c.args.scenario.now trace) c.requires.spelled;

@@ -1,5 +1,8 @@
-use Rattle.zk_model_work.proofs.Begins.{begins_rise, none_waits_before}
+use Rattle.zk_model_work.proofs.Begins.{none_waits_before, begins_rise}
 use Rattle.zk_model_work.proofs.laws.begins_in_order.Goals as goal
 
 pub returns : goal.returns
-returns c = record { rise = begins_rise; first = none_waits_before }
+returns c = λ start h fresh. record {
+  first = none_waits_before start h fresh;
+  rise = begins_rise start h fresh;
+}
