@@ -17,13 +17,13 @@ use Rattle.zk_worker.specs.Machines.{Machines}
 use Rattle.zk_worker.specs.Attempt.{reply_in}
 use Rattle.zk_worker.specs.Shown.{Shown, shown_after, ShowsLog, AreShort}
 use Rattle.zk_worker.proofs.Fits.{after-fits}
-use Rattle.zk_worker.proofs.Made.{made-more, log-answered, log-others}
+use Rattle.zk_worker.proofs.ShownSteps.{made-more, log-answered, log-others}
 use Rattle.zk_worker.proofs.Following.{following-still, following-more}
-use Rattle.zk_worker.proofs.Numbers.{All-slice_get}
+use Rattle.zk_worker.proofs.DeclaredObjects.{All-slice_get}
 use Rattle.zk_worker.proofs.Lists.{slice_get-set, sum-set}
 use Rattle.zk_replay.specs.RoundRobin.{World, stepped}
 use Rattle.zk_replay.specs.Ready.{IsReady, left, all_left}
-use Rattle.zk_replay.proofs.Still.{IsChosen}
+use Rattle.zk_replay.proofs.StillRounds.{IsChosen}
 
 -- each history is shorter than a history may be
 pub short-shown : (s : Parts) (w : World) → IsReady s w → AreShort w.shown

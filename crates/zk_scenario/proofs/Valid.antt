@@ -14,7 +14,7 @@ use Rattle.zk_scenario.specs.Parts.{Parts}
 use Rattle.zk_scenario.specs.Players.{plays_script, is_thread, is_queue, is_item, same_kind, players, places, number_of, calls_of}
 use Rattle.zk_scenario.specs.Scripts.{script_of}
 use Rattle.zk_scenario.specs.Valid.{IsValid, call_fits, script_fits, player_count}
-use Rattle.zk_scenario.proofs.Played.{calls_of-none, calls_of-some}
+use Rattle.zk_scenario.proofs.ScriptTables.{calls_of-none, calls_of-some}
 use Rattle.zk_scenario.proofs.Tables.{length-places}
 
 -- the players of the table are as many as their count

@@ -6,7 +6,8 @@ ghost use Rattle.zk_scenario.specs.Verdict.{named, names, is_taken, is_unbuilt, 
 
 use crate::numbers::{is_advance, is_delay};
 use crate::objects::Objects;
-use crate::{Call, Decl, Form, Named, Ref};
+use crate::form::{Form, Named};
+use crate::{Call, Decl, Ref};
 
 /// The object that a word names.
 pub fn named(objects: &Objects, name: &Named) -> Option<u32>

@@ -16,7 +16,7 @@ use Rattle.zk_worker.specs.declared.steps.Spot.TheVariants as spots
 use Rattle.zk_worker.specs.Follows.{made_at}
 use Rattle.zk_worker.specs.Shown.{Shown, nothing_shown, step_of, shown_at, ShowsLog, IsLater, AreShort, OthersGrew, AllGrew, Between}
 use Rattle.zk_worker.proofs.Lists.{known-longer, known-back, known-there}
-use Rattle.zk_worker.proofs.Numbers.{All-slice_get}
+use Rattle.zk_worker.proofs.DeclaredObjects.{All-slice_get}
 
 -- the histories of each kind
 module _ {O R : Type 0} (number : ℕ) where

@@ -4,10 +4,10 @@ use Rattle.std.proofs.lemmas.Option.{slice_get_read}
 use Rattle.zk_worker.specs.Places.{At}
 use Rattle.zk_worker.specs.Machines.{machines_of}
 use Rattle.zk_worker.specs.Ranges.{FramesFit}
-use Rattle.zk_worker.proofs.Numbers.{All-slice_get}
+use Rattle.zk_worker.proofs.DeclaredObjects.{All-slice_get}
 use Rattle.zk_replay.specs.Turning.{world}
 use Rattle.zk_replay.proofs.Readiness.{short-shown}
-use Rattle.zk_replay.proofs.Laps.{turned-if, turned-at}
+use Rattle.zk_replay.proofs.Rounds.{turned-if, turned-at}
 use Rattle.zk_replay.proofs.turns.take_turn.Goals as goal
 
 pub play-requires-clause-fits : goal.play-requires-clause-fits

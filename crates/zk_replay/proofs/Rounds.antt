@@ -18,7 +18,7 @@ use Rattle.zk_replay.specs.declared.turns.Course.TheVariants.{Still, Goes, Spent
 use Rattle.zk_replay.specs.RoundRobin.{World, chosen, stepped, turn, turn_of, turns, round, rounds, is_spent}
 use Rattle.zk_replay.specs.Ready.{IsReady, all_left}
 use Rattle.zk_replay.specs.Turning.{world, shown_with, at_after, IsTurn, Turned, Rounded, WithinRound}
-use Rattle.zk_replay.proofs.Still.{first_possible-is}
+use Rattle.zk_replay.proofs.StillRounds.{first_possible-is}
 use Rattle.zk_replay.proofs.Readiness.{ready-stepped, left-stepped}
 
 module _ (m : Machines) (s : Parts) where

@@ -40,10 +40,10 @@ use Rattle.zk_worker.specs.declared.frames.Stage.{Stage}
 use Rattle.zk_worker.specs.declared.frames.Stage.TheVariants.{Start, Runs, Waits, Halfway}
 use Rattle.zk_worker.specs.declared.frames.Closing.{Closing}
 use Rattle.zk_worker.specs.declared.frames.Closing.TheVariants as closings
-use Rattle.zk_worker.specs.declared.frames.Form.TheVariants.{One, Pair, Twice}
+use Rattle.zk_worker.specs.declared.frames.Plan.TheVariants.{One, Pair, Twice}
 use Rattle.zk_worker.specs.declared.answers.Word.{Word}
 use Rattle.zk_worker.specs.declared.answers.Word.TheVariants as words
-use Rattle.zk_worker.specs.Calls.{closing_step, form_attempts, opening_progress, form_progress}
+use Rattle.zk_worker.specs.Calls.{closing_step, plan_attempts, opening_progress, plan_progress}
 use Rattle.zk_worker.specs.Places.{At}
 use Rattle.zk_worker.specs.Protocol.{call_attempts, frames_attempts, frames_progress, frames_after, call_progress, run_progress, is_over, settled, entered, first_frame, starting, start_at, after}
 use Rattle.zk_worker.specs.Machines.{workers, work_start_of, is_on}
@@ -152,7 +152,7 @@ own-script s queue frame next below step reply k call old new keeps script tends
     same_step : (made : Step) → IsCalledStep made → slice_get (made ∷ []) k ≡ Some step → IsCalledStep step
     same_step made called is = subst (λ (x : Step). IsCalledStep x) (only made step k is) called
 
-    one : (made : Step) (stage : Stage) → IsCalledStep made → slice_get (form_attempts (One made) stage) k ≡ Some step → IsCalledStep step
+    one : (made : Step) (stage : Stage) → IsCalledStep made → slice_get (plan_attempts (One made) stage) k ≡ Some step → IsCalledStep step
     one made Start called is = same_step made called is
     one made Runs called is = absurd (cc)
     one made (Waits since) called is = absurd (cc)
@@ -181,15 +181,15 @@ own-script s queue frame next below step reply k call old new keeps script tends
     closed closings.Flush since = tt
     closed closings.Drain since = tt
 
-    pair : (word : Word) (first : Step) (closing : Closing) (stage : Stage) → IsCalledStep first → slice_get (form_attempts (Pair first closing) stage) k ≡ Some step →
-        Tends s.decls queue (frames_after s (frame ∷ next ∷ below) (form_progress word (Pair first closing) stage step reply)) new
+    pair : (word : Word) (first : Step) (closing : Closing) (stage : Stage) → IsCalledStep first → slice_get (plan_attempts (Pair first closing) stage) k ≡ Some step →
+        Tends s.decls queue (frames_after s (frame ∷ next ∷ below) (plan_progress word (Pair first closing) stage step reply)) new
     pair word first closing Start called is = opened word reply (same_step first called is)
     pair word first closing Runs called is = absurd (cc)
     pair word first closing (Waits since) called is = over (same_step (closing_step closing since) (closed closing since) is)
     pair word first closing Halfway called is = absurd (cc)
 
-    twice : (word : Word) (first second : Step) (stage : Stage) → IsCalledStep first → IsCalledStep second → slice_get (form_attempts (Twice first second) stage) k ≡ Some step →
-        Tends s.decls queue (frames_after s (frame ∷ next ∷ below) (form_progress word (Twice first second) stage step reply)) new
+    twice : (word : Word) (first second : Step) (stage : Stage) → IsCalledStep first → IsCalledStep second → slice_get (plan_attempts (Twice first second) stage) k ≡ Some step →
+        Tends s.decls queue (frames_after s (frame ∷ next ∷ below) (plan_progress word (Twice first second) stage step reply)) new
     twice word first second Start called called' is = goes (same_step first called is) Halfway
     twice word first second Runs called called' is = absurd (cc)
     twice word first second (Waits since) called called' is = absurd (cc)

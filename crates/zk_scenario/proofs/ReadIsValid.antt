@@ -16,7 +16,7 @@ use Rattle.zk_scenario.specs.Reading.{Reading, start, parts_of}
 use Rattle.zk_scenario.specs.Spelling.{text_of}
 use Rattle.zk_scenario.specs.Valid.{IsValid}
 use Rattle.zk_scenario.specs.Verdict.{verdict, after}
-use Rattle.zk_scenario.proofs.Kept.{IsValid-after, all_scripts-none}
+use Rattle.zk_scenario.proofs.AcceptedLines.{IsValid-after, all_scripts-none}
 
 valid-line : (r s : Reading) (text : List ℕ) → read_line r text ≡ Ok s → IsValid (parts_of r) → IsValid (parts_of s)
 valid-line r s text e valid = by_line (line_of text) e where

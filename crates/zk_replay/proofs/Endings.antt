@@ -40,8 +40,8 @@ use Rattle.zk_worker.specs.Follows.{log_of, is_done, is_between, is_spent_at}
 use Rattle.zk_worker.specs.Machines.{work_start_of, machines_of}
 use Rattle.zk_worker.specs.Attempt.{reply_in}
 use Rattle.zk_worker.proofs.Lists.{none-passes}
-use Rattle.zk_worker.proofs.Made.{made-of}
-use Rattle.zk_worker.proofs.Numbers.{All-slice_get}
+use Rattle.zk_worker.proofs.ShownSteps.{made-of}
+use Rattle.zk_worker.proofs.DeclaredObjects.{All-slice_get}
 use Rattle.zk_worker.proofs.Ranges.{same-lengths}
 use Rattle.zk_trace.specs.declared.trace.Ending.{Ending}
 use Rattle.zk_trace.specs.declared.trace.Ending.TheVariants as endings
@@ -55,8 +55,8 @@ use Rattle.zk_replay.specs.Tending.{IsIdle, IsWorkers, Tends, IsTended}
 use Rattle.zk_replay.proofs.Readiness.{ready-stepped}
 use Rattle.zk_replay.proofs.Beginning.{ready-first, first-there, first-players}
 use Rattle.zk_replay.proofs.Machine.{none-waits-for}
-use Rattle.zk_replay.proofs.Tended.{tended-step, tended-clock, tended-first, worker-of, open-ahead}
-use Rattle.zk_replay.proofs.Still.{first_possible-is, rounds-keep, round-still}
+use Rattle.zk_replay.proofs.WorkerRuns.{tended-step, tended-clock, tended-first, worker-of, open-ahead}
+use Rattle.zk_replay.proofs.StillRounds.{first_possible-is, rounds-keep, round-still}
 
 -- what holds of each world of the run of a valid scenario
 record IsGood (s : Parts) (w : World) : Type 0 where

@@ -28,7 +28,7 @@ use Rattle.zk_scenario.specs.Scripts.{script_of}
 use Rattle.zk_scenario.specs.Valid.{IsValid, OneEach, call_fits, script_fits, player_count, call_count}
 use Rattle.zk_scenario.specs.Verdict.{named, names, is_taken, has_begun, has_script, is_unbuilt, is_misplaced, is_out_of_range, is_misnamed, is_past_limit, verdict, object, ref, call_of, after}
 use Rattle.zk_scenario.proofs.Lists.{slice_get-append_left, slice_get-push, count_by-push, position-push}
-use Rattle.zk_scenario.proofs.Played.{script_of-push}
+use Rattle.zk_scenario.proofs.ScriptTables.{script_of-push}
 
 -- no reason applies: none of the tests says so
 pub record Passes (r : Reading) (f : Form) : Type 0 where

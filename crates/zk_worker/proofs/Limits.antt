@@ -2,6 +2,7 @@
 use Rattle.std.proofs.Common.{◌≡◌, ℕ, ◌+◌, ◌<◌, ◌≤◌, Bool, true, false, Option, Some, None, List, [], ◌∷◌, ◌++◌, length, All, refl, sym, subst, arith, cond, length-append, nat_lt}
 use Rattle.std.specs.List.{slice_get}
 use Rattle.std.proofs.lemmas.List.Elements.{All-nil, All-cons, All-head, All-tail, All-weaker}
+use Rattle.std.proofs.lemmas.Bool.{ltb-true}
 use Rattle.std.proofs.lemmas.Bool.Decides.{nat_tests}
 use Rattle.zk_scenario.specs.Parts.{Parts}
 use Rattle.zk_worker.specs.declared.steps.TheConstants.{MOST_STEPS, MOST_ATTEMPTS}
@@ -16,10 +17,10 @@ use Rattle.zk_worker.specs.declared.frames.Role.{Role}
 use Rattle.zk_worker.specs.declared.frames.Role.TheVariants.{Script, Worker}
 use Rattle.zk_worker.specs.declared.frames.Stage.{Stage}
 use Rattle.zk_worker.specs.declared.frames.Stage.TheVariants.{Start, Runs, Waits, Halfway}
-use Rattle.zk_worker.specs.declared.frames.Form.{Form}
-use Rattle.zk_worker.specs.declared.frames.Form.TheVariants.{One, Pair, Twice}
+use Rattle.zk_worker.specs.declared.frames.Plan.{Plan}
+use Rattle.zk_worker.specs.declared.frames.Plan.TheVariants.{One, Pair, Twice}
 use Rattle.zk_worker.specs.Places.{At}
-use Rattle.zk_worker.specs.Calls.{form_of, form_attempts}
+use Rattle.zk_worker.specs.Calls.{plan_of, plan_attempts}
 use Rattle.zk_scenario.specs.declared.types.Call.{Call}
 use Rattle.zk_scenario.specs.Players.{calls_of}
 use Rattle.zk_worker.specs.Protocol.{attempts, IsAhead, is_over, settled, entered, first_frame, frames_after, answers_after, frames_attempts, role_attempts, call_attempts}
@@ -29,13 +30,10 @@ ahead_of : (b : Bool) (steps : List Step) (k : ℕ) (step : Step) → slice_get 
 ahead_of true steps k step is = refl
 ahead_of false steps k step is = cc
 
-lt-true : (a b : ℕ) → nat_lt a b ≡ true → a < b
-lt-true a b is = grind (arith, nat_tests)
-
 -- a player with a next attempt has made fewer steps than it may
 pub ahead_short : (s : Parts) (at : At) (step : Step) → IsAhead s at step → length at.spots < MOST_STEPS
 ahead_short s at step ahead =
-    lt-true (length at.spots) MOST_STEPS (ahead_of (nat_lt (length at.spots) MOST_STEPS) (frames_attempts s at.frames) ahead.0 step ahead.1)
+    ltb-true (length at.spots) MOST_STEPS (ahead_of (nat_lt (length at.spots) MOST_STEPS) (frames_attempts s at.frames) ahead.0 step ahead.1)
 
 -- what holds of each frame holds of those that are left
 pub settled-all : (P : Frame → Type 0) (s : Parts) (frames : List Frame) → All P frames → All P (settled s frames)
@@ -114,19 +112,19 @@ IsRoomy-moved s frames frames' answers answers' spots spots' spot number progres
     (subst (λ (n : List Answered). IsRoomy (frames_after s frames progress) n spots' a' b' c') (sym answers_are)
     (subst (λ (p : List Spot). IsRoomy (frames_after s frames progress) (answers_after answers number progress) p a' b' c') (sym spots_are) here))
 
-form_attempts-few : (form : Form) (stage : Stage) → length (form_attempts form stage) ≤ 1
-form_attempts-few (One step) Start = omega arith
-form_attempts-few (One step) Runs = omega arith
-form_attempts-few (One step) (Waits place) = omega arith
-form_attempts-few (One step) Halfway = omega arith
-form_attempts-few (Pair opening closing) Start = omega arith
-form_attempts-few (Pair opening closing) Runs = omega arith
-form_attempts-few (Pair opening closing) (Waits place) = omega arith
-form_attempts-few (Pair opening closing) Halfway = omega arith
-form_attempts-few (Twice first second) Start = omega arith
-form_attempts-few (Twice first second) Runs = omega arith
-form_attempts-few (Twice first second) (Waits place) = omega arith
-form_attempts-few (Twice first second) Halfway = omega arith
+plan_attempts-few : (plan : Plan) (stage : Stage) → length (plan_attempts plan stage) ≤ 1
+plan_attempts-few (One step) Start = omega arith
+plan_attempts-few (One step) Runs = omega arith
+plan_attempts-few (One step) (Waits place) = omega arith
+plan_attempts-few (One step) Halfway = omega arith
+plan_attempts-few (Pair opening closing) Start = omega arith
+plan_attempts-few (Pair opening closing) Runs = omega arith
+plan_attempts-few (Pair opening closing) (Waits place) = omega arith
+plan_attempts-few (Pair opening closing) Halfway = omega arith
+plan_attempts-few (Twice first second) Start = omega arith
+plan_attempts-few (Twice first second) Runs = omega arith
+plan_attempts-few (Twice first second) (Waits place) = omega arith
+plan_attempts-few (Twice first second) Halfway = omega arith
 
 frames_attempts-few : (s : Parts) (frames : List Frame) → length (frames_attempts s frames) ≤ 1
 frames_attempts-few s [] = omega arith
@@ -134,7 +132,7 @@ frames_attempts-few s (frame ∷ below) = role_few s frame.role frame.next frame
   where
     call_few : (s : Parts) (call : Option Call) (stage : Stage) → length (call_attempts s.decls call stage) ≤ 1
     call_few s None stage = omega arith
-    call_few s (Some call) stage = form_attempts-few (form_of s.decls call) stage
+    call_few s (Some call) stage = plan_attempts-few (plan_of s.decls call) stage
 
     role_few : (s : Parts) (role : Role) (next : ℕ) (stage : Stage) → length (role_attempts s role next stage) ≤ 1
     role_few s (Script owner) next stage = call_few s (slice_get (calls_of s.scripts owner) next) stage

@@ -33,7 +33,7 @@ use Rattle.zk_scenario.specs.Reading.{Reading, start, with_call, called, closed}
 use Rattle.zk_scenario.specs.Spelling.{decl_line, name_at, ref_name, call_line, begun_lines, script_lines, body_lines, lines_of, lines_text, text_of}
 use Rattle.zk_scenario.specs.Text.{line_text, script_words, submit_words, cancel_words, cancel_sync_words, flush_words, schedule_words, reschedule_words, remaining_words, start_words, drain_words, unplug_words, end_words}
 use Rattle.zk_scenario.specs.Verdict.{names, verdict, object, ref, after}
-use Rattle.zk_scenario.proofs.Kept.{Passes, Passes-verdict, IsPlain-verdict, nothing_begun, is_some-none, is_some-some, or_none}
+use Rattle.zk_scenario.proofs.AcceptedLines.{Passes, Passes-verdict, IsPlain-verdict, nothing_begun, is_some-none, is_some-some, or_none}
 use Rattle.zk_scenario.proofs.Spelled.{line_spelled}
 
 -- the lines of the script that is open

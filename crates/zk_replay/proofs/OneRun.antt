@@ -5,7 +5,7 @@ use Rattle.zk_scenario.specs.Parts.{Parts}
 use Rattle.zk_worker.specs.Machines.{Machines, machines_of}
 use Rattle.zk_replay.specs.RoundRobin.{World, first, round, rounds, IsRun}
 use Rattle.zk_replay.specs.Laws.{HasOneRun, NoneGoesOn}
-use Rattle.zk_replay.proofs.Still.{round-still}
+use Rattle.zk_replay.proofs.StillRounds.{round-still}
 
 module _ (m : Machines) (s : Parts) where
   -- behind the last round no further one changes anything
