@@ -6,10 +6,7 @@ use Rattle.zk_base.specs.declared.ids.Entry.{Entry}
 use Rattle.zk_base.specs.History.{IsAbove, Rises}
 use Rattle.zk_base.specs.Legal.{Machine, state_after, Replays, IsLegal}
 use Rattle.zk_base.specs.Recording.{IsRecorded}
-
-All-front : {A : Type 0} (P : A → Type 0) (l m : List A) → All P (l ++ m) → All P l
-All-front P [] m h = All-nil P
-All-front P (x ∷ xs) m h = All-cons P x xs (All-head P x (xs ++ m) h) (All-front P xs m (All-tail P x (xs ++ m) h))
+use Rattle.zk_base.proofs.Lists.{All-front}
 
 Rises-snoc : {O R : Type 0} (h : List (Entry O R)) (e : Entry O R) → Rises h → IsAbove h e.who.number e.step → Rises (h ++ e ∷ [])
 Rises-snoc {O} {R} [] e r a = let P : Entry O R → Type 0 = λ g. g.who.number ≡ e.who.number → e.step < g.step in (All-nil P, tt)

@@ -1,2 +1,4 @@
+pub mod Causes
 pub mod Histories
+pub mod Lists
 pub mod Order

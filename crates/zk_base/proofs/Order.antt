@@ -5,14 +5,7 @@ use Rattle.std.proofs.lemmas.Bool.{lt-ltb, le-ltb, le-leb, lt-leb, cases_lt}
 use Rattle.std.proofs.lemmas.List.{append-nil, append_assoc, reverse-append, take-append-drop}
 use Rattle.std.proofs.lemmas.List.Elements.{All-nil, All-cons, All-head, All-tail, All-weaker, All-push, All-filter, All-contains, All-contains_itself, filter_agree}
 use Rattle.zk_base.specs.Order.{put_by, put_all_by, by_key, Ascends}
-
-All-front : {A : Type 0} (P : A → Type 0) (l m : List A) → All P (l ++ m) → All P l
-All-front P [] m h = All-nil P
-All-front P (x ∷ xs) m h = All-cons P x xs (All-head P x (xs ++ m) h) (All-front P xs m (All-tail P x (xs ++ m) h))
-
-All-back : {A : Type 0} (P : A → Type 0) (l m : List A) → All P (l ++ m) → All P m
-All-back P [] m h = h
-All-back P (x ∷ xs) m h = All-back P xs m (All-tail P x (xs ++ m) h)
+use Rattle.zk_base.proofs.Lists.{All-front, All-back}
 
 -- it goes in front of the first one if its key is below that one's
 pub put_by-below : {A : Type 0} (key : A → ℕ) (x y : A) (ys : List A) → key x < key y → put_by key x (y ∷ ys) ≡ x ∷ y ∷ ys

@@ -1,4 +1,4 @@
-use Rattle.std.specs.Prelude.{◌≡◌, ℕ, ◌<◌, Option, Some, None, List, [], ◌∷◌, ◌++◌, All}
+use Rattle.std.specs.Prelude.{◌≡◌, ℕ, ◌<◌, Option, Some, None, Result, Ok, Err, List, [], ◌∷◌, ◌++◌, All}
 use Rattle.zk_base.specs.declared.ids.Who.{Who}
 use Rattle.zk_base.specs.declared.ids.Entry.{Entry}
 
@@ -10,6 +10,12 @@ entry who step op reply = record { who = who; step = step; op = op; reply = repl
 abbrev pub extended : {O R : Type 0} → List (Entry O R) → Who → ℕ → O → Option R → List (Entry O R)
 extended h who step op None = h
 extended h who step op (Some reply) = h ++ entry who step op reply ∷ []
+
+-- an answer that comes without an entry: the operation wasn't possible, or there was no memory
+abbrev pub AddsNone : {A E : Type 0} → Result (Option A) E → Type 0
+AddsNone (Ok (Some made)) = ⊥
+AddsNone (Ok None) = Unit {0}
+AddsNone (Err e) = Unit {0}
 
 -- the step is above the steps of this player's entries
 abbrev pub IsAbove : {O R : Type 0} → List (Entry O R) → ℕ → ℕ → Type 0

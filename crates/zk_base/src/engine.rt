@@ -1,5 +1,6 @@
 ghost use Rattle.std.specs.Prelude.{◌≡◌, ℕ, ◌+◌, ◌-◌, ◌^◌, ◌<◌, ◌≤◌, Bool, true, false, is_some, IsOk, IfOk};
 ghost use Rattle.zk_base.specs.declared.ids.Who.{Who};
+ghost use Rattle.zk_base.specs.History.{AddsNone};
 ghost use Rattle.zk_base.specs.Legal.{Machine};
 ghost use Rattle.zk_base.specs.Recording.{Steps};
 
@@ -44,7 +45,8 @@ pub trait Engine: Drop {
         ensures step { (s : Self.State) → stands_for self.old s → Steps machine s who op.now result (stands_for self.new) }
         ensures closing { (s : Self.State) → stands_for self.old s → closes s who op.now ≡ true → IsOk result }
         ensures roomy { 3 ≤ room self.old → grows op.now ≡ false → IsOk result }
-        ensures room { room self.old ≤ room self.new + 3 };
+        ensures room { room self.old ≤ room self.new + 3 }
+        ensures kept { AddsNone result → room self.old ≤ room self.new };
 
     /// Whether this operation gives an owed entry now.
     fn is_closing(&self, who: Who, op: &Self::Op) -> bool

@@ -1,7 +1,7 @@
 ghost use Rattle.std.specs.Prelude.{◌≡◌, ℕ, ◌+◌, ◌-◌, ◌^◌, ◌<◌, ◌≤◌, Bool, true, false, List, length, Option, IsOk, IfOk, OnErr};
 ghost use Rattle.zk_base.specs.declared.ids.Who.{Who};
 ghost use Rattle.zk_base.specs.declared.ids.Entry.{Entry};
-ghost use Rattle.zk_base.specs.History.{extended, IsAbove};
+ghost use Rattle.zk_base.specs.History.{extended, AddsNone, IsAbove};
 ghost use Rattle.zk_base.specs.Legal.{Machine, state_after, IsLegal};
 
 use crate::{Entry, NoMemory, Who};
@@ -54,11 +54,14 @@ pub trait Service: Drop {
         // Memory: a closing operation takes none, and no other but a growing one takes any where there is room for 3.
         ensures closing { closes (state_after machine (start self.old) (history self.old)) who op ≡ true → IsOk result }
         ensures roomy { 3 ≤ room self.old → grows op ≡ false → IsOk result }
-        ensures room { room self.old ≤ room self.new + 3 };
+        // The room falls only with an entry, and by at most 3.
+        ensures room { room self.old ≤ room self.new + 3 }
+        ensures kept { AddsNone result → room self.old ≤ room self.new };
 
     /// Makes room for three entries, beside the owed ones.
     fn reserve(&mut self) -> Result<(), NoMemory>
         ensures room { IfOk result (λ _. 3 ≤ room self.new) }
+        ensures more { room self.old ≤ room self.new }
         ensures history { history self.new ≡ history self.old }
         ensures start { start self.new ≡ start self.old };
 

@@ -3,7 +3,6 @@ pub mod Rounds
 pub mod Choosing
 pub mod Beginning
 pub mod Endings
-pub mod Machine
 pub mod WorkerRuns
 pub mod StillRounds
 pub mod OneRun
