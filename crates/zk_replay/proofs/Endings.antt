@@ -7,6 +7,7 @@ use Rattle.std.proofs.lemmas.Bool.Decides.{nat_tests}
 use Rattle.std.proofs.lemmas.List.{length-set}
 use Rattle.std.proofs.lemmas.List.Elements.{All-head, All-tail}
 use Rattle.zk_base.specs.declared.ids.Entry.{Entry}
+use Rattle.zk_base.proofs.Lists.{and_second, cond_nil-at, All-at, list_all-at}
 use Rattle.zk_base.specs.Legal.{state_after}
 use Rattle.zk_model_wait.specs.declared.clock.ClockOp.{ClockOp}
 use Rattle.zk_model_wait.specs.declared.clock.ClockReply.{ClockReply}
@@ -41,7 +42,6 @@ use Rattle.zk_worker.specs.Machines.{work_start_of, machines_of}
 use Rattle.zk_worker.specs.Attempt.{reply_in}
 use Rattle.zk_worker.proofs.Lists.{none-passes}
 use Rattle.zk_worker.proofs.ShownSteps.{made-of}
-use Rattle.zk_worker.proofs.DeclaredObjects.{All-slice_get}
 use Rattle.zk_worker.proofs.Ranges.{same-lengths}
 use Rattle.zk_trace.specs.declared.trace.Ending.{Ending}
 use Rattle.zk_trace.specs.declared.trace.Ending.TheVariants as endings
@@ -55,7 +55,7 @@ use Rattle.zk_replay.specs.Tending.{IsIdle, IsWorkers, Tends, IsTended}
 use Rattle.zk_replay.proofs.Readiness.{ready-stepped}
 use Rattle.zk_replay.proofs.Beginning.{ready-first, first-there, first-players}
 use Rattle.zk_model_work.proofs.Runs.{none-waits-for}
-use Rattle.zk_replay.proofs.WorkerRuns.{tended-step, tended-clock, tended-first, worker-of, open-ahead}
+use Rattle.zk_replay.proofs.WorkerRuns.{tended-step, tended-clock, tended-first, worker-of}
 use Rattle.zk_replay.proofs.StillRounds.{first_possible-is, rounds-keep, round-still}
 
 -- what holds of each world of the run of a valid scenario
@@ -80,7 +80,7 @@ good-step : (s : Parts) (w : World) (p : ℕ) (at : At) (made : Step × StepRepl
     chosen (machines_of s) s w.shown at ≡ Some made → IsGood s (stepped s w p at (Some made))
 good-step s w p at (step, reply) good unspent is choice =
     let made = first_possible-is (machines_of s) w.shown at.who (attempts s at) (step, reply) choice in
-    let ahead = open-ahead (nat_lt (length at.spots) MOST_STEPS) (frames_attempts s at.frames) made.place step made.is_there in
+    let ahead = (cond_nil-at (nat_lt (length at.spots) MOST_STEPS) (frames_attempts s at.frames) made.place step made.is_there).1 in
     by_step step reply made.place choice ahead made.answered
   where
     by_step : (step : Step) (reply : StepReply) (place : ℕ) → chosen (machines_of s) s w.shown at ≡ Some (step, reply) → slice_get (frames_attempts s at.frames) place ≡ Some step →
@@ -127,11 +127,6 @@ answer-none : (r : Option WorkReply) (long : ℕ) (step : Step) → or_else step
 answer-none None long step none = refl
 answer-none (Some x) long step none = absurd (cc)
 
-all-at : (test : At → Bool) (xs : List At) (p : ℕ) (x : At) → list_all test xs ≡ true → slice_get xs p ≡ Some x → test x ≡ true
-all-at test [] p x all is = absurd (cc)
-all-at test (y ∷ ys) zero x all is = let same : y ≡ x = cc in subst (λ (z : At). test z ≡ true) same (and_parts (test y) (list_all test ys) all).0
-all-at test (y ∷ ys) (suc p) x all is = all-at test ys p x (and_parts (test y) (list_all test ys) all).1 is
-
 none-wait : (many : ℕ) (xs : List Admission) → All (λ a. a.queue < many) xs → ((queue : ℕ) → queue < many → All (λ a. waits_for queue a ≡ false) xs) → list_all (λ a. not (is_waiting a.life)) xs ≡ true
 none-wait many [] homes none = refl
 none-wait many (a ∷ xs) homes none =
@@ -154,10 +149,6 @@ there-is [] p within = absurd (omega arith)
 there-is (x ∷ xs) zero within = (x, refl)
 there-is (x ∷ xs) (suc p) within = there-is xs p (omega arith)
 
-not-here : (b c : Bool) → b ≡ true → (b && c) ≡ false → c ≡ false
-not-here true c is none = none
-not-here false c is none = absurd (cc)
-
 not-open : (life : Life) → is_waiting life ≡ false → is_running life ≡ false → is_open life ≡ false
 not-open Waiting waits runs = absurd (cc)
 not-open Running waits runs = absurd (cc)
@@ -173,7 +164,7 @@ module _ (s : Parts) (w : World) (good : IsGood s w) (still : round (machines_of
       (frames_attempts s (worker-at queue within).0.frames ≡ steps.Work (ops.Begin queue) ∷ []) × IsIdle queue good.state.admissions
   between queue within =
       let there = worker-at queue within in
-      let is_done_at = all-at (λ at. is_done at.frames) w.players (length (places is_thread s.decls) + queue) there.0 done there.1 in
+      let is_done_at = list_all-at (λ at. is_done at.frames) w.players (length (places is_thread s.decls) + queue) there.0 done there.1 in
       done-ahead s queue there.0.frames good.state.admissions (good.tended.tended queue there.0 there.1 within) is_done_at
 
   none-for : (queue : ℕ) → queue < length (places is_queue s.decls) → All (λ a. waits_for queue a ≡ false) good.state.admissions
@@ -202,11 +193,11 @@ module _ (s : Parts) (w : World) (good : IsGood s w) (still : round (machines_of
       let Home : Admission → Type 0 = λ b. b.queue < length (places is_queue s.decls) in
       let Waits : Admission → Type 0 = λ b. waits_for a.queue b ≡ false in
       let Runs : Admission → Type 0 = λ b. runs_on a.queue b ≡ false in
-      let within = All-slice_get Home good.state.admissions number a is good.tended.homes in
+      let within = All-at Home good.state.admissions number a good.tended.homes is in
       let here = eq-eqb a.queue a.queue refl in
       not-open a.life
-      (not-here (eqb a.queue a.queue) (is_waiting a.life) here (All-slice_get Waits good.state.admissions number a is (none-for a.queue within)))
-      (not-here (eqb a.queue a.queue) (is_running a.life) here (All-slice_get Runs good.state.admissions number a is (between a.queue within).1))
+      (and_second (eqb a.queue a.queue) (is_waiting a.life) here (All-at Waits good.state.admissions number a (none-for a.queue within) is))
+      (and_second (eqb a.queue a.queue) (is_running a.life) here (All-at Runs good.state.admissions number a (between a.queue within).1 is))
 
 ending-good : (s : Parts) (w : World) → IsGood s w → round (machines_of s) s w ≡ w → ending_by w.players ≡ ending_of s w
 ending-good s w good still = by_spent (is_spent w) refl

@@ -5,6 +5,7 @@ use Rattle.std.specs.Option.{option_map, option_and_then}
 use Rattle.std.proofs.lemmas.Bool.{or_parts}
 use Rattle.std.proofs.lemmas.List.{length-map, length-set}
 use Rattle.std.proofs.lemmas.Option.{slice_get-map, slice_get_within}
+use Rattle.zk_base.proofs.Lists.{All-at}
 use Rattle.zk_base.specs.Legal.{IsLegal, state_after}
 use Rattle.zk_model_wait.specs.Clock.{new_clock, clock_machine}
 use Rattle.zk_model_work.specs.Machine.{work_machine}
@@ -23,7 +24,6 @@ use Rattle.zk_worker.specs.Protocol.{attempts, after, spot_of}
 use Rattle.zk_worker.specs.Follows.{log_of, is_done, is_spent_at, Follows}
 use Rattle.zk_worker.specs.Machines.{Machines, work_start_of, machines_of}
 use Rattle.zk_worker.specs.Shown.{shown_at, shown_after}
-use Rattle.zk_worker.proofs.DeclaredObjects.{All-slice_get}
 use Rattle.zk_worker.proofs.Lists.{none-passes, there-mapped}
 use Rattle.zk_worker.proofs.ShownSteps.{IsMore, made-more}
 use Rattle.zk_trace.specs.declared.trace.Ending.TheVariants.{Ended, Stuck, Spent}
@@ -142,7 +142,7 @@ module _ (s : Parts) (w : World) (valid : IsValid s) (run : IsRun (machines_of s
     short = λ number log is.
         let found = there-mapped log_of w.players number log is in
         let P : At → Type 0 = λ at. length at.spots ≤ MOST_STEPS in
-        subst (λ (l : Log). length l.steps ≤ MOST_STEPS) found.2 (All-slice_get P w.players number found.0 found.1 known.0.short);
+        subst (λ (l : Log). length l.steps ≤ MOST_STEPS) found.2 (All-at P w.players number found.0 known.0.short found.1);
     stands = λ number step spot log is recorded.
         let found = there-mapped log_of w.players number log is in
         let shows = known.0.shows number found.0 found.1 in

@@ -8,6 +8,7 @@ use Rattle.std.proofs.lemmas.List.FromFn.{length-range_with_len, get_or-range_wi
 use Rattle.std.proofs.lemmas.Option.{slice_get-get_or, option_and_then_some}
 use Rattle.zk_base.specs.declared.ids.Who.{Who}
 use Rattle.zk_base.specs.History.{entry}
+use Rattle.zk_base.proofs.Lists.{slice_get-one}
 use Rattle.zk_base.proofs.Histories.{state_after-snoc}
 use Rattle.zk_scenario.specs.declared.types.Decl.{Decl}
 use Rattle.zk_scenario.specs.declared.types.Decl.TheVariants as decls
@@ -86,10 +87,6 @@ tends-entered ds queue owner frame below admissions tends =
     elim (nat_lt (length (frame ∷ below)) MOST_FRAMES) as (λ b. Tends ds queue (cond b (first_frame (Script owner) ∷ frame ∷ below) (frame ∷ below)) admissions)
     [ true ↦ (tt, tends) | false ↦ tends ]
 
-only : (x y : Step) (k : ℕ) → slice_get (x ∷ []) k ≡ Some y → x ≡ y
-only x y zero is = cc
-only x y (suc k) is = absurd (cc)
-
 -- the run of a worker after a step of its own
 own-run : (s : Parts) (st : State) (who : Who) (queue : ℕ) (role : Role) (next : ℕ) (stage : Stage) (op : WorkOp) (reply : WorkReply) (place k : ℕ) →
     IsWorkers s.decls queue role stage st.admissions → slice_get (frames_attempts s (record { role = role; next = next; stage = stage } ∷ [])) k ≡ Some (steps.Work op) →
@@ -98,7 +95,7 @@ own-run : (s : Parts) (st : State) (who : Who) (queue : ℕ) (role : Role) (next
     (frames_progress s (record { role = role; next = next; stage = stage } ∷ []) (steps.Work op) (step_replies.Work reply place))) (work_next st who op).admissions
 own-run s st who queue (Script owner) next stage op reply place k tends is made = absurd tends
 own-run s st who queue (Worker object) next Start op reply place k tends is made =
-    let step = only (steps.Work (ops.Begin (number_of s.decls object))) (steps.Work op) k is in
+    let step = slice_get-one (steps.Work (ops.Begin (number_of s.decls object))) (steps.Work op) k is in
     let begins : ops.Begin (number_of s.decls object) ≡ op = cc in
     let told = begin-told st who (number_of s.decls object) reply (ap (λ (o : WorkOp). work_reply st who o) begins ∙ made) in
     let frame : Frame = record { role = Worker object; next = next; stage = Start } in
@@ -112,7 +109,7 @@ own-run s st who queue (Worker object) next Start op reply place k tends is made
         let frame : Frame = record { role = Worker object; next = next; stage = Runs } in
         tends-settled s queue (entered (frame ∷ []) owner) (work_next st who op).admissions (tends-entered s.decls queue owner frame [] (work_next st who op).admissions tends.0)
 own-run s st who queue (Worker object) next Runs op reply place k tends is made =
-    let step = only (steps.Work (ops.End (number_of s.decls object))) (steps.Work op) k is in
+    let step = slice_get-one (steps.Work (ops.End (number_of s.decls object))) (steps.Work op) k is in
     let ends : ops.End (number_of s.decls object) ≡ op = cc in
     let idle : IsIdle queue (work_next st who (ops.End (number_of s.decls object))).admissions =
     subst (λ (q : ℕ). IsIdle q (work_next st who (ops.End (number_of s.decls object))).admissions) tends (idle-ended (number_of s.decls object) st.admissions) in
@@ -124,8 +121,8 @@ own-run s st who queue (Worker object) next Halfway op reply place k tends is ma
 no-clock : (s : Parts) (queue : ℕ) (role : Role) (next : ℕ) (stage : Stage) (admissions : List Admission) (op : ClockOp) (k : ℕ) →
     IsWorkers s.decls queue role stage admissions → slice_get (frames_attempts s (record { role = role; next = next; stage = stage } ∷ [])) k ≡ Some (steps.Clock op) → ⊥
 no-clock s queue (Script owner) next stage admissions op k tends is = tends
-no-clock s queue (Worker object) next Start admissions op k tends is = let step = only (steps.Work (ops.Begin (number_of s.decls object))) (steps.Clock op) k is in cc
-no-clock s queue (Worker object) next Runs admissions op k tends is = let step = only (steps.Work (ops.End (number_of s.decls object))) (steps.Clock op) k is in cc
+no-clock s queue (Worker object) next Start admissions op k tends is = let step = slice_get-one (steps.Work (ops.Begin (number_of s.decls object))) (steps.Clock op) k is in cc
+no-clock s queue (Worker object) next Runs admissions op k tends is = let step = slice_get-one (steps.Work (ops.End (number_of s.decls object))) (steps.Clock op) k is in cc
 no-clock s queue (Worker object) next (Waits since) admissions op k tends is = tends
 no-clock s queue (Worker object) next Halfway admissions op k tends is = tends
 
@@ -150,7 +147,7 @@ own-script s queue frame next below step reply k call old new keeps script tends
     goes called stage = (script, tends-keep s.decls queue (next ∷ below) old new (keeps called) tends)
 
     same_step : (made : Step) → IsCalledStep made → slice_get (made ∷ []) k ≡ Some step → IsCalledStep step
-    same_step made called is = subst (λ (x : Step). IsCalledStep x) (only made step k is) called
+    same_step made called is = subst (λ (x : Step). IsCalledStep x) (slice_get-one made step k is) called
 
     one : (made : Step) (stage : Stage) → IsCalledStep made → slice_get (plan_attempts (One made) stage) k ≡ Some step → IsCalledStep step
     one made Start called is = same_step made called is
@@ -258,11 +255,6 @@ many-queues s w st tended =
     let workers_long = ap (λ (l : List ℕ). length l) tended.has_workers in
     let row = length-range_with_len (length (places is_thread s.decls)) (length (places is_queue s.decls)) in
     sym (length-map st.queues (λ (q : Queue). q.worker)) ∙ workers_long ∙ row
-
--- an attempt of a player is one of its innermost script or run
-pub open-ahead : (b : Bool) (steps : List Step) (k : ℕ) (step : Step) → slice_get (cond b steps []) k ≡ Some step → slice_get steps k ≡ Some step
-open-ahead true steps k step is = is
-open-ahead false steps k step is = absurd (cc)
 
 -- each worker tends its queue after a step of any player
 pub tended-step : (s : Parts) (w : World) (st : State) (p : ℕ) (at : At) (op : WorkOp) (reply : WorkReply) (place k : ℕ) → IsTended s w st → slice_get w.players p ≡ Some at → at.who.number ≡ p →

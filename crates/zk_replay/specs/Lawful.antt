@@ -51,7 +51,7 @@ abbrev pub lawful_ending : Parts → Trace → Ending
 lawful_ending s t =
     if list_any (λ log. is_spent_state log.state) t.logs then Spent else
     if list_all (λ log. is_done_state log.state) t.logs
-        && none_waits (state_after work_machine (work_start_of s) t.work)
+    && none_waits (state_after work_machine (work_start_of s) t.work)
     then Ended else Stuck
 
 -- a trace is lawful for a scenario

@@ -13,4 +13,4 @@ HasOneRun =
 abbrev pub NoneGoesOn : Type 0
 NoneGoesOn = (s : Parts) (w : World) → IsRun (machines_of s) s w → is_spent w ≡ false →
     (player : ℕ) (at : At) → slice_get w.players player ≡ Some at →
-        chosen (machines_of s) s w.shown at ≡ None
+    chosen (machines_of s) s w.shown at ≡ None

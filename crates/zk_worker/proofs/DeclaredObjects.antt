@@ -3,12 +3,9 @@ use Rattle.std.proofs.Common.{◌≡◌, ℕ, ◌+◌, ◌<◌, Bool, true, fals
 use Rattle.std.specs.List.{slice_get}
 use Rattle.std.proofs.lemmas.List.Elements.{All-nil, All-cons, All-append, All-get_or}
 use Rattle.std.proofs.lemmas.Option.{slice_get_within, get_or_from_slice_get}
+use Rattle.zk_base.proofs.Lists.{All-at}
 use Rattle.zk_scenario.specs.declared.types.Decl.{Decl}
 use Rattle.zk_scenario.specs.Players.{places_from, places, players, is_thread, is_queue}
-
--- what holds of each element holds of the one at a place
-pub All-slice_get : {A : Type 0} (P : A → Type 0) (xs : List A) (k : ℕ) (x : A) → slice_get xs k ≡ Some x → All P xs → P x
-All-slice_get P xs k x is all = subst P (get_or_from_slice_get xs k x x is) (All-get_or P xs k x (slice_get_within xs k x is) all)
 
 places_from-below : (n : ℕ) (test : Decl → Bool) (decls : List Decl) → All (λ o. o < n + length decls) (places_from n test decls)
 places_from-below n test [] = let P : ℕ → Type 0 = λ o. o < n + length {A = Decl} [] in All-nil P
@@ -30,5 +27,5 @@ places-below test decls =
 pub players-below : (decls : List Decl) (number object : ℕ) → slice_get (players decls) number ≡ Some object → object < length decls
 players-below decls number object is =
     let P : ℕ → Type 0 = λ o. o < length decls in
-    All-slice_get P (players decls) number object is
-    (All-append P (places is_thread decls) (places is_queue decls) (places-below is_thread decls) (places-below is_queue decls))
+    All-at P (players decls) number object
+    (All-append P (places is_thread decls) (places is_queue decls) (places-below is_thread decls) (places-below is_queue decls)) is

@@ -5,6 +5,7 @@ use Rattle.std.specs.List.{slice_get, list_all}
 use Rattle.std.proofs.lemmas.Bool.{and_parts, and_from, lt-ltb}
 use Rattle.std.proofs.lemmas.List.Elements.{All-nil, All-cons, All-head, All-tail}
 use Rattle.std.proofs.lemmas.Option.{option_and_then_some}
+use Rattle.zk_base.proofs.Lists.{slice_get-one, cond_nil-at, list_all-at}
 use Rattle.zk_scenario.specs.declared.types.Decl.{Decl}
 use Rattle.zk_scenario.specs.declared.types.Decl.TheVariants.{Thread, Queue, Item}
 use Rattle.zk_scenario.specs.declared.types.Ref.TheVariants.{Known}
@@ -16,7 +17,7 @@ use Rattle.zk_scenario.specs.Parts.{Parts}
 use Rattle.zk_scenario.specs.Numbers.{is_delay}
 use Rattle.zk_scenario.specs.Valid.{IsValid, call_fits}
 use Rattle.zk_scenario.proofs.Tables.{length-places}
-use Rattle.zk_scenario.proofs.Valid.{number_of-item, number_of-queue, list_all-at, call_fits-calls_of}
+use Rattle.zk_scenario.proofs.Valid.{number_of-item, number_of-queue, call_fits-calls_of}
 use Rattle.zk_worker.specs.declared.steps.TheConstants.{MOST_STEPS}
 use Rattle.zk_worker.specs.declared.steps.Step.{Step}
 use Rattle.zk_worker.specs.declared.steps.StepReply.{StepReply}
@@ -79,31 +80,27 @@ plan_of-fits decls (Drain (Known queue) plug) fits = queue-fits decls queue fits
 plan_of-fits decls (Unplug (Known queue)) fits = queue-fits decls queue fits
 plan_of-fits decls (Tick ticks) fits = (refl, refl)
 
-only : (x y : Step) (k : ℕ) → slice_get (x ∷ []) k ≡ Some y → x ≡ y
-only x y zero is = cc
-only x y (suc k) is = absurd (cc)
-
 -- all that a plan tries fits
 plan_attempts-fit : (decls : List Decl) (plan : Plan) (stage : Stage) (k : ℕ) (step : Step) →
     PlanFits decls plan → slice_get (plan_attempts plan stage) k ≡ Some step → step_fits decls step ≡ true
 unfolding PlanFits
-plan_attempts-fit decls (One first) stages.Start k step fits is = subst (λ s. step_fits decls s ≡ true) (only first step k is) fits
+plan_attempts-fit decls (One first) stages.Start k step fits is = subst (λ s. step_fits decls s ≡ true) (slice_get-one first step k is) fits
 plan_attempts-fit decls (One first) stages.Runs k step fits is = absurd (cc)
 plan_attempts-fit decls (One first) (stages.Waits place) k step fits is = absurd (cc)
 plan_attempts-fit decls (One first) stages.Halfway k step fits is = absurd (cc)
-plan_attempts-fit decls (Pair opening closing) stages.Start k step fits is = subst (λ s. step_fits decls s ≡ true) (only opening step k is) fits
+plan_attempts-fit decls (Pair opening closing) stages.Start k step fits is = subst (λ s. step_fits decls s ≡ true) (slice_get-one opening step k is) fits
 plan_attempts-fit decls (Pair opening closing) stages.Runs k step fits is = absurd (cc)
 plan_attempts-fit decls (Pair opening closing) stages.Halfway k step fits is = absurd (cc)
 plan_attempts-fit decls (Pair opening closing) (stages.Waits place) k step fits is =
-    subst (λ s. step_fits decls s ≡ true) (only (closing_step closing place) step k is) (closing-fits closing) where
+    subst (λ s. step_fits decls s ≡ true) (slice_get-one (closing_step closing place) step k is) (closing-fits closing) where
       closing-fits : (closing : Closing) → step_fits decls (closing_step closing place) ≡ true
       closing-fits closings.Cancel = refl
       closing-fits closings.Flush = refl
       closing-fits closings.Drain = refl
-plan_attempts-fit decls (Twice first second) stages.Start k step fits is = subst (λ s. step_fits decls s ≡ true) (only first step k is) fits.0
+plan_attempts-fit decls (Twice first second) stages.Start k step fits is = subst (λ s. step_fits decls s ≡ true) (slice_get-one first step k is) fits.0
 plan_attempts-fit decls (Twice first second) stages.Runs k step fits is = absurd (cc)
 plan_attempts-fit decls (Twice first second) (stages.Waits place) k step fits is = absurd (cc)
-plan_attempts-fit decls (Twice first second) stages.Halfway k step fits is = subst (λ s. step_fits decls s ≡ true) (only second step k is) fits.1
+plan_attempts-fit decls (Twice first second) stages.Halfway k step fits is = subst (λ s. step_fits decls s ≡ true) (slice_get-one second step k is) fits.1
 
 call_attempts-fit : (decls : List Decl) (call : Option Call) (stage : Stage) (k : ℕ) (step : Step) →
     option_map_or (call_fits decls) call true ≡ true → slice_get (call_attempts decls call stage) k ≡ Some step → step_fits decls step ≡ true
@@ -117,8 +114,8 @@ call-fits decls calls next (Some call) is all = list_all-at (call_fits decls) ca
 
 worker_attempts-fit : (decls : List Decl) (queue : ℕ) (stage : Stage) (k : ℕ) (step : Step) →
     nat_lt queue (length (places is_queue decls)) ≡ true → slice_get (worker_attempts queue stage) k ≡ Some step → step_fits decls step ≡ true
-worker_attempts-fit decls queue stages.Start k step fits is = subst (λ s. step_fits decls s ≡ true) (only _ step k is) fits
-worker_attempts-fit decls queue stages.Runs k step fits is = subst (λ s. step_fits decls s ≡ true) (only _ step k is) fits
+worker_attempts-fit decls queue stages.Start k step fits is = subst (λ s. step_fits decls s ≡ true) (slice_get-one _ step k is) fits
+worker_attempts-fit decls queue stages.Runs k step fits is = subst (λ s. step_fits decls s ≡ true) (slice_get-one _ step k is) fits
 worker_attempts-fit decls queue (stages.Waits place) k step fits is = absurd (cc)
 worker_attempts-fit decls queue stages.Halfway k step fits is = absurd (cc)
 
@@ -137,15 +134,11 @@ frames_attempts-fit s (frame ∷ below) k step valid fits is =
     let P : Frame → Type 0 = λ f. role_fits s.decls f.role ≡ true in
     role_attempts-fit s frame.role frame.next frame.stage k step valid (All-head P frame below fits) is
 
-ahead_of-fits : (decls : List Decl) (b : Bool) (steps : List Step) (k : ℕ) (step : Step) →
-    ((k : ℕ) (step : Step) → slice_get steps k ≡ Some step → step_fits decls step ≡ true) → slice_get (cond b steps []) k ≡ Some step → step_fits decls step ≡ true
-ahead_of-fits decls true steps k step fits is = fits k step is
-ahead_of-fits decls false steps k step fits is = absurd (cc)
-
 -- each attempt of a player of a valid scenario names what is declared
 pub ahead-fits : (s : Parts) (at : At) (step : Step) → IsValid s → FramesFit s.decls at.frames → IsAhead s at step → step_fits s.decls step ≡ true
 ahead-fits s at step valid fits ahead =
-    ahead_of-fits s.decls (nat_lt (length at.spots) MOST_STEPS) (frames_attempts s at.frames) ahead.0 step (λ k step is. frames_attempts-fit s at.frames k step valid fits is) ahead.1
+    frames_attempts-fit s at.frames ahead.0 step valid fits
+    (cond_nil-at (nat_lt (length at.spots) MOST_STEPS) (frames_attempts s at.frames) ahead.0 step ahead.1).1
 
 frames_after-fit : (s : Parts) (frames : List Frame) (progress : Progress) → FramesFit s.decls frames → FramesFit s.decls (frames_after s frames progress)
 frames_after-fit s [] progress fits = fits

@@ -4,6 +4,7 @@ use Rattle.std.specs.List.{slice_get}
 use Rattle.std.proofs.lemmas.List.Elements.{All-nil, All-cons, All-head, All-tail, All-weaker}
 use Rattle.std.proofs.lemmas.Bool.{ltb-true}
 use Rattle.std.proofs.lemmas.Bool.Decides.{nat_tests}
+use Rattle.zk_base.proofs.Lists.{cond_nil-at}
 use Rattle.zk_scenario.specs.Parts.{Parts}
 use Rattle.zk_worker.specs.declared.steps.TheConstants.{MOST_STEPS, MOST_ATTEMPTS}
 use Rattle.zk_worker.specs.declared.steps.Step.{Step}
@@ -26,14 +27,10 @@ use Rattle.zk_scenario.specs.Players.{calls_of}
 use Rattle.zk_worker.specs.Protocol.{attempts, IsAhead, is_over, settled, entered, first_frame, frames_after, answers_after, frames_attempts, role_attempts, call_attempts}
 use Rattle.zk_worker.specs.Stacks.{IsRoomy}
 
-ahead_of : (b : Bool) (steps : List Step) (k : ℕ) (step : Step) → slice_get (cond b steps []) k ≡ Some step → b ≡ true
-ahead_of true steps k step is = refl
-ahead_of false steps k step is = cc
-
 -- a player with a next attempt has made fewer steps than it may
 pub ahead_short : (s : Parts) (at : At) (step : Step) → IsAhead s at step → length at.spots < MOST_STEPS
 ahead_short s at step ahead =
-    ltb-true (length at.spots) MOST_STEPS (ahead_of (nat_lt (length at.spots) MOST_STEPS) (frames_attempts s at.frames) ahead.0 step ahead.1)
+    ltb-true (length at.spots) MOST_STEPS (cond_nil-at (nat_lt (length at.spots) MOST_STEPS) (frames_attempts s at.frames) ahead.0 step ahead.1).0
 
 -- what holds of each frame holds of those that are left
 pub settled-all : (P : Frame → Type 0) (s : Parts) (frames : List Frame) → All P frames → All P (settled s frames)

@@ -27,7 +27,7 @@ abbrev pub WereTried : Bool → Machines → Who → List Step → ℕ → Shown
     Type 0
 WereTried alone m who ahead many old new counts counts' =
     (k : ℕ) (step : Step) → k < many → slice_get ahead k ≡ Some step →
-        WasTried alone m who old new counts counts' step
+    WasTried alone m who old new counts counts' step
 
 -- one of these attempts was made, and each earlier one was tried
 pub record WasFirst (alone : Bool) (m : Machines) (who : Who) (number : ℕ) (ahead : List Step)

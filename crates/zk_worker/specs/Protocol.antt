@@ -154,4 +154,4 @@ starting s number object decl = record {
 abbrev pub start_at : Parts → ℕ → Option At
 start_at s number =
     option_and_then (λ object. option_map (starting s number object) (slice_get s.decls object))
-        (slice_get (players s.decls) number)
+    (slice_get (players s.decls) number)
