@@ -2,12 +2,15 @@
 use Rattle.std.proofs.Common.{◌≡◌, ◌⊎◌, ℕ, ◌<◌, ◌≤◌, Bool, true, false, ◌&&◌, ◌||◌, cond, Some, List, [], ◌∷◌, length, map, inl, inr, refl, sym, ap, subst, ◌∙◌, arith}
 use Rattle.std.specs.List.{slice_get, slice_set, list_any, list_all}
 use Rattle.std.specs.Option.{option_map, option_and_then}
+use Rattle.std.proofs.lemmas.Bool.{or_parts}
 use Rattle.std.proofs.lemmas.List.{length-map, length-set}
 use Rattle.std.proofs.lemmas.Option.{slice_get-map, slice_get_within}
+use Rattle.zk_base.proofs.Lists.{All-at}
 use Rattle.zk_base.specs.Legal.{IsLegal, state_after}
 use Rattle.zk_model_wait.specs.Clock.{new_clock, clock_machine}
 use Rattle.zk_model_work.specs.Machine.{work_machine}
 use Rattle.zk_scenario.specs.Parts.{Parts}
+use Rattle.zk_scenario.specs.Players.{players}
 use Rattle.zk_scenario.specs.Valid.{IsValid}
 use Rattle.zk_worker.specs.declared.steps.TheConstants.{MOST_STEPS}
 use Rattle.zk_worker.specs.declared.steps.Step.{Step}
@@ -18,24 +21,22 @@ use Rattle.zk_worker.specs.declared.log.PlayerState.TheVariants as states
 use Rattle.zk_worker.specs.declared.log.Log.{Log}
 use Rattle.zk_worker.specs.Places.{At}
 use Rattle.zk_worker.specs.Protocol.{attempts, after, spot_of}
-use Rattle.zk_worker.specs.Follows.{log_of, made_at, is_done, is_spent_at, Follows}
+use Rattle.zk_worker.specs.Follows.{log_of, is_done, is_spent_at, Follows}
 use Rattle.zk_worker.specs.Machines.{Machines, work_start_of, machines_of}
 use Rattle.zk_worker.specs.Shown.{shown_at, shown_after}
-use Rattle.zk_worker.proofs.Numbers.{All-slice_get}
-use Rattle.zk_worker.proofs.Lists.{or-first, none-passes, there-mapped}
-use Rattle.zk_worker.proofs.Made.{IsMore, made-more}
+use Rattle.zk_worker.proofs.Lists.{none-passes, there-mapped}
+use Rattle.zk_worker.proofs.ShownSteps.{IsMore, made-more}
 use Rattle.zk_trace.specs.declared.trace.Ending.TheVariants.{Ended, Stuck, Spent}
 use Rattle.zk_trace.specs.declared.trace.Trace.{Trace}
 use Rattle.zk_replay.specs.RoundRobin.{World, IsRun, chosen, first, stepped, is_spent}
 use Rattle.zk_replay.specs.Ready.{IsReady}
 use Rattle.zk_replay.specs.Replay.{IsReplay, none_waits, all_done, ending_of, trace_of}
 use Rattle.zk_replay.specs.Lawful.{is_spent_state, is_done_state, lawful_ending, IsPlaced, IsLawful}
-use Rattle.zk_replay.proofs.Still.{first_possible-made, rounds-keep}
+use Rattle.zk_replay.proofs.StillRounds.{first_possible-is, rounds-keep}
 use Rattle.zk_replay.proofs.Readiness.{ready-stepped}
-use Rattle.zk_replay.proofs.Beginning.{ready-first}
-use Rattle.zk_replay.proofs.Ends.{there-is}
-use Rattle.zk_replay.proofs.Following.{run-follows, run-players}
-use Rattle.zk_replay.proofs.Once.{none_goes_on}
+use Rattle.zk_replay.proofs.Beginning.{ready-first, first-players}
+use Rattle.zk_replay.proofs.Endings.{there-is}
+use Rattle.zk_replay.proofs.OneRun.{none_goes_on}
 
 -- each entry is of a player that is there
 abbrev AreKnown : World → Type 0
@@ -50,7 +51,7 @@ known-step : (m : Machines) (s : Parts) (w : World) (p : ℕ) (at : At) (made : 
 known-step m s w p at made ready known there choice spot number step is = by_spot (more.back spot (number, step) is)
   where
     more : IsMore w.shown (shown_after w.shown at.who (length at.spots) made.0 made.1) (spot_of made.0 made.1) (at.who.number, length at.spots) made
-    more = made-more m w.shown at.who (length at.spots) made.0 made.1 (first_possible-made m w.shown at.who (attempts s at) made choice).answered
+    more = made-more m w.shown at.who (length at.spots) made.0 made.1 (first_possible-is m w.shown at.who (attempts s at) made choice).answered
 
     long : length (slice_set w.players p (after s at made.0 made.1)) ≡ length w.players
     long = length-set w.players p (after s at made.0 made.1)
@@ -69,9 +70,17 @@ run-known s w valid run =
     let P : World → Type 0 = λ v. IsReady s v × AreKnown v in
     subst P (sym run.1)
     (rounds-keep m s P (λ v p at made both unspent there choice. (
-      ready-stepped m s v p at made both.0 there (none-passes is_spent_at v.players p at unspent there) (first_possible-made m v.shown at.who (attempts s at) made choice).answered,
+      ready-stepped m s v p at made both.0 there (none-passes is_spent_at v.players p at unspent there)
+          (first_possible-is m v.shown at.who (attempts s at) made choice),
       known-step m s v p at made both.0 both.1 there choice,
     )) run.0 (first s) (ready-first s valid, known-first s))
+
+-- and there are as many players as the scenario has
+run-players : (s : Parts) (w : World) → IsRun (machines_of s) s w → length w.players ≡ length (players s.decls)
+run-players s w run =
+    let P : World → Type 0 = λ v. length v.players ≡ length (players s.decls) in
+    subst P (sym run.1)
+    (rounds-keep (machines_of s) s P (λ v p at new here unspent there choice. length-set v.players p (after s at new.0 new.1) ∙ here) run.0 (first s) (first-players s))
 
 -- what the logs say of the players
 spent-state : (a b : Bool) → is_spent_state (cond a states.Spent (cond b states.Done states.Standing)) ≡ a
@@ -93,7 +102,7 @@ any-spent (x ∷ xs) =
 all-done : (xs : List At) → list_any is_spent_at xs ≡ false → list_all (λ log. is_done_state log.state) (map log_of xs) ≡ all_done xs
 all-done [] unspent = refl
 all-done (x ∷ xs) unspent =
-    let both = or-first (is_spent_at x) (list_any is_spent_at xs) unspent in
+    let both = or_parts (is_spent_at x) (list_any is_spent_at xs) unspent in
     ap (λ (b : Bool). b && list_all (λ log. is_done_state log.state) (map log_of xs)) (done-state (is_spent_at x) (is_done x.frames) both.0)
     ∙ ap (λ (b : Bool). is_done x.frames && b) (all-done xs both.1)
 
@@ -126,23 +135,14 @@ module _ (s : Parts) (w : World) (valid : IsValid s) (run : IsRun (machines_of s
   abbrev follows : (number : ℕ) (log : Log) → slice_get (map log_of w.players) number ≡ Some log → Follows s number w.shown log
   follows number log is =
       let found = there-mapped log_of w.players number log is in
-      let good = run-follows s w run number found.0 found.1 in
-      record {
-        start = good.start;
-        made = good.made;
-        end = found.0;
-        starts = good.starts;
-        stands = subst (λ (l : Log). map (made_at w.shown) l.steps ≡ map Some good.made) found.2 good.stands;
-        played = good.played;
-        logged = found.2;
-      }
+      record { end = found.0; led = known.0.follow number found.0 found.1; logged = found.2 }
 
   placed : IsPlaced (trace_of s w)
   placed = record {
     short = λ number log is.
         let found = there-mapped log_of w.players number log is in
         let P : At → Type 0 = λ at. length at.spots ≤ MOST_STEPS in
-        subst (λ (l : Log). length l.steps ≤ MOST_STEPS) found.2 (All-slice_get P w.players number found.0 found.1 known.0.short);
+        subst (λ (l : Log). length l.steps ≤ MOST_STEPS) found.2 (All-at P w.players number found.0 known.0.short found.1);
     stands = λ number step spot log is recorded.
         let found = there-mapped log_of w.players number log is in
         let shows = known.0.shows number found.0 found.1 in

@@ -16,7 +16,8 @@ use Rattle.zk_scenario.specs.Text.{thread_words, queue_words, item_words, script
 
 -- a word where a name is asked for
 abbrev pub named_of : List ℕ → Option Named
-named_of word = if is_name word then Some (Plain word) else if is_spelled word then Some Reserved else None
+named_of word =
+    if is_name word then Some (Plain word) else if is_spelled word then Some Reserved else None
 
 -- the one of two words that stands there: true for the first
 abbrev pub one_of : List ℕ → List ℕ → List ℕ → Option Bool
@@ -41,18 +42,21 @@ made_of_two f None b = None
 made_of_two f (Some a) b = option_map (f a) b
 
 -- what is made of three parts, where each is spelled
-abbrev pub made_of_three : {A B C D : Type 0} → (A → B → C → D) → Option A → Option B → Option C → Option D
+abbrev pub made_of_three : {A B C D : Type 0} → (A → B → C → D) → Option A → Option B → Option C →
+    Option D
 made_of_three f None b c = None
 made_of_three f (Some a) b c = made_of_two (f a) b c
 
 -- thread NAME PRIO MODE
 abbrev pub thread_form : List (List ℕ) → Option Form
-thread_form (name ∷ prio ∷ mode ∷ []) = made_of_three Thread (named_of name) (priority_of prio) (mode_of mode)
+thread_form (name ∷ prio ∷ mode ∷ []) =
+    made_of_three Thread (named_of name) (priority_of prio) (mode_of mode)
 thread_form _ = None
 
 -- queue NAME PRIO STATE
 abbrev pub queue_form : List (List ℕ) → Option Form
-queue_form (name ∷ prio ∷ state ∷ []) = made_of_three Queue (named_of name) (priority_of prio) (state_of state)
+queue_form (name ∷ prio ∷ state ∷ []) =
+    made_of_three Queue (named_of name) (priority_of prio) (state_of state)
 queue_form _ = None
 
 -- item NAME
@@ -68,7 +72,8 @@ script_form _ = None
 -- submit ITEM [QUEUE]
 abbrev pub submit_form : List (List ℕ) → Option Form
 submit_form (item ∷ []) = option_map (λ i. Submit i None) (named_of item)
-submit_form (item ∷ queue ∷ []) = made_of_two (λ i q. Submit i (Some q)) (named_of item) (named_of queue)
+submit_form (item ∷ queue ∷ []) =
+    made_of_two (λ i q. Submit i (Some q)) (named_of item) (named_of queue)
 submit_form _ = None
 
 -- cancel ITEM
@@ -88,12 +93,14 @@ flush_form _ = None
 
 -- schedule ITEM QUEUE DELAY
 abbrev pub schedule_form : List (List ℕ) → Option Form
-schedule_form (item ∷ queue ∷ delay ∷ []) = made_of_three Schedule (named_of item) (named_of queue) (ticks_of delay)
+schedule_form (item ∷ queue ∷ delay ∷ []) =
+    made_of_three Schedule (named_of item) (named_of queue) (ticks_of delay)
 schedule_form _ = None
 
 -- reschedule ITEM QUEUE DELAY
 abbrev pub reschedule_form : List (List ℕ) → Option Form
-reschedule_form (item ∷ queue ∷ delay ∷ []) = made_of_three Reschedule (named_of item) (named_of queue) (ticks_of delay)
+reschedule_form (item ∷ queue ∷ delay ∷ []) =
+    made_of_three Reschedule (named_of item) (named_of queue) (ticks_of delay)
 reschedule_form _ = None
 
 -- remaining ITEM
@@ -184,7 +191,8 @@ form_words (Cancel item) = cancel_words (named_text item)
 form_words (CancelSync item) = cancel_sync_words (named_text item)
 form_words (Flush item) = flush_words (named_text item)
 form_words (Schedule item queue delay) = schedule_words (named_text item) (named_text queue) delay
-form_words (Reschedule item queue delay) = reschedule_words (named_text item) (named_text queue) delay
+form_words (Reschedule item queue delay) =
+    reschedule_words (named_text item) (named_text queue) delay
 form_words (Remaining item) = remaining_words (named_text item)
 form_words (Start queue) = start_words (named_text queue)
 form_words (Drain queue plug) = drain_words (named_text queue) plug
@@ -207,8 +215,10 @@ IsPlain (Submit item queue) = IsUnreserved item × IfSome queue IsUnreserved
 IsPlain (Cancel item) = IsUnreserved item
 IsPlain (CancelSync item) = IsUnreserved item
 IsPlain (Flush item) = IsUnreserved item
-IsPlain (Schedule item queue delay) = IsUnreserved item × IsUnreserved queue × (is_delay delay ≡ true)
-IsPlain (Reschedule item queue delay) = IsUnreserved item × IsUnreserved queue × (is_delay delay ≡ true)
+IsPlain (Schedule item queue delay) =
+    IsUnreserved item × IsUnreserved queue × (is_delay delay ≡ true)
+IsPlain (Reschedule item queue delay) =
+    IsUnreserved item × IsUnreserved queue × (is_delay delay ≡ true)
 IsPlain (Remaining item) = IsUnreserved item
 IsPlain (Start queue) = IsUnreserved queue
 IsPlain (Drain queue plug) = IsUnreserved queue

@@ -36,7 +36,8 @@ unfed r (line.Formed form) = (if is_unbuilt form then why.Unbuilt else why.Line)
 
 -- the end of the input behind a line feed; n is the number after the last line
 abbrev pub ended : ℕ → Reading → Result Parts ScenarioRefused
-ended n r = (if is_some r.current then Err (At n why.Order) else Ok (record { decls = r.decls; scripts = r.scripts }))
+ended n r =
+    (if is_some r.current then Err (At n why.Order) else Ok (record { decls = r.decls; scripts = r.scripts }))
 
 -- what stands behind the last line feed: nothing, or a line without its feed
 abbrev pub at_end : ℕ → Reading → List ℕ → Result Parts ScenarioRefused
@@ -44,14 +45,16 @@ at_end n r [] = ended n r
 at_end n r (b ∷ bs) = Err (At n (unfed r (line_of (b ∷ bs))))
 
 -- what follows a line, where that is accepted
-abbrev pub behind : ℕ → Result Reading Why → (Reading → Result Parts ScenarioRefused) → Result Parts ScenarioRefused
+abbrev pub behind : ℕ → Result Reading Why → (Reading → Result Parts ScenarioRefused) →
+    Result Parts ScenarioRefused
 behind n (Ok r) next = next r
 behind n (Err reason) next = Err (At n reason)
 
 -- the pieces between the line feeds, from the one of number n on
 abbrev pub read_lines : ℕ → Reading → List ℕ → List (List ℕ) → Result Parts ScenarioRefused
 read_lines n r piece [] = at_end n r piece
-read_lines n r piece (next ∷ more) = behind n (read_line r piece) (λ s. read_lines (n + 1) s next more)
+read_lines n r piece (next ∷ more) =
+    behind n (read_line r piece) (λ s. read_lines (n + 1) s next more)
 
 -- what stands behind the header's line feed, if it has one
 abbrev pub behind_header : List (List ℕ) → Result Parts ScenarioRefused
@@ -61,7 +64,8 @@ behind_header (piece ∷ more) = read_lines 2 start piece more
 -- the pieces between the line feeds, the header first
 abbrev pub read_pieces : List (List ℕ) → Result Parts ScenarioRefused
 read_pieces [] = Err (At 1 why.Header)
-read_pieces (first ∷ more) = (if bytes_eq first (codes "zk 1") then behind_header more else Err (At 1 why.Header))
+read_pieces (first ∷ more) =
+    (if bytes_eq first (codes "zk 1") then behind_header more else Err (At 1 why.Header))
 
 -- the pieces between the line feeds of a text: its lines, and what stands behind the last feed
 abbrev pub pieces_of : List ℕ → List (List ℕ)
@@ -69,7 +73,8 @@ pieces_of text = slice_split (λ b. b == 10) text
 
 -- the scenario of a text, or the first failing line and the first reason that applies there
 abbrev pub scenario_of : List ℕ → Result Parts ScenarioRefused
-scenario_of text = (if nat_lt 1048576 (length text) then Err (At 0 why.Length) else read_pieces (pieces_of text))
+scenario_of text =
+    (if nat_lt 1048576 (length text) then Err (At 0 why.Length) else read_pieces (pieces_of text))
 
 -- an answer that is what the grammar says, or want of memory
 abbrev pub Answers : Result Parts ScenarioRefused → Result Parts ScenarioRefused → Type 0

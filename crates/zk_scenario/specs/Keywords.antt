@@ -26,7 +26,8 @@ keyword_text End = codes "end"
 -- the first words of the calls that are built
 abbrev pub call_keywords : List Keyword
 call_keywords =
-    Submit ∷ Cancel ∷ CancelSync ∷ Flush ∷ Schedule ∷ Reschedule ∷ Remaining ∷ Start ∷ Drain ∷ Unplug ∷ Tick ∷ []
+    Submit ∷ Cancel ∷ CancelSync ∷ Flush ∷ Schedule ∷ Reschedule ∷ Remaining ∷ Start ∷ Drain
+    ∷ Unplug ∷ Tick ∷ []
 
 -- the first words of the forms that are built
 abbrev pub keywords : List Keyword
@@ -39,7 +40,8 @@ keyword_of word = find (λ k. bytes_eq word (keyword_text k)) keywords
 -- the declarations that aren't built
 abbrev pub unbuilt_declarations : List (List ℕ)
 unbuilt_declarations =
-    codes "sem" ∷ codes "msgq" ∷ codes "signal" ∷ codes "listener" ∷ codes "sub" ∷ codes "chan" ∷ codes "allow" ∷ []
+    codes "sem" ∷ codes "msgq" ∷ codes "signal" ∷ codes "listener" ∷ codes "sub" ∷ codes "chan" ∷
+    codes "allow" ∷ []
 
 -- the calls to items and queues that aren't built
 abbrev pub unbuilt_work_calls : List (List ℕ)
@@ -64,7 +66,8 @@ unbuilt_bus_calls =
 -- the calls to permissions and modes that aren't built
 abbrev pub unbuilt_table_calls : List (List ℕ)
 unbuilt_table_calls =
-    codes "grant" ∷ codes "release" ∷ codes "revoke" ∷ codes "public" ∷ codes "init" ∷ codes "user" ∷ []
+    codes "grant" ∷ codes "release" ∷ codes "revoke" ∷ codes "public" ∷ codes "init" ∷ codes "user"
+    ∷ []
 
 -- a word of the grammar whose forms aren't built yet
 abbrev pub is_unbuilt : List ℕ → Bool

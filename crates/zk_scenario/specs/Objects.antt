@@ -31,7 +31,8 @@ abbrev pub HasRoom : ℕ → ℕ → Type 0
 HasRoom len capacity = (len < capacity) × (len < 2 ^ 32)
 
 -- the tables say what the declarations say
-pub record IsTabled (decls : List Decl) (threads queues items numbers : List ℕ) (names : Names) : Type 0 where
+pub record IsTabled (decls : List Decl) (threads queues items numbers : List ℕ) (names : Names)
+    : Type 0 where
   pub few : length decls < 2 ^ 32
   pub each_thread : threads ≡ places is_thread decls
   pub each_queue : queues ≡ places is_queue decls

@@ -51,7 +51,8 @@ same_kind (Item name) = is_item
 -- the positions of the elements that pass a test, counted from the first one's own position
 abbrev pub places_from : ℕ → (Decl → Bool) → List Decl → List ℕ
 places_from n test [] = []
-places_from n test (d ∷ ds) = (if test d then n ∷ places_from (n + 1) test ds else places_from (n + 1) test ds)
+places_from n test (d ∷ ds) =
+    (if test d then n ∷ places_from (n + 1) test ds else places_from (n + 1) test ds)
 
 -- the object numbers of the declarations that pass a test, in declared order
 abbrev pub places : (Decl → Bool) → List Decl → List ℕ
@@ -69,9 +70,11 @@ who_of decls player =
 
 -- the number of an object among those of its kind, from 0 in declared order
 abbrev pub number_of : List Decl → ℕ → ℕ
-number_of decls object = option_map_or (λ d. count_by (same_kind d) (take object decls)) (slice_get decls object) 0
+number_of decls object =
+    option_map_or (λ d. count_by (same_kind d) (take object decls)) (slice_get decls object) 0
 
 -- the calls of the script of an object; what has no script has an empty one
 abbrev pub calls_of : List Script → ℕ → List Call
 calls_of [] owner = []
-calls_of (script ∷ more) owner = (if script.owner == owner then script.calls else calls_of more owner)
+calls_of (script ∷ more) owner =
+    (if script.owner == owner then script.calls else calls_of more owner)

@@ -28,12 +28,15 @@ ref_name decls (Known object) = name_at decls object
 
 -- the words of a call
 abbrev pub call_words : List Decl → Call → List (List ℕ)
-call_words decls (Submit item queue) = submit_words (ref_name decls item) (option_map (ref_name decls) queue)
+call_words decls (Submit item queue) =
+    submit_words (ref_name decls item) (option_map (ref_name decls) queue)
 call_words decls (Cancel item) = cancel_words (ref_name decls item)
 call_words decls (CancelSync item) = cancel_sync_words (ref_name decls item)
 call_words decls (Flush item) = flush_words (ref_name decls item)
-call_words decls (Schedule item queue delay) = schedule_words (ref_name decls item) (ref_name decls queue) delay
-call_words decls (Reschedule item queue delay) = reschedule_words (ref_name decls item) (ref_name decls queue) delay
+call_words decls (Schedule item queue delay) =
+    schedule_words (ref_name decls item) (ref_name decls queue) delay
+call_words decls (Reschedule item queue delay) =
+    reschedule_words (ref_name decls item) (ref_name decls queue) delay
 call_words decls (Remaining item) = remaining_words (ref_name decls item)
 call_words decls (Start queue) = start_words (ref_name decls queue)
 call_words decls (Drain queue plug) = drain_words (ref_name decls queue) plug
@@ -50,7 +53,8 @@ call_line decls call = line_text (call_words decls call)
 
 -- the lines of a script without its end
 abbrev pub begun_lines : List Decl → Script → List (List ℕ)
-begun_lines decls script = line_text (script_words (name_at decls script.owner)) ∷ map (call_line decls) script.calls
+begun_lines decls script =
+    line_text (script_words (name_at decls script.owner)) ∷ map (call_line decls) script.calls
 
 -- the lines of a script
 abbrev pub script_lines : List Decl → Script → List (List ℕ)

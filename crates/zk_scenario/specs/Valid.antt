@@ -14,12 +14,15 @@ use Rattle.zk_scenario.specs.Scripts.{script_of}
 -- whether each object of a call is declared and of the kind that the call asks for, and its number is in range
 abbrev pub call_fits : List Decl → Call → Bool
 call_fits decls (Submit (Known item) None) = is_at is_item decls item
-call_fits decls (Submit (Known item) (Some (Known queue))) = is_at is_item decls item && is_at is_queue decls queue
+call_fits decls (Submit (Known item) (Some (Known queue))) =
+    is_at is_item decls item && is_at is_queue decls queue
 call_fits decls (Cancel (Known item)) = is_at is_item decls item
 call_fits decls (CancelSync (Known item)) = is_at is_item decls item
 call_fits decls (Flush (Known item)) = is_at is_item decls item
-call_fits decls (Schedule (Known item) (Known queue) delay) = is_at is_item decls item && is_at is_queue decls queue && is_delay delay
-call_fits decls (Reschedule (Known item) (Known queue) delay) = is_at is_item decls item && is_at is_queue decls queue && is_delay delay
+call_fits decls (Schedule (Known item) (Known queue) delay) =
+    is_at is_item decls item && is_at is_queue decls queue && is_delay delay
+call_fits decls (Reschedule (Known item) (Known queue) delay) =
+    is_at is_item decls item && is_at is_queue decls queue && is_delay delay
 call_fits decls (Remaining (Known item)) = is_at is_item decls item
 call_fits decls (Start (Known queue)) = is_at is_queue decls queue
 call_fits decls (Drain (Known queue) plug) = is_at is_queue decls queue
@@ -28,7 +31,8 @@ call_fits decls (Tick ticks) = is_advance ticks
 
 -- whether a thread or a handler plays a script, and each of its calls fits
 abbrev pub script_fits : List Decl → Script → Bool
-script_fits decls script = is_at plays_script decls script.owner && list_all (call_fits decls) script.calls
+script_fits decls script =
+    is_at plays_script decls script.owner && list_all (call_fits decls) script.calls
 
 -- how many players there are: the threads, and a worker for each queue
 abbrev pub player_count : List Decl → ℕ
@@ -40,7 +44,9 @@ call_count scripts = sum_by (λ script. length script.calls) scripts
 
 -- each object has at most one script
 abbrev pub OneEach : List Script → Type 0
-OneEach scripts = (n : ℕ) (script : Script) → slice_get scripts n ≡ Some script → script_of scripts script.owner ≡ Some n
+OneEach scripts =
+    (n : ℕ) (script : Script) → slice_get scripts n ≡ Some script →
+    script_of scripts script.owner ≡ Some n
 
 -- within the limits, each script fits, and each object has at most one
 pub record IsValid (p : Parts) : Type 0 where

@@ -40,7 +40,8 @@ has_begun r = is_some r.current || nat_lt 0 (length r.scripts)
 
 -- whether the object that a word names has a script
 abbrev pub has_script : Reading → Named → Bool
-has_script r name = option_map_or (λ owner. is_some (script_of r.scripts owner)) (named r.decls name) false
+has_script r name =
+    option_map_or (λ owner. is_some (script_of r.scripts owner)) (named r.decls name) false
 
 -- whether the grammar has the line, and the program can't play it yet
 abbrev pub is_unbuilt : Form → Bool
@@ -92,12 +93,15 @@ is_misnamed decls (Queue name prio on) = is_taken decls name
 is_misnamed decls (Item name) = is_taken decls name
 is_misnamed decls (Script owner) = not (names plays_script decls owner)
 is_misnamed decls (Submit item None) = not (names is_item decls item)
-is_misnamed decls (Submit item (Some queue)) = not (names is_item decls item && names is_queue decls queue)
+is_misnamed decls (Submit item (Some queue)) =
+    not (names is_item decls item && names is_queue decls queue)
 is_misnamed decls (Cancel item) = not (names is_item decls item)
 is_misnamed decls (CancelSync item) = not (names is_item decls item)
 is_misnamed decls (Flush item) = not (names is_item decls item)
-is_misnamed decls (Schedule item queue delay) = not (names is_item decls item && names is_queue decls queue)
-is_misnamed decls (Reschedule item queue delay) = not (names is_item decls item && names is_queue decls queue)
+is_misnamed decls (Schedule item queue delay) =
+    not (names is_item decls item && names is_queue decls queue)
+is_misnamed decls (Reschedule item queue delay) =
+    not (names is_item decls item && names is_queue decls queue)
 is_misnamed decls (Remaining item) = not (names is_item decls item)
 is_misnamed decls (Start queue) = not (names is_queue decls queue)
 is_misnamed decls (Drain queue plug) = not (names is_queue decls queue)
@@ -108,7 +112,8 @@ is_misnamed decls End = false
 -- whether the line passes a limit
 abbrev pub is_past_limit : Reading → Form → Bool
 is_past_limit r (Thread name prio user) = nat_le 64 (player_count r.decls)
-is_past_limit r (Queue name prio on) = nat_le 64 (player_count r.decls) || nat_le 8 (count_by is_queue r.decls)
+is_past_limit r (Queue name prio on) =
+    nat_le 64 (player_count r.decls) || nat_le 8 (count_by is_queue r.decls)
 is_past_limit r (Item name) = nat_le 256 (count_by is_item r.decls)
 is_past_limit r (Script owner) = false
 is_past_limit r (Submit item queue) = nat_le 4096 (call_count (all_scripts r))
@@ -147,12 +152,15 @@ call_of decls (Thread name prio user) = None
 call_of decls (Queue name prio on) = None
 call_of decls (Item name) = None
 call_of decls (Script owner) = None
-call_of decls (Submit item queue) = Some (call.Submit (ref decls item) (option_map (ref decls) queue))
+call_of decls (Submit item queue) =
+    Some (call.Submit (ref decls item) (option_map (ref decls) queue))
 call_of decls (Cancel item) = Some (call.Cancel (ref decls item))
 call_of decls (CancelSync item) = Some (call.CancelSync (ref decls item))
 call_of decls (Flush item) = Some (call.Flush (ref decls item))
-call_of decls (Schedule item queue delay) = Some (call.Schedule (ref decls item) (ref decls queue) delay)
-call_of decls (Reschedule item queue delay) = Some (call.Reschedule (ref decls item) (ref decls queue) delay)
+call_of decls (Schedule item queue delay) =
+    Some (call.Schedule (ref decls item) (ref decls queue) delay)
+call_of decls (Reschedule item queue delay) =
+    Some (call.Reschedule (ref decls item) (ref decls queue) delay)
 call_of decls (Remaining item) = Some (call.Remaining (ref decls item))
 call_of decls (Start queue) = Some (call.Start (ref decls queue))
 call_of decls (Drain queue plug) = Some (call.Drain (ref decls queue) plug)
@@ -162,16 +170,20 @@ call_of decls End = None
 
 -- what the lines said with one line more, to which no reason applies
 abbrev pub after : Reading → Form → Reading
-after r (Thread name prio user) = declared r (decl.Thread (named_text name) (unwrap_or prio (pos 0)) user)
+after r (Thread name prio user) =
+    declared r (decl.Thread (named_text name) (unwrap_or prio (pos 0)) user)
 after r (Queue name prio on) = declared r (decl.Queue (named_text name) (unwrap_or prio (pos 0)) on)
 after r (Item name) = declared r (decl.Item (named_text name))
 after r (Script owner) = begun r (record { owner = object r.decls owner; calls = [] })
-after r (Submit item queue) = called r (call.Submit (ref r.decls item) (option_map (ref r.decls) queue))
+after r (Submit item queue) =
+    called r (call.Submit (ref r.decls item) (option_map (ref r.decls) queue))
 after r (Cancel item) = called r (call.Cancel (ref r.decls item))
 after r (CancelSync item) = called r (call.CancelSync (ref r.decls item))
 after r (Flush item) = called r (call.Flush (ref r.decls item))
-after r (Schedule item queue delay) = called r (call.Schedule (ref r.decls item) (ref r.decls queue) delay)
-after r (Reschedule item queue delay) = called r (call.Reschedule (ref r.decls item) (ref r.decls queue) delay)
+after r (Schedule item queue delay) =
+    called r (call.Schedule (ref r.decls item) (ref r.decls queue) delay)
+after r (Reschedule item queue delay) =
+    called r (call.Reschedule (ref r.decls item) (ref r.decls queue) delay)
 after r (Remaining item) = called r (call.Remaining (ref r.decls item))
 after r (Start queue) = called r (call.Start (ref r.decls queue))
 after r (Drain queue plug) = called r (call.Drain (ref r.decls queue) plug)

@@ -1,7 +1,9 @@
-use crate::{
-    Form, Line, Named, line_of, number_of, put_cancel, put_cancel_sync, put_drain, put_end,
-    put_flush, put_item, put_queue, put_remaining, put_reschedule, put_schedule, put_script,
-    put_start, put_submit, put_thread, put_tick, put_unplug,
+use crate::form::{Form, Line, Named, line_of};
+use crate::numbers::number_of;
+use crate::print::{
+    put_cancel, put_cancel_sync, put_drain, put_end, put_flush, put_item, put_queue, put_remaining,
+    put_reschedule, put_schedule, put_script, put_start, put_submit, put_thread, put_tick,
+    put_unplug,
 };
 use std::test::Fail;
 use zk_base::NoMemory;

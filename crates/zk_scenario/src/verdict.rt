@@ -4,9 +4,10 @@ ghost use Rattle.zk_scenario.specs.Players.{plays_script, is_queue, is_item};
 ghost use Rattle.zk_scenario.specs.Valid.{player_count};
 ghost use Rattle.zk_scenario.specs.Verdict.{named, names, is_taken, is_unbuilt, is_out_of_range, is_misnamed, object, ref, call_of};
 
+use crate::form::{Form, Named};
 use crate::numbers::{is_advance, is_delay};
 use crate::objects::Objects;
-use crate::{Call, Decl, Form, Named, Ref};
+use crate::{Call, Decl, Ref};
 
 /// The object that a word names.
 pub fn named(objects: &Objects, name: &Named) -> Option<u32>

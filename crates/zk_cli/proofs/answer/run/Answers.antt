@@ -8,7 +8,7 @@ use Rattle.zk_worker.specs.Machines.{work_start_of}
 use Rattle.zk_trace.specs.Text.{trace_text}
 use Rattle.zk_model_work.proofs.Drains.{undrained-fresh}
 use Rattle.zk_cli.specs.Answer.{IsOutput}
-use Rattle.zk_cli.proofs.Ways.{output-run}
+use Rattle.zk_cli.proofs.Outcomes.{output-run}
 use Rattle.zk_cli.proofs.answer.run.Goals as goal
 
 pub returns : goal.returns
@@ -35,5 +35,5 @@ returns c =
           c.keeps_clock_laws.ensures front (IsLegal-front clock_machine new_clock front rest (subst (IsLegal clock_machine new_clock) parts c.in_ok-trace.ensures.lawful.legal_clock));
       over = c.in_ok-trace.ensures.over;
       ends = refl;
-      printed = c.in_ok-put_trace.ensures ∙ ap (λ (text : List ℕ). text ++ trace_text c.args.scenario.now trace) c.requires.spelled;
+      printed = c.in_ok-put_trace.ensures.text ∙ ap (λ (text : List ℕ). text ++ trace_text c.args.scenario.now trace) c.requires.spelled;
     }))

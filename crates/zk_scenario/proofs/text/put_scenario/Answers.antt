@@ -2,7 +2,7 @@ use Rattle.std.proofs.Common.{◌≡◌, ◌∙◌, ◌++◌, codes, ap, append_
 use Rattle.std.specs.List.{flat_map}
 use Rattle.std.proofs.lemmas.Result.{IfOk-equal}
 use Rattle.zk_scenario.specs.Spelling.{decl_line, script_lines, fed, lines_text}
-use Rattle.zk_scenario.proofs.Printed.{lines_text-body_lines}
+use Rattle.zk_scenario.proofs.ScenarioLines.{lines_text-body_lines}
 use Rattle.zk_scenario.proofs.text.put_scenario.Goals as goal
 
 pub returns-clause-text : goal.returns-clause-text

@@ -3,7 +3,7 @@ use Rattle.std.specs.List.{flat_map}
 use Rattle.std.proofs.lemmas.Result.{IfOk-equal}
 use Rattle.zk_scenario.specs.Spelling.{call_line, fed, name_at}
 use Rattle.zk_scenario.specs.Text.{line_text, script_words, end_words}
-use Rattle.zk_scenario.proofs.Printed.{lines_text-script_lines}
+use Rattle.zk_scenario.proofs.ScenarioLines.{lines_text-script_lines}
 use Rattle.zk_scenario.proofs.text.put_script_lines.Goals as goal
 
 pub returns : goal.returns

@@ -2,7 +2,7 @@ use Rattle.std.proofs.Common.{◌+◌, ◌-◌, length, drop, take, sym, ap, ◌
 use Rattle.std.proofs.lemmas.List.{take_all}
 use Rattle.std.proofs.Common.{length-drop}
 use Rattle.zk_scenario.specs.Words.{words_of}
-use Rattle.zk_scenario.proofs.Cuts.{words_of-space, words_of-none}
+use Rattle.zk_scenario.proofs.FirstWord.{words_of-space, words_of-none}
 use Rattle.zk_scenario.proofs.words.split_word.Goals as goal
 
 pub returns-in-Some : goal.returns-in-Some

@@ -1,6 +1,6 @@
 use Rattle.std.proofs.Common.{[], rules}
 use Rattle.zk_scenario.specs.Reading.{begun}
-use Rattle.zk_scenario.proofs.Kept.{IsValid-after-is}
+use Rattle.zk_scenario.proofs.AcceptedLines.{IsValid-after-is}
 use Rattle.zk_scenario.proofs.reader.Reader.accept.Goals as goal
 
 pub declare-requires-clause-valid : goal.declare-requires-clause-valid

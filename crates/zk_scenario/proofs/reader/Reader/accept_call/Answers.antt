@@ -1,6 +1,6 @@
 use Rattle.std.proofs.Common.{rules}
 use Rattle.zk_scenario.specs.Reading.{called}
-use Rattle.zk_scenario.proofs.Kept.{after-call_of, IsValid-after-is}
+use Rattle.zk_scenario.proofs.AcceptedLines.{after-call_of, IsValid-after-is}
 use Rattle.zk_scenario.proofs.reader.Reader.accept_call.Goals as goal
 
 pub call-requires-clause-valid : goal.call-requires-clause-valid
