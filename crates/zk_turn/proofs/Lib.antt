@@ -1,0 +1,8 @@
+mod Dealing
+mod Ending
+mod Joining
+mod Keeping
+mod Moving
+mod Passes
+mod Players
+mod Seats

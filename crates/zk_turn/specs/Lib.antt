@@ -1,0 +1,5 @@
+pub mod Passes
+pub mod Players
+pub mod Steps
+pub mod Turn
+pub mod Views
