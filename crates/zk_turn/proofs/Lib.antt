@@ -1,3 +1,4 @@
+mod Calls
 mod Dealing
 mod Ending
 mod Joining
