@@ -21,7 +21,8 @@ use Rattle.zk_model_work.specs.Questions.{busy_flags}
 abbrev pub is_chained : Queue → Option ℕ → Bool
 is_chained queue caller = option_map_or (λ player. player == queue.worker) caller false
 
--- the queue that a submission goes to: the one that runs the item, else the named one, else that of the item's last admission
+-- the queue that a submission goes to:
+-- the one that runs the item, else the named one, else that of the item's last admission
 abbrev pub target : Item → Option ℕ → Option ℕ
 target i named = option_or i.home (option_or named i.last)
 
@@ -69,7 +70,8 @@ flags i armed flushing = busy_flags i.running i.cancelling i.queued armed flushi
 abbrev pub is_pending : Item → Bool → Bool
 is_pending i armed = armed || i.queued || i.cancelling
 
--- what a sync cancel is answered, by the flags before it: false where there were none, else whether a run has to be awaited
+-- what a sync cancel is answered, by the flags before it:
+-- false where there were none, else whether a run has to be awaited
 abbrev pub cancel_start_reply : ℕ → Bool → WorkReply
 cancel_start_reply flags runs =
     if flags == 0 then Truth false else

@@ -28,7 +28,8 @@ use Rattle.zk_model_work.specs.Questions.{is_open, is_ended, passes_at, waits_as
 
 -- the admissions after a submission with this answer: one more where it was admitted
 abbrev pub submit : List Admission → ℕ → Submitted → List Admission
-submit admissions item answer = option_map_or (λ queue. admissions ++ record { item = item; queue = queue; life = Waiting } ∷ []) (admitted_to answer) admissions
+submit admissions item answer =
+    option_map_or (λ queue. admissions ++ record { item = item; queue = queue; life = Waiting } ∷ []) (admitted_to answer) admissions
 
 -- the answer to a submission in a state
 abbrev pub submission_in : State → Option ℕ → ℕ → Option ℕ → Submitted
@@ -60,7 +61,8 @@ set_life (a ∷ rest) (suc number) life = a ∷ set_life rest number life
 
 -- the first in the queue's line runs
 abbrev pub begin : List Admission → ℕ → List Admission
-begin admissions queue = option_map_or (λ number. set_life admissions number Running) (first (line admissions queue)) admissions
+begin admissions queue =
+    option_map_or (λ number. set_life admissions number Running) (first (line admissions queue)) admissions
 
 -- an admission, ended where the queue ran it
 abbrev pub end_one : ℕ → Admission → Admission
@@ -104,7 +106,8 @@ mark admissions marks item = marks ++ option_to_list (running admissions item)
 
 -- a queue of this number that drains, where it is idle, has drained once more
 abbrev pub settle_one : (ℕ → Bool) → ℕ → Queue → Queue
-settle_one is_idle number queue = if queue.draining && is_idle number then record queue { draining = false; drained = queue.drained + 1 } else queue
+settle_one is_idle number queue =
+    if queue.draining && is_idle number then record queue { draining = false; drained = queue.drained + 1 } else queue
 
 -- the draining of each queue from this number on ends, where it is idle
 abbrev pub settle_from : (ℕ → Bool) → ℕ → List Queue → List Queue
@@ -115,11 +118,13 @@ settle_from is_idle number (queue ∷ queues) = settle_one is_idle number queue 
 abbrev pub settle : List Admission → List Queue → List Queue
 settle admissions queues = settle_from (is_empty_and_idle admissions) 0 queues
 
--- the state after a cancel of the item: its waiting admission dropped, its arm disarmed, its run marked, and what has drained settled
+-- the state after a cancel of the item:
+-- its waiting admission dropped, its arm disarmed, its run marked, and what has drained settled
 abbrev pub cancel : State → ℕ → State
 cancel s item =
     let admissions = drop_waiting s.admissions item in
-    record s { admissions = admissions; arms = disarm s.arms item; marks = mark s.admissions s.marks item; queues = settle admissions s.queues }
+    let marks = mark s.admissions s.marks item in
+    record s { admissions = admissions; arms = disarm s.arms item; marks = marks; queues = settle admissions s.queues }
 
 -- the state after the end of what the queue ran
 abbrev pub end : State → ℕ → State
@@ -153,13 +158,17 @@ abbrev pub cancel_start : State → Who → ℕ → State
 cancel_start s who item =
     record (cancel s item) { waits = awaiting s.waits (cancel_wait s.entries who (running s.admissions item)) }
 
--- the admissions after a flush has ended the item's delay, if it has one: the item is submitted by the player to the arm's queue
+-- the admissions after a flush has ended the item's delay, if it has one:
+-- the item is submitted by the player to the arm's queue
 abbrev pub hurried : State → Who → ℕ → List Admission
-hurried s who item = submit_arms s.marks s.queues (Some who.number) (option_to_list (live_arm s.arms item)) s.admissions
+hurried s who item =
+    submit_arms s.marks s.queues (Some who.number) (option_to_list (live_arm s.arms item)) s.admissions
 
 -- the admission that a flush of the item waits for, once it has ended the item's delay
 abbrev pub flushed_of : State → Who → ℕ → Option ℕ
-flushed_of s who item = let admissions = hurried s who item in flushed (waiting admissions item) (running admissions item)
+flushed_of s who item =
+    let admissions = hurried s who item in
+    flushed (waiting admissions item) (running admissions item)
 
 -- the state after the start of a flush, which ends the item's delay,
 -- and in which the player waits where an admission of the item then waits or runs
@@ -175,7 +184,8 @@ is_pending_in s item = is_pending (item_of s.admissions s.marks item) (is_some (
 -- the state in which an item has this delay: with none it was submitted by the player, else it is armed
 abbrev pub delayed : State → Who → ℕ → ℕ → ℕ → State
 delayed s who item queue delay =
-    if delay == 0 then record s { admissions = submit s.admissions item (submission_in s (Some who.number) item (Some queue)) }
+    let answer = submission_in s (Some who.number) item (Some queue) in
+    if delay == 0 then record s { admissions = submit s.admissions item answer }
     else record s { arms = arm s.arms item queue (s.time + delay) }
 
 -- the state after a schedule, which leaves a pending item alone
@@ -190,11 +200,13 @@ reschedule s who item queue delay = delayed (record s { arms = disarm s.arms ite
 abbrev pub announce : State → ℕ → State
 announce s ticks =
     let time = s.time + ticks in
-    record s { time = time; arms = expire s.arms time; admissions = submit_arms s.marks s.queues None (due time s.arms) s.admissions }
+    let admissions = submit_arms s.marks s.queues None (due time s.arms) s.admissions in
+    record s { time = time; arms = expire s.arms time; admissions = admissions }
 
 -- the queue after the start of a drain: plugged where that was asked, and draining unless it is idle
 abbrev pub drain : Bool → Bool → List Queue → ℕ → List Queue
-drain idle plug queues number = change_where (not idle) changes.Drain (change_where plug changes.Plug queues number) number
+drain idle plug queues number =
+    change_where (not idle) changes.Drain (change_where plug changes.Plug queues number) number
 
 -- the state after the start of a drain, in which the player waits unless the queue is empty and idle
 abbrev pub drain_start : State → Who → ℕ → Bool → State
@@ -213,7 +225,8 @@ is_over admissions number = passes_at (λ a. not (is_open a.life)) admissions nu
 
 -- what is awaited has come
 abbrev pub has_come : List Admission → List Queue → Closing → Awaited → Bool
-has_come admissions queues closing awaited = comes (has_ended admissions) (is_over admissions) queues closing awaited
+has_come admissions queues closing awaited =
+    comes (has_ended admissions) (is_over admissions) queues closing awaited
 
 -- there is an unanswered wait of the player of this place, and what it awaits has come
 abbrev pub may_close : State → Closing → Who → ℕ → Bool
@@ -225,7 +238,8 @@ answer_where so w = if so then record w { answered = true } else w
 
 -- a wait, answered where it is the one that this ends
 abbrev pub answer_one : List Admission → List Queue → Closing → Who → ℕ → Wait → Wait
-answer_one admissions queues closing who place w = answer_where (closes (has_come admissions queues closing) who place w) w
+answer_one admissions queues closing who place w =
+    answer_where (closes (has_come admissions queues closing) who place w) w
 
 -- the waits after an operation that ends one
 abbrev pub answered_waits : State → Closing → Who → ℕ → List Wait
@@ -262,7 +276,8 @@ abbrev pub schedule_reply_in : State → Who → ℕ → ℕ → ℕ → WorkRep
 schedule_reply_in s who item queue delay =
     schedule_reply (is_pending_in s item) (submission_in s (Some who.number) item (Some queue)) delay
 
--- the time after so many ticks more, and the items whose delay is over by then, each with the answer to its submission
+-- the time after so many ticks more, and the items whose delay is over by then,
+-- each with the answer to its submission
 abbrev pub announce_reply : State → ℕ → WorkReply
 announce_reply s ticks =
     let time = s.time + ticks in
@@ -284,12 +299,14 @@ work_reply s who (DrainStart queue plug) = Some (drain_reply (is_empty_and_idle 
 work_reply s who (DrainDone place) = if may_close s closings.Drain who place then Some (Number 1) else None
 work_reply s who (Unplug queue) = Some (unplug_reply s.queues queue)
 work_reply s who (Announce ticks) = Some (announce_reply s ticks)
-work_reply s who (Begin queue) = if may_begin s.admissions s.queues who queue then taken_up s.admissions queue else None
+work_reply s who (Begin queue) =
+    if may_begin s.admissions s.queues who queue then taken_up s.admissions queue else None
 work_reply s who (End queue) = if may_end s.admissions s.queues who queue then Some Done else None
 
 -- what each operation changes, where it is possible
 abbrev pub changed : State → Who → WorkOp → State
-changed s who (Submit item named) = record s { admissions = submit s.admissions item (submission_in s (Some who.number) item named) }
+changed s who (Submit item named) =
+    record s { admissions = submit s.admissions item (submission_in s (Some who.number) item named) }
 changed s who (Cancel item) = cancel s item
 changed s who (CancelStart item) = cancel_start s who item
 changed s who (CancelDone place) = record s { waits = answered_waits s closings.Cancel who place }
@@ -316,7 +333,8 @@ after_reply s who op reply = if is_some reply then work_next s who op else s
 
 -- the item and the queue that the operation names are among so many items and queues
 abbrev pub is_among : ℕ → ℕ → WorkOp → Bool
-is_among items queues (Submit item named) = nat_lt item items && option_map_or (λ queue. nat_lt queue queues) named true
+is_among items queues (Submit item named) =
+    nat_lt item items && option_map_or (λ queue. nat_lt queue queues) named true
 is_among items queues (Cancel item) = nat_lt item items
 is_among items queues (CancelStart item) = nat_lt item items
 is_among items queues (CancelDone place) = true

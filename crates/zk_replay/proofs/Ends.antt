@@ -54,7 +54,7 @@ use Rattle.zk_replay.specs.Over.{IsOver}
 use Rattle.zk_replay.specs.Tending.{IsIdle, IsWorkers, Tends, IsTended}
 use Rattle.zk_replay.proofs.Readiness.{ready-stepped}
 use Rattle.zk_replay.proofs.Beginning.{ready-first, first-there, first-players}
-use Rattle.zk_replay.proofs.Machine.{none-waits-for}
+use Rattle.zk_model_work.proofs.Runs.{none-waits-for}
 use Rattle.zk_replay.proofs.Tended.{tended-step, tended-clock, tended-first, worker-of, open-ahead}
 use Rattle.zk_replay.proofs.Still.{first_possible-made, rounds-keep, round-still}
 

@@ -4,7 +4,6 @@ pub mod Laps
 pub mod Choosing
 pub mod Beginning
 pub mod Ends
-pub mod Machine
 pub mod Tended
 pub mod Still
 pub mod Once

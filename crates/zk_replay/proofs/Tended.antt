@@ -50,7 +50,7 @@ use Rattle.zk_worker.specs.Machines.{workers, work_start_of, is_on}
 use Rattle.zk_worker.proofs.Lists.{slice_get-set}
 use Rattle.zk_replay.specs.RoundRobin.{World, starts, first, stepped}
 use Rattle.zk_replay.specs.Tending.{IsIdle, IsWorkers, IsScript, Tends, IsTended}
-use Rattle.zk_replay.proofs.Machine.{IsCalled, idle-called, idle-ended, idle-next, begin-told, homes-next, workers-next}
+use Rattle.zk_model_work.proofs.Runs.{IsCalled, idle-called, idle-ended, idle-next, begin-told, homes-next, workers-next}
 
 workers-keep : (ds : List Decl) (queue : ℕ) (role : Role) (stage : Stage) (old new : List Admission) → (IsIdle queue old → IsIdle queue new) →
     IsWorkers ds queue role stage old → IsWorkers ds queue role stage new

@@ -1,14 +1,12 @@
--- What the operations of the work machine leave of its queues and their runs.
-use Rattle.std.proofs.Common.{◌≡◌, ◌≢◌, ℕ, zero, suc, ◌+◌, ◌<◌, Bool, true, false, not, ◌&&◌, cond, eqb, Option, Some, None, is_some, is_none, List, [], ◌∷◌, length, map, All, refl, sym, ap, subst, ◌∙◌, arith, eq-eqb, nat_lt}
+-- What the operations leave of the queues: where admissions go, who works, and that a queue runs nothing.
+use Rattle.std.proofs.Common.{◌≡◌, ◌≢◌, ℕ, zero, suc, ◌+◌, ◌<◌, Bool, true, false, not, ◌&&◌, cond, eqb, Option, Some, None, is_none, List, [], ◌∷◌, length, map, All, refl, sym, ap, subst, ◌∙◌, arith, eq-eqb, nat_lt}
 use Rattle.std.specs.List.{slice_get, position_or_len}
 use Rattle.std.specs.Option.{option_map, option_map_or, option_and_then}
 use Rattle.std.proofs.lemmas.Bool.{eqb-true, and_parts, and_right, and_left, and_from}
 use Rattle.std.proofs.lemmas.Bool.Decides.{nat_tests}
 use Rattle.std.proofs.lemmas.List.Elements.{All-nil, All-cons, All-head, All-tail, All-push}
-use Rattle.std.proofs.lemmas.Option.{slice_get_within, slice_get-map}
+use Rattle.std.proofs.lemmas.Option.{slice_get-map}
 use Rattle.zk_base.specs.declared.ids.Who.{Who}
-use Rattle.zk_base.specs.declared.errors.Errno.{Errno}
-use Rattle.zk_base.specs.declared.errors.Errno.TheVariants as errors
 use Rattle.zk_model_work.specs.declared.parts.Life.{Life}
 use Rattle.zk_model_work.specs.declared.parts.Life.TheVariants.{Waiting, Running, Ended, Dropped}
 use Rattle.zk_model_work.specs.declared.parts.Admission.{Admission}
@@ -22,55 +20,27 @@ use Rattle.zk_model_work.specs.declared.ops.Submitted.TheVariants.{Already, Fres
 use Rattle.zk_model_work.specs.declared.ops.WorkReply.{WorkReply}
 use Rattle.zk_model_work.specs.declared.ops.WorkReply.TheVariants.{Run}
 use Rattle.zk_model_work.specs.Lists.{places_from, first as first_of}
-use Rattle.zk_model_work.specs.Questions.{is_waiting, waits_for, waits_as, runs_on, running, waiting, is_cancelling, run, line, is_empty_and_idle}
+use Rattle.zk_model_work.specs.Questions.{item_of, is_waiting, waits_for, waits_as, runs_on, run, line, is_empty_and_idle}
 use Rattle.zk_model_work.specs.State.{State}
-use Rattle.zk_model_work.specs.Machine.{work_reply, work_next, refusal, admission, submission, submission_at, submission_to, target, submit, set_life, with_life, begin, end_one, end_run, disarm, drop_one, drop_waiting, changed_queue, change, change_where, settle_from, is_worker, may_begin, taken_up}
+use Rattle.zk_model_work.specs.Answers.{submission, admitted_to, is_worker}
+use Rattle.zk_model_work.specs.Machine.{work_reply, work_next, submit, set_life, with_life, begin, end_one, end_run, disarm, drop_one, drop_waiting, changed_queue, change, change_where, settle_from, may_begin, taken_up}
 use Rattle.zk_model_work.specs.Laws.{submitter}
 use Rattle.zk_model_work.proofs.Moves.{delayed-keeps, schedule-keeps, admissions-next}
-use Rattle.zk_replay.specs.Tending.{IsIdle}
+use Rattle.zk_base.proofs.Lists.{All-at}
+use Rattle.zk_model_work.proofs.Overlaps.{submission-within}
 
--- a submission that admits goes to one of so many queues
-abbrev Home : ℕ → Submitted → Type 0
-Home many Already = Unit {0}
-Home many (Fresh number queue) = queue < many
-Home many (Rerun number queue) = queue < many
-Home many (Refused cause) = Unit {0}
+-- the queue runs none of these admissions
+abbrev pub RunsNone : ℕ → List Admission → Type 0
+RunsNone queue xs = All (λ a. runs_on queue a ≡ false) xs
 
-cond-home : (many : ℕ) (b : Bool) (x y : Submitted) → Home many x → Home many y → Home many (cond b x y)
-cond-home many true x y hx hy = hx
-cond-home many false x y hx hy = hy
-
-admission-home : (admissions : List Admission) (item number many : ℕ) → number < many → Home many (admission admissions item number)
-admission-home admissions item number many less =
-    cond-home many (is_some (running admissions item)) (Rerun (length admissions) number) (Fresh (length admissions) number) less less
-
-submission_to-home : (admissions : List Admission) (caller : Option ℕ) (item number : ℕ) (queue : Queue) (many : ℕ) → number < many → Home many (submission_to admissions caller item number queue)
-submission_to-home admissions caller item number queue many less = by (refusal caller queue) where
-  by : (r : Option Errno) → Home many (option_map_or Refused r (admission admissions item number))
-  by None = admission-home admissions item number many less
-  by (Some cause) = tt
-
-submission_at-home : (admissions : List Admission) (queues : List Queue) (caller : Option ℕ) (item : ℕ) (to : Option ℕ) → Home (length queues) (submission_at admissions queues caller item to)
-submission_at-home admissions queues caller item None = tt
-submission_at-home admissions queues caller item (Some number) = by_queue (slice_get queues number) refl
-  where
-    by_queue : (queue : Option Queue) → slice_get queues number ≡ queue → Home (length queues) (option_map_or (submission_to admissions caller item number) queue (Refused errors.Inval))
-    by_queue None is = tt
-    by_queue (Some queue) is = submission_to-home admissions caller item number queue (length queues) (slice_get_within queues number queue is)
-
-submission-home : (admissions : List Admission) (marks : List ℕ) (queues : List Queue) (caller : Option ℕ) (item : ℕ) (named : Option ℕ) →
-    Home (length queues) (submission admissions marks queues caller item named)
-submission-home admissions marks queues caller item named =
-    cond-home (length queues) (is_cancelling admissions marks item) (Refused errors.Busy) _ tt
-    (cond-home (length queues) (is_some (waiting admissions item)) Already _ tt (submission_at-home admissions queues caller item (target admissions item named)))
-
--- what holds of each admission and of a new one holds after a submission
-submit-all : (P : Admission → Type 0) (admissions : List Admission) (item many : ℕ) (answer : Submitted) → Home many answer →
-    ((queue : ℕ) → queue < many → P (record { item = item; queue = queue; life = Waiting })) → All P admissions → All P (submit admissions item answer)
-submit-all P admissions item many Already home new all = all
-submit-all P admissions item many (Fresh number queue) home new all = All-push P admissions (record { item = item; queue = queue; life = Waiting }) all (new queue home)
-submit-all P admissions item many (Rerun number queue) home new all = All-push P admissions (record { item = item; queue = queue; life = Waiting }) all (new queue home)
-submit-all P admissions item many (Refused cause) home new all = all
+-- what holds of each admission and of one that is admitted holds after a submission
+submit-all : (P : Admission → Type 0) (xs : List Admission) (item : ℕ) (answer : Submitted) →
+    ((queue : ℕ) → admitted_to answer ≡ Some queue → P (record { item = item; queue = queue; life = Waiting })) → All P xs →
+    All P (submit xs item answer)
+submit-all P xs item Already new all = all
+submit-all P xs item (Fresh number queue) new all = All-push P xs (record { item = item; queue = queue; life = Waiting }) all (new queue refl)
+submit-all P xs item (Rerun number queue) new all = All-push P xs (record { item = item; queue = queue; life = Waiting }) all (new queue refl)
+submit-all P xs item (Refused cause) new all = all
 
 -- what each admission keeps holds of all that are changed
 map-all : (P : Admission → Type 0) (f : Admission → Admission) → ((a : Admission) → P a → P (f a)) → (xs : List Admission) → All P xs → All P (map f xs)
@@ -108,12 +78,7 @@ begin-all P xs queue new all = by_first (first_of (line xs queue)) refl
   where
     by_first : (o : Option ℕ) → first_of (line xs queue) ≡ o → All P (option_map_or (λ number. set_life xs number Running) o xs)
     by_first None is = all
-    by_first (Some p) is = set_life-all P xs p Running (λ a there. new a (line-waits xs queue p a is there) (All-at P xs p a there all)) all
-      where
-        All-at : (P : Admission → Type 0) (xs : List Admission) (k : ℕ) (x : Admission) → slice_get xs k ≡ Some x → All P xs → P x
-        All-at P [] k x is all = absurd (cc)
-        All-at P (y ∷ ys) zero x is all = let same : y ≡ x = cc in subst P same (All-head P y ys all)
-        All-at P (y ∷ ys) (suc k) x is all = All-at P ys k x is (All-tail P y ys all)
+    by_first (Some p) is = set_life-all P xs p Running (λ a there. new a (line-waits xs queue p a is there) (All-at P xs p a all there)) all
 
 cond-keeps : (P : Admission → Type 0) (b : Bool) (x y : Admission) → P x → P y → P (cond b x y)
 cond-keeps P true x y hx hy = hx
@@ -125,8 +90,9 @@ homes-next many st who op long all =
     let P : Admission → Type 0 = λ a. a.queue < many in
     admissions-next (All P) st who op
     (λ ys item named stays here.
-    let answer = submission ys st.marks st.queues (submitter who op) item named in
-    submit-all P ys item many answer (subst (λ (n : ℕ). Home n answer) long (submission-home ys st.marks st.queues (submitter who op) item named)) (λ queue less. less) here)
+    let i = item_of ys st.marks item in
+    let answer = submission i st.queues (submitter who op) named in
+    submit-all P ys item answer (λ queue to. subst (λ (n : ℕ). queue < n) long (submission-within i st.queues (submitter who op) named queue to)) here)
     (λ item drops. map-all P (drop_one item) (λ a less. cond-keeps P (waits_as item a) (with_life Dropped a) a less less) st.admissions all)
     (λ queue is. begin-all P st.admissions queue (λ a waits less. less) all)
     (λ queue is. map-all P (end_one queue) (λ a less. cond-keeps P (runs_on queue a) (with_life Ended a) a less less) st.admissions all)
@@ -210,23 +176,21 @@ IsCalled (ops.End queue) = ⊥
 IsCalled op = Unit {0}
 
 -- a submission starts no run
-idle-submitted : (st : State) (who : Who) (op : WorkOp) (queue : ℕ) (ys : List Admission) (item : ℕ) (named : Option ℕ) → IsIdle queue ys →
-    IsIdle queue (submit ys item (submission ys st.marks st.queues (submitter who op) item named))
-idle-submitted st who op queue ys item named idle =
+idle-submitted : (queue : ℕ) (xs : List Admission) (item : ℕ) (answer : Submitted) → RunsNone queue xs → RunsNone queue (submit xs item answer)
+idle-submitted queue xs item answer idle =
     let P : Admission → Type 0 = λ a. runs_on queue a ≡ false in
-    submit-all P ys item (length st.queues) (submission ys st.marks st.queues (submitter who op) item named)
-    (submission-home ys st.marks st.queues (submitter who op) item named) (λ q less. and_right (eqb q queue) false refl) idle
+    submit-all P xs item answer (λ q to. and_right (eqb q queue) false refl) idle
 
--- and so does a drop
-idle-dropped : (st : State) (item queue : ℕ) → IsIdle queue st.admissions → IsIdle queue (drop_waiting st.admissions item)
+-- nor does a drop
+idle-dropped : (st : State) (item queue : ℕ) → RunsNone queue st.admissions → RunsNone queue (drop_waiting st.admissions item)
 idle-dropped st item queue idle =
     let P : Admission → Type 0 = λ a. runs_on queue a ≡ false in
     map-all P (drop_one item) (λ a none. cond-keeps P (waits_as item a) (with_life Dropped a) a (and_right (eqb a.queue queue) false refl) none) st.admissions idle
 
 -- no call starts a run
-pub idle-called : (st : State) (who : Who) (op : WorkOp) (queue : ℕ) → IsCalled op → IsIdle queue st.admissions → IsIdle queue (work_next st who op).admissions
+pub idle-called : (st : State) (who : Who) (op : WorkOp) (queue : ℕ) → IsCalled op → RunsNone queue st.admissions → RunsNone queue (work_next st who op).admissions
 idle-called st who op queue called idle =
-    admissions-next (IsIdle queue) st who op (λ ys item named stays here. idle-submitted st who op queue ys item named here) (λ item drops. idle-dropped st item queue idle)
+    admissions-next (RunsNone queue) st who op (λ ys item named stays here. idle-submitted queue ys item _ here) (λ item drops. idle-dropped st item queue idle)
     (λ number is. absurd (subst (λ (o : WorkOp). IsCalled o) is called)) (λ number is. absurd (subst (λ (o : WorkOp). IsCalled o) is called)) idle
 
 end_one-idle : (queue : ℕ) (a : Admission) → runs_on queue (end_one queue a) ≡ false
@@ -237,7 +201,7 @@ end_one-idle queue a = by_runs (runs_on queue a) refl
     by_runs false is = is
 
 -- a queue whose run has ended runs nothing
-pub idle-ended : (queue : ℕ) (xs : List Admission) → IsIdle queue (end_run xs queue)
+pub idle-ended : (queue : ℕ) (xs : List Admission) → RunsNone queue (end_run xs queue)
 idle-ended queue [] = let P : Admission → Type 0 = λ a. runs_on queue a ≡ false in All-nil P
 idle-ended queue (a ∷ xs) =
     let P : Admission → Type 0 = λ a. runs_on queue a ≡ false in
@@ -262,9 +226,9 @@ begin-told st who queue reply is =
 
 -- a queue that runs nothing does so after any operation but a Begin of its worker
 pub idle-next : (st : State) (who : Who) (op : WorkOp) (reply : WorkReply) (queue worker : ℕ) → slice_get (map (λ (q : Queue). q.worker) st.queues) queue ≡ Some worker → who.number ≢ worker →
-    work_reply st who op ≡ Some reply → IsIdle queue st.admissions → IsIdle queue (work_next st who op).admissions
+    work_reply st who op ≡ Some reply → RunsNone queue st.admissions → RunsNone queue (work_next st who op).admissions
 idle-next st who op reply queue worker is other made idle =
-    admissions-next (IsIdle queue) st who op (λ ys item named stays here. idle-submitted st who op queue ys item named here) (λ item drops. idle-dropped st item queue idle) begins ends idle
+    admissions-next (RunsNone queue) st who op (λ ys item named stays here. idle-submitted queue ys item _ here) (λ item drops. idle-dropped st item queue idle) begins ends idle
   where
     P : Admission → Type 0
     P a = runs_on queue a ≡ false
@@ -277,12 +241,12 @@ idle-next st who op reply queue worker is other made idle =
     apart : (number : ℕ) (a : Admission) → number ≢ queue → eqb a.queue number ≡ true → eqb a.queue queue ≡ false
     apart number a differ to = grind (arith, nat_tests, eqb-true a.queue number to, differ)
 
-    begins : (number : ℕ) → op ≡ ops.Begin number → IsIdle queue (begin st.admissions number)
+    begins : (number : ℕ) → op ≡ ops.Begin number → RunsNone queue (begin st.admissions number)
     begins number is_begin =
         begin-all P st.admissions number
         (λ a waits none. and_left (eqb a.queue queue) true (apart number a (differs number is_begin) (and_parts (eqb a.queue number) (is_waiting a.life) waits).0)) idle
 
-    ends : (number : ℕ) → op ≡ ops.End number → IsIdle queue (end_run st.admissions number)
+    ends : (number : ℕ) → op ≡ ops.End number → RunsNone queue (end_run st.admissions number)
     ends number is_end =
         map-all P (end_one number) (λ a none. cond-keeps P (runs_on number a) (with_life Ended a) a (and_right (eqb a.queue queue) false refl) none) st.admissions idle
 
@@ -295,7 +259,7 @@ none-where test n (x ∷ xs) is = by_test (test x) refl is (none-where test (n +
     by_test true passes none further = absurd (cc)
     by_test false passes none further = let P : Admission → Type 0 = λ a. test a ≡ false in All-cons P x xs passes (further none)
 
-run-none : (queue : ℕ) (xs : List Admission) → IsIdle queue xs → run xs queue ≡ None
+run-none : (queue : ℕ) (xs : List Admission) → RunsNone queue xs → run xs queue ≡ None
 run-none queue [] idle = refl
 run-none queue (x ∷ xs) idle =
     let P : Admission → Type 0 = λ a. runs_on queue a ≡ false in
@@ -328,7 +292,7 @@ is-worker st queue worker is = by_queue (slice_get st.queues queue) (sym (slice_
     by_queue (Some q) is = let same : q.worker ≡ worker = cc in eq-eqb worker q.worker (sym same)
 
 -- where the worker of a queue that runs nothing can't begin, nothing waits for the queue
-pub none-waits-for : (st : State) (who : Who) (queue : ℕ) → slice_get (map (λ (q : Queue). q.worker) st.queues) queue ≡ Some who.number → IsIdle queue st.admissions →
+pub none-waits-for : (st : State) (who : Who) (queue : ℕ) → slice_get (map (λ (q : Queue). q.worker) st.queues) queue ≡ Some who.number → RunsNone queue st.admissions →
     work_reply st who (ops.Begin queue) ≡ None → All (λ a. waits_for queue a ≡ false) st.admissions
 none-waits-for st who queue is idle none = none-where (waits_for queue) 0 st.admissions (line_none (first_of (line st.admissions queue)) refl)
   where

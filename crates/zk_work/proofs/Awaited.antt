@@ -13,7 +13,7 @@ use Rattle.zk_model_work.specs.declared.parts.Wait.{Wait}
 use Rattle.zk_model_work.specs.Questions.{is_waiting, is_running, is_open, waits_as, runs_as, runs_on, waiting, running, passes_at}
 use Rattle.zk_model_work.specs.Machine.{with_life, set_life, drop_one, end_one}
 use Rattle.zk_model_work.proofs.Lives.{set_life-at}
-use Rattle.zk_work.specs.Kept.{is_begun, is_there}
+use Rattle.zk_work.specs.EngineState.{is_begun, is_there}
 use Rattle.zk_work.proofs.Cancelling.{still-push, still-map, passes-set_life}
 use Rattle.zk_work.proofs.Numbers.{IsAt, is_at}
 

@@ -19,7 +19,7 @@ use Rattle.zk_queue.specs.Open.{Open, line, run, marks_of, IsAbove}
 use Rattle.zk_work.specs.Tickets.{tickets}
 
 -- what the engine keeps: the ticks, the entries and the admissions so far, how many runs are open, the queue of each item's last admission, the open admissions, the items that are armed, the waits that aren't answered, and the queues
-pub record Kept : Type 0 where
+pub record EngineState : Type 0 where
   pub time : ℕ
   pub entries : ℕ
   pub made : ℕ
@@ -31,12 +31,12 @@ pub record Kept : Type 0 where
   pub queues : List Queue
 
 -- what a contract sees of the engine: what it keeps, and how many changes it takes without memory
-pub record Held : Type 0 where
-  pub kept : Kept
+pub record EngineView : Type 0 where
+  pub state : EngineState
   pub room : ℕ
 
 -- the queue of the item's last admission
-abbrev pub last_of : Kept → ℕ → Option ℕ
+abbrev pub last_of : EngineState → ℕ → Option ℕ
 last_of k item = slice_index_or k.last item None
 
 -- the admission of this number was made, and waits no longer
@@ -89,7 +89,7 @@ abbrev pub timeouts_of : List Arm → List Timeout
 timeouts_of arms = by_key (λ t. t.deadline) (live_of arms)
 
 -- what holds of all that the engine keeps
-pub record IsWhole (k : Kept) : Type 0 where
+pub record IsWhole (k : EngineState) : Type 0 where
   pub counted : IsCounted k.entries k.queues
   pub timed : IsTimed k.time k.entries
   -- each entry makes an admission or arms an item at most, and an item that is armed may still become an admission
@@ -105,27 +105,36 @@ pub record IsWhole (k : Kept) : Type 0 where
   pub busy : (queue : ℕ) (t : Ticket) → run k.active queue ≡ Some t → 0 < k.running
   pub known : (queue : ℕ) (t : Ticket) → run k.active queue ≡ Some t → t.item < k.active.items
 
+-- what is kept of the admissions is what answers need of all that were made
+pub record StandsForAdmissions (next open_runs : ℕ) (homes : List (Option ℕ)) (o : Open)
+    (known : ℕ) (admissions : List Admission) (found : List ℕ) : Type 0 where
+  pub items : o.items ≡ known
+  pub made : next ≡ length admissions
+  pub running : open_runs ≡ count_by (λ a. is_running a.life) admissions
+  pub last : (item : ℕ) → slice_index_or homes item None ≡ last_queue admissions item
+  -- each queue has the tickets of what waits for it, and of what it runs
+  pub lines : (queue : ℕ) → line o queue ≡ tickets (waits_for queue) admissions
+  pub runs : (queue : ℕ) → option_to_list (run o queue) ≡ tickets (runs_on queue) admissions
+  -- an item is marked where it is being cancelled
+  pub marks : (item : ℕ) →
+      marks_of o item ≡ record { cancelling = is_cancelling admissions found item; delayed = false; flushing = false }
+  pub sound : IsSound known admissions found
+
+-- the waits that are kept are those that aren't answered; and what each wait is for is there
+pub record StandsForWaits (kept : List Wait) (admissions : List Admission) (waits : List Wait) : Type 0 where
+  pub left : kept ≡ unanswered waits
+  pub there : All (λ w. is_there admissions w.awaited w.answered ≡ true) waits
+
 -- the engine stands for a state: what it keeps is what answers need of the state's lists
-pub record StandsFor (k : Kept) (s : State) : Type 0 where
+pub record StandsFor (k : EngineState) (s : State) : Type 0 where
   pub whole : IsWhole k
   pub time : k.time ≡ s.time
   pub entries : k.entries ≡ s.entries
-  pub items : k.active.items ≡ s.items
   pub queues : k.queues ≡ s.queues
   -- the live arms
   pub arms : k.timeouts.live ≡ timeouts_of s.arms
-  -- the waits that aren't answered; and what each wait is for is there
-  pub waits : k.waits ≡ unanswered s.waits
-  pub there : All (λ w. is_there s.admissions w.awaited w.answered ≡ true) s.waits
-  pub made : k.made ≡ length s.admissions
-  pub running : k.running ≡ count_by (λ a. is_running a.life) s.admissions
-  pub last : (item : ℕ) → last_of k item ≡ last_queue s.admissions item
-  -- each queue has the tickets of what waits for it, and of what it runs
-  pub lines : (queue : ℕ) → line k.active queue ≡ tickets (waits_for queue) s.admissions
-  pub runs : (queue : ℕ) → option_to_list (run k.active queue) ≡ tickets (runs_on queue) s.admissions
-  -- an item is marked where it is being cancelled
-  pub marks : (item : ℕ) → marks_of k.active item ≡ record { cancelling = is_cancelling s.admissions s.marks item; delayed = false; flushing = false }
-  pub sound : IsSound s.items s.admissions s.marks
+  pub waits : StandsForWaits k.waits s.admissions s.waits
+  pub admissions : StandsForAdmissions k.made k.running k.last k.active s.items s.admissions s.marks
 
 -- the entries still to come that end something: one for each run, and one for each wait that isn't answered
 abbrev pub work_owed : State → ℕ

@@ -1,25 +1,25 @@
--- After each operation the engine stands for the machine's next state.
+-- What a submission, a cancel, a begin and an end make of the open admissions, and so what the engine stands for then.
 use Rattle.zk_base.specs.declared.ids.Who.{Who}
 use Rattle.std.proofs.Common.{◌≡◌, ℕ, zero, suc, ◌+◌, ◌-◌, ◌^◌, ◌<◌, ◌≤◌, ◌⊎◌, inl, inr, ◌≢◌, Bool, true, false, not, ◌&&◌, cond, eqb, ◌==◌, Option, Some, None, is_some, option_map, option_to_list, List, [], ◌∷◌, ◌++◌, length, length-append, map, get_or, set, slice_get, count_by, All, refl, sym, ap, subst, ◌∙◌, arith}
 use Rattle.std.specs.Cmp.{first_so, second_so}
 use Rattle.std.proofs.Math.ListN.{get_or-map}
-use Rattle.std.proofs.lemmas.Bool.{eqb-true, eq-eqb, false≢true}
+use Rattle.std.proofs.lemmas.Bool.{eqb-true, eq-eqb, false≢true, and_right, and_from}
 use Rattle.std.proofs.lemmas.Bool.Decides.{eqb_tells}
 use Rattle.std.proofs.lemmas.List.{get_or-set_same, get_or-set_other, length-set, length-map, append-nil}
-use Rattle.std.proofs.lemmas.List.Elements.{All-set, All-append, All-cons, All-nil, All-weaker, filter-append}
+use Rattle.std.proofs.lemmas.List.Elements.{All-set, All-append, All-cons, All-nil, All-weaker}
 use Rattle.std.proofs.lemmas.List.Sums.{count_by-le-length}
 use Rattle.std.proofs.lemmas.Option.{slice_get-map, same_Some}
 use Rattle.zk_model_work.specs.declared.parts.Life.TheVariants.{Waiting, Running, Ended}
 use Rattle.zk_model_work.specs.declared.parts.Admission.{Admission}
 use Rattle.zk_model_work.specs.declared.parts.Queue.{Queue}
-use Rattle.zk_model_work.specs.declared.parts.Change.{Change}
 use Rattle.zk_model_work.specs.declared.parts.Awaited.TheVariants.{Drain}
 use Rattle.zk_model_work.specs.declared.parts.Wait.{Wait}
 use Rattle.zk_model_work.specs.Lists.{first}
-use Rattle.zk_model_work.specs.Questions.{is_waiting, is_running, waits_as, runs_as, waits_for, runs_on, running, last_queue, line, run, is_empty_and_idle, is_cancelling}
+use Rattle.zk_model_work.specs.Questions.{is_waiting, is_running, waits_as, runs_as, waits_for, runs_on, running, last_queue, line, run, is_empty_and_idle, is_cancelling, item_of as machine_item}
+use Rattle.zk_model_work.specs.Answers.{drain_wait, drained_of, wait_for}
+use Rattle.zk_model_work.specs.Machine.{with_life, set_life, drop_one, end_one, settle_from, end, cancel, drain, drain_start, awaiting}
 use Rattle.zk_model_work.specs.State.{State}
-use Rattle.zk_model_work.specs.Machine.{with_life, set_life, drop_one, end_one, settle_from, end, cancel, change, drain, drain_start, drain_wait, drained_of, wait_for, awaiting}
-use Rattle.zk_model_work.proofs.Counts.{IsTimed-more, IsCounted-more, IsCounted-settled, IsCounted-changed, IsCounted-drain, length-settle_from, length-change, length-drain}
+use Rattle.zk_model_work.proofs.Counts.{IsTimed-more, IsCounted-more, IsCounted-settled, length-settle_from}
 use Rattle.zk_model_work.proofs.Lives.{open-running}
 use Rattle.zk_model_work.proofs.Overlaps.{Admits}
 use Rattle.zk_queue.specs.declared.ticket.Ticket.{Ticket}
@@ -27,17 +27,17 @@ use Rattle.zk_queue.specs.Line.{without}
 use Rattle.zk_queue.specs.Open as active
 use Rattle.zk_queue.specs.Open.{Open, IsAbove}
 use Rattle.zk_queue.proofs.Numbers.{IsAbove-drop}
-use Rattle.zk_work.specs.Kept.{Kept, IsSound, IsWhole, StandsFor, unanswered, is_there}
+use Rattle.zk_work.specs.EngineState.{EngineState, IsSound, IsWhole, StandsFor, is_there}
 use Rattle.zk_work.specs.Tickets.{tickets}
 use Rattle.zk_work.specs.Engine.{admitted, cancelled, settled, drained}
-use Rattle.zk_work.specs.Engine as engine
 use Rattle.zk_work.proofs.Tickets.{ticket, first_stands, Stands, tickets-push, tickets-map, tickets-map_none, tickets-one, count-push, count-map, count-some}
 use Rattle.zk_work.proofs.Changes.{is_nil, length-nil, idle-tickets, without-drop, without-begin, runs-begin, runs-begin_other, runs_on-drop, runs_on-end, runs_on-end_other, running-drop, running-begin, running-end, waits_for-end, item-drop, queue-drop, item-end, queue-end}
-use Rattle.zk_work.proofs.Homes.{last-push, last-map, last-set_life}
+use Rattle.zk_work.proofs.LastQueues.{last-push, last-map, last-set_life}
 use Rattle.zk_work.proofs.Cancelling.{remarked, cancelling-push, cancelling-begin, cancelling-end_other, cancelling-none, cancelling-cancel, cancelling-cancel_none, cancelling-cancel_other}
 use Rattle.zk_work.proofs.Sound.{IsSound-push, IsSound-cancel, IsSound-end, IsSound-begin}
 use Rattle.zk_work.proofs.Replies.{runs_item}
-use Rattle.zk_work.proofs.There.{AllThere, there-later, Later-push, Later-drop, Later-begin, Later-end}
+use Rattle.zk_work.proofs.Beside.{drains-stand, wait-stands}
+use Rattle.zk_work.proofs.Awaited.{there-later, Later-push, Later-drop, Later-begin, Later-end}
 
 abbrev Same : ℕ → ℕ → Type 0
 Same i j = ((eqb i j ≡ true) × (i ≡ j)) ⊎ ((eqb i j ≡ false) × (i ≢ j))
@@ -81,7 +81,7 @@ idle-same o xs queue line run =
       none (Some t) b = refl
 
 -- what the engine keeps is whole after an admission, for which there is an entry
-pub admitted-whole : (k : Kept) (item queue : ℕ) → IsWhole k → queue < k.active.queues → k.made + length k.timeouts.live < k.entries → IsWhole (admitted k item queue)
+pub admitted-whole : (k : EngineState) (item queue : ℕ) → IsWhole k → queue < k.active.queues → k.made + length k.timeouts.live < k.entries → IsWhole (admitted k item queue)
 admitted-whole k item queue w queue_in room =
     let fewest = w.fewest in
     let shaped_lines = w.shaped.lines in
@@ -109,14 +109,14 @@ admitted-whole k item queue w queue_in room =
           All-set (All P) k.active.lines queue (active.line k.active queue ++ t ∷ []) (All-append P (active.line k.active queue) (t ∷ []) (old queue [] within) (All-cons P t [] (omega arith) (All-nil P))) old
 
 -- a submission that admits
-pub admitted-stands : (k : Kept) (s : State) (item queue : ℕ) (named : Option ℕ) → StandsFor k s → Admits s.admissions s.marks item named queue → item < s.items → queue < length s.queues → k.made + length k.timeouts.live < k.entries →
+pub admitted-stands : (k : EngineState) (s : State) (item queue : ℕ) (named : Option ℕ) → StandsFor k s → Admits (machine_item s.admissions s.marks item) named queue → item < s.items → queue < length s.queues → k.made + length k.timeouts.live < k.entries →
     StandsFor (admitted k item queue) (record s { admissions = s.admissions ++ record { item = item; queue = queue; life = Waiting } ∷ [] })
 admitted-stands k s item queue named st admits item_in queue_in room =
     let w = st.whole in
-    let items = st.items in
+    let items = st.admissions.items in
     let lasts = w.items in
-    let made = st.made in
-    let running = st.running in
+    let made = st.admissions.made in
+    let running = st.admissions.running in
     let shaped_lines = w.shaped.lines in
     let all_queues = w.queues in
     let queues = ap length st.queues in
@@ -124,18 +124,22 @@ admitted-stands k s item queue named st admits item_in queue_in room =
       whole = admitted-whole k item queue w (omega arith) room;
       time = st.time;
       entries = st.entries;
-      items = st.items;
       queues = st.queues;
       arms = st.arms;
-      waits = st.waits;
-      there = there-later xs (xs ++ a ∷ []) s.waits (Later-push xs a) st.there;
-      made = (let long = length-append xs (a ∷ []) in omega arith);
-      running = (let more = count-push (λ (a : Admission). is_running a.life) xs a in omega arith);
-      last = λ i. last i (eqb_tells item i) (omega arith);
-      lines = λ q. lines q (eqb_tells queue q) (omega arith);
-      runs = λ q. st.runs q ∙ sym (tickets-push 0 (runs_on q) xs a ∙ ap (λ b. tickets (runs_on q) xs ++ cond b (ticket a (0 + length xs) ∷ []) []) (second_false (queue == q)) ∙ append-nil (tickets (runs_on q) xs));
-      marks = λ i. st.marks i ∙ ap (λ b. record { cancelling = b; delayed = false; flushing = false }) (sym (cancelling-push xs s.marks item queue i));
-      sound = IsSound-push s.items xs s.marks item named queue admits item_in st.sound;
+      waits = record {
+        left = st.waits.left;
+        there = there-later xs (xs ++ a ∷ []) s.waits (Later-push xs a) st.waits.there;
+      };
+      admissions = record {
+        items = st.admissions.items;
+        made = (let long = length-append xs (a ∷ []) in omega arith);
+        running = (let more = count-push (λ (a : Admission). is_running a.life) xs a in omega arith);
+        last = λ i. last i (eqb_tells item i) (omega arith);
+        lines = λ q. lines q (eqb_tells queue q) (omega arith);
+        runs = λ q. st.admissions.runs q ∙ sym (tickets-push 0 (runs_on q) xs a ∙ ap (λ b. tickets (runs_on q) xs ++ cond b (ticket a (0 + length xs) ∷ []) []) (and_right (queue == q) false refl) ∙ append-nil (tickets (runs_on q) xs));
+        marks = λ i. st.admissions.marks i ∙ ap (λ b. record { cancelling = b; delayed = false; flushing = false }) (sym (cancelling-push xs s.marks item queue i));
+        sound = IsSound-push s.items xs s.marks item named queue admits item_in st.admissions.sound;
+      };
     } where
       xs : List Admission
       xs = s.admissions
@@ -143,211 +147,47 @@ admitted-stands k s item queue named st admits item_in queue_in room =
       a : Admission
       a = record { item = item; queue = queue; life = Waiting }
 
-      second_false : (b : Bool) → (b && false) ≡ false
-      second_false true = refl
-      second_false false = refl
-
       last : (i : ℕ) → Same item i → item < length k.last → get_or (set k.last item (Some queue)) i None ≡ last_queue (xs ++ a ∷ []) i
       last i (inl same) within =
           subst (λ j. get_or (set k.last item (Some queue)) j None ≡ last_queue (xs ++ a ∷ []) j) same.1
           (get_or-set_same k.last item (Some queue) None within ∙ sym (last-push item xs a ∙ ap (λ b. cond b (Some queue) (last_queue xs item)) (eq-eqb item item refl)))
       last i (inr differ) within =
-          get_or-set_other k.last item i (Some queue) None (λ e. differ.1 (sym e)) ∙ st.last i ∙ sym (last-push i xs a ∙ ap (λ b. cond b (Some queue) (last_queue xs i)) differ.0)
+          get_or-set_other k.last item i (Some queue) None (λ e. differ.1 (sym e)) ∙ st.admissions.last i ∙ sym (last-push i xs a ∙ ap (λ b. cond b (Some queue) (last_queue xs i)) differ.0)
 
       lines : (q : ℕ) → Same queue q → queue < length k.active.lines → active.line (active.admit k.active item queue k.made) q ≡ tickets (waits_for q) (xs ++ a ∷ [])
       lines q (inl same) within =
           subst (λ p. active.line (active.admit k.active item queue k.made) p ≡ tickets (waits_for p) (xs ++ a ∷ [])) same.1
           (get_or-set_same k.active.lines queue (active.line k.active queue ++ record { item = item; number = k.made } ∷ []) [] within
-          ∙ ap (λ (ts : List Ticket). ts ++ record { item = item; number = k.made } ∷ []) (st.lines queue)
-          ∙ ap (λ n. tickets (waits_for queue) xs ++ record { item = item; number = n } ∷ []) (let made = st.made in omega arith)
+          ∙ ap (λ (ts : List Ticket). ts ++ record { item = item; number = k.made } ∷ []) (st.admissions.lines queue)
+          ∙ ap (λ n. tickets (waits_for queue) xs ++ record { item = item; number = n } ∷ []) (let made = st.admissions.made in omega arith)
           ∙ sym (tickets-push 0 (waits_for queue) xs a ∙ ap (λ b. tickets (waits_for queue) xs ++ cond (b && true) (ticket a (0 + length xs) ∷ []) []) (eq-eqb queue queue refl)))
       lines q (inr differ) within =
-          get_or-set_other k.active.lines queue q _ [] (λ e. differ.1 (sym e)) ∙ st.lines q
+          get_or-set_other k.active.lines queue q _ [] (λ e. differ.1 (sym e)) ∙ st.admissions.lines q
           ∙ sym (tickets-push 0 (waits_for q) xs a ∙ ap (λ b. tickets (waits_for q) xs ++ cond (b && true) (ticket a (0 + length xs) ∷ []) []) differ.0 ∙ append-nil (tickets (waits_for q) xs))
 
--- an entry that changes nothing else
-pub counted-stands : (k : Kept) (s : State) → StandsFor k s → s.entries < 2 ^ 32 - 1 → StandsFor (record k { entries = k.entries + 1 }) (record s { entries = s.entries + 1 })
-counted-stands k s st few =
-    let w = st.whole in
-    let entries = st.entries in
-    let fewer = w.fewer in
-    record {
-      whole = record {
-        counted = IsCounted-more k.entries k.queues w.counted (omega arith);
-        timed = IsTimed-more k.time k.entries w.timed;
-        fewer = omega arith;
-        fewest = w.fewest;
-        items = w.items;
-        armed = w.armed;
-        ordered = w.ordered;
-        queues = w.queues;
-        shaped = w.shaped;
-        above = w.above;
-        busy = w.busy;
-        known = w.known;
-      };
-      time = st.time;
-      entries = ap (λ n. n + 1) st.entries;
-      items = st.items;
-      queues = st.queues;
-      arms = st.arms;
-      waits = st.waits;
-      there = st.there;
-      made = st.made;
-      running = st.running;
-      last = st.last;
-      lines = st.lines;
-      runs = st.runs;
-      marks = st.marks;
-      sound = st.sound;
-    }
-
--- a change of a queue
-pub change-stands : (c : Change) (k : Kept) (s : State) (queue : ℕ) → StandsFor k s → s.entries < 2 ^ 32 - 1 →
-    StandsFor (record k { queues = change c k.queues queue; entries = k.entries + 1 }) (record s { queues = change c s.queues queue; entries = s.entries + 1 })
-change-stands c k s queue st few =
-    let w = st.whole in
-    let entries = st.entries in
-    let fewer = w.fewer in
-    record {
-      whole = record {
-        counted = IsCounted-changed c k.entries queue k.queues w.counted (omega arith);
-        timed = IsTimed-more k.time k.entries w.timed;
-        fewer = omega arith;
-        fewest = w.fewest;
-        items = w.items;
-        armed = w.armed;
-        ordered = w.ordered;
-        queues = length-change c k.queues queue ∙ w.queues;
-        shaped = w.shaped;
-        above = w.above;
-        busy = w.busy;
-        known = w.known;
-      };
-      time = st.time;
-      entries = ap (λ n. n + 1) st.entries;
-      items = st.items;
-      queues = ap (λ (qs : List Queue). change c qs queue) st.queues;
-      arms = st.arms;
-      waits = st.waits;
-      there = st.there;
-      made = st.made;
-      running = st.running;
-      last = st.last;
-      lines = st.lines;
-      runs = st.runs;
-      marks = st.marks;
-      sound = st.sound;
-    }
-
--- what holds of all waits, after one more
-there-more : (xs : List Admission) (ws : List Wait) (o : Option Wait) → ((w : Wait) → o ≡ Some w → is_there xs w.awaited w.answered ≡ true) → AllThere xs ws → AllThere xs (awaiting ws o)
-there-more xs ws None here all = let P : Wait → Type 0 = λ w. is_there xs w.awaited w.answered ≡ true in All-append P ws [] all (All-nil P)
-there-more xs ws (Some w) here all = let P : Wait → Type 0 = λ w. is_there xs w.awaited w.answered ≡ true in All-append P ws (w ∷ []) all (All-cons P w [] (here w refl) (All-nil P))
-
--- one wait more, which isn't answered
-unanswered-more : (ws : List Wait) (o : Option Wait) → ((w : Wait) → o ≡ Some w → w.answered ≡ false) → awaiting (unanswered ws) o ≡ unanswered (awaiting ws o)
-unanswered-more ws None still = append-nil (unanswered ws) ∙ sym (ap unanswered (append-nil ws))
-unanswered-more ws (Some w) still =
-    sym (filter-append (λ (w : Wait). not w.answered) ws (w ∷ []) ∙ ap (λ b. unanswered ws ++ cond (not b) (w ∷ []) []) (still w refl))
-
--- one wait more
-pub waits-stand : (o : Option Wait) (k : Kept) (s : State) → StandsFor k s → ((w : Wait) → o ≡ Some w → w.answered ≡ false) → ((w : Wait) → o ≡ Some w → is_there s.admissions w.awaited w.answered ≡ true) →
-    StandsFor (record k { waits = awaiting k.waits o }) (record s { waits = awaiting s.waits o })
-waits-stand o k s st still there =
-    let w = st.whole in
-    record {
-      whole = record {
-        counted = w.counted;
-        timed = w.timed;
-        fewer = w.fewer;
-        fewest = w.fewest;
-        items = w.items;
-        armed = w.armed;
-        ordered = w.ordered;
-        queues = w.queues;
-        shaped = w.shaped;
-        above = w.above;
-        busy = w.busy;
-        known = w.known;
-      };
-      time = st.time;
-      entries = st.entries;
-      items = st.items;
-      queues = st.queues;
-      arms = st.arms;
-      waits = ap (λ (ws : List Wait). awaiting ws o) st.waits ∙ unanswered-more s.waits o still;
-      there = there-more s.admissions s.waits o there st.there;
-      made = st.made;
-      running = st.running;
-      last = st.last;
-      lines = st.lines;
-      runs = st.runs;
-      marks = st.marks;
-      sound = st.sound;
-    }
-
--- the queues after the start of a drain
-drains-stand : (idle plug : Bool) (k : Kept) (s : State) (queue : ℕ) → StandsFor k s → s.entries < 2 ^ 32 - 1 →
-    StandsFor (record k { queues = drain idle plug k.queues queue; entries = k.entries + 1 }) (record s { queues = drain idle plug s.queues queue; entries = s.entries + 1 })
-drains-stand idle plug k s queue st few =
-    let wh = st.whole in
-    let entries = st.entries in
-    let fewer = wh.fewer in
-    record {
-      whole = record {
-        counted = IsCounted-more k.entries (drain idle plug k.queues queue) (IsCounted-drain idle plug k.entries queue k.queues wh.counted) (omega arith);
-        timed = IsTimed-more k.time k.entries wh.timed;
-        fewer = omega arith;
-        fewest = wh.fewest;
-        items = wh.items;
-        armed = wh.armed;
-        ordered = wh.ordered;
-        queues = length-drain idle plug k.queues queue ∙ wh.queues;
-        shaped = wh.shaped;
-        above = wh.above;
-        busy = wh.busy;
-        known = wh.known;
-      };
-      time = st.time;
-      entries = ap (λ n. n + 1) st.entries;
-      items = st.items;
-      queues = ap (λ (qs : List Queue). drain idle plug qs queue) st.queues;
-      arms = st.arms;
-      waits = st.waits;
-      there = st.there;
-      made = st.made;
-      running = st.running;
-      last = st.last;
-      lines = st.lines;
-      runs = st.runs;
-      marks = st.marks;
-      sound = st.sound;
-    }
-
 -- the wait of a drain isn't answered, and needs nothing to be there
-drain_wait-new : (idle : Bool) (s : State) (who : Who) (queue : ℕ) (w : Wait) → drain_wait idle s who queue ≡ Some w → (w.answered ≡ false) × (is_there s.admissions w.awaited w.answered ≡ true)
+drain_wait-new : (idle : Bool) (s : State) (who : Who) (queue : ℕ) (w : Wait) →
+    drain_wait idle s.entries s.queues who queue ≡ Some w → (w.answered ≡ false) × (is_there s.admissions w.awaited w.answered ≡ true)
 drain_wait-new true s who queue w is = absurd (cc)
 drain_wait-new false s who queue w is =
     let same = same_Some (wait_for s.entries who (Drain queue (drained_of s.queues queue))) w is in
     (sym (ap (λ (v : Wait). v.answered) same), subst (λ (v : Wait). is_there s.admissions v.awaited v.answered ≡ true) same refl)
 
 -- the start of a drain
-pub drain-stands : (k : Kept) (s : State) (who : Who) (queue : ℕ) (plug : Bool) → StandsFor k s → s.entries < 2 ^ 32 - 1 →
+pub drain-stands : (k : EngineState) (s : State) (who : Who) (queue : ℕ) (plug : Bool) → StandsFor k s → s.entries < 2 ^ 32 - 1 →
     StandsFor (record (drained k who queue plug) { entries = k.entries + 1 }) (record (drain_start s who queue plug) { entries = s.entries + 1 })
 drain-stands k s who queue plug st few =
-    let idle = idle-same k.active s.admissions queue (st.lines queue) (st.runs queue) in
+    let idle = idle-same k.active s.admissions queue (st.admissions.lines queue) (st.admissions.runs queue) in
     let i = is_empty_and_idle s.admissions queue in
     let new = drain_wait-new i s who queue in
     let S : State = record (drain_start s who queue plug) { entries = s.entries + 1 } in
-    let T : Bool → Option Wait → Kept = λ b o. record k { queues = drain b plug k.queues queue; waits = awaiting k.waits o; entries = k.entries + 1 } in
-    let wait : engine.drain_wait (active.is_idle k.active queue) k who queue ≡ drain_wait i s who queue =
-    ap (λ b. cond b None (Some (wait_for k.entries who (Drain queue (drained_of k.queues queue))))) idle
-    ∙ ap (λ n. cond i None (Some (wait_for n who (Drain queue (drained_of k.queues queue))))) st.entries
-    ∙ ap (λ (qs : List Queue). cond i None (Some (wait_for s.entries who (Drain queue (drained_of qs queue))))) st.queues in
+    let T : Bool → Option Wait → EngineState = λ b o. record k { queues = drain b plug k.queues queue; waits = awaiting k.waits o; entries = k.entries + 1 } in
+    let wait : drain_wait (active.is_idle k.active queue) k.entries k.queues who queue ≡ drain_wait i s.entries s.queues who queue =
+    ap (λ b. drain_wait b k.entries k.queues who queue) idle ∙ ap (λ n. drain_wait i n k.queues who queue) st.entries
+    ∙ ap (λ (qs : List Queue). drain_wait i s.entries qs who queue) st.queues in
     subst (λ o. StandsFor (T (active.is_idle k.active queue) o) S) (sym wait)
-    (subst (λ b. StandsFor (T b (drain_wait i s who queue)) S) (sym idle)
-    (waits-stand (drain_wait i s who queue) (record k { queues = drain i plug k.queues queue; entries = k.entries + 1 }) (record s { queues = drain i plug s.queues queue; entries = s.entries + 1 })
+    (subst (λ b. StandsFor (T b (drain_wait i s.entries s.queues who queue)) S) (sym idle)
+    (wait-stands (drain_wait i s.entries s.queues who queue) (record k { queues = drain i plug k.queues queue; entries = k.entries + 1 }) (record s { queues = drain i plug s.queues queue; entries = s.entries + 1 })
     (drains-stand i plug k s queue st few) (λ w is. (new w is).0) (λ w is. (new w is).1)))
 
 kept-cond : {A B : Type 0} (f : A → B) (b : Bool) (x y : A) → f x ≡ f y → f (cond b x y) ≡ f y
@@ -359,13 +199,13 @@ same-cancelled : {B : Type 0} (f : Open → B) (o : Open) (item : ℕ) → f (ac
 same-cancelled f o item same = kept-cond f (active.is_running o item) (active.mark (active.drop_item o item) item 2) (active.drop_item o item) same
 
 -- a cancel, but for the arms
-pub cancel-stands : (k : Kept) (s : State) (item : ℕ) → StandsFor k s → item < s.items → s.entries < 2 ^ 32 - 1 →
+pub cancel-stands : (k : EngineState) (s : State) (item : ℕ) → StandsFor k s → item < s.items → s.entries < 2 ^ 32 - 1 →
     StandsFor (record (settled k (cancelled k.active item)) { entries = k.entries + 1 }) (record (cancel s item) { arms = s.arms; entries = s.entries + 1 })
 cancel-stands k s item st item_in few =
     let w = st.whole in
     let entries = st.entries in
     let fewer = w.fewer in
-    let items = st.items in
+    let items = st.admissions.items in
     let marks_long = w.shaped.marks in
     record {
       whole = record {
@@ -388,18 +228,22 @@ cancel-stands k s item st item_in few =
       };
       time = st.time;
       entries = ap (λ n. n + 1) st.entries;
-      items = o_items ∙ st.items;
       queues = ap (settle_from (active.is_idle o) 0) st.queues ∙ settle-same (active.is_idle o) (is_empty_and_idle ys) 0 s.queues (λ q. idle-same o ys q (lines q) (runs q));
       arms = st.arms;
-      waits = st.waits;
-      there = there-later xs ys s.waits (Later-drop item xs) st.there;
-      made = st.made ∙ sym (length-map xs (drop_one item));
-      running = st.running ∙ sym (count-map (λ (a : Admission). is_running a.life) (drop_one item) xs (running-drop item));
-      last = λ i. st.last i ∙ sym (last-map i (drop_one item) xs (item-drop item) (queue-drop item));
-      lines = lines;
-      runs = runs;
-      marks = λ i. marks i (active.is_running k.active item) refl (eqb_tells i item) (omega arith);
-      sound = IsSound-cancel s.items xs s.marks item st.sound;
+      waits = record {
+        left = st.waits.left;
+        there = there-later xs ys s.waits (Later-drop item xs) st.waits.there;
+      };
+      admissions = record {
+        items = o_items ∙ st.admissions.items;
+        made = st.admissions.made ∙ sym (length-map xs (drop_one item));
+        running = st.admissions.running ∙ sym (count-map (λ (a : Admission). is_running a.life) (drop_one item) xs (running-drop item));
+        last = λ i. st.admissions.last i ∙ sym (last-map i (drop_one item) xs (item-drop item) (queue-drop item));
+        lines = lines;
+        runs = runs;
+        marks = λ i. marks i (active.is_running k.active item) refl (eqb_tells i item) (omega arith);
+        sound = IsSound-cancel s.items xs s.marks item st.admissions.sound;
+      };
     } where
       xs : List Admission
       xs = s.admissions
@@ -428,12 +272,12 @@ cancel-stands k s item st item_in few =
 
       lines : (q : ℕ) → active.line o q ≡ tickets (waits_for q) ys
       lines q =
-          ap (λ (ls : List (List Ticket)). get_or ls q []) o_lines ∙ line-drop k.active item q ∙ ap (without item) (st.lines q)
-          ∙ without-drop item q 0 xs (st.sound.once item)
+          ap (λ (ls : List (List Ticket)). get_or ls q []) o_lines ∙ line-drop k.active item q ∙ ap (without item) (st.admissions.lines q)
+          ∙ without-drop item q 0 xs (st.admissions.sound.once item)
 
       runs : (q : ℕ) → option_to_list (active.run o q) ≡ tickets (runs_on q) ys
       runs q =
-          ap (λ (rs : List (Option Ticket)). option_to_list (get_or rs q None)) o_runs ∙ st.runs q
+          ap (λ (rs : List (Option Ticket)). option_to_list (get_or rs q None)) o_runs ∙ st.admissions.runs q
           ∙ sym (tickets-map 0 (runs_on q) (drop_one item) xs (runs_on-drop item q) (item-drop item))
 
       marks : (i : ℕ) (b : Bool) → active.is_running k.active item ≡ b → Same i item → item < length k.active.marks →
@@ -444,11 +288,11 @@ cancel-stands k s item st item_in few =
           (get_or-set_same k.active.marks item (active.marks_in 2) active.unmarked within
           ∙ ap (λ b. record { cancelling = b; delayed = false; flushing = false }) (sym (cancelling-cancel xs s.marks item some)))
       marks i true runs (inr differ) within =
-          get_or-set_other k.active.marks item i (active.marks_in 2) active.unmarked differ.1 ∙ st.marks i
+          get_or-set_other k.active.marks item i (active.marks_in 2) active.unmarked differ.1 ∙ st.admissions.marks i
           ∙ ap (λ b. record { cancelling = b; delayed = false; flushing = false }) (sym (cancelling-cancel_other xs s.marks item i differ.1))
       marks i false runs which within =
           let none : is_some (running xs item) ≡ false = sym (runs_item k s st item) ∙ runs in
-          st.marks i ∙ ap (λ b. record { cancelling = b; delayed = false; flushing = false }) (sym (cancelling-cancel_none xs s.marks item i none))
+          st.admissions.marks i ∙ ap (λ b. record { cancelling = b; delayed = false; flushing = false }) (sym (cancelling-cancel_none xs s.marks item i none))
 
 length-taken : (xs : List Admission) (n : ℕ) → length (set_life xs n Running) ≡ length xs
 length-taken [] n = refl
@@ -456,15 +300,15 @@ length-taken (x ∷ xs) zero = refl
 length-taken (x ∷ xs) (suc n) = ap suc (length-taken xs n)
 
 -- a begin of the lowest of a line, where nothing runs
-pub begin-stands : (k : Kept) (s : State) (queue : ℕ) (t : Ticket) → StandsFor k s → queue < length s.queues → s.entries < 2 ^ 32 - 1 → active.run k.active queue ≡ None → first (active.line k.active queue) ≡ Some t →
+pub begin-stands : (k : EngineState) (s : State) (queue : ℕ) (t : Ticket) → StandsFor k s → queue < length s.queues → s.entries < 2 ^ 32 - 1 → active.run k.active queue ≡ None → first (active.line k.active queue) ≡ Some t →
     StandsFor (record k { active = active.begun k.active queue t; running = k.running + 1; entries = k.entries + 1 })
     (record s { admissions = set_life s.admissions t.number Running; entries = s.entries + 1 })
 begin-stands k s queue t st queue_in few idle lowest =
     let w = st.whole in
     let entries = st.entries in
     let fewer = w.fewer in
-    let made = st.made in
-    let running = st.running in
+    let made = st.admissions.made in
+    let running = st.admissions.running in
     let all_queues = w.queues in
     let queues = ap length st.queues in
     let runs_long = w.shaped.runs in
@@ -472,7 +316,7 @@ begin-stands k s queue t st queue_in few idle lowest =
     let more : count_by (λ (a : Admission). is_running a.life) ys ≡ count_by (λ (a : Admission). is_running a.life) xs + 1 = running-begin xs t.number a there waits in
     let most = count_by-le-length (λ (a : Admission). is_running a.life) ys in
     let long : length ys ≡ length xs = length-taken xs t.number in
-    let sound = IsSound-begin s.items xs s.marks t.number a there waits st.sound in
+    let sound = IsSound-begin s.items xs s.marks t.number a there waits st.admissions.sound in
     let new_running : k.running + 1 ≡ count_by (λ (a : Admission). is_running a.life) ys = omega arith in
     let it : (q : ℕ) (u : Ticket) → active.run (active.begun k.active queue t) q ≡ Some u → RunsIt s.items ys u =
     λ q u is. runs_it s.items ys s.marks (active.run (active.begun k.active queue t) q) q u sound (runs q (eqb_tells q queue) within) is in
@@ -493,22 +337,26 @@ begin-stands k s queue t st queue_in few idle lowest =
         };
         above = IsAbove-drop k.made t.item k.active w.above;
         busy = λ q u is. let some = (it q u is).some in omega arith;
-        known = λ q u is. let known = (it q u is).known in let items = st.items in omega arith;
+        known = λ q u is. let known = (it q u is).known in let items = st.admissions.items in omega arith;
       };
       time = st.time;
       entries = ap (λ n. n + 1) st.entries;
-      items = st.items;
       queues = st.queues;
       arms = st.arms;
-      waits = st.waits;
-      there = there-later xs ys s.waits (Later-begin xs t.number a there waits) st.there;
-      made = omega arith;
-      running = new_running;
-      last = λ i. st.last i ∙ sym (last-set_life i xs t.number Running);
-      lines = λ q. line-drop k.active t.item q ∙ ap (without t.item) (st.lines q) ∙ sym (without-begin t.item q 0 xs t.number a there waits_as_item (st.sound.once t.item));
-      runs = λ q. runs q (eqb_tells q queue) within;
-      marks = λ i. st.marks i ∙ ap (λ b. record { cancelling = b; delayed = false; flushing = false }) (sym (cancelling-begin xs s.marks t.number i a there waits st.sound.marked));
-      sound = sound;
+      waits = record {
+        left = st.waits.left;
+        there = there-later xs ys s.waits (Later-begin xs t.number a there waits) st.waits.there;
+      };
+      admissions = record {
+        items = st.admissions.items;
+        made = omega arith;
+        running = new_running;
+        last = λ i. st.admissions.last i ∙ sym (last-set_life i xs t.number Running);
+        lines = λ q. line-drop k.active t.item q ∙ ap (without t.item) (st.admissions.lines q) ∙ sym (without-begin t.item q 0 xs t.number a there waits_as_item (st.admissions.sound.once t.item));
+        runs = λ q. runs q (eqb_tells q queue) within;
+        marks = λ i. st.admissions.marks i ∙ ap (λ b. record { cancelling = b; delayed = false; flushing = false }) (sym (cancelling-begin xs s.marks t.number i a there waits st.admissions.sound.marked));
+        sound = sound;
+      };
     } where
       xs : List Admission
       xs = s.admissions
@@ -517,7 +365,7 @@ begin-stands k s queue t st queue_in few idle lowest =
       ys = set_life s.admissions t.number Running
 
       stands : Stands 0 (waits_for queue) xs t
-      stands = first_stands 0 (waits_for queue) xs t (ap first (sym (st.lines queue)) ∙ lowest)
+      stands = first_stands 0 (waits_for queue) xs t (ap first (sym (st.admissions.lines queue)) ∙ lowest)
 
       a : Admission
       a = stands.admission
@@ -531,15 +379,11 @@ begin-stands k s queue t st queue_in few idle lowest =
       on : a.queue ≡ queue
       on = eqb-true a.queue queue (first_so (eqb a.queue queue) (is_waiting a.life) stands.passes)
 
-      both : (b c : Bool) → b ≡ true → c ≡ true → (b && c) ≡ true
-      both true c is there = there
-      both false c is there = absurd (cc)
-
       waits_as_item : waits_as t.item a ≡ true
-      waits_as_item = both (eqb a.item t.item) (is_waiting a.life) (eq-eqb a.item t.item stands.item) waits
+      waits_as_item = and_from (eqb a.item t.item) (is_waiting a.life) (eq-eqb a.item t.item stands.item) waits
 
       none_runs : tickets (runs_on queue) xs ≡ []
-      none_runs = sym (st.runs queue) ∙ ap option_to_list idle
+      none_runs = sym (st.admissions.runs queue) ∙ ap option_to_list idle
 
       runs : (q : ℕ) → Same q queue → queue < length k.active.runs → option_to_list (active.run (active.begun k.active queue t) q) ≡ tickets (runs_on q) ys
       runs q (inl same) within =
@@ -549,22 +393,22 @@ begin-stands k s queue t st queue_in few idle lowest =
           ∙ ap (λ i. record { item = i; number = 0 + t.number } ∷ []) (sym stands.item)
           ∙ sym (runs-begin queue 0 xs t.number a there on none_runs))
       runs q (inr differ) within =
-          ap option_to_list (get_or-set_other k.active.runs queue q (Some t) None differ.1) ∙ st.runs q
+          ap option_to_list (get_or-set_other k.active.runs queue q (Some t) None differ.1) ∙ st.admissions.runs q
           ∙ sym (runs-begin_other q 0 xs t.number a there waits (not_same (eqb a.queue q) refl)) where
             not_same : (b : Bool) → eqb a.queue q ≡ b → b ≡ false
             not_same true is = absurd (differ.1 (sym (eqb-true a.queue q is) ∙ on))
             not_same false is = refl
 
 -- an end of what a queue runs
-pub end-stands : (k : Kept) (s : State) (queue : ℕ) (t : Ticket) → StandsFor k s → queue < length s.queues → s.entries < 2 ^ 32 - 1 → active.run k.active queue ≡ Some t →
+pub end-stands : (k : EngineState) (s : State) (queue : ℕ) (t : Ticket) → StandsFor k s → queue < length s.queues → s.entries < 2 ^ 32 - 1 → active.run k.active queue ≡ Some t →
     StandsFor (record (settled k (active.mark (active.end k.active queue) t.item 0)) { running = k.running - 1; entries = k.entries + 1 }) (record (end s queue) { entries = s.entries + 1 })
 end-stands k s queue t st queue_in few run =
     let w = st.whole in
     let entries = st.entries in
     let fewer = w.fewer in
     let fewest = w.fewest in
-    let running = st.running in
-    let items = st.items in
+    let running = st.admissions.running in
+    let items = st.admissions.items in
     let all_queues = w.queues in
     let queues = ap length st.queues in
     let runs_long = w.shaped.runs in
@@ -574,7 +418,7 @@ end-stands k s queue t st queue_in few run =
     let item_in : t.item < length k.active.marks = omega arith in
     let less : count_by (λ (a : Admission). is_running a.life) ys + length (tickets (runs_on queue) xs) ≡ count_by (λ (a : Admission). is_running a.life) xs = running-end queue 0 xs in
     let one : length (tickets (runs_on queue) xs) ≡ 1 = ap length one_run in
-    let sound = IsSound-end s.items xs s.marks queue st.sound in
+    let sound = IsSound-end s.items xs s.marks queue st.admissions.sound in
     let new_running : k.running - 1 ≡ count_by (λ (a : Admission). is_running a.life) ys = omega arith in
     let it : (q : ℕ) (u : Ticket) → active.run o q ≡ Some u → RunsIt s.items ys u =
     λ q u is. runs_it s.items ys s.marks (active.run o q) q u sound (runs q (eqb_tells q queue) within) is in
@@ -599,18 +443,22 @@ end-stands k s queue t st queue_in few run =
       };
       time = st.time;
       entries = ap (λ n. n + 1) st.entries;
-      items = st.items;
       queues = ap (settle_from (active.is_idle o) 0) st.queues ∙ settle-same (active.is_idle o) (is_empty_and_idle ys) 0 s.queues (λ q. idle-same o ys q (lines q) (runs q (eqb_tells q queue) within));
       arms = st.arms;
-      waits = st.waits;
-      there = there-later xs ys s.waits (Later-end queue xs) st.there;
-      made = st.made ∙ sym (length-map xs (end_one queue));
-      running = new_running;
-      last = λ i. st.last i ∙ sym (last-map i (end_one queue) xs (item-end queue) (queue-end queue));
-      lines = lines;
-      runs = λ q. runs q (eqb_tells q queue) within;
-      marks = λ i. marks i (eqb_tells i t.item) item_in;
-      sound = sound;
+      waits = record {
+        left = st.waits.left;
+        there = there-later xs ys s.waits (Later-end queue xs) st.waits.there;
+      };
+      admissions = record {
+        items = st.admissions.items;
+        made = st.admissions.made ∙ sym (length-map xs (end_one queue));
+        running = new_running;
+        last = λ i. st.admissions.last i ∙ sym (last-map i (end_one queue) xs (item-end queue) (queue-end queue));
+        lines = lines;
+        runs = λ q. runs q (eqb_tells q queue) within;
+        marks = λ i. marks i (eqb_tells i t.item) item_in;
+        sound = sound;
+      };
     } where
       xs : List Admission
       xs = s.admissions
@@ -622,17 +470,17 @@ end-stands k s queue t st queue_in few run =
       o = active.mark (active.end k.active queue) t.item 0
 
       one_run : tickets (runs_on queue) xs ≡ t ∷ []
-      one_run = sym (st.runs queue) ∙ ap option_to_list run
+      one_run = sym (st.admissions.runs queue) ∙ ap option_to_list run
 
       lines : (q : ℕ) → active.line o q ≡ tickets (waits_for q) ys
-      lines q = st.lines q ∙ sym (tickets-map 0 (waits_for q) (end_one queue) xs (waits_for-end queue q) (item-end queue))
+      lines q = st.admissions.lines q ∙ sym (tickets-map 0 (waits_for q) (end_one queue) xs (waits_for-end queue q) (item-end queue))
 
       runs : (q : ℕ) → Same q queue → queue < length k.active.runs → option_to_list (active.run o q) ≡ tickets (runs_on q) ys
       runs q (inl same) within =
           subst (λ p. option_to_list (active.run o p) ≡ tickets (runs_on p) ys) (sym same.1)
           (ap option_to_list (get_or-set_same k.active.runs queue None None within) ∙ sym (tickets-map_none 0 (runs_on queue) (end_one queue) xs (runs_on-end queue)))
       runs q (inr differ) within =
-          ap option_to_list (get_or-set_other k.active.runs queue q None None differ.1) ∙ st.runs q
+          ap option_to_list (get_or-set_other k.active.runs queue q None None differ.1) ∙ st.admissions.runs q
           ∙ sym (tickets-map 0 (runs_on q) (end_one queue) xs (λ a. runs_on-end_other queue q a differ.1) (item-end queue))
 
       stands : Stands 0 (runs_on queue) xs t
@@ -642,24 +490,18 @@ end-stands k s queue t st queue_in few run =
       over : (m : ℕ) (b : Admission) → slice_get ys m ≡ Some b → runs_as t.item b ≡ false
       over m b at = by (slice_get xs m) refl (sym (slice_get-map (end_one queue) xs m) ∙ at) where
         ends : (a : Admission) (c : Bool) → slice_get xs m ≡ Some a → runs_on queue a ≡ c → runs_as t.item (cond c (with_life Ended a) a) ≡ false
-        ends a true was is = second_false (eqb a.item t.item) where
-          second_false : (b : Bool) → (b && false) ≡ false
-          second_false true = refl
-          second_false false = refl
+        ends a true was is = and_right (eqb a.item t.item) false refl
         ends a false was is = not_so (runs_as t.item a) refl where
           not_so : (c : Bool) → runs_as t.item a ≡ c → c ≡ false
           not_so true runs_too =
               let item_is = eqb-true a.item t.item (first_so (eqb a.item t.item) (is_running a.life) runs_too) in
               let a_runs = second_so (eqb a.item t.item) (is_running a.life) runs_too in
-              let here = st.sound.home m a was (open-running a.life a_runs) in
-              let first_one = st.sound.home stands.place stands.admission stands.there (open-running stands.admission.life (second_so (eqb stands.admission.queue queue) (is_running stands.admission.life) stands.passes)) in
+              let here = st.admissions.sound.home m a was (open-running a.life a_runs) in
+              let first_one = st.admissions.sound.home stands.place stands.admission stands.there (open-running stands.admission.life (second_so (eqb stands.admission.queue queue) (is_running stands.admission.life) stands.passes)) in
               let same_item : a.item ≡ stands.admission.item = item_is ∙ sym stands.item in
               let same_queue : a.queue ≡ stands.admission.queue = same_Some a.queue stands.admission.queue (sym here ∙ ap (last_queue xs) same_item ∙ first_one) in
               let on : stands.admission.queue ≡ queue = eqb-true stands.admission.queue queue (first_so (eqb stands.admission.queue queue) (is_running stands.admission.life) stands.passes) in
-              absurd (false≢true (sym is ∙ both (eqb a.queue queue) (is_running a.life) (eq-eqb a.queue queue (same_queue ∙ on)) a_runs)) where
-                both : (b c : Bool) → b ≡ true → c ≡ true → (b && c) ≡ true
-                both true c is there = there
-                both false c is there = absurd (cc)
+              absurd (false≢true (sym is ∙ and_from (eqb a.queue queue) (is_running a.life) (eq-eqb a.queue queue (same_queue ∙ on)) a_runs))
           not_so false runs_too = refl
 
         by : (u : Option Admission) → slice_get xs m ≡ u → option_map (end_one queue) u ≡ Some b → runs_as t.item b ≡ false
@@ -673,7 +515,7 @@ end-stands k s queue t st queue_in few run =
           (get_or-set_same k.active.marks t.item (active.marks_in 0) active.unmarked within
           ∙ ap (λ b. record { cancelling = b; delayed = false; flushing = false }) (sym (cancelling-none ys s.marks t.item over)))
       marks i (inr differ) within =
-          get_or-set_other k.active.marks t.item i (active.marks_in 0) active.unmarked differ.1 ∙ st.marks i
+          get_or-set_other k.active.marks t.item i (active.marks_in 0) active.unmarked differ.1 ∙ st.admissions.marks i
           ∙ ap (λ b. record { cancelling = b; delayed = false; flushing = false }) (sym (cancelling-end_other xs s.marks queue i apart)) where
             apart : (a : Admission) (m : ℕ) → slice_get xs m ≡ Some a → runs_on queue a ≡ true → a.item ≢ i
             apart a m at runs is = differ.1 (sym is ∙ sym (ap (λ (u : Ticket). u.item) (tickets-one 0 (runs_on queue) xs m a t one_run at runs)))

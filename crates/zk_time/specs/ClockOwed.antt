@@ -3,11 +3,6 @@ use Rattle.zk_model_wait.specs.declared.clock.ClockOp.{ClockOp}
 use Rattle.zk_model_wait.specs.declared.clock.ClockOp.TheVariants.{AlarmEnd}
 use Rattle.zk_model_wait.specs.Clock.{Clock}
 
--- what a contract sees of the engine: the clock, and how many alarms it takes without memory
-pub record Held : Type 0 where
-  pub clock : Clock
-  pub room : ℕ
-
 -- the entries still to come that end something: one for each alarm
 abbrev pub clock_owed : Clock → ℕ
 clock_owed c = length c.alarms

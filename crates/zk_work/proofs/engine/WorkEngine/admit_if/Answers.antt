@@ -1,6 +1,6 @@
 use Rattle.std.proofs.Common.{ap}
-use Rattle.zk_model_work.specs.Machine.{admitted_to}
-use Rattle.zk_work.proofs.engine.WorkEngine.take.Goals as goal
+use Rattle.zk_model_work.specs.Answers.{admitted_to}
+use Rattle.zk_work.proofs.engine.WorkEngine.admit_if.Goals as goal
 
 pub admit-requires-clause-may : goal.admit-requires-clause-may
 admit-requires-clause-may c = c.requires.may c.in-Fresh.queue (ap admitted_to c.in-Fresh.is)

@@ -3,7 +3,7 @@ use Rattle.std.proofs.Common.{◌≡◌, ℕ, zero, suc, ◌+◌, ◌<◌, ◌�
 use Rattle.std.specs.Cmp.{first_so, second_so}
 use Rattle.std.specs.List.{position}
 use Rattle.std.specs.Option.{option_or}
-use Rattle.std.proofs.lemmas.Bool.{eqb-true, eq-eqb, false≢true}
+use Rattle.std.proofs.lemmas.Bool.{eqb-true, eq-eqb, false≢true, and_from}
 use Rattle.std.proofs.lemmas.Bool.Decides.{leb_tells}
 use Rattle.std.proofs.lemmas.List.{get_or_past, get_or_default}
 use Rattle.std.proofs.lemmas.List.Folds.{list_any_none, list_any_at}
@@ -34,10 +34,6 @@ found p xs n is =
     let at = position-Some p xs n none is in
     record { place = n; admission = get_or xs n none; there = slice_get-get_or xs n none at.0; passes = at.1 }
 
-both : (b c : Bool) → b ≡ true → c ≡ true → (b && c) ≡ true
-both true c is there = there
-both false c is there = absurd (cc)
-
 -- a number in one line is a number among the lines
 among-some : (item queue : ℕ) (lines : List (List Ticket)) → is_some (number_in item (get_or lines queue [])) ≡ true → is_some (number_among item lines) ≡ true
 among-some item queue [] is = absurd (cc)
@@ -64,7 +60,7 @@ in-some : (item n : ℕ) (xs : List Admission) (m : ℕ) (a : Admission) → sli
 in-some item n [] m a at waits = absurd (cc)
 in-some item n (x ∷ xs) zero a at waits =
     let same = same_Some x a at in
-    let on : waits_for a.queue x ≡ true = ap (waits_for a.queue) same ∙ both (eqb a.queue a.queue) (is_waiting a.life) (eq-eqb a.queue a.queue refl) (second_so (eqb a.item item) (is_waiting a.life) waits) in
+    let on : waits_for a.queue x ≡ true = ap (waits_for a.queue) same ∙ and_from (eqb a.queue a.queue) (is_waiting a.life) (eq-eqb a.queue a.queue refl) (second_so (eqb a.item item) (is_waiting a.life) waits) in
     let of : eqb x.item item ≡ true = ap (λ (b : Admission). eqb b.item item) same ∙ first_so (eqb a.item item) (is_waiting a.life) waits in
     ap is_some (in-cond item (waits_for a.queue x) (ticket x n) (tickets_from (n + 1) (waits_for a.queue) xs)) ∙ here (waits_for a.queue x) (eqb x.item item) on of where
       here : (b c : Bool) → b ≡ true → c ≡ true →
@@ -140,7 +136,7 @@ runs_now o xs item runs = by (running xs item) refl where
   other none queue (Some t) same =
       let s = first_stands 0 (runs_on queue) xs t (ap first (sym same)) in
       not_of (eqb t.item item) refl (λ is. false≢true (sym (none s.place s.admission s.there)
-      ∙ both (eqb s.admission.item item) (is_running s.admission.life) (eq-eqb s.admission.item item (s.item ∙ eqb-true t.item item is)) (second_so (eqb s.admission.queue queue) (is_running s.admission.life) s.passes))) where
+      ∙ and_from (eqb s.admission.item item) (is_running s.admission.life) (eq-eqb s.admission.item item (s.item ∙ eqb-true t.item item is)) (second_so (eqb s.admission.queue queue) (is_running s.admission.life) s.passes))) where
         not_of : (b : Bool) → eqb t.item item ≡ b → (eqb t.item item ≡ true → ⊥) → b ≡ false
         not_of true is wrong = absurd (wrong is)
         not_of false is wrong = refl
@@ -151,7 +147,7 @@ runs_now o xs item runs = by (running xs item) refl where
   by (Some n) is =
       let it = found (runs_as item) xs n is in
       let a = it.admission in
-      let on = both (eqb a.queue a.queue) (is_running a.life) (eq-eqb a.queue a.queue refl) (second_so (eqb a.item item) (is_running a.life) it.passes) in
+      let on = and_from (eqb a.queue a.queue) (is_running a.life) (eq-eqb a.queue a.queue refl) (second_so (eqb a.item item) (is_running a.life) it.passes) in
       let runs_it = run_of (run o a.queue) a.queue xs it.place a (runs a.queue) it.there on in
       list_any_at (is_run_of item) o.runs a.queue None (run_within o.runs a.queue (ticket a it.place) runs_it)
       (ap (is_run_of item) runs_it ∙ first_so (eqb a.item item) (is_running a.life) it.passes)
