@@ -167,3 +167,19 @@ module _ {S O R T : Type 0} (legal : T → List (Entry O R) → Type 0) (start :
   AreNewPasses-push [] (q ∷ ps) w p all one = absurd all
   AreNewPasses-push (v ∷ ws) [] w p all one = absurd all
   AreNewPasses-push (v ∷ ws) (q ∷ ps) w p all one = (all.0, AreNewPasses-push ws ps w p all.1 one)
+
+  -- passes are as many as their players
+  AreNewPasses-none : (ps : List (Pass S O R T)) (p : Pass S O R T) → AreNewPasses legal start c [] (ps ++ p ∷ []) → ⊥
+  AreNewPasses-none [] p all = all
+  AreNewPasses-none (q ∷ ps) p all = all
+
+  pub AreNewPasses-some : (ws : List Who) (w : Who) → AreNewPasses legal start c (ws ++ w ∷ []) [] → ⊥
+  AreNewPasses-some [] w all = all
+  AreNewPasses-some (v ∷ ws) w all = all
+
+  -- the last one less
+  pub AreNewPasses-pop : (ws : List Who) (ps : List (Pass S O R T)) (w : Who) (p : Pass S O R T) → AreNewPasses legal start c (ws ++ w ∷ []) (ps ++ p ∷ []) → AreNewPasses legal start c ws ps × IsNewPass legal start c w p
+  AreNewPasses-pop [] [] w p all = (tt, all.0)
+  AreNewPasses-pop [] (q ∷ ps) w p all = absurd (AreNewPasses-none ps p all.1)
+  AreNewPasses-pop (v ∷ ws) [] w p all = absurd (AreNewPasses-some ws w all.1)
+  AreNewPasses-pop (v ∷ ws) (q ∷ ps) w p all = let rest = AreNewPasses-pop ws ps w p all.1 in ((all.0, rest.0), rest.1)

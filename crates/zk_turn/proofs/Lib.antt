@@ -1,5 +1,5 @@
 mod Calls
-mod Dealing
+pub mod Dealing
 mod Ending
 mod Joining
 mod Keeping
