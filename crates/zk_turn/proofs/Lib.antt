@@ -1,0 +1,9 @@
+mod Calls
+pub mod Dealing
+mod Ending
+mod Joining
+mod Keeping
+mod Moving
+mod Passes
+mod Players
+mod Seats

@@ -1,0 +1,16 @@
+use Rattle.std.proofs.Common.{◌<◌, length, arith}
+use Rattle.zk_base.specs.Legal.{IsLegal}
+use Rattle.zk_turn.specs.Steps.{Fits}
+use Rattle.zk_turn.proofs.Keeping.{passes_on}
+use Rattle.zk_turn.proofs.cell.Cell.pass_on.Goals as goal
+
+pub fetch_add-served-requires : goal.fetch_add-served-requires
+fetch_add-served-requires g c =
+    let shared = c.args.self.now.table.shared in
+    let three = c.args.self.now.«shape».0 in
+    let wide : 1 < shared.table_id.words = omega arith in (
+      c.requires.table,
+      wide,
+      passes_on (IsLegal g.S.Service.machine) (Fits g.S.Service.start g.S.Service.history) (g.S.Service.start shared.key.service.value) (length shared.key.players.items) shared.table_id.slots
+          c.args.seat.now.id c.args.seat.now.me c.requires.ready,
+    )

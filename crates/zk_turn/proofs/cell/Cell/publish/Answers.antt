@@ -1,0 +1,16 @@
+use Rattle.std.proofs.Common.{◌<◌, length, arith}
+use Rattle.zk_base.specs.Legal.{IsLegal}
+use Rattle.zk_turn.specs.Steps.{Fits}
+use Rattle.zk_turn.proofs.Keeping.{publishes}
+use Rattle.zk_turn.proofs.cell.Cell.publish.Goals as goal
+
+pub fetch_add-requires : goal.fetch_add-requires
+fetch_add-requires g c =
+    let shared = c.args.self.now.table.shared in
+    let three = c.args.self.now.«shape».0 in
+    let wide : 2 < shared.table_id.words = omega arith in (
+      c.requires.table,
+      wide,
+      publishes (IsLegal g.S.Service.machine) (Fits g.S.Service.start g.S.Service.history) (g.S.Service.start shared.key.service.value) (length shared.key.players.items) shared.table_id.slots
+          c.args.seat.now.id c.args.seat.now.me g.S.Service.history (c.requires.ready c.if-added.true),
+    )

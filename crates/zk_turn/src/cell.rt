@@ -1,0 +1,23 @@
+ghost use Rattle.std.specs.Prelude.{◌≡◌};
+
+use crate::rule::{Beginning, TurnRule};
+use crate::views::View;
+use atomic_table::Table;
+use std::alloc::Global;
+use zk_base::Service;
+
+/// A service that one caller at a time may use: whoever draws a ticket gets its turn when that number is served.
+///
+/// Every call of a cell takes passes and turns of that cell alone. A cell is shared by reference; `close` takes it apart.
+#[derive(Drop)]
+pub struct Cell<S: Service> {
+    // The words are the tickets drawn, the ticket served, and the length of the history; the slot holds the service.
+    pub(crate) table: Table<
+        Option<S>,
+        View<S::Op, S::Reply, S::State>,
+        Beginning<S>,
+        TurnRule<S>,
+        Global,
+    >,
+    ghost shape: { (table.shared.table_id.words ≡ 3) × (table.shared.table_id.slots ≡ 1) },
+}

@@ -1,0 +1,103 @@
+ghost use Rattle.std.specs.Prelude.{◌≡◌, ◌+◌, ◌≤◌, [], ◌∷◌, ◌++◌, length, IfOk, List, vec_len, vec_capacity};
+ghost use Rattle.zk_base.specs.declared.ids.Who.{Who};
+ghost use Rattle.zk_base.specs.Legal.{IsLegal};
+ghost use Rattle.zk_turn.specs.Players.{Differ};
+ghost use Rattle.zk_turn.specs.Views.{opened};
+ghost use Rattle.zk_turn.specs.Passes.{IsNewPass, AreNewPasses, given_to, players_in};
+
+use crate::cell::Cell;
+use crate::pass::Pass;
+use crate::rule::{Beginning, Deal};
+use crate::views::View;
+use atomic_table::{Seat, Table};
+use std::alloc::Global;
+use std::snapshot::Snapshot;
+use zk_base::{NoMemory, Service, Who};
+
+// The entries that one player may add, so that a history stays far below 2^32.
+const MOST_ENTRIES: u64 = 20_000;
+
+impl<S: Service> Cell<S> {
+    /// A cell for this service, and one pass for each player, in order.
+    ///
+    /// There are 1 to 256 players, whose numbers differ, and the service has made no entry yet.
+    pub fn new(
+        alloc: Global,
+        service: S,
+        players: &[Who],
+    ) -> Result<(Cell<S>, Vec<Pass<S>>), NoMemory>
+        requires empty { S.history service ≡ [] }
+        requires few { length players.now ≤ 256 }
+        requires differ { Differ players.now }
+        ensures given { IfOk result (λ made. given_to made.0 ≡ service) }
+        ensures players { IfOk result (λ made. players_in made.0 ≡ players.now) }
+        ensures passes { IfOk result (λ made. AreNewPasses (IsLegal S.machine) S.start made.0 players.now made.1.items) }
+    {
+        let mut passes = Vec::with_capacity(alloc, players.len())?;
+        let mut copies = Vec::with_capacity(alloc, players.len())?;
+        copies.extend_from_slice(players)?;
+        let beginning = Beginning {
+            service: Snapshot::of(&service),
+            players: copies,
+        };
+        let mut slots = Vec::with_capacity(alloc, 1)?;
+        put(&mut slots, Some(service));
+        let Ok((table, mut seat)) = Table::new(alloc, &[0, 0, 0], slots, &beginning) else {
+            return Err(NoMemory);
+        };
+        let cell = Cell { table };
+        cell.deal_all(&mut seat, players, &mut passes);
+        Ok((cell, passes))
+    }
+
+    // A pass for each player, in order.
+    fn deal_all(
+        &self,
+        seat: &mut Seat<Option<S>, View<S::Op, S::Reply, S::State>>,
+        players: &[Who],
+        passes: &mut Vec<Pass<S>>,
+    )
+        requires table { seat.old.table_id ≡ self.now.table.shared.table_id }
+        requires opened { seat.old.me ≡ (opened (S.start (given_to self.now)) players.now, []) }
+        requires differ { Differ players.now }
+        requires none { passes.old.items ≡ [] }
+        requires room { vec_len passes.old + length players.now ≤ vec_capacity passes.old }
+        ensures { AreNewPasses (IsLegal S.machine) S.start self.now players.now passes.new.items }
+    {
+        for index in 0..players.len() {
+            let pass = self.deal(seat, players[index]);
+            put(passes, pass);
+        }
+    }
+
+    // The pass of the first player that has none yet.
+    fn deal(&self, seat: &mut Seat<Option<S>, View<S::Op, S::Reply, S::State>>, who: Who) -> Pass<S>
+        requires table { seat.old.table_id ≡ self.now.table.shared.table_id }
+        requires first { (others : List Who) × (seat.old.me ≡ (opened (S.start (given_to self.now)) (who ∷ others), [])) × Differ (who ∷ others) }
+        ensures table { seat.new.table_id ≡ seat.old.table_id }
+        ensures others { (others : List Who) → seat.old.me ≡ (opened (S.start (given_to self.now)) (who ∷ others), []) →
+            seat.new.me ≡ (opened (S.start (given_to self.now)) others, []) }
+        ensures pass { IsNewPass (IsLegal S.machine) S.start self.now who result }
+    {
+        let dealt = self.table.shared.split_seat::<Deal>(seat);
+        Pass {
+            seat: dealt,
+            who,
+            room: MOST_ENTRIES,
+            front: 0,
+        }
+    }
+}
+
+// One more, for which there is room.
+fn put<T: Drop>(items: &mut Vec<T>, item: T)
+    requires { vec_len items.old + 1 ≤ vec_capacity items.old }
+    ensures items { items.new.items ≡ items.old.items ++ item ∷ [] }
+    ensures len { vec_len items.new ≡ vec_len items.old + 1 }
+    ensures capacity { vec_capacity items.old ≤ vec_capacity items.new }
+{
+    match items.push(item) {
+        Ok(()) => {}
+        Err(_) => unreachable!(),
+    }
+}

@@ -1,0 +1,132 @@
+//! A cell over a small service, which counts its entries.
+ghost use Rattle.std.specs.Prelude.{◌≡◌, [], ◌∷◌, List};
+ghost use Rattle.zk_base.specs.declared.ids.Who.{Who};
+ghost use Rattle.zk_base.specs.Legal.{IsLegal};
+ghost use Rattle.zk_turn.specs.Passes.{AreNewPasses, IsNewPass};
+
+use crate::*;
+use std::test::Fail;
+use zk_base::{Engine, NoMemory, Recorded, Service, Who};
+
+/// How many entries were made.
+#[derive(Drop)]
+struct Tally {
+    count: u64,
+}
+
+impl Engine for Tally {
+    type Op = u8;
+
+    type Reply = u64;
+
+    type State = u64;
+
+    ghost use Rattle.std.specs.Prelude.{◌≡◌, false};
+    ghost use Rattle.zk_turn.specs.Tally.{tally_machine, tally_closes, counts, ranges, adds, gives};
+
+    ghost stands_for = { λ tally count. tally.count ≡ count };
+
+    ghost room = { λ tally. 3 };
+
+    ghost machine = { tally_machine };
+
+    ghost entries = { λ count. count };
+
+    ghost owed = { λ count. 0 };
+
+    ghost closes = { tally_closes };
+
+    ghost grows = { λ op. false };
+
+    fn step(&mut self, _who: Who, _op: &u8) -> Result<Option<(u64, u64)>, NoMemory> {
+        let count = self.count;
+        self.count += 1;
+        Ok(Some((count, count)))
+    }
+
+    fn is_closing(&self, _who: Who, _op: &u8) -> bool {
+        false
+    }
+
+    fn owed(&self) -> u64 {
+        0
+    }
+
+    fn reserve(&mut self) -> Result<(), NoMemory> {
+        Ok(())
+    }
+
+    fn room(&self) -> u64 {
+        3
+    }
+
+    ghost counts = { counts };
+
+    ghost ranges = { ranges };
+
+    ghost adds = { adds };
+
+    ghost gives = { gives };
+}
+
+const PLAYER: Who = Who { number: 7, prio: 0 };
+
+/// The pass of a cell that was made for one player.
+fn only<S: Service>(cell: &Cell<S>, who: Who, mut passes: Vec<Pass<S>>) -> Pass<S>
+    requires { AreNewPasses (IsLegal S.machine) S.start cell.now (who ∷ []) passes.items }
+    ensures { IsNewPass (IsLegal S.machine) S.start cell.now who result }
+{
+    let Some(pass) = passes.pop() else {
+        unreachable!()
+    };
+    pass
+}
+
+#[test]
+fn a_turn_adds_an_entry(rt: HostRuntime) -> Result<(), Fail> {
+    let service = Recorded::new(rt.alloc(), 0u64, Tally { count: 0 });
+    let (cell, passes) = Cell::new(rt.alloc(), service, &[PLAYER])?;
+    let pass = only(&cell, PLAYER, passes);
+    assert_eq!(rt; pass.room(), 20_000);
+    assert_eq!(rt; pass.front(), 0);
+
+    let mut held = cell.enter(&rt, pass);
+    let before = held.at();
+    let answer = held.act(4, 0);
+    let after = held.at();
+    let pass = cell.leave(held);
+    assert_eq!(rt; answer?, Some(0));
+    assert_eq!(rt; (before, after), (0, 1));
+    assert_eq!(rt; pass.room(), 19_999);
+    assert_eq!(rt; pass.front(), 1);
+
+    let held = cell.enter(&rt, pass);
+    let pass = cell.leave(held);
+    assert_eq!(rt;
+        pass.room(),
+        19_999,
+        "a turn without an entry takes no room"
+    );
+
+    let service = cell.close(pass);
+    assert_eq!(rt; service.history().len(), 1);
+    Ok(())
+}
+
+#[test]
+fn a_call_has_a_turn_of_its_own(rt: HostRuntime) -> Result<(), Fail> {
+    let service = Recorded::new(rt.alloc(), 0u64, Tally { count: 0 });
+    let (cell, passes) = Cell::new(rt.alloc(), service, &[PLAYER])?;
+    let pass = only(&cell, PLAYER, passes);
+    let (pass, answer) = cell.call(&rt, pass, 0, 0);
+    assert_eq!(rt; answer?, Some((0, 0)));
+    let (pass, answer) = cell.call(&rt, pass, 1, 0);
+    assert_eq!(rt;
+        answer?,
+        Some((1, 1)),
+        "the reply, and the place of the entry"
+    );
+    let history = cell.close(pass).into_history();
+    assert_eq!(rt; history.len(), 2);
+    Ok(())
+}

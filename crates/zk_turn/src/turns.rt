@@ -1,0 +1,161 @@
+ghost use Rattle.std.specs.Prelude.{◌≡◌, ◌+◌, ◌<◌, ◌%◌, ◌^◌, true, false, ℕ, []};
+ghost use Rattle.atomic_table.specs.Table.{rest};
+ghost use Rattle.zk_base.specs.Legal.{IsLegal};
+ghost use Rattle.zk_turn.specs.declared.views.Stage.TheVariants.{Idle, Waiting};
+ghost use Rattle.zk_turn.specs.Players.{GoesOn, own};
+ghost use Rattle.zk_turn.specs.Views.{staged};
+ghost use Rattle.zk_turn.specs.Steps.{Took, Fits};
+ghost use Rattle.zk_turn.specs.Passes.{IsPassOf, IsHeldOf, IsReady, IsPublished, MayPass, pass_players, pass_who, pass_seen, pass_mine, pass_holds, pass_room, held_players, held_who, held_room, held_holds, has_added, service_of};
+
+use crate::cell::Cell;
+use crate::held::Held;
+use crate::pass::Pass;
+use crate::rule::{Await, Draw, PassOn, Publish};
+use crate::views::View;
+use atomic_table::Seat;
+use std::sync::Wait;
+use zk_base::Service;
+
+// The words of a cell: the tickets drawn, the ticket served, and the length of the history, each modulo 2^64.
+pub(crate) const TICKET: usize = 0;
+
+const SERVING: usize = 1;
+
+const COUNT: usize = 2;
+
+// How often a caller looks whether its ticket is served before it sleeps.
+const LOOKS: u32 = 100;
+
+impl<S: Service> Cell<S> {
+    /// Waits for the turn, and takes the service.
+    ///
+    /// The pass has room for an entry. Turns come in the order of the tickets; nothing is promised of when, nor that one
+    /// comes. Whoever enters twice without leaving waits for itself.
+    pub fn enter<R: Wait>(&self, rt: &R, pass: Pass<S>) -> Held<S>
+        requires own { IsPassOf (IsLegal S.machine) S.start self.now pass }
+        requires room { 0 < pass_room pass }
+
+        // It is a turn of this cell for the player of the pass, in which no entry was added yet.
+        ensures own { IsHeldOf (IsLegal S.machine) S.start S.history self.now result }
+        ensures players { held_players result ≡ pass_players pass }
+        ensures who { held_who result ≡ pass_who pass }
+        ensures room { held_room result ≡ pass_room pass }
+        ensures holds { held_holds result ≡ pass_holds pass + 1 }
+        ensures fresh { has_added result ≡ false }
+
+        // The history goes on from what the pass had seen with entries of others: of its players it has what the pass made.
+        ensures seen { GoesOn (pass_players pass) (pass_seen pass) (S.history (service_of result)) }
+        ensures mine { own (pass_players pass) (S.history (service_of result)) ≡ pass_mine pass }
+    {
+        let Pass {
+            mut seat,
+            who,
+            room,
+            front: _,
+        } = pass;
+        let ticket = self.table.shared.fetch_add::<Draw<S>>(&mut seat, TICKET, 1);
+        self.await_turn(rt, &mut seat, ticket);
+        let Some(service) = self.table.shared.exchange(&mut seat, 0, None) else {
+            unreachable!()
+        };
+        Held {
+            seat,
+            service,
+            who,
+            room,
+            added: false,
+        }
+    }
+
+    // Waits until the ticket is served, and takes the service's slot: looks some times, and then sleeps between two looks.
+    fn await_turn<R: Wait>(
+        &self,
+        rt: &R,
+        seat: &mut Seat<Option<S>, View<S::Op, S::Reply, S::State>>,
+        ticket: u64,
+    )
+        requires table { seat.old.table_id ≡ self.now.table.shared.table_id }
+        requires waits { (t : ℕ) × (seat.old.me.0.stage ≡ Waiting t) × (ticket ≡ t % 2 ^ 64) × (seat.old.me.1 ≡ []) }
+        ensures table { seat.new.table_id ≡ seat.old.table_id }
+        ensures took { (t : ℕ) × Took (IsLegal S.machine) (Fits S.start S.history) t seat.old.me seat.new.me }
+    {
+        let mut looks = 0;
+        for _ in rt.forever() {
+            let served = self.table.shared.load::<Await<S>>(seat, SERVING);
+            if served == ticket {
+                return;
+            }
+            if looks < LOOKS {
+                looks += 1;
+                std::hint::spin_loop();
+            } else {
+                let low = (served % 4_294_967_296) as u32;
+                self.table.shared.park(rt, SERVING, low);
+            }
+        }
+        unreachable!()
+    }
+
+    /// Gives the service back, and the turn to the next ticket.
+    ///
+    /// It takes no memory and waits for nobody.
+    pub fn leave(&self, held: Held<S>) -> Pass<S>
+        requires own { IsHeldOf (IsLegal S.machine) S.start S.history self.now held }
+        ensures own { IsPassOf (IsLegal S.machine) S.start self.now result }
+        ensures players { pass_players result ≡ held_players held }
+        ensures who { pass_who result ≡ held_who held }
+        ensures room { pass_room result ≡ held_room held }
+        ensures holds { pass_holds result ≡ held_holds held }
+
+        // The pass has seen the history as the turn left it.
+        ensures seen { pass_seen result ≡ S.history (service_of held) }
+        ensures mine { pass_mine result ≡ own (held_players held) (S.history (service_of held)) }
+    {
+        let Held {
+            mut seat,
+            service,
+            who,
+            room,
+            added,
+        } = held;
+        let front = service.history().len() as u64;
+        let None = self.table.shared.exchange(&mut seat, 0, Some(service)) else {
+            unreachable!()
+        };
+        self.publish(&mut seat, added);
+        self.pass_on(&mut seat);
+        Pass {
+            seat,
+            who,
+            room,
+            front,
+        }
+    }
+
+    // Counts the entry, where one was added.
+    fn publish(&self, seat: &mut Seat<Option<S>, View<S::Op, S::Reply, S::State>>, added: bool)
+        requires table { seat.old.table_id ≡ self.now.table.shared.table_id }
+        requires ready { added ≡ true → IsReady (IsLegal S.machine) S.history seat.old.me }
+        ensures table { seat.new.table_id ≡ seat.old.table_id }
+        ensures done { IsPublished S.history added seat.old.me seat.new.me }
+    {
+        if added {
+            self.table.shared.fetch_add::<Publish<S>>(seat, COUNT, 1);
+        }
+    }
+
+    // Serves the next ticket, and wakes who sleeps where one was drawn by then.
+    fn pass_on(&self, seat: &mut Seat<Option<S>, View<S::Op, S::Reply, S::State>>)
+        requires table { seat.old.table_id ≡ self.now.table.shared.table_id }
+        requires ready { MayPass (Fits S.start S.history) seat.old.me }
+        ensures table { seat.new.table_id ≡ seat.old.table_id }
+        ensures passed { seat.new.me ≡ (staged seat.old.me.0 Idle, rest seat.old.me.1) }
+    {
+        let served = self.table.shared.fetch_add::<PassOn<S>>(seat, SERVING, 1);
+        // Whoever draws a ticket after this look finds the word as it is now. One that sleeps isn't picked out, since the
+        // one whose ticket is served has to be among those who wake.
+        if self.table.shared.peek(TICKET) != served.wrapping_add(1) {
+            self.table.shared.wake_all(SERVING);
+        }
+    }
+}
