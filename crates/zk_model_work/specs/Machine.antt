@@ -30,7 +30,7 @@ use Rattle.zk_model_work.specs.Questions.{is_open, is_ended, passes_at, waits_as
 abbrev pub submit : List Admission → ℕ → Submitted → List Admission
 submit admissions item answer =
     option_map_or (λ queue. admissions ++ record { item = item; queue = queue; life = Waiting } ∷ [])
-      (admitted_to answer) admissions
+    (admitted_to answer) admissions
 
 -- the answer to a submission in a state
 abbrev pub submission_in : State → Option ℕ → ℕ → Option ℕ → Submitted
@@ -259,7 +259,7 @@ flags_of s item =
 abbrev pub taken_up : List Admission → ℕ → Option WorkReply
 taken_up admissions queue =
     option_and_then (λ number. option_map (λ a. Run a.item number) (slice_get admissions number))
-      (first (line admissions queue))
+    (first (line admissions queue))
 
 -- the player may take up the next of the queue: it is the queue's worker, and the queue runs nothing
 abbrev pub may_begin : List Admission → List Queue → Who → ℕ → Bool

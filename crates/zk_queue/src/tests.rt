@@ -9,7 +9,7 @@ use std::test::*;
 use zk_base::NoMemory;
 use zk_model_work::{
     Admission, BusyFlags, Life, WorkReply, begin, drop_waiting, end_run, flags, is_empty_and_idle,
-    mark, run, running_queue, taken_up, waiting,
+    item_of, mark, run, taken_up, waiting,
 };
 
 const ITEMS: u32 = 5;
@@ -67,7 +67,7 @@ impl Beside {
         if self.queues.flags(item).contains(BusyFlags::QUEUED) {
             return Ok(());
         }
-        let queue = match running_queue(&self.admissions, item) {
+        let queue = match item_of(&self.admissions, &self.marks, item).home {
             Some(other) if other < QUEUES => other,
             _ => queue,
         };
@@ -97,7 +97,7 @@ impl Beside {
     fn remark(&mut self, item: u32)
         requires { item < 5 }
     {
-        let flags = flags(&self.admissions, &self.marks, &[], &[], item);
+        let flags = flags(item_of(&self.admissions, &self.marks, item), false, false);
         self.queues.mark(item, flags);
     }
 
@@ -125,7 +125,7 @@ impl Beside {
     /// Both say the same of each item and each queue.
     fn agree<R: Abort>(&self, rt: &R) {
         for item in 0..ITEMS {
-            let wanted = flags(&self.admissions, &self.marks, &[], &[], item);
+            let wanted = flags(item_of(&self.admissions, &self.marks, item), false, false);
             assert_eq!(rt; self.queues.flags(item), wanted, "item {item}");
         }
         for queue in 0..QUEUES {
