@@ -1,11 +1,12 @@
 -- What a cancel and a flush find of an item, and are answered.
-use Rattle.std.proofs.Common.{◌≡◌, ℕ, ◌+◌, ◌<◌, ◌≤◌, ◌⊎◌, inl, inr, Bool, true, false, ◌&&◌, ◌||◌, cond, eqb, Option, Some, None, is_some, List, [], ◌∷◌, slice_get, refl, sym, ap, subst, ◌∙◌, arith}
+use Rattle.std.proofs.Common.{◌≡◌, ℕ, ◌+◌, ◌<◌, ◌≤◌, ◌⊎◌, inl, inr, Bool, true, false, ◌&&◌, ◌||◌, cond, eqb, Option, Some, None, is_some, List, [], get_or, slice_get, refl, sym, ap, subst, ◌∙◌, arith}
 use Rattle.std.specs.Cmp.{first_so, second_so}
 use Rattle.std.specs.List.{position, list_any}
 use Rattle.std.specs.Option.{option_map_or}
 use Rattle.std.proofs.lemmas.Bool.{eqb-true, eq-eqb, false≢true, cases_order}
 use Rattle.std.proofs.lemmas.Bool.Decides.{nat_tests}
 use Rattle.std.proofs.lemmas.List.{append-nil}
+use Rattle.std.proofs.lemmas.List.Folds.{list_any_none}
 use Rattle.std.proofs.lemmas.Option.{same_Some}
 use Rattle.zk_base.specs.declared.ids.Who.{Who}
 use Rattle.zk_base.specs.Legal.{state_after}
@@ -25,6 +26,7 @@ use Rattle.zk_model_work.specs.Machine.{hurried, flushed_of, flags_of, work_repl
 use Rattle.zk_model_work.specs.Answers.{flushed, cancel_start_reply, flush_start_reply}
 use Rattle.zk_model_work.specs.Histories.{WorkHistory, IsFreshHistory, OfEach, IsNewest, NoneIsOpen}
 use Rattle.zk_model_work.specs.Laws.{CancelStartTellsTheRun, FlushWaitsForNewest}
+use Rattle.zk_model_work.proofs.Moves.{none-there}
 use Rattle.zk_model_work.proofs.Lives.{open-waiting, open-running}
 use Rattle.zk_model_work.proofs.Overlaps.{position-none, and-true, runs-open, waiting-running, Ordered, Ordered-next, Ordered-history}
 use Rattle.zk_model_work.proofs.Entries.{at_each, at_each_in}
@@ -37,17 +39,12 @@ passes-none p xs n none = by (slice_get xs n) refl where
   by None at = refl
   by (Some a) at = position-none p xs n a none at
 
-pub any-none : {A : Type 0} (p : A → Bool) → ((x : A) → p x ≡ false) → (xs : List A) → list_any p xs ≡ false
-any-none p none [] = refl
-any-none p none (x ∷ xs) = ap (λ b. b || list_any p xs) (none x) ∙ any-none p none xs
-
-none-of : {A : Type 0} (o : Option A) → is_some o ≡ false → o ≡ None
-none-of None is = refl
-none-of (Some x) is = absurd (cc)
+any-none : {A : Type 0} (p : A → Bool) → ((x : A) → p x ≡ false) → (xs : List A) → list_any p xs ≡ false
+any-none p none xs = list_any_none p xs (λ i d within. none (get_or xs i d))
 
 -- what is being cancelled runs
 pub cancelling-runs : (xs : List Admission) (marks : List ℕ) (item : ℕ) → is_some (running xs item) ≡ false → is_cancelling xs marks item ≡ false
-cancelling-runs xs marks item idle = any-none (passes_at (runs_as item) xs) (λ n. passes-none (runs_as item) xs n (none-of (running xs item) idle)) marks
+cancelling-runs xs marks item idle = any-none (passes_at (runs_as item) xs) (λ n. passes-none (runs_as item) xs n (none-there (running xs item) idle)) marks
 
 -- what is being flushed waits or runs
 not-open-as : (b : Bool) (life : Life) → (b && is_running life) ≡ false → (b && is_waiting life) ≡ false → (b && is_open life) ≡ false
@@ -67,7 +64,7 @@ pub flushing-open : (xs : List Admission) (waits : List Wait) (item : ℕ) → i
 flushing-open xs waits item idle empty = any-none (λ (w : Wait). flushes xs item w.awaited) (λ w. by w.awaited) waits where
   by : (a : Awaited) → flushes xs item a ≡ false
   by (awaiteds.Cancel n) = refl
-  by (awaiteds.Flush n) = closed-as xs item n (none-of (running xs item) idle) (none-of (waiting xs item) empty)
+  by (awaiteds.Flush n) = closed-as xs item n (none-there (running xs item) idle) (none-there (waiting xs item) empty)
   by (awaiteds.Drain queue n) = refl
 
 -- the answer to a sync cancel, by the flags before it

@@ -26,7 +26,7 @@ use Rattle.zk_model_work.proofs.Delays.{one_live_arm}
 use Rattle.zk_model_work.proofs.Entries.{entry-replied, fresh-front}
 use Rattle.zk_model_work.proofs.Replies.{live-arm}
 use Rattle.zk_model_work.proofs.Marks.{cancelling-is, is-cancelling}
-use Rattle.zk_model_work.proofs.Submissions.{Says, says, waiting_one}
+use Rattle.zk_model_work.proofs.Submissions.{Says, says, waiting_one, last-push}
 use Rattle.zk_model_work.proofs.Made.{hurried-item}
 
 -- what is pending
@@ -139,10 +139,6 @@ waits-some xs item n a at same waits = by (waiting xs item) refl where
   by : (o : Option ℕ) → waiting xs item ≡ o → is_some o ≡ true
   by None is = absurd (false≢true (sym (position-none (waits_as item) xs n a is at) ∙ and-true (eqb a.item item) (is_waiting a.life) (eq-eqb a.item item same) waits))
   by (Some k) is = refl
-
-last-push : (xs : List Admission) (a : Admission) → slice_get (xs ++ a ∷ []) (length xs) ≡ Some a
-last-push [] a = refl
-last-push (x ∷ xs) a = last-push xs a
 
 leaves-waiting : (xs : List Admission) (marks : List ℕ) (queues : List Queue) (caller named : Option ℕ) (item number : ℕ) (q : Queue) → is_cancelling xs marks item ≡ false →
     target (item_of xs marks item) named ≡ Some number → slice_get queues number ≡ Some q → q.started ≡ true → bars q caller ≡ false →

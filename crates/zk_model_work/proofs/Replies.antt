@@ -198,20 +198,16 @@ drop-map : (f : Arm → Arm) (xs ys : List Arm) → drop (length xs) (map f xs +
 drop-map f [] ys = refl
 drop-map f (x ∷ xs) ys = drop-map f xs ys
 
-drop-disarmed : (xs : List Arm) (item : ℕ) → drop (length xs) (disarm xs item) ≡ []
-drop-disarmed [] item = refl
-drop-disarmed (x ∷ xs) item = drop-disarmed xs item
-
 drop-mapped : (f : Arm → Arm) (xs : List Arm) → drop (length xs) (map f xs) ≡ []
 drop-mapped f [] = refl
 drop-mapped f (x ∷ xs) = drop-mapped f xs
 
 made-next : (s : State) (who : Who) (op : WorkOp) (reply : WorkReply) → work_reply s who op ≡ Some reply → drop (length s.arms) (work_next s who op).arms ≡ cond (is_armed reply) (asked_arm s.time op) []
 made-next s who (Submit item named) reply is = none-made s.arms (is_armed reply)
-made-next s who (Cancel item) reply is = drop-disarmed s.arms item ∙ none-asked (is_armed reply)
-made-next s who (CancelStart item) reply is = drop-disarmed s.arms item ∙ none-asked (is_armed reply)
+made-next s who (Cancel item) reply is = drop-mapped (disarm_one item) s.arms ∙ none-asked (is_armed reply)
+made-next s who (CancelStart item) reply is = drop-mapped (disarm_one item) s.arms ∙ none-asked (is_armed reply)
 made-next s who (CancelDone place) reply is = none-made s.arms (is_armed reply)
-made-next s who (FlushStart item) reply is = drop-disarmed s.arms item ∙ none-asked (is_armed reply)
+made-next s who (FlushStart item) reply is = drop-mapped (disarm_one item) s.arms ∙ none-asked (is_armed reply)
 made-next s who (FlushDone place) reply is = none-made s.arms (is_armed reply)
 made-next s who (Schedule item queue delay) reply is = by (is_pending_in s item) (eqb delay 0) (same_Some (schedule_reply_in s who item queue delay) reply is) where
   a : Arm
@@ -233,7 +229,7 @@ made-next s who (Reschedule item queue delay) reply is = by (eqb delay 0) (same_
   by : (d : Bool) → cond d (replies.Sub (submission_in s (Some who.number) item (Some queue))) replies.Armed ≡ reply →
       drop (length s.arms) (cond d (record t { admissions = Rattle.zk_model_work.specs.Machine.submit t.admissions item (submission_in t (Some who.number) item (Some queue)) }) (record t { arms = arm t.arms item queue (t.time + delay) })).arms
       ≡ cond (is_armed reply) (a ∷ []) []
-  by true said = drop-disarmed s.arms item ∙ ap (λ (r : WorkReply). cond (is_armed r) (a ∷ []) []) said
+  by true said = drop-mapped (disarm_one item) s.arms ∙ ap (λ (r : WorkReply). cond (is_armed r) (a ∷ []) []) said
   by false said = drop-map (disarm_one item) s.arms (a ∷ []) ∙ ap (λ (r : WorkReply). cond (is_armed r) (a ∷ []) []) said
 made-next s who (Remaining item) reply is = none-made s.arms (is_armed reply)
 made-next s who (Start queue) reply is = none-made s.arms (is_armed reply)

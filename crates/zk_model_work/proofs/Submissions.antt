@@ -104,7 +104,7 @@ says i queues caller named = by i.cancelling i.queued refl refl where
 
 -- what one submission makes
 
-last-push : (xs : List Admission) (a : Admission) → slice_get (xs ++ a ∷ []) (length xs) ≡ Some a
+pub last-push : (xs : List Admission) (a : Admission) → slice_get (xs ++ a ∷ []) (length xs) ≡ Some a
 last-push [] a = refl
 last-push (x ∷ xs) a = last-push xs a
 
