@@ -6,6 +6,7 @@ use Rattle.std.proofs.lemmas.Bool.{eqb-true, eq-eqb, false≢true}
 use Rattle.std.proofs.lemmas.Bool.Decides.{eqb_tells}
 use Rattle.std.proofs.lemmas.List.Sums.{sum_by-cons}
 use Rattle.std.proofs.lemmas.Option.{slice_get-map, same_Some, slice_get-get_or}
+use Rattle.zk_base.proofs.Lists.{and_second}
 use Rattle.zk_base.specs.declared.ids.Who.{Who}
 use Rattle.zk_base.specs.declared.ids.Entry.{Entry}
 use Rattle.zk_base.specs.Legal.{state_after, Replays}
@@ -237,13 +238,9 @@ Begun-entry s e queue op is = Begun-reply s e.who queue e.reply (ap (work_reply 
 same_run : (item item' number number' : ℕ) (reply : WorkReply) → reply ≡ Run item number → reply ≡ Run item' number' → number' ≡ number
 same_run item item' number number' reply one other = cc
 
-second_false : (b c : Bool) → b ≡ true → (b && c) ≡ false → c ≡ false
-second_false true c is both = both
-second_false false c is both = absurd (cc)
-
 -- what stands before the first in the line, and is in the same queue, doesn't wait
 not_before : (xs : List Admission) (queue number lower : ℕ) (a : Admission) → IsFirst xs queue number → lower < number → slice_get xs lower ≡ Some a → a.queue ≡ queue → is_waiting a.life ≡ false
-not_before xs queue number lower a is below there same = second_false (eqb a.queue queue) (is_waiting a.life) (eq-eqb a.queue queue same) (is.none_before lower a below there)
+not_before xs queue number lower a is below there same = and_second (eqb a.queue queue) (is_waiting a.life) (eq-eqb a.queue queue same) (is.none_before lower a below there)
 
 pub none_waits_before : OfEach NoneWaitsBefore
 none_waits_before start h fresh = record {

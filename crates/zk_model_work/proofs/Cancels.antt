@@ -3,10 +3,11 @@ use Rattle.std.proofs.Common.{◌≡◌, ℕ, zero, suc, ◌<◌, ◌≤◌, ◌
 use Rattle.std.specs.Cmp.{first_so, second_so}
 use Rattle.std.specs.List.{list_any}
 use Rattle.std.specs.Option.{option_map_or}
-use Rattle.std.proofs.lemmas.Bool.{eqb-true, eq-eqb, false≢true, cases_order}
+use Rattle.std.proofs.lemmas.Bool.{eqb-true, eq-eqb, false≢true, cases_order, and_from, and_right, or_left, or_right}
 use Rattle.std.proofs.lemmas.Option.{slice_get-map, slice_get_within, slice_get-get_or, same_Some}
 use Rattle.std.proofs.lemmas.List.Folds.{list_any-append}
 use Rattle.std.proofs.lemmas.List.Quantifiers.{position-Some}
+use Rattle.zk_base.proofs.Lists.{and_second}
 use Rattle.zk_base.specs.declared.ids.Who.{Who}
 use Rattle.zk_base.specs.declared.ids.Entry.{Entry}
 use Rattle.zk_base.specs.declared.errors.Errno.TheVariants.{Busy}
@@ -30,7 +31,7 @@ use Rattle.zk_model_work.specs.Laws.{NoneWaitsAfterCancel, NoneMadeDuringCancel,
 use Rattle.zk_model_work.proofs.Lives.{Keeps, Kept, Kept-next, Kept-after}
 use Rattle.zk_model_work.proofs.Moves.{Stays, pushed, still-map, admissions-next, schedule-keeps, delayed-keeps}
 use Rattle.zk_model_work.proofs.Begins.{alive, Replays-parts}
-use Rattle.zk_model_work.proofs.Overlaps.{runs-open, second_of, and-true, running-not, not_both, still-cond, Handed-entry}
+use Rattle.zk_model_work.proofs.Overlaps.{runs-open, running-not, still-cond, Handed-entry}
 
 -- no admission of the item waits
 abbrev pub NoneWaits : ℕ → List Admission → Type 0
@@ -40,20 +41,12 @@ NoneWaits item xs = (n : ℕ) (a : Admission) → slice_get xs n ≡ Some a → 
 abbrev Marked : ℕ → List ℕ → Type 0
 Marked number marks = (passes : ℕ → Bool) → passes number ≡ true → list_any passes marks ≡ true
 
-or-left : (b c : Bool) → b ≡ true → (b || c) ≡ true
-or-left true c is = refl
-or-left false c is = absurd (cc)
-
-or-right : (b c : Bool) → c ≡ true → (b || c) ≡ true
-or-right true c is = refl
-or-right false c is = is
-
 Marked-more : (number : ℕ) (marks more : List ℕ) → Marked number marks → Marked number (marks ++ more)
-Marked-more number marks more marked passes is = list_any-append passes marks more ∙ or-left (list_any passes marks) (list_any passes more) (marked passes is)
+Marked-more number marks more marked passes is = list_any-append passes marks more ∙ or_left (list_any passes marks) (list_any passes more) (marked passes is)
 
 Marked-last : (number : ℕ) (marks : List ℕ) → Marked number (marks ++ number ∷ [])
 Marked-last number marks passes is =
-    list_any-append passes marks (number ∷ []) ∙ or-right (list_any passes marks) (list_any passes (number ∷ [])) (or-left (passes number) false is)
+    list_any-append passes marks (number ∷ []) ∙ or_right (list_any passes marks) (list_any passes (number ∷ [])) (or_left (passes number) false is)
 
 -- marks stay
 Marked-next : (s : State) (who : Who) (op : WorkOp) (number : ℕ) → Marked number s.marks → Marked number (work_next s who op).marks
@@ -88,7 +81,7 @@ pub record Cancelled (s : State) (item number : ℕ) : Type 0 where
 
 is_cancelling-Cancelled : (s : State) (ys : List Admission) (item number : ℕ) → Cancelled s item number → Stays s.admissions ys → is_cancelling ys s.marks item ≡ true
 is_cancelling-Cancelled s ys item number it stays =
-    let runs : runs_as item it.run ≡ true = and-true (eqb it.run.item item) (is_running it.run.life) (eq-eqb it.run.item item it.item_is) it.runs in
+    let runs : runs_as item it.run ≡ true = and_from (eqb it.run.item item) (is_running it.run.life) (eq-eqb it.run.item item it.item_is) it.runs in
     it.marked (passes_at (runs_as item) ys) (ap (λ (o : Option Admission). option_map_or (runs_as item) o false) (stays number it.run it.there) ∙ runs)
 
 -- a submission of it is refused, also when others were admitted since
@@ -217,7 +210,7 @@ dropped-waits : (item : ℕ) (a : Admission) → (drop_one item a).item ≡ item
 dropped-waits item a = by (waits_as item a) refl where
   by : (b : Bool) → waits_as item a ≡ b → (cond b (with_life Dropped a) a).item ≡ item → is_waiting (cond b (with_life Dropped a) a).life ≡ false
   by true is same = refl
-  by false is same = second_of (eqb a.item item) (is_waiting a.life) (eq-eqb a.item item same) is
+  by false is same = and_second (eqb a.item item) (is_waiting a.life) (eq-eqb a.item item same) is
 
 NoneWaits-cancel : (s : State) (who : Who) (item : ℕ) → NoneWaits item (work_next s who (Cancel item)).admissions
 NoneWaits-cancel s who item n b at = by (slice_get s.admissions n) (sym (slice_get-map (drop_one item) s.admissions n) ∙ at) where
@@ -236,7 +229,7 @@ Cancelled-cancel s who item number found =
     record {
       marked = subst (λ (ms : List ℕ). Marked number ms) (sym (ap (λ (o : Option ℕ). s.marks ++ option_to_list o) found)) (Marked-last number s.marks);
       run = a;
-      there = still-map (drop_one item) s.admissions number a (still-cond (waits_as item a) a Dropped (not_both (eqb a.item item) (is_waiting a.life) (running-not a.life runs)))
+      there = still-map (drop_one item) s.admissions number a (still-cond (waits_as item a) a Dropped (and_right (eqb a.item item) (is_waiting a.life) (running-not a.life runs)))
           (slice_get-get_or s.admissions number nothing is.0);
       item_is = eqb-true a.item item (first_so (eqb a.item item) (is_running a.life) is.1);
       runs = runs;

@@ -4,6 +4,7 @@ use Rattle.std.specs.Cmp.{second_so}
 use Rattle.std.proofs.lemmas.Bool.{eq-eqb, false≢true}
 use Rattle.std.proofs.lemmas.Bool.Decides.{nat_tests}
 use Rattle.std.proofs.lemmas.Option.{slice_get-map, same_Some}
+use Rattle.zk_base.proofs.Lists.{and_second, none_from_is_some}
 use Rattle.zk_base.specs.declared.ids.Who.{Who}
 use Rattle.zk_base.specs.declared.ids.Entry.{Entry}
 use Rattle.zk_base.specs.Legal.{state_after}
@@ -22,8 +23,8 @@ use Rattle.zk_model_work.specs.Machine.{submit, expiries, arm, disarm, disarm_on
 use Rattle.zk_model_work.specs.Answers.{submission}
 use Rattle.zk_model_work.specs.Histories.{IsFreshHistory, OfEach, announces, disarms, arm_after}
 use Rattle.zk_model_work.specs.Laws.{LiveAhead, ExpiresWhenDue, DisarmedWhenGivenUp, FateStays, OneLiveArm}
-use Rattle.zk_model_work.proofs.Moves.{still-push, pushed, still-map, unarmed, none-there, DisarmsJust, DisarmsNone, arms-next}
-use Rattle.zk_model_work.proofs.Overlaps.{position-none, second_of}
+use Rattle.zk_model_work.proofs.Moves.{still-push, pushed, still-map, unarmed, DisarmsJust, DisarmsNone, arms-next}
+use Rattle.zk_model_work.proofs.Overlaps.{position-none}
 
 -- in every state each live arm is ahead of the time, and an item has one at most
 record ArmsKeep (arms : List Arm) (time : ℕ) : Type 0 where
@@ -72,7 +73,7 @@ unexpired : (time : ℕ) (a : Arm) → is_live (expire_one time a).fate ≡ true
 unexpired time a = by (is_due time a) refl where
   by : (b : Bool) → is_due time a ≡ b → is_live (cond b (record a { fate = Expired }) a).fate ≡ true → (cond b (record a { fate = Expired }) a ≡ a) × (time < a.deadline)
   by true is live = absurd (cc)
-  by false is live = (refl, ahead_of time a.deadline (second_of (is_live a.fate) (leb a.deadline time) live is))
+  by false is live = (refl, ahead_of time a.deadline (and_second (is_live a.fate) (leb a.deadline time) live is))
 
 keep-expire : (xs : List Arm) (time later : ℕ) → ArmsKeep xs time → ArmsKeep (expire xs later) later
 keep-expire xs time later keep =
@@ -90,7 +91,7 @@ abbrev pub Unarmed : ℕ → List Arm → Type 0
 Unarmed item xs = (n : ℕ) (a : Arm) → slice_get xs n ≡ Some a → arms_item item a ≡ false
 
 other_item : (item : ℕ) (a : Arm) → arms_item item a ≡ false → is_live a.fate ≡ true → a.item ≡ item → ⊥
-other_item item a none live same = false≢true (sym (second_of (eqb a.item item) (is_live a.fate) (eq-eqb a.item item same) none) ∙ live)
+other_item item a none live same = false≢true (sym (and_second (eqb a.item item) (is_live a.fate) (eq-eqb a.item item same) none) ∙ live)
 
 keep-arm : (xs : List Arm) (time item queue deadline : ℕ) → Unarmed item xs → time < deadline → ArmsKeep xs time → ArmsKeep (arm xs item queue deadline) time
 keep-arm xs time item queue deadline none later keep = record {
@@ -227,6 +228,6 @@ disarm-none xs item none = same-map (disarm_one item) xs (λ n a at. ap (λ b. c
 
 pub schedule-free : (s : State) (who : Who) (item queue delay : ℕ) → is_pending_in s item ≡ false → work_next s who (Schedule item queue delay) ≡ work_next s who (Reschedule item queue delay)
 schedule-free s who item queue delay free =
-    let none = none-there (armed s.arms item) (unarmed (is_some (armed s.arms item)) (is_some (waiting s.admissions item)) (is_cancelling s.admissions s.marks item) free) in
+    let none = none_from_is_some (armed s.arms item) (unarmed (is_some (armed s.arms item)) (is_some (waiting s.admissions item)) (is_cancelling s.admissions s.marks item) free) in
     ap (λ (t : State). record t { entries = s.entries + 1 })
     (ap (λ b. cond b s (delayed s who item queue delay)) free ∙ ap (λ (arms : List Arm). delayed (record s { arms = arms }) who item queue delay) (sym (disarm-none s.arms item none)))

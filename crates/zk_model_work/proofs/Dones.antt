@@ -2,7 +2,7 @@
 use Rattle.std.proofs.Common.{◌≡◌, ℕ, zero, suc, ◌+◌, ◌<◌, ◌≤◌, ◌⊎◌, inl, inr, Bool, true, false, not, ◌&&◌, ◌||◌, cond, eqb, ltb, ◌==◌, Option, Some, None, is_some, option_map, List, [], ◌∷◌, ◌++◌, length, slice_get, All, refl, sym, ap, subst, ◌∙◌, append_assoc, arith}
 use Rattle.std.specs.List.{list_any}
 use Rattle.std.specs.Option.{option_map_or}
-use Rattle.std.proofs.lemmas.Bool.{eqb-true, eq-eqb, false≢true, ltb-true}
+use Rattle.std.proofs.lemmas.Bool.{eqb-true, eq-eqb, false≢true, ltb-true, and_from}
 use Rattle.std.proofs.lemmas.Bool.Decides.{nat_tests}
 use Rattle.std.proofs.lemmas.List.Elements.{All-head, All-tail}
 use Rattle.std.proofs.lemmas.Option.{same_Some, slice_get_cases}
@@ -30,7 +30,6 @@ use Rattle.zk_model_work.specs.Answers.{cancel_start_reply, flush_start_reply, d
 use Rattle.zk_model_work.specs.Histories.{WorkHistory, IsFreshHistory, OfEach, is_done_of, ends_wait_of, done_for, has_to_wait, HasStart, HasCome, MayGoOn}
 use Rattle.zk_model_work.specs.Laws.{MayBeDone, DoneHasItsStart}
 use Rattle.zk_model_work.proofs.Drains.{AllKeep, AllKeep-after, AllKeep-fresh, entries-after}
-use Rattle.zk_model_work.proofs.Overlaps.{and-true}
 use Rattle.zk_model_work.proofs.Entries.{entry-replied, fresh-front}
 use Rattle.zk_model_work.proofs.Replies.{said-where}
 use Rattle.zk_model_work.proofs.Found.{cancel-start-said}
@@ -222,9 +221,9 @@ may-end start h before since first_one who closing a fresh parts new same untold
     has.answered ∙ ap (λ n. list_any (λ (e : Entry WorkOp WorkReply). is_done_of n e.op) has.since) place
     ∙ ap (λ (l : WorkHistory). list_any (λ (e : Entry WorkOp WorkReply). is_done_of (length before) e.op) l) is.2 ∙ untold in
     let awaits : v.awaited ≡ a = ap (λ (u : Wait). u.awaited) v_is in
-    let two = and-true (v.place == length before) (v.player == who.number) (eq-eqb v.place (length before) place) (eq-eqb v.player who.number player) in
-    let three = and-true ((v.place == length before) && (v.player == who.number)) (not v.answered) two (ap not unsaid) in
-    let all = and-true (is_unanswered (length before) who.number v) (has_come t.admissions t.queues closing v.awaited) three (ap (has_come t.admissions t.queues closing) awaits ∙ come) in
+    let two = and_from (v.place == length before) (v.player == who.number) (eq-eqb v.place (length before) place) (eq-eqb v.player who.number player) in
+    let three = and_from ((v.place == length before) && (v.player == who.number)) (not v.answered) two (ap not unsaid) in
+    let all = and_from (is_unanswered (length before) who.number v) (has_come t.admissions t.queues closing v.awaited) three (ap (has_come t.admissions t.queues closing) awaits ∙ come) in
     at-any (closes (has_come t.admissions t.queues closing) who (length before)) t.waits found.0 v there all
 
 -- an admission whose life passes

@@ -158,10 +158,6 @@ changed-at c (q ∷ qs) (suc k) (suc m) new at = by (changed-at c qs k m new at)
 
 -- what a change of the admissions makes of a queue that is empty and idle
 
-and-false : (b : Bool) → (b && false) ≡ false
-and-false true = refl
-and-false false = refl
-
 rests-map : (f : Admission → Admission) (xs : List Admission) (queue : ℕ) → ((a : Admission) → is_open_at queue (f a) ≡ true → is_open_at queue a ≡ true) →
     is_empty_and_idle xs queue ≡ true → is_empty_and_idle (map f xs) queue ≡ true
 rests-map f [] queue closes rests = refl

@@ -3,11 +3,12 @@ use Rattle.std.proofs.Common.{◌≡◌, ℕ, ◌+◌, ◌<◌, ◌≤◌, ◌�
 use Rattle.std.specs.Cmp.{first_so, second_so}
 use Rattle.std.specs.List.{position, list_any}
 use Rattle.std.specs.Option.{option_map_or}
-use Rattle.std.proofs.lemmas.Bool.{eqb-true, eq-eqb, false≢true, cases_order}
+use Rattle.std.proofs.lemmas.Bool.{eqb-true, eq-eqb, false≢true, cases_order, and_from}
 use Rattle.std.proofs.lemmas.Bool.Decides.{nat_tests}
 use Rattle.std.proofs.lemmas.List.{append-nil}
 use Rattle.std.proofs.lemmas.List.Folds.{list_any_none}
 use Rattle.std.proofs.lemmas.Option.{same_Some}
+use Rattle.zk_base.proofs.Lists.{none_from_is_some}
 use Rattle.zk_base.specs.declared.ids.Who.{Who}
 use Rattle.zk_base.specs.Legal.{state_after}
 use Rattle.zk_model_work.specs.declared.parts.Life.{Life}
@@ -26,9 +27,8 @@ use Rattle.zk_model_work.specs.Machine.{hurried, flushed_of, flags_of, work_repl
 use Rattle.zk_model_work.specs.Answers.{flushed, cancel_start_reply, flush_start_reply}
 use Rattle.zk_model_work.specs.Histories.{WorkHistory, IsFreshHistory, OfEach, IsNewest, NoneIsOpen}
 use Rattle.zk_model_work.specs.Laws.{CancelStartTellsTheRun, FlushWaitsForNewest}
-use Rattle.zk_model_work.proofs.Moves.{none-there}
 use Rattle.zk_model_work.proofs.Lives.{open-waiting, open-running}
-use Rattle.zk_model_work.proofs.Overlaps.{position-none, and-true, runs-open, waiting-running, Ordered, Ordered-next, Ordered-history}
+use Rattle.zk_model_work.proofs.Overlaps.{position-none, runs-open, waiting-running, Ordered, Ordered-next, Ordered-history}
 use Rattle.zk_model_work.proofs.Entries.{at_each, at_each_in}
 use Rattle.zk_model_work.proofs.Replies.{position-at}
 
@@ -44,7 +44,7 @@ any-none p none xs = list_any_none p xs (λ i d within. none (get_or xs i d))
 
 -- what is being cancelled runs
 pub cancelling-runs : (xs : List Admission) (marks : List ℕ) (item : ℕ) → is_some (running xs item) ≡ false → is_cancelling xs marks item ≡ false
-cancelling-runs xs marks item idle = any-none (passes_at (runs_as item) xs) (λ n. passes-none (runs_as item) xs n (none-there (running xs item) idle)) marks
+cancelling-runs xs marks item idle = any-none (passes_at (runs_as item) xs) (λ n. passes-none (runs_as item) xs n (none_from_is_some (running xs item) idle)) marks
 
 -- what is being flushed waits or runs
 not-open-as : (b : Bool) (life : Life) → (b && is_running life) ≡ false → (b && is_waiting life) ≡ false → (b && is_open life) ≡ false
@@ -64,7 +64,7 @@ pub flushing-open : (xs : List Admission) (waits : List Wait) (item : ℕ) → i
 flushing-open xs waits item idle empty = any-none (λ (w : Wait). flushes xs item w.awaited) (λ w. by w.awaited) waits where
   by : (a : Awaited) → flushes xs item a ≡ false
   by (awaiteds.Cancel n) = refl
-  by (awaiteds.Flush n) = closed-as xs item n (none-there (running xs item) idle) (none-there (waiting xs item) empty)
+  by (awaiteds.Flush n) = closed-as xs item n (none_from_is_some (running xs item) idle) (none_from_is_some (waiting xs item) empty)
   by (awaiteds.Drain queue n) = refl
 
 -- the answer to a sync cancel, by the flags before it
@@ -116,7 +116,7 @@ none-open xs item idle empty n a at same = by (is_open a.life) refl where
   by : (b : Bool) → is_open a.life ≡ b → is_open a.life ≡ false
   by false is = is
   by true is =
-      absurd (false≢true (sym (not-open-as (eqb a.item item) a.life (position-none (runs_as item) xs n a idle at) (position-none (waits_as item) xs n a empty at)) ∙ and-true (eqb a.item item) (is_open a.life) (eq-eqb a.item item same) is))
+      absurd (false≢true (sym (not-open-as (eqb a.item item) a.life (position-none (runs_as item) xs n a idle at) (position-none (waits_as item) xs n a empty at)) ∙ and_from (eqb a.item item) (is_open a.life) (eq-eqb a.item item same) is))
 
 -- the one that waits is the newest, and else the one that runs
 newest-waits : (s : State) (item n : ℕ) → Ordered s.admissions → waiting s.admissions item ≡ Some n → IsNewest s item n
@@ -144,7 +144,7 @@ newest-runs s item n ordered empty is =
       by a opens there item_is m b at same so (inr (inl below)) = omega arith
       by a opens there item_is m b at same so (inr (inr above)) =
           let waits = (ordered n m a b above there at (item_is ∙ sym same) opens so).1 in
-          absurd (false≢true (sym (position-none (waits_as item) s.admissions m b empty at) ∙ and-true (eqb b.item item) (is_waiting b.life) (eq-eqb b.item item same) waits))
+          absurd (false≢true (sym (position-none (waits_as item) s.admissions m b empty at) ∙ and_from (eqb b.item item) (is_waiting b.life) (eq-eqb b.item item same) waits))
 
 flush-found : (s t : State) (who : Who) (item : ℕ) → t.admissions ≡ hurried s who item → Ordered t.admissions →
     ((number : ℕ) × (flush_start_reply (flushed (waiting t.admissions item) (running t.admissions item)) ≡ replies.WaitFor number) × IsNewest t item number) ⊎ ((flush_start_reply (flushed (waiting t.admissions item) (running t.admissions item)) ≡ replies.Truth false) × NoneIsOpen t item)

@@ -1,6 +1,6 @@
 -- What an entry makes, and where it goes.
 use Rattle.std.proofs.Common.{◌≡◌, ℕ, suc, ◌+◌, ◌≤◌, ◌⊎◌, inl, inr, Bool, true, false, not, ◌&&◌, cond, eqb, ◌==◌, Option, Some, None, option_map, option_to_list, List, [], ◌∷◌, ◌++◌, length, map, find, slice_get, refl, sym, ap, subst, ◌∙◌, arith}
-use Rattle.std.proofs.lemmas.Bool.{eq-eqb, false≢true}
+use Rattle.std.proofs.lemmas.Bool.{eq-eqb, false≢true, and_right}
 use Rattle.std.proofs.lemmas.List.{length-append, length-map}
 use Rattle.std.proofs.lemmas.Option.{same_Some, slice_get_within, slice_get-map}
 use Rattle.zk_base.specs.declared.ids.Who.{Who}
@@ -26,7 +26,7 @@ use Rattle.zk_model_work.specs.Machine.{submission_in, submit, submit_arms, expi
 use Rattle.zk_model_work.specs.Histories.{OfEach, cancels, hands_out, submitter, Makes, target_of, IsArmedFor, Named, Told, IsNewest, NoneIsOpen}
 use Rattle.zk_model_work.specs.Laws.{MadeWaiting, WaitsOn, GoesToItsQueue, StartedAdmits}
 use Rattle.zk_model_work.proofs.Moves.{still-submit, schedule-keeps, delayed-keeps}
-use Rattle.zk_model_work.proofs.Overlaps.{not_both, begin-is, still-cond}
+use Rattle.zk_model_work.proofs.Overlaps.{begin-is, still-cond}
 use Rattle.zk_model_work.proofs.Lives.{set_life-aside}
 use Rattle.zk_model_work.proofs.Begins.{Begun-reply}
 use Rattle.zk_model_work.proofs.Drains.{made-took}
@@ -234,7 +234,7 @@ waits-next s who (Begin queue) reply n a is at waits kept =
     let apart : eqb it.number n ≡ false = sym (ap (hands_out n) it.replied) ∙ kept in
     ap (λ (xs : List Admission). slice_get xs n) (begin-is s.admissions queue reply it) ∙ set_life-aside s.admissions it.number n Running (λ same. false≢true (sym apart ∙ eq-eqb it.number n same)) ∙ at
 waits-next s who (End queue) reply n a is at waits kept =
-    slice_get-map (end_one queue) s.admissions n ∙ ap (option_map (end_one queue)) at ∙ ap Some (still-cond (runs_on queue a) a Ended (not_both (eqb a.queue queue) (is_running a.life) (ap is_running waits)))
+    slice_get-map (end_one queue) s.admissions n ∙ ap (option_map (end_one queue)) at ∙ ap Some (still-cond (runs_on queue a) a Ended (and_right (eqb a.queue queue) (is_running a.life) (ap is_running waits)))
 
 pub waits_on : OfEach WaitsOn
 waits_on = at_each _ (λ s e is number a at waits kept. waits-next s e.who e.op e.reply number a is at waits kept)

@@ -3,7 +3,7 @@ use Rattle.std.proofs.Common.{◌≡◌, ℕ, ◌⊎◌, inl, inr, Bool, true, f
 use Rattle.std.specs.Cmp.{first_so, second_so}
 use Rattle.std.specs.List.{list_any}
 use Rattle.std.specs.Option.{option_map_or}
-use Rattle.std.proofs.lemmas.Bool.{eqb-true, eq-eqb, false≢true}
+use Rattle.std.proofs.lemmas.Bool.{eqb-true, eq-eqb, false≢true, and_from}
 use Rattle.std.proofs.lemmas.List.{append-nil}
 use Rattle.std.proofs.lemmas.List.Folds.{list_any-append}
 use Rattle.std.proofs.lemmas.Option.{same_Some}
@@ -21,7 +21,6 @@ use Rattle.zk_model_work.specs.Machine.{disarm, work_next, work_machine}
 use Rattle.zk_model_work.specs.Histories.{WorkHistory, IsFreshHistory, Cancels, IsBeingCancelled, running_after}
 use Rattle.zk_model_work.proofs.Moves.{schedule-keeps, delayed-keeps}
 use Rattle.zk_model_work.proofs.Outcomes.{kept-in_whole}
-use Rattle.zk_model_work.proofs.Overlaps.{and-true}
 use Rattle.zk_model_work.proofs.Singles.{runs_is}
 use Rattle.zk_model_work.proofs.Replies.{position-at}
 
@@ -189,7 +188,7 @@ is-cancelling start h item fresh it =
     let kept = kept-in_whole start h it.before (it.cancel ∷ it.since) it.run was.0 it.parts was.1 in
     let first = eqb-true was.0.item item (first_so (eqb was.0.item item) (is_running was.0.life) was.2) in
     let life : kept.0.life ≡ Running = same_Some kept.0.life Running (ap (option_map (λ (b : Admission). b.life)) (sym kept.1) ∙ it.runs) in
-    let runs = and-true (eqb kept.0.item item) (is_running kept.0.life) (eq-eqb kept.0.item item (kept.2.item ∙ first)) (ap is_running life) in
+    let runs = and_from (eqb kept.0.item item) (is_running kept.0.life) (eq-eqb kept.0.item item (kept.2.item ∙ first)) (ap is_running life) in
     let passes : p it.run ≡ true = ap (λ (o : Option Admission). option_map_or (runs_as item) o false) kept.1 ∙ runs in
     ap (list_any p) (marks-are start h fresh) ∙ ap (λ (l : WorkHistory). list_any p (found_in start l)) it.parts
     ∙ found-any p start it.before it.since it.cancel item it.run it.cancels it.found passes

@@ -2,6 +2,7 @@
 use Rattle.std.proofs.Common.{◌≡◌, ℕ, zero, suc, ◌+◌, ◌⊎◌, inl, inr, Bool, true, false, ◌||◌, cond, eqb, Option, Some, None, is_some, option_map, option_to_list, List, [], ◌∷◌, ◌++◌, length, map, slice_get, refl, ap, ◌∙◌}
 use Rattle.std.specs.Option.{option_map_or}
 use Rattle.std.proofs.lemmas.Option.{slice_get-map, same_Some}
+use Rattle.zk_base.proofs.Lists.{none_from_is_some}
 use Rattle.zk_base.specs.declared.ids.Who.{Who}
 use Rattle.zk_model_work.specs.declared.parts.Admission.{Admission}
 use Rattle.zk_model_work.specs.declared.parts.Arm.{Arm}
@@ -112,10 +113,6 @@ pub unarmed : (b c d : Bool) → (b || c || d) ≡ false → b ≡ false
 unarmed true c d free = absurd (cc)
 unarmed false c d free = refl
 
-pub none-there : {A : Type 0} (o : Option A) → is_some o ≡ false → o ≡ None
-none-there None is = refl
-none-there (Some x) is = absurd (cc)
-
 -- the operation gives up the delay of this item and of no other, or of none
 abbrev pub DisarmsJust : ℕ → WorkOp → Type 0
 DisarmsJust item op = (other : ℕ) → disarms other op ≡ eqb other item
@@ -138,7 +135,7 @@ arms-next P s who (FlushStart item) disarms arms rearms expires same = disarms i
 arms-next P s who (FlushDone place) disarms arms rearms expires same = same (λ other. refl)
 arms-next P s who (Schedule item queue delay) disarms arms rearms expires same =
     schedule-keeps (λ t. P t.arms t.time) s who item queue delay (same (λ other. refl)) (same (λ other. refl))
-    (λ free later. arms item queue delay (λ other. refl) (none-there (armed s.arms item) (unarmed (is_some (armed s.arms item)) (is_some (waiting s.admissions item)) (is_cancelling s.admissions s.marks item) free)) later)
+    (λ free later. arms item queue delay (λ other. refl) (none_from_is_some (armed s.arms item) (unarmed (is_some (armed s.arms item)) (is_some (waiting s.admissions item)) (is_cancelling s.admissions s.marks item) free)) later)
 arms-next P s who (Reschedule item queue delay) disarms arms rearms expires same =
     delayed-keeps (λ t. P t.arms t.time) (record s { arms = disarm s.arms item }) who item queue delay (disarms item (λ other. refl)) (rearms item queue delay (λ other. refl))
 arms-next P s who (Remaining item) disarms arms rearms expires same = same (λ other. refl)

@@ -2,7 +2,7 @@
 use Rattle.std.proofs.Common.{◌≡◌, ℕ, zero, suc, ◌+◌, ◌<◌, ◌≤◌, ◌⊎◌, inl, inr, Bool, true, false, ◌||◌, cond, eqb, ltb, leb, Option, Some, None, option_map, List, [], ◌∷◌, map, filter, get_or, slice_get, All, refl, sym, ap, subst, ◌∙◌, add-zero, arith}
 use Rattle.std.specs.Cmp.{first_so, second_so}
 use Rattle.std.specs.List.{list_any}
-use Rattle.std.proofs.lemmas.Bool.{eqb-true, eq-eqb, cases_lt}
+use Rattle.std.proofs.lemmas.Bool.{eqb-true, eq-eqb, cases_lt, and_from}
 use Rattle.std.proofs.lemmas.Bool.Decides.{nat_tests}
 use Rattle.std.proofs.lemmas.List.Elements.{All-nil, All-cons, All-head, All-tail, All-filter, All-weaker}
 use Rattle.std.proofs.lemmas.Option.{same_Some, slice_get-map, slice_get_within, get_or_from_slice_get}
@@ -20,7 +20,6 @@ use Rattle.zk_model_work.specs.Histories.{OfEach, IsDueAt, AreToldInOrder}
 use Rattle.zk_model_work.specs.Laws.{ExpireInOrder}
 use Rattle.zk_model_work.proofs.Delays.{one_live_arm, told_items}
 use Rattle.zk_model_work.proofs.Entries.{at_each_in}
-use Rattle.zk_model_work.proofs.Overlaps.{and-true}
 use Rattle.zk_model_work.proofs.Replies.{OneIsLive, live-is}
 use Rattle.zk_model_work.proofs.Waits.{any-at}
 
@@ -198,7 +197,7 @@ any-placed time n (x ∷ xs) (suc k) a at is = by (is_due time x) (ap (λ m. lis
 due-found : (s : State) (time place : ℕ) (a : Arm) → IsDueAt s time place a → (k : ℕ) × (t : Placed) × (slice_get (due_places time s.arms) k ≡ Some t) × (t.arm ≡ a)
 due-found s time place a is =
     let p : Placed → Bool = λ t. eqb t.place (0 + place) in
-    let passes = and-true (is_live a.fate) (leb a.deadline time) (ap is_live is.1) (later-not a.deadline time is.2) in
+    let passes = and_from (is_live a.fate) (leb a.deadline time) (ap is_live is.1) (later-not a.deadline time is.2) in
     let found = any-at p (due_places time s.arms) (list_any-by_key p key (filter (expires time) (placed_from 0 s.arms)) ∙ any-placed time 0 s.arms place a is.0 passes) in
     let same : found.1.place ≡ place = let at = eqb-true found.1.place (0 + place) found.3 in omega arith in
     (found.0, found.1, found.2, same_Some found.1.arm a (sym (stands-at s time found.0 found.1 found.2).0 ∙ ap (slice_get s.arms) same ∙ is.0))

@@ -1,7 +1,7 @@
 -- What becomes of an admission, and by which entry.
 use Rattle.std.proofs.Common.{◌≡◌, ℕ, true, cond, eqb, Some, option_map, List, [], ◌∷◌, ◌++◌, slice_get, refl, sym, ap, ◌∙◌}
 use Rattle.std.specs.Cmp.{first_so, second_so}
-use Rattle.std.proofs.lemmas.Bool.{eqb-true, eq-eqb}
+use Rattle.std.proofs.lemmas.Bool.{eqb-true, eq-eqb, and_from}
 use Rattle.std.proofs.lemmas.Option.{slice_get-map}
 use Rattle.zk_base.specs.declared.ids.Entry.{Entry}
 use Rattle.zk_base.specs.Legal.{state_after}
@@ -21,7 +21,7 @@ use Rattle.zk_model_work.specs.Laws.{AdmissionStays, OutcomeStays, BegunFromItsQ
 use Rattle.zk_model_work.proofs.Moves.{is_begin}
 use Rattle.zk_model_work.proofs.Lives.{Keeps, Kept-after, IsFirst-line, set_life-at}
 use Rattle.zk_model_work.proofs.Begins.{Begun-reply, Replays-parts}
-use Rattle.zk_model_work.proofs.Overlaps.{and-true, begin-is, same_item}
+use Rattle.zk_model_work.proofs.Overlaps.{begin-is, same_item}
 
 -- what the front holds is kept in the whole
 pub kept-in_whole : (start : State) (h front rest : List (Entry WorkOp WorkReply)) (number : ℕ) (a : Admission) → h ≡ front ++ rest → admission_after start front number ≡ Some a → (b : Admission) × (admission_after start h number ≡ Some b) × Keeps a b
@@ -100,7 +100,7 @@ ended_by_its_end start h fresh = record {
   each = λ front rest e parts number a at runs ended.
       let s = state_after work_machine start front in
       let next : state_after work_machine start (front ++ e ∷ []) ≡ work_next s e.who (End a.queue) = state_after-append work_machine start front (e ∷ []) ∙ ap (work_next s e.who) (is_end a.queue e.op ended) in
-      let on = and-true (eqb a.queue a.queue) (is_running a.life) (eq-eqb a.queue a.queue refl) (ap is_running runs) in
+      let on = and_from (eqb a.queue a.queue) (is_running a.life) (eq-eqb a.queue a.queue refl) (ap is_running runs) in
       ap (λ (u : State). slice_get u.admissions number) next ∙ slice_get-map (end_one a.queue) s.admissions number ∙ ap (option_map (end_one a.queue)) at
       ∙ ap (λ b. Some (cond b (with_life Ended a) a)) on;
 }

@@ -3,9 +3,10 @@ use Rattle.std.proofs.Common.{◌≡◌, ℕ, zero, suc, ◌+◌, ◌<◌, ◌�
 use Rattle.std.specs.Cmp.{first_so, second_so}
 use Rattle.std.specs.List.{position, position_or_len, list_any}
 use Rattle.std.specs.Option.{option_map_or, option_or}
-use Rattle.std.proofs.lemmas.Bool.{eqb-true, eq-eqb, false≢true, cases_order}
+use Rattle.std.proofs.lemmas.Bool.{eqb-true, eq-eqb, false≢true, cases_order, and_from, and_left, and_right, or_parts}
 use Rattle.std.proofs.lemmas.Bool.Decides.{eqb_tells, nat_tests}
 use Rattle.std.proofs.lemmas.Option.{slice_get-map, slice_get_within, same_Some}
+use Rattle.zk_base.proofs.Lists.{and_second, none_from_is_some}
 use Rattle.zk_base.specs.declared.ids.Who.{Who}
 use Rattle.zk_base.specs.declared.ids.Entry.{Entry}
 use Rattle.zk_base.specs.Legal.{state_after, Replays}
@@ -147,7 +148,7 @@ submission_at-within i queues caller (Some number) queue is = by (slice_get queu
       let within = slice_get_within queues number q there in
       omega arith
 
--- a submission that admits finds the item neither cancelled nor waiting, and goes to its target
+-- a submission that admits finds the item neither cancelled or_parts waiting, and goes to its target
 pub record Admits (i : Item) (named : Option ℕ) (queue : ℕ) : Type 0 where
   pub not_cancelling : i.cancelling ≡ false
   pub not_waiting : i.queued ≡ false
@@ -169,21 +170,9 @@ submission-within i queues caller named queue is =
     let two = past i.queued Already at queue refl one.1 in
     submission_at-within i queues caller (target i named) queue two.1
 
-is_none-None : {A : Type 0} (o : Option A) → is_some o ≡ false → o ≡ None
-is_none-None None is = refl
-is_none-None (Some x) is = absurd (cc)
-
 None-is_none : {A : Type 0} (o : Option A) → is_none o ≡ true → o ≡ None
 None-is_none None is = refl
 None-is_none (Some x) is = absurd (cc)
-
-pub second_of : (b c : Bool) → b ≡ true → (b && c) ≡ false → c ≡ false
-second_of true c is both = both
-second_of false c is both = absurd (cc)
-
-pub and-true : (b c : Bool) → b ≡ true → c ≡ true → (b && c) ≡ true
-and-true true c is there = there
-and-true false c is there = absurd (cc)
 
 -- of what runs an item, each is of the queue of any other
 one_queue : (xs : List Admission) (item : ℕ) → Ordered xs → (n m : ℕ) (a b : Admission) → slice_get xs n ≡ Some a → runs_as item a ≡ true → slice_get xs m ≡ Some b → runs_as item b ≡ true → b.queue ≡ a.queue
@@ -207,9 +196,9 @@ Ordered-push xs marks item named queue admits ordered m n a b below at there sam
   newest : slice_get xs m ≡ Some a → waiting_at item queue ≡ b → Follow a b
   newest old is =
       let item_is : a.item ≡ item = same ∙ ap (λ (c : Admission). c.item) (sym is) in
-      let none = position-none (waits_as item) xs m a (is_none-None (waiting xs item) admits.not_waiting) old in
-      let a_runs = runs-open a.life open_a (second_of (eqb a.item item) (is_waiting a.life) (eq-eqb a.item item item_is) none) in
-      let runs = and-true (eqb a.item item) (is_running a.life) (eq-eqb a.item item item_is) a_runs in
+      let none = position-none (waits_as item) xs m a (none_from_is_some (waiting xs item) admits.not_waiting) old in
+      let a_runs = runs-open a.life open_a (and_second (eqb a.item item) (is_waiting a.life) (eq-eqb a.item item item_is) none) in
+      let runs = and_from (eqb a.item item) (is_running a.life) (eq-eqb a.item item item_is) a_runs in
       let found : running_queue xs item ≡ Some a.queue = found_queue (runs_as item) xs a.queue m a (λ k c there passes. one_queue xs item ordered m k a c old runs there passes) old runs in
       let to : Some a.queue ≡ Some queue = sym (ap (λ (o : Option ℕ). option_or o (option_or named (last_queue xs item))) found) ∙ admits.target_is in
       (a_runs, ap (λ (c : Admission). is_waiting c.life) (sym is), same_Some a.queue queue to ∙ ap (λ (c : Admission). c.queue) is)
@@ -263,7 +252,7 @@ Ordered-set_life xs queue m first_one is first_there idle ordered i j a b below 
       let place = t.place in
       let three = ordered i m a t.was (omega arith) old t.there item_is open_a (open-waiting t.was.life (waits t.was t.there)) in
       let queue_is : a.queue ≡ queue = three.2 ∙ eqb-true t.was.queue queue (first_so (eqb t.was.queue queue) (is_waiting t.was.life) (is.waits t.was t.there)) in
-      let runs = and-true (eqb a.queue queue) (is_running a.life) (eq-eqb a.queue queue queue_is) three.0 in
+      let runs = and_from (eqb a.queue queue) (is_running a.life) (eq-eqb a.queue queue queue_is) three.0 in
       absurd (false≢true (sym (position-none (runs_on queue) xs i a idle old) ∙ runs))
 
   by : Taken xs m i a ⊎ (slice_get xs i ≡ Some a) → Taken xs m j b ⊎ (slice_get xs j ≡ Some b) → Follow a b
@@ -351,7 +340,7 @@ runs-alone xs queue number running a b ordered at runs there waits same queue_is
   by (inl is) = waiting-running b.life waits (ap (λ (c : Admission). is_running c.life) (same_Some b a (sym there ∙ ap (slice_get xs) (sym is) ∙ at)) ∙ runs)
   by (inr (inl below)) =
       let three = ordered running number a b below at there same (open-running a.life runs) (open-waiting b.life waits) in
-      let on = and-true (eqb a.queue queue) (is_running a.life) (eq-eqb a.queue queue (three.2 ∙ queue_is)) runs in
+      let on = and_from (eqb a.queue queue) (is_running a.life) (eq-eqb a.queue queue (three.2 ∙ queue_is)) runs in
       false≢true (sym (position-none (runs_on queue) xs running a idle at) ∙ on)
   by (inr (inr above)) = waiting-running b.life waits (ordered number running b a above there at (sym same) (open-waiting b.life waits) (open-running a.life runs)).0
 
@@ -359,14 +348,6 @@ runs-alone xs queue number running a b ordered at runs there waits same queue_is
 pub still-cond : (b : Bool) (a : Admission) (life : Life) → b ≡ false → cond b (with_life life a) a ≡ a
 still-cond true a life is = absurd (cc)
 still-cond false a life is = refl
-
-pub not_both : (b c : Bool) → c ≡ false → (b && c) ≡ false
-not_both true c is = is
-not_both false c is = refl
-
-pub not_first : (b c : Bool) → b ≡ false → (b && c) ≡ false
-not_first true c is = absurd (cc)
-not_first false c is = refl
 
 pub running-not : (life : Life) → is_running life ≡ true → is_waiting life ≡ false
 running-not Waiting r = absurd (cc)
@@ -389,21 +370,17 @@ still-next : (s : State) (who : Who) (op : WorkOp) (n : ℕ) (a : Admission) →
 still-next s who op n a runs goes_on at =
     admissions-next (λ ys. slice_get ys n ≡ Some a) s who op
     (λ ys item named stays there. still-submit ys item (submission (item_of ys s.marks item) s.queues (submitter who op) named) n a there)
-    (λ item cancels. still-map (drop_one item) s.admissions n a (still-cond (waits_as item a) a Dropped (not_both (eqb a.item item) (is_waiting a.life) (running-not a.life runs))) at)
+    (λ item cancels. still-map (drop_one item) s.admissions n a (still-cond (waits_as item a) a Dropped (and_right (eqb a.item item) (is_waiting a.life) (running-not a.life runs))) at)
     (λ queue op_is. still-begin s.admissions queue n a runs at)
     (λ queue op_is. still-map (end_one queue) s.admissions n a
-    (still-cond (runs_on queue a) a Ended (not_first (eqb a.queue queue) (is_running a.life) (ap (ends a.queue) (sym op_is) ∙ goes_on))) at)
+    (still-cond (runs_on queue a) a Ended (and_left (eqb a.queue queue) (is_running a.life) (ap (ends a.queue) (sym op_is) ∙ goes_on))) at)
     at
-
-nor : (b c : Bool) → (b || c) ≡ false → (b ≡ false) × (c ≡ false)
-nor true c is = absurd (cc)
-nor false c is = (refl, is)
 
 still-after : (s : State) (h : List (Entry WorkOp WorkReply)) (n : ℕ) (a : Admission) → is_running a.life ≡ true → list_any (λ e. ends a.queue e.op) h ≡ false → slice_get s.admissions n ≡ Some a →
     slice_get (state_after work_machine s h).admissions n ≡ Some a
 still-after s [] n a runs goes_on at = at
 still-after s (e ∷ es) n a runs goes_on at =
-    let both = nor (ends a.queue e.op) (list_any (λ f. ends a.queue f.op) es) goes_on in
+    let both = or_parts (ends a.queue e.op) (list_any (λ f. ends a.queue f.op) es) goes_on in
     still-after (work_next s e.who e.op) es n a runs both.1 (still-next s e.who e.op n a runs both.0 at)
 
 pub runs_to_its_end : OfEach RunsToItsEnd

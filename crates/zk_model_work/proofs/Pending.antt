@@ -1,6 +1,6 @@
 -- What a schedule tells, and what a flush hurries.
 use Rattle.std.proofs.Common.{◌≡◌, ℕ, ◌⊎◌, inl, inr, Bool, true, false, not, ◌||◌, cond, eqb, ◌==◌, Option, Some, None, is_some, option_to_list, List, [], ◌∷◌, ◌++◌, length, slice_get, refl, sym, ap, ◌∙◌}
-use Rattle.std.proofs.lemmas.Bool.{eq-eqb, false≢true}
+use Rattle.std.proofs.lemmas.Bool.{eq-eqb, false≢true, and_from}
 use Rattle.std.proofs.lemmas.Option.{same_Some}
 use Rattle.zk_base.specs.declared.errors.Errno.{Errno}
 use Rattle.zk_base.specs.declared.errors.Errno.TheVariants as errnos
@@ -21,7 +21,7 @@ use Rattle.zk_model_work.specs.Answers.{target, submission}
 use Rattle.zk_model_work.specs.Machine.{submission_in, submit, submit_arms, hurried, is_pending_in, delayed, schedule, schedule_reply_in, delay_reply_in, work_reply, work_next, work_machine}
 use Rattle.zk_model_work.specs.Histories.{WorkHistory, IsFreshHistory, OfEach, is_armed, target_of, bars, IsArmedFor, IsPending, IsBeingCancelled}
 use Rattle.zk_model_work.specs.Laws.{ScheduleTells, FlushHurries}
-use Rattle.zk_model_work.proofs.Overlaps.{position-none, and-true}
+use Rattle.zk_model_work.proofs.Overlaps.{position-none}
 use Rattle.zk_model_work.proofs.Delays.{one_live_arm}
 use Rattle.zk_model_work.proofs.Entries.{entry-replied, fresh-front}
 use Rattle.zk_model_work.proofs.Replies.{live-arm}
@@ -137,7 +137,7 @@ schedule_tells start h fresh front rest e item queue delay parts = (scheduled, u
 waits-some : (xs : List Admission) (item n : ℕ) (a : Admission) → slice_get xs n ≡ Some a → a.item ≡ item → is_waiting a.life ≡ true → is_some (waiting xs item) ≡ true
 waits-some xs item n a at same waits = by (waiting xs item) refl where
   by : (o : Option ℕ) → waiting xs item ≡ o → is_some o ≡ true
-  by None is = absurd (false≢true (sym (position-none (waits_as item) xs n a is at) ∙ and-true (eqb a.item item) (is_waiting a.life) (eq-eqb a.item item same) waits))
+  by None is = absurd (false≢true (sym (position-none (waits_as item) xs n a is at) ∙ and_from (eqb a.item item) (is_waiting a.life) (eq-eqb a.item item same) waits))
   by (Some k) is = refl
 
 leaves-waiting : (xs : List Admission) (marks : List ℕ) (queues : List Queue) (caller named : Option ℕ) (item number : ℕ) (q : Queue) → is_cancelling xs marks item ≡ false →

@@ -4,7 +4,7 @@ use Rattle.std.specs.Cmp.{first_so, second_so}
 use Rattle.std.specs.List.{position}
 use Rattle.std.specs.Option.{option_map_or, option_and_then}
 use Rattle.std.proofs.Math.Seq.{drop-append_seam, drop-length}
-use Rattle.std.proofs.lemmas.Bool.{eqb-true, eq-eqb, false≢true}
+use Rattle.std.proofs.lemmas.Bool.{eqb-true, eq-eqb, false≢true, and_from}
 use Rattle.std.proofs.lemmas.List.Quantifiers.{position-Some}
 use Rattle.std.proofs.lemmas.Option.{same_Some, slice_get-get_or}
 use Rattle.zk_base.specs.declared.ids.Who.{Who}
@@ -31,7 +31,7 @@ use Rattle.zk_model_work.specs.Laws.{ByItsWorker, EndFindsARun, RemainingTells, 
 use Rattle.zk_model_work.proofs.Lives.{IsFirst-line}
 use Rattle.zk_model_work.proofs.Lines.{first_of_places}
 use Rattle.zk_model_work.proofs.Begins.{Begun-reply}
-use Rattle.zk_model_work.proofs.Overlaps.{position-none, and-true}
+use Rattle.zk_model_work.proofs.Overlaps.{position-none}
 use Rattle.zk_model_work.proofs.Singles.{runs_is}
 use Rattle.zk_model_work.proofs.Delays.{one_live_arm}
 use Rattle.zk_model_work.proofs.Entries.{at_each, at_each_in}
@@ -131,7 +131,7 @@ OneIsLive s = (place other : ℕ) (a b : Arm) → slice_get s.arms place ≡ Som
 
 pub live-arm : (s : State) (item place : ℕ) (a : Arm) → OneIsLive s → slice_get s.arms place ≡ Some a → a.item ≡ item → a.fate ≡ Live → live_arm s.arms item ≡ Some a
 live-arm s item place a one at item_is live =
-    find-one (arms_item item) s.arms place a at (and-true (eqb a.item item) (is_live a.fate) (eq-eqb a.item item item_is) (ap is_live live))
+    find-one (arms_item item) s.arms place a at (and_from (eqb a.item item) (is_live a.fate) (eq-eqb a.item item item_is) (ap is_live live))
     (λ m b there passes.
     let it = item-live item b passes in
     let same = one m place b a there at (it.0 ∙ sym item_is) it.1 live in
@@ -248,7 +248,7 @@ possible-begin : (s : State) (who : Who) (queue number : ℕ) (a : Admission) �
     slice_get s.admissions number ≡ Some a → waits_for queue a ≡ true → (reply : WorkReply) × (work_reply s who (Begin queue) ≡ Some reply)
 possible-begin s who queue number a worker idle at waits = by (first (line s.admissions queue)) refl where
   may : may_begin s.admissions s.queues who queue ≡ true
-  may = and-true (is_worker s.queues queue who.number) (is_none (run s.admissions queue)) worker (ap is_none idle)
+  may = and_from (is_worker s.queues queue who.number) (is_none (run s.admissions queue)) worker (ap is_none idle)
 
   taken : (number : ℕ) (o : Option Admission) → (o ≡ None → ⊥) → (reply : WorkReply) × (option_map (λ (a : Admission). replies.Run a.item number) o ≡ Some reply)
   taken number None some = absurd (some refl)
@@ -275,7 +275,7 @@ pub may_always_begin : OfEach MayBegin
 may_always_begin start h fresh who queue number q a there works at to waits idle =
     let s = state_after work_machine start h in
     possible-begin s who queue number a (is-worker s.queues queue who.number q there works) (none-runs s.admissions queue idle) at
-    (and-true (eqb a.queue queue) (is_waiting a.life) (eq-eqb a.queue queue to) (ap is_waiting waits))
+    (and_from (eqb a.queue queue) (is_waiting a.life) (eq-eqb a.queue queue to) (ap is_waiting waits))
 
 some-runs : (xs : List Admission) (queue number : ℕ) (a : Admission) → slice_get xs number ≡ Some a → runs_on queue a ≡ true → is_some (run xs queue) ≡ true
 some-runs xs queue number a at runs = by (run xs queue) refl where
@@ -286,8 +286,8 @@ some-runs xs queue number a at runs = by (run xs queue) refl where
 pub may_always_end : OfEach MayEnd
 may_always_end start h fresh who queue number q a there works at to runs =
     let s = state_after work_machine start h in
-    let found = some-runs s.admissions queue number a at (and-true (eqb a.queue queue) (is_running a.life) (eq-eqb a.queue queue to) (ap is_running runs)) in
-    (replies.Done, ap (λ b. cond b (Some replies.Done) None) (and-true (is_worker s.queues queue who.number) (is_some (run s.admissions queue)) (is-worker s.queues queue who.number q there works) found))
+    let found = some-runs s.admissions queue number a at (and_from (eqb a.queue queue) (is_running a.life) (eq-eqb a.queue queue to) (ap is_running runs)) in
+    (replies.Done, ap (λ b. cond b (Some replies.Done) None) (and_from (is_worker s.queues queue who.number) (is_some (run s.admissions queue)) (is-worker s.queues queue who.number q there works) found))
 
 possible-always : (s : State) (who : Who) (op : WorkOp) → is_awaited op ≡ false → (reply : WorkReply) × (work_reply s who op ≡ Some reply)
 possible-always s who (Submit item named) never = (_, refl)

@@ -1,7 +1,7 @@
 -- One at a time: what an item has, and what a queue runs.
 use Rattle.std.proofs.Common.{◌≡◌, ℕ, ◌⊎◌, inl, inr, Bool, true, false, cond, eqb, Option, Some, None, option_map, List, [], ◌∷◌, ◌++◌, length, map, slice_get, refl, sym, ap, subst, ◌∙◌}
 use Rattle.std.specs.Cmp.{first_so}
-use Rattle.std.proofs.lemmas.Bool.{eqb-true, eq-eqb, false≢true}
+use Rattle.std.proofs.lemmas.Bool.{eqb-true, eq-eqb, false≢true, and_from}
 use Rattle.std.proofs.lemmas.List.{append-nil}
 use Rattle.std.proofs.lemmas.Option.{slice_get-map, same_Some}
 use Rattle.zk_base.specs.declared.ids.Who.{Who}
@@ -24,7 +24,7 @@ use Rattle.zk_model_work.specs.Laws.{OneWaitsOneRuns, OneRunsOnAQueue}
 use Rattle.zk_model_work.proofs.Moves.{pushed, admissions-next}
 use Rattle.zk_model_work.proofs.Lives.{IsFirst-line}
 use Rattle.zk_model_work.proofs.Begins.{Begun-reply}
-use Rattle.zk_model_work.proofs.Overlaps.{position-none, and-true, Ordered-history, Taken, taken, begin-is, idle-begin}
+use Rattle.zk_model_work.proofs.Overlaps.{position-none, Ordered-history, Taken, taken, begin-is, idle-begin}
 use Rattle.zk_model_work.proofs.Outcomes.{waits_is}
 
 pub runs_is : (life : Life) → is_running life ≡ true → life ≡ Running
@@ -86,7 +86,7 @@ Single-set_life xs queue m one one_there queue_is idle single i j a b at there s
   other k n c d t old queues runs =
       let was : t.was ≡ one = same_Some t.was one (sym t.there ∙ one_there) in
       let on : d.queue ≡ queue = sym queues ∙ ap (λ (x : Admission). x.queue) (sym t.is) ∙ ap (λ (x : Admission). x.queue) was ∙ queue_is in
-      false≢true (sym (position-none (runs_on queue) xs n d idle old) ∙ and-true (eqb d.queue queue) (is_running d.life) (eq-eqb d.queue queue on) runs)
+      false≢true (sym (position-none (runs_on queue) xs n d idle old) ∙ and_from (eqb d.queue queue) (is_running d.life) (eq-eqb d.queue queue on) runs)
 
   by : Taken xs m i a ⊎ (slice_get xs i ≡ Some a) → Taken xs m j b ⊎ (slice_get xs j ≡ Some b) → i ≡ j
   by (inl t) (inl u) = sym t.place ∙ u.place

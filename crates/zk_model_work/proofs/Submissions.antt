@@ -3,7 +3,7 @@ use Rattle.std.proofs.Common.{◌≡◌, ℕ, zero, suc, ◌+◌, ◌≤◌, ◌
 use Rattle.std.specs.Cmp.{first_so}
 use Rattle.std.specs.List.{position, list_any}
 use Rattle.std.specs.Option.{option_map_or, option_or}
-use Rattle.std.proofs.lemmas.Bool.{eqb-true, false≢true}
+use Rattle.std.proofs.lemmas.Bool.{eqb-true, false≢true, and_right}
 use Rattle.std.proofs.lemmas.List.{append-nil, length-append}
 use Rattle.std.proofs.lemmas.List.Elements.{All-nil, All-cons, All-head, All-tail}
 use Rattle.std.proofs.lemmas.Option.{same_Some, slice_get_within, get_or_from_slice_get}
@@ -34,7 +34,7 @@ use Rattle.zk_model_work.specs.Machine.{submission_in, submit, submit_arms, expi
 use Rattle.zk_model_work.specs.Histories.{WorkHistory, IsFreshHistory, OfEach, submitter, is_own, bars, IsArmedFor, Named, Told, IsSo, IsCause, IsBeingCancelled}
 use Rattle.zk_model_work.specs.Laws.{AnsweredIsMade, RefusedWithCause}
 use Rattle.zk_model_work.proofs.Moves.{Stays, pushed, still-submit, submit_arms-keeps}
-use Rattle.zk_model_work.proofs.Overlaps.{position-none, not_both}
+use Rattle.zk_model_work.proofs.Overlaps.{position-none}
 use Rattle.zk_model_work.proofs.Delays.{one_live_arm}
 use Rattle.zk_model_work.proofs.Waits.{at-any}
 use Rattle.zk_model_work.proofs.Tells.{any-same}
@@ -264,7 +264,7 @@ waits-beside item zs beside k z at = by (eqb z.item item) refl where
   by false is = refl
 
 runs-beside : (item : ℕ) (zs : List Admission) → IsBeside item zs → (k : ℕ) (z : Admission) → slice_get zs k ≡ Some z → runs_as item z ≡ false
-runs-beside item zs beside k z at = not_both (eqb z.item item) (is_running z.life) (by z.life (beside k z at).0) where
+runs-beside item zs beside k z at = and_right (eqb z.item item) (is_running z.life) (by z.life (beside k z at).0) where
   by : (life : Life) → is_waiting life ≡ true → is_running life ≡ false
   by Waiting w = refl
   by Running w = absurd (cc)

@@ -3,7 +3,7 @@ use Rattle.std.proofs.Common.{◌≡◌, ℕ, ◌+◌, ◌<◌, ◌≢◌, ◌�
 use Rattle.std.specs.Cmp.{first_so, second_so}
 use Rattle.std.specs.List.{position, position_or_len, list_any}
 use Rattle.std.specs.Option.{option_map_or}
-use Rattle.std.proofs.lemmas.Bool.{eqb-true, eq-eqb, false≢true, cases_order}
+use Rattle.std.proofs.lemmas.Bool.{eqb-true, eq-eqb, false≢true, cases_order, and_from}
 use Rattle.std.proofs.lemmas.Bool.Decides.{eqb_tells}
 use Rattle.std.proofs.lemmas.List.{length-map}
 use Rattle.std.proofs.lemmas.Option.{same_Some}
@@ -26,7 +26,7 @@ use Rattle.zk_model_work.specs.Machine.{drop_one, drop_waiting, cancel, flags_of
 use Rattle.zk_model_work.specs.Histories.{WorkHistory, IsFreshHistory, OfEach, awaits, cancel_flags}
 use Rattle.zk_model_work.specs.Laws.{CancelTellsTheRun}
 use Rattle.zk_model_work.proofs.Lives.{open-running}
-use Rattle.zk_model_work.proofs.Overlaps.{position-none, and-true, Ordered, Ordered-history}
+use Rattle.zk_model_work.proofs.Overlaps.{position-none, Ordered, Ordered-history}
 use Rattle.zk_model_work.proofs.Singles.{runs_is}
 use Rattle.zk_model_work.proofs.Cancels.{NoneWaits-entry}
 use Rattle.zk_model_work.proofs.Delays.{unarmed-disarm}
@@ -77,7 +77,7 @@ only-run xs item run ordered runs empty n = at_place (eqb_tells run n) where
   none-waits : (m : ℕ) (b : Admission) → slice_get xs m ≡ Some b → b.item ≡ item → is_waiting b.life ≡ true → ⊥
   none-waits m b at same waits = by (waiting xs item) refl empty where
     by : (o : Option ℕ) → waiting xs item ≡ o → is_some o ≡ false → ⊥
-    by None is none = false≢true (sym (position-none (waits_as item) xs m b is at) ∙ and-true (eqb b.item item) (is_waiting b.life) (eq-eqb b.item item same) waits)
+    by None is none = false≢true (sym (position-none (waits_as item) xs m b is at) ∙ and_from (eqb b.item item) (is_waiting b.life) (eq-eqb b.item item same) waits)
     by (Some k) is none = false≢true (sym none)
 
   item_is : it.0.item ≡ item
@@ -96,7 +96,7 @@ only-run xs item run ordered runs empty n = at_place (eqb_tells run n) where
   at_place : ((eqb run n ≡ true) × (run ≡ n)) ⊎ ((eqb run n ≡ false) × (run ≢ n)) → passes_at (is_open_as item) xs n ≡ eqb run n
   at_place (inl same) =
       ap (λ m. passes_at (is_open_as item) xs m) (sym same.1) ∙ ap (λ (o : Option Admission). option_map_or (is_open_as item) o false) it.1
-      ∙ and-true (eqb it.0.item item) (is_open it.0.life) (eq-eqb it.0.item item item_is) run-open ∙ sym same.0
+      ∙ and_from (eqb it.0.item item) (is_open it.0.life) (eq-eqb it.0.item item item_is) run-open ∙ sym same.0
   at_place (inr differ) = by (slice_get xs n) refl ∙ sym differ.0 where
     by : (o : Option Admission) → slice_get xs n ≡ o → option_map_or (is_open_as item) o false ≡ false
     by None at = refl

@@ -21,6 +21,7 @@ use Rattle.zk_turn.specs.Turn.{HoldsTurn, SeatStands, AreApart, IsCovered, NoneH
 use Rattle.zk_turn.specs.Passes.{IsNewPass, AreNewPasses, given_to}
 use Rattle.zk_turn.proofs.Players.{has-first, first-apart, GoesOn-same, GoesOn-fewer}
 use Rattle.zk_turn.proofs.Seats.{at-same, at-set_there, at-push, sum-set, AllApart-set, AllApart-push}
+use Rattle.zk_turn.proofs.Moving.{Turn-views}
 use Rattle.zk_turn.proofs.Passes.{knowing}
 
 module _ {S O R T : Type 0} (legal : T → List (Entry O R) → Type 0) (fits : S → T → List (Entry O R) → Type 0) where
@@ -60,53 +61,34 @@ module _ {S O R T : Type 0} (legal : T → List (Entry O R) → Type 0) (fits : 
       let right : View O R T = opened start (w ∷ []) in
       let ok = r.each id v at in
       let views = set s.views id left in
-      record {
-        history = r.history;
-        served = r.served;
-        drawn = r.drawn;
-        words = r.words;
-        slot = r.slot;
-        ticket_word = r.ticket_word;
-        serving_word = r.serving_word;
-        count_word = r.count_word;
-        lawful = r.lawful;
-        few = r.few;
-        players = let sum = sum-set player_count s.views id v left at in let more = sum_by_push player_count views right in let all = r.players in omega arith;
-        tickets = let sum = sum-set tickets_of s.views id v left at in let more = sum_by_push tickets_of views right in let out = r.tickets in omega arith;
-        made = let sum = sum-set made_of s.views id v left at in let more = sum_by_push made_of views right in let made = r.made in omega arith;
-        each = λ j u there. ⊎_elim
-            (λ t. ⊎_elim (λ q. subst (λ (x : View O R T). SeatStands origin r.history r.served r.drawn x) q.1 (left_stands ok)) (λ q. r.each j u q.1) (at_set s.views id j left u t))
-            (λ t. subst (λ (x : View O R T). SeatStands origin r.history r.served r.drawn x) t.1 (right_stands ok))
-            (at-push views right u j there);
-        apart = AllApart-push views right
-            (AllApart-set s.views id left r.apart (λ j u else there. let was = r.apart id j v u (λ same. else (sym same)) at there in
-            record { players = λ n a b. was.players n (or_right (eqb w.number n) (has ws n) a) b; tickets = λ t a b. a }))
-            (λ j u there. ⊎_elim
-            (λ q. subst (λ (x : View O R T). AreApart x right) q.1 (record { players = λ n a b. first-apart w ws n differ.0 a b; tickets = λ t a b. a }))
-            (λ q. let was = r.apart id j v u (λ same. q.0 (sym same)) at q.1 in record { players = λ n a b. was.players n (has-first w ws n b) a; tickets = λ t a b. b })
-            (at_set s.views id j left u there));
-        covered = All-weaker (IsCovered s.views) (IsCovered (views ++ right ∷ [])) covers r.history r.covered;
-        place = ⊎_elim
-            (λ home. inl (record {
-              service = home.service;
-              there = home.there;
-              fit = home.fit;
-              free =
-                  (λ j u there. ⊎_elim
-                  (λ t. ⊎_elim (λ q. subst (λ (x : View O R T). HoldsTurn x.stage → ⊥) q.1 (λ h. h)) (λ q. home.free j u q.1) (at_set s.views id j left u t))
-                  (λ t. subst (λ (x : View O R T). HoldsTurn x.stage → ⊥) t.1 (λ h. h))
-                  (at-push views right u j there));
-            }))
-            (λ one. inr (record {
-              place = one.place;
-              view = one.view;
-              holds = one.holds;
-              there =
-                  at_longer views (right ∷ []) one.place one.view
-                  (set_else s.views id one.place left (λ same. subst (λ (x : View O R T). HoldsTurn x.stage → ⊥) (at-same s.views id v one.view at (subst (λ k. get_elem? s.views k ≡ some one.view) same one.there)) (λ h. h) one.holds) ∙ one.there);
-            }))
-            r.place;
-      }
+      Turn-views legal fits origin count s r (views ++ right ∷ [])
+      (let sum = sum-set player_count s.views id v left at in let more = sum_by_push player_count views right in omega arith)
+      (let sum = sum-set tickets_of s.views id v left at in let more = sum_by_push tickets_of views right in omega arith)
+      (let sum = sum-set made_of s.views id v left at in let more = sum_by_push made_of views right in omega arith)
+      (λ j u there. ⊎_elim
+      (λ t. ⊎_elim (λ q. subst (λ (x : View O R T). SeatStands origin r.history r.served r.drawn x) q.1 (left_stands ok)) (λ q. r.each j u q.1) (at_set s.views id j left u t))
+      (λ t. subst (λ (x : View O R T). SeatStands origin r.history r.served r.drawn x) t.1 (right_stands ok))
+      (at-push views right u j there))
+      (AllApart-push views right
+      (AllApart-set s.views id left r.apart (λ j u else there. let was = r.apart id j v u (λ same. else (sym same)) at there in
+      record { players = λ n a b. was.players n (or_right (eqb w.number n) (has ws n) a) b; tickets = λ t a b. a }))
+      (λ j u there. ⊎_elim
+      (λ q. subst (λ (x : View O R T). AreApart x right) q.1 (record { players = λ n a b. first-apart w ws n differ.0 a b; tickets = λ t a b. a }))
+      (λ q. let was = r.apart id j v u (λ same. q.0 (sym same)) at q.1 in record { players = λ n a b. was.players n (has-first w ws n b) a; tickets = λ t a b. b })
+      (at_set s.views id j left u there)))
+      covers
+      (λ free j u there. ⊎_elim
+      (λ t. ⊎_elim (λ q. subst (λ (x : View O R T). HoldsTurn x.stage → ⊥) q.1 (λ h. h)) (λ q. free j u q.1) (at_set s.views id j left u t))
+      (λ t. subst (λ (x : View O R T). HoldsTurn x.stage → ⊥) t.1 (λ h. h))
+      (at-push views right u j there))
+      (λ one. record {
+        place = one.place;
+        view = one.view;
+        holds = one.holds;
+        there =
+            at_longer views (right ∷ []) one.place one.view
+            (set_else s.views id one.place left (λ same. subst (λ (x : View O R T). HoldsTurn x.stage → ⊥) (at-same s.views id v one.view at (subst (λ k. get_elem? s.views k ≡ some one.view) same one.there)) (λ h. h) one.holds) ∙ one.there);
+      })
     where
       left_stands : SeatStands origin r.history r.served r.drawn (opened start (w ∷ ws)) → SeatStands origin r.history r.served r.drawn (opened start ws)
       left_stands ok = record {

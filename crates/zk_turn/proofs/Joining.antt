@@ -18,7 +18,7 @@ use Rattle.zk_turn.specs.Views.{joined, spent}
 use Rattle.zk_turn.specs.Turn.{ticket_count, HoldsTurn, SeatStands, AreApart, IsCovered, player_count, tickets_of, made_of, IsHome, SomeHolds, Turn}
 use Rattle.zk_turn.proofs.Players.{has-append, GoesOn-nobody, BothGoOn, GoesOn-longer}
 use Rattle.zk_turn.proofs.Seats.{at-same, at-set_there, sum-set, apart-turned, AllApart-set}
-use Rattle.zk_turn.proofs.Moving.{idle_holds_none}
+use Rattle.zk_turn.proofs.Moving.{idle_holds_none, Turn-views}
 
 module _ {S O R T : Type 0} (legal : T → List (Entry O R) → Type 0) (fits : S → T → List (Entry O R) → Type 0) where
   pub merges : (origin : T) (count id other : ℕ) (v w : View O R T) → v.stage ≡ Idle → w.stage ≡ Idle → 0 < length v.players →
@@ -100,36 +100,17 @@ module _ {S O R T : Type 0} (legal : T → List (Entry O R) → Type 0) (fits : 
       }
 
       merged : Turn legal fits origin count record { words = s.words; homes = s.homes; views = set without id (joined v w) }
-      merged = record {
-        history = r.history;
-        served = r.served;
-        drawn = r.drawn;
-        words = r.words;
-        slot = r.slot;
-        ticket_word = r.ticket_word;
-        serving_word = r.serving_word;
-        count_word = r.count_word;
-        lawful = r.lawful;
-        few = r.few;
-        players = sums player_count (let long = length-append v.players w.players in omega arith) ∙ r.players;
-        tickets = let sum = sums tickets_of (let first = ap ticket_count idle in let second = ap ticket_count idle' in omega arith) in let out = r.tickets in omega arith;
-        made = sums made_of (omega arith) ∙ r.made;
-        each = λ j u there. ⊎_elim
-            (λ q. subst (λ (x : View O R T). SeatStands origin r.history r.served r.drawn x) q.1 joined_stands)
-            (λ q. ⊎_elim (λ t. subst (λ (x : View O R T). SeatStands origin r.history r.served r.drawn x) t.1 spent_stands) (λ t. r.each j u t.1) (at_set s.views other j spent u q.1))
-            (at_set without id j (joined v w) u there);
-        apart = AllApart-set without id (joined v w) (AllApart-set s.views other spent r.apart (λ j u else there. spent_apart u)) joined_apart;
-        covered = All-weaker (IsCovered s.views) (IsCovered (set without id (joined v w))) covers r.history r.covered;
-        place = ⊎_elim
-            (λ home. inl (record {
-              service = home.service;
-              there = home.there;
-              fit = home.fit;
-              free =
-                  (λ j u there. ⊎_elim (λ q. subst (λ (x : View O R T). HoldsTurn x.stage → ⊥) q.1 (λ h. h))
-                  (λ q. ⊎_elim (λ t. subst (λ (x : View O R T). HoldsTurn x.stage → ⊥) t.1 (λ h. h)) (λ t. home.free j u t.1) (at_set s.views other j spent u q.1))
-                  (at_set without id j (joined v w) u there));
-            }))
-            (λ one. inr (still_held one))
-            r.place;
-      }
+      merged = Turn-views legal fits origin count s r (set without id (joined v w))
+          (sums player_count (let long = length-append v.players w.players in omega arith))
+          (sums tickets_of (let first = ap ticket_count idle in let second = ap ticket_count idle' in omega arith))
+          (sums made_of (omega arith))
+          (λ j u there. ⊎_elim
+          (λ q. subst (λ (x : View O R T). SeatStands origin r.history r.served r.drawn x) q.1 joined_stands)
+          (λ q. ⊎_elim (λ t. subst (λ (x : View O R T). SeatStands origin r.history r.served r.drawn x) t.1 spent_stands) (λ t. r.each j u t.1) (at_set s.views other j spent u q.1))
+          (at_set without id j (joined v w) u there))
+          (AllApart-set without id (joined v w) (AllApart-set s.views other spent r.apart (λ j u else there. spent_apart u)) joined_apart)
+          covers
+          (λ free j u there. ⊎_elim (λ q. subst (λ (x : View O R T). HoldsTurn x.stage → ⊥) q.1 (λ h. h))
+          (λ q. ⊎_elim (λ t. subst (λ (x : View O R T). HoldsTurn x.stage → ⊥) t.1 (λ h. h)) (λ t. free j u t.1) (at_set s.views other j spent u q.1))
+          (at_set without id j (joined v w) u there))
+          still_held

@@ -17,7 +17,7 @@ use Rattle.zk_turn.specs.declared.views.Stage.TheVariants.{Idle, Waiting, Holdin
 use Rattle.zk_turn.specs.declared.views.View.{View}
 use Rattle.zk_turn.specs.Players.{has, is_by, most_entries}
 use Rattle.zk_turn.specs.Turn.{ticket_count, HasTicket, HoldsTurn, TicketStands, SeatStands, AreApart, IsCovered, NoneHolds, SomeHolds, player_count, tickets_of, made_of, IsHome, Turn}
-use Rattle.zk_turn.proofs.Seats.{at-same, at-set_there, sum-set, sum-times, apart-turned, AllApart-set}
+use Rattle.zk_turn.proofs.Seats.{at-same, at-set_there, sum-set, sum-times, apart-turned, AllApart, AllApart-set}
 
 -- the words after a step on one of them
 pub word-other : (words : List ℕ) (i j n d : ℕ) → j ≢ i → get_or words j 0 ≡ d → get_or (set words i n) j 0 ≡ d
@@ -185,3 +185,33 @@ module _ {S O R T : Type 0} (legal : T → List (Entry O R) → Type 0) (fits : 
     mine_apart j u else there =
         let was = r.apart id j v u (λ same. else (sym same)) at there in
         record { players = λ n x y. was.players n (ap (λ ws. has ws n) (sym c.players) ∙ x) y; tickets = differ j u else there }
+
+  -- the rule over other views of the same table: the same players, tickets and entries stand in them
+  pub Turn-views : (origin : T) (count : ℕ) (s : State (Option S) (View O R T)) (r : Turn legal fits origin count s) (views : List (View O R T)) →
+      sum_by player_count views ≡ sum_by player_count s.views → sum_by tickets_of views ≡ sum_by tickets_of s.views → sum_by made_of views ≡ sum_by made_of s.views →
+      ((j : ℕ) (u : View O R T) → get_elem? views j ≡ some u → SeatStands origin r.history r.served r.drawn u) → AllApart views →
+      ((e : Entry O R) → IsCovered s.views e → IsCovered views e) →
+      (NoneHolds s.views → NoneHolds views) → (SomeHolds s.views → SomeHolds views) →
+      Turn legal fits origin count record { words = s.words; homes = s.homes; views = views }
+  Turn-views origin count s r views players tickets made each apart covers none some_one = record {
+    history = r.history;
+    served = r.served;
+    drawn = r.drawn;
+    words = r.words;
+    slot = r.slot;
+    ticket_word = r.ticket_word;
+    serving_word = r.serving_word;
+    count_word = r.count_word;
+    lawful = r.lawful;
+    few = r.few;
+    players = players ∙ r.players;
+    tickets = let out = r.tickets in omega arith;
+    made = made ∙ r.made;
+    each = each;
+    apart = apart;
+    covered = All-weaker (IsCovered s.views) (IsCovered views) covers r.history r.covered;
+    place = ⊎_elim
+        (λ home. inl (record { service = home.service; there = home.there; fit = home.fit; free = none home.free }))
+        (λ one. inr (some_one one))
+        r.place;
+  }
