@@ -1,2 +1,2 @@
-pub mod Moving
-pub mod Ways
+pub mod Pieces
+pub mod Outcomes

@@ -64,7 +64,7 @@ pub data Answered (input : List ℕ) (old new : Option (List ℕ)) (faults fault
 -- how a call went
 pub data Went (words : List (List ℕ)) (left left' old new : Option (List ℕ)) (reads reads' writes writes' : ℕ) : Status → Type 0 where
   no_form : is_replay words ≡ false → Appends old new words_refused → Went words left left' old new reads reads' writes writes' Words
-  no_form_cut : is_replay words ≡ false → Rose writes writes' → Went words left left' old new reads reads' writes writes' WriteFault
+  no_form_cut : is_replay words ≡ false → AppendsFront old new words_refused → Rose writes writes' → Went words left left' old new reads reads' writes writes' WriteFault
   unread : is_replay words ≡ true → Rose reads reads' → Keeps old new → Went words left left' old new reads reads' writes writes' ReadFault
   no_memory : is_replay words ≡ true → Keeps old new → Went words left left' old new reads reads' writes writes' NoMemory
   printed : (status : Status) → is_replay words ≡ true → IsAnswer status → HasReadAll left left' → Prints left old new (IsOutput status) → Went words left left' old new reads reads' writes writes' status

@@ -49,6 +49,8 @@ pub fn zk_plain<S: Source, K: Sink>(
         Keeps (K.held sink.old) (K.held sink.new) }
     ensures front { is_replay (map string_bytes words.now) ≡ true → result ≡ Status.WriteFault →
         PrintsFront (S.left source.old) (K.held sink.old) (K.held sink.new) }
+    ensures words_front { is_replay (map string_bytes words.now) ≡ false → result ≡ Status.WriteFault →
+        AppendsFront (K.held sink.old) (K.held sink.new) words_refused }
 
     // Where the input was read to its end, or to one byte above the limit.
     ensures read { is_replay (map string_bytes words.now) ≡ true → HasInput result →
@@ -87,7 +89,8 @@ fn is_replay(words: &[String]) -> bool
 
 fn refuse_words<K: Sink>(sink: &mut K) -> Status
     ensures { ((result ≡ Status.Words) × Appends (K.held sink.old) (K.held sink.new) words_refused)
-        ⊎ ((result ≡ Status.WriteFault) × Rose (K.faults sink.old) (K.faults sink.new)) }
+        ⊎ ((result ≡ Status.WriteFault) × AppendsFront (K.held sink.old) (K.held sink.new) words_refused
+            × Rose (K.faults sink.old) (K.faults sink.new)) }
 {
     match write_text(sink, b"refused words\n") {
         Ok(()) => Status::Words,

@@ -28,6 +28,7 @@ use Rattle.zk_worker.specs.Ranges.{FramesFit}
 use Rattle.zk_worker.specs.Machines.{Machines, machines_of, workers, work_start_of}
 use Rattle.zk_worker.specs.Shown.{Shown, nothing_shown}
 use Rattle.zk_worker.proofs.Fits.{start_at-fits}
+use Rattle.zk_worker.proofs.Following.{following-fresh}
 use Rattle.zk_worker.proofs.Between.{log-none}
 use Rattle.zk_worker.proofs.Starts.{start_at-some, start_at-fresh, IsFresh}
 use Rattle.zk_worker.proofs.Lists.{at-end}
@@ -133,6 +134,7 @@ ready-first s valid =
       shows = λ p at is. log-none at.who.number at.spots (start_at-fresh s p at (first-there s p at is)).none_made;
       short = All-weaker None_made Short (λ at le. omega arith) (starts s n) none;
       counted = omega (arith, sum_by-le count 0 (starts s n) none);
+      follow = λ p at is. following-fresh s p nothing_shown at (first-there s p at is);
       fits = starts-all Fits s (λ k at is. start_at-fits s k at is) n;
     }
 

@@ -56,7 +56,7 @@ use Rattle.zk_replay.proofs.Readiness.{ready-stepped}
 use Rattle.zk_replay.proofs.Beginning.{ready-first, first-there, first-players}
 use Rattle.zk_replay.proofs.Machine.{none-waits-for}
 use Rattle.zk_replay.proofs.Tended.{tended-step, tended-clock, tended-first, worker-of, open-ahead}
-use Rattle.zk_replay.proofs.Still.{first_possible-made, rounds-keep, round-still}
+use Rattle.zk_replay.proofs.Still.{first_possible-is, rounds-keep, round-still}
 
 -- what holds of each world of the run of a valid scenario
 record IsGood (s : Parts) (w : World) : Type 0 where
@@ -71,7 +71,7 @@ good-from : (s : Parts) (w : World) (p : ℕ) (at : At) (made : Step × StepRepl
 good-from s w p at made state good unspent is choice tended = record {
   all_there = length-set w.players p (after s at made.0 made.1) ∙ good.all_there;
   ready = ready-stepped (machines_of s) s w p at made good.ready is (none-passes is_spent_at w.players p at unspent is)
-      (first_possible-made (machines_of s) w.shown at.who (attempts s at) made choice).answered;
+      (first_possible-is (machines_of s) w.shown at.who (attempts s at) made choice);
   state = state;
   tended = tended;
 }
@@ -79,7 +79,7 @@ good-from s w p at made state good unspent is choice tended = record {
 good-step : (s : Parts) (w : World) (p : ℕ) (at : At) (made : Step × StepReply) → IsGood s w → is_spent w ≡ false → slice_get w.players p ≡ Some at →
     chosen (machines_of s) s w.shown at ≡ Some made → IsGood s (stepped s w p at (Some made))
 good-step s w p at (step, reply) good unspent is choice =
-    let made = first_possible-made (machines_of s) w.shown at.who (attempts s at) (step, reply) choice in
+    let made = first_possible-is (machines_of s) w.shown at.who (attempts s at) (step, reply) choice in
     let ahead = open-ahead (nat_lt (length at.spots) MOST_STEPS) (frames_attempts s at.frames) made.place step made.is_there in
     by_step step reply made.place choice ahead made.answered
   where

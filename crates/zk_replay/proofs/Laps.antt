@@ -18,7 +18,7 @@ use Rattle.zk_replay.specs.declared.turns.Course.TheVariants.{Still, Goes, Spent
 use Rattle.zk_replay.specs.RoundRobin.{World, chosen, stepped, turn, turn_of, turns, round, rounds, is_spent}
 use Rattle.zk_replay.specs.Ready.{IsReady, all_left}
 use Rattle.zk_replay.specs.Turning.{world, shown_with, at_after, IsTurn, Turned, Rounded, WithinRound}
-use Rattle.zk_replay.proofs.Still.{first_possible-made}
+use Rattle.zk_replay.proofs.Still.{first_possible-is}
 use Rattle.zk_replay.proofs.Readiness.{ready-stepped, left-stepped}
 
 module _ (m : Machines) (s : Parts) where
@@ -57,7 +57,7 @@ module _ (m : Machines) (s : Parts) where
       ready_after : (made : Option (Step × StepReply)) → chosen m s shown at ≡ made → IsReady s (stepped s (world shown players) p at made)
       ready_after None choice = ready
       ready_after (Some made) choice =
-          ready-stepped m s (world shown players) p at made ready is alone (first_possible-made m shown at.who (attempts s at) made choice).answered
+          ready-stepped m s (world shown players) p at made ready is alone (first_possible-is m shown at.who (attempts s at) made choice)
 
       less : (made : Option (Step × StepReply)) → is_some made ≡ true → all_left (stepped s (world shown players) p at made).players < all_left players
       less None moves = absurd (cc)

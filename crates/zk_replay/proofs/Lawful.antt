@@ -8,6 +8,7 @@ use Rattle.zk_base.specs.Legal.{IsLegal, state_after}
 use Rattle.zk_model_wait.specs.Clock.{new_clock, clock_machine}
 use Rattle.zk_model_work.specs.Machine.{work_machine}
 use Rattle.zk_scenario.specs.Parts.{Parts}
+use Rattle.zk_scenario.specs.Players.{players}
 use Rattle.zk_scenario.specs.Valid.{IsValid}
 use Rattle.zk_worker.specs.declared.steps.TheConstants.{MOST_STEPS}
 use Rattle.zk_worker.specs.declared.steps.Step.{Step}
@@ -18,7 +19,7 @@ use Rattle.zk_worker.specs.declared.log.PlayerState.TheVariants as states
 use Rattle.zk_worker.specs.declared.log.Log.{Log}
 use Rattle.zk_worker.specs.Places.{At}
 use Rattle.zk_worker.specs.Protocol.{attempts, after, spot_of}
-use Rattle.zk_worker.specs.Follows.{log_of, made_at, is_done, is_spent_at, Follows}
+use Rattle.zk_worker.specs.Follows.{log_of, is_done, is_spent_at, Follows}
 use Rattle.zk_worker.specs.Machines.{Machines, work_start_of, machines_of}
 use Rattle.zk_worker.specs.Shown.{shown_at, shown_after}
 use Rattle.zk_worker.proofs.Numbers.{All-slice_get}
@@ -30,11 +31,10 @@ use Rattle.zk_replay.specs.RoundRobin.{World, IsRun, chosen, first, stepped, is_
 use Rattle.zk_replay.specs.Ready.{IsReady}
 use Rattle.zk_replay.specs.Replay.{IsReplay, none_waits, all_done, ending_of, trace_of}
 use Rattle.zk_replay.specs.Lawful.{is_spent_state, is_done_state, lawful_ending, IsPlaced, IsLawful}
-use Rattle.zk_replay.proofs.Still.{first_possible-made, rounds-keep}
+use Rattle.zk_replay.proofs.Still.{first_possible-is, rounds-keep}
 use Rattle.zk_replay.proofs.Readiness.{ready-stepped}
-use Rattle.zk_replay.proofs.Beginning.{ready-first}
+use Rattle.zk_replay.proofs.Beginning.{ready-first, first-players}
 use Rattle.zk_replay.proofs.Ends.{there-is}
-use Rattle.zk_replay.proofs.Following.{run-follows, run-players}
 use Rattle.zk_replay.proofs.Once.{none_goes_on}
 
 -- each entry is of a player that is there
@@ -50,7 +50,7 @@ known-step : (m : Machines) (s : Parts) (w : World) (p : ℕ) (at : At) (made : 
 known-step m s w p at made ready known there choice spot number step is = by_spot (more.back spot (number, step) is)
   where
     more : IsMore w.shown (shown_after w.shown at.who (length at.spots) made.0 made.1) (spot_of made.0 made.1) (at.who.number, length at.spots) made
-    more = made-more m w.shown at.who (length at.spots) made.0 made.1 (first_possible-made m w.shown at.who (attempts s at) made choice).answered
+    more = made-more m w.shown at.who (length at.spots) made.0 made.1 (first_possible-is m w.shown at.who (attempts s at) made choice).answered
 
     long : length (slice_set w.players p (after s at made.0 made.1)) ≡ length w.players
     long = length-set w.players p (after s at made.0 made.1)
@@ -69,9 +69,17 @@ run-known s w valid run =
     let P : World → Type 0 = λ v. IsReady s v × AreKnown v in
     subst P (sym run.1)
     (rounds-keep m s P (λ v p at made both unspent there choice. (
-      ready-stepped m s v p at made both.0 there (none-passes is_spent_at v.players p at unspent there) (first_possible-made m v.shown at.who (attempts s at) made choice).answered,
+      ready-stepped m s v p at made both.0 there (none-passes is_spent_at v.players p at unspent there)
+          (first_possible-is m v.shown at.who (attempts s at) made choice),
       known-step m s v p at made both.0 both.1 there choice,
     )) run.0 (first s) (ready-first s valid, known-first s))
+
+-- and there are as many players as the scenario has
+run-players : (s : Parts) (w : World) → IsRun (machines_of s) s w → length w.players ≡ length (players s.decls)
+run-players s w run =
+    let P : World → Type 0 = λ v. length v.players ≡ length (players s.decls) in
+    subst P (sym run.1)
+    (rounds-keep (machines_of s) s P (λ v p at new here unspent there choice. length-set v.players p (after s at new.0 new.1) ∙ here) run.0 (first s) (first-players s))
 
 -- what the logs say of the players
 spent-state : (a b : Bool) → is_spent_state (cond a states.Spent (cond b states.Done states.Standing)) ≡ a
@@ -126,16 +134,7 @@ module _ (s : Parts) (w : World) (valid : IsValid s) (run : IsRun (machines_of s
   abbrev follows : (number : ℕ) (log : Log) → slice_get (map log_of w.players) number ≡ Some log → Follows s number w.shown log
   follows number log is =
       let found = there-mapped log_of w.players number log is in
-      let good = run-follows s w run number found.0 found.1 in
-      record {
-        start = good.start;
-        made = good.made;
-        end = found.0;
-        starts = good.starts;
-        stands = subst (λ (l : Log). map (made_at w.shown) l.steps ≡ map Some good.made) found.2 good.stands;
-        played = good.played;
-        logged = found.2;
-      }
+      record { end = found.0; led = known.0.follow number found.0 found.1; logged = found.2 }
 
   placed : IsPlaced (trace_of s w)
   placed = record {

@@ -1,5 +1,4 @@
 pub mod Readiness
-pub mod Following
 pub mod Laps
 pub mod Choosing
 pub mod Beginning

@@ -10,18 +10,20 @@ use Rattle.zk_worker.specs.declared.steps.TheConstants.{MOST_STEPS}
 use Rattle.zk_worker.specs.declared.steps.Step.{Step}
 use Rattle.zk_worker.specs.declared.steps.StepReply.{StepReply}
 use Rattle.zk_worker.specs.Places.{At}
-use Rattle.zk_worker.specs.Protocol.{after, spot_of}
-use Rattle.zk_worker.specs.Follows.{is_spent_at}
+use Rattle.zk_worker.specs.Protocol.{attempts, after, spot_of}
+use Rattle.zk_worker.specs.Follows.{is_spent_at, StandsMore, IsFollowing}
 use Rattle.zk_worker.specs.Ranges.{FramesFit}
 use Rattle.zk_worker.specs.Machines.{Machines}
 use Rattle.zk_worker.specs.Attempt.{reply_in}
-use Rattle.zk_worker.specs.Shown.{shown_after, ShowsLog, AreShort}
+use Rattle.zk_worker.specs.Shown.{Shown, shown_after, ShowsLog, AreShort}
 use Rattle.zk_worker.proofs.Fits.{after-fits}
 use Rattle.zk_worker.proofs.Made.{made-more, log-answered, log-others}
+use Rattle.zk_worker.proofs.Following.{following-still, following-more}
 use Rattle.zk_worker.proofs.Numbers.{All-slice_get}
 use Rattle.zk_worker.proofs.Lists.{slice_get-set, sum-set}
 use Rattle.zk_replay.specs.RoundRobin.{World, stepped}
 use Rattle.zk_replay.specs.Ready.{IsReady, left, all_left}
+use Rattle.zk_replay.proofs.Still.{IsChosen}
 
 -- each history is shorter than a history may be
 pub short-shown : (s : Parts) (w : World) → IsReady s w → AreShort w.shown
@@ -60,6 +62,24 @@ shows-after m s w p at step reply ready is answered q other found = by_place (sl
         log-others w.shown (shown_after w.shown at.who (length at.spots) step reply) at.who.number other.who.number (length at.spots) other.spots (spot_of step reply) (step, reply)
         (made-more m w.shown at.who (length at.spots) step reply answered) differ (ready.shows q other apart.1)
 
+follow-after : (m : Machines) (s : Parts) (w : World) (p : ℕ) (at : At) (made : Step × StepReply) → IsReady s w → slice_get w.players p ≡ Some at →
+    IsChosen m w.shown at.who (attempts s at) made → (q : ℕ) (other : At) → slice_get (set w.players p (after s at made.0 made.1)) q ≡ Some other →
+    IsFollowing s q (shown_after w.shown at.who (length at.spots) made.0 made.1) other
+follow-after m s w p at made ready is found q other there = by_place (slice_get-set w.players p q (after s at made.0 made.1) other there)
+  where
+    longer : Shown
+    longer = shown_after w.shown at.who (length at.spots) made.0 made.1
+
+    stands : StandsMore w.shown longer (spot_of made.0 made.1) made
+    stands = (made-more m w.shown at.who (length at.spots) made.0 made.1 found.answered).stands
+
+    by_place : ((q ≡ p) × (other ≡ after s at made.0 made.1)) ⊎ ((q ≢ p) × (slice_get w.players q ≡ Some other)) → IsFollowing s q longer other
+    by_place (inl same) =
+        subst (λ (n : ℕ). IsFollowing s n longer other) (sym same.0)
+        (subst (λ (a : At). IsFollowing s p longer a) (sym same.1)
+        (following-more s p w.shown longer at made.0 made.1 stands (found.place, found.is_there) (ready.follow p at is)))
+    by_place (inr apart) = following-still s q w.shown longer other stands.still (ready.follow q other apart.1)
+
 numbers-after : (s : Parts) (w : World) (p : ℕ) (at at' : At) → IsReady s w → slice_get w.players p ≡ Some at → IsOneMore s at at' →
     (q : ℕ) (other : At) → slice_get (set w.players p at') q ≡ Some other → other.who.number ≡ q
 numbers-after s w p at at' ready is more q other found = by_place (slice_get-set w.players p q at' other found)
@@ -68,22 +88,23 @@ numbers-after s w p at at' ready is more q other found = by_place (slice_get-set
     by_place (inl same) = ap (λ (o : At). o.who.number) same.1 ∙ ap (λ w. w.number) more.who ∙ ready.numbers p at is ∙ sym same.0
     by_place (inr apart) = ready.numbers q other apart.1
 
--- a world that is ready is so after a step of a player that has steps left, if the machine answers it
+-- a world that is ready is so after a step that a player with steps left chooses
 pub ready-stepped : (m : Machines) (s : Parts) (w : World) (p : ℕ) (at : At) (made : Step × StepReply) → IsReady s w → slice_get w.players p ≡ Some at →
-    is_spent_at at ≡ false → reply_in m w.shown at.who made.0 ≡ Some made.1 → IsReady s (stepped s w p at (Some made))
-ready-stepped m s w p at made ready is unspent answered =
+    is_spent_at at ≡ false → IsChosen m w.shown at.who (attempts s at) made → IsReady s (stepped s w p at (Some made))
+ready-stepped m s w p at made ready is unspent found =
     let at' = after s at made.0 made.1 in
     let more = after-one s at made.0 made.1 in
-    let long = (made-more m w.shown at.who (length at.spots) made.0 made.1 answered).count in
+    let long = (made-more m w.shown at.who (length at.spots) made.0 made.1 found.answered).count in
     let count : At → ℕ = λ at. length at.spots in
     let Short : At → Type 0 = λ at. length at.spots ≤ MOST_STEPS in
     let Fits : At → Type 0 = λ at. FramesFit s.decls at.frames in
     record {
       few = omega (arith, length-set w.players p at', ready.few);
       numbers = numbers-after s w p at at' ready is more;
-      shows = shows-after m s w p at made.0 made.1 ready is answered;
+      shows = shows-after m s w p at made.0 made.1 ready is found.answered;
       short = All-set Short w.players p at' (omega (arith, more.count, unspent-short at unspent)) ready.short;
       counted = omega (arith, long, ready.counted, sum-set count w.players p at at' is, more.count);
+      follow = follow-after m s w p at made ready is found;
       fits = All-set Fits w.players p at' (more.fits (All-slice_get Fits w.players p at is ready.fits)) ready.fits;
     }
 

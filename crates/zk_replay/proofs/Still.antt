@@ -14,18 +14,18 @@ use Rattle.zk_worker.proofs.Made.{made-more}
 use Rattle.zk_replay.specs.RoundRobin.{World, or_else, first_possible, chosen, stepped, turn, turn_of, turns, round, rounds, is_spent}
 
 -- a step that is made is one of the attempts, and was answered so
-pub record IsMade (m : Machines) (shown : Shown) (who : Who) (ahead : List Step) (made : Step × StepReply) : Type 0 where
+pub record IsChosen (m : Machines) (shown : Shown) (who : Who) (ahead : List Step) (made : Step × StepReply) : Type 0 where
   pub place : ℕ
   pub is_there : slice_get ahead place ≡ Some made.0
   pub answered : reply_in m shown who made.0 ≡ Some made.1
 
-pub first_possible-made : (m : Machines) (shown : Shown) (who : Who) (ahead : List Step) (made : Step × StepReply) →
-    first_possible m shown who ahead ≡ Some made → IsMade m shown who ahead made
-first_possible-made m shown who [] made is = absurd (cc)
-first_possible-made m shown who (x ∷ xs) made is = by_answer (reply_in m shown who x) refl is (first_possible-made m shown who xs made)
+pub first_possible-is : (m : Machines) (shown : Shown) (who : Who) (ahead : List Step) (made : Step × StepReply) →
+    first_possible m shown who ahead ≡ Some made → IsChosen m shown who ahead made
+first_possible-is m shown who [] made is = absurd (cc)
+first_possible-is m shown who (x ∷ xs) made is = by_answer (reply_in m shown who x) refl is (first_possible-is m shown who xs made)
   where
     by_answer : (answer : Option StepReply) → reply_in m shown who x ≡ answer → or_else x answer (first_possible m shown who xs) ≡ Some made →
-        (first_possible m shown who xs ≡ Some made → IsMade m shown who xs made) → IsMade m shown who (x ∷ xs) made
+        (first_possible m shown who xs ≡ Some made → IsChosen m shown who xs made) → IsChosen m shown who (x ∷ xs) made
     by_answer None none is further =
         let more = further is in
         record { place = suc more.place; is_there = more.is_there; answered = more.answered }
@@ -82,7 +82,7 @@ module _ (m : Machines) (s : Parts) where
   -- a step adds an entry
   shown-longer : (w : World) (p : ℕ) (at : At) (made : Step × StepReply) → chosen m s w.shown at ≡ Some made → entry_count (stepped s w p at (Some made)).shown ≡ entry_count w.shown + 1
   shown-longer w p at made choice =
-      (made-more m w.shown at.who (length at.spots) made.0 made.1 (first_possible-made m w.shown at.who (attempts s at) made choice).answered).count
+      (made-more m w.shown at.who (length at.spots) made.0 made.1 (first_possible-is m w.shown at.who (attempts s at) made choice).answered).count
 
   turns-longer : (w : World) (n p : ℕ) → entry_count w.shown ≤ entry_count (turns m s w n p).shown
   turns-longer w n p =

@@ -3,6 +3,7 @@ use Rattle.std.specs.List.{sum_by}
 use Rattle.zk_scenario.specs.Parts.{Parts}
 use Rattle.zk_worker.specs.declared.steps.TheConstants.{MOST_STEPS}
 use Rattle.zk_worker.specs.Places.{At}
+use Rattle.zk_worker.specs.Follows.{IsFollowing}
 use Rattle.zk_worker.specs.Ranges.{FramesFit}
 use Rattle.zk_worker.specs.Shown.{entry_count, ShowsLog}
 use Rattle.zk_replay.specs.RoundRobin.{World}
@@ -22,4 +23,5 @@ pub record IsReady (s : Parts) (w : World) : Type 0 where
   pub shows : (p : ℕ) (at : At) → slice_get w.players p ≡ Some at → ShowsLog w.shown at.who.number at.spots
   pub short : All (λ at. length at.spots ≤ MOST_STEPS) w.players
   pub counted : entry_count w.shown ≡ sum_by (λ at. length at.spots) w.players
+  pub follow : (p : ℕ) (at : At) → slice_get w.players p ≡ Some at → IsFollowing s p w.shown at
   pub fits : All (λ at. FramesFit s.decls at.frames) w.players

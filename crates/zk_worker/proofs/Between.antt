@@ -7,8 +7,13 @@ use Rattle.std.proofs.lemmas.List.{append-nil, append_assoc}
 use Rattle.std.proofs.lemmas.Option.{slice_get_within}
 use Rattle.zk_base.specs.declared.ids.Entry.{Entry}
 use Rattle.zk_base.specs.History.{IsAbove}
+use Rattle.zk_worker.specs.declared.steps.Step.{Step}
+use Rattle.zk_worker.specs.declared.steps.Step.TheVariants as steps
+use Rattle.zk_worker.specs.declared.steps.StepReply.{StepReply}
+use Rattle.zk_worker.specs.declared.steps.StepReply.TheVariants as step_replies
 use Rattle.zk_worker.specs.declared.steps.Spot.{Spot}
 use Rattle.zk_worker.specs.declared.steps.Spot.TheVariants as spots
+use Rattle.zk_worker.specs.Follows.{made_at}
 use Rattle.zk_worker.specs.Shown.{Shown, nothing_shown, step_of, shown_at, ShowsLog, IsLater, AreShort, OthersGrew, AllGrew, Between}
 use Rattle.zk_worker.proofs.Lists.{known-longer, known-back, known-there}
 use Rattle.zk_worker.proofs.Numbers.{All-slice_get}
@@ -31,11 +36,11 @@ module _ {O R : Type 0} (number : ℕ) where
         others = All-append P first.more then_.more first.others then_.others;
       }
 
-  -- an entry that is in the history stays there
-  entry-longer : (old new : List (Entry O R)) (place : ℕ) (b : ℕ × ℕ) → OthersGrew number old new → option_map step_of (slice_get old place) ≡ Some b →
-      option_map step_of (slice_get new place) ≡ Some b
-  entry-longer old new place b grew is =
-      subst (λ (h : List (Entry O R)). option_map step_of (slice_get h place) ≡ Some b) (sym grew.longer) (known-longer step_of old grew.more place b is)
+  -- what is known of an entry of the history stays so
+  entry-longer : {B : Type 0} (f : Entry O R → B) (old new : List (Entry O R)) (place : ℕ) (b : B) → OthersGrew number old new →
+      option_map f (slice_get old place) ≡ Some b → option_map f (slice_get new place) ≡ Some b
+  entry-longer f old new place b grew is =
+      subst (λ (h : List (Entry O R)). option_map f (slice_get h place) ≡ Some b) (sym grew.longer) (known-longer f old grew.more place b is)
 
   -- and of this player no other came
   entry-back : (step : ℕ) (old new : List (Entry O R)) (place : ℕ) → OthersGrew number old new → option_map step_of (slice_get new place) ≡ Some (number, step) →
@@ -77,8 +82,16 @@ short-still false number old new short others is = absurd (cc)
 
 -- what is shown stays shown
 shown-longer : (number : ℕ) (old new : Shown) (spot : Spot) (b : ℕ × ℕ) → AllGrew number old new → shown_at old spot ≡ Some b → shown_at new spot ≡ Some b
-shown-longer number old new (spots.Work place) b grew is = entry-longer number old.work new.work place b grew.work is
-shown-longer number old new (spots.Clock place) b grew is = entry-longer number old.clock new.clock place b grew.clock is
+shown-longer number old new (spots.Work place) b grew is = entry-longer number step_of old.work new.work place b grew.work is
+shown-longer number old new (spots.Clock place) b grew is = entry-longer number step_of old.clock new.clock place b grew.clock is
+
+-- and so does the step that it stands for
+pub stands-longer : (number : ℕ) (old new : Shown) → AllGrew number old new → (spot : Spot) (made : Step × StepReply) →
+    made_at old spot ≡ Some made → made_at new spot ≡ Some made
+stands-longer number old new grew (spots.Work place) made is =
+    entry-longer number (λ e. (steps.Work e.op, step_replies.Work e.reply place)) old.work new.work place made grew.work is
+stands-longer number old new grew (spots.Clock place) made is =
+    entry-longer number (λ e. (steps.Clock e.op, step_replies.Clock e.reply place)) old.clock new.clock place made grew.clock is
 
 -- and of this player nothing else is
 shown-back : (number step : ℕ) (old new : Shown) (spot : Spot) → AllGrew number old new → shown_at new spot ≡ Some (number, step) → shown_at old spot ≡ Some (number, step)

@@ -6,4 +6,5 @@ pub mod Fits
 pub mod Ranges
 pub mod Between
 pub mod Made
+pub mod Following
 pub mod Trying

@@ -19,7 +19,7 @@ use Rattle.zk_worker.specs.declared.steps.Spot.{Spot}
 use Rattle.zk_worker.specs.declared.steps.Spot.TheVariants as spots
 use Rattle.zk_worker.specs.Places.{At}
 use Rattle.zk_worker.specs.Protocol.{after, spot_of}
-use Rattle.zk_worker.specs.Follows.{made_at}
+use Rattle.zk_worker.specs.Follows.{made_at, StandsMore}
 use Rattle.zk_worker.specs.Machines.{Machines}
 use Rattle.zk_worker.specs.Shown.{Shown, step_of, shown_at, shown_after, entry_count, ShowsLog}
 use Rattle.zk_worker.specs.Attempt.{reply_in, IsMade}
@@ -36,8 +36,7 @@ pub record IsMore (shown longer : Shown) (spot : Spot) (step : ℕ × ℕ) (made
   pub here : shown_at longer spot ≡ Some step
   pub stays : (at : Spot) (b : ℕ × ℕ) → shown_at shown at ≡ Some b → shown_at longer at ≡ Some b
   pub back : (at : Spot) (b : ℕ × ℕ) → shown_at longer at ≡ Some b → (shown_at shown at ≡ Some b) ⊎ ((at ≡ spot) × (step ≡ b))
-  pub stands : made_at longer spot ≡ Some made
-  pub stands_still : (at : Spot) (x : Step × StepReply) → made_at shown at ≡ Some x → made_at longer at ≡ Some x
+  pub stands : StandsMore shown longer spot made
   pub count : entry_count longer ≡ entry_count shown + 1
 
 -- an entry of the work service more
@@ -48,8 +47,7 @@ work-more shown who number op reply = record {
   here = ap (option_map step_of) (there-behind shown.work new);
   stays = stays;
   back = back;
-  stands = ap (option_map (stood (length shown.work))) (there-behind shown.work new);
-  stands_still = stands_still;
+  stands = record { here = ap (option_map (stood (length shown.work))) (there-behind shown.work new); still = still };
   count = omega (arith, length-append shown.work (new ∷ []));
 }
   where
@@ -73,9 +71,9 @@ work-more shown who number op reply = record {
         by_place (inr last) = inr (ap spots.Work last.0, last.1)
     back (spots.Clock place) b is = inl is
 
-    stands_still : (at : Spot) (x : Step × StepReply) → made_at shown at ≡ Some x → made_at (record shown { work = shown.work ++ new ∷ [] }) at ≡ Some x
-    stands_still (spots.Work place) x is = known-longer (stood place) shown.work (new ∷ []) place x is
-    stands_still (spots.Clock place) x is = is
+    still : (at : Spot) (x : Step × StepReply) → made_at shown at ≡ Some x → made_at (record shown { work = shown.work ++ new ∷ [] }) at ≡ Some x
+    still (spots.Work place) x is = known-longer (stood place) shown.work (new ∷ []) place x is
+    still (spots.Clock place) x is = is
 
 -- an entry of the clock more
 clock-more : (shown : Shown) (who : Who) (number : ℕ) (op : ClockOp) (reply : ClockReply) →
@@ -85,8 +83,7 @@ clock-more shown who number op reply = record {
   here = ap (option_map step_of) (there-behind shown.clock new);
   stays = stays;
   back = back;
-  stands = ap (option_map (stood (length shown.clock))) (there-behind shown.clock new);
-  stands_still = stands_still;
+  stands = record { here = ap (option_map (stood (length shown.clock))) (there-behind shown.clock new); still = still };
   count = omega (arith, length-append shown.clock (new ∷ []));
 }
   where
@@ -110,9 +107,9 @@ clock-more shown who number op reply = record {
         by_place (inr last) = inr (ap spots.Clock last.0, last.1)
     back (spots.Work place) b is = inl is
 
-    stands_still : (at : Spot) (x : Step × StepReply) → made_at shown at ≡ Some x → made_at (record shown { clock = shown.clock ++ new ∷ [] }) at ≡ Some x
-    stands_still (spots.Clock place) x is = known-longer (stood place) shown.clock (new ∷ []) place x is
-    stands_still (spots.Work place) x is = is
+    still : (at : Spot) (x : Step × StepReply) → made_at shown at ≡ Some x → made_at (record shown { clock = shown.clock ++ new ∷ [] }) at ≡ Some x
+    still (spots.Clock place) x is = known-longer (stood place) shown.clock (new ∷ []) place x is
+    still (spots.Work place) x is = is
 
 -- a step that its machine answers adds its entry
 pub made-more : (m : Machines) (shown : Shown) (who : Who) (number : ℕ) (step : Step) (reply : StepReply) → reply_in m shown who step ≡ Some reply →

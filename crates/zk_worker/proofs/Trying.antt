@@ -1,5 +1,5 @@
 -- What is known while the attempts of a player are made in order.
-use Rattle.std.proofs.Common.{◌≡◌, ◌⊎◌, inl, inr, ℕ, zero, suc, ◌+◌, ◌-◌, ◌^◌, ◌<◌, ◌≤◌, Bool, Option, Some, None, Result, List, length, sym, ap, subst, ◌∙◌, arith}
+use Rattle.std.proofs.Common.{◌≡◌, ◌⊎◌, inl, inr, ℕ, zero, suc, ◌+◌, ◌-◌, ◌^◌, ◌<◌, ◌≤◌, Bool, Option, Some, None, Result, Ok, Err, List, length, sym, ap, subst, ◌∙◌, arith}
 use Rattle.std.specs.List.{slice_get}
 use Rattle.zk_base.specs.declared.ids.Who.{Who}
 use Rattle.zk_base.specs.declared.errors.NoMemory.{NoMemory}
@@ -96,10 +96,31 @@ tried-none alone m who number ahead old new counts counts' made tried is =
     subst (λ (o : Option (Step × StepReply)). Tried alone m who number ahead old new counts counts' o) is tried
 
 -- the same attempt, as the start of the call has its services and its player
-pub attempted-same : (alone alone' : Bool) (m m' : Machines) (who who' : Who) (number number' : ℕ) (step : Step) (old new : Shown) (result : Result (Option StepReply) NoMemory) →
+attempted-same : (alone alone' : Bool) (m m' : Machines) (who who' : Who) (number number' : ℕ) (step : Step) (old new : Shown) (result : Result (Option StepReply) NoMemory) →
     alone' ≡ alone → m' ≡ m → who' ≡ who → number' ≡ number → Attempted alone' m' who' number' step old new result → Attempted alone m who number step old new result
 attempted-same alone alone' m m' who who' number number' step old new result same_alone same_m same_who same_number attempted =
     subst (λ (n : ℕ). Attempted alone m who n step old new result) same_number
     (subst (λ (w : Who). Attempted alone m w number' step old new result) same_who
     (subst (λ (x : Machines). Attempted alone x who' number' step old new result) same_m
     (subst (λ (b : Bool). Attempted b m' who' number' step old new result) same_alone attempted)))
+
+-- an attempt that was made, or wasn't possible, by its answer
+pub attempted-some : (alone alone' : Bool) (m m' : Machines) (who who' : Who) (number number' : ℕ) (step : Step) (old new : Shown)
+    (answer : Option StepReply) (reply : StepReply) → alone' ≡ alone → m' ≡ m → who' ≡ who → number' ≡ number →
+    Attempted alone' m' who' number' step old new (Ok answer) → answer ≡ Some reply → IsMade alone m who number step reply old new
+attempted-some alone alone' m m' who who' number number' step old new answer reply same_alone same_m same_who same_number attempted is =
+    subst (λ (o : Option StepReply). Attempted alone m who number step old new (Ok o)) is
+    (attempted-same alone alone' m m' who who' number number' step old new (Ok answer) same_alone same_m same_who same_number attempted)
+
+pub attempted-none : (alone alone' : Bool) (m m' : Machines) (who who' : Who) (number number' : ℕ) (step : Step) (old new : Shown)
+    (answer : Option StepReply) → alone' ≡ alone → m' ≡ m → who' ≡ who → number' ≡ number →
+    Attempted alone' m' who' number' step old new (Ok answer) → answer ≡ None → Between alone who.number old new × (reply_in m new who step ≡ None)
+attempted-none alone alone' m m' who who' number number' step old new answer same_alone same_m same_who same_number attempted is =
+    subst (λ (o : Option StepReply). Attempted alone m who number step old new (Ok o)) is
+    (attempted-same alone alone' m m' who who' number number' step old new (Ok answer) same_alone same_m same_who same_number attempted)
+
+pub attempted-err : (alone alone' : Bool) (m m' : Machines) (who who' : Who) (number number' : ℕ) (step : Step) (old new : Shown)
+    (e : NoMemory) → alone' ≡ alone → m' ≡ m → who' ≡ who → number' ≡ number →
+    Attempted alone' m' who' number' step old new (Err e) → Between alone who.number old new
+attempted-err alone alone' m m' who who' number number' step old new e same_alone same_m same_who same_number attempted =
+    attempted-same alone alone' m m' who who' number number' step old new (Err e) same_alone same_m same_who same_number attempted

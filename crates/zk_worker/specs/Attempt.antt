@@ -42,6 +42,11 @@ count_at counts (steps.Clock op) = counts.clock
 abbrev pub NoneFell : Counts → Counts → Type 0
 NoneFell old new = (step : Step) → (count_at old step ≤ count_at new step) × (count_at new step ≤ 2 ^ 64 - 1)
 
+-- of all that is shown only the history of a step's service may have changed
+abbrev pub KeepsElsewhere : Step → Shown → Shown → Type 0
+KeepsElsewhere (steps.Work op) old new = new ≡ record old { work = new.work }
+KeepsElsewhere (steps.Clock op) old new = new ≡ record old { clock = new.clock }
+
 -- a step was made: in between something was shown, its reply is the machine's there, and its entry is all that came then
 pub record IsMade (alone : Bool) (m : Machines) (who : Who) (number : ℕ) (step : Step) (reply : StepReply) (old new : Shown) : Type 0 where
   pub found : Shown

@@ -57,12 +57,21 @@ abbrev pub made_at : Shown → Spot → Option (Step × StepReply)
 made_at shown (spots.Work place) = option_map (λ e. (steps.Work e.op, step_replies.Work e.reply place)) (slice_get shown.work place)
 made_at shown (spots.Clock place) = option_map (λ e. (steps.Clock e.op, step_replies.Clock e.reply place)) (slice_get shown.clock place)
 
--- the log of a player follows the scenario: its spots stand for steps that the protocol lets it make, and its answers and its state are those of these steps
-pub record Follows (s : Parts) (number : ℕ) (shown : Shown) (log : Log) : Type 0 where
+-- a step with its reply stands at this spot, and what stood at a spot stands there still
+pub record StandsMore (old new : Shown) (spot : Spot) (made : Step × StepReply) : Type 0 where
+  pub here : made_at new spot ≡ Some made
+  pub still : (at : Spot) (other : Step × StepReply) → made_at old at ≡ Some other → made_at new at ≡ Some other
+
+-- a player is where the protocol leads it from its start, by the steps and replies that its spots stand for
+pub record IsFollowing (s : Parts) (number : ℕ) (shown : Shown) (at : At) : Type 0 where
   pub start : At
   pub made : List (Step × StepReply)
-  pub end : At
   pub starts : start_at s number ≡ Some start
-  pub stands : map (made_at shown) log.steps ≡ map Some made
-  pub played : IsPlayed s start made end
+  pub stands : map (made_at shown) at.spots ≡ map Some made
+  pub played : IsPlayed s start made at
+
+-- the log of a player follows the scenario: it is the log of a place to which the protocol leads
+pub record Follows (s : Parts) (number : ℕ) (shown : Shown) (log : Log) : Type 0 where
+  pub end : At
+  pub led : IsFollowing s number shown end
   pub logged : log_of end ≡ log

@@ -1,7 +1,9 @@
-ghost use Rattle.std.specs.Prelude.{◌≡◌, ◌<◌, ◌≤◌, slice_get, reverse, length, IfOk, OnErr, Some};
+ghost use Rattle.std.specs.Prelude.{◌≡◌, ℕ, ◌<◌, ◌≤◌, slice_get, reverse, length, IfOk, OnErr, Some};
 ghost use Rattle.zk_scenario.specs.Players.{players, prio_of};
-ghost use Rattle.zk_worker.specs.Protocol.{attempts, after, start_at, starting, role_at, IsAhead};
-ghost use Rattle.zk_worker.specs.Follows.{state_at, log_of, is_done, is_through, is_between, is_spent_at};
+ghost use Rattle.zk_worker.specs.Protocol.{attempts, after, spot_of, start_at, starting, role_at, IsAhead};
+ghost use Rattle.zk_worker.specs.Follows.{state_at, log_of, is_done, is_through, is_between, is_spent_at, StandsMore, IsFollowing};
+ghost use Rattle.zk_worker.specs.Ranges.{FramesFit};
+ghost use Rattle.zk_worker.specs.Shown.{Shown};
 
 use crate::frames::MOST_FRAMES;
 use crate::protocol::spot_of;
@@ -115,7 +117,12 @@ impl Player {
     /// The player of this number, with room for all its steps.
     pub fn new(alloc: Global, scenario: &Scenario, number: u32) -> Result<Player, NoMemory>
         requires { number < length (players scenario.now.decls) }
-        ensures { IfOk result (λ player. start_at scenario.now number ≡ Some player) }
+        ensures start { IfOk result (λ player. start_at scenario.now number ≡ Some player) }
+
+        // What `step` asks for, and that it follows the scenario, whatever is shown.
+        ensures fits { IfOk result (λ player. FramesFit scenario.now.decls player.frames) }
+        ensures follows { IfOk result (λ player.
+            (shown : Shown) → IsFollowing scenario.now number shown player) }
     {
         let Some(object) = object_of(scenario, number) else {
             unreachable!()
@@ -148,7 +155,14 @@ impl Player {
     /// Adds one of these attempts, which was answered so.
     pub fn made(&mut self, scenario: &Scenario, step: Step, reply: &StepReply)
         requires ahead { IsAhead scenario.now self.old step }
-        ensures { self.new ≡ after scenario.now self.old step reply.now }
+        ensures next { self.new ≡ after scenario.now self.old step reply.now }
+
+        // What `step` asks for stays. It follows the scenario still, where this step is shown too.
+        ensures fits { FramesFit scenario.now.decls self.old.frames →
+            FramesFit scenario.now.decls self.new.frames }
+        ensures follows { (number : ℕ) (old new : Shown) →
+            StandsMore old new (spot_of step reply.now) (step, reply.now) →
+            IsFollowing scenario.now number old self.old → IsFollowing scenario.now number new self.new }
     {
         let number = self.spots.len() as u32;
         let progress = frames_progress(scenario, &self.stack, step, reply);

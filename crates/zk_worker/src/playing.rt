@@ -2,6 +2,7 @@ ghost use Rattle.std.specs.Prelude.{◌≡◌, ℕ, ◌<◌, Bool, true, false, 
 ghost use Rattle.zk_base.specs.declared.ids.Who.{Who};
 ghost use Rattle.zk_scenario.specs.Valid.{IsValid};
 ghost use Rattle.zk_worker.specs.Protocol.{attempts, IsAhead};
+ghost use Rattle.zk_worker.specs.Follows.{IsFollowing};
 ghost use Rattle.zk_worker.specs.Ranges.{FramesFit};
 ghost use Rattle.zk_worker.specs.Machines.{machines_of};
 ghost use Rattle.zk_worker.specs.Shown.{ShowsLog, AreShort, Between};
@@ -85,6 +86,8 @@ impl Player {
 
         // After every answer it can be called again.
         ensures log { ShowsLog (V.shown services.new) self.new.who.number self.new.spots }
+        ensures follows { (number : ℕ) → IsFollowing scenario.now number (V.shown services.old) self.old →
+            IsFollowing scenario.now number (V.shown services.new) self.new }
         ensures fits { FramesFit scenario.now.decls self.new.frames }
         ensures machines { V.machines services.new ≡ V.machines services.old }
         ensures serves { SamePlayers (V.serves services.old) (V.serves services.new) }

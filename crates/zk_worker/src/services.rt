@@ -3,7 +3,7 @@ ghost use Rattle.zk_base.specs.declared.ids.Who.{Who};
 ghost use Rattle.zk_base.specs.Causes.{Rose};
 ghost use Rattle.zk_worker.specs.Machines.{Machines};
 ghost use Rattle.zk_worker.specs.Shown.{Shown, IsLater, AreShort};
-ghost use Rattle.zk_worker.specs.Attempt.{Counts, count_at, takes, NoneFell, SamePlayers, Attempted};
+ghost use Rattle.zk_worker.specs.Attempt.{Counts, count_at, takes, NoneFell, SamePlayers, Attempted, KeepsElsewhere};
 
 use crate::steps::MOST_STEPS;
 use crate::{Step, StepReply};
@@ -40,6 +40,9 @@ pub trait Services {
         // Else no entry of this player comes, and without a reply the machine says so at what is shown then.
         ensures attempted { Attempted (alone self.old) (machines self.old) who number step.now
             (shown self.old) (shown self.new) result }
+
+        // All that comes, entries of others too, comes at the service of the step.
+        ensures elsewhere { KeepsElsewhere step.now (shown self.old) (shown self.new) }
 
         // The counts, with the one of an attempt that wasn't possible.
         ensures counts { NoneFell (counts self.old) (counts self.new) }

@@ -8,7 +8,7 @@ use Rattle.zk_worker.specs.Machines.{work_start_of}
 use Rattle.zk_trace.specs.Text.{trace_text}
 use Rattle.zk_model_work.proofs.Drains.{undrained-fresh}
 use Rattle.zk_cli.specs.Answer.{IsOutput}
-use Rattle.zk_cli.proofs.Ways.{output-run}
+use Rattle.zk_cli.proofs.Outcomes.{output-run}
 use Rattle.zk_cli.proofs.answer.run.Goals as goal
 
 pub returns : goal.returns

@@ -1,5 +1,5 @@
 use Rattle.std.proofs.Common.{◌≤◌, ◌≡◌, length, inr, arith}
-use Rattle.zk_cli.proofs.Moving.{Consumes-more, HasRead-done, HasRead-end}
+use Rattle.zk_cli.proofs.Pieces.{Consumes-more, HasRead-done, HasRead-end}
 use Rattle.zk_cli.proofs.input.read_input.Goals as goal
 
 pub returns-then-branch-eq0-clause-bytes : goal.returns-then-branch-eq0-clause-bytes

@@ -1,6 +1,6 @@
 use Rattle.std.proofs.Common.{ℕ, List, length, take, ap, arith, subst, length-drop}
 use Rattle.std.specs.Io.KnownBytes.{Appends}
-use Rattle.zk_cli.proofs.Moving.{Appends-more, take-rest}
+use Rattle.zk_cli.proofs.Pieces.{Appends-more, take-rest}
 use Rattle.zk_cli.proofs.output.write_text.Goals as goal
 
 pub loop-written-preserved : goal.loop-written-preserved

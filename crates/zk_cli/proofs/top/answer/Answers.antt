@@ -2,7 +2,7 @@ use Rattle.std.proofs.Common.{List, ℕ, subst}
 use Rattle.std.specs.Io.KnownBytes.{Appends}
 use Rattle.zk_cli.specs.Output.{AppendsFront}
 use Rattle.zk_cli.specs.Top.{answered, cut_short, unmade}
-use Rattle.zk_cli.proofs.Ways.{Keeps-same}
+use Rattle.zk_cli.proofs.Outcomes.{Keeps-same}
 use Rattle.zk_cli.proofs.top.answer.Goals as goal
 
 pub returns-in_default : goal.returns-in_default

@@ -1,6 +1,6 @@
 use Rattle.std.proofs.Common.{sym}
 use Rattle.zk_cli.specs.Top.{unread, no_memory}
-use Rattle.zk_cli.proofs.Ways.{Keeps-same, Went-answered, Went-refused}
+use Rattle.zk_cli.proofs.Outcomes.{Keeps-same, Went-answered, Went-refused}
 use Rattle.zk_cli.proofs.top.plain.Goals as goal
 
 pub returns-then-not-is_replay : goal.returns-then-not-is_replay

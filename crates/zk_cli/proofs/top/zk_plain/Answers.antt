@@ -1,5 +1,5 @@
 use Rattle.zk_base.specs.declared.errors.Status.TheVariants.{Success, Stuck, Spent, Refused}
-use Rattle.zk_cli.proofs.Ways.{Went-prints, Went-words, Went-no_form, Went-complete, Went-read_fault, Went-write_fault, Went-nothing, Went-front, Went-read}
+use Rattle.zk_cli.proofs.Outcomes.{Went-prints, Went-words, Went-no_form, Went-complete, Went-read_fault, Went-write_fault, Went-nothing, Went-front, Went-words_front, Went-read}
 use Rattle.zk_cli.proofs.top.zk_plain.Goals as goal
 
 pub returns-clause-success : goal.returns-clause-success
@@ -37,6 +37,9 @@ returns-clause-nothing g c = Went-nothing _ _ _ _ _ _ _ _ _ _ c.plain.ensures
 
 pub returns-clause-front : goal.returns-clause-front
 returns-clause-front g c = Went-front _ _ _ _ _ _ _ _ _ _ c.plain.ensures
+
+pub returns-clause-words_front : goal.returns-clause-words_front
+returns-clause-words_front g c = Went-words_front _ _ _ _ _ _ _ _ _ _ c.plain.ensures
 
 pub returns-clause-read : goal.returns-clause-read
 returns-clause-read g c = Went-read _ _ _ _ _ _ _ _ _ _ c.plain.ensures

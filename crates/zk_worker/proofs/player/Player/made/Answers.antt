@@ -1,6 +1,11 @@
-use Rattle.std.proofs.Common.{◌<◌, ap, arith, length, reverse, vec_capacity}
+use Rattle.std.proofs.Common.{◌≡◌, ◌<◌, ap, sym, subst, arith, rules, length, reverse, vec_capacity}
 use Rattle.zk_worker.specs.declared.steps.TheConstants.{MOST_STEPS}
+use Rattle.zk_worker.specs.Places.{At}
+use Rattle.zk_worker.specs.Follows.{IsFollowing}
+use Rattle.zk_worker.specs.Ranges.{FramesFit}
 use Rattle.zk_worker.proofs.Moves.{ahead_short, IsRoomy-moved}
+use Rattle.zk_worker.proofs.Fits.{after-fits}
+use Rattle.zk_worker.proofs.Following.{following-more}
 use Rattle.zk_worker.proofs.player.Player.made.Goals as goal
 
 pub invariant_of-self : goal.invariant_of-self
@@ -15,3 +20,19 @@ invariant_of-self c =
     (vec_capacity c.move_frames.new.stack) (vec_capacity c.put_answer.new.answers) (vec_capacity c.put.new.items)
     c.self.invariant fewer c.move_frames.ensures.frames c.put_answer.ensures.answers c.put.ensures.items
     c.move_frames.ensures.capacity c.put_answer.ensures.capacity c.put.ensures.capacity
+
+pub returns-clause-next : goal.returns-clause-next
+returns-clause-next c = search rules
+
+pub returns-clause-fits : goal.returns-clause-fits
+returns-clause-fits c =
+    let s = c.args.scenario.now in
+    λ fits. subst (λ (at : At). FramesFit s.decls at.frames) (sym (returns-clause-next c))
+    (after-fits s c.args.self.now c.args.step c.args.reply.now fits)
+
+pub returns-clause-follows : goal.returns-clause-follows
+returns-clause-follows c =
+    let s = c.args.scenario.now in
+    let at = c.args.self.now in
+    λ number old new more is. subst (λ (x : At). IsFollowing s number new x) (sym (returns-clause-next c))
+    (following-more s number old new at c.args.step c.args.reply.now more c.requires.ahead is)

@@ -7,6 +7,8 @@ use Rattle.zk_worker.specs.Places.{At}
 use Rattle.zk_worker.specs.Protocol.{settled, first_frame, role_at}
 use Rattle.zk_worker.proofs.Numbers.{players-below}
 use Rattle.zk_worker.proofs.Starts.{At-same, start_at-found}
+use Rattle.zk_worker.proofs.Fits.{start_at-fits}
+use Rattle.zk_worker.proofs.Following.{following-fresh}
 use Rattle.zk_worker.proofs.player.Player.new.Goals as goal
 
 pub unreachable-requires-in_default-get : goal.unreachable-requires-in_default-get
@@ -16,8 +18,8 @@ unreachable-requires-in_default-get c =
     let bad = c.in_default-get.ensures.lookup.2 within in
     cc
 
-pub returns : goal.returns
-returns c =
+pub returns-clause-start : goal.returns-clause-start
+returns-clause-start c =
     let s = c.args.scenario.now in
     let decl = c.in-Some-get.decl.now in
     let object = c.in-Some.object in
@@ -33,3 +35,9 @@ returns c =
     let made = At-same _ _ _ _ _ _ _ _ (sym c.who_at-who.ensures) (sym frames)
     (sym c.in_ok-with_capacity.ensures.items) (sym c.in_ok-with_capacity-2.ensures.items) in
     start_at-found s c.args.number object decl (sym c.in-Some.ensures) declared ∙ ap (λ (x : At). Some x) made
+
+pub returns-clause-fits : goal.returns-clause-fits
+returns-clause-fits c = start_at-fits c.args.scenario.now c.args.number _ (returns-clause-start c)
+
+pub returns-clause-follows : goal.returns-clause-follows
+returns-clause-follows c = λ shown. following-fresh c.args.scenario.now c.args.number shown _ (returns-clause-start c)

@@ -6,6 +6,7 @@ use Rattle.zk_worker.proofs.Fits.{after-fits}
 use Rattle.zk_worker.proofs.Ranges.{ahead-takes}
 use Rattle.zk_worker.proofs.Between.{log-still}
 use Rattle.zk_worker.proofs.Made.{log-stepped}
+use Rattle.zk_worker.proofs.Following.{following-between, stands-made}
 use Rattle.zk_worker.proofs.Trying.{tried-some, tried-none}
 use Rattle.zk_worker.proofs.player.Player.step.Goals as goal
 
@@ -14,35 +15,31 @@ try_ahead-requires-clause-range g c =
     ahead-takes c.args.scenario.now (g.V.Services.machines c.args.services.now) c.args.self.now c.requires.valid c.requires.machines c.requires.fits
 
 pub returns-in_err-step-clause-log : goal.returns-in_err-step-clause-log
-returns-in_err-step-clause-log g c =
-    log-still (g.V.Services.alone c.args.services.now) c.args.self.now.who.number c.args.self.now.spots
-    (g.V.Services.shown c.args.services.now) (g.V.Services.shown c.try_ahead.new.services) c.requires.log c.in_err-step.ensures.err
+returns-in_err-step-clause-log g c = log-still _ _ _ _ _ c.requires.log c.in_err-step.ensures.err
+
+pub returns-in_err-step-clause-follows : goal.returns-in_err-step-clause-follows
+returns-in_err-step-clause-follows g c = λ number is. following-between _ _ number _ _ _ _ c.in_err-step.ensures.err is
 
 pub returns-in-Some-clause-log : goal.returns-in-Some-clause-log
 returns-in-Some-clause-log g c =
-    let s = c.args.scenario.now in
-    let at = c.args.self.now in
-    let alone = g.V.Services.alone c.args.services.now in
-    let m = g.V.Services.machines c.args.services.now in
-    let old = g.V.Services.shown c.args.services.now in
-    let new = g.V.Services.shown c.try_ahead.new.services in
-    let first = tried-some alone m at.who (length at.spots) (attempts s at) c.in-Some.step c.in-Some.reply old new
-    (g.V.Services.counts c.args.services.now) (g.V.Services.counts c.try_ahead.new.services) c.in_ok-step.field-0 c.in_ok-step.ensures.tried c.in-Some.is in
-    log-stepped alone m s at c.made.new.self c.in-Some.step c.in-Some.reply old new c.requires.log first.made c.made.ensures
+    let first = tried-some _ _ _ _ _ c.in-Some.step c.in-Some.reply _ _ _ _ _ c.in_ok-step.ensures.tried c.in-Some.is in
+    log-stepped _ _ c.args.scenario.now c.args.self.now _ _ _ _ _ c.requires.log first.made c.made.ensures.next
+
+pub returns-in-Some-clause-follows : goal.returns-in-Some-clause-follows
+returns-in-Some-clause-follows g c =
+    let first = tried-some _ _ _ _ _ c.in-Some.step c.in-Some.reply _ _ _ _ _ c.in_ok-step.ensures.tried c.in-Some.is in
+    λ number is. c.made.ensures.follows number first.made.found _ (stands-made _ _ c.args.self.now _ _ _ _ first.made)
+    (following-between _ _ number _ _ _ _ first.made.since is)
 
 pub returns-in-Some-clause-fits : goal.returns-in-Some-clause-fits
-returns-in-Some-clause-fits g c =
-    let s = c.args.scenario.now in
-    subst (λ (at : At). FramesFit s.decls at.frames) (sym c.made.ensures) (after-fits s c.args.self.now c.in-Some.step c.in-Some.reply c.requires.fits)
+returns-in-Some-clause-fits g c = c.made.ensures.fits c.requires.fits
 
 pub returns-in-None-clause-log : goal.returns-in-None-clause-log
 returns-in-None-clause-log g c =
-    let s = c.args.scenario.now in
-    let at = c.args.self.now in
-    let alone = g.V.Services.alone c.args.services.now in
-    let m = g.V.Services.machines c.args.services.now in
-    let old = g.V.Services.shown c.args.services.now in
-    let new = g.V.Services.shown c.try_ahead.new.services in
-    let none = tried-none alone m at.who (length at.spots) (attempts s at) old new
-    (g.V.Services.counts c.args.services.now) (g.V.Services.counts c.try_ahead.new.services) c.in_ok-step.field-0 c.in_ok-step.ensures.tried c.in-None.is in
-    log-still alone at.who.number at.spots old new c.requires.log none.others
+    let none = tried-none _ _ _ _ _ _ _ _ _ _ c.in_ok-step.ensures.tried c.in-None.is in
+    log-still _ _ _ _ _ c.requires.log none.others
+
+pub returns-in-None-clause-follows : goal.returns-in-None-clause-follows
+returns-in-None-clause-follows g c =
+    let none = tried-none _ _ _ _ _ _ _ _ _ _ c.in_ok-step.ensures.tried c.in-None.is in
+    λ number is. following-between _ _ number _ _ _ _ none.others is

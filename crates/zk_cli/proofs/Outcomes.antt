@@ -99,16 +99,16 @@ Went-answered words left left' old new reads reads' writes writes' status read f
 
 -- words that are no form
 pub Went-refused : (words : List (List ℕ)) (left left' old new : Option (List ℕ)) (reads reads' writes writes' : ℕ) (status : Status) →
-    is_replay words ≡ false → ((status ≡ Words) × Appends old new words_refused) ⊎ ((status ≡ WriteFault) × Rose writes writes') → Went words left left' old new reads reads' writes writes' status
+    is_replay words ≡ false → ((status ≡ Words) × Appends old new words_refused) ⊎ ((status ≡ WriteFault) × AppendsFront old new words_refused × Rose writes writes') → Went words left left' old new reads reads' writes writes' status
 Went-refused words left left' old new reads reads' writes writes' status other refused =
     let W : Status → Type 0 = λ s. Went words left left' old new reads reads' writes writes' s in
-    elim refused [ inl all ↦ subst W (sym all.0) (no_form other all.1) | inr short ↦ subst W (sym short.0) (no_form_cut other short.1) ]
+    elim refused [ inl all ↦ subst W (sym all.0) (no_form other all.1) | inr short ↦ subst W (sym short.0) (no_form_cut other short.1 short.2) ]
 
 module _ (words : List (List ℕ)) (left left' old new : Option (List ℕ)) (reads reads' writes writes' : ℕ) where
   -- a status that prints goes with its output
   pub Went-prints : (status which : Status) → Went words left left' old new reads reads' writes writes' status → IsAnswer which → status ≡ which → Prints left old new (IsOutput which)
   Went-prints status which (no_form other wrote) is same = absurd (subst IsAnswer (sym same) is)
-  Went-prints status which (no_form_cut other rose) is same = absurd (subst IsAnswer (sym same) is)
+  Went-prints status which (no_form_cut other front rose) is same = absurd (subst IsAnswer (sym same) is)
   Went-prints status which (unread form rose keeps) is same = absurd (subst IsAnswer (sym same) is)
   Went-prints status which (no_memory form keeps) is same = absurd (subst IsAnswer (sym same) is)
   Went-prints status which (printed said form is' all prints) is same = subst (λ (s : Status). Prints left old new (IsOutput s)) same prints
@@ -117,7 +117,7 @@ module _ (words : List (List ℕ)) (left left' old new : Option (List ℕ)) (rea
   -- status 1 comes only for words that are no form, and says so
   pub Went-words : (status : Status) → Went words left left' old new reads reads' writes writes' status → status ≡ Words → (is_replay words ≡ false) × Appends old new words_refused
   Went-words status (no_form other wrote) same = (other, wrote)
-  Went-words status (no_form_cut other rose) same = absurd (cc)
+  Went-words status (no_form_cut other front rose) same = absurd (cc)
   Went-words status (unread form rose keeps) same = absurd (cc)
   Went-words status (no_memory form keeps) same = absurd (cc)
   Went-words status (printed said form is all prints) same = absurd (subst IsAnswer same is)
@@ -126,7 +126,7 @@ module _ (words : List (List ℕ)) (left left' old new : Option (List ℕ)) (rea
   -- words that are no form are told so, unless the sink fails
   pub Went-no_form : (status : Status) → Went words left left' old new reads reads' writes writes' status → is_replay words ≡ false → (status ≡ Words) ⊎ (status ≡ WriteFault)
   Went-no_form status (no_form other wrote) not = inl refl
-  Went-no_form status (no_form_cut other rose) not = inr refl
+  Went-no_form status (no_form_cut other front rose) not = inr refl
   Went-no_form status (unread form rose keeps) not = absurd (cc)
   Went-no_form status (no_memory form keeps) not = absurd (cc)
   Went-no_form status (printed said form is all prints) not = absurd (cc)
@@ -135,7 +135,7 @@ module _ (words : List (List ℕ)) (left left' old new : Option (List ℕ)) (rea
   -- a fault of reading comes only where the count of the source rose
   pub Went-read_fault : (status : Status) → Went words left left' old new reads reads' writes writes' status → status ≡ ReadFault → Rose reads reads'
   Went-read_fault status (no_form other wrote) same = absurd (cc)
-  Went-read_fault status (no_form_cut other rose) same = absurd (cc)
+  Went-read_fault status (no_form_cut other front rose) same = absurd (cc)
   Went-read_fault status (unread form rose keeps) same = rose
   Went-read_fault status (no_memory form keeps) same = absurd (cc)
   Went-read_fault status (printed said form is all prints) same = absurd (subst IsAnswer same is)
@@ -144,7 +144,7 @@ module _ (words : List (List ℕ)) (left left' old new : Option (List ℕ)) (rea
   -- a fault of writing comes only where the count of the sink rose
   pub Went-write_fault : (status : Status) → Went words left left' old new reads reads' writes writes' status → status ≡ WriteFault → Rose writes writes'
   Went-write_fault status (no_form other wrote) same = absurd (cc)
-  Went-write_fault status (no_form_cut other rose) same = rose
+  Went-write_fault status (no_form_cut other front rose) same = rose
   Went-write_fault status (unread form rose keeps) same = absurd (cc)
   Went-write_fault status (no_memory form keeps) same = absurd (cc)
   Went-write_fault status (printed said form is all prints) same = absurd (subst IsAnswer same is)
@@ -153,7 +153,7 @@ module _ (words : List (List ℕ)) (left left' old new : Option (List ℕ)) (rea
   -- nothing is written where nothing was read, and where there was no memory
   pub Went-nothing : (status : Status) → Went words left left' old new reads reads' writes writes' status → (status ≡ ReadFault) ⊎ (status ≡ NoMemory) → Keeps old new
   Went-nothing status (no_form other wrote) which = elim which [ inl same ↦ absurd (cc) | inr same ↦ absurd (cc) ]
-  Went-nothing status (no_form_cut other rose) which = elim which [ inl same ↦ absurd (cc) | inr same ↦ absurd (cc) ]
+  Went-nothing status (no_form_cut other front rose) which = elim which [ inl same ↦ absurd (cc) | inr same ↦ absurd (cc) ]
   Went-nothing status (unread form rose keeps) which = keeps
   Went-nothing status (no_memory form keeps) which = keeps
   Went-nothing status (printed said form is all prints) which = elim which [ inl same ↦ absurd (subst IsAnswer same is) | inr same ↦ absurd (subst IsAnswer same is) ]
@@ -162,16 +162,26 @@ module _ (words : List (List ℕ)) (left left' old new : Option (List ℕ)) (rea
   -- after a fault of writing the sink has a front of the output
   pub Went-front : (status : Status) → Went words left left' old new reads reads' writes writes' status → is_replay words ≡ true → status ≡ WriteFault → PrintsFront left old new
   Went-front status (no_form other wrote) form same = absurd (cc)
-  Went-front status (no_form_cut other rose) form same = absurd (cc)
+  Went-front status (no_form_cut other front rose) form same = absurd (cc)
   Went-front status (unread form' rose keeps) form same = absurd (cc)
   Went-front status (no_memory form' keeps) form same = absurd (cc)
   Went-front status (printed said form' is all prints) form same = absurd (subst IsAnswer same is)
   Went-front status (cut form' all prints rose) form same = prints
 
+  -- and of the line that refuses the words, where they are no form
+  pub Went-words_front : (status : Status) → Went words left left' old new reads reads' writes writes' status →
+      is_replay words ≡ false → status ≡ WriteFault → AppendsFront old new words_refused
+  Went-words_front status (no_form other wrote) not same = absurd (cc)
+  Went-words_front status (no_form_cut other front rose) not same = front
+  Went-words_front status (unread form rose keeps) not same = absurd (cc)
+  Went-words_front status (no_memory form keeps) not same = absurd (cc)
+  Went-words_front status (printed said form is all prints) not same = absurd (cc)
+  Went-words_front status (cut form all prints rose) not same = absurd (cc)
+
   -- the input was read where its output was written
   pub Went-read : (status : Status) → Went words left left' old new reads reads' writes writes' status → is_replay words ≡ true → HasInput status → HasReadAll left left'
   Went-read status (no_form other wrote) form has = absurd has
-  Went-read status (no_form_cut other rose) form has = absurd (cc)
+  Went-read status (no_form_cut other front rose) form has = absurd (cc)
   Went-read status (unread form' rose keeps) form has = absurd has
   Went-read status (no_memory form' keeps) form has = absurd has
   Went-read status (printed said form' is all prints) form has = all
@@ -207,7 +217,7 @@ MayEnd-prints status (Some input) old new prints = MayEnd-output status input pr
 pub Went-complete : (words : List (List ℕ)) (left left' old new : Option (List ℕ)) (reads reads' writes writes' : ℕ) (status : Status) →
     Went words left left' old new reads reads' writes writes' status → is_replay words ≡ true → IfSome left (λ input. MayEnd (scenario_of input) status)
 Went-complete words left left' old new reads reads' writes writes' status (no_form other wrote) form = absurd (cc)
-Went-complete words left left' old new reads reads' writes writes' status (no_form_cut other rose) form = absurd (cc)
+Went-complete words left left' old new reads reads' writes writes' status (no_form_cut other front rose) form = absurd (cc)
 Went-complete words left left' old new reads reads' writes writes' status (unread form' rose keeps) form = MayEnd-fault ReadFault (λ said. tt) left
 Went-complete words left left' old new reads reads' writes writes' status (no_memory form' keeps) form = MayEnd-fault NoMemory (λ said. tt) left
 Went-complete words left left' old new reads reads' writes writes' status (printed said form' is all prints) form = MayEnd-prints said left old new prints
