@@ -1,0 +1,7 @@
+pub mod ByName
+pub mod Fits
+pub mod Inverse
+pub mod Joined
+pub mod Lists
+pub mod Spelled
+pub mod Tables
