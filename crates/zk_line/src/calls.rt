@@ -1,5 +1,5 @@
 ghost use Rattle.std.specs.Prelude.{◌≡◌, [], ◌∷◌};
-ghost use Rattle.zk_line.specs.Calls.{saying, call_of, said_of};
+ghost use Rattle.zk_line.specs.Calls.{saying, call_of, said_of, word_of};
 
 use crate::shapes::{object_maybe, object_truth, one_number, one_object, two_objects_number};
 use crate::types::{Arg, Call, Ref};
@@ -61,6 +61,13 @@ pub fn said_of(call: &Call) -> Said
         Call::Unplug(queue) => of_one(Word::Unplug, object(queue)),
         Call::Tick(ticks) => of_one(Word::Tick, Arg::Number(*ticks)),
     }
+}
+
+/// The word of a call.
+pub fn word_of(call: &Call) -> Word
+    ensures { result ≡ word_of call.now }
+{
+    said_of(call).word
 }
 
 fn object(object: &Ref) -> Arg

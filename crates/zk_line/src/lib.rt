@@ -17,7 +17,7 @@ mod types;
 
 pub use arg_list::Args;
 pub use args::args_of;
-pub use calls::{Said, call_of, said_of};
+pub use calls::{Said, call_of, said_of, word_of};
 pub use checks::{are_in_range, are_well_named, first_object};
 pub use decls::{decl_args, decl_of};
 pub use kinds::{is_of, kind_of, name_at, name_of, plays_at};

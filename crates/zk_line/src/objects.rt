@@ -1,5 +1,5 @@
 ghost use Rattle.std.specs.Prelude.{◌≡◌, ◌+◌, ◌-◌, ◌^◌, ◌<◌, None, [], ◌∷◌, ◌++◌, OnOk, OnErr, length, count_by, vec_len, vec_capacity};
-ghost use Rattle.zk_line.specs.Objects.{object_of, own_list, grown, HasRoom, is_thread, is_queue, is_item, name_of, places, number_of, player_count};
+ghost use Rattle.zk_line.specs.Objects.{is_of, object_of, own_list, grown, HasRoom, is_thread, is_queue, is_item, name_of, places, number_of, player_count};
 
 use crate::kinds::name_of;
 use crate::names::Names;
@@ -7,6 +7,7 @@ use crate::types::Decl;
 use std::alloc::Global;
 use std::marker::Model;
 use zk_base::NoMemory;
+use zk_words::Kind;
 
 /// The declarations, with a table for each question to them.
 ///
@@ -85,15 +86,30 @@ impl Objects {
         self.threads.len() + self.queues.len()
     }
 
-    /// How many work queues there are.
-    pub fn queue_count(&self) -> usize
+    /// How many objects of a kind there are.
+    pub fn count(&self, kind: Kind) -> usize
+        ensures { result ≡ count_by (is_of kind) self.now }
+    {
+        match kind {
+            Kind::Thread => self.thread_count(),
+            Kind::Queue => self.queue_count(),
+            Kind::Item => self.item_count(),
+        }
+    }
+
+    fn thread_count(&self) -> usize
+        ensures { result ≡ count_by is_thread self.now }
+    {
+        self.threads.len()
+    }
+
+    fn queue_count(&self) -> usize
         ensures { result ≡ count_by is_queue self.now }
     {
         self.queues.len()
     }
 
-    /// How many work items there are.
-    pub fn item_count(&self) -> usize
+    fn item_count(&self) -> usize
         ensures { result ≡ count_by is_item self.now }
     {
         self.items.len()

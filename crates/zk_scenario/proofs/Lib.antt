@@ -1,15 +1,7 @@
-pub mod ByName
-pub mod Cuts
 pub mod Feeds
 pub mod Kept
-pub mod Lists
-pub mod Numerals
 pub mod Played
 pub mod Printed
-pub mod Readable
 pub mod Sound
-pub mod Spelled
-pub mod Tables
 pub mod Told
-pub mod Unspaced
 pub mod Valid

@@ -1,38 +1,49 @@
-use Rattle.std.specs.Prelude.{◌≡◌, ℕ, ◌+◌, ◌==◌, nat_lt, Option, None, Some, Result, Ok, Err, List, [], ◌∷◌, length, is_some, codes, if◌then◌else◌}
+use Rattle.std.specs.Prelude.{◌≡◌, ℕ, ◌+◌, ◌==◌, nat_lt, Bool, true, false, Option, None, Some, Result, Ok, Err, List, [], ◌∷◌, length, is_some, codes, if◌then◌else◌}
 use Rattle.std.specs.List.{slice_split}
 use Rattle.std.specs.Str.{bytes_eq}
-use Rattle.zk_scenario.specs.declared.form.Line.{Line}
-use Rattle.zk_scenario.specs.declared.form.Line.TheVariants as line
+use Rattle.zk_words.specs.declared.line.Line.{Line}
+use Rattle.zk_words.specs.declared.line.Line.TheVariants as line
 use Rattle.zk_scenario.specs.declared.refused.Why.{Why}
 use Rattle.zk_scenario.specs.declared.refused.Why.TheVariants as why
 use Rattle.zk_scenario.specs.declared.refused.ScenarioRefused.{ScenarioRefused}
 use Rattle.zk_scenario.specs.declared.refused.ScenarioRefused.TheVariants.{At, NoMemory}
-use Rattle.zk_scenario.specs.Forms.{line_of}
+use Rattle.zk_words.specs.Lines.{line_of}
 use Rattle.zk_scenario.specs.Parts.{Parts}
 use Rattle.zk_scenario.specs.Reading.{Reading, start}
 use Rattle.zk_scenario.specs.Spelling.{text_of}
-use Rattle.zk_scenario.specs.Verdict.{is_unbuilt, verdict, after}
+use Rattle.zk_scenario.specs.Verdict.{verdict, after}
 
--- what the lines said, where no reason applies to the last of them
-abbrev pub told : Option Why → Reading → Result Reading Why
-told None r = Ok r
-told (Some reason) r = Err reason
+-- what the lines said with one line more, where no reason applies to it; then it always says something
+abbrev pub told : Option Why → Option Reading → Result Reading Why
+told (Some reason) next = Err reason
+told None (Some r) = Ok r
+told None None = Err why.Line
+
+-- what is answered of a line: the reason why it is refused, or what was said with it
+abbrev pub answered : Option Why → Reading → Result Reading Why
+answered None r = Ok r
+answered (Some reason) r = Err reason
+
+-- what was said with a line that was taken
+abbrev pub accepted : Bool → Reading → Option Reading
+accepted true r = Some r
+accepted false r = None
 
 -- a line behind those before it, by what its spelling says
 abbrev pub taken : Reading → Line → Result Reading Why
 taken r line.Unbuilt = Err why.Unbuilt
 taken r line.Misspelled = Err why.Line
-taken r (line.Formed form) = told (verdict r form) (after r form)
+taken r (line.Formed head parts) = told (verdict r head parts) (after r head parts)
 
 -- a line behind those before it
 abbrev pub read_line : Reading → List ℕ → Result Reading Why
 read_line r text = taken r (line_of text)
 
 -- why a last line without its line feed is refused
-abbrev pub unfed : Reading → Line → Why
-unfed r line.Unbuilt = why.Unbuilt
-unfed r line.Misspelled = why.Line
-unfed r (line.Formed form) = (if is_unbuilt form then why.Unbuilt else why.Line)
+abbrev pub unfed : Line → Why
+unfed line.Unbuilt = why.Unbuilt
+unfed line.Misspelled = why.Line
+unfed (line.Formed head parts) = why.Line
 
 -- the end of the input behind a line feed; n is the number after the last line
 abbrev pub ended : ℕ → Reading → Result Parts ScenarioRefused
@@ -41,7 +52,7 @@ ended n r = (if is_some r.current then Err (At n why.Order) else Ok (record { de
 -- what stands behind the last line feed: nothing, or a line without its feed
 abbrev pub at_end : ℕ → Reading → List ℕ → Result Parts ScenarioRefused
 at_end n r [] = ended n r
-at_end n r (b ∷ bs) = Err (At n (unfed r (line_of (b ∷ bs))))
+at_end n r (b ∷ bs) = Err (At n (unfed (line_of (b ∷ bs))))
 
 -- what follows a line, where that is accepted
 abbrev pub behind : ℕ → Result Reading Why → (Reading → Result Parts ScenarioRefused) → Result Parts ScenarioRefused

@@ -1,4 +1,4 @@
-use crate::{Head, Line, Word, line_of};
+use crate::{Head, Line, Word, line_of, number_of};
 use std::test::Fail;
 
 // What a line is read as, in a word.
@@ -32,5 +32,24 @@ fn reads_each_line_by_its_row(rt: HostRuntime) -> Result<(), Fail> {
     for (line, said) in table {
         assert!(rt; told(line) == said, "at {line}");
     }
+    Ok(())
+}
+
+#[test]
+fn reads_numbers(rt: HostRuntime) -> Result<(), Fail> {
+    let table: [(&str, Option<u64>); 8] = [
+        ("0", Some(0)),
+        ("1000000", Some(1_000_000)),
+        ("18446744073709551615", Some(u64::MAX)),
+        ("00", None),
+        ("-1", None),
+        ("", None),
+        ("1 ", None),
+        ("1a", None),
+    ];
+    for (word, told) in table {
+        assert_eq!(rt; number_of(word.as_bytes()), told, "at {word}");
+    }
+    assert_eq!(rt; number_of(b"18446744073709551616"), Some(u64::MAX));
     Ok(())
 }

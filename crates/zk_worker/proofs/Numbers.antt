@@ -3,8 +3,9 @@ use Rattle.std.proofs.Common.{◌≡◌, ℕ, ◌+◌, ◌<◌, Bool, true, fals
 use Rattle.std.specs.List.{slice_get}
 use Rattle.std.proofs.lemmas.List.Elements.{All-nil, All-cons, All-append, All-get_or}
 use Rattle.std.proofs.lemmas.Option.{slice_get_within, get_or_from_slice_get}
-use Rattle.zk_scenario.specs.declared.types.Decl.{Decl}
-use Rattle.zk_scenario.specs.Players.{places_from, places, players, is_thread, is_queue}
+use Rattle.zk_line.specs.declared.types.Decl.{Decl}
+use Rattle.zk_line.specs.Objects.{places_from, places, is_thread, is_queue}
+use Rattle.zk_scenario.specs.Players.{players}
 
 -- what holds of each element holds of the one at a place
 pub All-slice_get : {A : Type 0} (P : A → Type 0) (xs : List A) (k : ℕ) (x : A) → slice_get xs k ≡ Some x → All P xs → P x

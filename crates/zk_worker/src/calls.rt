@@ -1,5 +1,5 @@
 ghost use Rattle.std.specs.Prelude.{◌≡◌, slice_get, option_map};
-ghost use Rattle.zk_worker.specs.Calls.{ref_number, form_of, word_of, submission_answer, work_answer, answer_of, closing_step, form_attempts, opening_progress, form_progress};
+ghost use Rattle.zk_worker.specs.Calls.{ref_number, form_of, submission_answer, work_answer, answer_of, closing_step, form_attempts, opening_progress, form_progress};
 
 use crate::{Answer, Closing, Form, Progress, Stage, Step, StepReply, Word};
 use zk_base::Errno;
@@ -78,25 +78,6 @@ pub fn form_of(scenario: &Scenario, call: Call) -> Form
             Step::Work(WorkOp::Announce(ticks)),
             Step::Clock(ClockOp::Announce(ticks)),
         ),
-    }
-}
-
-/// Which call it is.
-pub fn word_of(call: Call) -> Word
-    ensures { result ≡ word_of call }
-{
-    match call {
-        Call::Submit(_, _) => Word::Submit,
-        Call::Cancel(_) => Word::Cancel,
-        Call::CancelSync(_) => Word::CancelSync,
-        Call::Flush(_) => Word::Flush,
-        Call::Schedule(_, _, _) => Word::Schedule,
-        Call::Reschedule(_, _, _) => Word::Reschedule,
-        Call::Remaining(_) => Word::Remaining,
-        Call::Start(_) => Word::Start,
-        Call::Drain(_, _) => Word::Drain,
-        Call::Unplug(_) => Word::Unplug,
-        Call::Tick(_) => Word::Tick,
     }
 }
 
