@@ -1,8 +1,8 @@
 ghost use Rattle.std.specs.Prelude.{◌≡◌};
-ghost use Rattle.zk_line.specs.Objects.{kind_of, name_of, is_of, is_at, is_met, name_at, plays_script};
+ghost use Rattle.zk_line.specs.Objects.{kind_of, name_of, is_at, is_met, name_at, plays_script};
 
 use crate::types::Decl;
-use zk_words::{Kind, Need, meets, plays_script, same_kind};
+use zk_words::{Kind, Need, meets, plays_script};
 
 /// The kind of what is declared.
 pub fn kind_of(decl: &Decl) -> Kind
@@ -24,13 +24,6 @@ pub fn name_of(decl: &Decl) -> &[u8]
         Decl::Queue(name, _, _) => name.bytes(),
         Decl::Item(name) => name.bytes(),
     }
-}
-
-/// Whether a declaration is of a kind.
-pub fn is_of(kind: Kind, decl: &Decl) -> bool
-    ensures { result ≡ is_of kind decl.now }
-{
-    same_kind(kind_of(decl), kind)
 }
 
 /// The name of an object; none is no name.

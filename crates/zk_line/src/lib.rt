@@ -20,7 +20,7 @@ pub use args::args_of;
 pub use calls::{Said, call_of, said_of, word_of};
 pub use checks::{are_in_range, are_well_named, first_object};
 pub use decls::{decl_args, decl_of};
-pub use kinds::{is_of, kind_of, name_at, name_of, plays_at};
+pub use kinds::{kind_of, name_of};
 pub use objects::{Objects, make_room, put};
 pub use print::{put_call, put_decl, put_said};
 pub use types::{Arg, Call, Decl, Ref};

@@ -41,11 +41,9 @@ pub fn two_objects_number(args: &[Arg]) -> Option<(Ref, Ref, u32)>
     ensures { result ≡ three as_object as_object as_number args.now }
 {
     match args {
-        [
-            Arg::Object(first),
-            Arg::Object(second),
-            Arg::Number(number),
-        ] => Some((*first, *second, *number)),
+        [Arg::Object(first), Arg::Object(second), Arg::Number(number)] => Some((
+            *first, *second, *number,
+        )),
         _ => None,
     }
 }

@@ -1,5 +1,6 @@
 pub mod Feeds
 pub mod Kept
+pub mod Never
 pub mod Played
 pub mod Printed
 pub mod Sound

@@ -62,7 +62,12 @@ fn put_script_lines(out: &mut Vec<u8>, decls: &[Decl], script: &Script) -> Resul
 fn put_head(out: &mut Vec<u8>, decls: &[Decl], owner: u32) -> Result<(), NoMemory>
     ensures { OnOk result (out.new.items ≡ out.old.items ++ fed (script_line decls.now owner)) }
 {
-    put_said(out, decls, Head::Script, &[Some(Arg::Object(Ref::Known(owner)))])?;
+    put_said(
+        out,
+        decls,
+        Head::Script,
+        &[Some(Arg::Object(Ref::Known(owner)))],
+    )?;
     put(out, b"\n")
 }
 
