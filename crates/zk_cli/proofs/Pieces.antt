@@ -59,6 +59,3 @@ Appends-more (Some xs) (Some ys) (Some zs) text m n within so more =
 pub take-rest : (m : ℕ) (text : List ℕ) → take (length text - m) (drop m text) ≡ drop m text
 take-rest m text = take_all (length text - m) (drop m text) (let sized = length-drop m text in omega arith)
 
--- a count that rose, seen from an earlier one
-pub Rose-from : (a b c : ℕ) → a ≤ b → Rose b c → Rose a c
-Rose-from a b c le rose = elim rose [ inl lt ↦ inl (omega arith) | inr top ↦ inr top ]

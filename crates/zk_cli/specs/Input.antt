@@ -13,7 +13,8 @@ HasRead (Some input) (Some left) read = (read ≡ take 1048577 input) × (left �
 abbrev pub Moves : Option (List ℕ) → Option (List ℕ) → List ℕ → List ℕ → ℕ → Type 0
 Moves None left old new n = ⊤
 Moves (Some input) None old new n = ⊥
-Moves (Some input) (Some left) old new n = (piece : List ℕ) × (input ≡ piece ++ left) × (new ≡ old ++ piece) × (n ≡ 0 → left ≡ [])
+Moves (Some input) (Some left) old new n =
+    (piece : List ℕ) × (input ≡ piece ++ left) × (new ≡ old ++ piece) × (n ≡ 0 → left ≡ [])
 
 -- a fault of reading comes only where the count of faults rose
 abbrev pub IsCaused : ℕ → ℕ → NoInput → Type 0

@@ -4,4 +4,5 @@ use Rattle.zk_scenario.specs.Reasons.{reason_word}
 
 -- the line of a refusal: which line of the input, and why
 abbrev pub refusal_text : ℕ → Why → List ℕ
-refusal_text line why = codes "refused " ++ decimal line ++ codes " " ++ reason_word why ++ codes "\n"
+refusal_text line why =
+    codes "refused " ++ decimal line ++ codes " " ++ reason_word why ++ codes "\n"

@@ -19,12 +19,16 @@ abbrev pub words_refused : List ℕ
 words_refused = codes "refused words\n"
 
 -- the sink got this output for the input of the source, where that tells its bytes
-abbrev pub Prints : Option (List ℕ) → Option (List ℕ) → Option (List ℕ) → (List ℕ → List ℕ → Type 0) → Type 0
-Prints left old new IsTheOutput = IfSome left (λ input. (output : List ℕ) × IsTheOutput input output × Appends old new output)
+abbrev pub Prints : Option (List ℕ) → Option (List ℕ) → Option (List ℕ) →
+    (List ℕ → List ℕ → Type 0) → Type 0
+Prints left old new IsTheOutput =
+    IfSome left (λ input. (output : List ℕ) × IsTheOutput input output × Appends old new output)
 
 -- the sink got a front of an output for the input of the source, where that tells its bytes
 abbrev pub PrintsFront : Option (List ℕ) → Option (List ℕ) → Option (List ℕ) → Type 0
-PrintsFront left old new = IfSome left (λ input. (status : Status) × (output : List ℕ) × IsOutput status input output × AppendsFront old new output)
+PrintsFront left old new =
+    IfSome left (λ input. (status : Status) × (output : List ℕ) × IsOutput status input output
+    × AppendsFront old new output)
 
 -- the source has given all its bytes, or one more than a scenario may have
 abbrev pub HasReadAll : Option (List ℕ) → Option (List ℕ) → Type 0
@@ -56,16 +60,28 @@ MayEnd (Err refused) Refused = Unit {0}
 MayEnd said status = ⊥
 
 -- how the output for an input went to the sink
-pub data Answered (input : List ℕ) (old new : Option (List ℕ)) (faults faults' : ℕ) : Status → Type 0 where
-  answered : (status : Status) (output : List ℕ) → IsOutput status input output → Appends old new output → Answered input old new faults faults' status
-  cut_short : (status : Status) (output : List ℕ) → IsOutput status input output → AppendsFront old new output → Rose faults faults' → Answered input old new faults faults' WriteFault
+pub data Answered (input : List ℕ) (old new : Option (List ℕ)) (faults faults' : ℕ)
+    : Status → Type 0 where
+  answered : (status : Status) (output : List ℕ) → IsOutput status input output →
+      Appends old new output → Answered input old new faults faults' status
+  cut_short : (status : Status) (output : List ℕ) → IsOutput status input output →
+      AppendsFront old new output → Rose faults faults' →
+      Answered input old new faults faults' WriteFault
   unmade : Keeps old new → Answered input old new faults faults' NoMemory
 
 -- how a call went
-pub data Went (words : List (List ℕ)) (left left' old new : Option (List ℕ)) (reads reads' writes writes' : ℕ) : Status → Type 0 where
-  no_form : is_replay words ≡ false → Appends old new words_refused → Went words left left' old new reads reads' writes writes' Words
-  no_form_cut : is_replay words ≡ false → AppendsFront old new words_refused → Rose writes writes' → Went words left left' old new reads reads' writes writes' WriteFault
-  unread : is_replay words ≡ true → Rose reads reads' → Keeps old new → Went words left left' old new reads reads' writes writes' ReadFault
-  no_memory : is_replay words ≡ true → Keeps old new → Went words left left' old new reads reads' writes writes' NoMemory
-  printed : (status : Status) → is_replay words ≡ true → IsAnswer status → HasReadAll left left' → Prints left old new (IsOutput status) → Went words left left' old new reads reads' writes writes' status
-  cut : is_replay words ≡ true → HasReadAll left left' → PrintsFront left old new → Rose writes writes' → Went words left left' old new reads reads' writes writes' WriteFault
+pub data Went (words : List (List ℕ)) (left left' old new : Option (List ℕ))
+    (reads reads' writes writes' : ℕ) : Status → Type 0 where
+  no_form : is_replay words ≡ false → Appends old new words_refused →
+      Went words left left' old new reads reads' writes writes' Words
+  no_form_cut : is_replay words ≡ false → AppendsFront old new words_refused →
+      Rose writes writes' → Went words left left' old new reads reads' writes writes' WriteFault
+  unread : is_replay words ≡ true → Rose reads reads' → Keeps old new →
+      Went words left left' old new reads reads' writes writes' ReadFault
+  no_memory : is_replay words ≡ true → Keeps old new →
+      Went words left left' old new reads reads' writes writes' NoMemory
+  printed : (status : Status) → is_replay words ≡ true → IsAnswer status → HasReadAll left left' →
+      Prints left old new (IsOutput status) →
+      Went words left left' old new reads reads' writes writes' status
+  cut : is_replay words ≡ true → HasReadAll left left' → PrintsFront left old new →
+      Rose writes writes' → Went words left left' old new reads reads' writes writes' WriteFault

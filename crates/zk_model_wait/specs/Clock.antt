@@ -9,11 +9,17 @@ use Rattle.zk_model_wait.specs.declared.clock.ClockReply.{ClockReply}
 use Rattle.zk_model_wait.specs.declared.clock.ClockReply.TheVariants.{Now, At, Due}
 use Rattle.zk_model_wait.specs.Lists.{without_first}
 
--- the state of the clock: the ticks so far, the number of entries so far, and the alarms that haven't ended, in the order in which they were set
+-- the state of the clock: the ticks so far, the number of entries so far,
+-- and the alarms that haven't ended, in the order in which they were set
 pub record Clock : Type 0 where
   pub time : ℕ
   pub entries : ℕ
   pub alarms : List Alarm
+
+-- what a contract sees of the clock that is kept: its state, and how many alarms it takes without memory
+pub record ClockView : Type 0 where
+  pub clock : Clock
+  pub room : ℕ
 
 -- the state before the first entry
 abbrev pub new_clock : Clock
@@ -45,7 +51,8 @@ clock_reply c who (ops.AlarmEnd moment) = if is_due c.time c.alarms who.number m
 -- what each operation changes, where it is possible
 abbrev pub changed : Clock → Who → ClockOp → Clock
 changed c who (ops.Announce ticks) = record c { time = c.time + ticks }
-changed c who (ops.Alarm ticks) = record c { alarms = c.alarms ++ record { player = who.number; moment = c.time + ticks } ∷ [] }
+changed c who (ops.Alarm ticks) =
+    record c { alarms = c.alarms ++ record { player = who.number; moment = c.time + ticks } ∷ [] }
 changed c who (ops.AlarmEnd moment) = record c { alarms = without_first (is_alarm who.number moment) c.alarms }
 
 -- the state after an entry, which is counted

@@ -1,4 +1,5 @@
-ghost use Rattle.std.specs.Prelude.{◌≡◌, false, ◌+◌, ◌-◌, ◌^◌, ◌<◌, ◌≤◌, ◌++◌, ◌∷◌, [], position, vec_len, vec_capacity, if◌then◌else◌, IsOk, IfOk, OnOk, OnErr};
+ghost use Rattle.std.specs.Prelude.{◌≡◌, false, ◌+◌, ◌-◌, ◌^◌, ◌<◌, ◌≤◌, ◌++◌, ◌∷◌, [], position, length, vec_len, vec_capacity, if◌then◌else◌, IsOk, IfOk, OnOk, OnErr};
+ghost use Rattle.zk_base.specs.History.{AddsNone};
 ghost use Rattle.zk_model_wait.specs.Lists.{without_first};
 ghost use Rattle.zk_model_wait.specs.Clock.{new_clock, is_alarm, has_alarm, is_due, clock_reply, after_reply, sets_alarm};
 
@@ -37,22 +38,40 @@ pub struct Alarm {
     pub moment: u64,
 }
 
-/// The state of the clock's machine, which contracts see as its definition has it.
+/// The state of the clock's machine, with the memory that it has for alarms.
 #[derive(Drop)]
-pub struct ClockState {
+pub struct ClockStore {
     time: u64,
     entries: u64,
     alarms: Vec<Alarm>,
 }
 
+impl Model for ClockStore {
+    ghost use Rattle.std.specs.Prelude.{◌-◌, vec_len, vec_capacity};
+    ghost use Rattle.zk_model_wait.specs.Clock.{ClockView, IsTimely};
+
+    ghost Value = { ClockView };
+
+    ghost view = { λ a. record {
+      clock = record { time = a.time; entries = a.entries; alarms = a.alarms.items };
+      room = vec_capacity a.alarms - vec_len a.alarms;
+    } };
+
+    ghost invariant = { λ a. IsTimely a.time a.entries };
+}
+
+/// The state of the clock's machine alone, which contracts see as its definition has it.
+#[derive(Drop)]
+pub struct ClockState {
+    store: ClockStore,
+}
+
 impl Model for ClockState {
-    ghost use Rattle.zk_model_wait.specs.Clock.{Clock, IsTimely};
+    ghost use Rattle.zk_model_wait.specs.Clock.{Clock};
 
     ghost Value = { Clock };
 
-    ghost view = { λ a. record { time = a.time; entries = a.entries; alarms = a.alarms.items } };
-
-    ghost invariant = { λ a. IsTimely a.time a.entries };
+    ghost view = { λ a. a.store.clock };
 }
 
 /// Whether it is an alarm of this player and moment.
@@ -70,7 +89,7 @@ fn has_alarm(alarms: &[Alarm], player: u32, moment: u64) -> bool
 }
 
 /// Whether the player may end an alarm of this moment.
-pub fn is_due(time: u64, alarms: &[Alarm], player: u32, moment: u64) -> bool
+fn is_due(time: u64, alarms: &[Alarm], player: u32, moment: u64) -> bool
     ensures { result ≡ is_due time alarms.now player moment }
 {
     moment <= time && has_alarm(alarms, player, moment)
@@ -86,7 +105,7 @@ fn place(alarms: &[Alarm], player: u32, moment: u64) -> Option<usize>
 }
 
 /// One alarm more.
-pub fn set_alarm(alarms: &mut Vec<Alarm>, player: u32, moment: u64) -> Result<(), NoMemory>
+fn set_alarm(alarms: &mut Vec<Alarm>, player: u32, moment: u64) -> Result<(), NoMemory>
     ensures ok { OnOk result (alarms.new.items ≡
         alarms.old.items ++ record { player = player; moment = moment } ∷ []) }
     ensures err { OnErr result (alarms.new.items ≡ alarms.old.items) }
@@ -101,7 +120,7 @@ pub fn set_alarm(alarms: &mut Vec<Alarm>, player: u32, moment: u64) -> Result<()
 }
 
 /// The first alarm of this player and moment, if there is one, is taken away.
-pub fn end_alarm(alarms: &mut Vec<Alarm>, player: u32, moment: u64)
+fn end_alarm(alarms: &mut Vec<Alarm>, player: u32, moment: u64)
     ensures next { alarms.new.items ≡ without_first (is_alarm player moment) alarms.old.items }
 
     // Memory: it takes none, and gives none back.
@@ -119,16 +138,52 @@ impl ClockState {
         ensures { result ≡ new_clock }
     {
         ClockState {
+            store: ClockStore::new(alloc),
+        }
+    }
+}
+
+impl ClockStore {
+    /// The clock before the first entry. It takes no memory.
+    pub fn new(alloc: Global) -> ClockStore
+        ensures { result.clock ≡ new_clock }
+    {
+        ClockStore {
             time: 0,
             entries: 0,
             alarms: Vec::new(alloc),
         }
     }
 
+    /// How many alarms there are that haven't ended.
+    pub fn alarms(&self) -> u64
+        ensures { result ≡ length self.now.clock.alarms }
+    {
+        self.alarms.len() as u64
+    }
+
+    /// Makes room for so many alarms.
+    pub fn reserve(&mut self, more: usize) -> Result<(), NoMemory>
+        ensures room { IfOk result (λ _. more ≤ self.new.room) }
+        ensures more { self.old.room ≤ self.new.room }
+        ensures same { self.new.clock ≡ self.old.clock }
+    {
+        self.alarms.reserve(more)?;
+        Ok(())
+    }
+
+    /// How many alarms it takes without memory.
+    pub fn room(&self) -> u64
+        ensures { result ≡ self.now.room }
+    {
+        (self.alarms.capacity() - self.alarms.len()) as u64
+    }
+
     fn announce(&mut self, who: Who, ticks: u32) -> Option<ClockReply>
-        requires { self.old.entries < 2 ^ 32 - 1 }
-        ensures reply { result ≡ clock_reply self.old who (ClockOp.Announce ticks) }
-        ensures next { self.new ≡ after_reply self.old who (ClockOp.Announce ticks) result }
+        requires { self.old.clock.entries < 2 ^ 32 - 1 }
+        ensures reply { result ≡ clock_reply self.old.clock who (ClockOp.Announce ticks) }
+        ensures next { self.new.clock ≡ after_reply self.old.clock who (ClockOp.Announce ticks) result }
+        ensures room { self.new.room ≡ self.old.room }
     {
         self.time += ticks as u64;
         self.entries += 1;
@@ -136,12 +191,15 @@ impl ClockState {
     }
 
     fn alarm(&mut self, who: Who, ticks: u32) -> Result<Option<ClockReply>, NoMemory>
-        requires { self.old.entries < 2 ^ 32 - 1 }
+        requires { self.old.clock.entries < 2 ^ 32 - 1 }
         ensures reply { IfOk result (λ reply.
-            reply ≡ clock_reply self.old who (ClockOp.Alarm ticks)) }
+            reply ≡ clock_reply self.old.clock who (ClockOp.Alarm ticks)) }
         ensures next { IfOk result (λ reply.
-            self.new ≡ after_reply self.old who (ClockOp.Alarm ticks) reply) }
-        ensures unchanged { OnErr result (self.new ≡ self.old) }
+            self.new.clock ≡ after_reply self.old.clock who (ClockOp.Alarm ticks) reply) }
+        ensures unchanged { OnErr result (self.new.clock ≡ self.old.clock) }
+        ensures roomy { 1 ≤ self.old.room → IsOk result }
+        ensures room { self.old.room ≤ self.new.room + 1 }
+        ensures kept { AddsNone result → self.old.room ≤ self.new.room }
     {
         let moment = self.time + ticks as u64;
         set_alarm(&mut self.alarms, who.number, moment)?;
@@ -150,9 +208,10 @@ impl ClockState {
     }
 
     fn alarm_end(&mut self, who: Who, moment: u64) -> Option<ClockReply>
-        requires { self.old.entries < 2 ^ 32 - 1 }
-        ensures reply { result ≡ clock_reply self.old who (ClockOp.AlarmEnd moment) }
-        ensures next { self.new ≡ after_reply self.old who (ClockOp.AlarmEnd moment) result }
+        requires { self.old.clock.entries < 2 ^ 32 - 1 }
+        ensures reply { result ≡ clock_reply self.old.clock who (ClockOp.AlarmEnd moment) }
+        ensures next { self.new.clock ≡ after_reply self.old.clock who (ClockOp.AlarmEnd moment) result }
+        ensures room { self.old.room ≤ self.new.room }
     {
         if !is_due(self.time, &self.alarms, who.number, moment) {
             return None;
@@ -167,19 +226,25 @@ impl ClockState {
 ///
 /// `None` says that the operation isn't possible now. Only `Alarm` takes memory.
 pub fn clock_next(
-    state: &mut ClockState,
+    store: &mut ClockStore,
     who: Who,
     op: &ClockOp,
 ) -> Result<Option<ClockReply>, NoMemory>
-    requires { state.old.entries < 2 ^ 32 - 1 }
-    ensures reply { IfOk result (λ reply. reply ≡ clock_reply state.old who op.now) }
-    ensures next { IfOk result (λ reply. state.new ≡ after_reply state.old who op.now reply) }
-    ensures unchanged { OnErr result (state.new ≡ state.old) }
+    requires { store.old.clock.entries < 2 ^ 32 - 1 }
+    ensures reply { IfOk result (λ reply. reply ≡ clock_reply store.old.clock who op.now) }
+    ensures next { IfOk result (λ reply.
+        store.new.clock ≡ after_reply store.old.clock who op.now reply) }
+    ensures unchanged { OnErr result (store.new.clock ≡ store.old.clock) }
+
+    // Memory: one place is enough, and is taken only by an alarm that is set.
     ensures memory { sets_alarm op.now ≡ false → IsOk result }
+    ensures roomy { 1 ≤ store.old.room → IsOk result }
+    ensures room { store.old.room ≤ store.new.room + 1 }
+    ensures kept { AddsNone result → store.old.room ≤ store.new.room }
 {
     match *op {
-        ClockOp::Announce(ticks) => Ok(state.announce(who, ticks)),
-        ClockOp::Alarm(ticks) => state.alarm(who, ticks),
-        ClockOp::AlarmEnd(moment) => Ok(state.alarm_end(who, moment)),
+        ClockOp::Announce(ticks) => Ok(store.announce(who, ticks)),
+        ClockOp::Alarm(ticks) => store.alarm(who, ticks),
+        ClockOp::AlarmEnd(moment) => Ok(store.alarm_end(who, moment)),
     }
 }

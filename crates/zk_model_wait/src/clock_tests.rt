@@ -1,7 +1,7 @@
 ghost use Rattle.std.specs.Prelude.{◌+◌, ◌<◌, ◌≤◌, length, IfOk};
 
 use crate::ClockOp::{Alarm, AlarmEnd, Announce};
-use crate::{ClockOp, ClockReply, ClockState, clock_next};
+use crate::{ClockOp, ClockReply, ClockStore, clock_next};
 use std::alloc::Global;
 use std::process::Abort;
 use std::test::*;
@@ -12,24 +12,24 @@ type Row = (u32, ClockOp, &'static str);
 
 /// One attempt. It makes one entry at most.
 fn attempt(
-    state: &mut ClockState,
+    store: &mut ClockStore,
     number: u32,
     op: &ClockOp,
 ) -> Result<Option<ClockReply>, NoMemory>
-    requires { state.old.entries < 100 }
-    ensures { IfOk result (λ _. state.new.entries ≤ state.old.entries + 1) }
+    requires { store.old.clock.entries < 100 }
+    ensures { IfOk result (λ _. store.new.clock.entries ≤ store.old.clock.entries + 1) }
 {
-    clock_next(state, Who { number, prio: 0 }, op)
+    clock_next(store, Who { number, prio: 0 }, op)
 }
 
 /// Makes the attempts one after another, at a new clock.
 fn play<R: Abort>(rt: &R, alloc: Global, rows: &[Row]) -> Result<(), Fail>
     requires { length rows.now < 100 }
 {
-    let mut state = ClockState::new(alloc);
+    let mut store = ClockStore::new(alloc);
     for index in 0..rows.len() {
         let (number, op, wanted) = rows[index];
-        let reply = attempt(&mut state, number, &op)?;
+        let reply = attempt(&mut store, number, &op)?;
         let text = format!(in alloc; "{reply:?}")?;
         assert_eq!(rt; text.as_str(), wanted, "at {index}");
     }

@@ -4,7 +4,7 @@
 mod clock;
 mod clock_laws;
 
-pub use clock::{Alarm, ClockOp, ClockReply, ClockState, clock_next, end_alarm, is_due, set_alarm};
+pub use clock::{Alarm, ClockOp, ClockReply, ClockState, ClockStore, clock_next};
 pub use clock_laws::{alarms_hold, time_passes};
 
 #[cfg(test)]

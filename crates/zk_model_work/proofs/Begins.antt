@@ -21,9 +21,10 @@ use Rattle.zk_model_work.specs.declared.ops.WorkReply.TheVariants as replies
 use Rattle.zk_model_work.specs.declared.ops.Submitted.{Submitted}
 use Rattle.zk_model_work.specs.declared.ops.Submitted.TheVariants.{Already, Fresh, Rerun, Refused}
 use Rattle.zk_model_work.specs.Lists.{first}
-use Rattle.zk_model_work.specs.Questions.{is_waiting, is_running, is_open, waits_as, runs_on, line}
+use Rattle.zk_model_work.specs.Questions.{is_waiting, is_running, is_open, waits_as, runs_on, line, item_of}
 use Rattle.zk_model_work.specs.State.{State}
-use Rattle.zk_model_work.specs.Machine.{work_next, work_reply, work_machine, submission, submit, set_life, with_life, begin, end_one, drop_one, taken_up, may_begin}
+use Rattle.zk_model_work.specs.Machine.{work_next, work_reply, work_machine, submit, set_life, with_life, begin, end_one, drop_one, taken_up, may_begin}
+use Rattle.zk_model_work.specs.Answers.{submission}
 use Rattle.zk_model_work.specs.Laws.{IsWorkHistory, IsFreshHistory, OfEach, submitter, hands_out, begins, admission_after, EachBegunOnce, DroppedNeverBegun, RunOrDropped, NoneWaitsBefore, BeginsRise}
 use Rattle.zk_model_work.proofs.Moves.{admissions-next, is_begin}
 use Rattle.zk_model_work.proofs.Lives.{Kept, Kept-after, IsFirst, IsFirst-line, set_life-at, set_life-aside}
@@ -164,7 +165,7 @@ step-begun s who op reply n is = by (hands_out n reply) refl where
   none : hands_out n reply ≡ false → begun (slice_get (work_next s who op).admissions n) ≡ old
   none out =
       admissions-next (λ ys. begun (slice_get ys n) ≡ old) s who op
-      (λ ys item named stays same. begun-submit ys item (submission ys s.marks s.queues (submitter who op) item named) n ∙ same)
+      (λ ys item named stays same. begun-submit ys item (submission (item_of ys s.marks item) s.queues (submitter who op) named) n ∙ same)
       (λ item cancels. ap begun (slice_get-map (drop_one item) s.admissions n) ∙ begun-map (drop_one item) (begun-drop_one item) (slice_get s.admissions n))
       (λ queue op_is.
       let step = step-begin s who op reply n queue op_is is in

@@ -21,9 +21,10 @@ use Rattle.zk_model_work.specs.declared.ops.WorkReply.{WorkReply}
 use Rattle.zk_model_work.specs.declared.ops.Submitted.{Submitted}
 use Rattle.zk_model_work.specs.declared.ops.Submitted.TheVariants.{Already, Refused}
 use Rattle.zk_model_work.specs.Lists.{first}
-use Rattle.zk_model_work.specs.Questions.{is_waiting, is_running, is_open, waits_as, runs_as, line, waiting, running, passes_at, is_cancelling}
+use Rattle.zk_model_work.specs.Questions.{is_waiting, is_running, is_open, waits_as, runs_as, line, waiting, running, passes_at, is_cancelling, item_of}
 use Rattle.zk_model_work.specs.State.{State}
-use Rattle.zk_model_work.specs.Machine.{work_next, work_machine, submission, submission_at, target, submit, admitted_to, disarm, drop_one, drop_waiting, set_life, with_life, begin, end_one, end_run}
+use Rattle.zk_model_work.specs.Machine.{work_next, work_machine, submit, disarm, drop_one, drop_waiting, set_life, with_life, begin, end_one, end_run}
+use Rattle.zk_model_work.specs.Answers.{submission, submission_at, target, admitted_to}
 use Rattle.zk_model_work.specs.Laws.{OfEach, submitter, made_after, Cancels, NoneWaitsAfterCancel, NoneWaitsDuringCancel, NoneMadeDuringCancel, BegunMadeAfterCancel, BegunMadeAfterRun}
 use Rattle.zk_model_work.proofs.Lives.{Keeps, Kept, Kept-next, Kept-after}
 use Rattle.zk_model_work.proofs.Moves.{Stays, pushed, still-map, admissions-next, schedule-keeps, delayed-keeps}
@@ -90,9 +91,10 @@ is_cancelling-Cancelled s ys item number it stays =
     it.marked (passes_at (runs_as item) ys) (ap (λ (o : Option Admission). option_map_or (runs_as item) o false) (stays number it.run it.there) ∙ runs)
 
 -- a submission of it is refused, also when others were admitted since
-refused-Cancelled : (s : State) (ys : List Admission) (caller : Option ℕ) (item number : ℕ) (named : Option ℕ) → Cancelled s item number → Stays s.admissions ys → submission ys s.marks s.queues caller item named ≡ Refused Busy
+refused-Cancelled : (s : State) (ys : List Admission) (caller : Option ℕ) (item number : ℕ) (named : Option ℕ) → Cancelled s item number → Stays s.admissions ys → submission (item_of ys s.marks item) s.queues caller named ≡ Refused Busy
 refused-Cancelled s ys caller item number named it stays =
-    let otherwise = cond (is_some (waiting ys item)) Already (submission_at ys s.queues caller item (target ys item named)) in
+    let i = item_of ys s.marks item in
+    let otherwise = cond (is_some (waiting ys item)) Already (submission_at i s.queues caller (target i named)) in
     ap (λ b. cond b (Refused Busy) otherwise) (is_cancelling-Cancelled s ys item number it stays)
 
 NoneWaits-kept : (item : ℕ) (xs ys : List Admission) → Kept xs ys → ((n : ℕ) (b : Admission) → slice_get ys n ≡ Some b → length xs ≤ n → b.item ≡ item → is_waiting b.life ≡ false) → NoneWaits item xs → NoneWaits item ys
@@ -142,18 +144,18 @@ length-mapped f (x ∷ xs) = ap suc (length-mapped f xs)
 
 -- what holds of each admission that an operation makes, where it holds of each that is admitted
 pub made-next : (P : Admission → Type 0) (s : State) (who : Who) (op : WorkOp) →
-    ((ys : List Admission) (item : ℕ) (named : Option ℕ) (b : Admission) → Stays s.admissions ys → b.item ≡ item → admitted_to (submission ys s.marks s.queues (submitter who op) item named) ≡ Some b.queue → P b) →
+    ((ys : List Admission) (item : ℕ) (named : Option ℕ) (b : Admission) → Stays s.admissions ys → b.item ≡ item → admitted_to (submission (item_of ys s.marks item) s.queues (submitter who op) named) ≡ Some b.queue → P b) →
     (n : ℕ) (b : Admission) → slice_get (work_next s who op).admissions n ≡ Some b → length s.admissions ≤ n → P b
 made-next P s who op admits =
     admissions-next (λ ys. (n : ℕ) (b : Admission) → slice_get ys n ≡ Some b → length s.admissions ≤ n → P b) s who op
     (λ ys item named stays so_far n b at past.
-    which ys item named stays so_far n b past (new-submit ys item (submission ys s.marks s.queues (submitter who op) item named) n b at))
+    which ys item named stays so_far n b past (new-submit ys item (submission (item_of ys s.marks item) s.queues (submitter who op) named) n b at))
     (λ item cancels n b at past. absurd (none-new s.admissions (drop_waiting s.admissions item) n b (length-mapped (drop_one item) s.admissions) at past))
     (λ queue is n b at past. absurd (none-new s.admissions (begin s.admissions queue) n b (length-begin s.admissions queue) at past))
     (λ queue is n b at past. absurd (none-new s.admissions (end_run s.admissions queue) n b (length-mapped (end_one queue) s.admissions) at past))
     (λ n b at past. absurd (none-new s.admissions s.admissions n b refl at past)) where
       which : (ys : List Admission) (item : ℕ) (named : Option ℕ) → Stays s.admissions ys → ((n : ℕ) (b : Admission) → slice_get ys n ≡ Some b → length s.admissions ≤ n → P b) → (n : ℕ) (b : Admission) → length s.admissions ≤ n →
-          (slice_get ys n ≡ Some b) ⊎ ((b.item ≡ item) × (admitted_to (submission ys s.marks s.queues (submitter who op) item named) ≡ Some b.queue)) → P b
+          (slice_get ys n ≡ Some b) ⊎ ((b.item ≡ item) × (admitted_to (submission (item_of ys s.marks item) s.queues (submitter who op) named) ≡ Some b.queue)) → P b
       which ys item named stays so_far n b past (inl old) = so_far n b old past
       which ys item named stays so_far n b past (inr new) = admits ys item named b stays new.0 new.1
 
@@ -167,8 +169,8 @@ new-next : (s : State) (who : Who) (op : WorkOp) (item number : ℕ) → Cancell
 new-next s who op item number it =
     made-next (λ b. b.item ≡ item → ⊥) s who op
     (λ ys other named b stays item_is admits same.
-    nothing-admitted (submission ys s.marks s.queues (submitter who op) other named) b.queue
-    (ap (λ i. submission ys s.marks s.queues (submitter who op) i named) (sym item_is ∙ same) ∙ refused-Cancelled s ys (submitter who op) item number named it stays) admits)
+    nothing-admitted (submission (item_of ys s.marks other) s.queues (submitter who op) named) b.queue
+    (ap (λ i. submission (item_of ys s.marks i) s.queues (submitter who op) named) (sym item_is ∙ same) ∙ refused-Cancelled s ys (submitter who op) item number named it stays) admits)
 
 NoneWaits-next : (s : State) (who : Who) (op : WorkOp) (item number : ℕ) → Cancelled s item number → NoneWaits item s.admissions → NoneWaits item (work_next s who op).admissions
 NoneWaits-next s who op item number it none =

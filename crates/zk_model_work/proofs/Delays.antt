@@ -17,9 +17,10 @@ use Rattle.zk_model_work.specs.declared.ops.WorkOp.TheVariants.{Schedule, Resche
 use Rattle.zk_model_work.specs.declared.ops.Expiry.{Expiry}
 use Rattle.zk_model_work.specs.declared.ops.WorkReply.{WorkReply}
 use Rattle.zk_model_work.specs.declared.ops.WorkReply.TheVariants.{Now}
-use Rattle.zk_model_work.specs.Questions.{is_live, arms_item, armed, is_due, due, waiting, is_cancelling}
+use Rattle.zk_model_work.specs.Questions.{is_live, arms_item, armed, is_due, due, waiting, is_cancelling, item_of}
 use Rattle.zk_model_work.specs.State.{State}
-use Rattle.zk_model_work.specs.Machine.{submission, submit, expiries, arm, disarm, disarm_one, expire, expire_one, is_pending, delayed, work_reply, work_next, work_machine}
+use Rattle.zk_model_work.specs.Machine.{submit, expiries, arm, disarm, disarm_one, expire, expire_one, is_pending_in, delayed, work_reply, work_next, work_machine}
+use Rattle.zk_model_work.specs.Answers.{submission}
 use Rattle.zk_model_work.specs.Laws.{IsFreshHistory, OfEach, announces, disarms, arm_after, time_after, LiveAhead, ExpiresWhenDue, DisarmedWhenGivenUp, FateStays, OneLiveArm, ExpireInOrder}
 use Rattle.zk_model_work.proofs.Moves.{still-push, pushed, still-map, unarmed, none-there, DisarmsJust, DisarmsNone, arms-next}
 use Rattle.zk_model_work.proofs.Begins.{Replays-parts}
@@ -211,7 +212,7 @@ expires_when_due start h fresh front rest e ticks place a parts op at live =
 told_items : (marks : List ℕ) (queues : List Queue) (arms : List Arm) (xs : List Admission) → map (λ (x : Expiry). x.item) (expiries marks queues arms xs) ≡ map (λ (a : Arm). a.item) arms
 told_items marks queues [] xs = refl
 told_items marks queues (a ∷ arms) xs =
-    ap (λ (items : List ℕ). a.item ∷ items) (told_items marks queues arms (submit xs a.item (submission xs marks queues None a.item (Some a.queue))))
+    ap (λ (items : List ℕ). a.item ∷ items) (told_items marks queues arms (submit xs a.item (submission (item_of xs marks a.item) queues None (Some a.queue))))
 
 same_now : (time time' : ℕ) (told told' : List Expiry) (reply : WorkReply) → Now time' told' ≡ reply → reply ≡ Now time told → (time ≡ time') × (told ≡ told')
 same_now time time' told told' reply one other = (cc, cc)
@@ -236,7 +237,7 @@ same-map f (x ∷ xs) same = ap (λ (y : Arm). y ∷ map f xs) (same 0 x refl) �
 disarm-none : (xs : List Arm) (item : ℕ) → armed xs item ≡ None → disarm xs item ≡ xs
 disarm-none xs item none = same-map (disarm_one item) xs (λ n a at. ap (λ b. cond b (record a { fate = Disarmed }) a) (position-none (arms_item item) xs n a none at))
 
-pub schedule-free : (s : State) (who : Who) (item queue delay : ℕ) → is_pending s item ≡ false → work_next s who (Schedule item queue delay) ≡ work_next s who (Reschedule item queue delay)
+pub schedule-free : (s : State) (who : Who) (item queue delay : ℕ) → is_pending_in s item ≡ false → work_next s who (Schedule item queue delay) ≡ work_next s who (Reschedule item queue delay)
 schedule-free s who item queue delay free =
     let none = none-there (armed s.arms item) (unarmed (is_some (armed s.arms item)) (is_some (waiting s.admissions item)) (is_cancelling s.admissions s.marks item) free) in
     ap (λ (t : State). record t { entries = s.entries + 1 })

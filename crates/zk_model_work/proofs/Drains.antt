@@ -32,9 +32,11 @@ use Rattle.zk_model_work.specs.declared.ops.Submitted.TheVariants.{Already, Refu
 use Rattle.zk_model_work.specs.declared.ops.WorkReply.{WorkReply}
 use Rattle.zk_model_work.specs.declared.ops.WorkReply.TheVariants as replies
 use Rattle.zk_model_work.specs.Lists.{first}
-use Rattle.zk_model_work.specs.Questions.{is_waiting, is_open, waits_as, runs_on, is_open_at, is_ended, passes_at, is_empty_and_idle, is_cancelling, waiting, line, running, live_arm, due}
+use Rattle.zk_model_work.specs.Questions.{is_waiting, is_open, waits_as, runs_on, is_open_at, is_ended, passes_at, is_empty_and_idle, is_cancelling, waiting, line, running, live_arm, due, item_of}
 use Rattle.zk_model_work.specs.State.{State, fresh_queue, fresh_queues}
-use Rattle.zk_model_work.specs.Machine.{is_chained, target, admission, refusal, submission_to, submission_at, submission, admitted_to, submit, submit_arms, disarm, hurried, with_life, set_life, begin, end_one, end_run, drop_one, drop_waiting, settle_one, settle_from, settle, changed_queue, change, change_where, drained_of, drain_wait, drain, is_unanswered, answer_one, work_reply, work_next, work_machine, wait_for, awaiting, cancel_wait, flushed, flush_wait, has_come, closes, may_close, answer_where, answered_waits, flush_start_reply}
+use Rattle.zk_model_work.specs.Machine.{submit, submit_arms, disarm, with_life, set_life, begin, end_one, end_run, drop_one, drop_waiting, settle_one, settle_from, settle, changed_queue, change, change_where, drain, answer_one, work_reply, work_next, work_machine, awaiting, has_come, may_close, answer_where, answered_waits, flushed_of}
+use Rattle.zk_model_work.specs.Answers.{is_chained, target, admission, refusal, submission_to, submission_at, submission, admitted_to, drained_of, drain_wait, is_unanswered, wait_for, cancel_wait, flush_wait, closes, flush_start_reply}
+use Rattle.zk_model_work.specs.declared.parts.Item.{Item}
 use Rattle.zk_model_work.specs.Laws.{IsFreshHistory, OfEach, submitter, Makes, queue_after, DrainAdmitsItsOwn, PluggedAdmitsNone, DrainsUntilItRests, PluggedRests, DrainEndsAtRest, DrainDoneAfterItsEnd, CancelDoneAfterRun, FlushDoneAfterItsEnd}
 use Rattle.zk_model_work.proofs.Lives.{IsFirst-line}
 use Rattle.zk_model_work.proofs.Moves.{Stays, submit_arms-keeps, schedule-keeps, delayed-keeps}
@@ -50,26 +52,28 @@ pub record Took (queues : List Queue) (caller : Option ℕ) (queue : ℕ) : Type
   pub there : slice_get queues queue ≡ Some taker
   pub free : refusal caller taker ≡ None
 
-took_at : (xs : List Admission) (queues : List Queue) (caller : Option ℕ) (item : ℕ) (o : Option ℕ) (queue : ℕ) → admitted_to (submission_at xs queues caller item o) ≡ Some queue → Took queues caller queue
-took_at xs queues caller item None queue is = absurd (cc)
-took_at xs queues caller item (Some number) queue is = by (slice_get queues number) refl is where
-  by_refusal : (q : Queue) (r : Option Errno) → slice_get queues number ≡ Some q → refusal caller q ≡ r → admitted_to (option_map_or Refused r (admission xs item number)) ≡ Some queue → number ≡ queue → Took queues caller queue
+took_at : (i : Item) (queues : List Queue) (caller : Option ℕ) (o : Option ℕ) (queue : ℕ) →
+    admitted_to (submission_at i queues caller o) ≡ Some queue → Took queues caller queue
+took_at i queues caller None queue is = absurd (cc)
+took_at i queues caller (Some number) queue is = by (slice_get queues number) refl is where
+  by_refusal : (q : Queue) (r : Option Errno) → slice_get queues number ≡ Some q → refusal caller q ≡ r → admitted_to (option_map_or Refused r (admission i number)) ≡ Some queue → number ≡ queue → Took queues caller queue
   by_refusal q None there free is same = record { taker = q; there = ap (slice_get queues) (sym same) ∙ there; free = free }
   by_refusal q (Some cause) there free is same = absurd (cc)
 
-  by : (o : Option Queue) → slice_get queues number ≡ o → admitted_to (option_map_or (submission_to xs caller item number) o (Refused Inval)) ≡ Some queue → Took queues caller queue
+  by : (o : Option Queue) → slice_get queues number ≡ o → admitted_to (option_map_or (submission_to i caller number) o (Refused Inval)) ≡ Some queue → Took queues caller queue
   by None there is = absurd (cc)
-  by (Some q) there is = by_refusal q (refusal caller q) there refl is (submission_to-admitted xs caller item number q queue is)
+  by (Some q) there is = by_refusal q (refusal caller q) there refl is (submission_to-admitted i caller number q queue is)
 
 took_if : (b : Bool) (x y : Submitted) (queue : ℕ) → admitted_to x ≡ None → admitted_to (cond b x y) ≡ Some queue → admitted_to y ≡ Some queue
 took_if true x y queue none is = absurd (cc)
 took_if false x y queue none is = is
 
-took : (xs : List Admission) (marks : List ℕ) (queues : List Queue) (caller : Option ℕ) (item : ℕ) (named : Option ℕ) (queue : ℕ) → admitted_to (submission xs marks queues caller item named) ≡ Some queue → Took queues caller queue
+took : (xs : List Admission) (marks : List ℕ) (queues : List Queue) (caller : Option ℕ) (item : ℕ) (named : Option ℕ) (queue : ℕ) → admitted_to (submission (item_of xs marks item) queues caller named) ≡ Some queue → Took queues caller queue
 took xs marks queues caller item named queue is =
-    let at = submission_at xs queues caller item (target xs item named) in
+    let i = item_of xs marks item in
+    let at = submission_at i queues caller (target i named) in
     let one = took_if (is_cancelling xs marks item) (Refused Busy) (cond (is_some (waiting xs item)) Already at) queue refl is in
-    took_at xs queues caller item (target xs item named) queue (took_if (is_some (waiting xs item)) Already at queue refl one)
+    took_at i queues caller (target i named) queue (took_if (is_some (waiting xs item)) Already at queue refl one)
 
 -- what took each admission that an entry makes
 made-took : (start : State) (front : List (Entry WorkOp WorkReply)) (e : Entry WorkOp WorkReply) (number : ℕ) (a : Admission) → Makes start front e number a →
@@ -310,9 +314,9 @@ keeps-submit qs caller xs item answer taken keep queue q at = by (admitted_to an
         elsewhere plugged still false same = refl
 
 -- after submissions, one after another
-keeps-submission : (s : State) (caller : Option ℕ) (ys : List Admission) (item : ℕ) (named : Option ℕ) → Stays s.admissions ys → KeepAll s.queues ys → KeepAll s.queues (submit ys item (submission ys s.marks s.queues caller item named))
+keeps-submission : (s : State) (caller : Option ℕ) (ys : List Admission) (item : ℕ) (named : Option ℕ) → Stays s.admissions ys → KeepAll s.queues ys → KeepAll s.queues (submit ys item (submission (item_of ys s.marks item) s.queues caller named))
 keeps-submission s caller ys item named stays keep =
-    keeps-submit s.queues caller ys item (submission ys s.marks s.queues caller item named) (λ queue is. took ys s.marks s.queues caller item named queue is) keep
+    keeps-submit s.queues caller ys item (submission (item_of ys s.marks item) s.queues caller named) (λ queue is. took ys s.marks s.queues caller item named queue is) keep
 
 keeps-arms : (s : State) (caller : Option ℕ) (arms : List Arm) → KeepAll s.queues s.admissions → KeepAll s.queues (submit_arms s.marks s.queues caller arms s.admissions)
 keeps-arms s caller arms keep = submit_arms-keeps (KeepAll s.queues) s.admissions s.marks s.queues caller (keeps-submission s caller) arms s.admissions (λ n a at. at) keep
@@ -470,18 +474,18 @@ more-waits P ws (Some w) new all = All-append P ws (w ∷ []) all (All-cons P w 
 waits-answered : (P : Wait → Type 0) (s : State) (closing : Closing) (who : Who) (place : ℕ) → ((so : Bool) (w : Wait) → P w → P (answer_where so w)) → All P s.waits → All P (answered_waits s closing who place)
 waits-answered P s closing who place answered all =
     All-map P (answer_one s.admissions s.queues closing who place) s.waits
-    (All-weaker P (λ (w : Wait). P (answer_one s.admissions s.queues closing who place w)) (λ w. answered (closes s.admissions s.queues closing who place w) w) s.waits all)
+    (All-weaker P (λ (w : Wait). P (answer_one s.admissions s.queues closing who place w)) (λ w. answered (closes (has_come s.admissions s.queues closing) who place w) w) s.waits all)
 
 -- what holds of each wait, of a new one and of an answered one, holds after an entry
 waits-next : (P : Wait → Type 0) (s : State) (who : Who) (op : WorkOp) → ((so : Bool) (w : Wait) → P w → P (answer_where so w)) → ((awaited : Awaited) → P (wait_for s.entries who awaited)) → All P s.waits → All P (work_next s who op).waits
 waits-next P s who (Submit item named) answered new all = all
 waits-next P s who (Cancel item) answered new all = all
-waits-next P s who (CancelStart item) answered new all = more-waits P s.waits (cancel_wait s who item) (by (running s.admissions item)) all where
+waits-next P s who (CancelStart item) answered new all = more-waits P s.waits (cancel_wait s.entries who (running s.admissions item)) (by (running s.admissions item)) all where
   by : (o : Option ℕ) → IfSome (option_map (λ number. wait_for s.entries who (awaiteds.Cancel number)) o) P
   by None = tt
   by (Some number) = new (awaiteds.Cancel number)
 waits-next P s who (CancelDone place) answered new all = waits-answered P s closings.Cancel who place answered all
-waits-next P s who (FlushStart item) answered new all = more-waits P s.waits (flush_wait s who item) (by (flushed (hurried s who item) item)) all where
+waits-next P s who (FlushStart item) answered new all = more-waits P s.waits (flush_wait s.entries who (flushed_of s who item)) (by (flushed_of s who item)) all where
   by : (o : Option ℕ) → IfSome (option_map (λ number. wait_for s.entries who (awaiteds.Flush number)) o) P
   by None = tt
   by (Some number) = new (awaiteds.Flush number)
@@ -490,8 +494,8 @@ waits-next P s who (Schedule item k delay) answered new all = schedule-keeps (λ
 waits-next P s who (Reschedule item k delay) answered new all = delayed-keeps (λ t. All P t.waits) (record s { arms = disarm s.arms item }) who item k delay all (λ later. all)
 waits-next P s who (Remaining item) answered new all = all
 waits-next P s who (Start k) answered new all = all
-waits-next P s who (DrainStart k plug) answered new all = more-waits P s.waits (drain_wait (is_empty_and_idle s.admissions k) s who k) (by (is_empty_and_idle s.admissions k)) all where
-  by : (idle : Bool) → IfSome (drain_wait idle s who k) P
+waits-next P s who (DrainStart k plug) answered new all = more-waits P s.waits (drain_wait (is_empty_and_idle s.admissions k) s.entries s.queues who k) (by (is_empty_and_idle s.admissions k)) all where
+  by : (idle : Bool) → IfSome (drain_wait idle s.entries s.queues who k) P
   by true = tt
   by false = new (awaiteds.Drain k (drained_of s.queues k))
 waits-next P s who (DrainDone place) answered new all = waits-answered P s closings.Drain who place answered all
@@ -541,8 +545,8 @@ named-more s who a o new earlier =
 named-start : (s : State) (who : Who) (queue : ℕ) (plug : Bool) → All (λ (w : Wait). w.place < s.entries) s.waits →
     All (λ (w : Wait). w.place ≡ s.entries → w.awaited ≡ awaiteds.Drain queue (drained_of s.queues queue)) (work_next s who (DrainStart queue plug)).waits
 named-start s who queue plug earlier =
-    named-more s who (awaiteds.Drain queue (drained_of s.queues queue)) (drain_wait (is_empty_and_idle s.admissions queue) s who queue) (by (is_empty_and_idle s.admissions queue)) earlier where
-      by : (idle : Bool) → IfSome (drain_wait idle s who queue) (λ w. w.awaited ≡ awaiteds.Drain queue (drained_of s.queues queue))
+    named-more s who (awaiteds.Drain queue (drained_of s.queues queue)) (drain_wait (is_empty_and_idle s.admissions queue) s.entries s.queues who queue) (by (is_empty_and_idle s.admissions queue)) earlier where
+      by : (idle : Bool) → IfSome (drain_wait idle s.entries s.queues who queue) (λ w. w.awaited ≡ awaiteds.Drain queue (drained_of s.queues queue))
       by true = tt
       by false = refl
 
@@ -561,7 +565,7 @@ may-done false said reply is = absurd (cc)
 -- what a player waited for since a place has come where it ends that wait
 come-by : (t : State) (closing : Closing) (who : Who) (p : ℕ) (a : Awaited) → may_close t closing who p ≡ true → All (λ (w : Wait). w.place ≡ p → w.awaited ≡ a) t.waits → has_come t.admissions t.queues closing a ≡ true
 come-by t closing who p a may named =
-    let it = found-wait (λ (w : Wait). w.place ≡ p → w.awaited ≡ a) (closes t.admissions t.queues closing who p) t.waits may named in
+    let it = found-wait (λ (w : Wait). w.place ≡ p → w.awaited ≡ a) (closes (has_come t.admissions t.queues closing) who p) t.waits may named in
     let unanswered = first_so (is_unanswered p who.number it.0) (has_come t.admissions t.queues closing it.0.awaited) it.2 in
     let both = first_so ((it.0.place == p) && (it.0.player == who.number)) (not it.0.answered) unanswered in
     let at = eqb-true it.0.place p (first_so (it.0.place == p) (it.0.player == who.number) both) in
@@ -634,9 +638,9 @@ cancel_done_after_run start h fresh front between rest first_one done item run p
     let s = state_after work_machine start front in
     let a : Awaited = awaiteds.Cancel run in
     let it = closed-entries start h front between rest first_one done a fresh parts in
-    let new : IfSome (cancel_wait s first_one.who item) (λ w. w.awaited ≡ a) =
+    let new : IfSome (cancel_wait s.entries first_one.who (running s.admissions item)) (λ w. w.awaited ≡ a) =
     subst (λ (o : Option ℕ). IfSome (option_map (λ number. wait_for s.entries first_one.who (awaiteds.Cancel number)) o) (λ w. w.awaited ≡ a)) (sym found) refl in
-    let named = subst (λ (o : WorkOp). All (λ (w : Wait). w.place ≡ s.entries → w.awaited ≡ a) (work_next s first_one.who o).waits) (sym starts) (named-more s first_one.who a (cancel_wait s first_one.who item) new it.earlier) in
+    let named = subst (λ (o : WorkOp). All (λ (w : Wait). w.place ≡ s.entries → w.awaited ≡ a) (work_next s first_one.who o).waits) (sym starts) (named-more s first_one.who a (cancel_wait s.entries first_one.who (running s.admissions item)) new it.earlier) in
     let t = state_after work_machine (work_next s first_one.who first_one.op) between in
     let come = come-before start front between first_one done a closings.Cancel (replies.Truth true) it named
     (λ u who place same. ap (work_reply u who) (dones ∙ ap CancelDone (sym same))) in
@@ -650,10 +654,10 @@ flush_done_after_its_end start h fresh front between rest first_one done item nu
     let it = closed-entries start h front between rest first_one done a fresh parts in
     let replied : work_reply s first_one.who (FlushStart item) ≡ Some first_one.reply =
     ap (work_reply s first_one.who) (sym starts) ∙ (Replays-rest work_machine start front (first_one ∷ (between ++ done ∷ rest)) (Replays-parts start h (front ++ first_one ∷ (between ++ done ∷ rest)) fresh parts)).0 in
-    let found : flushed (hurried s first_one.who item) item ≡ Some number = names (flushed (hurried s first_one.who item) item) (same_Some (flush_start_reply (flushed (hurried s first_one.who item) item)) first_one.reply replied ∙ said) in
-    let new : IfSome (flush_wait s first_one.who item) (λ w. w.awaited ≡ a) =
+    let found : flushed_of s first_one.who item ≡ Some number = names (flushed_of s first_one.who item) (same_Some (flush_start_reply (flushed_of s first_one.who item)) first_one.reply replied ∙ said) in
+    let new : IfSome (flush_wait s.entries first_one.who (flushed_of s first_one.who item)) (λ w. w.awaited ≡ a) =
     subst (λ (o : Option ℕ). IfSome (option_map (λ number. wait_for s.entries first_one.who (awaiteds.Flush number)) o) (λ w. w.awaited ≡ a)) (sym found) refl in
-    let named = subst (λ (o : WorkOp). All (λ (w : Wait). w.place ≡ s.entries → w.awaited ≡ a) (work_next s first_one.who o).waits) (sym starts) (named-more s first_one.who a (flush_wait s first_one.who item) new it.earlier) in
+    let named = subst (λ (o : WorkOp). All (λ (w : Wait). w.place ≡ s.entries → w.awaited ≡ a) (work_next s first_one.who o).waits) (sym starts) (named-more s first_one.who a (flush_wait s.entries first_one.who (flushed_of s first_one.who item)) new it.earlier) in
     let t = state_after work_machine (work_next s first_one.who first_one.op) between in
     let come = come-before start front between first_one done a closings.Flush (replies.Truth true) it named
     (λ u who place same. ap (work_reply u who) (dones ∙ ap FlushDone (sym same))) in

@@ -8,6 +8,7 @@ pub mod Lives
 pub mod Moves
 pub mod Outcomes
 pub mod Overlaps
+pub mod Runs
 pub mod Singles
 pub mod Weights
 pub mod Writes

@@ -17,8 +17,9 @@ use Rattle.zk_model_work.specs.declared.parts.Queue.{Queue}
 use Rattle.zk_model_work.specs.declared.ops.Submitted.{Submitted}
 use Rattle.zk_model_work.specs.declared.ops.Expiry.{Expiry}
 use Rattle.zk_model_work.specs.Lists.{first, places_from, places}
-use Rattle.zk_model_work.specs.Questions.{is_due, due}
-use Rattle.zk_model_work.specs.Machine.{submission, submit, submit_arms, expiries}
+use Rattle.zk_model_work.specs.Questions.{is_due, due, item_of}
+use Rattle.zk_model_work.specs.Machine.{submit, submit_arms, expiries}
+use Rattle.zk_model_work.specs.Answers.{submission}
 
 -- a place found from the front, counted from n on
 abbrev found : ℕ → ℕ → ℕ → Option ℕ
@@ -106,39 +107,39 @@ due-kept time arms n d b found within is so found_is = found_is ∙ sym (due-mor
 -- the submission of one arm more
 submit_arms-snoc : (marks : List ℕ) (queues : List Queue) (caller : Option ℕ) (arms : List Arm) (a : Arm) (xs : List Admission) →
     submit_arms marks queues caller (arms ++ a ∷ []) xs
-    ≡ submit (submit_arms marks queues caller arms xs) a.item (submission (submit_arms marks queues caller arms xs) marks queues caller a.item (Some a.queue))
+    ≡ submit (submit_arms marks queues caller arms xs) a.item (submission (item_of (submit_arms marks queues caller arms xs) marks a.item) queues caller (Some a.queue))
 submit_arms-snoc marks queues caller [] a xs = refl
-submit_arms-snoc marks queues caller (b ∷ arms) a xs = submit_arms-snoc marks queues caller arms a (submit xs b.item (submission xs marks queues caller b.item (Some b.queue)))
+submit_arms-snoc marks queues caller (b ∷ arms) a xs = submit_arms-snoc marks queues caller arms a (submit xs b.item (submission (item_of xs marks b.item) queues caller (Some b.queue)))
 
 pub submit_arms-more : (marks : List ℕ) (queues : List Queue) (caller : Option ℕ) (arms : List Arm) (n : ℕ) (d : Arm) (xs ys zs : List Admission) (answer : Submitted) → n < length arms →
-    ys ≡ submit_arms marks queues caller (take n arms) xs → answer ≡ submission ys marks queues caller (get_or arms n d).item (Some (get_or arms n d).queue) → zs ≡ submit ys (get_or arms n d).item answer →
+    ys ≡ submit_arms marks queues caller (take n arms) xs → answer ≡ submission (item_of ys marks (get_or arms n d).item) queues caller (Some (get_or arms n d).queue) → zs ≡ submit ys (get_or arms n d).item answer →
     zs ≡ submit_arms marks queues caller (take (n + 1) arms) xs
 submit_arms-more marks queues caller arms n d xs ys zs answer within so_far answered new =
     let suc_is : n + 1 ≡ suc n = omega arith in
     let a = get_or arms n d in
-    new ∙ ap (submit ys a.item) answered ∙ ap (λ (l : List Admission). submit l a.item (submission l marks queues caller a.item (Some a.queue))) so_far
+    new ∙ ap (submit ys a.item) answered ∙ ap (λ (l : List Admission). submit l a.item (submission (item_of l marks a.item) queues caller (Some a.queue))) so_far
     ∙ sym (ap (λ m. submit_arms marks queues caller (take m arms) xs) suc_is ∙ ap (λ (l : List Arm). submit_arms marks queues caller l xs) (take-suc arms n d within)
     ∙ submit_arms-snoc marks queues caller (take n arms) a xs)
 
 -- and what it is answered
 expiries-snoc : (marks : List ℕ) (queues : List Queue) (arms : List Arm) (a : Arm) (xs : List Admission) →
     expiries marks queues (arms ++ a ∷ []) xs
-    ≡ expiries marks queues arms xs ++ record { item = a.item; submitted = submission (submit_arms marks queues None arms xs) marks queues None a.item (Some a.queue) } ∷ []
+    ≡ expiries marks queues arms xs ++ record { item = a.item; submitted = submission (item_of (submit_arms marks queues None arms xs) marks a.item) queues None (Some a.queue) } ∷ []
 expiries-snoc marks queues [] a xs = refl
 expiries-snoc marks queues (b ∷ arms) a xs =
-    let answer = submission xs marks queues None b.item (Some b.queue) in
+    let answer = submission (item_of xs marks b.item) queues None (Some b.queue) in
     ap (λ (l : List Expiry). record { item = b.item; submitted = answer } ∷ l) (expiries-snoc marks queues arms a (submit xs b.item answer))
 
 pub expiries-more : (marks : List ℕ) (queues : List Queue) (arms : List Arm) (n : ℕ) (d : Arm) (xs ys : List Admission) (told new : List Expiry) (x : Expiry) → n < length arms →
-    ys ≡ submit_arms marks queues None (take n arms) xs → told ≡ expiries marks queues (take n arms) xs → x.submitted ≡ submission ys marks queues None (get_or arms n d).item (Some (get_or arms n d).queue) →
+    ys ≡ submit_arms marks queues None (take n arms) xs → told ≡ expiries marks queues (take n arms) xs → x.submitted ≡ submission (item_of ys marks (get_or arms n d).item) queues None (Some (get_or arms n d).queue) →
     x.item ≡ (get_or arms n d).item → new ≡ told ++ x ∷ [] → new ≡ expiries marks queues (take (n + 1) arms) xs
 expiries-more marks queues arms n d xs ys told new x within so_far told_is answered item_is new_is =
     let suc_is : n + 1 ≡ suc n = omega arith in
     let a = get_or arms n d in
-    let last = submission (submit_arms marks queues None (take n arms) xs) marks queues None a.item (Some a.queue) in
+    let last = submission (item_of (submit_arms marks queues None (take n arms) xs) marks a.item) queues None (Some a.queue) in
     let both : x ≡ record { item = a.item; submitted = last } =
     ap (λ i. record { item = i; submitted = x.submitted }) item_is
-    ∙ ap (λ (r : Submitted). record { item = a.item; submitted = r }) (answered ∙ ap (λ (l : List Admission). submission l marks queues None a.item (Some a.queue)) so_far) in
+    ∙ ap (λ (r : Submitted). record { item = a.item; submitted = r }) (answered ∙ ap (λ (l : List Admission). submission (item_of l marks a.item) queues None (Some a.queue)) so_far) in
     new_is ∙ ap (λ (l : List Expiry). l ++ x ∷ []) told_is ∙ ap (λ (y : Expiry). expiries marks queues (take n arms) xs ++ y ∷ []) both
     ∙ sym (ap (λ m. expiries marks queues (take m arms) xs) suc_is ∙ ap (λ (l : List Arm). expiries marks queues l xs) (take-suc arms n d within)
     ∙ expiries-snoc marks queues (take n arms) a xs)

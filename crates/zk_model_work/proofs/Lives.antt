@@ -18,9 +18,10 @@ use Rattle.zk_model_work.specs.declared.ops.WorkReply.{WorkReply}
 use Rattle.zk_model_work.specs.declared.ops.Submitted.{Submitted}
 use Rattle.zk_model_work.specs.declared.ops.Submitted.TheVariants.{Already, Fresh, Rerun, Refused}
 use Rattle.zk_model_work.specs.Lists.{first}
-use Rattle.zk_model_work.specs.Questions.{is_waiting, is_running, is_open, waits_as, runs_on, waits_for, line}
+use Rattle.zk_model_work.specs.Questions.{is_waiting, is_running, is_open, waits_as, runs_on, waits_for, line, item_of}
 use Rattle.zk_model_work.specs.State.{State}
-use Rattle.zk_model_work.specs.Machine.{work_next, work_machine, submission, submit, set_life, with_life, begin, end_one, drop_one}
+use Rattle.zk_model_work.specs.Machine.{work_next, work_machine, submit, set_life, with_life, begin, end_one, drop_one}
+use Rattle.zk_model_work.specs.Answers.{submission}
 use Rattle.zk_model_work.specs.Laws.{submitter}
 use Rattle.zk_model_work.proofs.Lines.{first_of_places}
 use Rattle.zk_model_work.proofs.Moves.{admissions-next}
@@ -146,7 +147,7 @@ Kept-begin xs queue = by (first (line xs queue)) refl where
 pub Kept-next : (s : State) (who : Who) (op : WorkOp) → Kept s.admissions (work_next s who op).admissions
 Kept-next s who op =
     admissions-next (Kept s.admissions) s who op
-    (λ ys item named stays kept. Kept-trans s.admissions ys _ kept (Kept-submit ys item (submission ys s.marks s.queues (submitter who op) item named)))
+    (λ ys item named stays kept. Kept-trans s.admissions ys _ kept (Kept-submit ys item (submission (item_of ys s.marks item) s.queues (submitter who op) named)))
     (λ item cancels. Kept-map (drop_one item) (Keeps-drop_one item) s.admissions)
     (λ queue is. Kept-begin s.admissions queue)
     (λ queue is. Kept-map (end_one queue) (Keeps-end_one queue) s.admissions)

@@ -14,9 +14,10 @@ use Rattle.zk_model_work.specs.declared.ops.Submitted.TheVariants.{Already, Fres
 use Rattle.zk_model_work.specs.declared.ops.WorkReply.{WorkReply}
 use Rattle.zk_model_work.specs.declared.ops.WorkReply.TheVariants as replies
 use Rattle.zk_model_work.specs.Lists.{first}
-use Rattle.zk_model_work.specs.Questions.{waiting, running, is_empty_and_idle, is_cancelling, armed, live_arm, due}
+use Rattle.zk_model_work.specs.Questions.{waiting, running, is_empty_and_idle, is_cancelling, armed, live_arm, due, item_of}
 use Rattle.zk_model_work.specs.State.{State}
-use Rattle.zk_model_work.specs.Machine.{submission, submission_in, submit, submit_arms, arm, disarm, expire, begin, end_run, drop_waiting, is_pending, delayed, schedule, flushed, hurried, may_close, may_end, flags_of, is_started, is_plugged, work_reply, work_next}
+use Rattle.zk_model_work.specs.Machine.{submission_in, submit, submit_arms, arm, disarm, expire, begin, end_run, drop_waiting, is_pending_in, delayed, schedule, flushed_of, may_close, may_end, flags_of, work_reply, work_next}
+use Rattle.zk_model_work.specs.Answers.{submission, is_started, is_plugged}
 use Rattle.zk_model_work.specs.Laws.{Cancels, disarms, submitter}
 
 -- each element of the first list stands in its place in the second
@@ -50,11 +51,11 @@ still-submit xs item (Refused cause) n a at = at
 
 -- what each submission keeps, and so do the submissions of arms one after another
 pub submit_arms-keeps : (P : List Admission → Type 0) (xs : List Admission) (marks : List ℕ) (queues : List Queue) (caller : Option ℕ) →
-    ((ys : List Admission) (item : ℕ) (named : Option ℕ) → Stays xs ys → P ys → P (submit ys item (submission ys marks queues caller item named))) →
+    ((ys : List Admission) (item : ℕ) (named : Option ℕ) → Stays xs ys → P ys → P (submit ys item (submission (item_of ys marks item) queues caller named))) →
     (arms : List Arm) (ys : List Admission) → Stays xs ys → P ys → P (submit_arms marks queues caller arms ys)
 submit_arms-keeps P xs marks queues caller each [] ys stays holds = holds
 submit_arms-keeps P xs marks queues caller each (a ∷ arms) ys stays holds =
-    let answer = submission ys marks queues caller a.item (Some a.queue) in
+    let answer = submission (item_of ys marks a.item) queues caller (Some a.queue) in
     submit_arms-keeps P xs marks queues caller each arms (submit ys a.item answer) (λ n b at. still-submit ys a.item answer n b (stays n b at)) (each ys a.item (Some a.queue) stays holds)
 
 -- the state after a submission by the player, and after an arming
@@ -72,16 +73,16 @@ delayed-keeps P s who item queue delay submits arms = by (eqb delay 0) refl wher
   by false is = arms is
 
 -- and so is one that is scheduled, unless it is pending
-pub schedule-keeps : (P : State → Type 0) (s : State) (who : Who) (item queue delay : ℕ) → P s → P (submitted s who item queue) → (is_pending s item ≡ false → eqb delay 0 ≡ false → P (armed_more s item queue delay)) →
+pub schedule-keeps : (P : State → Type 0) (s : State) (who : Who) (item queue delay : ℕ) → P s → P (submitted s who item queue) → (is_pending_in s item ≡ false → eqb delay 0 ≡ false → P (armed_more s item queue delay)) →
     P (schedule s who item queue delay)
-schedule-keeps P s who item queue delay same submits arms = by (is_pending s item) refl where
-  by : (b : Bool) → is_pending s item ≡ b → P (cond b s (delayed s who item queue delay))
+schedule-keeps P s who item queue delay same submits arms = by (is_pending_in s item) refl where
+  by : (b : Bool) → is_pending_in s item ≡ b → P (cond b s (delayed s who item queue delay))
   by true is = same
   by false is = delayed-keeps P s who item queue delay submits (arms is)
 
 -- the admissions change by submissions, by a cancel, by a begin and by an end
 pub admissions-next : (P : List Admission → Type 0) (s : State) (who : Who) (op : WorkOp) →
-    ((ys : List Admission) (item : ℕ) (named : Option ℕ) → Stays s.admissions ys → P ys → P (submit ys item (submission ys s.marks s.queues (submitter who op) item named))) →
+    ((ys : List Admission) (item : ℕ) (named : Option ℕ) → Stays s.admissions ys → P ys → P (submit ys item (submission (item_of ys s.marks item) s.queues (submitter who op) named))) →
     ((item : ℕ) → Cancels item op → P (drop_waiting s.admissions item)) →
     ((queue : ℕ) → op ≡ Begin queue → P (begin s.admissions queue)) →
     ((queue : ℕ) → op ≡ End queue → P (end_run s.admissions queue)) →
@@ -170,10 +171,10 @@ is_begin s who (CancelStart other) item number is =
     absurd (not_run (eqb (flags_of s other) 0) (replies.Truth false) (cond (is_some (running s.admissions other)) replies.Wait (replies.Truth true)) item number (λ no. cc)
     (not_run (is_some (running s.admissions other)) replies.Wait (replies.Truth true) item number (λ no. cc) (λ no. cc)) (same_Some _ _ is))
 is_begin s who (CancelDone place) item number is = absurd (not_possible (may_close s closings.Cancel who place) (replies.Truth true) item number (λ no. cc) is)
-is_begin s who (FlushStart other) item number is = absurd (not_flushed (flushed (hurried s who other) other) item number (same_Some _ _ is))
+is_begin s who (FlushStart other) item number is = absurd (not_flushed (flushed_of s who other) item number (same_Some _ _ is))
 is_begin s who (FlushDone place) item number is = absurd (not_possible (may_close s closings.Flush who place) (replies.Truth true) item number (λ no. cc) is)
 is_begin s who (Schedule other queue delay) item number is =
-    absurd (not_run (is_pending s other) (replies.Sub Already) (cond (eqb delay 0) (replies.Sub (submission_in s (Some who.number) other (Some queue))) replies.Armed) item number (λ no. cc)
+    absurd (not_run (is_pending_in s other) (replies.Sub Already) (cond (eqb delay 0) (replies.Sub (submission_in s (Some who.number) other (Some queue))) replies.Armed) item number (λ no. cc)
     (not_run (eqb delay 0) (replies.Sub (submission_in s (Some who.number) other (Some queue))) replies.Armed item number (λ no. cc) (λ no. cc)) (same_Some _ _ is))
 is_begin s who (Reschedule other queue delay) item number is =
     absurd (not_run (eqb delay 0) (replies.Sub (submission_in s (Some who.number) other (Some queue))) replies.Armed item number (λ no. cc) (λ no. cc) (same_Some _ _ is))

@@ -17,9 +17,10 @@ use Rattle.zk_model_work.specs.declared.ops.WorkOp.TheVariants.{Submit, Cancel, 
 use Rattle.zk_model_work.specs.declared.ops.WorkReply.{WorkReply}
 use Rattle.zk_model_work.specs.declared.ops.WorkReply.TheVariants.{Run}
 use Rattle.zk_model_work.specs.Lists.{first}
-use Rattle.zk_model_work.specs.Questions.{is_waiting, is_running, is_open, waits_as, runs_on, line}
+use Rattle.zk_model_work.specs.Questions.{is_waiting, is_running, is_open, waits_as, runs_on, line, item_of}
 use Rattle.zk_model_work.specs.State.{State}
-use Rattle.zk_model_work.specs.Machine.{work_reply, work_next, work_machine, submission, submit, set_life, with_life, begin, end_one, drop_one}
+use Rattle.zk_model_work.specs.Machine.{work_reply, work_next, work_machine, submit, set_life, with_life, begin, end_one, drop_one}
+use Rattle.zk_model_work.specs.Answers.{submission}
 use Rattle.zk_model_work.specs.Laws.{OfEach, Cancels, submitter, ends, admission_after, AdmissionStays, OutcomeStays, BegunFromItsQueue, DroppedByACancel, EndedByItsEnd}
 use Rattle.zk_model_work.proofs.Moves.{still-submit, admissions-next, is_begin}
 use Rattle.zk_model_work.proofs.Lives.{Keeps, Kept-after, IsFirst-line, set_life-at, set_life-aside}
@@ -122,7 +123,7 @@ dropped-next : (s : State) (who : Who) (op : WorkOp) (n : ℕ) (a : Admission) �
 dropped-next s who op n a at opens =
     admissions-next (λ ys. IsDropped (slice_get ys n) → (a.life ≡ Waiting) × Cancels a.item op) s who op
     (λ ys item named stays so_far is.
-    let answer = submission ys s.marks s.queues (submitter who op) item named in
+    let answer = submission (item_of ys s.marks item) s.queues (submitter who op) named in
     absurd (not-dropped (slice_get (submit ys item answer) n) a (still-submit ys item answer n a (stays n a at)) opens is))
     (λ item cancels is. dropped-cancel op item n s.admissions a cancels at opens is)
     (λ queue op_is is. absurd (not-begun s.admissions queue n a at opens is))

@@ -23,9 +23,11 @@ use Rattle.zk_model_work.specs.declared.ops.WorkReply.TheVariants as replies
 use Rattle.zk_model_work.specs.declared.ops.Submitted.{Submitted}
 use Rattle.zk_model_work.specs.declared.ops.Submitted.TheVariants.{Already, Fresh, Rerun, Refused}
 use Rattle.zk_model_work.specs.Lists.{first}
-use Rattle.zk_model_work.specs.Questions.{is_waiting, is_running, is_open, waits_as, runs_as, runs_on, waiting, running, running_queue, last_queue, line, run, is_cancelling}
+use Rattle.zk_model_work.specs.Questions.{is_waiting, is_running, is_open, waits_as, runs_as, runs_on, waiting, running, running_queue, last_queue, line, run, item_of}
 use Rattle.zk_model_work.specs.State.{State}
-use Rattle.zk_model_work.specs.Machine.{work_next, work_reply, work_machine, target, admission, refusal, submission_to, submission_at, submission, admitted_to, submit, set_life, with_life, begin, end_one, drop_one, may_begin, is_worker, taken_up}
+use Rattle.zk_model_work.specs.Machine.{work_next, work_reply, work_machine, submit, set_life, with_life, begin, end_one, drop_one, may_begin, taken_up}
+use Rattle.zk_model_work.specs.Answers.{target, admission, refusal, submission_to, submission_at, submission, admitted_to, is_worker}
+use Rattle.zk_model_work.specs.declared.parts.Item.{Item}
 use Rattle.zk_model_work.specs.Laws.{IsFreshHistory, OfEach, submitter, admission_after, ends, NotBegunDuringRun, RunsToItsEnd, EndsBetweenBegins}
 use Rattle.zk_model_work.proofs.Lives.{open-waiting, open-running, IsFirst, IsFirst-line, set_life-at, set_life-aside}
 use Rattle.zk_model_work.proofs.Moves.{pushed, still-map, still-submit, admissions-next, is_begin}
@@ -117,51 +119,54 @@ admission-to : (b : Bool) (long number queue : ℕ) → admitted_to (cond b (Rer
 admission-to true long number queue is = same_Some number queue is
 admission-to false long number queue is = same_Some number queue is
 
-pub submission_to-admitted : (xs : List Admission) (caller : Option ℕ) (item number : ℕ) (q : Queue) (queue : ℕ) → admitted_to (submission_to xs caller item number q) ≡ Some queue → number ≡ queue
-submission_to-admitted xs caller item number q queue is = by (refusal caller q) is where
-  by : (r : Option Errno) → admitted_to (option_map_or Refused r (admission xs item number)) ≡ Some queue → number ≡ queue
-  by None is = admission-to (is_some (running xs item)) (length xs) number queue is
+pub submission_to-admitted : (i : Item) (caller : Option ℕ) (number : ℕ) (q : Queue) (queue : ℕ) →
+    admitted_to (submission_to i caller number q) ≡ Some queue → number ≡ queue
+submission_to-admitted i caller number q queue is = by (refusal caller q) is where
+  by : (r : Option Errno) → admitted_to (option_map_or Refused r (admission i number)) ≡ Some queue → number ≡ queue
+  by None is = admission-to i.running i.next number queue is
   by (Some cause) is = absurd (cc)
 
-submission_at-admitted : (xs : List Admission) (queues : List Queue) (caller : Option ℕ) (item : ℕ) (o : Option ℕ) (queue : ℕ) → admitted_to (submission_at xs queues caller item o) ≡ Some queue → o ≡ Some queue
-submission_at-admitted xs queues caller item None queue is = absurd (cc)
-submission_at-admitted xs queues caller item (Some number) queue is = by (slice_get queues number) is where
-  by : (q : Option Queue) → admitted_to (option_map_or (submission_to xs caller item number) q (Refused Inval)) ≡ Some queue → Some number ≡ Some queue
+submission_at-admitted : (i : Item) (queues : List Queue) (caller : Option ℕ) (o : Option ℕ) (queue : ℕ) →
+    admitted_to (submission_at i queues caller o) ≡ Some queue → o ≡ Some queue
+submission_at-admitted i queues caller None queue is = absurd (cc)
+submission_at-admitted i queues caller (Some number) queue is = by (slice_get queues number) is where
+  by : (q : Option Queue) → admitted_to (option_map_or (submission_to i caller number) q (Refused Inval)) ≡ Some queue → Some number ≡ Some queue
   by None is = absurd (cc)
-  by (Some q) is = ap Some (submission_to-admitted xs caller item number q queue is)
+  by (Some q) is = ap Some (submission_to-admitted i caller number q queue is)
 
 -- there is such a queue
-submission_at-within : (xs : List Admission) (queues : List Queue) (caller : Option ℕ) (item : ℕ) (o : Option ℕ) (queue : ℕ) → admitted_to (submission_at xs queues caller item o) ≡ Some queue → queue < length queues
-submission_at-within xs queues caller item None queue is = absurd (cc)
-submission_at-within xs queues caller item (Some number) queue is = by (slice_get queues number) refl is where
-  by : (q : Option Queue) → slice_get queues number ≡ q → admitted_to (option_map_or (submission_to xs caller item number) q (Refused Inval)) ≡ Some queue → queue < length queues
+submission_at-within : (i : Item) (queues : List Queue) (caller : Option ℕ) (o : Option ℕ) (queue : ℕ) →
+    admitted_to (submission_at i queues caller o) ≡ Some queue → queue < length queues
+submission_at-within i queues caller None queue is = absurd (cc)
+submission_at-within i queues caller (Some number) queue is = by (slice_get queues number) refl is where
+  by : (q : Option Queue) → slice_get queues number ≡ q → admitted_to (option_map_or (submission_to i caller number) q (Refused Inval)) ≡ Some queue → queue < length queues
   by None there is = absurd (cc)
   by (Some q) there is =
-      let same = submission_to-admitted xs caller item number q queue is in
+      let same = submission_to-admitted i caller number q queue is in
       let within = slice_get_within queues number q there in
       omega arith
 
 -- a submission that admits finds the item neither cancelled nor waiting, and goes to its target
-pub record Admits (xs : List Admission) (marks : List ℕ) (item : ℕ) (named : Option ℕ) (queue : ℕ) : Type 0 where
-  pub not_cancelling : is_cancelling xs marks item ≡ false
-  pub not_waiting : is_some (waiting xs item) ≡ false
-  pub target_is : target xs item named ≡ Some queue
+pub record Admits (i : Item) (named : Option ℕ) (queue : ℕ) : Type 0 where
+  pub not_cancelling : i.cancelling ≡ false
+  pub not_waiting : i.queued ≡ false
+  pub target_is : target i named ≡ Some queue
 
-pub submission-admits : (xs : List Admission) (marks : List ℕ) (queues : List Queue) (caller : Option ℕ) (item : ℕ) (named : Option ℕ) (queue : ℕ) →
-    admitted_to (submission xs marks queues caller item named) ≡ Some queue → Admits xs marks item named queue
-submission-admits xs marks queues caller item named queue is =
-    let at = submission_at xs queues caller item (target xs item named) in
-    let one = past (is_cancelling xs marks item) (Refused Busy) (cond (is_some (waiting xs item)) Already at) queue refl is in
-    let two = past (is_some (waiting xs item)) Already at queue refl one.1 in
-    record { not_cancelling = one.0; not_waiting = two.0; target_is = submission_at-admitted xs queues caller item (target xs item named) queue two.1 }
+pub submission-admits : (i : Item) (queues : List Queue) (caller : Option ℕ) (named : Option ℕ) (queue : ℕ) →
+    admitted_to (submission i queues caller named) ≡ Some queue → Admits i named queue
+submission-admits i queues caller named queue is =
+    let at = submission_at i queues caller (target i named) in
+    let one = past i.cancelling (Refused Busy) (cond i.queued Already at) queue refl is in
+    let two = past i.queued Already at queue refl one.1 in
+    record { not_cancelling = one.0; not_waiting = two.0; target_is = submission_at-admitted i queues caller (target i named) queue two.1 }
 
-pub submission-within : (xs : List Admission) (marks : List ℕ) (queues : List Queue) (caller : Option ℕ) (item : ℕ) (named : Option ℕ) (queue : ℕ) →
-    admitted_to (submission xs marks queues caller item named) ≡ Some queue → queue < length queues
-submission-within xs marks queues caller item named queue is =
-    let at = submission_at xs queues caller item (target xs item named) in
-    let one = past (is_cancelling xs marks item) (Refused Busy) (cond (is_some (waiting xs item)) Already at) queue refl is in
-    let two = past (is_some (waiting xs item)) Already at queue refl one.1 in
-    submission_at-within xs queues caller item (target xs item named) queue two.1
+pub submission-within : (i : Item) (queues : List Queue) (caller : Option ℕ) (named : Option ℕ) (queue : ℕ) →
+    admitted_to (submission i queues caller named) ≡ Some queue → queue < length queues
+submission-within i queues caller named queue is =
+    let at = submission_at i queues caller (target i named) in
+    let one = past i.cancelling (Refused Busy) (cond i.queued Already at) queue refl is in
+    let two = past i.queued Already at queue refl one.1 in
+    submission_at-within i queues caller (target i named) queue two.1
 
 is_none-None : {A : Type 0} (o : Option A) → is_some o ≡ false → o ≡ None
 is_none-None None is = refl
@@ -196,7 +201,7 @@ one_queue xs item ordered n m a b at runs there runs_too =
 abbrev waiting_at : ℕ → ℕ → Admission
 waiting_at item queue = record { item = item; queue = queue; life = Waiting }
 
-Ordered-push : (xs : List Admission) (marks : List ℕ) (item : ℕ) (named : Option ℕ) (queue : ℕ) → Admits xs marks item named queue → Ordered xs → Ordered (xs ++ waiting_at item queue ∷ [])
+Ordered-push : (xs : List Admission) (marks : List ℕ) (item : ℕ) (named : Option ℕ) (queue : ℕ) → Admits (item_of xs marks item) named queue → Ordered xs → Ordered (xs ++ waiting_at item queue ∷ [])
 Ordered-push xs marks item named queue admits ordered m n a b below at there same open_a open_b = by (pushed xs (waiting_at item queue) m a at) (pushed xs (waiting_at item queue) n b there) where
   newest : slice_get xs m ≡ Some a → waiting_at item queue ≡ b → Follow a b
   newest old is =
@@ -214,7 +219,7 @@ Ordered-push xs marks item named queue admits ordered m n a b below at there sam
   by (inr is) (inl older) = let within = slice_get_within xs n b older in let long = is.0 in absurd (omega arith)
   by (inr is) (inr too) = let long = is.0 in let longer = too.0 in absurd (omega arith)
 
-Ordered-submit : (xs : List Admission) (marks : List ℕ) (item : ℕ) (named : Option ℕ) (answer : Submitted) → ((queue : ℕ) → admitted_to answer ≡ Some queue → Admits xs marks item named queue) → Ordered xs → Ordered (submit xs item answer)
+Ordered-submit : (xs : List Admission) (marks : List ℕ) (item : ℕ) (named : Option ℕ) (answer : Submitted) → ((queue : ℕ) → admitted_to answer ≡ Some queue → Admits (item_of xs marks item) named queue) → Ordered xs → Ordered (submit xs item answer)
 Ordered-submit xs marks item named Already admits ordered = ordered
 Ordered-submit xs marks item named (Fresh number queue) admits ordered = Ordered-push xs marks item named queue (admits queue refl) ordered
 Ordered-submit xs marks item named (Rerun number queue) admits ordered = Ordered-push xs marks item named queue (admits queue refl) ordered
@@ -287,8 +292,8 @@ Ordered-begin xs queue reply it idle ordered =
 Ordered-next : (s : State) (who : Who) (op : WorkOp) (reply : WorkReply) → work_reply s who op ≡ Some reply → Ordered s.admissions → Ordered (work_next s who op).admissions
 Ordered-next s who op reply is ordered =
     admissions-next Ordered s who op
-    (λ ys item named stays so_far. Ordered-submit ys s.marks item named (submission ys s.marks s.queues (submitter who op) item named)
-    (λ queue to. submission-admits ys s.marks s.queues (submitter who op) item named queue to) so_far)
+    (λ ys item named stays so_far. Ordered-submit ys s.marks item named (submission (item_of ys s.marks item) s.queues (submitter who op) named)
+    (λ queue to. submission-admits (item_of ys s.marks item) s.queues (submitter who op) named queue to) so_far)
     (λ item cancels. Ordered-map (drop_one item) (kept-drop_one item) s.admissions ordered)
     (λ queue op_is.
     let begins = ap (work_reply s who) (sym op_is) ∙ is in
@@ -388,7 +393,7 @@ still-begin xs queue n a runs at = by (first (line xs queue)) refl where
 still-next : (s : State) (who : Who) (op : WorkOp) (n : ℕ) (a : Admission) → is_running a.life ≡ true → ends a.queue op ≡ false → slice_get s.admissions n ≡ Some a → slice_get (work_next s who op).admissions n ≡ Some a
 still-next s who op n a runs goes_on at =
     admissions-next (λ ys. slice_get ys n ≡ Some a) s who op
-    (λ ys item named stays there. still-submit ys item (submission ys s.marks s.queues (submitter who op) item named) n a there)
+    (λ ys item named stays there. still-submit ys item (submission (item_of ys s.marks item) s.queues (submitter who op) named) n a there)
     (λ item cancels. still-map (drop_one item) s.admissions n a (still-cond (waits_as item a) a Dropped (not_both (eqb a.item item) (is_waiting a.life) (running-not a.life runs))) at)
     (λ queue op_is. still-begin s.admissions queue n a runs at)
     (λ queue op_is. still-map (end_one queue) s.admissions n a

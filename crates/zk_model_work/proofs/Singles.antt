@@ -15,9 +15,10 @@ use Rattle.zk_model_work.specs.declared.ops.WorkOp.TheVariants.{Begin}
 use Rattle.zk_model_work.specs.declared.ops.WorkReply.{WorkReply}
 use Rattle.zk_model_work.specs.declared.ops.Submitted.{Submitted}
 use Rattle.zk_model_work.specs.declared.ops.Submitted.TheVariants.{Already, Fresh, Rerun, Refused}
-use Rattle.zk_model_work.specs.Questions.{is_waiting, is_running, waits_as, runs_on, run}
+use Rattle.zk_model_work.specs.Questions.{is_waiting, is_running, waits_as, runs_on, run, item_of}
 use Rattle.zk_model_work.specs.State.{State}
-use Rattle.zk_model_work.specs.Machine.{work_reply, work_next, work_machine, submission, submit, set_life, with_life, begin, end_one, drop_one}
+use Rattle.zk_model_work.specs.Machine.{work_reply, work_next, work_machine, submit, set_life, with_life, begin, end_one, drop_one}
+use Rattle.zk_model_work.specs.Answers.{submission}
 use Rattle.zk_model_work.specs.Laws.{OfEach, submitter, OneWaitsOneRuns, OneRunsOnAQueue}
 use Rattle.zk_model_work.proofs.Moves.{pushed, admissions-next}
 use Rattle.zk_model_work.proofs.Lives.{IsFirst-line}
@@ -103,7 +104,7 @@ Single-next : (s : State) (who : Who) (op : WorkOp) (reply : WorkReply) → work
 Single-next s who op reply is single =
     admissions-next Single s who op
     (λ ys item named stays so_far.
-    let answer = submission ys s.marks s.queues (submitter who op) item named in
+    let answer = submission (item_of ys s.marks item) s.queues (submitter who op) named in
     Single-fewer ys (submit ys item answer) (running-submit ys item answer) so_far)
     (λ item cancels. Single-fewer s.admissions (map (drop_one item) s.admissions) (running-map (drop_one item) (λ a. running-cond (waits_as item a) a Dropped refl) s.admissions) single)
     (λ queue op_is. Single-begin s who queue reply (ap (work_reply s who) (sym op_is) ∙ is) single)

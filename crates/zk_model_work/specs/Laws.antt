@@ -16,7 +16,8 @@ use Rattle.zk_model_work.specs.declared.parts.Arm.{Arm}
 use Rattle.zk_model_work.specs.declared.parts.Queue.{Queue}
 use Rattle.zk_model_work.specs.Questions.{is_waiting, is_open, is_live, is_empty_and_idle, running, due}
 use Rattle.zk_model_work.specs.State.{State}
-use Rattle.zk_model_work.specs.Machine.{drained_of, work_machine}
+use Rattle.zk_model_work.specs.Machine.{work_machine}
+use Rattle.zk_model_work.specs.Answers.{drained_of}
 
 -- a history that the work machine lets stand from a state in which nothing was admitted
 pub record IsWorkHistory (start : State) (h : List (Entry WorkOp WorkReply)) : Type 0 where

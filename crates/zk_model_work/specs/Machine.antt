@@ -1,95 +1,52 @@
-use Rattle.std.specs.Prelude.{ℕ, zero, suc, ◌+◌, Bool, true, false, not, nat_lt, ◌==◌, ◌&&◌, ◌||◌, if◌then◌else◌, Option, Some, None, is_some, is_none, option_map, option_and_then, option_to_list, List, [], ◌∷◌, ◌++◌, length, map, slice_get}
+use Rattle.std.specs.Prelude.{ℕ, zero, suc, ◌+◌, Bool, true, false, not, nat_lt, ◌==◌, ◌&&◌, if◌then◌else◌, Option, Some, None, is_some, is_none, option_map, option_and_then, option_to_list, List, [], ◌∷◌, ◌++◌, length, map, slice_get}
 use Rattle.std.specs.List.{list_any}
-use Rattle.std.specs.Option.{option_map_or, option_or}
+use Rattle.std.specs.Option.{option_map_or}
 use Rattle.zk_base.specs.declared.ids.Who.{Who}
-use Rattle.zk_base.specs.declared.errors.Errno.{Errno}
-use Rattle.zk_base.specs.declared.errors.Errno.TheVariants.{Busy, Inval, NoDev}
 use Rattle.zk_base.specs.Legal.{Machine}
 use Rattle.zk_model_work.specs.declared.ops.WorkOp.{WorkOp}
 use Rattle.zk_model_work.specs.declared.ops.WorkOp.TheVariants.{Submit, Cancel, CancelStart, CancelDone, FlushStart, FlushDone, Schedule, Reschedule, Remaining, Start, DrainStart, DrainDone, Unplug, Announce, Begin, End}
 use Rattle.zk_model_work.specs.declared.ops.Submitted.{Submitted}
-use Rattle.zk_model_work.specs.declared.ops.Submitted.TheVariants.{Already, Fresh, Rerun, Refused}
 use Rattle.zk_model_work.specs.declared.ops.Expiry.{Expiry}
 use Rattle.zk_model_work.specs.declared.ops.WorkReply.{WorkReply}
-use Rattle.zk_model_work.specs.declared.ops.WorkReply.TheVariants.{Sub, Armed, Flags, Truth, WaitFor, Number, Done, Now, Run}
-use Rattle.zk_model_work.specs.declared.ops.WorkReply.TheVariants as replies
+use Rattle.zk_model_work.specs.declared.ops.WorkReply.TheVariants.{Sub, Flags, Truth, Number, Done, Now, Run}
 use Rattle.zk_model_work.specs.declared.parts.Life.{Life}
 use Rattle.zk_model_work.specs.declared.parts.Life.TheVariants.{Waiting, Running, Ended, Dropped}
 use Rattle.zk_model_work.specs.declared.parts.Admission.{Admission}
 use Rattle.zk_model_work.specs.declared.parts.Fate.TheVariants.{Live, Expired, Disarmed}
 use Rattle.zk_model_work.specs.declared.parts.Arm.{Arm}
 use Rattle.zk_model_work.specs.declared.parts.Awaited.{Awaited}
-use Rattle.zk_model_work.specs.declared.parts.Awaited.TheVariants as awaiteds
 use Rattle.zk_model_work.specs.declared.parts.Wait.{Wait}
 use Rattle.zk_model_work.specs.declared.parts.Queue.{Queue}
 use Rattle.zk_model_work.specs.declared.parts.Closing.{Closing}
 use Rattle.zk_model_work.specs.declared.parts.Closing.TheVariants as closings
 use Rattle.zk_model_work.specs.declared.parts.Change.{Change}
 use Rattle.zk_model_work.specs.declared.parts.Change.TheVariants as changes
+use Rattle.zk_model_work.specs.Answers.{submission, admitted_to, flags, is_pending, cancel_start_reply, flush_start_reply, delay_reply, schedule_reply, remaining, drain_reply, start_reply, unplug_reply, cancel_wait, flushed, flush_wait, drain_wait, comes, closes, is_worker}
 use Rattle.zk_model_work.specs.Lists.{first}
 use Rattle.zk_model_work.specs.State.{State}
-use Rattle.zk_model_work.specs.Questions.{is_open, is_ended, passes_at, waits_as, runs_on, arms_item, waiting, running, running_queue, last_queue, line, run, is_empty_and_idle, is_cancelling, armed, live_arm, is_due, due, remaining, flags}
-
--- the caller, where there is one, is the queue's worker
-abbrev pub is_chained : Queue → Option ℕ → Bool
-is_chained queue caller = option_map_or (λ player. player == queue.worker) caller false
-
--- the queue that a submission goes to: the one that runs the item, else the named one, else that of the item's last admission
-abbrev pub target : List Admission → ℕ → Option ℕ → Option ℕ
-target admissions item named = option_or (running_queue admissions item) (option_or named (last_queue admissions item))
-
--- an admission to this queue, with the number that it gets: again, where the item runs
-abbrev pub admission : List Admission → ℕ → ℕ → Submitted
-admission admissions item number = if is_some (running admissions item) then Rerun (length admissions) number else Fresh (length admissions) number
-
--- why a queue takes no submission of this caller, if it takes none: not before it is started, while it drains from its own worker alone, and not while it is plugged and doesn't drain
-abbrev pub refusal : Option ℕ → Queue → Option Errno
-refusal caller queue =
-    if not queue.started then Some NoDev else
-    if queue.draining && not (is_chained queue caller) then Some Busy else
-    if queue.plugged && not queue.draining then Some Busy else None
-
--- whether this queue takes the item
-abbrev pub submission_to : List Admission → Option ℕ → ℕ → ℕ → Queue → Submitted
-submission_to admissions caller item number queue = option_map_or Refused (refusal caller queue) (admission admissions item number)
-
--- whether there is a queue to go to, and it takes the item
-abbrev pub submission_at : List Admission → List Queue → Option ℕ → ℕ → Option ℕ → Submitted
-submission_at admissions queues caller item None = Refused Inval
-submission_at admissions queues caller item (Some number) = option_map_or (submission_to admissions caller item number) (slice_get queues number) (Refused Inval)
-
--- the answer to a submission, by a player or by nobody: refused while the item is being cancelled, and without effect where it waits already
-abbrev pub submission : List Admission → List ℕ → List Queue → Option ℕ → ℕ → Option ℕ → Submitted
-submission admissions marks queues caller item named =
-    if is_cancelling admissions marks item then Refused Busy else
-    if is_some (waiting admissions item) then Already else
-    submission_at admissions queues caller item (target admissions item named)
-
--- the queue that an answer admits to, if it admits
-abbrev pub admitted_to : Submitted → Option ℕ
-admitted_to (Fresh number queue) = Some queue
-admitted_to (Rerun number queue) = Some queue
-admitted_to answer = None
+use Rattle.zk_model_work.specs.Questions.{is_open, is_ended, passes_at, waits_as, runs_on, arms_item, waiting, running, line, run, is_empty_and_idle, armed, live_arm, deadline_of, is_due, due, is_flushing, item_of}
 
 -- the admissions after a submission with this answer: one more where it was admitted
 abbrev pub submit : List Admission → ℕ → Submitted → List Admission
-submit admissions item answer = option_map_or (λ queue. admissions ++ record { item = item; queue = queue; life = Waiting } ∷ []) (admitted_to answer) admissions
+submit admissions item answer =
+    option_map_or (λ queue. admissions ++ record { item = item; queue = queue; life = Waiting } ∷ []) (admitted_to answer) admissions
 
 -- the answer to a submission in a state
 abbrev pub submission_in : State → Option ℕ → ℕ → Option ℕ → Submitted
-submission_in s caller item named = submission s.admissions s.marks s.queues caller item named
+submission_in s caller item named = submission (item_of s.admissions s.marks item) s.queues caller named
 
 -- the admissions after these arms' items were submitted in turn, each to its arm's queue, by a player or by nobody
 abbrev pub submit_arms : List ℕ → List Queue → Option ℕ → List Arm → List Admission → List Admission
 submit_arms marks queues caller [] admissions = admissions
 submit_arms marks queues caller (a ∷ arms) admissions =
-    submit_arms marks queues caller arms (submit admissions a.item (submission admissions marks queues caller a.item (Some a.queue)))
+    let answer = submission (item_of admissions marks a.item) queues caller (Some a.queue) in
+    submit_arms marks queues caller arms (submit admissions a.item answer)
 
 -- what each of them is answered, where nobody submits it
 abbrev pub expiries : List ℕ → List Queue → List Arm → List Admission → List Expiry
 expiries marks queues [] admissions = []
 expiries marks queues (a ∷ arms) admissions =
-    let answer = submission admissions marks queues None a.item (Some a.queue) in
+    let answer = submission (item_of admissions marks a.item) queues None (Some a.queue) in
     record { item = a.item; submitted = answer } ∷ expiries marks queues arms (submit admissions a.item answer)
 
 -- the admission with another life
@@ -104,7 +61,8 @@ set_life (a ∷ rest) (suc number) life = a ∷ set_life rest number life
 
 -- the first in the queue's line runs
 abbrev pub begin : List Admission → ℕ → List Admission
-begin admissions queue = option_map_or (λ number. set_life admissions number Running) (first (line admissions queue)) admissions
+begin admissions queue =
+    option_map_or (λ number. set_life admissions number Running) (first (line admissions queue)) admissions
 
 -- an admission, ended where the queue ran it
 abbrev pub end_one : ℕ → Admission → Admission
@@ -148,7 +106,8 @@ mark admissions marks item = marks ++ option_to_list (running admissions item)
 
 -- a queue of this number that drains, where it is idle, has drained once more
 abbrev pub settle_one : (ℕ → Bool) → ℕ → Queue → Queue
-settle_one is_idle number queue = if queue.draining && is_idle number then record queue { draining = false; drained = queue.drained + 1 } else queue
+settle_one is_idle number queue =
+    if queue.draining && is_idle number then record queue { draining = false; drained = queue.drained + 1 } else queue
 
 -- the draining of each queue from this number on ends, where it is idle
 abbrev pub settle_from : (ℕ → Bool) → ℕ → List Queue → List Queue
@@ -159,11 +118,13 @@ settle_from is_idle number (queue ∷ queues) = settle_one is_idle number queue 
 abbrev pub settle : List Admission → List Queue → List Queue
 settle admissions queues = settle_from (is_empty_and_idle admissions) 0 queues
 
--- the state after a cancel of the item: its waiting admission dropped, its arm disarmed, its run marked, and what has drained settled
+-- the state after a cancel of the item:
+-- its waiting admission dropped, its arm disarmed, its run marked, and what has drained settled
 abbrev pub cancel : State → ℕ → State
 cancel s item =
     let admissions = drop_waiting s.admissions item in
-    record s { admissions = admissions; arms = disarm s.arms item; marks = mark s.admissions s.marks item; queues = settle admissions s.queues }
+    let marks = mark s.admissions s.marks item in
+    record s { admissions = admissions; arms = disarm s.arms item; marks = marks; queues = settle admissions s.queues }
 
 -- the state after the end of what the queue ran
 abbrev pub end : State → ℕ → State
@@ -188,55 +149,48 @@ change c (queue ∷ queues) (suc number) = queue ∷ change c queues number
 abbrev pub change_where : Bool → Change → List Queue → ℕ → List Queue
 change_where asked c queues number = if asked then change c queues number else queues
 
--- how many drainings of the queue have ended
-abbrev pub drained_of : List Queue → ℕ → ℕ
-drained_of queues number = option_map_or (λ queue. queue.drained) (slice_get queues number) 0
-
--- the wait of a player that begins with the entry of this place
-abbrev pub wait_for : ℕ → Who → Awaited → Wait
-wait_for place who awaited = record { place = place; player = who.number; awaited = awaited; answered = false }
-
 -- the waits with one more, where there is something to wait for
 abbrev pub awaiting : List Wait → Option Wait → List Wait
 awaiting waits w = waits ++ option_to_list w
 
--- the wait for the end of the run that a cancel finds
-abbrev pub cancel_wait : State → Who → ℕ → Option Wait
-cancel_wait s who item = option_map (λ number. wait_for s.entries who (awaiteds.Cancel number)) (running s.admissions item)
-
 -- the state after the start of a sync cancel: that of a cancel, in which the player waits where the item runs
 abbrev pub cancel_start : State → Who → ℕ → State
-cancel_start s who item = record (cancel s item) { waits = awaiting s.waits (cancel_wait s who item) }
+cancel_start s who item =
+    record (cancel s item) { waits = awaiting s.waits (cancel_wait s.entries who (running s.admissions item)) }
 
--- the admissions after a flush has ended the item's delay, if it has one: the item is submitted by the player to the arm's queue
+-- the admissions after a flush has ended the item's delay, if it has one:
+-- the item is submitted by the player to the arm's queue
 abbrev pub hurried : State → Who → ℕ → List Admission
-hurried s who item = submit_arms s.marks s.queues (Some who.number) (option_to_list (live_arm s.arms item)) s.admissions
+hurried s who item =
+    submit_arms s.marks s.queues (Some who.number) (option_to_list (live_arm s.arms item)) s.admissions
 
--- the admission that a flush waits for: the item's waiting one, else its running one
-abbrev pub flushed : List Admission → ℕ → Option ℕ
-flushed admissions item = option_or (waiting admissions item) (running admissions item)
+-- the admission that a flush of the item waits for, once it has ended the item's delay
+abbrev pub flushed_of : State → Who → ℕ → Option ℕ
+flushed_of s who item =
+    let admissions = hurried s who item in
+    flushed (waiting admissions item) (running admissions item)
 
--- the wait for the end of that admission
-abbrev pub flush_wait : State → Who → ℕ → Option Wait
-flush_wait s who item = option_map (λ number. wait_for s.entries who (awaiteds.Flush number)) (flushed (hurried s who item) item)
-
--- the state after the start of a flush, which ends the item's delay, and in which the player waits where an admission of the item then waits or runs
+-- the state after the start of a flush, which ends the item's delay,
+-- and in which the player waits where an admission of the item then waits or runs
 abbrev pub flush_start : State → Who → ℕ → State
-flush_start s who item = record s { admissions = hurried s who item; arms = disarm s.arms item; waits = awaiting s.waits (flush_wait s who item) }
+flush_start s who item =
+    let waits = awaiting s.waits (flush_wait s.entries who (flushed_of s who item)) in
+    record s { admissions = hurried s who item; arms = disarm s.arms item; waits = waits }
 
--- the item is delayed, queued or being cancelled
-abbrev pub is_pending : State → ℕ → Bool
-is_pending s item = is_some (armed s.arms item) || is_some (waiting s.admissions item) || is_cancelling s.admissions s.marks item
+-- the item is delayed, queued or being cancelled in a state
+abbrev pub is_pending_in : State → ℕ → Bool
+is_pending_in s item = is_pending (item_of s.admissions s.marks item) (is_some (armed s.arms item))
 
 -- the state in which an item has this delay: with none it was submitted by the player, else it is armed
 abbrev pub delayed : State → Who → ℕ → ℕ → ℕ → State
 delayed s who item queue delay =
-    if delay == 0 then record s { admissions = submit s.admissions item (submission_in s (Some who.number) item (Some queue)) }
+    let answer = submission_in s (Some who.number) item (Some queue) in
+    if delay == 0 then record s { admissions = submit s.admissions item answer }
     else record s { arms = arm s.arms item queue (s.time + delay) }
 
 -- the state after a schedule, which leaves a pending item alone
 abbrev pub schedule : State → Who → ℕ → ℕ → ℕ → State
-schedule s who item queue delay = if is_pending s item then s else delayed s who item queue delay
+schedule s who item queue delay = if is_pending_in s item then s else delayed s who item queue delay
 
 -- the state after a reschedule, which gives up the delay that the item had
 abbrev pub reschedule : State → Who → ℕ → ℕ → ℕ → State
@@ -246,40 +200,37 @@ reschedule s who item queue delay = delayed (record s { arms = disarm s.arms ite
 abbrev pub announce : State → ℕ → State
 announce s ticks =
     let time = s.time + ticks in
-    record s { time = time; arms = expire s.arms time; admissions = submit_arms s.marks s.queues None (due time s.arms) s.admissions }
-
--- the wait for one more draining of the queue to end, unless it is idle
-abbrev pub drain_wait : Bool → State → Who → ℕ → Option Wait
-drain_wait idle s who queue = if idle then None else Some (wait_for s.entries who (awaiteds.Drain queue (drained_of s.queues queue)))
+    let admissions = submit_arms s.marks s.queues None (due time s.arms) s.admissions in
+    record s { time = time; arms = expire s.arms time; admissions = admissions }
 
 -- the queue after the start of a drain: plugged where that was asked, and draining unless it is idle
 abbrev pub drain : Bool → Bool → List Queue → ℕ → List Queue
-drain idle plug queues number = change_where (not idle) changes.Drain (change_where plug changes.Plug queues number) number
+drain idle plug queues number =
+    change_where (not idle) changes.Drain (change_where plug changes.Plug queues number) number
 
 -- the state after the start of a drain, in which the player waits unless the queue is empty and idle
 abbrev pub drain_start : State → Who → ℕ → Bool → State
 drain_start s who queue plug =
     let idle = is_empty_and_idle s.admissions queue in
-    record s { queues = drain idle plug s.queues queue; waits = awaiting s.waits (drain_wait idle s who queue) }
+    let waits = awaiting s.waits (drain_wait idle s.entries s.queues who queue) in
+    record s { queues = drain idle plug s.queues queue; waits = waits }
 
--- what is awaited has come: the run that a sync cancel found has ended; the admission of a flush neither waits nor runs; more drainings of the queue have ended than a drain names
+-- the run that a sync cancel found has ended
+abbrev pub has_ended : List Admission → ℕ → Bool
+has_ended admissions number = passes_at (λ a. is_ended a.life) admissions number
+
+-- the admission of this number neither waits nor runs
+abbrev pub is_over : List Admission → ℕ → Bool
+is_over admissions number = passes_at (λ a. not (is_open a.life)) admissions number
+
+-- what is awaited has come
 abbrev pub has_come : List Admission → List Queue → Closing → Awaited → Bool
-has_come admissions queues closings.Cancel (awaiteds.Cancel number) = passes_at (λ a. is_ended a.life) admissions number
-has_come admissions queues closings.Flush (awaiteds.Flush number) = passes_at (λ a. not (is_open a.life)) admissions number
-has_come admissions queues closings.Drain (awaiteds.Drain queue count) = nat_lt count (drained_of queues queue)
-has_come admissions queues closing awaited = false
+has_come admissions queues closing awaited =
+    comes (has_ended admissions) (is_over admissions) queues closing awaited
 
--- it is the player's wait of this place, and isn't answered yet
-abbrev pub is_unanswered : ℕ → ℕ → Wait → Bool
-is_unanswered place player w = (w.place == place) && (w.player == player) && not w.answered
-
--- it is the player's unanswered wait of this place, and what it awaits has come
-abbrev pub closes : List Admission → List Queue → Closing → Who → ℕ → Wait → Bool
-closes admissions queues closing who place w = is_unanswered place who.number w && has_come admissions queues closing w.awaited
-
--- there is such a wait
+-- there is an unanswered wait of the player of this place, and what it awaits has come
 abbrev pub may_close : State → Closing → Who → ℕ → Bool
-may_close s closing who place = list_any (closes s.admissions s.queues closing who place) s.waits
+may_close s closing who place = list_any (closes (has_come s.admissions s.queues closing) who place) s.waits
 
 -- a wait, answered where this is so
 abbrev pub answer_where : Bool → Wait → Wait
@@ -287,7 +238,8 @@ answer_where so w = if so then record w { answered = true } else w
 
 -- a wait, answered where it is the one that this ends
 abbrev pub answer_one : List Admission → List Queue → Closing → Who → ℕ → Wait → Wait
-answer_one admissions queues closing who place w = answer_where (closes admissions queues closing who place w) w
+answer_one admissions queues closing who place w =
+    answer_where (closes (has_come admissions queues closing) who place w) w
 
 -- the waits after an operation that ends one
 abbrev pub answered_waits : State → Closing → Who → ℕ → List Wait
@@ -299,11 +251,8 @@ closed s closing who place = record s { waits = answered_waits s closing who pla
 
 -- the flags of an item in a state
 abbrev pub flags_of : State → ℕ → ℕ
-flags_of s item = flags s.admissions s.marks s.arms s.waits item
-
--- the player is the worker of the queue
-abbrev pub is_worker : List Queue → ℕ → ℕ → Bool
-is_worker queues number player = option_map_or (λ queue. player == queue.worker) (slice_get queues number) false
+flags_of s item =
+    flags (item_of s.admissions s.marks item) (is_some (armed s.arms item)) (is_flushing s.admissions s.waits item)
 
 -- what a worker takes up: the first in the queue's line
 abbrev pub taken_up : List Admission → ℕ → Option WorkReply
@@ -318,49 +267,21 @@ may_begin admissions queues who queue = is_worker queues queue who.number && is_
 abbrev pub may_end : List Admission → List Queue → Who → ℕ → Bool
 may_end admissions queues who queue = is_worker queues queue who.number && is_some (run admissions queue)
 
--- the queue of this number is started
-abbrev pub is_started : List Queue → ℕ → Bool
-is_started queues number = option_map_or (λ queue. queue.started) (slice_get queues number) false
+-- what an item with this delay is answered in a state
+abbrev pub delay_reply_in : State → Who → ℕ → ℕ → ℕ → WorkReply
+delay_reply_in s who item queue delay = delay_reply (submission_in s (Some who.number) item (Some queue)) delay
 
--- the queue of this number is plugged
-abbrev pub is_plugged : List Queue → ℕ → Bool
-is_plugged queues number = option_map_or (λ queue. queue.plugged) (slice_get queues number) false
+-- what a schedule is answered in a state
+abbrev pub schedule_reply_in : State → Who → ℕ → ℕ → ℕ → WorkReply
+schedule_reply_in s who item queue delay =
+    schedule_reply (is_pending_in s item) (submission_in s (Some who.number) item (Some queue)) delay
 
--- whether a start finds the queue started
-abbrev pub start_reply : List Queue → ℕ → WorkReply
-start_reply queues number = if is_started queues number then replies.Already else Done
-
--- whether an unplug finds the queue plugged
-abbrev pub unplug_reply : List Queue → ℕ → WorkReply
-unplug_reply queues number = if is_plugged queues number then Done else replies.Already
-
--- what a sync cancel is answered, by the flags before it: false where there were none, else whether a run has to be awaited
-abbrev pub cancel_start_reply : ℕ → Bool → WorkReply
-cancel_start_reply flags runs =
-    if flags == 0 then Truth false else
-    if runs then replies.Wait else Truth true
-
--- what a flush is answered: the admission that it waits for, if there is one
-abbrev pub flush_start_reply : Option ℕ → WorkReply
-flush_start_reply number = option_map_or WaitFor number (Truth false)
-
--- what an item with this delay is answered: of its submission, or that it is armed
-abbrev pub delay_reply : State → Who → ℕ → ℕ → ℕ → WorkReply
-delay_reply s who item queue delay = if delay == 0 then Sub (submission_in s (Some who.number) item (Some queue)) else Armed
-
--- what a schedule is answered: that the item is pending, or as its delay is
-abbrev pub schedule_reply : State → Who → ℕ → ℕ → ℕ → WorkReply
-schedule_reply s who item queue delay = if is_pending s item then Sub Already else delay_reply s who item queue delay
-
--- the time after so many ticks more, and the items whose delay is over by then, each with the answer to its submission
+-- the time after so many ticks more, and the items whose delay is over by then,
+-- each with the answer to its submission
 abbrev pub announce_reply : State → ℕ → WorkReply
 announce_reply s ticks =
     let time = s.time + ticks in
     Now time (expiries s.marks s.queues (due time s.arms) s.admissions)
-
--- whether a drain has to wait: it hasn't where the queue is idle
-abbrev pub drain_reply : Bool → WorkReply
-drain_reply idle = if idle then Number 0 else replies.Wait
 
 -- the reply to each operation, where it is possible
 abbrev pub work_reply : State → Who → WorkOp → Option WorkReply
@@ -368,22 +289,24 @@ work_reply s who (Submit item named) = Some (Sub (submission_in s (Some who.numb
 work_reply s who (Cancel item) = Some (Flags (flags_of (cancel s item) item))
 work_reply s who (CancelStart item) = Some (cancel_start_reply (flags_of s item) (is_some (running s.admissions item)))
 work_reply s who (CancelDone place) = if may_close s closings.Cancel who place then Some (Truth true) else None
-work_reply s who (FlushStart item) = Some (flush_start_reply (flushed (hurried s who item) item))
+work_reply s who (FlushStart item) = Some (flush_start_reply (flushed_of s who item))
 work_reply s who (FlushDone place) = if may_close s closings.Flush who place then Some (Truth true) else None
-work_reply s who (Schedule item queue delay) = Some (schedule_reply s who item queue delay)
-work_reply s who (Reschedule item queue delay) = Some (delay_reply s who item queue delay)
-work_reply s who (Remaining item) = Some (Number (remaining s.arms s.time item))
+work_reply s who (Schedule item queue delay) = Some (schedule_reply_in s who item queue delay)
+work_reply s who (Reschedule item queue delay) = Some (delay_reply_in s who item queue delay)
+work_reply s who (Remaining item) = Some (Number (remaining (deadline_of s.arms item) s.time))
 work_reply s who (Start queue) = Some (start_reply s.queues queue)
 work_reply s who (DrainStart queue plug) = Some (drain_reply (is_empty_and_idle s.admissions queue))
 work_reply s who (DrainDone place) = if may_close s closings.Drain who place then Some (Number 1) else None
 work_reply s who (Unplug queue) = Some (unplug_reply s.queues queue)
 work_reply s who (Announce ticks) = Some (announce_reply s ticks)
-work_reply s who (Begin queue) = if may_begin s.admissions s.queues who queue then taken_up s.admissions queue else None
+work_reply s who (Begin queue) =
+    if may_begin s.admissions s.queues who queue then taken_up s.admissions queue else None
 work_reply s who (End queue) = if may_end s.admissions s.queues who queue then Some Done else None
 
 -- what each operation changes, where it is possible
 abbrev pub changed : State → Who → WorkOp → State
-changed s who (Submit item named) = record s { admissions = submit s.admissions item (submission_in s (Some who.number) item named) }
+changed s who (Submit item named) =
+    record s { admissions = submit s.admissions item (submission_in s (Some who.number) item named) }
 changed s who (Cancel item) = cancel s item
 changed s who (CancelStart item) = cancel_start s who item
 changed s who (CancelDone place) = record s { waits = answered_waits s closings.Cancel who place }
@@ -410,7 +333,8 @@ after_reply s who op reply = if is_some reply then work_next s who op else s
 
 -- the item and the queue that the operation names are among so many items and queues
 abbrev pub is_among : ℕ → ℕ → WorkOp → Bool
-is_among items queues (Submit item named) = nat_lt item items && option_map_or (λ queue. nat_lt queue queues) named true
+is_among items queues (Submit item named) =
+    nat_lt item items && option_map_or (λ queue. nat_lt queue queues) named true
 is_among items queues (Cancel item) = nat_lt item items
 is_among items queues (CancelStart item) = nat_lt item items
 is_among items queues (CancelDone place) = true

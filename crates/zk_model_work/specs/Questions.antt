@@ -1,4 +1,4 @@
-use Rattle.std.specs.Prelude.{ℕ, ◌+◌, ◌-◌, Bool, true, false, not, nat_le, ◌==◌, ◌&&◌, cond, Option, is_some, option_map, List, reverse, filter, find, position, slice_get}
+use Rattle.std.specs.Prelude.{ℕ, ◌+◌, Bool, true, false, not, nat_le, ◌==◌, ◌&&◌, cond, Option, is_some, option_map, List, length, reverse, filter, find, position, slice_get}
 use Rattle.std.specs.List.{list_any, list_all}
 use Rattle.std.specs.Option.{option_map_or}
 use Rattle.zk_base.specs.Order.{by_key}
@@ -11,6 +11,7 @@ use Rattle.zk_model_work.specs.declared.parts.Arm.{Arm}
 use Rattle.zk_model_work.specs.declared.parts.Awaited.{Awaited}
 use Rattle.zk_model_work.specs.declared.parts.Awaited.TheVariants.{Flush}
 use Rattle.zk_model_work.specs.declared.parts.Wait.{Wait}
+use Rattle.zk_model_work.specs.declared.parts.Item.{Item}
 use Rattle.zk_model_work.specs.Lists.{places}
 
 -- it stands in a line
@@ -119,9 +120,9 @@ is_due time a = is_live a.fate && nat_le a.deadline time
 abbrev pub due : ℕ → List Arm → List Arm
 due time arms = by_key (λ a. a.deadline) (filter (is_due time) arms)
 
--- the ticks until the item's live arm expires, none where it has none
-abbrev pub remaining : List Arm → ℕ → ℕ → ℕ
-remaining arms time item = option_map_or (λ a. a.deadline - time) (live_arm arms item) 0
+-- the deadline of the item's live arm
+abbrev pub deadline_of : List Arm → ℕ → Option ℕ
+deadline_of arms item = option_map (λ a. a.deadline) (live_arm arms item)
 
 -- the wait is a flush that names an admission of the item which waits or runs
 abbrev pub flushes : List Admission → ℕ → Awaited → Bool
@@ -136,8 +137,18 @@ is_flushing admissions waits item = list_any (λ w. flushes admissions item w.aw
 abbrev pub weight : ℕ → Bool → ℕ
 weight n set = cond set n 0
 
--- the busy flags of an item: 1 an admission of it runs, 2 it is being cancelled, 4 an admission of it waits, 8 it is armed, 16 it is being flushed
-abbrev pub flags : List Admission → List ℕ → List Arm → List Wait → ℕ → ℕ
-flags admissions marks arms waits item =
-    weight 1 (is_some (running admissions item)) + weight 2 (is_cancelling admissions marks item) + weight 4 (is_some (waiting admissions item))
-    + weight 8 (is_some (armed arms item)) + weight 16 (is_flushing admissions waits item)
+-- busy flags together: 1 an admission runs, 2 it is being cancelled, 4 one waits, 8 armed, 16 being flushed
+abbrev pub busy_flags : Bool → Bool → Bool → Bool → Bool → ℕ
+busy_flags running cancelling queued armed flushing =
+    weight 1 running + weight 2 cancelling + weight 4 queued + weight 8 armed + weight 16 flushing
+
+-- what the answers ask of an item
+abbrev pub item_of : List Admission → List ℕ → ℕ → Item
+item_of admissions marks item = record {
+  cancelling = is_cancelling admissions marks item;
+  queued = is_some (waiting admissions item);
+  running = is_some (running admissions item);
+  home = running_queue admissions item;
+  last = last_queue admissions item;
+  next = length admissions;
+}

@@ -1,10 +1,10 @@
 ghost use Rattle.std.specs.Prelude.{◌≡◌, Some, None};
-ghost use Rattle.zk_model_work.specs.Machine.{is_chained, target, admission, refusal, submission_to, submission_at, submission, taken_up, may_begin, may_end, start_reply, drain_reply, unplug_reply, cancel_start_reply, flush_start_reply, closes};
+ghost use Rattle.zk_model_work.specs.Answers.{is_chained, target, admission, refusal, submission_to, submission_at, submission, is_pending, remaining, wait_for, cancel_wait, flush_wait, drain_wait, start_reply, drain_reply, unplug_reply, cancel_start_reply, flush_start_reply, closes};
+ghost use Rattle.zk_model_work.specs.Machine.{taken_up, may_begin, may_end, has_come};
 
 use crate::{
-    Admission, Closing, Queue, Submitted, Wait, WorkReply, first_in_line, has_come, is_cancelling,
-    is_plugged, is_started, is_unanswered, is_worker, last_queue, run, running, running_queue,
-    waiting,
+    Admission, Awaited, Closing, Item, Queue, Submitted, Wait, WorkReply, drained_of,
+    first_in_line, has_come, is_plugged, is_started, is_unanswered, is_worker, run,
 };
 use zk_base::{Errno, Who};
 
@@ -19,27 +19,25 @@ fn is_chained(queue: &Queue, caller: Option<u32>) -> bool
 }
 
 /// The queue that a submission goes to.
-fn target(admissions: &[Admission], item: u32, named: Option<u32>) -> Option<u32>
-    ensures { result ≡ target admissions.now item named }
+fn target(item: Item, named: Option<u32>) -> Option<u32>
+    ensures { result ≡ target item named }
 {
-    running_queue(admissions, item)
-        .or(named)
-        .or(last_queue(admissions, item))
+    item.home.or(named).or(item.last)
 }
 
 /// The answer where the item is admitted.
-fn admission(admissions: &[Admission], item: u32, number: u32) -> Submitted
-    ensures { result ≡ admission admissions.now item number }
+fn admission(item: Item, number: u32) -> Submitted
+    ensures { result ≡ admission item number }
 {
-    if running(admissions, item).is_some() {
-        Submitted::Rerun(admissions.len() as u64, number)
+    if item.running {
+        Submitted::Rerun(item.next, number)
     } else {
-        Submitted::Fresh(admissions.len() as u64, number)
+        Submitted::Fresh(item.next, number)
     }
 }
 
 /// Why the queue takes no submission of this caller, if it takes none. A caller is a player, or nobody.
-pub fn refusal(queue: &Queue, caller: Option<u32>) -> Option<Errno>
+fn refusal(queue: &Queue, caller: Option<u32>) -> Option<Errno>
     ensures { result ≡ refusal caller queue.now }
 {
     if !queue.started {
@@ -55,64 +53,104 @@ pub fn refusal(queue: &Queue, caller: Option<u32>) -> Option<Errno>
 }
 
 /// The answer of the queue that the item goes to.
-fn submission_to(
-    admissions: &[Admission],
-    caller: Option<u32>,
-    item: u32,
-    number: u32,
-    queue: &Queue,
-) -> Submitted
-    ensures { result ≡ submission_to admissions.now caller item number queue.now }
+fn submission_to(item: Item, caller: Option<u32>, number: u32, queue: &Queue) -> Submitted
+    ensures { result ≡ submission_to item caller number queue.now }
 {
     match refusal(queue, caller) {
         Some(errno) => Submitted::Refused(errno),
-        None => admission(admissions, item, number),
+        None => admission(item, number),
     }
 }
 
 /// The answer at the queue of this number, if there is one.
-fn submission_at(
-    admissions: &[Admission],
-    queues: &[Queue],
-    caller: Option<u32>,
-    item: u32,
-    to: Option<u32>,
-) -> Submitted
-    ensures { result ≡ submission_at admissions.now queues.now caller item to }
+fn submission_at(item: Item, queues: &[Queue], caller: Option<u32>, to: Option<u32>) -> Submitted
+    ensures { result ≡ submission_at item queues.now caller to }
 {
     match to {
         None => Submitted::Refused(Errno::Inval),
         Some(number) => match queues.get(number as usize) {
             None => Submitted::Refused(Errno::Inval),
-            Some(queue) => submission_to(admissions, caller, item, number, queue),
+            Some(queue) => submission_to(item, caller, number, queue),
         },
     }
 }
 
 /// The answer to a submission of the item by this player, or by nobody, to the named queue.
 pub fn submission(
-    admissions: &[Admission],
-    marks: &[u64],
+    item: Item,
     queues: &[Queue],
     caller: Option<u32>,
-    item: u32,
     named: Option<u32>,
 ) -> Submitted
-    ensures { result ≡ submission admissions.now marks.now queues.now caller item named }
+    ensures { result ≡ submission item queues.now caller named }
 {
-    if is_cancelling(admissions, marks, item) {
+    if item.cancelling {
         return Submitted::Refused(Errno::Busy);
     }
-    if waiting(admissions, item).is_some() {
+    if item.queued {
         return Submitted::Already;
     }
-    submission_at(
-        admissions,
-        queues,
-        caller,
-        item,
-        target(admissions, item, named),
-    )
+    submission_at(item, queues, caller, target(item, named))
+}
+
+/// Whether the item, which is armed or isn't, is delayed, queued or being cancelled.
+pub fn is_pending(item: Item, armed: bool) -> bool
+    ensures { result ≡ is_pending item armed }
+{
+    armed || item.queued || item.cancelling
+}
+
+/// The ticks until this deadline, none where there is none.
+pub fn remaining(deadline: Option<u64>, time: u64) -> u64
+    ensures { result ≡ remaining deadline time }
+{
+    match deadline {
+        None => 0,
+        Some(deadline) => deadline.saturating_sub(time),
+    }
+}
+
+/// The wait of a player that begins with the entry of this place.
+fn wait_for(place: u64, who: Who, awaited: Awaited) -> Wait
+    ensures { result ≡ wait_for place who awaited }
+{
+    Wait {
+        place,
+        player: who.number,
+        awaited,
+        answered: false,
+    }
+}
+
+/// The wait for the end of the run of this number, which a cancel found, if it found one.
+pub fn cancel_wait(place: u64, who: Who, number: Option<u64>) -> Option<Wait>
+    ensures { result ≡ cancel_wait place who number }
+{
+    match number {
+        None => None,
+        Some(number) => Some(wait_for(place, who, Awaited::Cancel(number))),
+    }
+}
+
+/// The wait for the end of the admission of this number, if there is one.
+pub fn flush_wait(place: u64, who: Who, number: Option<u64>) -> Option<Wait>
+    ensures { result ≡ flush_wait place who number }
+{
+    match number {
+        None => None,
+        Some(number) => Some(wait_for(place, who, Awaited::Flush(number))),
+    }
+}
+
+/// The wait for one more draining of the queue to end, unless it is idle.
+pub fn drain_wait(idle: bool, place: u64, queues: &[Queue], who: Who, queue: u32) -> Option<Wait>
+    ensures { result ≡ drain_wait idle place queues.now who queue }
+{
+    if idle {
+        return None;
+    }
+    let drained = drained_of(queues, queue);
+    Some(wait_for(place, who, Awaited::Drain(queue, drained)))
 }
 
 /// What a worker of this queue takes up: the first in its line.
@@ -180,7 +218,7 @@ pub fn closes(
     place: u64,
     wait: Wait,
 ) -> bool
-    ensures { result ≡ closes admissions.now queues.now closing who place wait }
+    ensures { result ≡ closes (has_come admissions.now queues.now closing) who place wait }
 {
     is_unanswered(wait, place, who.number) && has_come(admissions, queues, closing, wait.awaited)
 }

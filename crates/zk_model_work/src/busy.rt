@@ -1,7 +1,8 @@
-ghost use Rattle.std.specs.Prelude.{⊤, ◌≡◌, ◌+◌, [], ◌∷◌, codes};
-ghost use Rattle.zk_model_work.specs.Questions.{weight, flags};
+ghost use Rattle.std.specs.Prelude.{⊤, ◌≡◌, [], ◌∷◌, codes};
+ghost use Rattle.zk_model_work.specs.Questions.{weight, busy_flags};
+ghost use Rattle.zk_model_work.specs.Answers.{flags};
 
-use crate::{Admission, Arm, Wait, armed, is_cancelling, is_flushing, running, waiting};
+use crate::Item;
 use bitflags::{Flag, Flags, bitflag_items};
 
 /// What an item is busy with.
@@ -56,8 +57,7 @@ pub fn united(
     delayed: bool,
     flushing: bool,
 ) -> BusyFlags
-    ensures { result.0 ≡ weight 1 running + weight 2 cancelling + weight 4 queued + weight 8 delayed
-        + weight 16 flushing }
+    ensures { result.0 ≡ busy_flags running cancelling queued delayed flushing }
 {
     where_set(BusyFlags::RUNNING, running)
         .union(where_set(BusyFlags::CANCELING, cancelling))
@@ -66,21 +66,9 @@ pub fn united(
         .union(where_set(BusyFlags::FLUSHING, flushing))
 }
 
-/// The busy flags of an item. Zephyr's `k_work_busy_get`.
-pub fn flags(
-    admissions: &[Admission],
-    marks: &[u64],
-    arms: &[Arm],
-    waits: &[Wait],
-    item: u32,
-) -> BusyFlags
-    ensures { result.0 ≡ flags admissions.now marks.now arms.now waits.now item }
+/// The busy flags of an item, which is armed and being flushed or isn't. Zephyr's `k_work_busy_get`.
+pub fn flags(item: Item, armed: bool, flushing: bool) -> BusyFlags
+    ensures { result.0 ≡ flags item armed flushing }
 {
-    united(
-        running(admissions, item).is_some(),
-        is_cancelling(admissions, marks, item),
-        waiting(admissions, item).is_some(),
-        armed(arms, item).is_some(),
-        is_flushing(admissions, waits, item),
-    )
+    united(item.running, item.cancelling, item.queued, armed, flushing)
 }

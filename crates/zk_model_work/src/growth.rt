@@ -1,9 +1,11 @@
 ghost use Rattle.std.specs.Prelude.{◌≡◌, ◌+◌, ◌<◌, ◌≤◌, [], ◌∷◌, ◌++◌, None, Some, length, option_to_list, vec_len, vec_capacity, IsOk, IfOk, OnOk, OnErr};
 ghost use Rattle.zk_model_work.specs.State.{fresh_queues};
-ghost use Rattle.zk_model_work.specs.Machine.{submission, submit, submit_arms, expiries, arm, mark, wait_for, awaiting};
+ghost use Rattle.zk_model_work.specs.Questions.{item_of};
+ghost use Rattle.zk_model_work.specs.Answers.{submission};
+ghost use Rattle.zk_model_work.specs.Machine.{submit, submit_arms, expiries, arm, mark, awaiting};
 
 use crate::{
-    Admission, Arm, Awaited, Expiry, Fate, Life, Queue, Submitted, Wait, running, submission,
+    Admission, Arm, Expiry, Fate, Life, Queue, Submitted, Wait, item_of, running, submission,
 };
 use std::alloc::Global;
 use zk_base::{NoMemory, Who};
@@ -35,12 +37,14 @@ pub fn submit(admissions: &mut Vec<Admission>, item: u32, answer: Submitted) -> 
 fn submit_arm(admissions: &mut Vec<Admission>, marks: &[u64], queues: &[Queue], arm: Arm) -> Expiry
     requires { vec_len admissions.old < vec_capacity admissions.old }
     ensures item { result.item ≡ arm.item }
-    ensures answer { result.submitted ≡ submission admissions.old.items marks.now queues.now None arm.item (Some arm.queue) }
+    ensures answer { result.submitted
+        ≡ submission (item_of admissions.old.items marks.now arm.item) queues.now None (Some arm.queue) }
     ensures admissions { admissions.new.items ≡ submit admissions.old.items arm.item result.submitted }
     ensures len { vec_len admissions.new ≤ vec_len admissions.old + 1 }
     ensures capacity { vec_capacity admissions.old ≤ vec_capacity admissions.new }
 {
-    let submitted = submission(admissions, marks, queues, None, arm.item, Some(arm.queue));
+    let item = item_of(admissions, marks, arm.item);
+    let submitted = submission(item, queues, None, Some(arm.queue));
     if submit(admissions, arm.item, submitted).is_err() {
         unreachable!();
     }
@@ -73,7 +77,8 @@ pub fn submit_arms(
     requires admissions { vec_len admissions.old + length arms.now ≤ vec_capacity admissions.old }
     requires told { length arms.now ≤ vec_capacity told.old }
     requires none { told.old.items ≡ [] }
-    ensures admissions { admissions.new.items ≡ submit_arms marks.now queues.now None arms.now admissions.old.items }
+    ensures admissions { admissions.new.items
+        ≡ submit_arms marks.now queues.now None arms.now admissions.old.items }
     ensures told { told.new.items ≡ expiries marks.now queues.now arms.now admissions.old.items }
 {
     for index in 0..arms.len() {
@@ -102,8 +107,8 @@ pub fn hurry(
     let Some(arm) = arm else {
         return Ok(());
     };
-    let caller = Some(who.number);
-    let answer = submission(admissions, marks, queues, caller, arm.item, Some(arm.queue));
+    let item = item_of(admissions, marks, arm.item);
+    let answer = submission(item, queues, Some(who.number), Some(arm.queue));
     submit(admissions, arm.item, answer)
 }
 
@@ -140,18 +145,6 @@ pub fn mark(admissions: &[Admission], marks: &mut Vec<u64>, item: u32) -> Result
             marks.push(number as u64)?;
             Ok(())
         }
-    }
-}
-
-/// The wait of a player that begins with the entry of this place.
-pub fn wait_for(place: u64, who: Who, awaited: Awaited) -> Wait
-    ensures { result ≡ wait_for place who awaited }
-{
-    Wait {
-        place,
-        player: who.number,
-        awaited,
-        answered: false,
     }
 }
 

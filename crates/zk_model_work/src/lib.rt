@@ -12,24 +12,25 @@ mod questions;
 mod state;
 
 pub use answers::{
-    cancel_start_reply, closes, drain_reply, flush_start_reply, may_begin, may_end, refusal,
-    start_reply, submission, taken_up, unplug_reply,
+    cancel_start_reply, cancel_wait, closes, drain_reply, drain_wait, flush_start_reply,
+    flush_wait, is_pending, may_begin, may_end, remaining, start_reply, submission, taken_up,
+    unplug_reply,
 };
 pub use busy::{BusyFlags, flags, united};
 pub use changes::{
     answer, begin, change, disarm, drain, drop_waiting, end_run, expire, set_life, settle,
 };
-pub use growth::{arm, fresh_queues, hurry, mark, put_wait, submit, submit_arms, wait_for};
+pub use growth::{arm, fresh_queues, hurry, mark, put_wait, submit, submit_arms};
 pub use laws::{
     begins_in_order, cancel_holds, delays_hold, drain_holds, flush_holds, never_overlaps,
     plug_holds, runs_once,
 };
 pub use ops::{Expiries, Expiry, Submitted, WorkOp, WorkReply};
-pub use parts::{Admission, Arm, Awaited, Change, Closing, Fate, Life, Queue, Wait};
+pub use parts::{Admission, Arm, Awaited, Change, Closing, Fate, Item, Life, Queue, Wait};
 pub use questions::{
-    armed, drained_of, due, first_in_line, flushed, has_come, is_cancelling, is_due,
-    is_empty_and_idle, is_flushing, is_plugged, is_started, is_unanswered, is_worker, last_queue,
-    live_arm, remaining, run, running, running_queue, waiting,
+    armed, deadline_of, drained_of, due, first_in_line, flushed, has_come, is_due,
+    is_empty_and_idle, is_flushing, is_plugged, is_started, is_unanswered, is_worker, item_of,
+    live_arm, run, running, waiting,
 };
 pub use state::{WorkState, work_next};
 

@@ -127,6 +127,23 @@ pub struct Queue {
     pub drained: u64,
 }
 
+/// What the answers of the work machine ask of an item.
+#[derive(Clone, Copy, Debug)]
+pub struct Item {
+    /// Its run is being cancelled.
+    pub cancelling: bool,
+    /// It waits for a queue.
+    pub queued: bool,
+    /// A queue runs it.
+    pub running: bool,
+    /// The queue that runs it.
+    pub home: Option<u32>,
+    /// The queue of its last admission.
+    pub last: Option<u32>,
+    /// The number that the next admission gets, of whichever item.
+    pub next: u64,
+}
+
 /// What an operation changes of a queue.
 #[derive(Clone, Copy, Debug)]
 pub enum Change {

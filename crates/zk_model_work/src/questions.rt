@@ -2,10 +2,11 @@ ghost use Rattle.std.specs.Prelude.{◌≡◌, ◌+◌, nat_lt, option_map, posi
 ghost use Rattle.std.specs.Option.{option_map_or};
 ghost use Rattle.zk_base.specs.Order.{put_by};
 ghost use Rattle.zk_model_work.specs.Lists.{first};
-ghost use Rattle.zk_model_work.specs.Questions.{waiting, running, running_queue, last_queue, line, run, is_empty_and_idle, is_cancelling, armed, live_arm, is_due, due, remaining, is_flushing, waits_as, runs_as, is_open_as, waits_for, flushes, passes_at};
-ghost use Rattle.zk_model_work.specs.Machine.{is_worker, flushed, is_started, is_plugged, drained_of, has_come, is_unanswered};
+ghost use Rattle.zk_model_work.specs.Questions.{waiting, running, running_queue, last_queue, line, run, is_empty_and_idle, is_cancelling, armed, live_arm, deadline_of, is_due, due, is_flushing, item_of, waits_as, runs_as, is_open_as, waits_for, flushes, passes_at};
+ghost use Rattle.zk_model_work.specs.Answers.{is_worker, flushed, is_started, is_plugged, drained_of, is_unanswered};
+ghost use Rattle.zk_model_work.specs.Machine.{has_come};
 
-use crate::{Admission, Arm, Awaited, Closing, Queue, Wait};
+use crate::{Admission, Arm, Awaited, Closing, Item, Queue, Wait};
 use std::alloc::Global;
 use zk_base::NoMemory;
 
@@ -28,7 +29,7 @@ pub fn running(admissions: &[Admission], item: u32) -> Option<usize>
 }
 
 /// The queue that runs the item.
-pub fn running_queue(admissions: &[Admission], item: u32) -> Option<u32>
+fn running_queue(admissions: &[Admission], item: u32) -> Option<u32>
     ensures { result ≡ running_queue admissions.now item }
 {
     admissions
@@ -38,7 +39,7 @@ pub fn running_queue(admissions: &[Admission], item: u32) -> Option<u32>
 }
 
 /// The queue of the item's last admission.
-pub fn last_queue(admissions: &[Admission], item: u32) -> Option<u32>
+fn last_queue(admissions: &[Admission], item: u32) -> Option<u32>
     ensures { result ≡ last_queue admissions.now item }
 {
     admissions
@@ -84,7 +85,7 @@ pub fn is_empty_and_idle(admissions: &[Admission], queue: u32) -> bool
 
 /// The number of the admission that a flush of the item waits for.
 pub fn flushed(admissions: &[Admission], item: u32) -> Option<usize>
-    ensures { result ≡ flushed admissions.now item }
+    ensures { result ≡ flushed (waiting admissions.now item) (running admissions.now item) }
 {
     waiting(admissions, item).or(running(admissions, item))
 }
@@ -170,7 +171,7 @@ fn is_run_of(admissions: &[Admission], item: u32, number: u64) -> bool
 }
 
 /// Whether a run of the item is marked by a cancel.
-pub fn is_cancelling(admissions: &[Admission], marks: &[u64], item: u32) -> bool
+fn is_cancelling(admissions: &[Admission], marks: &[u64], item: u32) -> bool
     ensures { result ≡ is_cancelling admissions.now marks.now item }
 {
     marks.iter().any(|mark| is_run_of(admissions, item, *mark))
@@ -200,14 +201,11 @@ pub fn is_due(arm: Arm, time: u64) -> bool
     arm.fate.is_live() && arm.deadline <= time
 }
 
-/// The ticks until the item's live arm expires, none where it has none.
-pub fn remaining(arms: &[Arm], time: u64, item: u32) -> u64
-    ensures { result ≡ remaining arms.now time item }
+/// The deadline of the item's live arm.
+pub fn deadline_of(arms: &[Arm], item: u32) -> Option<u64>
+    ensures { result ≡ deadline_of arms.now item }
 {
-    match live_arm(arms, item) {
-        None => 0,
-        Some(arm) => arm.deadline.saturating_sub(time),
-    }
+    live_arm(arms, item).map(|arm| arm.deadline)
 }
 
 /// The place of the first arm whose deadline is above this one.
@@ -266,4 +264,18 @@ pub fn is_flushing(admissions: &[Admission], waits: &[Wait], item: u32) -> bool
     waits
         .iter()
         .any(|wait| flushes(admissions, item, wait.awaited))
+}
+
+/// What the answers ask of an item.
+pub fn item_of(admissions: &[Admission], marks: &[u64], item: u32) -> Item
+    ensures { result ≡ item_of admissions.now marks.now item }
+{
+    Item {
+        cancelling: is_cancelling(admissions, marks, item),
+        queued: waiting(admissions, item).is_some(),
+        running: running(admissions, item).is_some(),
+        home: running_queue(admissions, item),
+        last: last_queue(admissions, item),
+        next: admissions.len() as u64,
+    }
 }

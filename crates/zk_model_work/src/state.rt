@@ -1,14 +1,15 @@
 ghost use Rattle.std.specs.Prelude.{◌≡◌, ◌≢◌, ◌-◌, ◌^◌, ◌<◌, ◌≤◌, length, AllPairs, Some, None, if◌then◌else◌, IfOk, OnErr};
 ghost use Rattle.zk_model_work.specs.State.{State, start_of};
-ghost use Rattle.zk_model_work.specs.Machine.{work_reply, after_reply, is_pending, may_close, closed, flags_of};
+ghost use Rattle.zk_model_work.specs.Questions.{item_of};
+ghost use Rattle.zk_model_work.specs.Machine.{work_reply, after_reply, submission_in, is_pending_in, may_close, closed, flags_of};
 
 use crate::{
-    Admission, Arm, Awaited, Change, Closing, Queue, Submitted, Wait, WorkOp, WorkReply, answer,
-    arm, armed, begin, cancel_start_reply, change, closes, disarm, drain, drain_reply, drained_of,
-    drop_waiting, due, end_run, expire, flags, flush_start_reply, flushed, fresh_queues, hurry,
-    is_cancelling, is_empty_and_idle, live_arm, mark, may_begin, may_end, put_wait, remaining,
-    running, settle, start_reply, submission, submit, submit_arms, taken_up, unplug_reply,
-    wait_for, waiting,
+    Admission, Arm, BusyFlags, Change, Closing, Item, Queue, Submitted, Wait, WorkOp, WorkReply,
+    answer, arm, armed, begin, cancel_start_reply, cancel_wait, change, closes, deadline_of,
+    disarm, drain, drain_reply, drain_wait, drop_waiting, due, end_run, expire, flags,
+    flush_start_reply, flush_wait, flushed, fresh_queues, hurry, is_empty_and_idle, is_flushing,
+    is_pending, item_of, live_arm, mark, may_begin, may_end, put_wait, remaining, running, settle,
+    start_reply, submission, submit, submit_arms, taken_up, unplug_reply,
 };
 use bitflags::Flags;
 use std::alloc::Global;
@@ -77,6 +78,29 @@ impl WorkState {
         })
     }
 
+    /// What the answers ask of an item.
+    fn item(&self, item: u32) -> Item
+        ensures { result ≡ item_of self.now.admissions self.now.marks item }
+    {
+        item_of(&self.admissions, &self.marks, item)
+    }
+
+    /// The busy flags of an item.
+    fn flags(&self, item: u32) -> BusyFlags
+        ensures { result.0 ≡ flags_of self.now item }
+    {
+        let armed = armed(&self.arms, item).is_some();
+        let flushing = is_flushing(&self.admissions, &self.waits, item);
+        flags(self.item(item), armed, flushing)
+    }
+
+    /// The answer to a submission by the player.
+    fn submission(&self, who: Who, item: u32, named: Option<u32>) -> Submitted
+        ensures { result ≡ submission_in self.now (Some who.number) item named }
+    {
+        submission(self.item(item), &self.queues, Some(who.number), named)
+    }
+
     fn submit(
         &mut self,
         who: Who,
@@ -90,14 +114,7 @@ impl WorkState {
             self.new ≡ after_reply self.old who (WorkOp.Submit item named) reply) }
         ensures unchanged { OnErr result (self.new ≡ self.old) }
     {
-        let answer = submission(
-            &self.admissions,
-            &self.marks,
-            &self.queues,
-            Some(who.number),
-            item,
-            named,
-        );
+        let answer = self.submission(who, item, named);
         submit(&mut self.admissions, item, answer)?;
         self.entries += 1;
         Ok(Some(WorkReply::Sub(answer)))
@@ -156,12 +173,7 @@ impl WorkState {
         ensures unchanged { OnErr result (self.new ≡ self.old) }
     {
         let idle = is_empty_and_idle(&self.admissions, queue);
-        let wait = if idle {
-            None
-        } else {
-            let drained = drained_of(&self.queues, queue);
-            Some(wait_for(self.entries, who, Awaited::Drain(queue, drained)))
-        };
+        let wait = drain_wait(idle, self.entries, &self.queues, who, queue);
         put_wait(&mut self.waits, wait)?;
         drain(&mut self.queues, queue, idle, plug);
         self.entries += 1;
@@ -176,12 +188,9 @@ impl WorkState {
             self.new ≡ after_reply self.old who (WorkOp.CancelStart item) reply) }
         ensures unchanged { OnErr result (self.new ≡ self.old) }
     {
-        let flags = flags(&self.admissions, &self.marks, &self.arms, &self.waits, item);
+        let flags = self.flags(item);
         let run = running(&self.admissions, item).map(|number| number as u64);
-        let wait = match run {
-            Some(number) => Some(wait_for(self.entries, who, Awaited::Cancel(number))),
-            None => None,
-        };
+        let wait = cancel_wait(self.entries, who, run);
         self.marks.reserve(1)?;
         self.waits.reserve(1)?;
         mark(&self.admissions, &mut self.marks, item)?;
@@ -206,10 +215,7 @@ impl WorkState {
         let arm = live_arm(&self.arms, item);
         hurry(&mut self.admissions, &self.marks, &self.queues, who, arm)?;
         let number = flushed(&self.admissions, item).map(|number| number as u64);
-        let wait = match number {
-            Some(number) => Some(wait_for(self.entries, who, Awaited::Flush(number))),
-            None => None,
-        };
+        let wait = flush_wait(self.entries, who, number);
         put_wait(&mut self.waits, wait)?;
         disarm(&mut self.arms, item);
         self.entries += 1;
@@ -218,11 +224,9 @@ impl WorkState {
 
     /// Whether the item is delayed, queued or being cancelled.
     fn is_pending(&self, item: u32) -> bool
-        ensures { result ≡ is_pending self.now item }
+        ensures { result ≡ is_pending_in self.now item }
     {
-        armed(&self.arms, item).is_some()
-            || waiting(&self.admissions, item).is_some()
-            || is_cancelling(&self.admissions, &self.marks, item)
+        is_pending(self.item(item), armed(&self.arms, item).is_some())
     }
 
     fn schedule(
@@ -261,14 +265,7 @@ impl WorkState {
         ensures unchanged { OnErr result (self.new ≡ self.old) }
     {
         if delay == 0 {
-            let answer = submission(
-                &self.admissions,
-                &self.marks,
-                &self.queues,
-                Some(who.number),
-                item,
-                Some(queue),
-            );
+            let answer = self.submission(who, item, Some(queue));
             submit(&mut self.admissions, item, answer)?;
             disarm(&mut self.arms, item);
             self.entries += 1;
@@ -287,7 +284,8 @@ impl WorkState {
         ensures next { self.new ≡ after_reply self.old who (WorkOp.Remaining item) result }
     {
         self.entries += 1;
-        Some(WorkReply::Number(remaining(&self.arms, self.time, item)))
+        let deadline = deadline_of(&self.arms, item);
+        Some(WorkReply::Number(remaining(deadline, self.time)))
     }
 
     fn announce(&mut self, who: Who, ticks: u32) -> Result<Option<WorkReply>, NoMemory>
@@ -368,8 +366,7 @@ impl WorkState {
         disarm(&mut self.arms, item);
         settle(&self.admissions, &mut self.queues);
         self.entries += 1;
-        let flags = flags(&self.admissions, &self.marks, &self.arms, &self.waits, item);
-        Ok(Some(WorkReply::Flags(flags.bits())))
+        Ok(Some(WorkReply::Flags(self.flags(item).bits())))
     }
 }
 

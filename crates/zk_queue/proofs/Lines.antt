@@ -11,7 +11,7 @@ use Rattle.zk_model_work.specs.Lists.{first}
 use Rattle.zk_model_work.specs.Questions.{weight}
 use Rattle.zk_queue.specs.declared.ticket.Ticket.{Ticket}
 use Rattle.zk_queue.specs.Line.{is_of, without, number_in, Rises}
-use Rattle.zk_queue.specs.Kept.{count}
+use Rattle.zk_queue.specs.Places.{count}
 
 -- the first place taken out, or nothing where there is none
 pub remove-first : (item : ℕ) (xs : List Ticket) → remove xs (position_or_len (is_of item) xs) ≡ without item xs

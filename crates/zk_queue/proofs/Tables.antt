@@ -7,12 +7,12 @@ use Rattle.std.proofs.lemmas.List.Elements.{All-set}
 use Rattle.zk_model_work.specs.Lists.{first}
 use Rattle.zk_model_work.specs.Questions.{weight}
 use Rattle.zk_queue.specs.declared.ticket.Ticket.{Ticket}
-use Rattle.zk_queue.specs.Line.{Held, InLine, without, number_in, number_among, Rises}
-use Rattle.zk_queue.specs.Kept.{count, Tells, tickets_of, IsKept}
+use Rattle.zk_queue.specs.Line.{LineView, InLine, without, number_in, number_among, Rises}
+use Rattle.zk_queue.specs.Places.{count, Tells, tickets_of, IsKept}
 use Rattle.zk_queue.proofs.Lines.{without_none, number_none, number_some, count-push, count-without, count-without_other, length_fits}
 
 -- how the lines and the table are seen
-abbrev pub seen_of : List (Option ℕ) → List Held → InLine
+abbrev pub seen_of : List (Option ℕ) → List LineView → InLine
 seen_of places lines = record { items = length places; lines = tickets_of lines }
 
 -- the line of a queue
@@ -179,22 +179,22 @@ admission_fits places lines item queue tells item_in queue_in free =
     omega (arith, there, length-set places item (Some queue), length_push (at_queue lines queue) t)
 
 -- the line of a queue, among lines with their room
-pub line_of : (lines : List Held) (queue : ℕ) (line : Held) → queue < length lines → line ≡ get_or lines queue line → at_queue (tickets_of lines) queue ≡ line.tickets
-line_of lines queue line within said = get_or-map (λ (l : Held). l.tickets) lines queue line [] within ∙ sym (ap (λ (l : Held). l.tickets) said)
+pub line_of : (lines : List LineView) (queue : ℕ) (line : LineView) → queue < length lines → line ≡ get_or lines queue line → at_queue (tickets_of lines) queue ≡ line.tickets
+line_of lines queue line within said = get_or-map (λ (l : LineView). l.tickets) lines queue line [] within ∙ sym (ap (λ (l : LineView). l.tickets) said)
 
 -- all is kept where one item has another place and one line other tickets
-pub IsKept-set : (places : List (Option ℕ)) (lines : List Held) (item queue : ℕ) (place : Option ℕ) (line : Held) (tickets : List Ticket) → IsKept places lines →
+pub IsKept-set : (places : List (Option ℕ)) (lines : List LineView) (item queue : ℕ) (place : Option ℕ) (line : LineView) (tickets : List Ticket) → IsKept places lines →
     length places ≤ line.capacity → line.tickets ≡ tickets → Rises tickets → Tells (set places item place) (set (tickets_of lines) queue tickets) →
     IsKept (set places item place) (set lines queue line)
 IsKept-set places lines item queue place line tickets kept fits are rises tells =
     let was_room = kept.room in
     let was_rising = kept.rises in
     let long = length-set places item place in
-    let Room : Held → Type 0 = λ l. length (set places item place) ≤ l.capacity in
-    let Rising : Held → Type 0 = λ l. Rises l.tickets in
-    let lines_are = map-set (λ (l : Held). l.tickets) lines queue line ∙ ap (set (tickets_of lines) queue) are in
+    let Room : LineView → Type 0 = λ l. length (set places item place) ≤ l.capacity in
+    let Rising : LineView → Type 0 = λ l. Rises l.tickets in
+    let lines_are = map-set (λ (l : LineView). l.tickets) lines queue line ∙ ap (set (tickets_of lines) queue) are in
     record {
-      room = All-set Room lines queue line (omega arith) (subst (λ n. All (λ (l : Held). n ≤ l.capacity) lines) (sym long) was_room);
+      room = All-set Room lines queue line (omega arith) (subst (λ n. All (λ (l : LineView). n ≤ l.capacity) lines) (sym long) was_room);
       rises = All-set Rising lines queue line (subst Rises (sym are) rises) was_rising;
       tells = subst (Tells (set places item place)) (sym lines_are) tells;
     }

@@ -1,3 +1,3 @@
-pub mod Kept
+pub mod Places
 pub mod Line
 pub mod Open

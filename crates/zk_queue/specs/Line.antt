@@ -30,7 +30,7 @@ Rises [] = Unit {0}
 Rises (t ∷ ts) = All (λ later. t.number < later.number) ts × Rises ts
 
 -- what a contract sees of a queue's line: its tickets, lowest number first, and how many it takes without memory
-pub record Held : Type 0 where
+pub record LineView : Type 0 where
   pub tickets : List Ticket
   pub capacity : ℕ
 

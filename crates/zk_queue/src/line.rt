@@ -16,9 +16,9 @@ pub struct Line {
 
 impl Model for Line {
     ghost use Rattle.std.specs.Prelude.{vec_capacity};
-    ghost use Rattle.zk_queue.specs.Line.{Held};
+    ghost use Rattle.zk_queue.specs.Line.{LineView};
 
-    ghost Value = { Held };
+    ghost Value = { LineView };
 
     ghost view = { λ a. record { tickets = a.tickets.items; capacity = vec_capacity a.tickets } };
 }

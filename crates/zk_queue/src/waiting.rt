@@ -22,7 +22,7 @@ pub struct Waiting {
 impl Model for Waiting {
     ghost use Rattle.std.specs.Prelude.{length};
     ghost use Rattle.zk_queue.specs.Line.{InLine};
-    ghost use Rattle.zk_queue.specs.Kept.{tickets_of, IsKept};
+    ghost use Rattle.zk_queue.specs.Places.{tickets_of, IsKept};
 
     ghost Value = { InLine };
 

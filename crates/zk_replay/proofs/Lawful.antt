@@ -2,8 +2,10 @@
 use Rattle.std.proofs.Common.{◌≡◌, ◌⊎◌, ℕ, ◌<◌, ◌≤◌, Bool, true, false, ◌&&◌, ◌||◌, cond, Some, List, [], ◌∷◌, length, map, inl, inr, refl, sym, ap, subst, ◌∙◌, arith}
 use Rattle.std.specs.List.{slice_get, slice_set, list_any, list_all}
 use Rattle.std.specs.Option.{option_map, option_and_then}
+use Rattle.std.proofs.lemmas.Bool.{or_parts}
 use Rattle.std.proofs.lemmas.List.{length-map, length-set}
 use Rattle.std.proofs.lemmas.Option.{slice_get-map, slice_get_within}
+use Rattle.zk_base.proofs.Lists.{All-at}
 use Rattle.zk_base.specs.Legal.{IsLegal, state_after}
 use Rattle.zk_model_wait.specs.Clock.{new_clock, clock_machine}
 use Rattle.zk_model_work.specs.Machine.{work_machine}
@@ -22,20 +24,19 @@ use Rattle.zk_worker.specs.Protocol.{attempts, after, spot_of}
 use Rattle.zk_worker.specs.Follows.{log_of, is_done, is_spent_at, Follows}
 use Rattle.zk_worker.specs.Machines.{Machines, work_start_of, machines_of}
 use Rattle.zk_worker.specs.Shown.{shown_at, shown_after}
-use Rattle.zk_worker.proofs.Numbers.{All-slice_get}
-use Rattle.zk_worker.proofs.Lists.{or-first, none-passes, there-mapped}
-use Rattle.zk_worker.proofs.Made.{IsMore, made-more}
+use Rattle.zk_worker.proofs.Lists.{none-passes, there-mapped}
+use Rattle.zk_worker.proofs.ShownSteps.{IsMore, made-more}
 use Rattle.zk_trace.specs.declared.trace.Ending.TheVariants.{Ended, Stuck, Spent}
 use Rattle.zk_trace.specs.declared.trace.Trace.{Trace}
 use Rattle.zk_replay.specs.RoundRobin.{World, IsRun, chosen, first, stepped, is_spent}
 use Rattle.zk_replay.specs.Ready.{IsReady}
 use Rattle.zk_replay.specs.Replay.{IsReplay, none_waits, all_done, ending_of, trace_of}
 use Rattle.zk_replay.specs.Lawful.{is_spent_state, is_done_state, lawful_ending, IsPlaced, IsLawful}
-use Rattle.zk_replay.proofs.Still.{first_possible-is, rounds-keep}
+use Rattle.zk_replay.proofs.StillRounds.{first_possible-is, rounds-keep}
 use Rattle.zk_replay.proofs.Readiness.{ready-stepped}
 use Rattle.zk_replay.proofs.Beginning.{ready-first, first-players}
-use Rattle.zk_replay.proofs.Ends.{there-is}
-use Rattle.zk_replay.proofs.Once.{none_goes_on}
+use Rattle.zk_replay.proofs.Endings.{there-is}
+use Rattle.zk_replay.proofs.OneRun.{none_goes_on}
 
 -- each entry is of a player that is there
 abbrev AreKnown : World → Type 0
@@ -101,7 +102,7 @@ any-spent (x ∷ xs) =
 all-done : (xs : List At) → list_any is_spent_at xs ≡ false → list_all (λ log. is_done_state log.state) (map log_of xs) ≡ all_done xs
 all-done [] unspent = refl
 all-done (x ∷ xs) unspent =
-    let both = or-first (is_spent_at x) (list_any is_spent_at xs) unspent in
+    let both = or_parts (is_spent_at x) (list_any is_spent_at xs) unspent in
     ap (λ (b : Bool). b && list_all (λ log. is_done_state log.state) (map log_of xs)) (done-state (is_spent_at x) (is_done x.frames) both.0)
     ∙ ap (λ (b : Bool). is_done x.frames && b) (all-done xs both.1)
 
@@ -141,7 +142,7 @@ module _ (s : Parts) (w : World) (valid : IsValid s) (run : IsRun (machines_of s
     short = λ number log is.
         let found = there-mapped log_of w.players number log is in
         let P : At → Type 0 = λ at. length at.spots ≤ MOST_STEPS in
-        subst (λ (l : Log). length l.steps ≤ MOST_STEPS) found.2 (All-slice_get P w.players number found.0 found.1 known.0.short);
+        subst (λ (l : Log). length l.steps ≤ MOST_STEPS) found.2 (All-at P w.players number found.0 known.0.short found.1);
     stands = λ number step spot log is recorded.
         let found = there-mapped log_of w.players number log is in
         let shows = known.0.shows number found.0 found.1 in

@@ -1,10 +1,9 @@
 pub mod Readiness
-pub mod Laps
+pub mod Rounds
 pub mod Choosing
 pub mod Beginning
-pub mod Ends
-pub mod Machine
-pub mod Tended
-pub mod Still
-pub mod Once
+pub mod Endings
+pub mod WorkerRuns
+pub mod StillRounds
+pub mod OneRun
 pub mod Lawful

@@ -5,6 +5,7 @@ use Rattle.std.proofs.lemmas.Bool.Decides.{nat_tests}
 use Rattle.std.proofs.lemmas.List.{length-set}
 use Rattle.std.proofs.lemmas.List.Sums.{sum_by-le}
 use Rattle.std.proofs.lemmas.List.Elements.{All-set}
+use Rattle.zk_base.proofs.Lists.{All-at}
 use Rattle.zk_scenario.specs.Parts.{Parts}
 use Rattle.zk_worker.specs.declared.steps.TheConstants.{MOST_STEPS}
 use Rattle.zk_worker.specs.declared.steps.Step.{Step}
@@ -17,13 +18,12 @@ use Rattle.zk_worker.specs.Machines.{Machines}
 use Rattle.zk_worker.specs.Attempt.{reply_in}
 use Rattle.zk_worker.specs.Shown.{Shown, shown_after, ShowsLog, AreShort}
 use Rattle.zk_worker.proofs.Fits.{after-fits}
-use Rattle.zk_worker.proofs.Made.{made-more, log-answered, log-others}
+use Rattle.zk_worker.proofs.ShownSteps.{made-more, log-answered, log-others}
 use Rattle.zk_worker.proofs.Following.{following-still, following-more}
-use Rattle.zk_worker.proofs.Numbers.{All-slice_get}
 use Rattle.zk_worker.proofs.Lists.{slice_get-set, sum-set}
 use Rattle.zk_replay.specs.RoundRobin.{World, stepped}
 use Rattle.zk_replay.specs.Ready.{IsReady, left, all_left}
-use Rattle.zk_replay.proofs.Still.{IsChosen}
+use Rattle.zk_replay.proofs.StillRounds.{IsChosen}
 
 -- each history is shorter than a history may be
 pub short-shown : (s : Parts) (w : World) → IsReady s w → AreShort w.shown
@@ -105,7 +105,7 @@ ready-stepped m s w p at made ready is unspent found =
       short = All-set Short w.players p at' (omega (arith, more.count, unspent-short at unspent)) ready.short;
       counted = omega (arith, long, ready.counted, sum-set count w.players p at at' is, more.count);
       follow = follow-after m s w p at made ready is found;
-      fits = All-set Fits w.players p at' (more.fits (All-slice_get Fits w.players p at is ready.fits)) ready.fits;
+      fits = All-set Fits w.players p at' (more.fits (All-at Fits w.players p at ready.fits is)) ready.fits;
     }
 
 -- a step leaves fewer steps

@@ -8,7 +8,8 @@ use Rattle.zk_replay.specs.declared.plain.Plain.{Plain}
 
 -- the machine of each plain service, and the state that it started in
 abbrev pub plain_machines : Plain → Machines
-plain_machines p = record { work = work_machine; work_start = work_start p.work; clock = clock_machine; clock_start = clock_start p.clock }
+plain_machines p =
+    record { work = work_machine; work_start = work_start p.work; clock = clock_machine; clock_start = clock_start p.clock }
 
 -- what plain services show: the whole history of each
 abbrev pub plain_shown : Plain → Shown

@@ -8,4 +8,5 @@ use Rattle.zk_replay.specs.Replay.{all_done}
 
 -- how a run ended, by where its players stand: at its end an admission waits only where some player isn't done
 abbrev pub ending_by : List At → Ending
-ending_by players = if list_any is_spent_at players then Spent else (if all_done players then Ended else Stuck)
+ending_by players =
+    if list_any is_spent_at players then Spent else (if all_done players then Ended else Stuck)

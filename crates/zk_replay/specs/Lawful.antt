@@ -26,9 +26,11 @@ trace_shown t = record { work = t.work; clock = t.clock }
 -- each step of each player is recorded in exactly one entry
 pub record IsPlaced (t : Trace) : Type 0 where
   -- no player makes more steps than it may
-  pub short : (number : ℕ) (log : Log) → slice_get t.logs number ≡ Some log → length log.steps ≤ MOST_STEPS
+  pub short : (number : ℕ) (log : Log) → slice_get t.logs number ≡ Some log →
+      length log.steps ≤ MOST_STEPS
   -- the entry that a log names for a step is of that player and that step
-  pub stands : (number step : ℕ) (spot : Spot) (log : Log) → slice_get t.logs number ≡ Some log → slice_get log.steps step ≡ Some spot →
+  pub stands : (number step : ℕ) (spot : Spot) (log : Log) → slice_get t.logs number ≡ Some log →
+      slice_get log.steps step ≡ Some spot →
       shown_at (trace_shown t) spot ≡ Some (number, step)
   -- each entry is named so by the log of its player
   pub each : (spot : Spot) (number step : ℕ) → shown_at (trace_shown t) spot ≡ Some (number, step) →
@@ -48,7 +50,9 @@ is_done_state state = false
 abbrev pub lawful_ending : Parts → Trace → Ending
 lawful_ending s t =
     if list_any (λ log. is_spent_state log.state) t.logs then Spent else
-    if list_all (λ log. is_done_state log.state) t.logs && none_waits (state_after work_machine (work_start_of s) t.work) then Ended else Stuck
+    if list_all (λ log. is_done_state log.state) t.logs
+    && none_waits (state_after work_machine (work_start_of s) t.work)
+    then Ended else Stuck
 
 -- a trace is lawful for a scenario
 pub record IsLawful (s : Parts) (t : Trace) : Type 0 where
@@ -60,9 +64,11 @@ pub record IsLawful (s : Parts) (t : Trace) : Type 0 where
   -- there is a log for each player
   pub logged : length t.logs ≡ length (players s.decls)
   -- and each log follows the scenario
-  pub follow : (number : ℕ) (log : Log) → slice_get t.logs number ≡ Some log → Follows s number (trace_shown t) log
+  pub follow : (number : ℕ) (log : Log) → slice_get t.logs number ≡ Some log →
+      Follows s number (trace_shown t) log
   -- it ends as its logs and its history of work say
   pub ends : t.ending ≡ lawful_ending s t
   -- and unless a player is spent, none has a possible attempt where its log ends
-  pub halts : (t.ending ≡ Spent → ⊥) → (number : ℕ) (log : Log) (there : slice_get t.logs number ≡ Some log) →
+  pub halts : (t.ending ≡ Spent → ⊥) →
+      (number : ℕ) (log : Log) (there : slice_get t.logs number ≡ Some log) →
       chosen (machines_of s) s (trace_shown t) (follow number log there).end ≡ None

@@ -9,4 +9,6 @@ use Rattle.zk_trace.specs.declared.trace.Trace.{Trace}
 
 -- where a trace has ended, none of its admissions waits or runs
 abbrev pub IsOver : Parts → Trace → Type 0
-IsOver s t = t.ending ≡ Ended → (number : ℕ) (life : Life) → life_after (work_start_of s) t.work number ≡ Some life → is_open life ≡ false
+IsOver s t =
+    t.ending ≡ Ended → (number : ℕ) (life : Life) →
+    life_after (work_start_of s) t.work number ≡ Some life → is_open life ≡ false

@@ -20,7 +20,8 @@ all_left players = sum_by left players
 pub record IsReady (s : Parts) (w : World) : Type 0 where
   pub few : length w.players ≤ 64
   pub numbers : (p : ℕ) (at : At) → slice_get w.players p ≡ Some at → at.who.number ≡ p
-  pub shows : (p : ℕ) (at : At) → slice_get w.players p ≡ Some at → ShowsLog w.shown at.who.number at.spots
+  pub shows : (p : ℕ) (at : At) → slice_get w.players p ≡ Some at →
+      ShowsLog w.shown at.who.number at.spots
   pub short : All (λ at. length at.spots ≤ MOST_STEPS) w.players
   pub counted : entry_count w.shown ≡ sum_by (λ at. length at.spots) w.players
   pub follow : (p : ℕ) (at : At) → slice_get w.players p ≡ Some at → IsFollowing s p w.shown at

@@ -25,11 +25,13 @@ all_done players = list_all (λ at. is_done at.frames) players
 abbrev pub ending_of : Parts → World → Ending
 ending_of s w =
     if is_spent w then Spent else
-    if all_done w.players && none_waits (state_after work_machine (work_start_of s) w.shown.work) then Ended else Stuck
+    if all_done w.players && none_waits (state_after work_machine (work_start_of s) w.shown.work)
+    then Ended else Stuck
 
 -- the trace of a run that came to this world
 abbrev pub trace_of : Parts → World → Trace
-trace_of s w = record { ending = ending_of s w; work = w.shown.work; clock = w.shown.clock; logs = map log_of w.players }
+trace_of s w =
+    record { ending = ending_of s w; work = w.shown.work; clock = w.shown.clock; logs = map log_of w.players }
 
 -- the trace of the round robin run of a scenario
 abbrev pub IsReplay : Parts → Trace → Type 0

@@ -25,7 +25,8 @@ or_else step (Some reply) further = Some (step, reply)
 -- the first of these attempts that is possible, with its answer
 abbrev pub first_possible : Machines → Shown → Who → List Step → Option (Step × StepReply)
 first_possible m shown who [] = None
-first_possible m shown who (step ∷ more) = or_else step (reply_in m shown who step) (first_possible m shown who more)
+first_possible m shown who (step ∷ more) =
+    or_else step (reply_in m shown who step) (first_possible m shown who more)
 
 -- the attempt that a player makes in a turn
 abbrev pub chosen : Machines → Parts → Shown → At → Option (Step × StepReply)

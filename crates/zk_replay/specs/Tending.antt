@@ -22,7 +22,8 @@ IsIdle queue admissions = All (λ a. runs_on queue a ≡ false) admissions
 
 -- the run of a worker: it is the queue's, and between two runs the queue runs nothing
 abbrev pub IsWorkers : List Decl → ℕ → Role → Stage → List Admission → Type 0
-IsWorkers decls queue (Worker object) Start admissions = (number_of decls object ≡ queue) × IsIdle queue admissions
+IsWorkers decls queue (Worker object) Start admissions =
+    (number_of decls object ≡ queue) × IsIdle queue admissions
 IsWorkers decls queue (Worker object) Runs admissions = number_of decls object ≡ queue
 IsWorkers decls queue (Worker object) (Waits place) admissions = ⊥
 IsWorkers decls queue (Worker object) Halfway admissions = ⊥
@@ -37,12 +38,15 @@ IsScript (Worker object) = ⊥
 abbrev pub Tends : List Decl → ℕ → List Frame → List Admission → Type 0
 Tends decls queue [] admissions = ⊥
 Tends decls queue (frame ∷ []) admissions = IsWorkers decls queue frame.role frame.stage admissions
-Tends decls queue (frame ∷ next ∷ below) admissions = IsScript frame.role × Tends decls queue (next ∷ below) admissions
+Tends decls queue (frame ∷ next ∷ below) admissions =
+    IsScript frame.role × Tends decls queue (next ∷ below) admissions
 
 -- each admission is to a queue, each queue has its worker, and each worker tends its queue
 pub record IsTended (s : Parts) (w : World) (state : State) : Type 0 where
   pub after : state ≡ state_after work_machine (work_start_of s) w.shown.work
   pub homes : All (λ a. a.queue < length (places is_queue s.decls)) state.admissions
   pub has_workers : map (λ queue. queue.worker) state.queues ≡ workers s.decls
-  pub tended : (queue : ℕ) (at : At) → slice_get w.players (length (places is_thread s.decls) + queue) ≡ Some at → queue < length (places is_queue s.decls) →
+  pub tended : (queue : ℕ) (at : At) →
+      slice_get w.players (length (places is_thread s.decls) + queue) ≡ Some at →
+      queue < length (places is_queue s.decls) →
       Tends s.decls queue at.frames state.admissions

@@ -26,7 +26,8 @@ at_after s at None = at
 at_after s at (Some made) = after s at made.0 made.1
 
 -- what a turn of a player leaves, and whether it made a step
-pub record IsTurn (m : Machines) (s : Parts) (at at' : At) (old new : Shown) (moved : Bool) : Type 0 where
+pub record IsTurn (m : Machines) (s : Parts) (at at' : At) (old new : Shown) (moved : Bool)
+    : Type 0 where
   pub place : at' ≡ at_after s at (chosen m s old at)
   pub shows : new ≡ shown_with old at.who (length at.spots) (chosen m s old at)
   pub moves : moved ≡ is_some (chosen m s old at)
@@ -47,7 +48,8 @@ abbrev pub world : Shown → List At → World
 world shown players = record { shown = shown; players = players }
 
 -- what a turn leaves, and what is told of it
-pub record Turned (m : Machines) (s : Parts) (old new : World) (player : ℕ) (told : Turn) : Type 0 where
+pub record Turned (m : Machines) (s : Parts) (old new : World) (player : ℕ) (told : Turn)
+    : Type 0 where
   pub next : new ≡ turn m s old player
   pub ready : IsReady s new
   pub spent : told.spent ≡ is_spent new
@@ -67,7 +69,8 @@ pub record Rounded (m : Machines) (s : Parts) (old new : World) (course : Course
   pub goes : GoesOn old new course
 
 -- a round that has come to the player of this number, with so many turns left
-pub record WithinRound (m : Machines) (s : Parts) (old now : World) (moved : Bool) (turns_left player : ℕ) : Type 0 where
+pub record WithinRound (m : Machines) (s : Parts) (old now : World) (moved : Bool)
+    (turns_left player : ℕ) : Type 0 where
   pub rest : turns m s now turns_left player ≡ round m s old
   pub ready : IsReady s now
   pub unspent : is_spent now ≡ false

@@ -1,8 +1,8 @@
-pub mod Feeds
-pub mod Kept
-pub mod Never
-pub mod Played
-pub mod Printed
-pub mod Sound
-pub mod Told
+pub mod AcceptedLines
+pub mod AlwaysSays
+pub mod FirstLine
+pub mod ReadIsValid
+pub mod ReadText
+pub mod ScenarioLines
+pub mod ScriptTables
 pub mod Valid

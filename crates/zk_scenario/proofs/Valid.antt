@@ -6,6 +6,7 @@ use Rattle.std.proofs.lemmas.Bool.{and_parts}
 use Rattle.std.proofs.lemmas.List.Quantifiers.{position-Some}
 use Rattle.std.proofs.lemmas.List.Sums.{sum_by-append}
 use Rattle.std.proofs.lemmas.Option.{slice_get-get_or}
+use Rattle.zk_base.proofs.Lists.{list_all-at}
 use Rattle.zk_line.specs.declared.types.Decl.{Decl}
 use Rattle.zk_line.specs.declared.types.Decl.TheVariants.{Thread, Queue, Item}
 use Rattle.zk_scenario.specs.declared.types.Script.{Script}
@@ -15,7 +16,7 @@ use Rattle.zk_scenario.specs.Players.{players, calls_of}
 use Rattle.zk_scenario.specs.Scripts.{script_of}
 use Rattle.zk_line.specs.Fits.{call_fits}
 use Rattle.zk_scenario.specs.Valid.{IsValid, script_fits}
-use Rattle.zk_scenario.proofs.Played.{calls_of-none, calls_of-some}
+use Rattle.zk_scenario.proofs.ScriptTables.{calls_of-none, calls_of-some}
 use Rattle.zk_line.proofs.Tables.{length-places}
 
 -- the players of the table are as many as their count
@@ -77,12 +78,6 @@ number_of-thread decls object at = below is_thread decls object kind at where
   kind (Thread name prio user) e = refl
   kind (Queue name prio on) e = absurd (cc)
   kind (Item name) e = absurd (cc)
-
--- an element of a list of which all pass
-pub list_all-at : {X : Type 0} (p : X → Bool) (xs : List X) (k : ℕ) (x : X) → list_all p xs ≡ true → slice_get xs k ≡ Some x → p x ≡ true
-list_all-at p [] k x all e = absurd (cc)
-list_all-at p (y ∷ xs) zero x all e = ap (λ o. option_map_or p o false) (sym e) ∙ (and_parts (p y) (list_all p xs) all).0
-list_all-at p (y ∷ xs) (suc k) x all e = list_all-at p xs k x (and_parts (p y) (list_all p xs) all).1 e
 
 -- each call of an object's script fits
 pub call_fits-calls_of : (p : Parts) (owner : ℕ) → IsValid p → list_all (call_fits p.decls) (calls_of p.scripts owner) ≡ true

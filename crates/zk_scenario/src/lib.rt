@@ -16,7 +16,7 @@ mod text;
 mod types;
 
 pub use laws::tells_them_apart;
-pub use read::{LONGEST_SCENARIO, read_scenario};
+pub use read::read_scenario;
 pub use refused::{ScenarioRefused, Why};
 pub use scenario::Scenario;
 pub use text::print_scenario;

@@ -1,4 +1,5 @@
-use crate::{LONGEST_SCENARIO, ScenarioRefused, print_scenario, read_scenario};
+use crate::read::LONGEST_SCENARIO;
+use crate::{ScenarioRefused, print_scenario, read_scenario};
 use std::alloc::Global;
 use std::test::Fail;
 

@@ -1,7 +1,7 @@
-pub mod Arming
-pub mod Arms
-pub mod Disarming
-pub mod Due
-pub mod Looks
+mod Arming
+mod Arms
+mod Disarming
+mod Due
+mod Looks
 pub mod Orders
-pub mod Room
+mod Room

@@ -1,4 +1,4 @@
-pub mod ClockKept
+pub mod ClockOwed
 pub mod ClockLaws
 pub mod ClockSeen
 pub mod ClockTests

@@ -2,7 +2,7 @@ ghost use Rattle.std.specs.Prelude.{◌≡◌, []};
 ghost use Rattle.zk_model_wait.specs.Clock.{new_clock};
 ghost use Rattle.zk_time.specs.ClockSeen.{clock_start, clock_history};
 
-use crate::ClockEngine;
+use crate::clock_engine::ClockEngine;
 use std::alloc::Global;
 use zk_base::{Entry, NoMemory, Recorded, Service, Who};
 use zk_model_wait::{ClockOp, ClockReply, ClockState};
@@ -36,7 +36,7 @@ impl Service for Clock {
 
     ghost use Rattle.std.specs.Prelude.{false};
     ghost use Rattle.zk_model_wait.specs.Clock.{clock_machine};
-    ghost use Rattle.zk_time.specs.ClockKept.{clock_closes};
+    ghost use Rattle.zk_time.specs.ClockOwed.{clock_closes};
     ghost use Rattle.zk_time.specs.ClockSeen.{clock_start, clock_history};
 
     ghost machine = { clock_machine };

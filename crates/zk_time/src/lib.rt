@@ -9,7 +9,6 @@ mod timeout;
 mod timeout_list;
 
 pub use clock::Clock;
-pub use clock_engine::ClockEngine;
 pub use timeout::Timeout;
 pub use timeout_list::TimeoutList;
 

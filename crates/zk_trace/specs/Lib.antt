@@ -3,3 +3,4 @@ pub mod Words
 pub mod Work
 pub mod Clock
 pub mod Text
+pub mod Fronts

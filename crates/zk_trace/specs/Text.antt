@@ -22,7 +22,9 @@ line text = text ++ codes "\n"
 
 -- an entry: who did it as which step, what was asked, and what was answered
 abbrev pub entry_line : List Decl → Who → ℕ → List ℕ → List ℕ → List ℕ
-entry_line decls who step op reply = line (player_name decls who.number ++ codes "." ++ decimal step ++ codes " " ++ op ++ codes " = " ++ reply)
+entry_line decls who step op reply =
+    line (player_name decls who.number ++ codes "." ++ decimal step ++ codes " " ++ op
+    ++ codes " = " ++ reply)
 
 -- an entry of the work service
 abbrev pub work_line : List Decl → Entry WorkOp WorkReply → List ℕ
@@ -44,17 +46,23 @@ clock_section decls (e ∷ es) = line (codes "service clock") ++ flat_map (clock
 
 -- an answered call: the number of its last step, its word and its answer
 abbrev pub answer_line : Answered → List ℕ
-answer_line a = line (decimal a.step ++ codes " " ++ call_word a.word ++ codes " = " ++ answer_text a.answer)
+answer_line a =
+    line (decimal a.step ++ codes " " ++ call_word a.word ++ codes " = " ++ answer_text a.answer)
 
 -- the section of a player
 abbrev pub player_section : List ℕ → Log → List ℕ
-player_section name log = line (codes "player " ++ name ++ codes " " ++ state_word log.state) ++ flat_map answer_line log.answers
+player_section name log =
+    line (codes "player " ++ name ++ codes " " ++ state_word log.state)
+    ++ flat_map answer_line log.answers
 
 -- the sections of the players from one number on
 abbrev pub player_sections : List Decl → ℕ → List Log → List ℕ
 player_sections decls player [] = []
-player_sections decls player (log ∷ logs) = player_section (player_name decls player) log ++ player_sections decls (player + 1) logs
+player_sections decls player (log ∷ logs) =
+    player_section (player_name decls player) log ++ player_sections decls (player + 1) logs
 
 -- the trace part of the output: its head, the ending, the services and the players
 abbrev pub trace_text : Parts → Trace → List ℕ
-trace_text s t = line (codes "zt 1") ++ line (ending_word t.ending) ++ work_section s.decls t.work ++ clock_section s.decls t.clock ++ player_sections s.decls 0 t.logs
+trace_text s t =
+    line (codes "zt 1") ++ line (ending_word t.ending) ++ work_section s.decls t.work
+    ++ clock_section s.decls t.clock ++ player_sections s.decls 0 t.logs

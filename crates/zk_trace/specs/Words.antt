@@ -41,7 +41,9 @@ flag_letter flags flag letter = (if bit_and flags flag == 0 then [] else letter 
 
 -- the letters of the busy flags: running, cancelling, queued, delayed, flushing
 abbrev pub flag_letters : ℕ → List ℕ
-flag_letters flags = flag_letter flags 1 114 ++ flag_letter flags 2 99 ++ flag_letter flags 4 113 ++ flag_letter flags 8 100 ++ flag_letter flags 16 102
+flag_letters flags =
+    flag_letter flags 1 114 ++ flag_letter flags 2 99 ++ flag_letter flags 4 113
+    ++ flag_letter flags 8 100 ++ flag_letter flags 16 102
 
 -- the busy flags in the order rcqdf, and a dash for none
 abbrev pub flags_word : ℕ → List ℕ

@@ -18,21 +18,26 @@ named_queue decls (Some queue) = queue_name decls queue
 
 -- what is delayed: the item, the queue that it goes to, and the ticks until then
 abbrev pub delayed_text : List Decl → ℕ → ℕ → ℕ → List ℕ
-delayed_text decls item queue delay = item_name decls item ++ spaced (queue_name decls queue) ++ spaced (decimal delay)
+delayed_text decls item queue delay =
+    item_name decls item ++ spaced (queue_name decls queue) ++ spaced (decimal delay)
 
 -- an operation of the work service
 abbrev pub op_text : List Decl → WorkOp → List ℕ
-op_text decls (ops.Submit item queue) = codes "submit " ++ item_name decls item ++ spaced (named_queue decls queue)
+op_text decls (ops.Submit item queue) =
+    codes "submit " ++ item_name decls item ++ spaced (named_queue decls queue)
 op_text decls (ops.Cancel item) = codes "cancel " ++ item_name decls item
 op_text decls (ops.CancelStart item) = codes "cancelstart " ++ item_name decls item
 op_text decls (ops.CancelDone place) = codes "canceldone " ++ decimal place
 op_text decls (ops.FlushStart item) = codes "flushstart " ++ item_name decls item
 op_text decls (ops.FlushDone place) = codes "flushdone " ++ decimal place
-op_text decls (ops.Schedule item queue delay) = codes "schedule " ++ delayed_text decls item queue delay
-op_text decls (ops.Reschedule item queue delay) = codes "reschedule " ++ delayed_text decls item queue delay
+op_text decls (ops.Schedule item queue delay) =
+    codes "schedule " ++ delayed_text decls item queue delay
+op_text decls (ops.Reschedule item queue delay) =
+    codes "reschedule " ++ delayed_text decls item queue delay
 op_text decls (ops.Remaining item) = codes "remaining " ++ item_name decls item
 op_text decls (ops.Start queue) = codes "start " ++ queue_name decls queue
-op_text decls (ops.DrainStart queue plug) = codes "drainstart " ++ queue_name decls queue ++ spaced (mode_word plug)
+op_text decls (ops.DrainStart queue plug) =
+    codes "drainstart " ++ queue_name decls queue ++ spaced (mode_word plug)
 op_text decls (ops.DrainDone place) = codes "draindone " ++ decimal place
 op_text decls (ops.Unplug queue) = codes "unplug " ++ queue_name decls queue
 op_text decls (ops.Announce ticks) = codes "announce " ++ decimal ticks
@@ -42,20 +47,25 @@ op_text decls (ops.End queue) = codes "end " ++ queue_name decls queue
 -- what became of a submission
 abbrev pub submitted_text : List Decl → Submitted → List ℕ
 submitted_text decls submissions.Already = codes "0"
-submitted_text decls (submissions.Fresh admission queue) = codes "1 " ++ admission_word admission ++ spaced (queue_name decls queue)
-submitted_text decls (submissions.Rerun admission queue) = codes "2 " ++ admission_word admission ++ spaced (queue_name decls queue)
+submitted_text decls (submissions.Fresh admission queue) =
+    codes "1 " ++ admission_word admission ++ spaced (queue_name decls queue)
+submitted_text decls (submissions.Rerun admission queue) =
+    codes "2 " ++ admission_word admission ++ spaced (queue_name decls queue)
 submitted_text decls (submissions.Refused errno) = errno_word errno
 
 -- what became of the submission at the end of a delay: the same, with colons for its spaces
 abbrev pub expired_text : List Decl → Submitted → List ℕ
 expired_text decls submissions.Already = codes "0"
-expired_text decls (submissions.Fresh admission queue) = codes "1:" ++ admission_word admission ++ codes ":" ++ queue_name decls queue
-expired_text decls (submissions.Rerun admission queue) = codes "2:" ++ admission_word admission ++ codes ":" ++ queue_name decls queue
+expired_text decls (submissions.Fresh admission queue) =
+    codes "1:" ++ admission_word admission ++ codes ":" ++ queue_name decls queue
+expired_text decls (submissions.Rerun admission queue) =
+    codes "2:" ++ admission_word admission ++ codes ":" ++ queue_name decls queue
 expired_text decls (submissions.Refused errno) = errno_word errno
 
 -- a delay that ended: its item, and what became of the submission
 abbrev pub expiry_text : List Decl → Expiry → List ℕ
-expiry_text decls e = codes " " ++ item_name decls e.item ++ codes ":" ++ expired_text decls e.submitted
+expiry_text decls e =
+    codes " " ++ item_name decls e.item ++ codes ":" ++ expired_text decls e.submitted
 
 -- the time after an announce, and the delays that ended by it
 abbrev pub now_text : List Decl → ℕ → List Expiry → List ℕ
@@ -77,4 +87,5 @@ reply_text decls (replies.Number number) = decimal number
 reply_text decls replies.Done = codes "ok"
 reply_text decls replies.Already = codes "already"
 reply_text decls (replies.Now time expiries) = now_text decls time expiries
-reply_text decls (replies.Run item admission) = item_name decls item ++ spaced (admission_word admission)
+reply_text decls (replies.Run item admission) =
+    item_name decls item ++ spaced (admission_word admission)

@@ -1,4 +1,5 @@
-ghost use Rattle.std.specs.Prelude.{◌≡◌, ◌++◌, codes, decimal, OnOk};
+ghost use Rattle.std.specs.Prelude.{◌≡◌, ◌++◌, codes, decimal, OnOk, OnErr};
+ghost use Rattle.zk_trace.specs.Fronts.{StaysInFront};
 ghost use Rattle.zk_trace.specs.Names.{player_name};
 ghost use Rattle.zk_trace.specs.Words.{spaced};
 ghost use Rattle.zk_trace.specs.Work.{named_queue, delayed_text, op_text};
@@ -19,7 +20,8 @@ pub fn put_work_entry(
     scenario: &Scenario,
     entry: &Entry<WorkOp, WorkReply>,
 ) -> Result<(), NoMemory>
-    ensures { OnOk result (out.new.items ≡ out.old.items ++ work_line scenario.now.decls entry.now) }
+    ensures text { OnOk result (out.new.items ≡ out.old.items ++ work_line scenario.now.decls entry.now) }
+    ensures kept { OnErr result (StaysInFront out.old.items out.new.items) }
 {
     put_step(out, scenario, entry.who, entry.step)?;
     put_op(out, scenario, entry.op)?;
@@ -34,7 +36,8 @@ pub fn put_clock_entry(
     scenario: &Scenario,
     entry: &Entry<ClockOp, ClockReply>,
 ) -> Result<(), NoMemory>
-    ensures { OnOk result (out.new.items ≡ out.old.items ++ clock_line scenario.now.decls entry.now) }
+    ensures text { OnOk result (out.new.items ≡ out.old.items ++ clock_line scenario.now.decls entry.now) }
+    ensures kept { OnErr result (StaysInFront out.old.items out.new.items) }
 {
     put_step(out, scenario, entry.who, entry.step)?;
     put_clock_op(out, entry.op)?;
@@ -44,8 +47,9 @@ pub fn put_clock_entry(
 }
 
 fn put_step(out: &mut Vec<u8>, scenario: &Scenario, who: Who, step: u32) -> Result<(), NoMemory>
-    ensures { OnOk result (out.new.items ≡
+    ensures text { OnOk result (out.new.items ≡
         out.old.items ++ player_name scenario.now.decls who.number ++ codes "." ++ decimal step ++ codes " ") }
+    ensures kept { OnErr result (StaysInFront out.old.items out.new.items) }
 {
     put(out, player_name(scenario, who.number as usize))?;
     put_number(out, b".", u64::from(step))?;
@@ -53,7 +57,8 @@ fn put_step(out: &mut Vec<u8>, scenario: &Scenario, who: Who, step: u32) -> Resu
 }
 
 fn put_op(out: &mut Vec<u8>, scenario: &Scenario, op: WorkOp) -> Result<(), NoMemory>
-    ensures { OnOk result (out.new.items ≡ out.old.items ++ op_text scenario.now.decls op) }
+    ensures text { OnOk result (out.new.items ≡ out.old.items ++ op_text scenario.now.decls op) }
+    ensures kept { OnErr result (StaysInFront out.old.items out.new.items) }
 {
     match op {
         WorkOp::Submit(item, queue) => {
@@ -86,7 +91,8 @@ fn put_op(out: &mut Vec<u8>, scenario: &Scenario, op: WorkOp) -> Result<(), NoMe
 }
 
 fn put_clock_op(out: &mut Vec<u8>, op: ClockOp) -> Result<(), NoMemory>
-    ensures { OnOk result (out.new.items ≡ out.old.items ++ clock_op_text op) }
+    ensures text { OnOk result (out.new.items ≡ out.old.items ++ clock_op_text op) }
+    ensures kept { OnErr result (StaysInFront out.old.items out.new.items) }
 {
     match op {
         ClockOp::Announce(ticks) => put_number(out, b"announce ", u64::from(ticks)),
@@ -96,7 +102,8 @@ fn put_clock_op(out: &mut Vec<u8>, op: ClockOp) -> Result<(), NoMemory>
 }
 
 fn put_named(out: &mut Vec<u8>, word: &[u8], name: &[u8]) -> Result<(), NoMemory>
-    ensures { OnOk result (out.new.items ≡ out.old.items ++ (word.now ++ name.now)) }
+    ensures text { OnOk result (out.new.items ≡ out.old.items ++ (word.now ++ name.now)) }
+    ensures kept { OnErr result (StaysInFront out.old.items out.new.items) }
 {
     put(out, word)?;
     put(out, name)
@@ -108,7 +115,8 @@ fn put_named_spaced(
     name: &[u8],
     last: &[u8],
 ) -> Result<(), NoMemory>
-    ensures { OnOk result (out.new.items ≡ out.old.items ++ (word.now ++ name.now ++ spaced last.now)) }
+    ensures text { OnOk result (out.new.items ≡ out.old.items ++ (word.now ++ name.now ++ spaced last.now)) }
+    ensures kept { OnErr result (StaysInFront out.old.items out.new.items) }
 {
     put(out, word)?;
     put(out, name)?;
@@ -123,8 +131,9 @@ fn put_delayed(
     queue: u32,
     delay: u32,
 ) -> Result<(), NoMemory>
-    ensures { OnOk result (out.new.items ≡
+    ensures text { OnOk result (out.new.items ≡
         out.old.items ++ word.now ++ delayed_text scenario.now.decls item queue delay) }
+    ensures kept { OnErr result (StaysInFront out.old.items out.new.items) }
 {
     put_named_spaced(
         out,

@@ -1,5 +1,6 @@
-ghost use Rattle.std.specs.Prelude.{◌≡◌, ◌++◌, OnOk, IfOk};
+ghost use Rattle.std.specs.Prelude.{◌≡◌, ◌++◌, OnOk, OnErr, IfOk};
 ghost use Rattle.zk_scenario.specs.Spelling.{text_of};
+ghost use Rattle.zk_trace.specs.Fronts.{StaysInFront};
 ghost use Rattle.zk_trace.specs.Text.{trace_text};
 
 use crate::Trace;
@@ -11,7 +12,20 @@ use zk_scenario::{Scenario, print_scenario};
 
 /// Appends the trace part of the output: the head, the ending, the sections of the services and of the players.
 pub fn put_trace(out: &mut Vec<u8>, scenario: &Scenario, trace: &Trace) -> Result<(), NoMemory>
-    ensures { OnOk result (out.new.items ≡ out.old.items ++ trace_text scenario.now trace.now) }
+    ensures text { OnOk result (out.new.items ≡ out.old.items ++ trace_text scenario.now trace.now) }
+    ensures unchanged { OnErr result (out.new.items ≡ out.old.items) }
+{
+    let before = out.len();
+    let put = put_parts(out, scenario, trace);
+    if put.is_err() {
+        out.truncate(before);
+    }
+    put
+}
+
+fn put_parts(out: &mut Vec<u8>, scenario: &Scenario, trace: &Trace) -> Result<(), NoMemory>
+    ensures text { OnOk result (out.new.items ≡ out.old.items ++ trace_text scenario.now trace.now) }
+    ensures kept { OnErr result (StaysInFront out.old.items out.new.items) }
 {
     put_line(out, b"zt 1")?;
     put_line(out, ending_word(trace.ending))?;

@@ -1,5 +1,6 @@
-ghost use Rattle.std.specs.Prelude.{◌≡◌, ◌++◌, OnOk, take};
+ghost use Rattle.std.specs.Prelude.{◌≡◌, ◌++◌, OnOk, OnErr, take};
 ghost use Rattle.std.specs.List.{flat_map};
+ghost use Rattle.zk_trace.specs.Fronts.{StaysInFront};
 ghost use Rattle.zk_trace.specs.Words.{admission_word};
 ghost use Rattle.zk_trace.specs.Work.{submitted_text, expired_text, expiry_text, now_text, wait_for_text, reply_text};
 ghost use Rattle.zk_trace.specs.Clock.{clock_reply_text};
@@ -13,7 +14,8 @@ use zk_scenario::Scenario;
 
 /// Appends a reply of the work service.
 pub fn put_reply(out: &mut Vec<u8>, scenario: &Scenario, reply: &WorkReply) -> Result<(), NoMemory>
-    ensures { OnOk result (out.new.items ≡ out.old.items ++ reply_text scenario.now.decls reply.now) }
+    ensures text { OnOk result (out.new.items ≡ out.old.items ++ reply_text scenario.now.decls reply.now) }
+    ensures kept { OnErr result (StaysInFront out.old.items out.new.items) }
 {
     match reply {
         WorkReply::Sub(submitted) => put_submitted(out, scenario, *submitted),
@@ -32,7 +34,8 @@ pub fn put_reply(out: &mut Vec<u8>, scenario: &Scenario, reply: &WorkReply) -> R
 
 /// Appends a reply of the clock.
 pub fn put_clock_reply(out: &mut Vec<u8>, reply: ClockReply) -> Result<(), NoMemory>
-    ensures { OnOk result (out.new.items ≡ out.old.items ++ clock_reply_text reply) }
+    ensures text { OnOk result (out.new.items ≡ out.old.items ++ clock_reply_text reply) }
+    ensures kept { OnErr result (StaysInFront out.old.items out.new.items) }
 {
     match reply {
         ClockReply::Now(time) => put_number(out, b"now ", time),
@@ -42,7 +45,8 @@ pub fn put_clock_reply(out: &mut Vec<u8>, reply: ClockReply) -> Result<(), NoMem
 }
 
 fn put_wait_for(out: &mut Vec<u8>, admission: u64) -> Result<(), NoMemory>
-    ensures { OnOk result (out.new.items ≡ out.old.items ++ wait_for_text admission) }
+    ensures text { OnOk result (out.new.items ≡ out.old.items ++ wait_for_text admission) }
+    ensures kept { OnErr result (StaysInFront out.old.items out.new.items) }
 {
     put(out, b"wait ")?;
     put_admission(out, admission)
@@ -54,7 +58,8 @@ fn put_run(
     item: u32,
     admission: u64,
 ) -> Result<(), NoMemory>
-    ensures { OnOk result (out.new.items ≡ out.old.items ++ reply_text scenario.now.decls (WorkReply.Run item admission)) }
+    ensures text { OnOk result (out.new.items ≡ out.old.items ++ reply_text scenario.now.decls (WorkReply.Run item admission)) }
+    ensures kept { OnErr result (StaysInFront out.old.items out.new.items) }
 {
     put(out, item_name(scenario, item))?;
     put(out, b" ")?;
@@ -66,7 +71,8 @@ fn put_submitted(
     scenario: &Scenario,
     submitted: Submitted,
 ) -> Result<(), NoMemory>
-    ensures { OnOk result (out.new.items ≡ out.old.items ++ submitted_text scenario.now.decls submitted) }
+    ensures text { OnOk result (out.new.items ≡ out.old.items ++ submitted_text scenario.now.decls submitted) }
+    ensures kept { OnErr result (StaysInFront out.old.items out.new.items) }
 {
     match submitted {
         Submitted::Already => put(out, b"0"),
@@ -87,8 +93,9 @@ fn put_admitted(
     between: &[u8],
     queue: &[u8],
 ) -> Result<(), NoMemory>
-    ensures { OnOk result (out.new.items ≡
+    ensures text { OnOk result (out.new.items ≡
         out.old.items ++ answer.now ++ admission_word admission ++ between.now ++ queue.now) }
+    ensures kept { OnErr result (StaysInFront out.old.items out.new.items) }
 {
     put(out, answer)?;
     put_admission(out, admission)?;
@@ -102,14 +109,16 @@ fn put_now(
     time: u64,
     expiries: &[Expiry],
 ) -> Result<(), NoMemory>
-    ensures { OnOk result (out.new.items ≡ out.old.items ++ now_text scenario.now.decls time expiries.now) }
+    ensures text { OnOk result (out.new.items ≡ out.old.items ++ now_text scenario.now.decls time expiries.now) }
+    ensures kept { OnErr result (StaysInFront out.old.items out.new.items) }
 {
     put_number(out, b"now ", time)?;
     put_expiries(out, scenario, expiries)
 }
 
 fn put_expiries(out: &mut Vec<u8>, scenario: &Scenario, expiries: &[Expiry]) -> Result<(), NoMemory>
-    ensures { OnOk result (out.new.items ≡ out.old.items ++ flat_map (expiry_text scenario.now.decls) expiries.now) }
+    ensures text { OnOk result (out.new.items ≡ out.old.items ++ flat_map (expiry_text scenario.now.decls) expiries.now) }
+    ensures kept { OnErr result (StaysInFront out.old.items out.new.items) }
 {
     for expiry in expiries {
         put_expiry(out, scenario, *expiry)?;
@@ -118,7 +127,8 @@ fn put_expiries(out: &mut Vec<u8>, scenario: &Scenario, expiries: &[Expiry]) -> 
 }
 
 fn put_expiry(out: &mut Vec<u8>, scenario: &Scenario, expiry: Expiry) -> Result<(), NoMemory>
-    ensures { OnOk result (out.new.items ≡ out.old.items ++ expiry_text scenario.now.decls expiry) }
+    ensures text { OnOk result (out.new.items ≡ out.old.items ++ expiry_text scenario.now.decls expiry) }
+    ensures kept { OnErr result (StaysInFront out.old.items out.new.items) }
 {
     put(out, b" ")?;
     put(out, item_name(scenario, expiry.item))?;
@@ -127,7 +137,8 @@ fn put_expiry(out: &mut Vec<u8>, scenario: &Scenario, expiry: Expiry) -> Result<
 }
 
 fn put_expired(out: &mut Vec<u8>, scenario: &Scenario, submitted: Submitted) -> Result<(), NoMemory>
-    ensures { OnOk result (out.new.items ≡ out.old.items ++ expired_text scenario.now.decls submitted) }
+    ensures text { OnOk result (out.new.items ≡ out.old.items ++ expired_text scenario.now.decls submitted) }
+    ensures kept { OnErr result (StaysInFront out.old.items out.new.items) }
 {
     match submitted {
         Submitted::Already => put(out, b"0"),

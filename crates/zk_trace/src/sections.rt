@@ -1,5 +1,6 @@
-ghost use Rattle.std.specs.Prelude.{◌≡◌, ◌++◌, OnOk, drop, take};
+ghost use Rattle.std.specs.Prelude.{◌≡◌, ◌++◌, OnOk, OnErr, drop, take};
 ghost use Rattle.std.specs.List.{flat_map};
+ghost use Rattle.zk_trace.specs.Fronts.{StaysInFront};
 ghost use Rattle.zk_trace.specs.Text.{line, work_line, work_section, clock_line, clock_section, answer_line, player_section, player_sections};
 
 use crate::entries::{put_clock_entry, put_work_entry};
@@ -13,7 +14,8 @@ use zk_worker::{Answered, Log};
 
 /// Appends a line.
 pub fn put_line(out: &mut Vec<u8>, text: &[u8]) -> Result<(), NoMemory>
-    ensures { OnOk result (out.new.items ≡ out.old.items ++ line text.now) }
+    ensures text { OnOk result (out.new.items ≡ out.old.items ++ line text.now) }
+    ensures kept { OnErr result (StaysInFront out.old.items out.new.items) }
 {
     put(out, text)?;
     put(out, b"\n")
@@ -25,7 +27,8 @@ pub fn put_work_section(
     scenario: &Scenario,
     work: &[Entry<WorkOp, WorkReply>],
 ) -> Result<(), NoMemory>
-    ensures { OnOk result (out.new.items ≡ out.old.items ++ work_section scenario.now.decls work.now) }
+    ensures text { OnOk result (out.new.items ≡ out.old.items ++ work_section scenario.now.decls work.now) }
+    ensures kept { OnErr result (StaysInFront out.old.items out.new.items) }
 {
     if work.is_empty() {
         return Ok(());
@@ -39,7 +42,8 @@ fn put_work_entries(
     scenario: &Scenario,
     work: &[Entry<WorkOp, WorkReply>],
 ) -> Result<(), NoMemory>
-    ensures { OnOk result (out.new.items ≡ out.old.items ++ flat_map (work_line scenario.now.decls) work.now) }
+    ensures text { OnOk result (out.new.items ≡ out.old.items ++ flat_map (work_line scenario.now.decls) work.now) }
+    ensures kept { OnErr result (StaysInFront out.old.items out.new.items) }
 {
     for entry in work {
         put_work_entry(out, scenario, entry)?;
@@ -53,7 +57,8 @@ pub fn put_clock_section(
     scenario: &Scenario,
     clock: &[Entry<ClockOp, ClockReply>],
 ) -> Result<(), NoMemory>
-    ensures { OnOk result (out.new.items ≡ out.old.items ++ clock_section scenario.now.decls clock.now) }
+    ensures text { OnOk result (out.new.items ≡ out.old.items ++ clock_section scenario.now.decls clock.now) }
+    ensures kept { OnErr result (StaysInFront out.old.items out.new.items) }
 {
     if clock.is_empty() {
         return Ok(());
@@ -67,7 +72,8 @@ fn put_clock_entries(
     scenario: &Scenario,
     clock: &[Entry<ClockOp, ClockReply>],
 ) -> Result<(), NoMemory>
-    ensures { OnOk result (out.new.items ≡ out.old.items ++ flat_map (clock_line scenario.now.decls) clock.now) }
+    ensures text { OnOk result (out.new.items ≡ out.old.items ++ flat_map (clock_line scenario.now.decls) clock.now) }
+    ensures kept { OnErr result (StaysInFront out.old.items out.new.items) }
 {
     for entry in clock {
         put_clock_entry(out, scenario, entry)?;
@@ -77,7 +83,8 @@ fn put_clock_entries(
 
 /// Appends the sections of all players.
 pub fn put_players(out: &mut Vec<u8>, scenario: &Scenario, logs: &[Log]) -> Result<(), NoMemory>
-    ensures { OnOk result (out.new.items ≡ out.old.items ++ player_sections scenario.now.decls 0 logs.now) }
+    ensures text { OnOk result (out.new.items ≡ out.old.items ++ player_sections scenario.now.decls 0 logs.now) }
+    ensures kept { OnErr result (StaysInFront out.old.items out.new.items) }
 {
     for (player, log) in logs.iter().enumerate() {
         put_player(out, player_name(scenario, player), log)?;
@@ -86,7 +93,8 @@ pub fn put_players(out: &mut Vec<u8>, scenario: &Scenario, logs: &[Log]) -> Resu
 }
 
 fn put_player(out: &mut Vec<u8>, name: &[u8], log: &Log) -> Result<(), NoMemory>
-    ensures { OnOk result (out.new.items ≡ out.old.items ++ player_section name.now log.now) }
+    ensures text { OnOk result (out.new.items ≡ out.old.items ++ player_section name.now log.now) }
+    ensures kept { OnErr result (StaysInFront out.old.items out.new.items) }
 {
     put(out, b"player ")?;
     put(out, name)?;
@@ -96,7 +104,8 @@ fn put_player(out: &mut Vec<u8>, name: &[u8], log: &Log) -> Result<(), NoMemory>
 }
 
 fn put_answers(out: &mut Vec<u8>, answers: &[Answered]) -> Result<(), NoMemory>
-    ensures { OnOk result (out.new.items ≡ out.old.items ++ flat_map answer_line answers.now) }
+    ensures text { OnOk result (out.new.items ≡ out.old.items ++ flat_map answer_line answers.now) }
+    ensures kept { OnErr result (StaysInFront out.old.items out.new.items) }
 {
     for answered in answers {
         put_answered(out, *answered)?;
@@ -105,7 +114,8 @@ fn put_answers(out: &mut Vec<u8>, answers: &[Answered]) -> Result<(), NoMemory>
 }
 
 fn put_answered(out: &mut Vec<u8>, answered: Answered) -> Result<(), NoMemory>
-    ensures { OnOk result (out.new.items ≡ out.old.items ++ answer_line answered) }
+    ensures text { OnOk result (out.new.items ≡ out.old.items ++ answer_line answered) }
+    ensures kept { OnErr result (StaysInFront out.old.items out.new.items) }
 {
     put_decimal(out, u64::from(answered.step))?;
     put(out, b" ")?;

@@ -1,5 +1,6 @@
-ghost use Rattle.std.specs.Prelude.{◌≡◌, ◌++◌, ◌==◌, decimal, OnOk};
+ghost use Rattle.std.specs.Prelude.{◌≡◌, ◌++◌, ◌==◌, decimal, OnOk, OnErr};
 ghost use Rattle.std.specs.Int.RustNames.{bit_and};
+ghost use Rattle.zk_trace.specs.Fronts.{StaysInFront};
 ghost use Rattle.zk_trace.specs.Words.{spaced, ending_word, errno_word, admission_word, flag_letter, flag_letters, flags_word, truth_word, mode_word, call_word, answer_text, state_word};
 
 use crate::Ending;
@@ -9,7 +10,8 @@ use zk_worker::{Answer, PlayerState};
 
 /// Appends a space and then the word.
 pub fn put_spaced(out: &mut Vec<u8>, word: &[u8]) -> Result<(), NoMemory>
-    ensures { OnOk result (out.new.items ≡ out.old.items ++ spaced word.now) }
+    ensures text { OnOk result (out.new.items ≡ out.old.items ++ spaced word.now) }
+    ensures kept { OnErr result (StaysInFront out.old.items out.new.items) }
 {
     put(out, b" ")?;
     put(out, word)
@@ -17,7 +19,8 @@ pub fn put_spaced(out: &mut Vec<u8>, word: &[u8]) -> Result<(), NoMemory>
 
 /// Appends the word and then the number.
 pub fn put_number(out: &mut Vec<u8>, word: &[u8], number: u64) -> Result<(), NoMemory>
-    ensures { OnOk result (out.new.items ≡ out.old.items ++ (word.now ++ decimal number)) }
+    ensures text { OnOk result (out.new.items ≡ out.old.items ++ (word.now ++ decimal number)) }
+    ensures kept { OnErr result (StaysInFront out.old.items out.new.items) }
 {
     put(out, word)?;
     put_decimal(out, number)
@@ -51,7 +54,8 @@ pub fn errno_word(errno: Errno) -> &'static [u8]
 
 /// Appends the number of an admission.
 pub fn put_admission(out: &mut Vec<u8>, number: u64) -> Result<(), NoMemory>
-    ensures { OnOk result (out.new.items ≡ out.old.items ++ admission_word number) }
+    ensures text { OnOk result (out.new.items ≡ out.old.items ++ admission_word number) }
+    ensures kept { OnErr result (StaysInFront out.old.items out.new.items) }
 {
     put(out, b"a")?;
     put_decimal(out, number)
@@ -59,7 +63,8 @@ pub fn put_admission(out: &mut Vec<u8>, number: u64) -> Result<(), NoMemory>
 
 /// Appends the letters of the busy flags, or a dash.
 pub fn put_flags(out: &mut Vec<u8>, flags: u8) -> Result<(), NoMemory>
-    ensures { OnOk result (out.new.items ≡ out.old.items ++ flags_word flags) }
+    ensures text { OnOk result (out.new.items ≡ out.old.items ++ flags_word flags) }
+    ensures kept { OnErr result (StaysInFront out.old.items out.new.items) }
 {
     if flags == 0 {
         return put(out, b"-");
@@ -68,7 +73,8 @@ pub fn put_flags(out: &mut Vec<u8>, flags: u8) -> Result<(), NoMemory>
 }
 
 fn put_letters(out: &mut Vec<u8>, flags: u8) -> Result<(), NoMemory>
-    ensures { OnOk result (out.new.items ≡ out.old.items ++ flag_letters flags) }
+    ensures text { OnOk result (out.new.items ≡ out.old.items ++ flag_letters flags) }
+    ensures kept { OnErr result (StaysInFront out.old.items out.new.items) }
 {
     put_letter(out, flags, 1, b'r')?;
     put_letter(out, flags, 2, b'c')?;
@@ -78,7 +84,8 @@ fn put_letters(out: &mut Vec<u8>, flags: u8) -> Result<(), NoMemory>
 }
 
 fn put_letter(out: &mut Vec<u8>, flags: u8, flag: u8, letter: u8) -> Result<(), NoMemory>
-    ensures { OnOk result (out.new.items ≡ out.old.items ++ flag_letter flags flag letter) }
+    ensures text { OnOk result (out.new.items ≡ out.old.items ++ flag_letter flags flag letter) }
+    ensures kept { OnErr result (StaysInFront out.old.items out.new.items) }
 {
     if flags & flag == 0 {
         return Ok(());
@@ -109,7 +116,8 @@ pub fn call_word(word: Word) -> &'static [u8]
 
 /// Appends the answer of a call.
 pub fn put_answer(out: &mut Vec<u8>, answer: Answer) -> Result<(), NoMemory>
-    ensures { OnOk result (out.new.items ≡ out.old.items ++ answer_text answer) }
+    ensures text { OnOk result (out.new.items ≡ out.old.items ++ answer_text answer) }
+    ensures kept { OnErr result (StaysInFront out.old.items out.new.items) }
 {
     match answer {
         Answer::Number(number) => put_decimal(out, number),

@@ -1,4 +1,4 @@
-pub mod Cuts
+pub mod FirstWord
 pub mod Formed
 pub mod Numerals
 pub mod Placed

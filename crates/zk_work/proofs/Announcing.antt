@@ -8,24 +8,24 @@ use Rattle.zk_base.specs.Order.{Ascends}
 use Rattle.zk_model_work.specs.declared.parts.Admission.{Admission}
 use Rattle.zk_model_work.specs.declared.parts.Fate.TheVariants.{Live}
 use Rattle.zk_model_work.specs.declared.parts.Arm.{Arm}
-use Rattle.zk_model_work.specs.declared.ops.Submitted.{Submitted}
 use Rattle.zk_model_work.specs.declared.ops.Expiry.{Expiry}
 use Rattle.zk_model_work.specs.declared.ops.WorkReply.TheVariants.{Now}
-use Rattle.zk_model_work.specs.Questions.{due}
+use Rattle.zk_model_work.specs.Questions.{due, item_of as machine_item}
+use Rattle.zk_model_work.specs.Answers.{submission}
+use Rattle.zk_model_work.specs.Machine.{submit, submit_arms, expiries, expire, announce, announce_reply}
 use Rattle.zk_model_work.specs.State.{State, IsTimed}
-use Rattle.zk_model_work.specs.Machine.{submission, submit, submit_arms, expiries, admitted_to, expire, announce, announce_reply}
 use Rattle.zk_model_work.proofs.Counts.{IsTimed-ticks}
 use Rattle.zk_model_work.proofs.Lines.{submit_arms-more, expiries-more}
 use Rattle.zk_time.specs.declared.timeout.Timeout.{Timeout}
 use Rattle.zk_time.specs.Timeouts.{Timeouts, is_due, due_first, due_rest, drop_due}
 use Rattle.zk_time.proofs.Orders.{IsOrdered-due}
-use Rattle.zk_work.specs.Kept.{Kept, StandsFor, timeout_of}
+use Rattle.zk_work.specs.EngineState.{EngineState, StandsFor, timeout_of}
 use Rattle.zk_work.specs.Engine as engine
 use Rattle.zk_work.specs.Engine.{answer_of, admitted, submitted, expired_next, expired, told, expiry_of}
 use Rattle.zk_work.proofs.Arms.{timeouts-expire, timeouts-due, arm_for, timeouts-for, front-due, first-due, rest-due}
 use Rattle.zk_work.proofs.Replies.{answer-same}
-use Rattle.zk_work.proofs.Delaying.{rearmed, submit-stands, drop-room}
-use Rattle.zk_work.proofs.Standing.{counted-stands}
+use Rattle.zk_work.proofs.Delaying.{submit-stands, drop-room}
+use Rattle.zk_work.proofs.Beside.{submitted-same, counted-stands, rearmed, retimed}
 
 Ascends-drop : (n : ℕ) (ts : List Timeout) → Ascends (λ t. t.deadline) ts → Ascends (λ t. t.deadline) (drop n ts)
 Ascends-drop zero ts ascends = ascends
@@ -33,23 +33,17 @@ Ascends-drop (suc n) [] ascends = ascends
 Ascends-drop (suc n) (t ∷ ts) ascends = Ascends-drop n ts ascends.1
 
 -- no submission counts an entry
-entries-submitted : (k : Kept) (item : ℕ) (a : Submitted) → (submitted k item a).entries ≡ k.entries
-entries-submitted k item a = by (admitted_to a) where
-  by : (o : Option ℕ) → (option_map_or (admitted k item) o k).entries ≡ k.entries
-  by None = refl
-  by (Some queue) = refl
-
-entries-next : (time : ℕ) (j : Kept) → (expired_next time j).entries ≡ j.entries
+entries-next : (time : ℕ) (j : EngineState) → (expired_next time j).entries ≡ j.entries
 entries-next time j = by (due_first time j.timeouts.live) where
   by : (o : Option Timeout) → (option_map_or (λ (t : Timeout). submitted (record j { timeouts = drop_due j.timeouts time }) t.item (answer_of j None t.item (Some t.queue))) o j).entries ≡ j.entries
   by None = refl
-  by (Some t) = entries-submitted (record j { timeouts = drop_due j.timeouts time }) t.item (answer_of j None t.item (Some t.queue))
+  by (Some t) = submitted-same (λ (i : EngineState). i.entries) (record j { timeouts = drop_due j.timeouts time }) t.item (answer_of j None t.item (Some t.queue)) (λ queue. refl)
 
-pub entries-expired : (n time : ℕ) (k : Kept) → (expired n time k).entries ≡ k.entries
+pub entries-expired : (n time : ℕ) (k : EngineState) → (expired n time k).entries ≡ k.entries
 entries-expired zero time k = refl
 entries-expired (suc n) time k = entries-next time (expired n time k) ∙ entries-expired n time k
 
-module _ (k : Kept) (s : State) (st : StandsFor k s) (time : ℕ) where
+module _ (k : EngineState) (s : State) (st : StandsFor k s) (time : ℕ) where
   abbrev none : Arm
   none = record { item = 0; queue = 0; deadline = 0; fate = Live }
 
@@ -91,15 +85,15 @@ module _ (k : Kept) (s : State) (st : StandsFor k s) (time : ℕ) where
       let inside = st.whole.ordered.within n (timeout_of none) front.0 in
       let item : a.item ≡ (get_or k.timeouts.live n (timeout_of none)).item = ap (λ (t : Timeout). t.item) (next-same n within) in
       let armed = st.whole.armed in
-      let items = st.items in
+      let items = st.admissions.items in
       let popped = rearmed j (mid n) (drop_due j.timeouts time) (map arm_for (drop (suc n) k.timeouts.live)) stands stands.whole.armed (IsOrdered-due j.timeouts time stands.whole.ordered) (omega arith)
       (it.1 ∙ sym (timeouts-for (drop (suc n) k.timeouts.live) (Ascends-drop (suc n) k.timeouts.live st.whole.ordered.ascends))) in
-      let P : Kept = record j { timeouts = drop_due j.timeouts time } in
+      let P : EngineState = record j { timeouts = drop_due j.timeouts time } in
       let done = submit-stands P (record (mid n) { arms = map arm_for (drop (suc n) k.timeouts.live) }) None a.item (Some a.queue) popped (omega arith) (omega arith) in
       let suc_is : n + 1 ≡ suc n = omega arith in
       let more = submit_arms-more s.marks s.queues None (due time s.arms) n none s.admissions (mid n).admissions
-      (submit (mid n).admissions a.item (submission (mid n).admissions s.marks s.queues None a.item (Some a.queue)))
-      (submission (mid n).admissions s.marks s.queues None a.item (Some a.queue)) (omega arith) refl refl refl in
+      (submit (mid n).admissions a.item (submission (machine_item (mid n).admissions s.marks a.item) s.queues None (Some a.queue)))
+      (submission (machine_item (mid n).admissions s.marks a.item) s.queues None (Some a.queue)) (omega arith) refl refl refl in
       subst (λ (o : Option Timeout). StandsFor (option_map_or (λ (t : Timeout). submitted P t.item (answer_of j None t.item (Some t.queue))) o j) (mid (suc n))) (sym it.0)
       (subst (λ (xs : List Admission). StandsFor (submitted P a.item (answer_of j None a.item (Some a.queue))) (record s { admissions = xs; arms = map arm_for (drop (suc n) k.timeouts.live) }))
       (more ∙ ap (λ m. submit_arms s.marks s.queues None (take m (due time s.arms)) s.admissions) suc_is) done)
@@ -145,41 +139,7 @@ module _ (k : Kept) (s : State) (st : StandsFor k s) (time : ℕ) where
       (rearmed e (mid count) e.timeouts (expire s.arms time) stands stands.whole.armed stands.whole.ordered stands.whole.fewer left)
 
 -- and so many ticks later, at an entry that is counted
-retimed : (k : Kept) (s : State) (time : ℕ) → StandsFor k s → IsTimed time k.entries → StandsFor (record k { time = time }) (record s { time = time })
-retimed k s time st timed =
-    let w = st.whole in
-    record {
-      whole = record {
-        counted = w.counted;
-        timed = timed;
-        fewer = w.fewer;
-        fewest = w.fewest;
-        items = w.items;
-        armed = w.armed;
-        ordered = w.ordered;
-        queues = w.queues;
-        shaped = w.shaped;
-        above = w.above;
-        busy = w.busy;
-        known = w.known;
-      };
-      time = refl;
-      entries = st.entries;
-      items = st.items;
-      queues = st.queues;
-      arms = st.arms;
-      waits = st.waits;
-      there = st.there;
-      made = st.made;
-      running = st.running;
-      last = st.last;
-      lines = st.lines;
-      runs = st.runs;
-      marks = st.marks;
-      sound = st.sound;
-    }
-
-pub announced-stands : (k : Kept) (s : State) (ticks : ℕ) → StandsFor k s → s.entries < 2 ^ 32 - 1 → ticks < 2 ^ 32 → StandsFor (record (engine.announced k ticks) { entries = k.entries + 1 }) (record (announce s ticks) { entries = s.entries + 1 })
+pub announced-stands : (k : EngineState) (s : State) (ticks : ℕ) → StandsFor k s → s.entries < 2 ^ 32 - 1 → ticks < 2 ^ 32 → StandsFor (record (engine.announced k ticks) { entries = k.entries + 1 }) (record (announce s ticks) { entries = s.entries + 1 })
 announced-stands k s ticks st few short =
     let time = k.time + ticks in
     let e = expired (length (filter (is_due time) k.timeouts.live)) time k in
@@ -192,23 +152,17 @@ announced-stands k s ticks st few short =
     subst (λ n. StandsFor (record e { time = time; entries = k.entries + 1 })
     (record s { time = n + ticks; admissions = submit_arms s.marks s.queues None (due (n + ticks) s.arms) s.admissions; arms = expire s.arms (n + ticks); entries = s.entries + 1 })) st.time later
 
-pub announce_reply-same : (k : Kept) (s : State) (ticks : ℕ) → StandsFor k s → engine.announce_reply k ticks ≡ announce_reply s ticks
+pub announce_reply-same : (k : EngineState) (s : State) (ticks : ℕ) → StandsFor k s → engine.announce_reply k ticks ≡ announce_reply s ticks
 announce_reply-same k s ticks st =
     ap (Now (k.time + ticks)) (told-all k s st (k.time + ticks)) ∙ ap (λ n. Now (n + ticks) (expiries s.marks s.queues (due (n + ticks) s.arms) s.admissions)) st.time
 
 -- what is armed after so many
-timeouts-submitted : (k : Kept) (item : ℕ) (a : Submitted) → (submitted k item a).timeouts ≡ k.timeouts
-timeouts-submitted k item a = by (admitted_to a) where
-  by : (o : Option ℕ) → (option_map_or (admitted k item) o k).timeouts ≡ k.timeouts
-  by None = refl
-  by (Some queue) = refl
-
-live-next : (time : ℕ) (j : Kept) (t : Timeout) → due_first time j.timeouts.live ≡ Some t → (expired_next time j).timeouts.live ≡ due_rest time j.timeouts.live
+live-next : (time : ℕ) (j : EngineState) (t : Timeout) → due_first time j.timeouts.live ≡ Some t → (expired_next time j).timeouts.live ≡ due_rest time j.timeouts.live
 live-next time j t is =
     ap (λ (o : Option Timeout). (option_map_or (λ (t : Timeout). submitted (record j { timeouts = drop_due j.timeouts time }) t.item (answer_of j None t.item (Some t.queue))) o j).timeouts.live) is
-    ∙ ap (λ (ts : Timeouts). ts.live) (timeouts-submitted (record j { timeouts = drop_due j.timeouts time }) t.item (answer_of j None t.item (Some t.queue)))
+    ∙ ap (λ (ts : Timeouts). ts.live) (submitted-same (λ (i : EngineState). i.timeouts) (record j { timeouts = drop_due j.timeouts time }) t.item (answer_of j None t.item (Some t.queue)) (λ queue. refl))
 
-live-expired : (n time : ℕ) (k : Kept) → Ascends (λ t. t.deadline) k.timeouts.live → n ≤ length (filter (is_due time) k.timeouts.live) → (expired n time k).timeouts.live ≡ drop n k.timeouts.live
+live-expired : (n time : ℕ) (k : EngineState) → Ascends (λ t. t.deadline) k.timeouts.live → n ≤ length (filter (is_due time) k.timeouts.live) → (expired n time k).timeouts.live ≡ drop n k.timeouts.live
 live-expired zero time k ascends most = refl
 live-expired (suc n) time k ascends most =
     let d : Timeout = record { item = 0; queue = 0; deadline = 0 } in
@@ -217,19 +171,19 @@ live-expired (suc n) time k ascends most =
     live-next time (expired n time k) (get_or k.timeouts.live n d) (ap (due_first time) so_far ∙ it.0) ∙ ap (due_rest time) so_far ∙ it.1
 
 -- one more of them is due
-pub next-due : (n time : ℕ) (k : Kept) → Ascends (λ t. t.deadline) k.timeouts.live → n < length (filter (is_due time) k.timeouts.live) → is_some (due_first time (expired n time k).timeouts.live) ≡ true
+pub next-due : (n time : ℕ) (k : EngineState) → Ascends (λ t. t.deadline) k.timeouts.live → n < length (filter (is_due time) k.timeouts.live) → is_some (due_first time (expired n time k).timeouts.live) ≡ true
 next-due n time k ascends within =
     let d : Timeout = record { item = 0; queue = 0; deadline = 0 } in
     ap is_some (ap (due_first time) (live-expired n time k ascends (omega arith)) ∙ (first-due time k.timeouts.live n d ascends within).0)
 
 -- and is told
-pub told-more : (n time : ℕ) (k j : Kept) (one new : List Expiry) (x : Expiry) → j ≡ expired n time k → one ≡ told n time k → Some x ≡ option_map (expiry_of j) (due_first time j.timeouts.live) → new ≡ one ++ option_to_list (Some x) → new ≡ told (n + 1) time k
+pub told-more : (n time : ℕ) (k j : EngineState) (one new : List Expiry) (x : Expiry) → j ≡ expired n time k → one ≡ told n time k → Some x ≡ option_map (expiry_of j) (due_first time j.timeouts.live) → new ≡ one ++ option_to_list (Some x) → new ≡ told (n + 1) time k
 told-more n time k j one new x j_is one_is x_is new_is =
     let suc_is : n + 1 ≡ suc n = omega arith in
     new_is ∙ ap (λ (l : List Expiry). l ++ option_to_list (Some x)) one_is ∙ ap (λ (o : Option Expiry). told n time k ++ option_to_list o) x_is
-    ∙ ap (λ (i : Kept). told n time k ++ option_to_list (option_map (expiry_of i) (due_first time i.timeouts.live))) j_is ∙ sym (ap (λ m. told m time k) suc_is)
+    ∙ ap (λ (i : EngineState). told n time k ++ option_to_list (option_map (expiry_of i) (due_first time i.timeouts.live))) j_is ∙ sym (ap (λ m. told m time k) suc_is)
 
-pub expired-more_next : (n time : ℕ) (k j new : Kept) → j ≡ expired n time k → new ≡ expired_next time j → new ≡ expired (n + 1) time k
+pub expired-more_next : (n time : ℕ) (k j new : EngineState) → j ≡ expired n time k → new ≡ expired_next time j → new ≡ expired (n + 1) time k
 expired-more_next n time k j new j_is new_is =
     let suc_is : n + 1 ≡ suc n = omega arith in
     new_is ∙ ap (expired_next time) j_is ∙ sym (ap (λ m. expired m time k) suc_is)

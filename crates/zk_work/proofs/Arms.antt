@@ -9,11 +9,11 @@ use Rattle.zk_base.proofs.Order.{by_key-snoc, by_key-ascending, map-by_key, filt
 use Rattle.zk_model_work.specs.declared.parts.Fate.TheVariants.{Live, Expired, Disarmed}
 use Rattle.zk_model_work.specs.declared.parts.Arm.{Arm}
 use Rattle.zk_model_work.specs.Questions.{is_live, arms_item, armed, live_arm, due}
-use Rattle.zk_model_work.specs.Questions as model
 use Rattle.zk_model_work.specs.Machine.{disarm, expire}
+use Rattle.zk_model_work.specs.Questions as model
 use Rattle.zk_time.specs.declared.timeout.Timeout.{Timeout}
 use Rattle.zk_time.specs.Timeouts.{is_of, is_due, due_first, due_rest, Differ}
-use Rattle.zk_work.specs.Kept.{timeout_of, live_of, timeouts_of}
+use Rattle.zk_work.specs.EngineState.{timeout_of, live_of, timeouts_of}
 
 deadline_of : Timeout → ℕ
 deadline_of t = t.deadline

@@ -3,7 +3,7 @@ use Rattle.std.proofs.Common.{◌≡◌, ℕ, ◌+◌, ◌-◌, ◌^◌, ◌<◌
 use Rattle.std.specs.Cmp.{first_so, second_so}
 use Rattle.std.specs.List.{position, list_any}
 use Rattle.std.specs.Option.{option_map_or, option_or}
-use Rattle.std.proofs.lemmas.Bool.{eqb-true, eq-eqb, false≢true}
+use Rattle.std.proofs.lemmas.Bool.{eqb-true, eq-eqb, false≢true, and_from}
 use Rattle.std.proofs.lemmas.List.Elements.{All-head, All-tail, All-cons, All-nil}
 use Rattle.std.proofs.lemmas.Option.{same_Some}
 use Rattle.zk_base.specs.declared.ids.Who.{Who}
@@ -16,20 +16,22 @@ use Rattle.zk_model_work.specs.declared.parts.Awaited.TheVariants.{Cancel, Flush
 use Rattle.zk_model_work.specs.declared.parts.Closing.{Closing}
 use Rattle.zk_model_work.specs.declared.parts.Closing.TheVariants as closings
 use Rattle.zk_model_work.specs.declared.parts.Wait.{Wait}
-use Rattle.zk_model_work.specs.Questions.{is_waiting, is_running, is_open, is_ended, waits_as, runs_as, is_open_as, waiting, running, armed, is_cancelling, is_flushing, flushes, passes_at, weight}
+use Rattle.zk_model_work.specs.declared.parts.Item.{Item}
+use Rattle.zk_model_work.specs.Questions.{is_waiting, is_running, is_open, is_ended, waits_as, runs_as, is_open_as, waiting, running, armed, is_flushing, flushes, passes_at, item_of as machine_item}
+use Rattle.zk_model_work.specs.Answers.{flushed, wait_for, is_unanswered, closes, flags, comes}
+use Rattle.zk_model_work.specs.Machine.{flags_of, has_come, may_close, answer_where, answer_one, answered_waits}
 use Rattle.zk_model_work.specs.State.{State}
-use Rattle.zk_model_work.specs.Machine.{flags_of, flushed, wait_for, has_come, is_unanswered, closes, may_close, answer_where, answer_one, answered_waits}
 use Rattle.zk_model_work.proofs.Overlaps.{position-none}
 use Rattle.zk_time.specs.Timeouts.{is_of, is_armed}
 use Rattle.zk_queue.specs.Open as active
-use Rattle.zk_work.specs.Kept.{Kept, StandsFor, unanswered, is_there, is_begun}
+use Rattle.zk_work.specs.EngineState.{EngineState, StandsFor, unanswered, is_there, is_begun}
 use Rattle.zk_work.specs.Engine as engine
 use Rattle.zk_work.specs.Engine.{is_number, settled, cancelled, left_waits}
-use Rattle.zk_work.proofs.Numbers.{agree, both, IsAt, is_at, one-place, one-run, waiting-same, running-same, open-same}
-use Rattle.zk_work.proofs.Replies.{is_queued, runs_item, cancels}
-use Rattle.zk_work.proofs.There.{AllThere}
+use Rattle.zk_work.proofs.Numbers.{agree, IsAt, is_at, one-place, one-run, waiting-same, running-same, open-same}
+use Rattle.zk_work.proofs.Replies.{item-same}
+use Rattle.zk_work.proofs.Awaited.{AllThere}
 use Rattle.zk_work.proofs.Arms.{armed-same}
-use Rattle.zk_work.proofs.Standing.{counted-stands}
+use Rattle.zk_work.proofs.Beside.{counted-stands, waits-stand}
 
 or-parts : (b c : Bool) → (b || c) ≡ true → (b ≡ false) → c ≡ true
 or-parts true c is none = absurd (cc)
@@ -44,7 +46,7 @@ open_as : (p : Admission → Bool) (item n : ℕ) (xs : List Admission) → ((a 
 open_as p item n xs opens at = ap (λ (o : Option Admission). option_map_or (is_open_as item) o false) at.there ∙ opens at.admission at.passes
 
 waits-open : (item : ℕ) (a : Admission) → waits_as item a ≡ true → is_open_as item a ≡ true
-waits-open item a is = both (eqb a.item item) (is_open a.life) (first_so (eqb a.item item) (is_waiting a.life) is) (by a.life (second_so (eqb a.item item) (is_waiting a.life) is)) where
+waits-open item a is = and_from (eqb a.item item) (is_open a.life) (first_so (eqb a.item item) (is_waiting a.life) is) (by a.life (second_so (eqb a.item item) (is_waiting a.life) is)) where
   by : (life : Life) → is_waiting life ≡ true → is_open life ≡ true
   by Waiting w = refl
   by Running w = absurd (cc)
@@ -52,7 +54,7 @@ waits-open item a is = both (eqb a.item item) (is_open a.life) (first_so (eqb a.
   by Dropped w = absurd (cc)
 
 runs-open_as : (item : ℕ) (a : Admission) → runs_as item a ≡ true → is_open_as item a ≡ true
-runs-open_as item a is = both (eqb a.item item) (is_open a.life) (first_so (eqb a.item item) (is_running a.life) is) (by a.life (second_so (eqb a.item item) (is_running a.life) is)) where
+runs-open_as item a is = and_from (eqb a.item item) (is_open a.life) (first_so (eqb a.item item) (is_running a.life) is) (by a.life (second_so (eqb a.item item) (is_running a.life) is)) where
   by : (life : Life) → is_running life ≡ true → is_open life ≡ true
   by Waiting w = absurd (cc)
   by Running w = refl
@@ -66,14 +68,14 @@ position-is p xs n a only at passes = by (position p xs) refl where
   by None is = absurd (false≢true (sym (position-none p xs n a is at) ∙ passes))
   by (Some m) is = let it = is_at p xs m is in is ∙ ap (λ (k : ℕ). Some k) (sym (only m it.admission it.there it.passes))
 
-module _ (k : Kept) (s : State) (st : StandsFor k s) where
+module _ (k : EngineState) (s : State) (st : StandsFor k s) where
   waits_by : (item : ℕ) → active.waiting k.active item ≡ waiting s.admissions item
-  waits_by item = waiting-same k.active s.admissions st.lines st.runs item (st.sound.once item)
+  waits_by item = waiting-same k.active s.admissions st.admissions.lines st.admissions.runs item (st.admissions.sound.once item)
 
   pub runs_by : (item : ℕ) → active.running k.active item ≡ running s.admissions item
-  runs_by item = running-same k.active s.admissions st.lines st.runs st.sound.home item
+  runs_by item = running-same k.active s.admissions st.admissions.lines st.admissions.runs st.admissions.sound.home item
 
-  pub flushed-same : (item : ℕ) → engine.flushed k.active item ≡ flushed s.admissions item
+  pub flushed-same : (item : ℕ) → engine.flushed_of k.active item ≡ flushed (waiting s.admissions item) (running s.admissions item)
   flushed-same item =
       ap (λ (o : Option ℕ). option_or o (active.running k.active item)) (waits_by item) ∙ ap (option_or (waiting s.admissions item)) (runs_by item)
 
@@ -91,12 +93,12 @@ module _ (k : Kept) (s : State) (st : StandsFor k s) where
 
     by_life : (a : Admission) (life : Life) → slice_get xs n ≡ Some a → a.life ≡ life → eqb a.item item ≡ true → is_open life ≡ true → (is_number n (waiting xs item) || is_number n (running xs item)) ≡ true
     by_life a Waiting at is of opens =
-        let passes = both (eqb a.item item) (is_waiting a.life) of (ap is_waiting is) in
-        let place = position-is (waits_as item) xs n a (λ m b to passes_too. one-place (waits_as item) xs n m a b (st.sound.once item) at to passes passes_too) at passes in
+        let passes = and_from (eqb a.item item) (is_waiting a.life) of (ap is_waiting is) in
+        let place = position-is (waits_as item) xs n a (λ m b to passes_too. one-place (waits_as item) xs n m a b (st.admissions.sound.once item) at to passes passes_too) at passes in
         ap (λ (o : Option ℕ). is_number n o || is_number n (running xs item)) place ∙ ap (λ b. b || is_number n (running xs item)) (eq-eqb n n refl)
     by_life a Running at is of opens =
-        let passes = both (eqb a.item item) (is_running a.life) of (ap is_running is) in
-        let place = position-is (runs_as item) xs n a (λ m b to passes_too. one-run k.active xs st.lines st.runs st.sound.home item n m a b at to passes passes_too) at passes in
+        let passes = and_from (eqb a.item item) (is_running a.life) of (ap is_running is) in
+        let place = position-is (runs_as item) xs n a (λ m b to passes_too. one-run k.active xs st.admissions.lines st.admissions.runs st.admissions.sound.home item n m a b at to passes passes_too) at passes in
         ap (λ (o : Option ℕ). is_number n (waiting xs item) || is_number n o) place ∙ second (is_number n (waiting xs item)) (eqb n n) (eq-eqb n n refl) where
           second : (b c : Bool) → c ≡ true → (b || c) ≡ true
           second true c is = refl
@@ -143,22 +145,17 @@ module _ (k : Kept) (s : State) (st : StandsFor k s) where
   flushing-same item =
       ap (λ (o : Option ℕ). list_any (λ w. engine.flushes o (active.running k.active item) w.awaited) k.waits) (waits_by item)
       ∙ ap (λ (o : Option ℕ). list_any (λ w. engine.flushes (waiting s.admissions item) o w.awaited) k.waits) (runs_by item)
-      ∙ ap (list_any (λ w. engine.flushes (waiting s.admissions item) (running s.admissions item) w.awaited)) st.waits
-      ∙ flushing-any item s.waits st.there
+      ∙ ap (list_any (λ w. engine.flushes (waiting s.admissions item) (running s.admissions item) w.awaited)) st.waits.left
+      ∙ flushing-any item s.waits st.waits.there
 
   -- the busy flags
   pub flags-same : (item : ℕ) → engine.flags_of k item ≡ flags_of s item
   flags-same item =
-      let m = active.marks_of k.active item in
       let held = is_armed k.timeouts item in
       let is_delayed : held ≡ is_some (armed s.arms item) = ap (list_any (is_of item)) st.arms ∙ armed-same s.arms item in
-      let five : Bool → Bool → Bool → Bool → Bool → ℕ = λ a b c d e. weight 1 a + weight 2 b + weight 4 c + weight 8 d + weight 16 e in
-      let f = engine.is_flushing k.active k.waits item in
-      ap (λ a. five a m.cancelling (active.is_queued k.active item) held f) (runs_item k s st item)
-      ∙ ap (λ b. five (is_some (running s.admissions item)) b (active.is_queued k.active item) held f) (cancels k s st item)
-      ∙ ap (λ c. five (is_some (running s.admissions item)) (is_cancelling s.admissions s.marks item) c held f) (is_queued k s st item)
-      ∙ ap (λ d. five (is_some (running s.admissions item)) (is_cancelling s.admissions s.marks item) (is_some (waiting s.admissions item)) d f) is_delayed
-      ∙ ap (five (is_some (running s.admissions item)) (is_cancelling s.admissions s.marks item) (is_some (waiting s.admissions item)) (is_some (armed s.arms item))) (flushing-same item)
+      ap (λ (i : Item). flags i held (engine.is_flushing k.active k.waits item)) (item-same k s st item)
+      ∙ ap (λ b. flags (machine_item s.admissions s.marks item) b (engine.is_flushing k.active k.waits item)) is_delayed
+      ∙ ap (flags (machine_item s.admissions s.marks item) (is_some (armed s.arms item))) (flushing-same item)
 
   -- what is awaited has come
   over-begun : (n : ℕ) (o : Option Admission) → option_map_or (λ (a : Admission). is_begun a.life) o false ≡ true → not (option_map_or (λ (a : Admission). is_open a.life) o false) ≡ option_map_or (λ (a : Admission). is_ended a.life) o false
@@ -176,11 +173,11 @@ module _ (k : Kept) (s : State) (st : StandsFor k s) where
 
   come-same : (closing : Closing) (awaited : Awaited) (answered : Bool) → is_there s.admissions awaited answered ≡ true →
       engine.has_come k.active k.queues closing awaited ≡ has_come s.admissions s.queues closing awaited
-  come-same closings.Cancel (Cancel n) answered is = ap not (open-same k.active s.admissions st.lines st.runs n) ∙ over-begun n (slice_get s.admissions n) is
+  come-same closings.Cancel (Cancel n) answered is = ap not (open-same k.active s.admissions st.admissions.lines st.admissions.runs n) ∙ over-begun n (slice_get s.admissions n) is
   come-same closings.Cancel (Flush n) answered is = refl
   come-same closings.Cancel (Drain queue count) answered is = refl
   come-same closings.Flush (Cancel n) answered is = refl
-  come-same closings.Flush (Flush n) answered is = ap not (open-same k.active s.admissions st.lines st.runs n) ∙ over-made answered (slice_get s.admissions n) is
+  come-same closings.Flush (Flush n) answered is = ap not (open-same k.active s.admissions st.admissions.lines st.admissions.runs n) ∙ over-made answered (slice_get s.admissions n) is
   come-same closings.Flush (Drain queue count) answered is = refl
   come-same closings.Drain (Cancel n) answered is = refl
   come-same closings.Drain (Flush n) answered is = refl
@@ -188,16 +185,16 @@ module _ (k : Kept) (s : State) (st : StandsFor k s) where
 
   module _ (closing : Closing) (who : Who) (place : ℕ) where
     mine : Wait → Bool
-    mine w = engine.closes k.active k.queues closing who place w
+    mine w = closes (engine.has_come k.active k.queues closing) who place w
 
     its : Wait → Bool
-    its w = closes s.admissions s.queues closing who place w
+    its w = closes (has_come s.admissions s.queues closing) who place w
 
-    closes-same : (w : Wait) → is_there s.admissions w.awaited w.answered ≡ true → engine.closes k.active k.queues closing who place w ≡ closes s.admissions s.queues closing who place w
+    closes-same : (w : Wait) → is_there s.admissions w.awaited w.answered ≡ true → closes (engine.has_come k.active k.queues closing) who place w ≡ closes (has_come s.admissions s.queues closing) who place w
     closes-same w is = ap (λ b. is_unanswered place who.number w && b) (come-same closing w.awaited w.answered is)
 
     -- an answered wait is ended by nothing
-    not-again : (w : Wait) → w.answered ≡ true → closes s.admissions s.queues closing who place w ≡ false
+    not-again : (w : Wait) → w.answered ≡ true → closes (has_come s.admissions s.queues closing) who place w ≡ false
     not-again w is =
         ap (λ b. ((w.place == place) && (w.player == who.number) && not b) && has_come s.admissions s.queues closing w.awaited) is
         ∙ by ((w.place == place) && (w.player == who.number)) (has_come s.admissions s.queues closing w.awaited) where
@@ -205,36 +202,36 @@ module _ (k : Kept) (s : State) (st : StandsFor k s) where
           by true c = refl
           by false c = refl
 
-    closed-any : (ws : List Wait) → AllThere s.admissions ws → list_any (engine.closes k.active k.queues closing who place) (unanswered ws) ≡ list_any (closes s.admissions s.queues closing who place) ws
+    closed-any : (ws : List Wait) → AllThere s.admissions ws → list_any (closes (engine.has_come k.active k.queues closing) who place) (unanswered ws) ≡ list_any (closes (has_come s.admissions s.queues closing) who place) ws
     closed-any [] all = refl
     closed-any (w ∷ ws) all =
         let P : Wait → Type 0 = λ w. is_there s.admissions w.awaited w.answered ≡ true in
         by w.answered refl (closes-same w (All-head P w ws all)) (closed-any ws (All-tail P w ws all)) where
-          by : (b : Bool) → w.answered ≡ b → engine.closes k.active k.queues closing who place w ≡ closes s.admissions s.queues closing who place w →
-              list_any (engine.closes k.active k.queues closing who place) (unanswered ws) ≡ list_any (closes s.admissions s.queues closing who place) ws →
-              list_any (engine.closes k.active k.queues closing who place) (cond (not b) (w ∷ unanswered ws) (unanswered ws))
-              ≡ (closes s.admissions s.queues closing who place w || list_any (closes s.admissions s.queues closing who place) ws)
-          by true is same rest = rest ∙ sym (ap (λ b. b || list_any (closes s.admissions s.queues closing who place) ws) (not-again w is))
+          by : (b : Bool) → w.answered ≡ b → closes (engine.has_come k.active k.queues closing) who place w ≡ closes (has_come s.admissions s.queues closing) who place w →
+              list_any (closes (engine.has_come k.active k.queues closing) who place) (unanswered ws) ≡ list_any (closes (has_come s.admissions s.queues closing) who place) ws →
+              list_any (closes (engine.has_come k.active k.queues closing) who place) (cond (not b) (w ∷ unanswered ws) (unanswered ws))
+              ≡ (closes (has_come s.admissions s.queues closing) who place w || list_any (closes (has_come s.admissions s.queues closing) who place) ws)
+          by true is same rest = rest ∙ sym (ap (λ b. b || list_any (closes (has_come s.admissions s.queues closing) who place) ws) (not-again w is))
           by false is same rest =
-              ap (λ b. b || list_any (engine.closes k.active k.queues closing who place) (unanswered ws)) same ∙ ap (λ b. closes s.admissions s.queues closing who place w || b) rest
+              ap (λ b. b || list_any (closes (engine.has_come k.active k.queues closing) who place) (unanswered ws)) same ∙ ap (λ b. closes (has_come s.admissions s.queues closing) who place w || b) rest
 
     -- whether a wait may end
     pub may_close-same : engine.may_close k closing who place ≡ may_close s closing who place
-    may_close-same = ap (list_any (engine.closes k.active k.queues closing who place)) st.waits ∙ closed-any s.waits st.there
+    may_close-same = ap (list_any (closes (engine.has_come k.active k.queues closing) who place)) st.waits.left ∙ closed-any s.waits st.waits.there
 
     -- the waits that are left
     left-same : (ws : List Wait) → AllThere s.admissions ws → left_waits k.active k.queues (unanswered ws) closing who place ≡ unanswered (map (answer_one s.admissions s.queues closing who place) ws)
     left-same [] all = refl
     left-same (w ∷ ws) all =
         let P : Wait → Type 0 = λ w. is_there s.admissions w.awaited w.answered ≡ true in
-        by w.answered (closes s.admissions s.queues closing who place w) refl refl (closes-same w (All-head P w ws all)) (left-same ws (All-tail P w ws all)) where
+        by w.answered (closes (has_come s.admissions s.queues closing) who place w) refl refl (closes-same w (All-head P w ws all)) (left-same ws (All-tail P w ws all)) where
           rest : List Wait
           rest = unanswered ws
 
           after : List Wait
           after = unanswered (map (answer_one s.admissions s.queues closing who place) ws)
 
-          by : (b c : Bool) → w.answered ≡ b → closes s.admissions s.queues closing who place w ≡ c → engine.closes k.active k.queues closing who place w ≡ closes s.admissions s.queues closing who place w →
+          by : (b c : Bool) → w.answered ≡ b → closes (has_come s.admissions s.queues closing) who place w ≡ c → closes (engine.has_come k.active k.queues closing) who place w ≡ closes (has_come s.admissions s.queues closing) who place w →
               left_waits k.active k.queues rest closing who place ≡ after →
               left_waits k.active k.queues (cond (not b) (w ∷ rest) rest) closing who place ≡ cond (not (answer_where c w).answered) (answer_where c w ∷ after) after
           by true true is ends same left = left
@@ -251,7 +248,7 @@ module _ (k : Kept) (s : State) (st : StandsFor k s) where
     there-closed (w ∷ ws) all =
         let P : Wait → Type 0 = λ w. is_there s.admissions w.awaited w.answered ≡ true in
         All-cons P (answer_one s.admissions s.queues closing who place w) (map (answer_one s.admissions s.queues closing who place) ws)
-        (by (closes s.admissions s.queues closing who place w) refl (All-head P w ws all)) (there-closed ws (All-tail P w ws all)) where
+        (by (closes (has_come s.admissions s.queues closing) who place w) refl (All-head P w ws all)) (there-closed ws (All-tail P w ws all)) where
           come : (closing : Closing) (awaited : Awaited) (answered : Bool) → has_come s.admissions s.queues closing awaited ≡ true → is_there s.admissions awaited answered ≡ true → is_there s.admissions awaited true ≡ true
           come closing (Cancel n) answered comes is = is
           come closing (Drain queue count) answered comes is = refl
@@ -259,7 +256,7 @@ module _ (k : Kept) (s : State) (st : StandsFor k s) where
           come closings.Cancel (Flush n) answered comes is = absurd (cc)
           come closings.Drain (Flush n) answered comes is = absurd (cc)
 
-          by : (c : Bool) → closes s.admissions s.queues closing who place w ≡ c → is_there s.admissions w.awaited w.answered ≡ true → is_there s.admissions (answer_where c w).awaited (answer_where c w).answered ≡ true
+          by : (c : Bool) → closes (has_come s.admissions s.queues closing) who place w ≡ c → is_there s.admissions w.awaited w.answered ≡ true → is_there s.admissions (answer_where c w).awaited (answer_where c w).answered ≡ true
           by true ends is = come closing w.awaited w.answered (second_so (is_unanswered place who.number w) (has_come s.admissions s.queues closing w.awaited) ends) is
           by false ends is = is
 
@@ -267,37 +264,9 @@ module _ (k : Kept) (s : State) (st : StandsFor k s) where
     pub closed-stands : s.entries < 2 ^ 32 - 1 → StandsFor (record (engine.closed k closing who place) { entries = k.entries + 1 }) (record s { waits = answered_waits s closing who place; entries = s.entries + 1 })
     closed-stands few =
         let one = counted-stands k s st few in
-        let wh = one.whole in
-        record {
-          whole = record {
-            counted = wh.counted;
-            timed = wh.timed;
-            fewer = wh.fewer;
-            fewest = wh.fewest;
-            items = wh.items;
-            armed = wh.armed;
-            ordered = wh.ordered;
-            queues = wh.queues;
-            shaped = wh.shaped;
-            above = wh.above;
-            busy = wh.busy;
-            known = wh.known;
-          };
-          time = st.time;
-          entries = one.entries;
-          items = st.items;
-          queues = st.queues;
-          arms = st.arms;
-          waits = ap (λ (ws : List Wait). left_waits k.active k.queues ws closing who place) st.waits ∙ left-same s.waits st.there;
-          there = there-closed s.waits st.there;
-          made = st.made;
-          running = st.running;
-          last = st.last;
-          lines = st.lines;
-          runs = st.runs;
-          marks = st.marks;
-          sound = st.sound;
-        }
+        waits-stand _ _ (left_waits k.active k.queues k.waits closing who place) (answered_waits s closing who place) one
+        (ap (λ (ws : List Wait). left_waits k.active k.queues ws closing who place) st.waits.left ∙ left-same s.waits st.waits.there)
+        (there-closed s.waits st.waits.there)
 
   -- a wait that is new
   pub new-wait : (place : ℕ) (who : Who) (f : ℕ → Awaited) (o : Option ℕ) (w : Wait) → option_map (λ number. wait_for place who (f number)) o ≡ Some w → (n : ℕ) × (o ≡ Some n) × (wait_for place who (f n) ≡ w)

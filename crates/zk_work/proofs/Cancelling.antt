@@ -3,7 +3,7 @@ use Rattle.std.proofs.Common.{◌≡◌, ℕ, zero, suc, ◌≢◌, Bool, true, 
 use Rattle.std.specs.Cmp.{first_so, second_so}
 use Rattle.std.specs.List.{list_any}
 use Rattle.std.specs.Option.{option_map_or}
-use Rattle.std.proofs.lemmas.Bool.{eqb-true, false≢true}
+use Rattle.std.proofs.lemmas.Bool.{eqb-true, false≢true, and_right}
 use Rattle.std.proofs.lemmas.List.Elements.{All-head, All-tail, All-nil, All-cons, All-append}
 use Rattle.std.proofs.lemmas.List.Folds.{list_any-append, list_any_none}
 use Rattle.std.proofs.lemmas.List.Quantifiers.{position-Some}
@@ -14,7 +14,7 @@ use Rattle.zk_model_work.specs.declared.parts.Admission.{Admission}
 use Rattle.zk_model_work.specs.Questions.{is_waiting, is_running, waits_as, runs_as, runs_on, running, passes_at, is_cancelling}
 use Rattle.zk_model_work.specs.Machine.{with_life, set_life, drop_one, end_one}
 use Rattle.zk_model_work.proofs.Lives.{set_life-aside}
-use Rattle.zk_work.specs.Kept.{is_past_waiting}
+use Rattle.zk_work.specs.EngineState.{is_past_waiting}
 use Rattle.zk_work.proofs.Changes.{runs_as-drop}
 
 -- tests of an admission by its number
@@ -73,16 +73,12 @@ any-same f g (m ∷ ms) same = ap (λ b. b || list_any f ms) (same m) ∙ ap (λ
 All-map : (P Q : ℕ → Type 0) (ms : List ℕ) → ((m : ℕ) → P m → Q m) → All P ms → All Q ms
 All-map P Q ms each all k d within = each (get_or ms k d) (all k d within)
 
-second_false : (b : Bool) → (b && false) ≡ false
-second_false true = refl
-second_false false = refl
-
 -- a new admission is cancelled by no mark
 pub cancelling-push : (xs : List Admission) (marks : List ℕ) (item queue other : ℕ) →
     is_cancelling (xs ++ record { item = item; queue = queue; life = Waiting } ∷ []) marks other ≡ is_cancelling xs marks other
 cancelling-push xs marks item queue other =
     let a : Admission = record { item = item; queue = queue; life = Waiting } in
-    any-same (passes_at (runs_as other) (xs ++ a ∷ [])) (passes_at (runs_as other) xs) marks (λ m. passes-push (runs_as other) xs a m (second_false (item == other)))
+    any-same (passes_at (runs_as other) (xs ++ a ∷ [])) (passes_at (runs_as other) xs) marks (λ m. passes-push (runs_as other) xs a m (and_right (item == other) false refl))
 
 -- what is taken up wasn't marked
 pub cancelling-begin : (xs : List Admission) (marks : List ℕ) (n other : ℕ) (a : Admission) → slice_get xs n ≡ Some a → is_waiting a.life ≡ true → All (λ m. is_past_waiting xs m ≡ true) marks →

@@ -11,61 +11,26 @@ use Rattle.zk_model_work.specs.declared.parts.Arm.{Arm}
 use Rattle.zk_model_work.specs.declared.parts.Wait.{Wait}
 use Rattle.zk_model_work.specs.declared.parts.Awaited.TheVariants.{Cancel, Flush}
 use Rattle.zk_model_work.specs.declared.ops.Submitted.{Submitted}
-use Rattle.zk_model_work.specs.Questions.{running, live_arm, due}
+use Rattle.zk_model_work.specs.declared.parts.Item.{Item}
+use Rattle.zk_model_work.specs.Questions.{running, live_arm, item_of as machine_item, deadline_of as machine_deadline, armed}
+use Rattle.zk_model_work.specs.Answers.{submission, admitted_to, is_pending, flush_wait, cancel_wait, delay_reply, remaining}
+use Rattle.zk_model_work.specs.Machine.{submit, submit_arms, arm, disarm, delayed, hurried, flush_start, cancel, cancel_start, drop_one, awaiting, is_pending_in, delay_reply_in, flushed_of}
 use Rattle.zk_model_work.specs.State.{State, IsTimed}
-use Rattle.zk_model_work.specs.Machine.{submission, submit, submit_arms, expiries, admitted_to, arm, disarm, expire, delayed, is_pending, hurried, flushed, flush_start, flush_wait, cancel, cancel_start, cancel_wait, drop_one, wait_for, awaiting, announce}
 use Rattle.zk_model_work.proofs.Overlaps.{submission-admits, submission-within}
 use Rattle.zk_queue.specs.Open as active
 use Rattle.zk_time.specs.declared.timeout.Timeout.{Timeout}
 use Rattle.zk_time.specs.Timeouts.{Timeouts, is_of, is_due, is_armed, deadline_of, queue_of, count_due, due_first, due_rest, drop_due, IsOrdered}
 use Rattle.zk_time.specs.Timeouts as timeouts
 use Rattle.zk_time.proofs.Orders.{IsOrdered-arm, IsOrdered-disarm, IsOrdered-due}
-use Rattle.zk_work.specs.Kept.{Kept, IsWhole, StandsFor, is_there, timeout_of, timeouts_of}
+use Rattle.zk_work.specs.EngineState.{EngineState, IsWhole, StandsFor, is_there, timeout_of, timeouts_of}
 use Rattle.zk_work.specs.Engine as engine
 use Rattle.zk_work.specs.Engine.{answer_of, admitted, submitted, disarmed, settled, cancelled, expired_next, expired, told, expiry_of}
 use Rattle.zk_work.proofs.Arms.{timeouts-arm, timeouts-disarm, armed-same, found-same}
-use Rattle.zk_work.proofs.Replies.{answer-same, is_queued, cancels}
-use Rattle.zk_work.proofs.There.{Later-drop, found-begun, found-made}
+use Rattle.zk_work.proofs.Replies.{item-same, answer-same}
+use Rattle.zk_work.proofs.Awaited.{Later-drop, found-begun, found-made}
 use Rattle.zk_work.proofs.Awaiting.{runs_by, flushed-same, new-wait}
-use Rattle.zk_work.proofs.Standing.{admitted-stands, admitted-whole, counted-stands, waits-stand, cancel-stands}
-
--- another timeout list, and the arms that it keeps
-
--- the same but for what is armed
-pub rearmed : (k : Kept) (s : State) (t : Timeouts) (arms : List Arm) → StandsFor k s → t.items ≡ k.active.items → IsOrdered t → k.made + length t.live ≤ k.entries → t.live ≡ timeouts_of arms →
-    StandsFor (record k { timeouts = t }) (record s { arms = arms })
-rearmed k s t arms st items ordered fewer same =
-    let w = st.whole in
-    record {
-      whole = record {
-        counted = w.counted;
-        timed = w.timed;
-        fewer = fewer;
-        fewest = w.fewest;
-        items = w.items;
-        armed = items;
-        ordered = ordered;
-        queues = w.queues;
-        shaped = w.shaped;
-        above = w.above;
-        busy = w.busy;
-        known = w.known;
-      };
-      time = st.time;
-      entries = st.entries;
-      items = st.items;
-      queues = st.queues;
-      arms = same;
-      waits = st.waits;
-      there = st.there;
-      made = st.made;
-      running = st.running;
-      last = st.last;
-      lines = st.lines;
-      runs = st.runs;
-      marks = st.marks;
-      sound = st.sound;
-    }
+use Rattle.zk_work.proofs.Beside.{submitted-same, entries-later, whole-beside, counted-stands, wait-stands, rearmed}
+use Rattle.zk_work.proofs.Admissions.{admitted-stands, admitted-whole, cancel-stands}
 
 fewer-filter : (p : Timeout → Bool) (ts : List Timeout) → length (filter p ts) ≤ length ts
 fewer-filter p ts =
@@ -74,7 +39,7 @@ fewer-filter p ts =
     omega arith
 
 -- an item is disarmed
-pub disarmed-stands : (k : Kept) (s : State) (item : ℕ) → StandsFor k s → StandsFor (disarmed k item) (record s { arms = disarm s.arms item })
+pub disarmed-stands : (k : EngineState) (s : State) (item : ℕ) → StandsFor k s → StandsFor (disarmed k item) (record s { arms = disarm s.arms item })
 disarmed-stands k s item st =
     let fewer = st.whole.fewer in
     let less = fewer-filter (λ (t : Timeout). not (is_of item t)) k.timeouts.live in
@@ -95,12 +60,12 @@ disarmed-free t item = none t.live where
     by false is so = ap (λ c. list_any (is_of item) (cond (not c) (a ∷ rest) rest)) is ∙ ap (λ c. c || list_any (is_of item) rest) is ∙ so
 
 -- an item is armed
-pub armed-stands : (k : Kept) (s : State) (item queue delay : ℕ) → StandsFor k s → item < s.items → is_armed k.timeouts item ≡ false → k.time + delay < 2 ^ 64 → k.made + length k.timeouts.live < k.entries →
+pub armed-stands : (k : EngineState) (s : State) (item queue delay : ℕ) → StandsFor k s → item < s.items → is_armed k.timeouts item ≡ false → k.time + delay < 2 ^ 64 → k.made + length k.timeouts.live < k.entries →
     StandsFor (record k { timeouts = timeouts.arm k.timeouts item queue (k.time + delay) }) (record s { arms = arm s.arms item queue (s.time + delay) })
 armed-stands k s item queue delay st item_in free fits room =
     let w = st.whole in
     let armed = w.armed in
-    let items = st.items in
+    let items = st.admissions.items in
     let long = length-put_by (λ (t : Timeout). t.deadline) (record { item = item; queue = queue; deadline = k.time + delay }) k.timeouts.live in
     rearmed k s (timeouts.arm k.timeouts item queue (k.time + delay)) (arm s.arms item queue (s.time + delay)) st w.armed
     (IsOrdered-arm k.timeouts item queue (k.time + delay) w.ordered (omega arith) free fits) (omega arith)
@@ -113,61 +78,69 @@ pub deadline-fits : (time entries delay : ℕ) → IsTimed time entries → entr
 deadline-fits time entries delay timed few short = let bound = timed.bound in omega arith
 
 -- a submission by a player or by nobody
-pub submit-stands : (k : Kept) (s : State) (caller : Option ℕ) (item : ℕ) (named : Option ℕ) → StandsFor k s → item < s.items → k.made + length k.timeouts.live < k.entries →
-    StandsFor (submitted k item (answer_of k caller item named)) (record s { admissions = submit s.admissions item (submission s.admissions s.marks s.queues caller item named) })
+pub submit-stands : (k : EngineState) (s : State) (caller : Option ℕ) (item : ℕ) (named : Option ℕ) → StandsFor k s → item < s.items → k.made + length k.timeouts.live < k.entries →
+    StandsFor (submitted k item (answer_of k caller item named)) (record s { admissions = submit s.admissions item (submission (machine_item s.admissions s.marks item) s.queues caller named) })
 submit-stands k s caller item named st item_in room =
-    subst (λ (a : Submitted). StandsFor (submitted k item a) (record s { admissions = submit s.admissions item (submission s.admissions s.marks s.queues caller item named) })) (sym (answer-same k s st caller item named)) (by (admitted_to answer) refl) where
+    subst (λ (a : Submitted). StandsFor (submitted k item a) (record s { admissions = submit s.admissions item (submission (machine_item s.admissions s.marks item) s.queues caller named) })) (sym (answer-same k s st caller item named)) (by (admitted_to answer) refl) where
       answer : Submitted
-      answer = submission s.admissions s.marks s.queues caller item named
+      answer = submission (machine_item s.admissions s.marks item) s.queues caller named
 
       by : (to : Option ℕ) → admitted_to answer ≡ to →
           StandsFor (option_map_or (admitted k item) to k) (record s { admissions = option_map_or (λ queue. s.admissions ++ record { item = item; queue = queue; life = Waiting } ∷ []) to s.admissions })
       by None is = st
       by (Some queue) is =
-          admitted-stands k s item queue named st (submission-admits s.admissions s.marks s.queues caller item named queue is) item_in
-          (submission-within s.admissions s.marks s.queues caller item named queue is) room
+          admitted-stands k s item queue named st (submission-admits (machine_item s.admissions s.marks item) s.queues caller named queue is) item_in
+          (submission-within (machine_item s.admissions s.marks item) s.queues caller named queue is) room
+
+-- whether the item is armed
+pub is_armed-same : (k : EngineState) (s : State) (item : ℕ) → StandsFor k s → is_armed k.timeouts item ≡ is_some (armed s.arms item)
+is_armed-same k s item st = ap (list_any (is_of item)) st.arms ∙ armed-same s.arms item
 
 -- the item is pending alike
-pub pending-same : (k : Kept) (s : State) (item : ℕ) → StandsFor k s → engine.is_pending k item ≡ is_pending s item
+pub pending-same : (k : EngineState) (s : State) (item : ℕ) → StandsFor k s → engine.is_pending_in k item ≡ is_pending_in s item
 pending-same k s item st =
-    ap (λ b. b || active.is_queued k.active item || (active.marks_of k.active item).cancelling) (ap (list_any (is_of item)) st.arms ∙ armed-same s.arms item)
-    ∙ ap (λ b. is_some (Rattle.zk_model_work.specs.Questions.armed s.arms item) || b || (active.marks_of k.active item).cancelling) (is_queued k s st item)
-    ∙ ap (λ b. is_some (Rattle.zk_model_work.specs.Questions.armed s.arms item) || is_some (Rattle.zk_model_work.specs.Questions.waiting s.admissions item) || b) (cancels k s st item)
+    ap (λ (i : Item). is_pending i (is_armed k.timeouts item)) (item-same k s st item)
+    ∙ ap (is_pending (machine_item s.admissions s.marks item)) (is_armed-same k s item st)
 
 -- an item that isn't armed is given a delay
-pub delayed-stands : (k : Kept) (s : State) (who : Who) (item queue delay : ℕ) → StandsFor k s → item < s.items → is_armed k.timeouts item ≡ false → k.time + delay < 2 ^ 64 → k.made + length k.timeouts.live < k.entries →
+pub delayed-stands : (k : EngineState) (s : State) (who : Who) (item queue delay : ℕ) → StandsFor k s → item < s.items → is_armed k.timeouts item ≡ false → k.time + delay < 2 ^ 64 → k.made + length k.timeouts.live < k.entries →
     StandsFor (engine.delayed k who item queue delay) (delayed s who item queue delay)
 delayed-stands k s who item queue delay st item_in free fits room = by (eqb delay 0) where
   by : (b : Bool) →
       StandsFor (cond b (submitted k item (answer_of k (Some who.number) item (Some queue))) (record k { timeouts = timeouts.arm k.timeouts item queue (k.time + delay) }))
-      (cond b (record s { admissions = submit s.admissions item (submission s.admissions s.marks s.queues (Some who.number) item (Some queue)) }) (record s { arms = arm s.arms item queue (s.time + delay) }))
+      (cond b (record s { admissions = submit s.admissions item (submission (machine_item s.admissions s.marks item) s.queues (Some who.number) (Some queue)) }) (record s { arms = arm s.arms item queue (s.time + delay) }))
   by true = submit-stands k s (Some who.number) item (Some queue) st item_in room
   by false = armed-stands k s item queue delay st item_in free fits room
 
 -- what it is answered
-pub delay_reply-same : (k : Kept) (s : State) (who : Who) (item queue delay : ℕ) → StandsFor k s → engine.delay_reply k who item queue delay ≡ Rattle.zk_model_work.specs.Machine.delay_reply s who item queue delay
+pub delay_reply-same : (k : EngineState) (s : State) (who : Who) (item queue delay : ℕ) → StandsFor k s →
+    engine.delay_reply_in k who item queue delay ≡ delay_reply_in s who item queue delay
 delay_reply-same k s who item queue delay st =
-    ap (λ (a : Submitted). cond (eqb delay 0) (Rattle.zk_model_work.specs.declared.ops.WorkReply.TheVariants.Sub a) Rattle.zk_model_work.specs.declared.ops.WorkReply.TheVariants.Armed) (answer-same k s st (Some who.number) item (Some queue))
+    ap (λ (a : Submitted). delay_reply a delay) (answer-same k s st (Some who.number) item (Some queue))
+
+-- the timeout of the item's live arm
+found-arm : (k : EngineState) (s : State) (item : ℕ) → StandsFor k s → find (is_of item) k.timeouts.live ≡ option_map timeout_of (live_arm s.arms item)
+found-arm k s item st =
+    ap (find (is_of item)) st.arms ∙ found-same s.arms item (subst (λ (ts : List Timeout). timeouts.Differ ts) st.arms st.whole.ordered.differ)
+
+-- what is kept of it
+kept-arm : (f : Timeout → ℕ) (o : Option Arm) → option_map f (option_map timeout_of o) ≡ option_map (λ (a : Arm). f (timeout_of a)) o
+kept-arm f None = refl
+kept-arm f (Some a) = refl
 
 -- the ticks that are left
-pub remaining-same : (k : Kept) (s : State) (item : ℕ) → StandsFor k s → option_map_or (λ deadline. deadline - k.time) (deadline_of k.timeouts item) 0 ≡ Rattle.zk_model_work.specs.Questions.remaining s.arms s.time item
+pub remaining-same : (k : EngineState) (s : State) (item : ℕ) → StandsFor k s →
+    remaining (deadline_of k.timeouts item) k.time ≡ remaining (machine_deadline s.arms item) s.time
 remaining-same k s item st =
-    ap (λ (o : Option Timeout). option_map_or (λ deadline. deadline - k.time) (option_map (λ (t : Timeout). t.deadline) o) 0) (found k s item st)
-    ∙ ap (λ n. option_map_or (λ deadline. deadline - n) (option_map (λ (t : Timeout). t.deadline) (option_map timeout_of (live_arm s.arms item))) 0) st.time ∙ by (live_arm s.arms item) where
-      found : (k : Kept) (s : State) (item : ℕ) → StandsFor k s → find (is_of item) k.timeouts.live ≡ option_map timeout_of (live_arm s.arms item)
-      found k s item st = ap (find (is_of item)) st.arms ∙ found-same s.arms item (subst (λ (ts : List Timeout). timeouts.Differ ts) st.arms st.whole.ordered.differ)
-
-      by : (o : Option Arm) → option_map_or (λ deadline. deadline - s.time) (option_map (λ (t : Timeout). t.deadline) (option_map timeout_of o)) 0 ≡ option_map_or (λ (a : Arm). a.deadline - s.time) o 0
-      by None = refl
-      by (Some a) = refl
+    let f : Timeout → ℕ = λ t. t.deadline in
+    ap (λ (o : Option ℕ). remaining o k.time) (ap (option_map f) (found-arm k s item st) ∙ kept-arm f (live_arm s.arms item))
+    ∙ ap (remaining (machine_deadline s.arms item)) st.time
 
 -- a flush ends the item's delay
-queue-same : (k : Kept) (s : State) (item : ℕ) → StandsFor k s → queue_of k.timeouts item ≡ option_map (λ (a : Arm). a.queue) (live_arm s.arms item)
+queue-same : (k : EngineState) (s : State) (item : ℕ) → StandsFor k s → queue_of k.timeouts item ≡ option_map (λ (a : Arm). a.queue) (live_arm s.arms item)
 queue-same k s item st =
-    ap (option_map (λ (t : Timeout). t.queue)) (ap (find (is_of item)) st.arms ∙ found-same s.arms item (subst (λ (ts : List Timeout). timeouts.Differ ts) st.arms st.whole.ordered.differ)) ∙ by (live_arm s.arms item) where
-      by : (o : Option Arm) → option_map (λ (t : Timeout). t.queue) (option_map timeout_of o) ≡ option_map (λ (a : Arm). a.queue) o
-      by None = refl
-      by (Some a) = refl
+    let f : Timeout → ℕ = λ t. t.queue in
+    ap (option_map f) (found-arm k s item st) ∙ kept-arm f (live_arm s.arms item)
 
 live-item : (arms : List Arm) (item : ℕ) (a : Arm) → live_arm arms item ≡ Some a → a.item ≡ item
 live-item [] item a is = absurd (cc)
@@ -177,11 +150,11 @@ live-item (x ∷ xs) item a is = by (eqb x.item item) (Rattle.zk_model_work.spec
   by true false same is rest = rest is
   by false b same is rest = rest is
 
-pub hurried-stands : (k : Kept) (s : State) (who : Who) (item : ℕ) → StandsFor k s → item < s.items → k.made + length k.timeouts.live < k.entries →
+pub hurried-stands : (k : EngineState) (s : State) (who : Who) (item : ℕ) → StandsFor k s → item < s.items → k.made + length k.timeouts.live < k.entries →
     StandsFor (engine.hurried k who item) (record s { admissions = hurried s who item; arms = disarm s.arms item })
 hurried-stands k s who item st item_in room =
     subst (λ (o : Option ℕ). StandsFor (option_map_or (λ queue. submitted d item (answer_of d (Some who.number) item (Some queue))) o d) (record s { admissions = hurried s who item; arms = disarm s.arms item })) (sym (queue-same k s item st)) (by (live_arm s.arms item) refl) where
-      d : Kept
+      d : EngineState
       d = disarmed k item
 
       e : State
@@ -197,91 +170,70 @@ hurried-stands k s who item st item_in room =
       by (Some a) is =
           let less = fewer-filter (λ (t : Timeout). not (is_of item t)) k.timeouts.live in
           subst (λ i. StandsFor (submitted d item (answer_of d (Some who.number) item (Some a.queue)))
-          (record s { admissions = submit s.admissions i (submission s.admissions s.marks s.queues (Some who.number) i (Some a.queue)); arms = disarm s.arms item })) (sym (live-item s.arms item a is))
+          (record s { admissions = submit s.admissions i (submission (machine_item s.admissions s.marks i) s.queues (Some who.number) (Some a.queue)); arms = disarm s.arms item })) (sym (live-item s.arms item a is))
           (submit-stands d e (Some who.number) item (Some a.queue) stands item_in (omega arith))
 
 -- the start of a flush, behind an entry that is counted
-pub flush_start-stands : (k : Kept) (s : State) (who : Who) (item : ℕ) → StandsFor k s → item < s.items → s.entries < 2 ^ 32 - 1 →
+pub flush_start-stands : (k : EngineState) (s : State) (who : Who) (item : ℕ) → StandsFor k s → item < s.items → s.entries < 2 ^ 32 - 1 →
     StandsFor (record (engine.flush_started k who item) { entries = k.entries + 1 }) (record (flush_start s who item) { entries = s.entries + 1 })
 flush_start-stands k s who item st item_in few =
     let fewer = st.whole.fewer in
     let c = counted-stands k s st few in
     let h = hurried-stands (record k { entries = k.entries + 1 }) (record s { entries = s.entries + 1 }) who item c item_in (omega arith) in
     let e : State = record s { admissions = hurried s who item; arms = disarm s.arms item; entries = s.entries + 1 } in
-    let K : Kept = record (engine.hurried k who item) { entries = k.entries + 1 } in
+    let K : EngineState = record (engine.hurried k who item) { entries = k.entries + 1 } in
     let same = entries_stay k who item in
-    let H : StandsFor K e = subst (λ (j : Kept). StandsFor j e) same h in
-    let wait : engine.flush_wait (engine.hurried k who item) who item ≡ flush_wait s who item =
-    ap (λ n. option_map (λ number. wait_for n who (Flush number)) (engine.flushed (engine.hurried k who item).active item)) (entries_of k who item ∙ st.entries)
-    ∙ ap (option_map (λ number. wait_for s.entries who (Flush number))) (flushed-same K e H item) in
-    subst (λ (o : Option Wait). StandsFor (record (engine.hurried k who item) { waits = awaiting (engine.hurried k who item).waits o; entries = k.entries + 1 }) (record (flush_start s who item) { entries = s.entries + 1 })) (sym wait)
-    (waits-stand (flush_wait s who item) K e H
-    (λ w is. let new = new-wait K e H s.entries who Flush (flushed (hurried s who item) item) w is in sym (ap (λ (v : Wait). v.answered) new.2))
-    (λ w is. let new = new-wait K e H s.entries who Flush (flushed (hurried s who item) item) w is in
+    let H : StandsFor K e = subst (λ (j : EngineState). StandsFor j e) same h in
+    let n = flushed_of s who item in
+    let wait : flush_wait (engine.hurried k who item).entries who (engine.flushed_of (engine.hurried k who item).active item) ≡ flush_wait s.entries who n =
+    ap (λ p. flush_wait p who (engine.flushed_of (engine.hurried k who item).active item)) (entries_of k who item ∙ st.entries)
+    ∙ ap (flush_wait s.entries who) (flushed-same K e H item) in
+    subst (λ (o : Option Wait). StandsFor (record (engine.hurried k who item) { waits = awaiting (engine.hurried k who item).waits o; entries = k.entries + 1 })
+    (record (flush_start s who item) { entries = s.entries + 1 })) (sym wait)
+    (wait-stands (flush_wait s.entries who n) K e H
+    (λ w is. let new = new-wait K e H s.entries who Flush n w is in sym (ap (λ (v : Wait). v.answered) new.2))
+    (λ w is. let new = new-wait K e H s.entries who Flush n w is in
     subst (λ (v : Wait). is_there (hurried s who item) v.awaited v.answered ≡ true) new.2 (found-made (hurried s who item) item new.0 new.1))) where
-      entries_stay : (k : Kept) (who : Who) (item : ℕ) → engine.hurried (record k { entries = k.entries + 1 }) who item ≡ record (engine.hurried k who item) { entries = k.entries + 1 }
+      entries_stay : (k : EngineState) (who : Who) (item : ℕ) → engine.hurried (record k { entries = k.entries + 1 }) who item ≡ record (engine.hurried k who item) { entries = k.entries + 1 }
       entries_stay k who item = by (queue_of k.timeouts item) where
-        one : (a : Submitted) → submitted (record (disarmed k item) { entries = k.entries + 1 }) item a ≡ record (submitted (disarmed k item) item a) { entries = k.entries + 1 }
-        one a = at (admitted_to a) where
-          at : (o : Option ℕ) → option_map_or (admitted (record (disarmed k item) { entries = k.entries + 1 }) item) o (record (disarmed k item) { entries = k.entries + 1 }) ≡ record (option_map_or (admitted (disarmed k item) item) o (disarmed k item)) { entries = k.entries + 1 }
-          at None = refl
-          at (Some queue) = refl
-
         by : (o : Option ℕ) →
             option_map_or (λ queue. submitted (record (disarmed k item) { entries = k.entries + 1 }) item (answer_of (disarmed k item) (Some who.number) item (Some queue))) o (record (disarmed k item) { entries = k.entries + 1 })
             ≡ record (option_map_or (λ queue. submitted (disarmed k item) item (answer_of (disarmed k item) (Some who.number) item (Some queue))) o (disarmed k item)) { entries = k.entries + 1 }
         by None = refl
-        by (Some queue) = one (answer_of (disarmed k item) (Some who.number) item (Some queue))
+        by (Some queue) = entries-later (disarmed k item) item (answer_of (disarmed k item) (Some who.number) item (Some queue))
 
-      entries_of : (k : Kept) (who : Who) (item : ℕ) → (engine.hurried k who item).entries ≡ k.entries
+      entries_of : (k : EngineState) (who : Who) (item : ℕ) → (engine.hurried k who item).entries ≡ k.entries
       entries_of k who item = by (queue_of k.timeouts item) where
-        at : (o : Option ℕ) → (option_map_or (admitted (disarmed k item) item) o (disarmed k item)).entries ≡ k.entries
-        at None = refl
-        at (Some queue) = refl
-
         by : (o : Option ℕ) → (option_map_or (λ queue. submitted (disarmed k item) item (answer_of (disarmed k item) (Some who.number) item (Some queue))) o (disarmed k item)).entries ≡ k.entries
         by None = refl
-        by (Some queue) = at (admitted_to (answer_of (disarmed k item) (Some who.number) item (Some queue)))
+        by (Some queue) = submitted-same (λ (j : EngineState). j.entries) (disarmed k item) item (answer_of (disarmed k item) (Some who.number) item (Some queue)) (λ queue. refl)
 
 -- a cancel
-pub cancelled-stands : (k : Kept) (s : State) (item : ℕ) → StandsFor k s → item < s.items → s.entries < 2 ^ 32 - 1 →
+pub cancelled-stands : (k : EngineState) (s : State) (item : ℕ) → StandsFor k s → item < s.items → s.entries < 2 ^ 32 - 1 →
     StandsFor (record (settled (disarmed k item) (cancelled k.active item)) { entries = k.entries + 1 }) (record (cancel s item) { entries = s.entries + 1 })
 cancelled-stands k s item st item_in few = cancel-stands (disarmed k item) (record s { arms = disarm s.arms item }) item (disarmed-stands k s item st) item_in few
 
 -- the start of a sync cancel
-pub cancel_start-stands : (k : Kept) (s : State) (who : Who) (item : ℕ) → StandsFor k s → item < s.items → s.entries < 2 ^ 32 - 1 →
+pub cancel_start-stands : (k : EngineState) (s : State) (who : Who) (item : ℕ) → StandsFor k s → item < s.items → s.entries < 2 ^ 32 - 1 →
     StandsFor (record (engine.cancel_started k who item) { entries = k.entries + 1 }) (record (cancel_start s who item) { entries = s.entries + 1 })
 cancel_start-stands k s who item st item_in few =
-    let wait : engine.cancel_wait k who item ≡ cancel_wait s who item =
-    ap (λ n. option_map (λ number. wait_for n who (Cancel number)) (active.running k.active item)) st.entries
-    ∙ ap (option_map (λ number. wait_for s.entries who (Cancel number))) (runs_by k s st item) in
-    let T : Kept = record (settled (disarmed k item) (cancelled k.active item)) { entries = k.entries + 1 } in
+    let run = running s.admissions item in
+    let wait : cancel_wait k.entries who (active.running k.active item) ≡ cancel_wait s.entries who run =
+    ap (λ p. cancel_wait p who (active.running k.active item)) st.entries ∙ ap (cancel_wait s.entries who) (runs_by k s st item) in
+    let T : EngineState = record (settled (disarmed k item) (cancelled k.active item)) { entries = k.entries + 1 } in
     subst (λ (o : Option Wait). StandsFor (record T { waits = awaiting k.waits o }) (record (cancel_start s who item) { entries = s.entries + 1 })) (sym wait)
-    (waits-stand (cancel_wait s who item) T (record (cancel s item) { entries = s.entries + 1 }) (cancelled-stands k s item st item_in few)
-    (λ w is. let new = new-wait k s st s.entries who Cancel (running s.admissions item) w is in sym (ap (λ (v : Wait). v.answered) new.2))
-    (λ w is. let new = new-wait k s st s.entries who Cancel (running s.admissions item) w is in
+    (wait-stands (cancel_wait s.entries who run) T (record (cancel s item) { entries = s.entries + 1 }) (cancelled-stands k s item st item_in few)
+    (λ w is. let new = new-wait k s st s.entries who Cancel run w is in sym (ap (λ (v : Wait). v.answered) new.2))
+    (λ w is. let new = new-wait k s st s.entries who Cancel run w is in
     subst (λ (v : Wait). is_there (map (drop_one item) s.admissions) v.awaited v.answered ≡ true) new.2
     ((Later-drop item s.admissions).begun new.0 (found-begun s.admissions item new.0 new.1))))
 
 -- one more that is due is submitted
-pub next-whole : (k : Kept) (time : ℕ) → IsWhole k → IsWhole (record k { timeouts = drop_due k.timeouts time })
+pub next-whole : (k : EngineState) (time : ℕ) → IsWhole k → IsWhole (record k { timeouts = drop_due k.timeouts time })
 next-whole k time w =
     let fewer = w.fewer in
     let less = drop-less time k.timeouts.live in
-    record {
-      counted = w.counted;
-      timed = w.timed;
-      fewer = omega arith;
-      fewest = w.fewest;
-      items = w.items;
-      armed = w.armed;
-      ordered = IsOrdered-due k.timeouts time w.ordered;
-      queues = w.queues;
-      shaped = w.shaped;
-      above = w.above;
-      busy = w.busy;
-      known = w.known;
-    } where
+    whole-beside k k.time k.entries (drop_due k.timeouts time) k.waits k.queues w w.counted w.timed (omega arith) w.armed (IsOrdered-due k.timeouts time w.ordered) w.queues where
       drop-less : (time : ℕ) (ts : List Timeout) → length (due_rest time ts) ≤ length ts
       drop-less time [] = omega arith
       drop-less time (t ∷ ts) = by (is_due time t) where
@@ -298,27 +250,14 @@ drop-room time (t ∷ ts) some = by (is_due time t) some where
   by false some = absurd (cc)
 
 -- an item is disarmed
-pub disarmed-whole : (k : Kept) (item : ℕ) → IsWhole k → IsWhole (disarmed k item)
+pub disarmed-whole : (k : EngineState) (item : ℕ) → IsWhole k → IsWhole (disarmed k item)
 disarmed-whole k item w =
     let fewer = w.fewer in
     let less = fewer-filter (λ (t : Timeout). not (is_of item t)) k.timeouts.live in
-    record {
-      counted = w.counted;
-      timed = w.timed;
-      fewer = omega arith;
-      fewest = w.fewest;
-      items = w.items;
-      armed = w.armed;
-      ordered = IsOrdered-disarm k.timeouts item w.ordered;
-      queues = w.queues;
-      shaped = w.shaped;
-      above = w.above;
-      busy = w.busy;
-      known = w.known;
-    }
+    whole-beside k k.time k.entries (timeouts.disarm k.timeouts item) k.waits k.queues w w.counted w.timed (omega arith) w.armed (IsOrdered-disarm k.timeouts item w.ordered) w.queues
 
 -- a submission for which there is an entry
-pub submitted-whole : (k : Kept) (item : ℕ) (a : Submitted) → IsWhole k → ((queue : ℕ) → admitted_to a ≡ Some queue → engine.MayAdmit k item queue) → k.made + length k.timeouts.live < k.entries → IsWhole (submitted k item a)
+pub submitted-whole : (k : EngineState) (item : ℕ) (a : Submitted) → IsWhole k → ((queue : ℕ) → admitted_to a ≡ Some queue → engine.MayAdmit k item queue) → k.made + length k.timeouts.live < k.entries → IsWhole (submitted k item a)
 submitted-whole k item a w may room = by (admitted_to a) refl where
   by : (o : Option ℕ) → admitted_to a ≡ o → IsWhole (option_map_or (admitted k item) o k)
   by None is = w

@@ -11,7 +11,7 @@ use Rattle.zk_time.specs.Timeouts.{Timeouts, nothing_armed}
 use Rattle.zk_time.proofs.Orders.{IsOrdered-nothing}
 use Rattle.zk_queue.specs.declared.ticket.Ticket.{Ticket}
 use Rattle.zk_queue.specs.Open as active
-use Rattle.zk_work.specs.Kept.{Kept, is_there, StandsFor}
+use Rattle.zk_work.specs.EngineState.{EngineState, is_there, StandsFor}
 use Rattle.zk_work.proofs.Sound.{IsSound-fresh}
 
 -- all places of a list alike, and the same beyond
@@ -48,18 +48,19 @@ fresh-stands items workers started same few =
       };
       time = refl;
       entries = refl;
-      items = refl;
       queues = refl;
       arms = refl;
-      waits = refl;
-      there = All-nil (λ (w : Wait). is_there [] w.awaited w.answered ≡ true);
-      made = refl;
-      running = refl;
-      last = λ i. alike items i None;
-      lines = λ q. alike (length workers) q [];
-      runs = λ q. ap option_to_list (alike (length workers) q None);
-      marks = λ i. alike items i active.unmarked;
-      sound = IsSound-fresh items;
+      waits = record { left = refl; there = All-nil (λ (w : Wait). is_there [] w.awaited w.answered ≡ true) };
+      admissions = record {
+        items = refl;
+        made = refl;
+        running = refl;
+        last = λ i. alike items i None;
+        lines = λ q. alike (length workers) q [];
+        runs = λ q. ap option_to_list (alike (length workers) q None);
+        marks = λ i. alike items i active.unmarked;
+        sound = IsSound-fresh items;
+      };
     } where
       none : (t : Ticket) → None ≡ Some t → ⊥
       none t is = cc
@@ -69,8 +70,8 @@ pub fresh_is : (items : ℕ) (workers : List ℕ) (started : List Bool) (waits :
     waits ≡ [] → last ≡ replicate items None → o ≡ active.nothing_open items (length workers) → t ≡ nothing_armed items → queues ≡ fresh_queues workers started → length workers ≡ length started → length workers ≤ 8 →
     StandsFor (record { time = 0; entries = 0; made = 0; running = 0; last = last; active = o; timeouts = t; waits = waits; queues = queues }) (start_of items workers started)
 fresh_is items workers started waits last o t queues none last_is o_is t_is queues_are same few =
-    let K : List Wait → List (Option ℕ) → active.Open → Timeouts → List Queue → Kept = λ ws l o t q. record { time = 0; entries = 0; made = 0; running = 0; last = l; active = o; timeouts = t; waits = ws; queues = q } in
-    let S : Kept → Type 0 = λ k. StandsFor k (start_of items workers started) in
+    let K : List Wait → List (Option ℕ) → active.Open → Timeouts → List Queue → EngineState = λ ws l o t q. record { time = 0; entries = 0; made = 0; running = 0; last = l; active = o; timeouts = t; waits = ws; queues = q } in
+    let S : EngineState → Type 0 = λ k. StandsFor k (start_of items workers started) in
     let O = active.nothing_open items (length workers) in
     let N = replicate items None in
     subst (λ ws. S (K ws last o t queues)) (sym none) (subst (λ l. S (K [] l o t queues)) (sym last_is) (subst (λ o. S (K [] N o t queues)) (sym o_is)

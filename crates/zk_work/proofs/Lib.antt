@@ -1,16 +1,17 @@
-pub mod Announcing
-pub mod Arms
-pub mod Asked
-pub mod Awaiting
-pub mod Cancelling
-pub mod Changes
-pub mod Delaying
-pub mod Fresh
-pub mod Homes
-pub mod Numbers
-pub mod Replies
-pub mod Sound
-pub mod Standing
-pub mod Steps
-pub mod There
-pub mod Tickets
+mod Admissions
+mod Announcing
+mod Arms
+mod Awaited
+mod Awaiting
+mod Beside
+mod Cancelling
+mod Changes
+mod Delaying
+mod Fresh
+mod Items
+mod LastQueues
+mod Numbers
+mod Replies
+mod Sound
+mod Steps
+mod Tickets

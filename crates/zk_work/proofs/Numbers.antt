@@ -1,9 +1,9 @@
 -- What the open admissions say of a number: whether it is open, and by which number an item waits and runs.
-use Rattle.std.proofs.Common.{◌≡◌, ℕ, zero, suc, ◌+◌, ◌≤◌, Bool, true, false, ◌&&◌, ◌||◌, cond, eqb, Option, Some, None, is_some, option_map, option_and_then, option_to_list, List, [], ◌∷◌, get_or, find, slice_get, count_by, refl, sym, ap, subst, ◌∙◌, arith, add-zero}
+use Rattle.std.proofs.Common.{◌≡◌, ℕ, zero, suc, ◌+◌, ◌≤◌, Bool, true, false, ◌||◌, cond, eqb, Option, Some, None, is_some, option_map, option_and_then, option_to_list, List, [], ◌∷◌, get_or, find, slice_get, count_by, refl, sym, ap, subst, ◌∙◌, arith, add-zero}
 use Rattle.std.specs.Cmp.{first_so, second_so}
 use Rattle.std.specs.List.{position, list_any}
 use Rattle.std.specs.Option.{option_map_or, option_or}
-use Rattle.std.proofs.lemmas.Bool.{eqb-true, eq-eqb, false≢true}
+use Rattle.std.proofs.lemmas.Bool.{eqb-true, eq-eqb, false≢true, and_from}
 use Rattle.std.proofs.lemmas.List.Folds.{list_any_none}
 use Rattle.std.proofs.lemmas.List.Quantifiers.{position-Some}
 use Rattle.std.proofs.lemmas.Option.{same_Some, slice_get-get_or}
@@ -20,7 +20,7 @@ use Rattle.zk_queue.specs.Open as active
 use Rattle.zk_queue.specs.Open.{Open, line, run, is_run_of, runs_number}
 use Rattle.zk_work.specs.Tickets.{tickets_from, tickets}
 use Rattle.zk_work.proofs.Tickets.{ticket, Stands, first_stands, count-some, none_behind, less_behind}
-use Rattle.zk_work.proofs.Asked.{queued, runs_now, run_of}
+use Rattle.zk_work.proofs.Items.{queued, runs_now, run_of}
 
 -- two words that agree
 pub agree : (b c : Bool) → (b ≡ true → c ≡ true) → (c ≡ true → b ≡ true) → b ≡ c
@@ -28,10 +28,6 @@ agree true true there back = refl
 agree true false there back = sym (there refl)
 agree false true there back = back refl
 agree false false there back = refl
-
-pub both : (b c : Bool) → b ≡ true → c ≡ true → (b && c) ≡ true
-both true c is there = there
-both false c is there = absurd (cc)
 
 -- the ticket that a search finds
 find_stands : (q : Ticket → Bool) (n : ℕ) (p : Admission → Bool) (xs : List Admission) (t : Ticket) → find q (tickets_from n p xs) ≡ Some t → Stands n p xs t × (q t ≡ true)
@@ -180,13 +176,13 @@ module _ (o : Open) (xs : List Admission) (lines : (queue : ℕ) → line o queu
   open-back number is = by (slice_get xs number) refl is where
     by_life : (a : Admission) (life : Life) → slice_get xs number ≡ Some a → a.life ≡ life → is_open life ≡ true → active.is_open o number ≡ true
     by_life a Waiting at is opens =
-        let on = both (eqb a.queue a.queue) (is_waiting a.life) (eq-eqb a.queue a.queue refl) (ap is_waiting is) in
+        let on = and_from (eqb a.queue a.queue) (is_waiting a.life) (eq-eqb a.queue a.queue refl) (ap is_waiting is) in
         let zero_first : 0 + number ≡ number = omega arith in
         let has = subst (λ n. list_any (has_number n) (tickets (waits_for a.queue) xs) ≡ true) zero_first (ticket-any 0 (waits_for a.queue) xs number a at on) in
         or-either (list_any (runs_number number) o.runs) (list_any (list_any (has_number number)) o.lines)
         (any_from (list_any (has_number number)) o.lines a.queue [] refl (ap (list_any (has_number number)) (lines a.queue) ∙ has))
     by_life a Running at is opens =
-        let on = both (eqb a.queue a.queue) (is_running a.life) (eq-eqb a.queue a.queue refl) (ap is_running is) in
+        let on = and_from (eqb a.queue a.queue) (is_running a.life) (eq-eqb a.queue a.queue refl) (ap is_running is) in
         let it = run_of (run o a.queue) a.queue xs number a (runs a.queue) at on in
         or-left (list_any (runs_number number) o.runs) (list_any (list_any (has_number number)) o.lines)
         (any_from (runs_number number) o.runs a.queue None refl (ap (runs_number number) it ∙ eq-eqb number number refl))
@@ -216,7 +212,7 @@ module _ (o : Open) (xs : List Admission) (lines : (queue : ℕ) → line o queu
         record {
           admission = s.admission;
           there = ap (slice_get xs) (sym place) ∙ s.there;
-          passes = both (eqb s.admission.item item) (is_waiting s.admission.life) (eq-eqb s.admission.item item item_is) (second_so (eqb s.admission.queue queue) (is_waiting s.admission.life) s.passes);
+          passes = and_from (eqb s.admission.item item) (is_waiting s.admission.life) (eq-eqb s.admission.item item item_is) (second_so (eqb s.admission.queue queue) (is_waiting s.admission.life) s.passes);
         }
 
     by : (p q : Option ℕ) → waiting xs item ≡ p → active.waiting o item ≡ q → is_some (active.waiting o item) ≡ is_some (waiting xs item) → active.waiting o item ≡ waiting xs item
@@ -241,8 +237,8 @@ module _ (o : Open) (xs : List Admission) (lines : (queue : ℕ) → line o queu
         let b_home = home m b to (open-running b.life b_runs) in
         let same_item : a.item ≡ b.item = a_item ∙ sym b_item in
         let queues : a.queue ≡ b.queue = same_Some a.queue b.queue (sym a_home ∙ ap (last_queue xs) same_item ∙ b_home) in
-        let a_run = run_of (run o a.queue) a.queue xs n a (runs a.queue) at (both (eqb a.queue a.queue) (is_running a.life) (eq-eqb a.queue a.queue refl) a_runs) in
-        let b_run = run_of (run o b.queue) b.queue xs m b (runs b.queue) to (both (eqb b.queue b.queue) (is_running b.life) (eq-eqb b.queue b.queue refl) b_runs) in
+        let a_run = run_of (run o a.queue) a.queue xs n a (runs a.queue) at (and_from (eqb a.queue a.queue) (is_running a.life) (eq-eqb a.queue a.queue refl) a_runs) in
+        let b_run = run_of (run o b.queue) b.queue xs m b (runs b.queue) to (and_from (eqb b.queue b.queue) (is_running b.life) (eq-eqb b.queue b.queue refl) b_runs) in
         ap (λ (t : Ticket). t.number) (same_Some (ticket a n) (ticket b m) (sym a_run ∙ ap (run o) queues ∙ b_run))
 
     -- the number of an item's run
@@ -260,7 +256,7 @@ module _ (o : Open) (xs : List Admission) (lines : (queue : ℕ) → line o queu
             record {
               admission = s.admission;
               there = ap (slice_get xs) (sym place) ∙ s.there;
-              passes = both (eqb s.admission.item item) (is_running s.admission.life) (eq-eqb s.admission.item item item_is) (second_so (eqb s.admission.queue queue) (is_running s.admission.life) s.passes);
+              passes = and_from (eqb s.admission.item item) (is_running s.admission.life) (eq-eqb s.admission.item item item_is) (second_so (eqb s.admission.queue queue) (is_running s.admission.life) s.passes);
             },
           )
 

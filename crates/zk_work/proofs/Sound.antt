@@ -2,21 +2,22 @@
 use Rattle.std.proofs.Common.{◌≡◌, ℕ, zero, suc, ◌<◌, ◌≤◌, ◌⊎◌, inl, inr, ◌≢◌, Bool, true, false, ◌&&◌, cond, eqb, ◌==◌, Option, Some, None, is_some, option_map, List, [], ◌∷◌, ◌++◌, length, map, slice_get, count_by, All, refl, sym, ap, subst, ◌∙◌, arith}
 use Rattle.std.specs.Cmp.{second_so}
 use Rattle.std.specs.Option.{option_or}
-use Rattle.std.proofs.lemmas.Bool.{eqb-true, eq-eqb, false≢true}
+use Rattle.std.proofs.lemmas.Bool.{eqb-true, eq-eqb, false≢true, and_from}
 use Rattle.std.proofs.lemmas.Bool.Decides.{eqb_tells}
 use Rattle.std.proofs.lemmas.Option.{slice_get-map, same_Some}
+use Rattle.zk_base.proofs.Lists.{and_second, none_from_is_some}
 use Rattle.zk_model_work.specs.declared.parts.Life.{Life}
 use Rattle.zk_model_work.specs.declared.parts.Life.TheVariants.{Waiting, Running, Ended, Dropped}
 use Rattle.zk_model_work.specs.declared.parts.Admission.{Admission}
-use Rattle.zk_model_work.specs.Questions.{is_waiting, is_running, is_open, waits_as, runs_as, runs_on, waiting, running, last_queue, weight}
+use Rattle.zk_model_work.specs.Questions.{running_queue, is_waiting, is_running, is_open, waits_as, runs_as, runs_on, waiting, running, last_queue, weight, item_of as machine_item}
 use Rattle.zk_model_work.specs.Machine.{with_life, set_life, drop_one, end_one}
 use Rattle.zk_model_work.proofs.Moves.{pushed}
 use Rattle.zk_model_work.proofs.Lives.{open-waiting}
-use Rattle.zk_model_work.proofs.Overlaps.{Admits, position-none, runs-open, Taken, taken, and-true, second_of}
-use Rattle.zk_work.specs.Kept.{IsSound, is_past_waiting}
+use Rattle.zk_model_work.proofs.Overlaps.{Admits, position-none, runs-open, Taken, taken}
+use Rattle.zk_work.specs.EngineState.{IsSound, is_past_waiting}
 use Rattle.zk_work.proofs.Tickets.{count-cons, count-none, count-push, count-map_less}
 use Rattle.zk_work.proofs.Changes.{item-drop, queue-drop, item-end, queue-end}
-use Rattle.zk_work.proofs.Homes.{last-push, last-map, last-set_life}
+use Rattle.zk_work.proofs.LastQueues.{last-push, last-map, last-set_life}
 use Rattle.zk_work.proofs.Cancelling.{remarked, marked-push, marked-drop, marked-end, marked-begin, marked-cancel}
 use Rattle.zk_work.proofs.Replies.{running_queue-last}
 
@@ -31,10 +32,6 @@ IsSound-fresh items = record {
   none : (n : ℕ) (a : Admission) → slice_get [] n ≡ Some a → ⊥
   none n a at = cc
 
-none-None : {A : Type 0} (o : Option A) → is_some o ≡ false → o ≡ None
-none-None None is = refl
-none-None (Some x) is = absurd (cc)
-
 -- an item that some admission runs, runs
 runs-some : (xs : List Admission) (item n : ℕ) (a : Admission) → slice_get xs n ≡ Some a → runs_as item a ≡ true → is_some (running xs item) ≡ true
 runs-some xs item n a at runs = by (running xs item) refl where
@@ -47,7 +44,7 @@ abbrev new : ℕ → ℕ → Admission
 new item queue = record { item = item; queue = queue; life = Waiting }
 
 -- a submission
-pub IsSound-push : (items : ℕ) (xs : List Admission) (marks : List ℕ) (item : ℕ) (named : Option ℕ) (queue : ℕ) → Admits xs marks item named queue → item < items → IsSound items xs marks →
+pub IsSound-push : (items : ℕ) (xs : List Admission) (marks : List ℕ) (item : ℕ) (named : Option ℕ) (queue : ℕ) → Admits (machine_item xs marks item) named queue → item < items → IsSound items xs marks →
     IsSound items (xs ++ record { item = item; queue = queue; life = Waiting } ∷ []) marks
 IsSound-push items xs marks item named queue admits within sound = record {
   known = λ n b at. known n b (pushed xs (new item queue) n b at);
@@ -60,7 +57,7 @@ IsSound-push items xs marks item named queue admits within sound = record {
   known n b (inr is) = let same = ap (λ (a : Admission). a.item) is.1 in omega arith
 
   not_waiting : (n : ℕ) (a : Admission) → slice_get xs n ≡ Some a → waits_as item a ≡ false
-  not_waiting n a at = position-none (waits_as item) xs n a (none-None (waiting xs item) admits.not_waiting) at
+  not_waiting n a at = position-none (waits_as item) xs n a (none_from_is_some (waiting xs item) admits.not_waiting) at
 
   once : (other : ℕ) → ((eqb item other ≡ true) × (item ≡ other)) ⊎ ((eqb item other ≡ false) × (item ≢ other)) → count_by (waits_as other) (xs ++ new item queue ∷ []) ≤ 1
   once other (inl same) =
@@ -78,11 +75,11 @@ IsSound-push items xs marks item named queue admits within sound = record {
   -- where the item runs, that is where it goes
   to : (b : Admission) (n : ℕ) → slice_get xs n ≡ Some b → is_open b.life ≡ true → b.item ≡ item → queue ≡ b.queue
   to b n at opens is =
-      let runs = runs-open b.life opens (second_of (eqb b.item item) (is_waiting b.life) (eq-eqb b.item item is) (not_waiting n b at)) in
-      let some = runs-some xs item n b at (and-true (eqb b.item item) (is_running b.life) (eq-eqb b.item item is) runs) in
-      same_Some queue b.queue (sym admits.target_is ∙ running_queue-last items xs marks item named sound
-      ∙ ap (λ c. cond c (last_queue xs item) (option_or named (last_queue xs item))) some
-      ∙ ap (last_queue xs) (sym is) ∙ sound.home n b at opens)
+      let runs = runs-open b.life opens (and_second (eqb b.item item) (is_waiting b.life) (eq-eqb b.item item is) (not_waiting n b at)) in
+      let some = runs-some xs item n b at (and_from (eqb b.item item) (is_running b.life) (eq-eqb b.item item is) runs) in
+      let runs_at : running_queue xs item ≡ Some b.queue =
+      running_queue-last items xs marks item sound ∙ ap (λ c. cond c (last_queue xs item) None) some ∙ ap (last_queue xs) (sym is) ∙ sound.home n b at opens in
+      same_Some queue b.queue (sym admits.target_is ∙ ap (λ (o : Option ℕ). option_or o (option_or named (last_queue xs item))) runs_at)
 
   old_home : (b : Admission) (n : ℕ) (c : Bool) → (item == b.item) ≡ c → slice_get xs n ≡ Some b → is_open b.life ≡ true → cond c (Some queue) (last_queue xs b.item) ≡ Some b.queue
   old_home b n true same at opens = ap Some (to b n at opens (sym (eqb-true item b.item same)))

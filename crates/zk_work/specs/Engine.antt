@@ -1,60 +1,55 @@
-use Rattle.std.specs.Prelude.{◌≡◌, ℕ, zero, suc, ◌+◌, ◌-◌, ◌^◌, ◌<◌, Bool, true, false, not, nat_lt, ◌==◌, ◌&&◌, ◌||◌, if◌then◌else◌, Option, Some, None, is_some, option_map, option_to_list, List, [], ◌++◌, filter, set, slice_get}
+use Rattle.std.specs.Prelude.{◌≡◌, ℕ, zero, suc, ◌+◌, ◌-◌, ◌^◌, ◌<◌, Bool, true, false, not, ◌==◌, ◌||◌, if◌then◌else◌, Option, Some, None, is_some, option_map, option_to_list, List, [], ◌++◌, filter, set}
 use Rattle.std.specs.List.{list_any}
-use Rattle.std.specs.Option.{option_map_or, option_or}
-use Rattle.zk_model_work.specs.Questions.{weight}
+use Rattle.std.specs.Option.{option_map_or}
 use Rattle.zk_base.specs.declared.ids.Who.{Who}
-use Rattle.zk_base.specs.declared.errors.Errno.TheVariants.{Busy, Inval}
 use Rattle.zk_model_work.specs.declared.ops.WorkOp.{WorkOp}
 use Rattle.zk_model_work.specs.declared.ops.WorkOp.TheVariants as ops
 use Rattle.zk_model_work.specs.declared.parts.Change.TheVariants as changes
 use Rattle.zk_model_work.specs.declared.parts.Awaited.{Awaited}
-use Rattle.zk_model_work.specs.declared.parts.Awaited.TheVariants.{Cancel, Flush, Drain}
+use Rattle.zk_model_work.specs.declared.parts.Awaited.TheVariants.{Flush}
 use Rattle.zk_model_work.specs.declared.parts.Closing.{Closing}
 use Rattle.zk_model_work.specs.declared.parts.Closing.TheVariants as closings
+use Rattle.zk_model_work.specs.declared.parts.Item.{Item}
 use Rattle.zk_model_work.specs.declared.parts.Wait.{Wait}
 use Rattle.zk_model_work.specs.declared.parts.Queue.{Queue}
 use Rattle.zk_model_work.specs.declared.ops.Submitted.{Submitted}
-use Rattle.zk_model_work.specs.declared.ops.Submitted.TheVariants.{Already, Fresh, Rerun, Refused}
 use Rattle.zk_model_work.specs.declared.ops.Expiry.{Expiry}
 use Rattle.zk_model_work.specs.declared.ops.WorkReply.{WorkReply}
-use Rattle.zk_model_work.specs.declared.ops.WorkReply.TheVariants.{Sub, Armed, Flags, Truth, Number, Done, Now, Run}
-use Rattle.zk_model_work.specs.Machine.{refusal, admitted_to, settle_from, change, drain, drained_of, wait_for, awaiting, is_unanswered, cancel_start_reply, flush_start_reply, start_reply, drain_reply, unplug_reply, is_worker}
+use Rattle.zk_model_work.specs.declared.ops.WorkReply.TheVariants.{Sub, Flags, Truth, Number, Done, Now, Run}
+use Rattle.zk_model_work.specs.Answers.{submission, admitted_to, flags, is_pending, cancel_start_reply, flush_start_reply, delay_reply, schedule_reply, remaining, drain_reply, start_reply, unplug_reply, cancel_wait, flushed, flush_wait, drain_wait, comes, closes, is_worker}
+use Rattle.zk_model_work.specs.Machine.{settle_from, change, drain, awaiting}
 use Rattle.zk_time.specs.declared.timeout.Timeout.{Timeout}
 use Rattle.zk_time.specs.Timeouts.{is_armed, deadline_of, queue_of, count_due, arm, disarm, due_first, drop_due}
 use Rattle.zk_queue.specs.Open.{Open, is_running, is_queued, is_idle, is_open, run, next, running, waiting, marks_of, mark, admit, drop_item, begin, end}
-use Rattle.zk_work.specs.Kept.{Kept, last_of}
+use Rattle.zk_work.specs.EngineState.{EngineState, last_of}
 
--- the queue that a submission goes to: where the item runs, that of its last admission, which is where it runs; else the named one, else that of its last admission
-abbrev pub target_of : Kept → ℕ → Bool → Option ℕ → Option ℕ
-target_of k item runs named = if runs then last_of k item else option_or named (last_of k item)
-
--- an admission to this queue, with the next number
-abbrev pub admission_of : Kept → Bool → ℕ → Submitted
-admission_of k runs number = if runs then Rerun k.made number else Fresh k.made number
-
--- the answer at the queue that the submission goes to
-abbrev pub answer_at : Kept → Option ℕ → Bool → Option ℕ → Submitted
-answer_at k caller runs None = Refused Inval
-answer_at k caller runs (Some number) = option_map_or (λ queue. option_map_or Refused (refusal caller queue) (admission_of k runs number)) (slice_get k.queues number) (Refused Inval)
+-- what the answers ask of an item: one that runs, runs where its last admission is
+abbrev pub item_of : EngineState → ℕ → Item
+item_of k item = record {
+  cancelling = (marks_of k.active item).cancelling;
+  queued = is_queued k.active item;
+  running = is_running k.active item;
+  home = if is_running k.active item then last_of k item else None;
+  last = last_of k item;
+  next = k.made;
+}
 
 -- the answer to a submission of the item
-abbrev pub answer_of : Kept → Option ℕ → ℕ → Option ℕ → Submitted
-answer_of k caller item named =
-    if (marks_of k.active item).cancelling then Refused Busy else
-    if is_queued k.active item then Already else
-    answer_at k caller (is_running k.active item) (target_of k item (is_running k.active item) named)
+abbrev pub answer_of : EngineState → Option ℕ → ℕ → Option ℕ → Submitted
+answer_of k caller item named = submission (item_of k item) k.queues caller named
 
 -- what may be admitted: an item that doesn't wait, to a queue that there is
-pub record MayAdmit (k : Kept) (item queue : ℕ) : Type 0 where
+pub record MayAdmit (k : EngineState) (item queue : ℕ) : Type 0 where
   pub within : queue < k.active.queues
   pub free : is_queued k.active item ≡ false
 
 -- after an admission of the item to this queue
-abbrev pub admitted : Kept → ℕ → ℕ → Kept
-admitted k item queue = record k { made = k.made + 1; last = set k.last item (Some queue); active = admit k.active item queue k.made }
+abbrev pub admitted : EngineState → ℕ → ℕ → EngineState
+admitted k item queue =
+    record k { made = k.made + 1; last = set k.last item (Some queue); active = admit k.active item queue k.made }
 
 -- after a submission with this answer
-abbrev pub submitted : Kept → ℕ → Submitted → Kept
+abbrev pub submitted : EngineState → ℕ → Submitted → EngineState
 submitted k item answer = option_map_or (admitted k item) (admitted_to answer) k
 
 -- the item waits no longer, and is marked where it runs
@@ -62,61 +57,71 @@ abbrev pub cancelled : Open → ℕ → Open
 cancelled o item = if is_running o item then mark (drop_item o item) item 2 else drop_item o item
 
 -- the open admissions are these, and what has drained is settled
-abbrev pub settled : Kept → Open → Kept
+abbrev pub settled : EngineState → Open → EngineState
 settled k o = record k { active = o; queues = settle_from (is_idle o) 0 k.queues }
 
 -- the queue's run is over, and its item has no marks
-abbrev pub ended : Kept → ℕ → Kept
-ended k queue = option_map_or (λ t. record (settled k (mark (end k.active queue) t.item 0)) { running = k.running - 1 }) (run k.active queue) k
+abbrev pub ended : EngineState → ℕ → EngineState
+ended k queue =
+    option_map_or (λ t. record (settled k (mark (end k.active queue) t.item 0)) { running = k.running - 1 }) (run k.active queue) k
 
 -- the item isn't armed
-abbrev pub disarmed : Kept → ℕ → Kept
+abbrev pub disarmed : EngineState → ℕ → EngineState
 disarmed k item = record k { timeouts = disarm k.timeouts item }
 
 -- the item is delayed, queued or being cancelled
-abbrev pub is_pending : Kept → ℕ → Bool
-is_pending k item = is_armed k.timeouts item || is_queued k.active item || (marks_of k.active item).cancelling
+abbrev pub is_pending_in : EngineState → ℕ → Bool
+is_pending_in k item = is_pending (item_of k item) (is_armed k.timeouts item)
 
 -- after an item was given this delay: with none it was submitted by the player, else it is armed
-abbrev pub delayed : Kept → Who → ℕ → ℕ → ℕ → Kept
+abbrev pub delayed : EngineState → Who → ℕ → ℕ → ℕ → EngineState
 delayed k who item queue delay =
-    if delay == 0 then submitted k item (answer_of k (Some who.number) item (Some queue)) else record k { timeouts = arm k.timeouts item queue (k.time + delay) }
+    if delay == 0 then submitted k item (answer_of k (Some who.number) item (Some queue))
+    else record k { timeouts = arm k.timeouts item queue (k.time + delay) }
 
 -- what an item with this delay is answered
-abbrev pub delay_reply : Kept → Who → ℕ → ℕ → ℕ → WorkReply
-delay_reply k who item queue delay = if delay == 0 then Sub (answer_of k (Some who.number) item (Some queue)) else Armed
+abbrev pub delay_reply_in : EngineState → Who → ℕ → ℕ → ℕ → WorkReply
+delay_reply_in k who item queue delay = delay_reply (answer_of k (Some who.number) item (Some queue)) delay
+
+-- what a schedule is answered
+abbrev pub schedule_reply_in : EngineState → Who → ℕ → ℕ → ℕ → WorkReply
+schedule_reply_in k who item queue delay =
+    schedule_reply (is_pending_in k item) (answer_of k (Some who.number) item (Some queue)) delay
 
 -- after a flush has ended the item's delay, if it has one
-abbrev pub hurried : Kept → Who → ℕ → Kept
+abbrev pub hurried : EngineState → Who → ℕ → EngineState
 hurried k who item =
     let d = disarmed k item in
     option_map_or (λ queue. submitted d item (answer_of d (Some who.number) item (Some queue))) (queue_of k.timeouts item) d
 
 -- what becomes of the item of a timeout
-abbrev pub expiry_of : Kept → Timeout → Expiry
+abbrev pub expiry_of : EngineState → Timeout → Expiry
 expiry_of k t = record { item = t.item; submitted = answer_of k None t.item (Some t.queue) }
 
 -- after the first that is due, if there is one, was submitted by nobody
-abbrev pub expired_next : ℕ → Kept → Kept
+abbrev pub expired_next : ℕ → EngineState → EngineState
 expired_next time k =
-    option_map_or (λ t. submitted (record k { timeouts = drop_due k.timeouts time }) t.item (answer_of k None t.item (Some t.queue))) (due_first time k.timeouts.live) k
+    let rest = record k { timeouts = drop_due k.timeouts time } in
+    option_map_or (λ t. submitted rest t.item (answer_of k None t.item (Some t.queue))) (due_first time k.timeouts.live) k
 
 -- after so many of them
-abbrev pub expired : ℕ → ℕ → Kept → Kept
+abbrev pub expired : ℕ → ℕ → EngineState → EngineState
 expired zero time k = k
 expired (suc n) time k = expired_next time (expired n time k)
 
 -- what has become of them
-abbrev pub told : ℕ → ℕ → Kept → List Expiry
+abbrev pub told : ℕ → ℕ → EngineState → List Expiry
 told zero time k = []
-told (suc n) time k = told n time k ++ option_to_list (option_map (expiry_of (expired n time k)) (due_first time (expired n time k).timeouts.live))
+told (suc n) time k =
+    let so_far = expired n time k in
+    told n time k ++ option_to_list (option_map (expiry_of so_far) (due_first time so_far.timeouts.live))
 
 -- after so many ticks more, and all that is due by then
-abbrev pub announced : Kept → ℕ → Kept
+abbrev pub announced : EngineState → ℕ → EngineState
 announced k ticks = let time = k.time + ticks in record (expired (count_due k.timeouts time) time k) { time = time }
 
 -- what an announce is answered
-abbrev pub announce_reply : Kept → ℕ → WorkReply
+abbrev pub announce_reply : EngineState → ℕ → WorkReply
 announce_reply k ticks = let time = k.time + ticks in Now time (told (count_due k.timeouts time) time k)
 
 -- it is this number
@@ -133,91 +138,84 @@ abbrev pub is_flushing : Open → List Wait → ℕ → Bool
 is_flushing o waits item = list_any (λ w. flushes (waiting o item) (running o item) w.awaited) waits
 
 -- the busy flags of the item
-abbrev pub flags_of : Kept → ℕ → ℕ
-flags_of k item =
-    weight 1 (is_running k.active item) + weight 2 (marks_of k.active item).cancelling + weight 4 (is_queued k.active item) + weight 8 (is_armed k.timeouts item) + weight 16 (is_flushing k.active k.waits item)
+abbrev pub flags_of : EngineState → ℕ → ℕ
+flags_of k item = flags (item_of k item) (is_armed k.timeouts item) (is_flushing k.active k.waits item)
 
--- what is awaited has come: a run that a sync cancel found, and what a flush waits for, is open no longer; more drainings of the queue have ended than a drain names
+-- the admission of this number neither waits nor runs
+abbrev pub is_over : Open → ℕ → Bool
+is_over o number = not (is_open o number)
+
+-- what is awaited has come: what has begun and is open no longer has ended
 abbrev pub has_come : Open → List Queue → Closing → Awaited → Bool
-has_come o queues closings.Cancel (Cancel number) = not (is_open o number)
-has_come o queues closings.Flush (Flush number) = not (is_open o number)
-has_come o queues closings.Drain (Drain queue count) = nat_lt count (drained_of queues queue)
-has_come o queues closing awaited = false
+has_come o queues closing awaited = comes (is_over o) (is_over o) queues closing awaited
 
--- it is the player's wait of this place, and what it awaits has come
-abbrev pub closes : Open → List Queue → Closing → Who → ℕ → Wait → Bool
-closes o queues closing who place w = is_unanswered place who.number w && has_come o queues closing w.awaited
-
--- there is such a wait
-abbrev pub may_close : Kept → Closing → Who → ℕ → Bool
-may_close k closing who place = list_any (closes k.active k.queues closing who place) k.waits
+-- there is an unanswered wait of the player of this place, and what it awaits has come
+abbrev pub may_close : EngineState → Closing → Who → ℕ → Bool
+may_close k closing who place = list_any (closes (has_come k.active k.queues closing) who place) k.waits
 
 -- the waits without those that this ends
 abbrev pub left_waits : Open → List Queue → List Wait → Closing → Who → ℕ → List Wait
-left_waits o queues waits closing who place = filter (λ w. not (closes o queues closing who place w)) waits
+left_waits o queues waits closing who place =
+    filter (λ w. not (closes (has_come o queues closing) who place w)) waits
 
 -- the engine after the end of a wait
-abbrev pub closed : Kept → Closing → Who → ℕ → Kept
+abbrev pub closed : EngineState → Closing → Who → ℕ → EngineState
 closed k closing who place = record k { waits = left_waits k.active k.queues k.waits closing who place }
 
--- the wait for the end of the run that a cancel finds
-abbrev pub cancel_wait : Kept → Who → ℕ → Option Wait
-cancel_wait k who item = option_map (λ number. wait_for k.entries who (Cancel number)) (running k.active item)
-
--- the admission that a flush waits for: the item's waiting one, else its running one
-abbrev pub flushed : Open → ℕ → Option ℕ
-flushed o item = option_or (waiting o item) (running o item)
-
--- the wait for the end of that admission
-abbrev pub flush_wait : Kept → Who → ℕ → Option Wait
-flush_wait k who item = option_map (λ number. wait_for k.entries who (Flush number)) (flushed k.active item)
-
--- the wait for one more draining of the queue to end, unless it is idle
-abbrev pub drain_wait : Bool → Kept → Who → ℕ → Option Wait
-drain_wait idle k who queue = if idle then None else Some (wait_for k.entries who (Drain queue (drained_of k.queues queue)))
+-- the admission that a flush of the item waits for
+abbrev pub flushed_of : Open → ℕ → Option ℕ
+flushed_of o item = flushed (waiting o item) (running o item)
 
 -- after the start of a sync cancel: a cancel, in which the player waits where the item runs
-abbrev pub cancel_started : Kept → Who → ℕ → Kept
-cancel_started k who item = record (settled (disarmed k item) (cancelled k.active item)) { waits = awaiting k.waits (cancel_wait k who item) }
+abbrev pub cancel_started : EngineState → Who → ℕ → EngineState
+cancel_started k who item =
+    let waits = awaiting k.waits (cancel_wait k.entries who (running k.active item)) in
+    record (settled (disarmed k item) (cancelled k.active item)) { waits = waits }
 
--- after the start of a flush, which ends the item's delay, and in which the player waits where an admission of the item then waits or runs
-abbrev pub flush_started : Kept → Who → ℕ → Kept
-flush_started k who item = let h = hurried k who item in record h { waits = awaiting h.waits (flush_wait h who item) }
+-- after the start of a flush, which ends the item's delay,
+-- and in which the player waits where an admission of the item then waits or runs
+abbrev pub flush_started : EngineState → Who → ℕ → EngineState
+flush_started k who item =
+    let h = hurried k who item in
+    record h { waits = awaiting h.waits (flush_wait h.entries who (flushed_of h.active item)) }
 
 -- after the start of a drain, for which the player waits unless the queue is idle
-abbrev pub drained : Kept → Who → ℕ → Bool → Kept
+abbrev pub drained : EngineState → Who → ℕ → Bool → EngineState
 drained k who queue plug =
     let idle = is_idle k.active queue in
-    record k { queues = drain idle plug k.queues queue; waits = awaiting k.waits (drain_wait idle k who queue) }
+    let waits = awaiting k.waits (drain_wait idle k.entries k.queues who queue) in
+    record k { queues = drain idle plug k.queues queue; waits = waits }
 
 -- the reply to each operation, where it is possible
-abbrev pub reply_of : Kept → Who → WorkOp → Option WorkReply
+abbrev pub reply_of : EngineState → Who → WorkOp → Option WorkReply
 reply_of k who (ops.Submit item named) = Some (Sub (answer_of k (Some who.number) item named))
 reply_of k who (ops.Cancel item) = Some (Flags (flags_of (settled (disarmed k item) (cancelled k.active item)) item))
 reply_of k who (ops.CancelStart item) = Some (cancel_start_reply (flags_of k item) (is_some (running k.active item)))
 reply_of k who (ops.CancelDone place) = if may_close k closings.Cancel who place then Some (Truth true) else None
-reply_of k who (ops.FlushStart item) = Some (flush_start_reply (flushed (hurried k who item).active item))
+reply_of k who (ops.FlushStart item) = Some (flush_start_reply (flushed_of (hurried k who item).active item))
 reply_of k who (ops.FlushDone place) = if may_close k closings.Flush who place then Some (Truth true) else None
-reply_of k who (ops.Schedule item queue delay) = Some (if is_pending k item then Sub Already else delay_reply k who item queue delay)
-reply_of k who (ops.Reschedule item queue delay) = Some (delay_reply k who item queue delay)
-reply_of k who (ops.Remaining item) = Some (Number (option_map_or (λ deadline. deadline - k.time) (deadline_of k.timeouts item) 0))
+reply_of k who (ops.Schedule item queue delay) = Some (schedule_reply_in k who item queue delay)
+reply_of k who (ops.Reschedule item queue delay) = Some (delay_reply_in k who item queue delay)
+reply_of k who (ops.Remaining item) = Some (Number (remaining (deadline_of k.timeouts item) k.time))
 reply_of k who (ops.Start queue) = Some (start_reply k.queues queue)
 reply_of k who (ops.DrainStart queue plug) = Some (drain_reply (is_idle k.active queue))
 reply_of k who (ops.DrainDone place) = if may_close k closings.Drain who place then Some (Number 1) else None
 reply_of k who (ops.Unplug queue) = Some (unplug_reply k.queues queue)
 reply_of k who (ops.Announce ticks) = Some (announce_reply k ticks)
-reply_of k who (ops.Begin queue) = if is_worker k.queues queue who.number then option_map (λ t. Run t.item t.number) (next k.active queue) else None
-reply_of k who (ops.End queue) = if is_worker k.queues queue who.number then option_map (λ t. Done) (run k.active queue) else None
+reply_of k who (ops.Begin queue) =
+    if is_worker k.queues queue who.number then option_map (λ t. Run t.item t.number) (next k.active queue) else None
+reply_of k who (ops.End queue) =
+    if is_worker k.queues queue who.number then option_map (λ t. Done) (run k.active queue) else None
 
 -- what each operation changes, where it is possible
-abbrev pub change_of : Kept → Who → WorkOp → Kept
+abbrev pub change_of : EngineState → Who → WorkOp → EngineState
 change_of k who (ops.Submit item named) = submitted k item (answer_of k (Some who.number) item named)
 change_of k who (ops.Cancel item) = settled (disarmed k item) (cancelled k.active item)
 change_of k who (ops.CancelStart item) = cancel_started k who item
 change_of k who (ops.CancelDone place) = closed k closings.Cancel who place
 change_of k who (ops.FlushStart item) = flush_started k who item
 change_of k who (ops.FlushDone place) = closed k closings.Flush who place
-change_of k who (ops.Schedule item queue delay) = if is_pending k item then k else delayed k who item queue delay
+change_of k who (ops.Schedule item queue delay) = if is_pending_in k item then k else delayed k who item queue delay
 change_of k who (ops.Reschedule item queue delay) = delayed (disarmed k item) who item queue delay
 change_of k who (ops.Remaining item) = k
 change_of k who (ops.Start queue) = record k { queues = change changes.Start k.queues queue }
@@ -229,11 +227,11 @@ change_of k who (ops.Begin queue) = record k { active = begin k.active queue; ru
 change_of k who (ops.End queue) = ended k queue
 
 -- the engine after an entry, which is counted
-abbrev pub entered : Kept → Who → WorkOp → Kept
+abbrev pub entered : EngineState → Who → WorkOp → EngineState
 entered k who op = let after = change_of k who op in record after { entries = k.entries + 1 }
 
 -- the engine after an operation with this reply: nothing changes where there is none
-abbrev pub after_reply : Kept → Who → WorkOp → Option WorkReply → Kept
+abbrev pub after_reply : EngineState → Who → WorkOp → Option WorkReply → EngineState
 after_reply k who op reply = if is_some reply then entered k who op else k
 
 -- the reply is that of an announce

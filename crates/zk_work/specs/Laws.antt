@@ -23,12 +23,13 @@ use Rattle.zk_model_work.specs.declared.ops.Submitted.TheVariants.{Already, Fres
 use Rattle.zk_model_work.specs.declared.ops.WorkReply.{WorkReply}
 use Rattle.zk_model_work.specs.declared.ops.WorkReply.TheVariants.{Truth, Number, Done}
 use Rattle.zk_model_work.specs.Lists.{first}
-use Rattle.zk_model_work.specs.Questions.{is_running, waits_as, runs_on, run, line, is_empty_and_idle, live_arm, due}
+use Rattle.zk_model_work.specs.Questions.{is_running, waits_as, runs_on, run, line, is_empty_and_idle, live_arm, due, running, item_of}
 use Rattle.zk_model_work.specs.State.{State}
-use Rattle.zk_model_work.specs.Machine.{work_reply, work_next, in_range, is_among, is_worker, submission, submission_in, submit, submit_arms, disarm, delayed, schedule, set_life, with_life, begin, end_one, end_run, drop_one, drop_waiting, cancel_wait, flush_wait, drain_wait, awaiting, answer_where, answer_one, is_unanswered, has_come, closes, may_close}
+use Rattle.zk_model_work.specs.Machine.{work_reply, work_next, in_range, is_among, submission_in, submit, submit_arms, disarm, delayed, schedule, flushed_of, set_life, with_life, begin, end_one, end_run, drop_one, drop_waiting, awaiting, answer_where, answer_one, has_come, may_close}
+use Rattle.zk_model_work.specs.Answers.{is_worker, submission, cancel_wait, flush_wait, drain_wait, is_unanswered, closes}
 use Rattle.zk_model_work.proofs.Counts.{length-settle_from, length-change, length-drain}
 use Rattle.zk_model_work.proofs.Moves.{submit_arms-keeps, delayed-keeps, schedule-keeps}
-use Rattle.zk_work.specs.Kept.{work_owed, work_closes}
+use Rattle.zk_work.specs.EngineState.{work_owed, work_closes}
 
 -- each entry is counted
 pub counts : (s : State) (who : Who) (op : WorkOp) → (work_next s who op).entries ≡ s.entries + 1
@@ -177,7 +178,7 @@ owed-answer_where : (b : Bool) (w : Wait) → waits_still (answer_where b w) ≤
 owed-answer_where true w = omega arith
 owed-answer_where false w = omega arith
 
-owed-answered : (xs : List Admission) (qs : List Queue) (closing : Closing) (who : Who) (place : ℕ) (w : Wait) → closes xs qs closing who place w ≡ true →
+owed-answered : (xs : List Admission) (qs : List Queue) (closing : Closing) (who : Who) (place : ℕ) (w : Wait) → closes (has_come xs qs closing) who place w ≡ true →
     1 + waits_still (answer_one xs qs closing who place w) ≤ waits_still w
 owed-answered xs qs closing who place w is =
     let unanswered = first_so (is_unanswered place who.number w) (has_come xs qs closing w.awaited) is in
@@ -187,7 +188,7 @@ owed-answered xs qs closing who place w is =
 
 owed-closed : (s : State) (closing : Closing) (who : Who) (place : ℕ) → sum_by waits_still (map (answer_one s.admissions s.queues closing who place) s.waits) ≤ sum_by waits_still s.waits
 owed-closed s closing who place =
-    sum_by-map waits_still (answer_one s.admissions s.queues closing who place) (λ w. owed-answer_where (closes s.admissions s.queues closing who place w) w) s.waits
+    sum_by-map waits_still (answer_one s.admissions s.queues closing who place) (λ w. owed-answer_where (closes (has_come s.admissions s.queues closing) who place w) w) s.waits
 
 -- the end of a wait is possible where one is over
 closed_where_possible : (found : Bool) (reply : WorkReply) → is_some (cond found (Some reply) None) ≡ true → found ≡ true
@@ -197,15 +198,15 @@ closed_where_possible false reply possible = absurd (cc)
 gives-closed : (s : State) (closing : Closing) (who : Who) (place : ℕ) (reply : WorkReply) → is_some (cond (may_close s closing who place) (Some reply) None) ≡ true →
     1 + sum_by waits_still (map (answer_one s.admissions s.queues closing who place) s.waits) ≤ sum_by waits_still s.waits
 gives-closed s closing who place reply possible =
-    sum_by-map_any waits_still (answer_one s.admissions s.queues closing who place) (closes s.admissions s.queues closing who place)
-    (λ w. owed-answer_where (closes s.admissions s.queues closing who place w) w) (owed-answered s.admissions s.queues closing who place) s.waits
+    sum_by-map_any waits_still (answer_one s.admissions s.queues closing who place) (closes (has_come s.admissions s.queues closing) who place)
+    (λ w. owed-answer_where (closes (has_come s.admissions s.queues closing) who place w) w) (owed-answered s.admissions s.queues closing who place) s.waits
     (closed_where_possible (may_close s closing who place) reply possible)
 
 -- submissions of arms owe nothing
 owed-arms : (s : State) (caller : Option ℕ) (arms : List Arm) → sum_by runs (submit_arms s.marks s.queues caller arms s.admissions) ≡ sum_by runs s.admissions
 owed-arms s caller arms =
     submit_arms-keeps (λ ys. sum_by runs ys ≡ sum_by runs s.admissions) s.admissions s.marks s.queues caller
-    (λ ys item named stays same. owed-submit ys item (submission ys s.marks s.queues caller item named) ∙ same) arms s.admissions (λ n a at. at) refl
+    (λ ys item named stays same. owed-submit ys item (submission (item_of ys s.marks item) s.queues caller named) ∙ same) arms s.admissions (λ n a at. at) refl
 
 -- nor does an item that is given a delay
 owed-delayed : (s : State) (who : Who) (item queue delay : ℕ) → work_owed (delayed s who item queue delay) ≤ work_owed s + 2
@@ -220,17 +221,17 @@ owed-schedule s who item queue delay =
 
 -- an operation adds at most two owed entries
 pub adds : (s : State) (who : Who) (op : WorkOp) → work_owed (work_next s who op) ≤ work_owed s + 2
-adds s who (Submit item named) = omega (arith, owed-submit s.admissions item (submission s.admissions s.marks s.queues (Some who.number) item named))
+adds s who (Submit item named) = omega (arith, owed-submit s.admissions item (submission_in s (Some who.number) item named))
 adds s who (Cancel item) = omega (arith, sum_by-map runs (drop_one item) (owed-drop_one item) s.admissions)
-adds s who (CancelStart item) = omega (arith, sum_by-map runs (drop_one item) (owed-drop_one item) s.admissions, owed-awaiting s.waits (cancel_wait s who item))
+adds s who (CancelStart item) = omega (arith, sum_by-map runs (drop_one item) (owed-drop_one item) s.admissions, owed-awaiting s.waits (cancel_wait s.entries who (running s.admissions item)))
 adds s who (CancelDone place) = omega (arith, owed-closed s closings.Cancel who place)
-adds s who (FlushStart item) = omega (arith, owed-awaiting s.waits (flush_wait s who item), owed-arms s (Some who.number) (option_to_list (live_arm s.arms item)))
+adds s who (FlushStart item) = omega (arith, owed-awaiting s.waits (flush_wait s.entries who (flushed_of s who item)), owed-arms s (Some who.number) (option_to_list (live_arm s.arms item)))
 adds s who (FlushDone place) = omega (arith, owed-closed s closings.Flush who place)
 adds s who (Schedule item queue delay) = owed-schedule s who item queue delay
 adds s who (Reschedule item queue delay) = owed-delayed (record s { arms = disarm s.arms item }) who item queue delay
 adds s who (Remaining item) = omega arith
 adds s who (Start queue) = omega arith
-adds s who (DrainStart queue plug) = omega (arith, owed-awaiting s.waits (drain_wait (is_empty_and_idle s.admissions queue) s who queue))
+adds s who (DrainStart queue plug) = omega (arith, owed-awaiting s.waits (drain_wait (is_empty_and_idle s.admissions queue) s.entries s.queues who queue))
 adds s who (DrainDone place) = omega (arith, owed-closed s closings.Drain who place)
 adds s who (Unplug queue) = omega arith
 adds s who (Announce ticks) = omega (arith, owed-arms s None (due (s.time + ticks) s.arms))

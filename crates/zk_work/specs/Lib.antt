@@ -1,5 +1,5 @@
 pub mod Engine
-pub mod Kept
+pub mod EngineState
 pub mod Laws
 pub mod Seen
 pub mod Tickets

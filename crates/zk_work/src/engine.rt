@@ -1,21 +1,23 @@
 ghost use Rattle.std.specs.Prelude.{◌≡◌, ℕ, ◌+◌, ◌-◌, ◌^◌, ◌<◌, ◌≤◌, true, false, is_some, option_map, [], ◌++◌, option_to_list, vec_len, vec_capacity, length, AllPairs, ◌≢◌, None, Some, replicate, IsOk, IfOk, IfSome, OnErr};
+ghost use Rattle.zk_base.specs.History.{AddsNone};
 ghost use Rattle.zk_model_work.specs.State.{State, start_of};
-ghost use Rattle.zk_model_work.specs.Machine.{is_among, admitted_to};
-ghost use Rattle.zk_queue.specs.Open.{is_running};
+ghost use Rattle.zk_model_work.specs.Answers.{admitted_to};
+ghost use Rattle.zk_model_work.specs.Machine.{is_among};
 ghost use Rattle.zk_time.specs.Timeouts.{is_armed, due_first, drop_due, count_due, pair_of};
-ghost use Rattle.zk_work.specs.Kept.{IsWhole, StandsFor, work_closes, work_grows};
-ghost use Rattle.zk_work.specs.Engine.{target_of, admission_of, answer_at, answer_of, MayAdmit, admitted, submitted, disarmed, is_pending, delayed, delay_reply, hurried, expiry_of, expired_next, expired, told, announced, announce_reply, flags_of, may_close, closed, reply_of, after_reply, is_now, IsTimely};
+ghost use Rattle.zk_work.specs.EngineState.{IsWhole, StandsFor, work_closes, work_grows};
+ghost use Rattle.zk_work.specs.Engine.{item_of, answer_of, MayAdmit, admitted, submitted, disarmed, is_pending_in, delayed, delay_reply_in, hurried, expiry_of, expired_next, expired, told, announced, announce_reply, flags_of, may_close, closed, reply_of, after_reply, is_now, IsTimely};
 
 use crate::active::{busy_with, cancel, settle};
 use crate::waits::{close, is_flushing, may_close};
 use bitflags::Flags;
 use std::alloc::Global;
 use std::marker::Model;
-use zk_base::{Engine, Errno, Listed, NoMemory, Who};
+use zk_base::{Engine, Listed, NoMemory, Who};
 use zk_model_work::{
-    Awaited, BusyFlags, Change, Closing, Expiry, Queue, Submitted, Wait, WorkOp, WorkReply,
-    WorkState, cancel_start_reply, change, drain, drain_reply, drained_of, flush_start_reply,
-    fresh_queues, is_worker, put_wait, refusal, start_reply, united, unplug_reply, wait_for,
+    BusyFlags, Change, Closing, Expiry, Item, Queue, Submitted, Wait, WorkOp, WorkReply, WorkState,
+    cancel_start_reply, cancel_wait, change, drain, drain_reply, drain_wait, flags,
+    flush_start_reply, flush_wait, fresh_queues, is_pending, is_worker, put_wait, remaining,
+    start_reply, submission, unplug_reply,
 };
 use zk_queue::Queues;
 use zk_time::TimeoutList;
@@ -42,12 +44,12 @@ pub struct WorkEngine {
 
 impl Model for WorkEngine {
     ghost use Rattle.std.specs.Prelude.{◌-◌, ◌^◌, ◌≤◌, vec_len, vec_capacity};
-    ghost use Rattle.zk_work.specs.Kept.{Kept, Held};
+    ghost use Rattle.zk_work.specs.EngineState.{EngineState, EngineView};
 
-    ghost Value = { Held };
+    ghost Value = { EngineView };
 
     ghost view = { λ a. record {
-      kept = record {
+      state = record {
         time = a.time;
         entries = a.entries;
         made = a.made;
@@ -86,7 +88,7 @@ fn tell(told: &mut Vec<Expiry>, expiry: Expiry)
 }
 
 /// The same reply once more. That of an announce holds a list, and isn't given here.
-fn again(reply: &WorkReply) -> WorkReply
+fn copy_of(reply: &WorkReply) -> WorkReply
     requires { is_now reply.now ≡ false }
     ensures { result ≡ reply.now }
 {
@@ -117,7 +119,7 @@ impl WorkEngine {
         requires differ { AllPairs (λ a b. a ≢ b) workers.now }
         requires queues { length workers.now ≤ 8 }
         requires items { items ≤ 256 }
-        ensures { IfOk result (λ e. StandsFor e.kept (start_of items workers.now started.now)) }
+        ensures { IfOk result (λ e. StandsFor e.state (start_of items workers.now started.now)) }
     {
         let queues = fresh_queues(alloc, workers, started)?;
         let active = Queues::new(alloc, items, workers.len() as u32)?;
@@ -136,65 +138,40 @@ impl WorkEngine {
         })
     }
 
-    /// The queue that a submission goes to.
-    fn target(&self, item: u32, runs: bool, named: Option<u32>) -> Option<u32>
-        requires { item < length self.now.kept.last }
-        ensures { result ≡ target_of self.now.kept item runs named }
+    /// What the answers ask of an item.
+    fn item(&self, item: u32) -> Item
+        requires item { item < self.now.state.active.items }
+        requires last { item < length self.now.state.last }
+        ensures { result ≡ item_of self.now.state item }
     {
+        let busy = busy_with(&self.active, item);
         let last = self.last[item as usize];
-        if runs { last } else { named.or(last) }
-    }
-
-    /// The answer where the item is admitted.
-    fn admission(&self, runs: bool, number: u32) -> Submitted
-        ensures { result ≡ admission_of self.now.kept runs number }
-    {
-        if runs {
-            Submitted::Rerun(self.made, number)
-        } else {
-            Submitted::Fresh(self.made, number)
-        }
-    }
-
-    /// The answer at the queue that the submission goes to.
-    fn answer_at(&self, caller: Option<u32>, runs: bool, to: Option<u32>) -> Submitted
-        ensures { result ≡ answer_at self.now.kept caller runs to }
-    {
-        let Some(number) = to else {
-            return Submitted::Refused(Errno::Inval);
-        };
-        match self.queues.get(number as usize) {
-            None => Submitted::Refused(Errno::Inval),
-            Some(queue) => match refusal(queue, caller) {
-                Some(errno) => Submitted::Refused(errno),
-                None => self.admission(runs, number),
-            },
+        Item {
+            cancelling: busy.cancelling,
+            queued: busy.waits,
+            running: busy.runs,
+            home: if busy.runs { last } else { None },
+            last,
+            next: self.made,
         }
     }
 
     /// The answer to a submission of the item by this player, or by nobody.
     fn answer(&self, caller: Option<u32>, item: u32, named: Option<u32>) -> Submitted
-        requires whole { IsWhole self.now.kept }
-        requires item { item < self.now.kept.active.items }
-        ensures answer { result ≡ answer_of self.now.kept caller item named }
-        ensures admits { (queue : ℕ) → admitted_to result ≡ Some queue → MayAdmit self.now.kept item queue }
+        requires whole { IsWhole self.now.state }
+        requires item { item < self.now.state.active.items }
+        ensures answer { result ≡ answer_of self.now.state caller item named }
+        ensures admits { (queue : ℕ) → admitted_to result ≡ Some queue → MayAdmit self.now.state item queue }
     {
-        let busy = busy_with(&self.active, item);
-        if busy.cancelling {
-            return Submitted::Refused(Errno::Busy);
-        }
-        if busy.waits {
-            return Submitted::Already;
-        }
-        self.answer_at(caller, busy.runs, self.target(item, busy.runs, named))
+        submission(self.item(item), &self.queues, caller, named)
     }
 
     /// One more admission.
     fn admit(&mut self, item: u32, queue: u32)
-        requires whole { IsWhole self.old.kept }
-        requires item { item < self.old.kept.active.items }
-        requires may { MayAdmit self.old.kept item queue }
-        ensures next { self.new.kept ≡ admitted self.old.kept item queue }
+        requires whole { IsWhole self.old.state }
+        requires item { item < self.old.state.active.items }
+        requires may { MayAdmit self.old.state item queue }
+        ensures next { self.new.state ≡ admitted self.old.state item queue }
         ensures room { self.new.room ≡ self.old.room }
     {
         self.active.admit(item, queue, self.made);
@@ -203,13 +180,13 @@ impl WorkEngine {
     }
 
     /// The item is admitted, where the answer to its submission says so.
-    fn take(&mut self, item: u32, answer: Submitted)
-        requires whole { IsWhole self.old.kept }
-        requires item { item < self.old.kept.active.items }
-        requires may { (queue : ℕ) → admitted_to answer ≡ Some queue → MayAdmit self.old.kept item queue }
-        ensures next { self.new.kept ≡ submitted self.old.kept item answer }
-        ensures whole { self.old.kept.made + length self.old.kept.timeouts.live < self.old.kept.entries →
-            IsWhole self.new.kept }
+    fn admit_if(&mut self, item: u32, answer: Submitted)
+        requires whole { IsWhole self.old.state }
+        requires item { item < self.old.state.active.items }
+        requires may { (queue : ℕ) → admitted_to answer ≡ Some queue → MayAdmit self.old.state item queue }
+        ensures next { self.new.state ≡ submitted self.old.state item answer }
+        ensures whole { self.old.state.made + length self.old.state.timeouts.live < self.old.state.entries →
+            IsWhole self.new.state }
         ensures room { self.new.room ≡ self.old.room }
     {
         match answer {
@@ -220,34 +197,34 @@ impl WorkEngine {
     }
 
     fn submit(&mut self, who: Who, item: u32, named: Option<u32>) -> Option<WorkReply>
-        requires whole { IsWhole self.old.kept }
-        requires item { item < self.old.kept.active.items }
-        ensures reply { result ≡ reply_of self.old.kept who (WorkOp.Submit item named) }
-        ensures next { self.new.kept ≡ after_reply self.old.kept who (WorkOp.Submit item named) result }
+        requires whole { IsWhole self.old.state }
+        requires item { item < self.old.state.active.items }
+        ensures reply { result ≡ reply_of self.old.state who (WorkOp.Submit item named) }
+        ensures next { self.new.state ≡ after_reply self.old.state who (WorkOp.Submit item named) result }
         ensures room { self.new.room ≡ self.old.room }
     {
         let answer = self.answer(Some(who.number), item, named);
-        self.take(item, answer);
+        self.admit_if(item, answer);
         self.entries += 1;
         Some(WorkReply::Sub(answer))
     }
 
     /// The busy flags of the item.
     fn flags(&self, item: u32) -> BusyFlags
-        requires { item < self.now.kept.active.items }
-        ensures { result.0 ≡ flags_of self.now.kept item }
+        requires item { item < self.now.state.active.items }
+        requires last { item < length self.now.state.last }
+        ensures { result.0 ≡ flags_of self.now.state item }
     {
-        let busy = busy_with(&self.active, item);
         let armed = self.timeouts.is_armed(item);
         let flushing = is_flushing(&self.active, &self.waits, item);
-        united(busy.runs, busy.cancelling, busy.waits, armed, flushing)
+        flags(self.item(item), armed, flushing)
     }
 
     fn cancel(&mut self, who: Who, item: u32) -> Option<WorkReply>
-        requires whole { IsWhole self.old.kept }
-        requires item { item < self.old.kept.active.items }
-        ensures reply { result ≡ reply_of self.old.kept who (WorkOp.Cancel item) }
-        ensures next { self.new.kept ≡ after_reply self.old.kept who (WorkOp.Cancel item) result }
+        requires whole { IsWhole self.old.state }
+        requires item { item < self.old.state.active.items }
+        ensures reply { result ≡ reply_of self.old.state who (WorkOp.Cancel item) }
+        ensures next { self.new.state ≡ after_reply self.old.state who (WorkOp.Cancel item) result }
         ensures room { self.new.room ≡ self.old.room }
     {
         self.timeouts.disarm(item);
@@ -258,22 +235,20 @@ impl WorkEngine {
     }
 
     fn cancel_start(&mut self, who: Who, item: u32) -> Result<Option<WorkReply>, NoMemory>
-        requires whole { IsWhole self.old.kept }
-        requires item { item < self.old.kept.active.items }
+        requires whole { IsWhole self.old.state }
+        requires item { item < self.old.state.active.items }
         ensures reply { IfOk result (λ reply.
-            reply ≡ reply_of self.old.kept who (WorkOp.CancelStart item)) }
+            reply ≡ reply_of self.old.state who (WorkOp.CancelStart item)) }
         ensures next { IfOk result (λ reply.
-            self.new.kept ≡ after_reply self.old.kept who (WorkOp.CancelStart item) reply) }
-        ensures unchanged { OnErr result (self.new.kept ≡ self.old.kept) }
+            self.new.state ≡ after_reply self.old.state who (WorkOp.CancelStart item) reply) }
+        ensures unchanged { OnErr result (self.new.state ≡ self.old.state) }
         ensures roomy { 3 ≤ self.old.room → IsOk result }
         ensures room { self.old.room ≤ self.new.room + 3 }
+        ensures kept { AddsNone result → self.old.room ≤ self.new.room }
     {
         let flags = self.flags(item);
         let run = self.active.running(item);
-        let wait = match run {
-            None => None,
-            Some(number) => Some(wait_for(self.entries, who, Awaited::Cancel(number))),
-        };
+        let wait = cancel_wait(self.entries, who, run);
         put_wait(&mut self.waits, wait)?;
         self.timeouts.disarm(item);
         cancel(&mut self.active, item);
@@ -283,24 +258,22 @@ impl WorkEngine {
     }
 
     fn flush_start(&mut self, who: Who, item: u32) -> Result<Option<WorkReply>, NoMemory>
-        requires whole { IsWhole self.old.kept }
-        requires item { item < self.old.kept.active.items }
+        requires whole { IsWhole self.old.state }
+        requires item { item < self.old.state.active.items }
         ensures reply { IfOk result (λ reply.
-            reply ≡ reply_of self.old.kept who (WorkOp.FlushStart item)) }
+            reply ≡ reply_of self.old.state who (WorkOp.FlushStart item)) }
         ensures next { IfOk result (λ reply.
-            self.new.kept ≡ after_reply self.old.kept who (WorkOp.FlushStart item) reply) }
-        ensures unchanged { OnErr result (self.new.kept ≡ self.old.kept) }
+            self.new.state ≡ after_reply self.old.state who (WorkOp.FlushStart item) reply) }
+        ensures unchanged { OnErr result (self.new.state ≡ self.old.state) }
         ensures roomy { 3 ≤ self.old.room → IsOk result }
         ensures room { self.old.room ≤ self.new.room + 3 }
+        ensures kept { AddsNone result → self.old.room ≤ self.new.room }
     {
         self.waits.reserve(1)?;
         self.hurry(who, item);
         let waiting = self.active.waiting(item);
         let number = waiting.or(self.active.running(item));
-        let wait = match number {
-            None => None,
-            Some(number) => Some(wait_for(self.entries, who, Awaited::Flush(number))),
-        };
+        let wait = flush_wait(self.entries, who, number);
         put_wait(&mut self.waits, wait)?;
         self.entries += 1;
         Ok(Some(flush_start_reply(number)))
@@ -308,10 +281,10 @@ impl WorkEngine {
 
     /// The item isn't armed any more.
     fn disarm(&mut self, item: u32)
-        requires whole { IsWhole self.old.kept }
-        ensures next { self.new.kept ≡ disarmed self.old.kept item }
-        ensures whole { IsWhole self.new.kept }
-        ensures free { is_armed self.new.kept.timeouts item ≡ false }
+        requires whole { IsWhole self.old.state }
+        ensures next { self.new.state ≡ disarmed self.old.state item }
+        ensures whole { IsWhole self.new.state }
+        ensures free { is_armed self.new.state.timeouts item ≡ false }
         ensures room { self.new.room ≡ self.old.room }
     {
         self.timeouts.disarm(item);
@@ -319,41 +292,41 @@ impl WorkEngine {
 
     /// The item's delay ends, if it has one: the item is submitted by the player.
     fn hurry(&mut self, who: Who, item: u32)
-        requires whole { IsWhole self.old.kept }
-        requires item { item < self.old.kept.active.items }
-        ensures next { self.new.kept ≡ hurried self.old.kept who item }
+        requires whole { IsWhole self.old.state }
+        requires item { item < self.old.state.active.items }
+        ensures next { self.new.state ≡ hurried self.old.state who item }
         ensures room { self.new.room ≡ self.old.room }
     {
         let queue = self.timeouts.queue(item);
         self.disarm(item);
         if let Some(queue) = queue {
             let answer = self.answer(Some(who.number), item, Some(queue));
-            self.take(item, answer);
+            self.admit_if(item, answer);
         }
     }
 
     /// Whether the item is delayed, queued or being cancelled.
     fn is_pending(&self, item: u32) -> bool
-        requires { item < self.now.kept.active.items }
-        ensures { result ≡ is_pending self.now.kept item }
+        requires item { item < self.now.state.active.items }
+        requires last { item < length self.now.state.last }
+        ensures { result ≡ is_pending_in self.now.state item }
     {
-        let busy = busy_with(&self.active, item);
-        self.timeouts.is_armed(item) || busy.waits || busy.cancelling
+        is_pending(self.item(item), self.timeouts.is_armed(item))
     }
 
     /// Gives an item that isn't armed a delay: with none it is submitted.
     fn delay(&mut self, who: Who, item: u32, queue: u32, delay: u32) -> WorkReply
-        requires whole { IsWhole self.old.kept }
-        requires item { item < self.old.kept.active.items }
-        requires short { self.old.kept.entries < 2 ^ 32 - 1 }
-        requires free { is_armed self.old.kept.timeouts item ≡ false }
-        ensures reply { result ≡ delay_reply self.old.kept who item queue delay }
-        ensures next { self.new.kept ≡ delayed self.old.kept who item queue delay }
+        requires whole { IsWhole self.old.state }
+        requires item { item < self.old.state.active.items }
+        requires short { self.old.state.entries < 2 ^ 32 - 1 }
+        requires free { is_armed self.old.state.timeouts item ≡ false }
+        ensures reply { result ≡ delay_reply_in self.old.state who item queue delay }
+        ensures next { self.new.state ≡ delayed self.old.state who item queue delay }
         ensures room { self.new.room ≡ self.old.room }
     {
         if delay == 0 {
             let answer = self.answer(Some(who.number), item, Some(queue));
-            self.take(item, answer);
+            self.admit_if(item, answer);
             return WorkReply::Sub(answer);
         }
         let deadline = self.time + u64::from(delay);
@@ -362,11 +335,11 @@ impl WorkEngine {
     }
 
     fn schedule(&mut self, who: Who, item: u32, queue: u32, delay: u32) -> Option<WorkReply>
-        requires whole { IsWhole self.old.kept }
-        requires item { item < self.old.kept.active.items }
-        requires short { self.old.kept.entries < 2 ^ 32 - 1 }
-        ensures reply { result ≡ reply_of self.old.kept who (WorkOp.Schedule item queue delay) }
-        ensures next { self.new.kept ≡ after_reply self.old.kept who (WorkOp.Schedule item queue delay) result }
+        requires whole { IsWhole self.old.state }
+        requires item { item < self.old.state.active.items }
+        requires short { self.old.state.entries < 2 ^ 32 - 1 }
+        ensures reply { result ≡ reply_of self.old.state who (WorkOp.Schedule item queue delay) }
+        ensures next { self.new.state ≡ after_reply self.old.state who (WorkOp.Schedule item queue delay) result }
         ensures timely { delay < 2 ^ 32 }
         ensures room { self.new.room ≡ self.old.room }
     {
@@ -380,11 +353,11 @@ impl WorkEngine {
     }
 
     fn reschedule(&mut self, who: Who, item: u32, queue: u32, delay: u32) -> Option<WorkReply>
-        requires whole { IsWhole self.old.kept }
-        requires item { item < self.old.kept.active.items }
-        requires short { self.old.kept.entries < 2 ^ 32 - 1 }
-        ensures reply { result ≡ reply_of self.old.kept who (WorkOp.Reschedule item queue delay) }
-        ensures next { self.new.kept ≡ after_reply self.old.kept who (WorkOp.Reschedule item queue delay) result }
+        requires whole { IsWhole self.old.state }
+        requires item { item < self.old.state.active.items }
+        requires short { self.old.state.entries < 2 ^ 32 - 1 }
+        ensures reply { result ≡ reply_of self.old.state who (WorkOp.Reschedule item queue delay) }
+        ensures next { self.new.state ≡ after_reply self.old.state who (WorkOp.Reschedule item queue delay) result }
         ensures timely { delay < 2 ^ 32 }
         ensures room { self.new.room ≡ self.old.room }
     {
@@ -395,26 +368,23 @@ impl WorkEngine {
     }
 
     fn remaining(&mut self, who: Who, item: u32) -> Option<WorkReply>
-        requires whole { IsWhole self.old.kept }
-        ensures reply { result ≡ reply_of self.old.kept who (WorkOp.Remaining item) }
-        ensures next { self.new.kept ≡ after_reply self.old.kept who (WorkOp.Remaining item) result }
+        requires whole { IsWhole self.old.state }
+        ensures reply { result ≡ reply_of self.old.state who (WorkOp.Remaining item) }
+        ensures next { self.new.state ≡ after_reply self.old.state who (WorkOp.Remaining item) result }
         ensures room { self.new.room ≡ self.old.room }
     {
-        let remaining = match self.timeouts.deadline(item) {
-            None => 0,
-            Some(deadline) => deadline.saturating_sub(self.time),
-        };
+        let remaining = remaining(self.timeouts.deadline(item), self.time);
         self.entries += 1;
         Some(WorkReply::Number(remaining))
     }
 
     /// Takes out the first item that is due by this time, if there is one: the item and its queue.
     fn take_due(&mut self, time: u64) -> Option<(u32, u32)>
-        requires whole { IsWhole self.old.kept }
-        ensures reply { result ≡ option_map pair_of (due_first time self.old.kept.timeouts.live) }
-        ensures next { self.new.kept ≡ record self.old.kept { timeouts = drop_due self.old.kept.timeouts time } }
-        ensures whole { IsWhole self.new.kept }
-        ensures known { IfSome result (λ t. t.0 < self.old.kept.active.items) }
+        requires whole { IsWhole self.old.state }
+        ensures reply { result ≡ option_map pair_of (due_first time self.old.state.timeouts.live) }
+        ensures next { self.new.state ≡ record self.old.state { timeouts = drop_due self.old.state.timeouts time } }
+        ensures whole { IsWhole self.new.state }
+        ensures known { IfSome result (λ t. t.0 < self.old.state.active.items) }
         ensures room { self.new.room ≡ self.old.room }
     {
         self.timeouts.due(time)
@@ -422,44 +392,44 @@ impl WorkEngine {
 
     /// The first item that is due by this time is submitted by nobody. One has to be due.
     fn expire_next(&mut self, time: u64) -> Expiry
-        requires whole { IsWhole self.old.kept }
-        requires due { is_some (due_first time self.old.kept.timeouts.live) ≡ true }
-        ensures expiry { Some result ≡ option_map (expiry_of self.old.kept) (due_first time self.old.kept.timeouts.live) }
-        ensures next { self.new.kept ≡ expired_next time self.old.kept }
-        ensures whole { IsWhole self.new.kept }
+        requires whole { IsWhole self.old.state }
+        requires due { is_some (due_first time self.old.state.timeouts.live) ≡ true }
+        ensures expiry { Some result ≡ option_map (expiry_of self.old.state) (due_first time self.old.state.timeouts.live) }
+        ensures next { self.new.state ≡ expired_next time self.old.state }
+        ensures whole { IsWhole self.new.state }
         ensures room { self.new.room ≡ self.old.room }
     {
         let Some((item, queue)) = self.take_due(time) else {
             unreachable!();
         };
         let submitted = self.answer(None, item, Some(queue));
-        self.take(item, submitted);
+        self.admit_if(item, submitted);
         Expiry { item, submitted }
     }
 
     /// All items that are due by this time are submitted by nobody, and what became of each is told twice.
-    fn expire(&mut self, time: u64, one: &mut Vec<Expiry>, other: &mut Vec<Expiry>)
-        requires whole { IsWhole self.old.kept }
-        requires one { count_due self.old.kept.timeouts time ≤ vec_capacity one.old }
-        requires other { count_due self.old.kept.timeouts time ≤ vec_capacity other.old }
-        requires none { (one.old.items ≡ []) × (other.old.items ≡ []) }
-        ensures next { self.new.kept ≡ expired (count_due self.old.kept.timeouts time) time self.old.kept }
-        ensures one { one.new.items ≡ told (count_due self.old.kept.timeouts time) time self.old.kept }
-        ensures other { other.new.items ≡ told (count_due self.old.kept.timeouts time) time self.old.kept }
-        ensures entries { self.new.kept.entries ≡ self.old.kept.entries }
+    fn expire(&mut self, time: u64, expiries: &mut Vec<Expiry>, copy: &mut Vec<Expiry>)
+        requires whole { IsWhole self.old.state }
+        requires room { count_due self.old.state.timeouts time ≤ vec_capacity expiries.old }
+        requires copy { count_due self.old.state.timeouts time ≤ vec_capacity copy.old }
+        requires none { (expiries.old.items ≡ []) × (copy.old.items ≡ []) }
+        ensures next { self.new.state ≡ expired (count_due self.old.state.timeouts time) time self.old.state }
+        ensures told { expiries.new.items ≡ told (count_due self.old.state.timeouts time) time self.old.state }
+        ensures copy { copy.new.items ≡ told (count_due self.old.state.timeouts time) time self.old.state }
+        ensures entries { self.new.state.entries ≡ self.old.state.entries }
         ensures room { self.new.room ≡ self.old.room }
     {
         for _ in 0..self.timeouts.count_due(time) {
             let expiry = self.expire_next(time);
-            tell(one, expiry);
-            tell(other, expiry);
+            tell(expiries, expiry);
+            tell(copy, expiry);
         }
     }
 
-    /// It is this time, at an entry that is counted.
-    fn pass(&mut self, time: u64)
-        requires short { self.old.kept.entries < 2 ^ 32 - 1 }
-        ensures next { self.new.kept ≡ record self.old.kept { time = time; entries = self.old.kept.entries + 1 } }
+    /// It is this time from now on, at an entry that is counted.
+    fn set_time(&mut self, time: u64)
+        requires short { self.old.state.entries < 2 ^ 32 - 1 }
+        ensures next { self.new.state ≡ record self.old.state { time = time; entries = self.old.state.entries + 1 } }
         ensures room { self.new.room ≡ self.old.room }
     {
         self.time = time;
@@ -468,27 +438,27 @@ impl WorkEngine {
 
     /// So many ticks have passed. The reply comes twice, since one of them is kept in the history.
     fn announce(&mut self, ticks: u32) -> Result<(WorkReply, WorkReply), NoMemory>
-        requires whole { IsWhole self.old.kept }
-        requires short { self.old.kept.entries < 2 ^ 32 - 1 }
-        ensures reply { IfOk result (λ two. two.0 ≡ announce_reply self.old.kept ticks) }
+        requires whole { IsWhole self.old.state }
+        requires short { self.old.state.entries < 2 ^ 32 - 1 }
+        ensures reply { IfOk result (λ two. two.0 ≡ announce_reply self.old.state ticks) }
         ensures twice { IfOk result (λ two. two.1 ≡ two.0) }
-        ensures next { IfOk result (λ two. self.new.kept ≡ record (announced self.old.kept ticks) {
-          entries = self.old.kept.entries + 1;
+        ensures next { IfOk result (λ two. self.new.state ≡ record (announced self.old.state ticks) {
+          entries = self.old.state.entries + 1;
         }) }
-        ensures unchanged { OnErr result (self.new.kept ≡ self.old.kept) }
+        ensures unchanged { OnErr result (self.new.state ≡ self.old.state) }
         ensures timely { ticks < 2 ^ 32 }
         ensures room { self.new.room ≡ self.old.room }
     {
         let alloc = *self.waits.allocator();
         let time = self.time + u64::from(ticks);
         let due = self.timeouts.count_due(time);
-        let mut one = Vec::with_capacity(alloc, due)?;
-        let mut other = Vec::with_capacity(alloc, due)?;
-        self.expire(time, &mut one, &mut other);
-        self.pass(time);
+        let mut expiries = Vec::with_capacity(alloc, due)?;
+        let mut copy = Vec::with_capacity(alloc, due)?;
+        self.expire(time, &mut expiries, &mut copy);
+        self.set_time(time);
         Ok((
-            WorkReply::Now(time, Listed::from_vec(one)),
-            WorkReply::Now(time, Listed::from_vec(other)),
+            WorkReply::Now(time, Listed::from_vec(expiries)),
+            WorkReply::Now(time, Listed::from_vec(copy)),
         ))
     }
 
@@ -498,23 +468,19 @@ impl WorkEngine {
         queue: u32,
         plug: bool,
     ) -> Result<Option<WorkReply>, NoMemory>
-        requires whole { IsWhole self.old.kept }
-        requires queue { queue < self.old.kept.active.queues }
+        requires whole { IsWhole self.old.state }
+        requires queue { queue < self.old.state.active.queues }
         ensures reply { IfOk result (λ reply.
-            reply ≡ reply_of self.old.kept who (WorkOp.DrainStart queue plug)) }
+            reply ≡ reply_of self.old.state who (WorkOp.DrainStart queue plug)) }
         ensures next { IfOk result (λ reply.
-            self.new.kept ≡ after_reply self.old.kept who (WorkOp.DrainStart queue plug) reply) }
-        ensures unchanged { OnErr result (self.new.kept ≡ self.old.kept) }
+            self.new.state ≡ after_reply self.old.state who (WorkOp.DrainStart queue plug) reply) }
+        ensures unchanged { OnErr result (self.new.state ≡ self.old.state) }
         ensures roomy { 3 ≤ self.old.room → IsOk result }
         ensures room { self.old.room ≤ self.new.room + 3 }
+        ensures kept { AddsNone result → self.old.room ≤ self.new.room }
     {
         let idle = self.active.is_idle(queue);
-        let wait = if idle {
-            None
-        } else {
-            let drained = drained_of(&self.queues, queue);
-            Some(wait_for(self.entries, who, Awaited::Drain(queue, drained)))
-        };
+        let wait = drain_wait(idle, self.entries, &self.queues, who, queue);
         put_wait(&mut self.waits, wait)?;
         drain(&mut self.queues, queue, idle, plug);
         self.entries += 1;
@@ -523,16 +489,16 @@ impl WorkEngine {
 
     /// Whether the player may end its wait of this place.
     fn may_close(&self, closing: Closing, who: Who, place: u64) -> bool
-        ensures { result ≡ may_close self.now.kept closing who place }
+        ensures { result ≡ may_close self.now.state closing who place }
     {
         may_close(&self.active, &self.queues, &self.waits, closing, who, place)
     }
 
     /// Ends the waits of the player and place for what has come.
     fn close(&mut self, closing: Closing, who: Who, place: u64)
-        requires whole { IsWhole self.old.kept }
-        ensures next { self.new.kept ≡ record (closed self.old.kept closing who place) {
-          entries = self.old.kept.entries + 1;
+        requires whole { IsWhole self.old.state }
+        ensures next { self.new.state ≡ record (closed self.old.state closing who place) {
+          entries = self.old.state.entries + 1;
         } }
         ensures room { self.old.room ≤ self.new.room }
     {
@@ -548,9 +514,9 @@ impl WorkEngine {
     }
 
     fn cancel_done(&mut self, who: Who, place: u64) -> Option<WorkReply>
-        requires whole { IsWhole self.old.kept }
-        ensures reply { result ≡ reply_of self.old.kept who (WorkOp.CancelDone place) }
-        ensures next { self.new.kept ≡ after_reply self.old.kept who (WorkOp.CancelDone place) result }
+        requires whole { IsWhole self.old.state }
+        ensures reply { result ≡ reply_of self.old.state who (WorkOp.CancelDone place) }
+        ensures next { self.new.state ≡ after_reply self.old.state who (WorkOp.CancelDone place) result }
         ensures room { self.old.room ≤ self.new.room }
     {
         if !self.may_close(Closing::Cancel, who, place) {
@@ -561,9 +527,9 @@ impl WorkEngine {
     }
 
     fn flush_done(&mut self, who: Who, place: u64) -> Option<WorkReply>
-        requires whole { IsWhole self.old.kept }
-        ensures reply { result ≡ reply_of self.old.kept who (WorkOp.FlushDone place) }
-        ensures next { self.new.kept ≡ after_reply self.old.kept who (WorkOp.FlushDone place) result }
+        requires whole { IsWhole self.old.state }
+        ensures reply { result ≡ reply_of self.old.state who (WorkOp.FlushDone place) }
+        ensures next { self.new.state ≡ after_reply self.old.state who (WorkOp.FlushDone place) result }
         ensures room { self.old.room ≤ self.new.room }
     {
         if !self.may_close(Closing::Flush, who, place) {
@@ -574,9 +540,9 @@ impl WorkEngine {
     }
 
     fn drain_done(&mut self, who: Who, place: u64) -> Option<WorkReply>
-        requires whole { IsWhole self.old.kept }
-        ensures reply { result ≡ reply_of self.old.kept who (WorkOp.DrainDone place) }
-        ensures next { self.new.kept ≡ after_reply self.old.kept who (WorkOp.DrainDone place) result }
+        requires whole { IsWhole self.old.state }
+        ensures reply { result ≡ reply_of self.old.state who (WorkOp.DrainDone place) }
+        ensures next { self.new.state ≡ after_reply self.old.state who (WorkOp.DrainDone place) result }
         ensures room { self.old.room ≤ self.new.room }
     {
         if !self.may_close(Closing::Drain, who, place) {
@@ -587,9 +553,9 @@ impl WorkEngine {
     }
 
     fn unplug(&mut self, who: Who, queue: u32) -> Option<WorkReply>
-        requires whole { IsWhole self.old.kept }
-        ensures reply { result ≡ reply_of self.old.kept who (WorkOp.Unplug queue) }
-        ensures next { self.new.kept ≡ after_reply self.old.kept who (WorkOp.Unplug queue) result }
+        requires whole { IsWhole self.old.state }
+        ensures reply { result ≡ reply_of self.old.state who (WorkOp.Unplug queue) }
+        ensures next { self.new.state ≡ after_reply self.old.state who (WorkOp.Unplug queue) result }
         ensures room { self.new.room ≡ self.old.room }
     {
         let reply = unplug_reply(&self.queues, queue);
@@ -599,9 +565,9 @@ impl WorkEngine {
     }
 
     fn start(&mut self, who: Who, queue: u32) -> Option<WorkReply>
-        requires whole { IsWhole self.old.kept }
-        ensures reply { result ≡ reply_of self.old.kept who (WorkOp.Start queue) }
-        ensures next { self.new.kept ≡ after_reply self.old.kept who (WorkOp.Start queue) result }
+        requires whole { IsWhole self.old.state }
+        ensures reply { result ≡ reply_of self.old.state who (WorkOp.Start queue) }
+        ensures next { self.new.state ≡ after_reply self.old.state who (WorkOp.Start queue) result }
         ensures room { self.new.room ≡ self.old.room }
     {
         let reply = start_reply(&self.queues, queue);
@@ -611,10 +577,10 @@ impl WorkEngine {
     }
 
     fn begin(&mut self, who: Who, queue: u32) -> Option<WorkReply>
-        requires whole { IsWhole self.old.kept }
-        requires queue { queue < self.old.kept.active.queues }
-        ensures reply { result ≡ reply_of self.old.kept who (WorkOp.Begin queue) }
-        ensures next { self.new.kept ≡ after_reply self.old.kept who (WorkOp.Begin queue) result }
+        requires whole { IsWhole self.old.state }
+        requires queue { queue < self.old.state.active.queues }
+        ensures reply { result ≡ reply_of self.old.state who (WorkOp.Begin queue) }
+        ensures next { self.new.state ≡ after_reply self.old.state who (WorkOp.Begin queue) result }
         ensures room { self.new.room ≡ self.old.room }
     {
         if !is_worker(&self.queues, queue, who.number) {
@@ -627,10 +593,10 @@ impl WorkEngine {
     }
 
     fn end(&mut self, who: Who, queue: u32) -> Option<WorkReply>
-        requires whole { IsWhole self.old.kept }
-        requires queue { queue < self.old.kept.active.queues }
-        ensures reply { result ≡ reply_of self.old.kept who (WorkOp.End queue) }
-        ensures next { self.new.kept ≡ after_reply self.old.kept who (WorkOp.End queue) result }
+        requires whole { IsWhole self.old.state }
+        requires queue { queue < self.old.state.active.queues }
+        ensures reply { result ≡ reply_of self.old.state who (WorkOp.End queue) }
+        ensures next { self.new.state ≡ after_reply self.old.state who (WorkOp.End queue) result }
         ensures room { self.new.room ≡ self.old.room }
     {
         if !is_worker(&self.queues, queue, who.number) {
@@ -645,19 +611,20 @@ impl WorkEngine {
     }
 
     /// One operation that isn't an announce.
-    fn one(&mut self, who: Who, op: &WorkOp) -> Result<Option<WorkReply>, NoMemory>
-        requires whole { IsWhole self.old.kept }
-        requires range { is_among self.old.kept.active.items self.old.kept.active.queues op.now ≡ true }
-        requires short { self.old.kept.entries < 2 ^ 32 - 1 }
+    fn operate(&mut self, who: Who, op: &WorkOp) -> Result<Option<WorkReply>, NoMemory>
+        requires whole { IsWhole self.old.state }
+        requires range { is_among self.old.state.active.items self.old.state.active.queues op.now ≡ true }
+        requires short { self.old.state.entries < 2 ^ 32 - 1 }
         requires plain { work_grows op.now ≡ false }
-        ensures reply { IfOk result (λ reply. reply ≡ reply_of self.old.kept who op.now) }
+        ensures reply { IfOk result (λ reply. reply ≡ reply_of self.old.state who op.now) }
         ensures next { IfOk result (λ reply.
-            self.new.kept ≡ after_reply self.old.kept who op.now reply) }
-        ensures unchanged { OnErr result (self.new.kept ≡ self.old.kept) }
+            self.new.state ≡ after_reply self.old.state who op.now reply) }
+        ensures unchanged { OnErr result (self.new.state ≡ self.old.state) }
         ensures closing { work_closes op.now ≡ true → IsOk result }
         ensures timely { IsTimely op.now }
         ensures roomy { 3 ≤ self.old.room → IsOk result }
         ensures room { self.old.room ≤ self.new.room + 3 }
+        ensures kept { AddsNone result → self.old.room ≤ self.new.room }
     {
         match *op {
             WorkOp::Submit(item, named) => Ok(self.submit(who, item, named)),
@@ -688,10 +655,10 @@ impl Engine for WorkEngine {
     type State = WorkState;
 
     ghost use Rattle.zk_model_work.specs.Machine.{work_machine};
-    ghost use Rattle.zk_work.specs.Kept.{StandsFor, work_owed, work_closes, work_grows};
+    ghost use Rattle.zk_work.specs.EngineState.{StandsFor, work_owed, work_closes, work_grows};
     ghost use Rattle.zk_work.specs.Laws.{counts, ranges, adds, gives};
 
-    ghost stands_for = { λ e. StandsFor e.kept };
+    ghost stands_for = { λ e. StandsFor e.state };
 
     ghost room = { λ e. e.room };
 
@@ -709,11 +676,11 @@ impl Engine for WorkEngine {
         if let WorkOp::Announce(ticks) = *op {
             return Ok(Some(self.announce(ticks)?));
         }
-        match self.one(who, op)? {
+        match self.operate(who, op)? {
             None => Ok(None),
             Some(reply) => {
-                let again = again(&reply);
-                Ok(Some((reply, again)))
+                let copy = copy_of(&reply);
+                Ok(Some((reply, copy)))
             }
         }
     }

@@ -6,7 +6,6 @@ mod engine;
 mod waits;
 mod work;
 
-pub use engine::WorkEngine;
 pub use work::Work;
 
 #[cfg(test)]

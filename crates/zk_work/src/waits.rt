@@ -1,6 +1,7 @@
 ghost use Rattle.std.specs.Prelude.{◌≡◌, ◌<◌, ◌≤◌, not, filter, vec_len, vec_capacity};
 ghost use Rattle.std.specs.List.{list_any};
-ghost use Rattle.zk_work.specs.Engine.{is_number, flushes, is_flushing, has_come, closes, left_waits};
+ghost use Rattle.zk_model_work.specs.Answers.{closes};
+ghost use Rattle.zk_work.specs.Engine.{is_number, flushes, is_flushing, has_come, left_waits};
 
 use zk_base::Who;
 use zk_model_work::{Awaited, Closing, Queue, Wait, drained_of, is_unanswered};
@@ -57,7 +58,7 @@ fn closes(
     place: u64,
     wait: Wait,
 ) -> bool
-    ensures { result ≡ closes active.now queues.now closing who place wait }
+    ensures { result ≡ closes (has_come active.now queues.now closing) who place wait }
 {
     is_unanswered(wait, place, who.number) && has_come(active, queues, closing, wait.awaited)
 }
@@ -71,7 +72,7 @@ pub fn may_close(
     who: Who,
     place: u64,
 ) -> bool
-    ensures { result ≡ list_any (closes active.now queues.now closing who place) waits.now }
+    ensures { result ≡ list_any (closes (has_come active.now queues.now closing) who place) waits.now }
 {
     waits
         .iter()
@@ -87,7 +88,8 @@ pub fn close(
     who: Who,
     place: u64,
 )
-    ensures items { waits.new.items ≡ left_waits active.now queues.now waits.old.items closing who place }
+    ensures items { waits.new.items
+        ≡ left_waits active.now queues.now waits.old.items closing who place }
     ensures len { vec_len waits.new ≤ vec_len waits.old }
     ensures capacity { vec_capacity waits.new ≡ vec_capacity waits.old }
 {

@@ -2,7 +2,7 @@ ghost use Rattle.std.specs.Prelude.{◌≡◌, ◌≢◌, ◌≤◌, [], length,
 ghost use Rattle.zk_model_work.specs.State.{start_of};
 ghost use Rattle.zk_work.specs.Seen.{work_start, work_history};
 
-use crate::WorkEngine;
+use crate::engine::WorkEngine;
 use std::alloc::Global;
 use zk_base::{Entry, NoMemory, Recorded, Service, Who};
 use zk_model_work::{WorkOp, WorkReply, WorkState};
@@ -46,7 +46,7 @@ impl Service for Work {
     type State = WorkState;
 
     ghost use Rattle.zk_model_work.specs.Machine.{work_machine};
-    ghost use Rattle.zk_work.specs.Kept.{work_closes, work_grows};
+    ghost use Rattle.zk_work.specs.EngineState.{work_closes, work_grows};
     ghost use Rattle.zk_work.specs.Seen.{work_start, work_history};
 
     ghost machine = { work_machine };

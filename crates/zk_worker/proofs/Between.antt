@@ -7,6 +7,7 @@ use Rattle.std.proofs.lemmas.List.{append-nil, append_assoc}
 use Rattle.std.proofs.lemmas.Option.{slice_get_within}
 use Rattle.zk_base.specs.declared.ids.Entry.{Entry}
 use Rattle.zk_base.specs.History.{IsAbove}
+use Rattle.zk_base.proofs.Lists.{All-at}
 use Rattle.zk_worker.specs.declared.steps.Step.{Step}
 use Rattle.zk_worker.specs.declared.steps.Step.TheVariants as steps
 use Rattle.zk_worker.specs.declared.steps.StepReply.{StepReply}
@@ -16,7 +17,6 @@ use Rattle.zk_worker.specs.declared.steps.Spot.TheVariants as spots
 use Rattle.zk_worker.specs.Follows.{made_at}
 use Rattle.zk_worker.specs.Shown.{Shown, nothing_shown, step_of, shown_at, ShowsLog, IsLater, AreShort, OthersGrew, AllGrew, Between}
 use Rattle.zk_worker.proofs.Lists.{known-longer, known-back, known-there}
-use Rattle.zk_worker.proofs.Numbers.{All-slice_get}
 
 -- the histories of each kind
 module _ {O R : Type 0} (number : ℕ) where
@@ -54,7 +54,7 @@ module _ {O R : Type 0} (number : ℕ) where
       by_place (inr added) =
           let P : Entry O R → Type 0 = λ e. e.who.number ≢ number in
           let found = known-there step_of grew.more added.0 (number, step) added.2 in
-          absurd (All-slice_get P grew.more added.0 found.0 found.1 grew.others (ap (λ (b : ℕ × ℕ). b.0) found.2))
+          absurd (All-at P grew.more added.0 found.0 grew.others found.1 (ap (λ (b : ℕ × ℕ). b.0) found.2))
 
   above-all : (h : List (Entry O R)) (next : ℕ) → ((place step : ℕ) → option_map step_of (slice_get h place) ≡ Some (number, step) → step < next) → IsAbove h number next
   above-all [] next each = let P : Entry O R → Type 0 = λ e. e.who.number ≡ number → e.step < next in All-nil P

@@ -2,10 +2,10 @@
 use Rattle.std.proofs.Common.{◌≡◌, ℕ, zero, suc, ◌+◌, ◌<◌, Bool, true, false, Option, Some, None, List, [], ◌∷◌, length, All, refl, ap, subst, arith, cond, nat_lt, ◌&&◌}
 use Rattle.std.specs.Option.{option_map, option_map_or}
 use Rattle.std.specs.List.{slice_get, list_all}
-use Rattle.std.proofs.lemmas.Bool.{and_parts, and_from}
-use Rattle.std.proofs.lemmas.Bool.Decides.{nat_tests}
+use Rattle.std.proofs.lemmas.Bool.{and_parts, and_from, lt-ltb}
 use Rattle.std.proofs.lemmas.List.Elements.{All-nil, All-cons, All-head, All-tail}
 use Rattle.std.proofs.lemmas.Option.{option_and_then_some}
+use Rattle.zk_base.proofs.Lists.{slice_get-one, cond_nil-at, list_all-at}
 use Rattle.zk_line.specs.declared.types.Decl.{Decl}
 use Rattle.zk_line.specs.declared.types.Decl.TheVariants.{Thread, Queue, Item}
 use Rattle.zk_line.specs.declared.types.Ref.TheVariants.{Known}
@@ -18,39 +18,36 @@ use Rattle.zk_words.specs.Numbers.{is_between}
 use Rattle.zk_line.specs.Fits.{call_fits}
 use Rattle.zk_scenario.specs.Valid.{IsValid}
 use Rattle.zk_line.proofs.Tables.{length-places}
-use Rattle.zk_scenario.proofs.Valid.{number_of-item, number_of-queue, list_all-at, call_fits-calls_of}
+use Rattle.zk_scenario.proofs.Valid.{number_of-item, number_of-queue, call_fits-calls_of}
 use Rattle.zk_worker.specs.declared.steps.TheConstants.{MOST_STEPS}
 use Rattle.zk_worker.specs.declared.steps.Step.{Step}
 use Rattle.zk_worker.specs.declared.steps.StepReply.{StepReply}
 use Rattle.zk_worker.specs.declared.frames.Frame.{Frame}
 use Rattle.zk_worker.specs.declared.frames.Closing.{Closing}
 use Rattle.zk_worker.specs.declared.frames.Closing.TheVariants as closings
-use Rattle.zk_worker.specs.declared.frames.Form.{Form}
-use Rattle.zk_worker.specs.declared.frames.Form.TheVariants.{One, Pair, Twice}
+use Rattle.zk_worker.specs.declared.frames.Plan.{Plan}
+use Rattle.zk_worker.specs.declared.frames.Plan.TheVariants.{One, Pair, Twice}
 use Rattle.zk_worker.specs.declared.frames.Stage.{Stage}
 use Rattle.zk_worker.specs.declared.frames.Stage.TheVariants as stages
 use Rattle.zk_worker.specs.declared.frames.Role.{Role}
 use Rattle.zk_worker.specs.declared.frames.Role.TheVariants as roles
 use Rattle.zk_worker.specs.declared.frames.Progress.{Progress}
 use Rattle.zk_worker.specs.declared.frames.Progress.TheVariants.{Goes, Answers, Enters}
-use Rattle.zk_worker.specs.Calls.{form_of, closing_step, form_attempts}
+use Rattle.zk_worker.specs.Calls.{plan_of, closing_step, plan_attempts}
 use Rattle.zk_worker.specs.Places.{At}
 use Rattle.zk_worker.specs.Protocol.{worker_attempts, call_attempts, role_attempts, frames_attempts, IsAhead, after, frames_after, frames_progress, entered, first_frame, role_at, starting, start_at}
 use Rattle.zk_worker.specs.Ranges.{step_fits, role_fits, FramesFit}
-use Rattle.zk_worker.proofs.Moves.{settled-all, entered-all}
-
-lt-yes : (a b : ℕ) → a < b → nat_lt a b ≡ true
-lt-yes a b less = grind (arith, nat_tests)
+use Rattle.zk_worker.proofs.Limits.{settled-all, entered-all}
 
 -- an item that a call names is one of the items
 item-fits : (decls : List Decl) (object : ℕ) → is_at is_item decls object ≡ true → nat_lt (number_of decls object) (length (places is_item decls)) ≡ true
 item-fits decls object is =
-    lt-yes (number_of decls object) (length (places is_item decls)) (omega (arith, number_of-item decls object is, length-places is_item decls))
+    lt-ltb (number_of decls object) (length (places is_item decls)) (omega (arith, number_of-item decls object is, length-places is_item decls))
 
 -- a queue that a call names is one of the queues
 queue-fits : (decls : List Decl) (object : ℕ) → is_at is_queue decls object ≡ true → nat_lt (number_of decls object) (length (places is_queue decls)) ≡ true
 queue-fits decls object is =
-    lt-yes (number_of decls object) (length (places is_queue decls)) (omega (arith, number_of-queue decls object is, length-places is_queue decls))
+    lt-ltb (number_of decls object) (length (places is_queue decls)) (omega (arith, number_of-queue decls object is, length-places is_queue decls))
 
 -- an item and a queue that a call names are one of the items and one of the queues
 both-fit : (decls : List Decl) (item queue : ℕ) → (is_at is_item decls item && is_at is_queue decls queue) ≡ true →
@@ -61,10 +58,10 @@ both-fit decls item queue fits =
     (item-fits decls item both.0) (queue-fits decls queue both.1)
 
 -- the steps that a fitting call makes fit
-FormFits : List Decl → Form → Type 0
-FormFits decls (One step) = step_fits decls step ≡ true
-FormFits decls (Pair opening closing) = step_fits decls opening ≡ true
-FormFits decls (Twice first second) = (step_fits decls first ≡ true) × (step_fits decls second ≡ true)
+PlanFits : List Decl → Plan → Type 0
+PlanFits decls (One step) = step_fits decls step ≡ true
+PlanFits decls (Pair opening closing) = step_fits decls opening ≡ true
+PlanFits decls (Twice first second) = (step_fits decls first ≡ true) × (step_fits decls second ≡ true)
 
 -- a call of one object, an item or a queue
 item-alone : (decls : List Decl) (item : ℕ) → (is_at is_item decls item && true) ≡ true → nat_lt (number_of decls item) (length (places is_item decls)) ≡ true
@@ -81,52 +78,48 @@ delayed-fit decls item queue more fits =
     let second = and_parts (is_at is_queue decls queue) more first.1 in
     both-fit decls item queue (and_from (is_at is_item decls item) (is_at is_queue decls queue) first.0 second.0)
 
-form_of-fits : (decls : List Decl) (call : Call) → call_fits decls call ≡ true → FormFits decls (form_of decls call)
-unfolding FormFits
-form_of-fits decls (Submit (Known item) None) fits =
+plan_of-fits : (decls : List Decl) (call : Call) → call_fits decls call ≡ true → PlanFits decls (plan_of decls call)
+unfolding PlanFits
+plan_of-fits decls (Submit (Known item) None) fits =
     and_from (nat_lt (number_of decls item) (length (places is_item decls))) true (item-alone decls item fits) refl
-form_of-fits decls (Submit (Known item) (Some (Known queue))) fits = both-fit decls item queue fits
-form_of-fits decls (Cancel (Known item)) fits = item-alone decls item fits
-form_of-fits decls (CancelSync (Known item)) fits = item-alone decls item fits
-form_of-fits decls (Flush (Known item)) fits = item-alone decls item fits
-form_of-fits decls (Schedule (Known item) (Known queue) delay) fits = delayed-fit decls item queue (is_between 0 1000000 delay && true) fits
-form_of-fits decls (Reschedule (Known item) (Known queue) delay) fits = delayed-fit decls item queue (is_between 0 1000000 delay && true) fits
-form_of-fits decls (Remaining (Known item)) fits = item-alone decls item fits
-form_of-fits decls (Start (Known queue)) fits = queue-first decls queue true fits
-form_of-fits decls (Drain (Known queue) plug) fits = queue-first decls queue true fits
-form_of-fits decls (Unplug (Known queue)) fits = queue-first decls queue true fits
-form_of-fits decls (Tick ticks) fits = (refl, refl)
+plan_of-fits decls (Submit (Known item) (Some (Known queue))) fits = both-fit decls item queue fits
+plan_of-fits decls (Cancel (Known item)) fits = item-alone decls item fits
+plan_of-fits decls (CancelSync (Known item)) fits = item-alone decls item fits
+plan_of-fits decls (Flush (Known item)) fits = item-alone decls item fits
+plan_of-fits decls (Schedule (Known item) (Known queue) delay) fits = delayed-fit decls item queue (is_between 0 1000000 delay && true) fits
+plan_of-fits decls (Reschedule (Known item) (Known queue) delay) fits = delayed-fit decls item queue (is_between 0 1000000 delay && true) fits
+plan_of-fits decls (Remaining (Known item)) fits = item-alone decls item fits
+plan_of-fits decls (Start (Known queue)) fits = queue-first decls queue true fits
+plan_of-fits decls (Drain (Known queue) plug) fits = queue-first decls queue true fits
+plan_of-fits decls (Unplug (Known queue)) fits = queue-first decls queue true fits
+plan_of-fits decls (Tick ticks) fits = (refl, refl)
 
-only : (x y : Step) (k : ℕ) → slice_get (x ∷ []) k ≡ Some y → x ≡ y
-only x y zero is = cc
-only x y (suc k) is = absurd (cc)
-
--- all that a form tries fits
-form_attempts-fit : (decls : List Decl) (form : Form) (stage : Stage) (k : ℕ) (step : Step) →
-    FormFits decls form → slice_get (form_attempts form stage) k ≡ Some step → step_fits decls step ≡ true
-unfolding FormFits
-form_attempts-fit decls (One first) stages.Start k step fits is = subst (λ s. step_fits decls s ≡ true) (only first step k is) fits
-form_attempts-fit decls (One first) stages.Runs k step fits is = absurd (cc)
-form_attempts-fit decls (One first) (stages.Waits place) k step fits is = absurd (cc)
-form_attempts-fit decls (One first) stages.Halfway k step fits is = absurd (cc)
-form_attempts-fit decls (Pair opening closing) stages.Start k step fits is = subst (λ s. step_fits decls s ≡ true) (only opening step k is) fits
-form_attempts-fit decls (Pair opening closing) stages.Runs k step fits is = absurd (cc)
-form_attempts-fit decls (Pair opening closing) stages.Halfway k step fits is = absurd (cc)
-form_attempts-fit decls (Pair opening closing) (stages.Waits place) k step fits is =
-    subst (λ s. step_fits decls s ≡ true) (only (closing_step closing place) step k is) (closing-fits closing) where
+-- all that a plan tries fits
+plan_attempts-fit : (decls : List Decl) (plan : Plan) (stage : Stage) (k : ℕ) (step : Step) →
+    PlanFits decls plan → slice_get (plan_attempts plan stage) k ≡ Some step → step_fits decls step ≡ true
+unfolding PlanFits
+plan_attempts-fit decls (One first) stages.Start k step fits is = subst (λ s. step_fits decls s ≡ true) (slice_get-one first step k is) fits
+plan_attempts-fit decls (One first) stages.Runs k step fits is = absurd (cc)
+plan_attempts-fit decls (One first) (stages.Waits place) k step fits is = absurd (cc)
+plan_attempts-fit decls (One first) stages.Halfway k step fits is = absurd (cc)
+plan_attempts-fit decls (Pair opening closing) stages.Start k step fits is = subst (λ s. step_fits decls s ≡ true) (slice_get-one opening step k is) fits
+plan_attempts-fit decls (Pair opening closing) stages.Runs k step fits is = absurd (cc)
+plan_attempts-fit decls (Pair opening closing) stages.Halfway k step fits is = absurd (cc)
+plan_attempts-fit decls (Pair opening closing) (stages.Waits place) k step fits is =
+    subst (λ s. step_fits decls s ≡ true) (slice_get-one (closing_step closing place) step k is) (closing-fits closing) where
       closing-fits : (closing : Closing) → step_fits decls (closing_step closing place) ≡ true
       closing-fits closings.Cancel = refl
       closing-fits closings.Flush = refl
       closing-fits closings.Drain = refl
-form_attempts-fit decls (Twice first second) stages.Start k step fits is = subst (λ s. step_fits decls s ≡ true) (only first step k is) fits.0
-form_attempts-fit decls (Twice first second) stages.Runs k step fits is = absurd (cc)
-form_attempts-fit decls (Twice first second) (stages.Waits place) k step fits is = absurd (cc)
-form_attempts-fit decls (Twice first second) stages.Halfway k step fits is = subst (λ s. step_fits decls s ≡ true) (only second step k is) fits.1
+plan_attempts-fit decls (Twice first second) stages.Start k step fits is = subst (λ s. step_fits decls s ≡ true) (slice_get-one first step k is) fits.0
+plan_attempts-fit decls (Twice first second) stages.Runs k step fits is = absurd (cc)
+plan_attempts-fit decls (Twice first second) (stages.Waits place) k step fits is = absurd (cc)
+plan_attempts-fit decls (Twice first second) stages.Halfway k step fits is = subst (λ s. step_fits decls s ≡ true) (slice_get-one second step k is) fits.1
 
 call_attempts-fit : (decls : List Decl) (call : Option Call) (stage : Stage) (k : ℕ) (step : Step) →
     option_map_or (call_fits decls) call true ≡ true → slice_get (call_attempts decls call stage) k ≡ Some step → step_fits decls step ≡ true
 call_attempts-fit decls None stage k step fits is = absurd (cc)
-call_attempts-fit decls (Some call) stage k step fits is = form_attempts-fit decls (form_of decls call) stage k step (form_of-fits decls call fits) is
+call_attempts-fit decls (Some call) stage k step fits is = plan_attempts-fit decls (plan_of decls call) stage k step (plan_of-fits decls call fits) is
 
 call-fits : (decls : List Decl) (calls : List Call) (next : ℕ) (call : Option Call) → slice_get calls next ≡ call →
     list_all (call_fits decls) calls ≡ true → option_map_or (call_fits decls) call true ≡ true
@@ -135,8 +128,8 @@ call-fits decls calls next (Some call) is all = list_all-at (call_fits decls) ca
 
 worker_attempts-fit : (decls : List Decl) (queue : ℕ) (stage : Stage) (k : ℕ) (step : Step) →
     nat_lt queue (length (places is_queue decls)) ≡ true → slice_get (worker_attempts queue stage) k ≡ Some step → step_fits decls step ≡ true
-worker_attempts-fit decls queue stages.Start k step fits is = subst (λ s. step_fits decls s ≡ true) (only _ step k is) fits
-worker_attempts-fit decls queue stages.Runs k step fits is = subst (λ s. step_fits decls s ≡ true) (only _ step k is) fits
+worker_attempts-fit decls queue stages.Start k step fits is = subst (λ s. step_fits decls s ≡ true) (slice_get-one _ step k is) fits
+worker_attempts-fit decls queue stages.Runs k step fits is = subst (λ s. step_fits decls s ≡ true) (slice_get-one _ step k is) fits
 worker_attempts-fit decls queue (stages.Waits place) k step fits is = absurd (cc)
 worker_attempts-fit decls queue stages.Halfway k step fits is = absurd (cc)
 
@@ -155,15 +148,11 @@ frames_attempts-fit s (frame ∷ below) k step valid fits is =
     let P : Frame → Type 0 = λ f. role_fits s.decls f.role ≡ true in
     role_attempts-fit s frame.role frame.next frame.stage k step valid (All-head P frame below fits) is
 
-ahead_of-fits : (decls : List Decl) (b : Bool) (steps : List Step) (k : ℕ) (step : Step) →
-    ((k : ℕ) (step : Step) → slice_get steps k ≡ Some step → step_fits decls step ≡ true) → slice_get (cond b steps []) k ≡ Some step → step_fits decls step ≡ true
-ahead_of-fits decls true steps k step fits is = fits k step is
-ahead_of-fits decls false steps k step fits is = absurd (cc)
-
 -- each attempt of a player of a valid scenario names what is declared
 pub ahead-fits : (s : Parts) (at : At) (step : Step) → IsValid s → FramesFit s.decls at.frames → IsAhead s at step → step_fits s.decls step ≡ true
 ahead-fits s at step valid fits ahead =
-    ahead_of-fits s.decls (nat_lt (length at.spots) MOST_STEPS) (frames_attempts s at.frames) ahead.0 step (λ k step is. frames_attempts-fit s at.frames k step valid fits is) ahead.1
+    frames_attempts-fit s at.frames ahead.0 step valid fits
+    (cond_nil-at (nat_lt (length at.spots) MOST_STEPS) (frames_attempts s at.frames) ahead.0 step ahead.1).1
 
 frames_after-fit : (s : Parts) (frames : List Frame) (progress : Progress) → FramesFit s.decls frames → FramesFit s.decls (frames_after s frames progress)
 frames_after-fit s [] progress fits = fits

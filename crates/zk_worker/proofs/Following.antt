@@ -12,7 +12,7 @@ use Rattle.zk_worker.specs.Shown.{Shown, shown_after, Between}
 use Rattle.zk_worker.specs.Attempt.{IsMade}
 use Rattle.zk_worker.proofs.Starts.{start_at-fresh}
 use Rattle.zk_worker.proofs.Between.{stands-longer}
-use Rattle.zk_worker.proofs.Made.{made-more}
+use Rattle.zk_worker.proofs.ShownSteps.{made-more}
 
 -- what stands for a list of steps does so where each spot stands for the same step
 stands-still : (old new : Shown) (spots : List Spot) (made : List (Step × StepReply)) →

@@ -1,10 +1,10 @@
-pub mod Numbers
+pub mod DeclaredObjects
 pub mod Lists
-pub mod Moves
+pub mod Limits
 pub mod Starts
 pub mod Fits
 pub mod Ranges
 pub mod Between
-pub mod Made
+pub mod ShownSteps
 pub mod Following
 pub mod Trying

@@ -2,12 +2,9 @@
 use Rattle.std.proofs.Common.{◌≡◌, ◌≢◌, ◌⊎◌, ℕ, zero, suc, ◌+◌, ◌<◌, ◌||◌, Bool, true, false, Some, List, [], ◌∷◌, ◌++◌, length, map, set, inl, inr, refl, sym, ap, subst, ◌∙◌, arith}
 use Rattle.std.specs.List.{slice_get, list_any, sum_by}
 use Rattle.std.specs.Option.{option_map}
+use Rattle.std.proofs.lemmas.Bool.{or_parts}
 use Rattle.std.proofs.lemmas.Option.{slice_get_within, get_or_from_slice_get}
 use Rattle.std.proofs.lemmas.List.Sums.{sum_by-set}
-
-pub or-first : (a b : Bool) → (a || b) ≡ false → (a ≡ false) × (b ≡ false)
-or-first true b is = absurd (cc)
-or-first false b is = (refl, is)
 
 or-false : (a b : Bool) → a ≡ false → (a || b) ≡ b
 or-false a b is = ap (λ c. c || b) is
@@ -120,15 +117,15 @@ module _ {A : Type 0} where
   -- where no element passes, each fails
   pub none-passes : (test : A → Bool) (xs : List A) (p : ℕ) (x : A) → list_any test xs ≡ false → slice_get xs p ≡ Some x → test x ≡ false
   none-passes test [] p x none is = absurd (cc)
-  none-passes test (y ∷ ys) zero x none is = let same : y ≡ x = cc in subst (λ (z : A). test z ≡ false) same (or-first (test y) (list_any test ys) none).0
-  none-passes test (y ∷ ys) (suc p) x none is = none-passes test ys p x (or-first (test y) (list_any test ys) none).1 is
+  none-passes test (y ∷ ys) zero x none is = let same : y ≡ x = cc in subst (λ (z : A). test z ≡ false) same (or_parts (test y) (list_any test ys) none).0
+  none-passes test (y ∷ ys) (suc p) x none is = none-passes test ys p x (or_parts (test y) (list_any test ys) none).1 is
 
   -- where no element passes, some does after a write exactly where the written one does
   pub any-set : (test : A → Bool) (xs : List A) (p : ℕ) (v : A) → list_any test xs ≡ false → p < length xs → list_any test (set xs p v) ≡ test v
   any-set test [] p v none within = absurd (omega arith)
-  any-set test (y ∷ ys) zero v none within = or-none (test v) (list_any test ys) (or-first (test y) (list_any test ys) none).1
+  any-set test (y ∷ ys) zero v none within = or-none (test v) (list_any test ys) (or_parts (test y) (list_any test ys) none).1
   any-set test (y ∷ ys) (suc p) v none within =
-      let both = or-first (test y) (list_any test ys) none in
+      let both = or_parts (test y) (list_any test ys) none in
       or-false (test y) (list_any test (set ys p v)) both.0 ∙ any-set test ys p v both.1 (omega arith)
 
   -- a sum after a write

@@ -3,7 +3,7 @@ use Rattle.std.proofs.Common.{◌≡◌, ℕ, zero, suc, ◌<◌, ◌≤◌, ◌
 use Rattle.std.specs.Option.{option_and_then, option_map}
 use Rattle.std.specs.List.{slice_get}
 use Rattle.std.proofs.lemmas.Option.{option_and_then_some}
-use Rattle.zk_worker.proofs.Numbers.{players-below}
+use Rattle.zk_worker.proofs.DeclaredObjects.{players-below}
 use Rattle.zk_base.specs.declared.ids.Who.{Who}
 use Rattle.zk_line.specs.declared.types.Decl.{Decl}
 use Rattle.zk_scenario.specs.Parts.{Parts}

@@ -4,6 +4,7 @@ use Rattle.std.specs.List.{slice_get}
 use Rattle.zk_base.specs.declared.ids.Who.{Who}
 use Rattle.zk_base.specs.declared.errors.NoMemory.{NoMemory}
 use Rattle.zk_base.specs.Causes.{Rose}
+use Rattle.zk_base.proofs.Causes.{Rose-from}
 use Rattle.zk_worker.specs.declared.steps.Step.{Step}
 use Rattle.zk_worker.specs.declared.steps.StepReply.{StepReply}
 use Rattle.zk_worker.specs.Machines.{Machines}
@@ -16,11 +17,6 @@ use Rattle.zk_worker.proofs.Between.{between-none, between-both}
 pub rose-since : (a b c : ℕ) → Rose a b → b ≤ c → c ≤ 2 ^ 64 - 1 → Rose a c
 rose-since a b c (inl less) kept most = inl (omega arith)
 rose-since a b c (inr full) kept most = inr (omega arith)
-
--- or when none fell before
-pub rose-before : (a b c : ℕ) → a ≤ b → Rose b c → Rose a c
-rose-before a b c kept (inl less) = inl (omega arith)
-rose-before a b c kept (inr full) = inr full
 
 -- what was tried before a moment was tried before a later one
 pub tried-since : (alone : Bool) (m : Machines) (who : Who) (ahead : List Step) (many : ℕ) (old mid new : Shown) (counts counts' counts'' : Counts) →
@@ -62,7 +58,7 @@ tried-next alone m who ahead many last old mid new counts counts' counts'' tried
           since = between-both alone who.number old mid new before others;
           until = between-none alone who.number new;
           impossible = impossible;
-          rose = rose-before (count_at counts last) (count_at counts' last) (count_at counts'' last) (kept last) rose;
+          rose = Rose-from (count_at counts last) (count_at counts' last) (count_at counts'' last) (kept last) rose;
         })
 
 -- an attempt is made, behind those that weren't possible

@@ -11,13 +11,17 @@ use Rattle.zk_worker.specs.Machines.{Machines}
 use Rattle.zk_worker.specs.Shown.{Shown, shown_after, Between}
 
 -- what a machine answers to an operation after a history, if it is possible: the reply to the step, which has the place of its entry
-abbrev pub answer_in : {S O R : Type 0} → Machine S O R → S → List (Entry O R) → (R → ℕ → StepReply) → Who → O → Option StepReply
-answer_in m start h step_reply who op = option_map (λ reply. step_reply reply (length h)) (m.reply_of (state_after m start h) who op)
+abbrev pub answer_in : {S O R : Type 0} → Machine S O R → S → List (Entry O R) →
+    (R → ℕ → StepReply) → Who → O → Option StepReply
+answer_in m start h step_reply who op =
+    option_map (λ reply. step_reply reply (length h)) (m.reply_of (state_after m start h) who op)
 
 -- what is answered to a step where this is shown, if it is possible
 abbrev pub reply_in : Machines → Shown → Who → Step → Option StepReply
-reply_in m shown who (steps.Work op) = answer_in m.work m.work_start shown.work step_replies.Work who op
-reply_in m shown who (steps.Clock op) = answer_in m.clock m.clock_start shown.clock step_replies.Clock who op
+reply_in m shown who (steps.Work op) =
+    answer_in m.work m.work_start shown.work step_replies.Work who op
+reply_in m shown who (steps.Clock op) =
+    answer_in m.clock m.clock_start shown.clock step_replies.Clock who op
 
 -- whether the ids in a step are in range at its service
 abbrev pub takes : Machines → Step → Bool
@@ -40,7 +44,8 @@ count_at counts (steps.Clock op) = counts.clock
 
 -- no count fell, and each is one that 64 bits hold
 abbrev pub NoneFell : Counts → Counts → Type 0
-NoneFell old new = (step : Step) → (count_at old step ≤ count_at new step) × (count_at new step ≤ 2 ^ 64 - 1)
+NoneFell old new =
+    (step : Step) → (count_at old step ≤ count_at new step) × (count_at new step ≤ 2 ^ 64 - 1)
 
 -- of all that is shown only the history of a step's service may have changed
 abbrev pub KeepsElsewhere : Step → Shown → Shown → Type 0
@@ -48,14 +53,18 @@ KeepsElsewhere (steps.Work op) old new = new ≡ record old { work = new.work }
 KeepsElsewhere (steps.Clock op) old new = new ≡ record old { clock = new.clock }
 
 -- a step was made: in between something was shown, its reply is the machine's there, and its entry is all that came then
-pub record IsMade (alone : Bool) (m : Machines) (who : Who) (number : ℕ) (step : Step) (reply : StepReply) (old new : Shown) : Type 0 where
+pub record IsMade (alone : Bool) (m : Machines) (who : Who) (number : ℕ) (step : Step)
+    (reply : StepReply) (old new : Shown) : Type 0 where
   pub found : Shown
   pub since : Between alone who.number old found
   pub replied : reply_in m found who step ≡ Some reply
   pub shown : new ≡ shown_after found who number step reply
 
 -- what an attempt answers, and what it leaves: no entry of this player but that of the step made
-abbrev pub Attempted : Bool → Machines → Who → ℕ → Step → Shown → Shown → Result (Option StepReply) NoMemory → Type 0
-Attempted alone m who number step old new (Ok (Some reply)) = IsMade alone m who number step reply old new
-Attempted alone m who number step old new (Ok None) = Between alone who.number old new × (reply_in m new who step ≡ None)
+abbrev pub Attempted : Bool → Machines → Who → ℕ → Step → Shown → Shown →
+    Result (Option StepReply) NoMemory → Type 0
+Attempted alone m who number step old new (Ok (Some reply)) =
+    IsMade alone m who number step reply old new
+Attempted alone m who number step old new (Ok None) =
+    Between alone who.number old new × (reply_in m new who step ≡ None)
 Attempted alone m who number step old new (Err e) = Between alone who.number old new

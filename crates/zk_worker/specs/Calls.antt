@@ -21,8 +21,8 @@ use Rattle.zk_worker.specs.declared.answers.Answer.TheVariants.{Number, Flags, T
 use Rattle.zk_words.specs.declared.word.Word.{Word}
 use Rattle.zk_worker.specs.declared.frames.Closing.{Closing}
 use Rattle.zk_worker.specs.declared.frames.Closing.TheVariants as closings
-use Rattle.zk_worker.specs.declared.frames.Form.{Form}
-use Rattle.zk_worker.specs.declared.frames.Form.TheVariants.{One, Pair, Twice}
+use Rattle.zk_worker.specs.declared.frames.Plan.{Plan}
+use Rattle.zk_worker.specs.declared.frames.Plan.TheVariants.{One, Pair, Twice}
 use Rattle.zk_worker.specs.declared.frames.Stage.{Stage}
 use Rattle.zk_worker.specs.declared.frames.Stage.TheVariants.{Start, Waits, Halfway}
 use Rattle.zk_worker.specs.declared.frames.Progress.{Progress}
@@ -33,18 +33,25 @@ abbrev pub ref_number : List Decl → Ref → ℕ
 ref_number decls (Known object) = number_of decls object
 
 -- how a call goes
-abbrev pub form_of : List Decl → Call → Form
-form_of decls (calls.Submit item queue) = One (steps.Work (ops.Submit (ref_number decls item) (option_map (ref_number decls) queue)))
-form_of decls (calls.Cancel item) = One (steps.Work (ops.Cancel (ref_number decls item)))
-form_of decls (calls.CancelSync item) = Pair (steps.Work (ops.CancelStart (ref_number decls item))) closings.Cancel
-form_of decls (calls.Flush item) = Pair (steps.Work (ops.FlushStart (ref_number decls item))) closings.Flush
-form_of decls (calls.Schedule item queue delay) = One (steps.Work (ops.Schedule (ref_number decls item) (ref_number decls queue) delay))
-form_of decls (calls.Reschedule item queue delay) = One (steps.Work (ops.Reschedule (ref_number decls item) (ref_number decls queue) delay))
-form_of decls (calls.Remaining item) = One (steps.Work (ops.Remaining (ref_number decls item)))
-form_of decls (calls.Start queue) = One (steps.Work (ops.Start (ref_number decls queue)))
-form_of decls (calls.Drain queue plug) = Pair (steps.Work (ops.DrainStart (ref_number decls queue) plug)) closings.Drain
-form_of decls (calls.Unplug queue) = One (steps.Work (ops.Unplug (ref_number decls queue)))
-form_of decls (calls.Tick ticks) = Twice (steps.Work (ops.Announce ticks)) (steps.Clock (clock_ops.Announce ticks))
+abbrev pub plan_of : List Decl → Call → Plan
+plan_of decls (calls.Submit item queue) =
+    One (steps.Work (ops.Submit (ref_number decls item) (option_map (ref_number decls) queue)))
+plan_of decls (calls.Cancel item) = One (steps.Work (ops.Cancel (ref_number decls item)))
+plan_of decls (calls.CancelSync item) =
+    Pair (steps.Work (ops.CancelStart (ref_number decls item))) closings.Cancel
+plan_of decls (calls.Flush item) =
+    Pair (steps.Work (ops.FlushStart (ref_number decls item))) closings.Flush
+plan_of decls (calls.Schedule item queue delay) =
+    One (steps.Work (ops.Schedule (ref_number decls item) (ref_number decls queue) delay))
+plan_of decls (calls.Reschedule item queue delay) =
+    One (steps.Work (ops.Reschedule (ref_number decls item) (ref_number decls queue) delay))
+plan_of decls (calls.Remaining item) = One (steps.Work (ops.Remaining (ref_number decls item)))
+plan_of decls (calls.Start queue) = One (steps.Work (ops.Start (ref_number decls queue)))
+plan_of decls (calls.Drain queue plug) =
+    Pair (steps.Work (ops.DrainStart (ref_number decls queue) plug)) closings.Drain
+plan_of decls (calls.Unplug queue) = One (steps.Work (ops.Unplug (ref_number decls queue)))
+plan_of decls (calls.Tick ticks) =
+    Twice (steps.Work (ops.Announce ticks)) (steps.Clock (clock_ops.Announce ticks))
 
 -- what a submission answers
 abbrev pub submission_answer : Submitted → Answer
@@ -75,13 +82,13 @@ closing_step closings.Flush place = steps.Work (ops.FlushDone place)
 closing_step closings.Drain place = steps.Work (ops.DrainDone place)
 
 -- the next attempts of a call, in order
-abbrev pub form_attempts : Form → Stage → List Step
-form_attempts (One step) Start = step ∷ []
-form_attempts (Pair opening closing) Start = opening ∷ []
-form_attempts (Pair opening closing) (Waits place) = closing_step closing place ∷ []
-form_attempts (Twice first second) Start = first ∷ []
-form_attempts (Twice first second) Halfway = second ∷ []
-form_attempts form stage = []
+abbrev pub plan_attempts : Plan → Stage → List Step
+plan_attempts (One step) Start = step ∷ []
+plan_attempts (Pair opening closing) Start = opening ∷ []
+plan_attempts (Pair opening closing) (Waits place) = closing_step closing place ∷ []
+plan_attempts (Twice first second) Start = first ∷ []
+plan_attempts (Twice first second) Halfway = second ∷ []
+plan_attempts plan stage = []
 
 -- what the reply to the step that may begin a wait does to its call: it waits, or is answered
 abbrev pub opening_progress : Word → StepReply → Progress
@@ -90,9 +97,9 @@ opening_progress word (step_replies.Work (replies.WaitFor admission) place) = Go
 opening_progress word reply = Answers word (answer_of reply)
 
 -- what the reply to a step does to its call
-abbrev pub form_progress : Word → Form → Stage → Step → StepReply → Progress
-form_progress word (One step) stage made reply = Answers word (answer_of reply)
-form_progress word (Pair opening closing) Start made reply = opening_progress word reply
-form_progress word (Pair opening closing) stage made reply = Answers word (answer_of reply)
-form_progress word (Twice first second) Start made reply = Goes Halfway
-form_progress word (Twice first second) stage made reply = Answers word (answer_of reply)
+abbrev pub plan_progress : Word → Plan → Stage → Step → StepReply → Progress
+plan_progress word (One step) stage made reply = Answers word (answer_of reply)
+plan_progress word (Pair opening closing) Start made reply = opening_progress word reply
+plan_progress word (Pair opening closing) stage made reply = Answers word (answer_of reply)
+plan_progress word (Twice first second) Start made reply = Goes Halfway
+plan_progress word (Twice first second) stage made reply = Answers word (answer_of reply)

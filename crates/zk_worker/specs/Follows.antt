@@ -50,17 +50,23 @@ log_of at = record { state = state_at at; steps = at.spots; answers = at.answers
 -- these steps with their replies lead from one place of a player to another, each of them being one of the next attempts of those before it
 abbrev pub IsPlayed : Parts → At → List (Step × StepReply) → At → Type 0
 IsPlayed s at [] end = at ≡ end
-IsPlayed s at (made ∷ more) end = IsAhead s at made.0 × IsPlayed s (after s at made.0 made.1) more end
+IsPlayed s at (made ∷ more) end =
+    IsAhead s at made.0 × IsPlayed s (after s at made.0 made.1) more end
 
 -- the step and the reply that a spot stands for
 abbrev pub made_at : Shown → Spot → Option (Step × StepReply)
-made_at shown (spots.Work place) = option_map (λ e. (steps.Work e.op, step_replies.Work e.reply place)) (slice_get shown.work place)
-made_at shown (spots.Clock place) = option_map (λ e. (steps.Clock e.op, step_replies.Clock e.reply place)) (slice_get shown.clock place)
+made_at shown (spots.Work place) =
+    option_map (λ e. (steps.Work e.op, step_replies.Work e.reply place))
+    (slice_get shown.work place)
+made_at shown (spots.Clock place) =
+    option_map (λ e. (steps.Clock e.op, step_replies.Clock e.reply place))
+    (slice_get shown.clock place)
 
 -- a step with its reply stands at this spot, and what stood at a spot stands there still
 pub record StandsMore (old new : Shown) (spot : Spot) (made : Step × StepReply) : Type 0 where
   pub here : made_at new spot ≡ Some made
-  pub still : (at : Spot) (other : Step × StepReply) → made_at old at ≡ Some other → made_at new at ≡ Some other
+  pub still : (at : Spot) (other : Step × StepReply) → made_at old at ≡ Some other →
+      made_at new at ≡ Some other
 
 -- a player is where the protocol leads it from its start, by the steps and replies that its spots stand for
 pub record IsFollowing (s : Parts) (number : ℕ) (shown : Shown) (at : At) : Type 0 where

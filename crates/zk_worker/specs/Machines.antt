@@ -29,7 +29,9 @@ is_on decls object = option_map_or is_started (slice_get decls object) false
 
 -- the work service of a scenario in its first state
 abbrev pub work_start_of : Parts → State
-work_start_of s = start_of (length (places is_item s.decls)) (workers s.decls) (map (is_on s.decls) (places is_queue s.decls))
+work_start_of s =
+    start_of (length (places is_item s.decls)) (workers s.decls)
+    (map (is_on s.decls) (places is_queue s.decls))
 
 -- the machine of each service, and the state that it starts in
 pub record Machines : Type 0 where
@@ -40,4 +42,5 @@ pub record Machines : Type 0 where
 
 -- the machines of a scenario
 abbrev pub machines_of : Parts → Machines
-machines_of s = record { work = work_machine; work_start = work_start_of s; clock = clock_machine; clock_start = new_clock }
+machines_of s =
+    record { work = work_machine; work_start = work_start_of s; clock = clock_machine; clock_start = new_clock }

@@ -14,7 +14,8 @@ use Rattle.zk_worker.specs.Shown.{Shown, Between}
 use Rattle.zk_worker.specs.Attempt.{reply_in, Counts, count_at, IsMade}
 
 -- a step was tried between two moments: its service counted the attempt, and the machine says that it isn't possible at what was shown at a moment between
-pub record WasTried (alone : Bool) (m : Machines) (who : Who) (old new : Shown) (counts counts' : Counts) (step : Step) : Type 0 where
+pub record WasTried (alone : Bool) (m : Machines) (who : Who) (old new : Shown)
+    (counts counts' : Counts) (step : Step) : Type 0 where
   pub found : Shown
   pub since : Between alone who.number old found
   pub until : Between alone who.number found new
@@ -22,36 +23,46 @@ pub record WasTried (alone : Bool) (m : Machines) (who : Who) (old new : Shown) 
   pub rose : Rose (count_at counts step) (count_at counts' step)
 
 -- so many of these attempts, from the first, were tried
-abbrev pub WereTried : Bool → Machines → Who → List Step → ℕ → Shown → Shown → Counts → Counts → Type 0
+abbrev pub WereTried : Bool → Machines → Who → List Step → ℕ → Shown → Shown → Counts → Counts →
+    Type 0
 WereTried alone m who ahead many old new counts counts' =
-    (k : ℕ) (step : Step) → k < many → slice_get ahead k ≡ Some step → WasTried alone m who old new counts counts' step
+    (k : ℕ) (step : Step) → k < many → slice_get ahead k ≡ Some step →
+    WasTried alone m who old new counts counts' step
 
 -- one of these attempts was made, and each earlier one was tried
-pub record WasFirst (alone : Bool) (m : Machines) (who : Who) (number : ℕ) (ahead : List Step) (step : Step) (reply : StepReply) (old new : Shown) (counts counts' : Counts) : Type 0 where
+pub record WasFirst (alone : Bool) (m : Machines) (who : Who) (number : ℕ) (ahead : List Step)
+    (step : Step) (reply : StepReply) (old new : Shown) (counts counts' : Counts) : Type 0 where
   pub index : ℕ
   pub is_there : slice_get ahead index ≡ Some step
   pub made : IsMade alone m who number step reply old new
   pub tried : WereTried alone m who ahead index old made.found counts counts'
 
 -- each of these attempts was tried
-pub record WasNone (alone : Bool) (m : Machines) (who : Who) (ahead : List Step) (old new : Shown) (counts counts' : Counts) : Type 0 where
+pub record WasNone (alone : Bool) (m : Machines) (who : Who) (ahead : List Step) (old new : Shown)
+    (counts counts' : Counts) : Type 0 where
   pub others : Between alone who.number old new
   pub tried : WereTried alone m who ahead (length ahead) old new counts counts'
 
 -- what comes of these attempts, made in order up to the first that is possible
-abbrev pub Tried : Bool → Machines → Who → ℕ → List Step → Shown → Shown → Counts → Counts → Option (Step × StepReply) → Type 0
-Tried alone m who number ahead old new counts counts' (Some made) = WasFirst alone m who number ahead made.0 made.1 old new counts counts'
-Tried alone m who number ahead old new counts counts' None = WasNone alone m who ahead old new counts counts'
+abbrev pub Tried : Bool → Machines → Who → ℕ → List Step → Shown → Shown → Counts → Counts →
+    Option (Step × StepReply) → Type 0
+Tried alone m who number ahead old new counts counts' (Some made) =
+    WasFirst alone m who number ahead made.0 made.1 old new counts counts'
+Tried alone m who number ahead old new counts counts' None =
+    WasNone alone m who ahead old new counts counts'
 
 -- a player made the step that was possible first
-pub record HasStepped (alone : Bool) (m : Machines) (s : Parts) (at at' : At) (old new : Shown) (counts counts' : Counts) : Type 0 where
+pub record HasStepped (alone : Bool) (m : Machines) (s : Parts) (at at' : At) (old new : Shown)
+    (counts counts' : Counts) : Type 0 where
   pub step : Step
   pub reply : StepReply
-  pub first : WasFirst alone m at.who (length at.spots) (attempts s at) step reply old new counts counts'
+  pub first : WasFirst alone m at.who (length at.spots) (attempts s at) step reply old new counts
+      counts'
   pub next : at' ≡ after s at step reply
 
 -- a player that isn't through and has steps left found none of them possible
-pub record HasWaited (alone : Bool) (m : Machines) (s : Parts) (at at' : At) (old new : Shown) (counts counts' : Counts) : Type 0 where
+pub record HasWaited (alone : Bool) (m : Machines) (s : Parts) (at at' : At) (old new : Shown)
+    (counts counts' : Counts) : Type 0 where
   pub unspent : is_spent_at at ≡ false
   pub not_through : is_through at.frames ≡ false
   pub none : WasNone alone m at.who (attempts s at) old new counts counts'
@@ -64,8 +75,12 @@ pub record HasStopped (at at' : At) (old new : Shown) (cause : Bool) : Type 0 wh
   pub nothing : new ≡ old
 
 -- what a step of a player did, by its answer
-abbrev pub Does : Bool → Machines → Parts → At → At → Shown → Shown → Counts → Counts → Stepped → Type 0
-Does alone m s at at' old new counts counts' Did = HasStepped alone m s at at' old new counts counts'
-Does alone m s at at' old new counts counts' NotYet = HasWaited alone m s at at' old new counts counts'
-Does alone m s at at' old new counts counts' Ended = (is_spent_at at ≡ false) × HasStopped at at' old new (is_through at.frames)
+abbrev pub Does : Bool → Machines → Parts → At → At → Shown → Shown → Counts → Counts → Stepped →
+    Type 0
+Does alone m s at at' old new counts counts' Did =
+    HasStepped alone m s at at' old new counts counts'
+Does alone m s at at' old new counts counts' NotYet =
+    HasWaited alone m s at at' old new counts counts'
+Does alone m s at at' old new counts counts' Ended =
+    (is_spent_at at ≡ false) × HasStopped at at' old new (is_through at.frames)
 Does alone m s at at' old new counts counts' Spent = HasStopped at at' old new (is_spent_at at)

@@ -24,7 +24,7 @@ use Rattle.zk_worker.specs.declared.frames.Frame.{Frame}
 use Rattle.zk_worker.specs.declared.frames.Progress.{Progress}
 use Rattle.zk_worker.specs.declared.frames.Progress.TheVariants.{Goes, Answers, Enters}
 use Rattle.zk_line.specs.Calls.{word_of}
-use Rattle.zk_worker.specs.Calls.{form_of, form_attempts, form_progress}
+use Rattle.zk_worker.specs.Calls.{plan_of, plan_attempts, plan_progress}
 use Rattle.zk_worker.specs.Places.{At}
 
 -- the next attempts of a worker: between two runs the Begin of its queue, in a run whose script is over the End
@@ -36,11 +36,12 @@ worker_attempts queue stage = []
 -- the next attempts of a script, at its next call
 abbrev pub call_attempts : List Decl → Option Call → Stage → List Step
 call_attempts decls None stage = []
-call_attempts decls (Some call) stage = form_attempts (form_of decls call) stage
+call_attempts decls (Some call) stage = plan_attempts (plan_of decls call) stage
 
 -- the next attempts of an open script or run
 abbrev pub role_attempts : Parts → Role → ℕ → Stage → List Step
-role_attempts s (Script owner) next stage = call_attempts s.decls (slice_get (calls_of s.scripts owner) next) stage
+role_attempts s (Script owner) next stage =
+    call_attempts s.decls (slice_get (calls_of s.scripts owner) next) stage
 role_attempts s (Worker queue) next stage = worker_attempts (number_of s.decls queue) stage
 
 -- the next attempts: those of the innermost open script or run
@@ -63,17 +64,20 @@ run_progress (Some owner) = Enters owner Runs
 
 -- what the reply to a step does to a worker
 abbrev pub worker_progress : List Decl → Stage → StepReply → Progress
-worker_progress decls Start (step_replies.Work (replies.Run item admission) place) = run_progress (slice_get (places is_item decls) item)
+worker_progress decls Start (step_replies.Work (replies.Run item admission) place) =
+    run_progress (slice_get (places is_item decls) item)
 worker_progress decls stage reply = Goes Start
 
 -- what the reply to a step does to the call of a script
 abbrev pub call_progress : List Decl → Option Call → Stage → Step → StepReply → Progress
 call_progress decls None stage made reply = Goes stage
-call_progress decls (Some call) stage made reply = form_progress (word_of call) (form_of decls call) stage made reply
+call_progress decls (Some call) stage made reply =
+    plan_progress (word_of call) (plan_of decls call) stage made reply
 
 -- what the reply to a step does to an open script or run
 abbrev pub role_progress : Parts → Role → ℕ → Stage → Step → StepReply → Progress
-role_progress s (Script owner) next stage made reply = call_progress s.decls (slice_get (calls_of s.scripts owner) next) stage made reply
+role_progress s (Script owner) next stage made reply =
+    call_progress s.decls (slice_get (calls_of s.scripts owner) next) stage made reply
 role_progress s (Worker queue) next stage made reply = worker_progress s.decls stage reply
 
 -- whether all calls of a script are answered; a worker is never through
@@ -84,7 +88,8 @@ is_over s (Worker queue) next = false
 -- the open scripts and runs, without the innermost scripts that are over
 abbrev pub settled : Parts → List Frame → List Frame
 settled s [] = []
-settled s (frame ∷ below) = if is_over s frame.role frame.next then settled s below else frame ∷ below
+settled s (frame ∷ below) =
+    if is_over s frame.role frame.next then settled s below else frame ∷ below
 
 -- what is played from its start
 abbrev pub first_frame : Role → Frame
@@ -92,23 +97,28 @@ first_frame role = record { role = role; next = 0; stage = Start }
 
 -- a script more is open. Where as many are open as there may be, it isn't entered
 abbrev pub entered : List Frame → ℕ → List Frame
-entered frames owner = if nat_lt (length frames) MOST_FRAMES then first_frame (Script owner) ∷ frames else frames
+entered frames owner =
+    if nat_lt (length frames) MOST_FRAMES then first_frame (Script owner) ∷ frames else frames
 
 -- what the reply to a step does to the innermost open script or run
 abbrev pub frames_progress : Parts → List Frame → Step → StepReply → Progress
 frames_progress s [] made reply = Goes Start
-frames_progress s (frame ∷ below) made reply = role_progress s frame.role frame.next frame.stage made reply
+frames_progress s (frame ∷ below) made reply =
+    role_progress s frame.role frame.next frame.stage made reply
 
 -- the open scripts and runs after a step
 abbrev pub frames_after : Parts → List Frame → Progress → List Frame
 frames_after s [] progress = []
 frames_after s (frame ∷ below) (Goes stage) = record frame { stage = stage } ∷ below
-frames_after s (frame ∷ below) (Answers word answer) = settled s (record frame { next = frame.next + 1; stage = Start } ∷ below)
-frames_after s (frame ∷ below) (Enters owner stage) = settled s (entered (record frame { stage = stage } ∷ below) owner)
+frames_after s (frame ∷ below) (Answers word answer) =
+    settled s (record frame { next = frame.next + 1; stage = Start } ∷ below)
+frames_after s (frame ∷ below) (Enters owner stage) =
+    settled s (entered (record frame { stage = stage } ∷ below) owner)
 
 -- the answers after the step of this number
 abbrev pub answers_after : List Answered → ℕ → Progress → List Answered
-answers_after answers number (Answers word answer) = answers ++ record { step = number; word = word; answer = answer } ∷ []
+answers_after answers number (Answers word answer) =
+    answers ++ record { step = number; word = word; answer = answer } ∷ []
 answers_after answers number progress = answers
 
 -- where a step is recorded
@@ -145,4 +155,5 @@ starting s number object decl = record {
 -- where the player of a number stands at first, if there is one
 abbrev pub start_at : Parts → ℕ → Option At
 start_at s number =
-    option_and_then (λ object. option_map (starting s number object) (slice_get s.decls object)) (slice_get (players s.decls) number)
+    option_and_then (λ object. option_map (starting s number object) (slice_get s.decls object))
+    (slice_get (players s.decls) number)

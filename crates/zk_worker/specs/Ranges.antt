@@ -11,7 +11,8 @@ use Rattle.zk_worker.specs.declared.frames.Frame.{Frame}
 
 -- whether the objects of a step are declared
 abbrev pub step_fits : List Decl → Step → Bool
-step_fits decls (steps.Work op) = is_among (length (places is_item decls)) (length (places is_queue decls)) op
+step_fits decls (steps.Work op) =
+    is_among (length (places is_item decls)) (length (places is_queue decls)) op
 step_fits decls (steps.Clock op) = true
 
 -- whether a worker's queue is declared as one

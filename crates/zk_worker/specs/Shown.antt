@@ -28,8 +28,10 @@ nothing_shown = record { work = []; clock = [] }
 
 -- what is shown with the entry of a step, in the history of its service
 abbrev pub shown_after : Shown → Who → ℕ → Step → StepReply → Shown
-shown_after shown who number (steps.Work op) (step_replies.Work reply place) = record shown { work = shown.work ++ entry who number op reply ∷ [] }
-shown_after shown who number (steps.Clock op) (step_replies.Clock reply place) = record shown { clock = shown.clock ++ entry who number op reply ∷ [] }
+shown_after shown who number (steps.Work op) (step_replies.Work reply place) =
+    record shown { work = shown.work ++ entry who number op reply ∷ [] }
+shown_after shown who number (steps.Clock op) (step_replies.Clock reply place) =
+    record shown { clock = shown.clock ++ entry who number op reply ∷ [] }
 shown_after shown who number step reply = shown
 
 -- whose step an entry is, and the step of which number
@@ -43,12 +45,15 @@ shown_at shown (spots.Clock place) = option_map step_of (slice_get shown.clock p
 
 -- of the player of this number just the steps of a log are shown: each at its spot, and no other
 pub record ShowsLog (shown : Shown) (number : ℕ) (log : List Spot) : Type 0 where
-  pub each : (step : ℕ) (spot : Spot) → slice_get log step ≡ Some spot → shown_at shown spot ≡ Some (number, step)
-  pub no_other : (step : ℕ) (spot : Spot) → shown_at shown spot ≡ Some (number, step) → slice_get log step ≡ Some spot
+  pub each : (step : ℕ) (spot : Spot) → slice_get log step ≡ Some spot →
+      shown_at shown spot ≡ Some (number, step)
+  pub no_other : (step : ℕ) (spot : Spot) → shown_at shown spot ≡ Some (number, step) →
+      slice_get log step ≡ Some spot
 
 -- the step is above all that are shown of this player
 abbrev pub IsLater : Shown → ℕ → ℕ → Type 0
-IsLater shown number next = (step : ℕ) (spot : Spot) → shown_at shown spot ≡ Some (number, step) → step < next
+IsLater shown number next =
+    (step : ℕ) (spot : Spot) → shown_at shown spot ≡ Some (number, step) → step < next
 
 -- each history has room for an entry
 pub record AreShort (shown : Shown) : Type 0 where

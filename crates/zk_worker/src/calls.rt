@@ -1,7 +1,7 @@
 ghost use Rattle.std.specs.Prelude.{◌≡◌, slice_get, option_map};
-ghost use Rattle.zk_worker.specs.Calls.{ref_number, form_of, submission_answer, work_answer, answer_of, closing_step, form_attempts, opening_progress, form_progress};
+ghost use Rattle.zk_worker.specs.Calls.{ref_number, plan_of, submission_answer, work_answer, answer_of, closing_step, plan_attempts, opening_progress, plan_progress};
 
-use crate::{Answer, Closing, Form, Progress, Stage, Step, StepReply, Word};
+use crate::{Answer, Closing, Plan, Progress, Stage, Step, StepReply, Word};
 use zk_base::Errno;
 use zk_model_wait::ClockOp;
 use zk_model_work::{Submitted, WorkOp, WorkReply};
@@ -24,22 +24,22 @@ fn queue_number(scenario: &Scenario, named: Option<Ref>) -> Option<u32>
 }
 
 /// One step at the work service.
-fn one(op: WorkOp) -> Form
-    ensures { result ≡ Form.One (Step.Work op) }
+fn one(op: WorkOp) -> Plan
+    ensures { result ≡ Plan.One (Step.Work op) }
 {
-    Form::One(Step::Work(op))
+    Plan::One(Step::Work(op))
 }
 
 /// A step at the work service that may begin a wait, and the end of it.
-fn pair(opening: WorkOp, closing: Closing) -> Form
-    ensures { result ≡ Form.Pair (Step.Work opening) closing }
+fn pair(opening: WorkOp, closing: Closing) -> Plan
+    ensures { result ≡ Plan.Pair (Step.Work opening) closing }
 {
-    Form::Pair(Step::Work(opening), closing)
+    Plan::Pair(Step::Work(opening), closing)
 }
 
 /// How a call goes.
-pub fn form_of(scenario: &Scenario, call: Call) -> Form
-    ensures { result ≡ form_of scenario.now.decls call }
+pub fn plan_of(scenario: &Scenario, call: Call) -> Plan
+    ensures { result ≡ plan_of scenario.now.decls call }
 {
     match call {
         Call::Submit(item, queue) => one(WorkOp::Submit(
@@ -74,7 +74,7 @@ pub fn form_of(scenario: &Scenario, call: Call) -> Form
             Closing::Drain,
         ),
         Call::Unplug(queue) => one(WorkOp::Unplug(ref_number(scenario, queue))),
-        Call::Tick(ticks) => Form::Twice(
+        Call::Tick(ticks) => Plan::Twice(
             Step::Work(WorkOp::Announce(ticks)),
             Step::Clock(ClockOp::Announce(ticks)),
         ),
@@ -127,17 +127,17 @@ fn closing_step(closing: Closing, place: u64) -> Step
 }
 
 /// The attempt of this index among the next attempts of a call.
-pub fn form_ahead(form: Form, stage: Stage, index: u32) -> Option<Step>
-    ensures { result ≡ slice_get (form_attempts form stage) index }
+pub fn plan_ahead(plan: Plan, stage: Stage, index: u32) -> Option<Step>
+    ensures { result ≡ slice_get (plan_attempts plan stage) index }
 {
-    match (form, stage) {
-        (Form::One(step), Stage::Start) if index == 0 => Some(step),
-        (Form::Pair(opening, _), Stage::Start) if index == 0 => Some(opening),
-        (Form::Pair(_, closing), Stage::Waits(place)) if index == 0 => {
+    match (plan, stage) {
+        (Plan::One(step), Stage::Start) if index == 0 => Some(step),
+        (Plan::Pair(opening, _), Stage::Start) if index == 0 => Some(opening),
+        (Plan::Pair(_, closing), Stage::Waits(place)) if index == 0 => {
             Some(closing_step(closing, place))
         }
-        (Form::Twice(first, _), Stage::Start) if index == 0 => Some(first),
-        (Form::Twice(_, second), Stage::Halfway) if index == 0 => Some(second),
+        (Plan::Twice(first, _), Stage::Start) if index == 0 => Some(first),
+        (Plan::Twice(_, second), Stage::Halfway) if index == 0 => Some(second),
         _ => None,
     }
 }
@@ -154,18 +154,18 @@ fn opening_progress(word: Word, reply: &StepReply) -> Progress
 }
 
 /// What the reply to a step does to its call.
-pub fn form_progress(
+pub fn plan_progress(
     word: Word,
-    form: Form,
+    plan: Plan,
     stage: Stage,
     _made: Step,
     reply: &StepReply,
 ) -> Progress
-    ensures { result ≡ form_progress word form stage _made reply.now }
+    ensures { result ≡ plan_progress word plan stage _made reply.now }
 {
-    match (form, stage) {
-        (Form::Pair(_, _), Stage::Start) => opening_progress(word, reply),
-        (Form::Twice(_, _), Stage::Start) => Progress::Goes(Stage::Halfway),
+    match (plan, stage) {
+        (Plan::Pair(_, _), Stage::Start) => opening_progress(word, reply),
+        (Plan::Twice(_, _), Stage::Start) => Progress::Goes(Stage::Halfway),
         _ => Progress::Answers(word, answer_of(reply)),
     }
 }

@@ -5,7 +5,7 @@ pub const MOST_FRAMES: usize = 18;
 
 /// How a call goes: which steps it makes in which order.
 #[derive(Clone, Copy, Debug)]
-pub enum Form {
+pub enum Plan {
     /// One step, whose reply it answers.
     One(Step),
     /// One step, whose reply it answers unless it has to wait, and then the step that ends the wait.

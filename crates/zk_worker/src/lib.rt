@@ -15,7 +15,7 @@ mod steps;
 mod tests;
 
 pub use answers::{Answer, Answered, Answers};
-pub use frames::{Closing, Form, Frame, Progress, Role, Stage};
+pub use frames::{Closing, Frame, Plan, Progress, Role, Stage};
 pub use log::{Log, PlayerState};
 pub use player::Player;
 pub use playing::Stepped;

@@ -46,7 +46,8 @@ impl Model for Player {
     } };
 
     ghost invariant = { λ p.
-        IsRoomy (reverse p.stack.items) p.answers.items p.spots.items (vec_capacity p.stack) (vec_capacity p.answers) (vec_capacity p.spots) };
+        IsRoomy (reverse p.stack.items) p.answers.items p.spots.items
+        (vec_capacity p.stack) (vec_capacity p.answers) (vec_capacity p.spots) };
 }
 
 fn object_of(scenario: &Scenario, number: u32) -> Option<u32>

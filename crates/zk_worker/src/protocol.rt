@@ -3,7 +3,7 @@ ghost use Rattle.zk_line.specs.Objects.{places, is_item};
 ghost use Rattle.zk_scenario.specs.Players.{players, calls_of};
 ghost use Rattle.zk_worker.specs.Protocol.{worker_attempts, call_attempts, role_attempts, run_progress, worker_progress, call_progress, role_progress, is_over, spot_of};
 
-use crate::calls::{form_ahead, form_of, form_progress};
+use crate::calls::{plan_ahead, plan_of, plan_progress};
 use crate::{Frame, Progress, Role, Spot, Stage, Step, StepReply};
 use zk_model_work::{WorkOp, WorkReply};
 use zk_scenario::{Call, Scenario, word_of};
@@ -34,7 +34,7 @@ fn call_ahead(scenario: &Scenario, call: Option<Call>, stage: Stage, index: u32)
     ensures { result ≡ slice_get (call_attempts scenario.now.decls call stage) index }
 {
     match call {
-        Some(call) => form_ahead(form_of(scenario, call), stage, index),
+        Some(call) => plan_ahead(plan_of(scenario, call), stage, index),
         None => None,
     }
 }
@@ -82,7 +82,7 @@ fn call_progress(
     ensures { result ≡ call_progress scenario.now.decls call stage made reply.now }
 {
     match call {
-        Some(call) => form_progress(word_of(&call), form_of(scenario, call), stage, made, reply),
+        Some(call) => plan_progress(word_of(&call), plan_of(scenario, call), stage, made, reply),
         None => Progress::Goes(stage),
     }
 }

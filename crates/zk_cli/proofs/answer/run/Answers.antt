@@ -34,5 +34,5 @@ returns c =
           c.clocks_keep_laws.ensures front (IsLegal-front clock_machine new_clock front rest (subst (IsLegal clock_machine new_clock) parts c.in_ok-trace.ensures.lawful.legal_clock));
       over = c.in_ok-trace.ensures.over;
       ends = refl;
-      printed = c.in_ok-put_trace.ensures ∙ ap (λ (text : List ℕ). text ++ trace_text c.args.scenario.now trace) c.requires.spelled;
+      printed = c.in_ok-put_trace.ensures.text ∙ ap (λ (text : List ℕ). text ++ trace_text c.args.scenario.now trace) c.requires.spelled;
     }))

@@ -14,7 +14,7 @@ use Rattle.zk_replay.specs.Ready.{IsReady}
 use Rattle.zk_replay.specs.Turning.{world}
 use Rattle.zk_replay.specs.Ending.{ending_by}
 use Rattle.zk_replay.proofs.Beginning.{ready-first, unspent-first, world-first, machines-first}
-use Rattle.zk_replay.proofs.Ends.{replayed, over}
+use Rattle.zk_replay.proofs.Endings.{replayed, over}
 use Rattle.zk_replay.proofs.Lawful.{lawful}
 use Rattle.zk_replay.proofs.run.replay.Goals as goal
 

@@ -1,7 +1,7 @@
 use Rattle.std.proofs.Common.{◌+◌, ◌-◌, ◌∙◌, suc, arith}
 use Rattle.zk_worker.specs.Machines.{machines_of}
 use Rattle.zk_replay.specs.Turning.{world}
-use Rattle.zk_replay.proofs.Laps.{within-left, within-spent, within-next}
+use Rattle.zk_replay.proofs.Rounds.{within-left, within-spent, within-next}
 use Rattle.zk_replay.proofs.turns.play_round.Goals as goal
 
 pub returns-then-turn-clause-rounded : goal.returns-then-turn-clause-rounded

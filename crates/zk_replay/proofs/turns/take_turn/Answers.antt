@@ -1,13 +1,13 @@
 use Rattle.std.proofs.Common.{◌≡◌, Some, length, refl, arith}
 use Rattle.std.specs.List.{slice_get}
 use Rattle.std.proofs.lemmas.Option.{slice_get_read}
+use Rattle.zk_base.proofs.Lists.{All-at}
 use Rattle.zk_worker.specs.Places.{At}
 use Rattle.zk_worker.specs.Machines.{machines_of}
 use Rattle.zk_worker.specs.Ranges.{FramesFit}
-use Rattle.zk_worker.proofs.Numbers.{All-slice_get}
 use Rattle.zk_replay.specs.Turning.{world}
 use Rattle.zk_replay.proofs.Readiness.{short-shown}
-use Rattle.zk_replay.proofs.Laps.{turned-if, turned-at}
+use Rattle.zk_replay.proofs.Rounds.{turned-if, turned-at}
 use Rattle.zk_replay.proofs.turns.take_turn.Goals as goal
 
 pub play-requires-clause-fits : goal.play-requires-clause-fits
@@ -17,7 +17,7 @@ play-requires-clause-fits g c =
     let P : At → Type 0 = λ at. FramesFit s.decls at.frames in
     let is : slice_get players.items c.args.number ≡ Some c.index_mut-player.result.now =
     slice_get_read players.items (length players.items) c.args.number c.index_mut-player.result.now refl (omega (arith, c.requires.number, players.ok.0)) c.index_mut-player.ensures.value in
-    All-slice_get P players.items c.args.number c.index_mut-player.result.now is c.requires.ready.fits
+    All-at P players.items c.args.number c.index_mut-player.result.now c.requires.ready.fits is
 
 pub play-requires-clause-log : goal.play-requires-clause-log
 play-requires-clause-log g c =

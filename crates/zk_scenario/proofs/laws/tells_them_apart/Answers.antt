@@ -1,4 +1,4 @@
-use Rattle.zk_scenario.proofs.Sound.{one_scenario}
+use Rattle.zk_scenario.proofs.ReadIsValid.{one_scenario}
 use Rattle.zk_scenario.proofs.laws.tells_them_apart.Goals as goal
 
 pub returns : goal.returns

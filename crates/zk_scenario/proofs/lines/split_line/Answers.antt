@@ -2,7 +2,7 @@ use Rattle.std.proofs.Common.{◌+◌, ◌-◌, length, drop, take, sym, ap, ◌
 use Rattle.std.proofs.lemmas.List.{take_all}
 use Rattle.std.proofs.Common.{length-drop}
 use Rattle.zk_scenario.specs.Grammar.{pieces_of}
-use Rattle.zk_scenario.proofs.Feeds.{pieces_of-feed, pieces_of-none}
+use Rattle.zk_scenario.proofs.FirstLine.{pieces_of-feed, pieces_of-none}
 use Rattle.zk_scenario.proofs.lines.split_line.Goals as goal
 
 pub returns-in-Some : goal.returns-in-Some

@@ -2,7 +2,7 @@ use Rattle.std.proofs.Common.{ap, arith, rules, eqb, length}
 use Rattle.std.proofs.lemmas.List.Splits.{length-slice_split}
 use Rattle.std.proofs.lemmas.List.Sums.{count_by-le-length}
 use Rattle.zk_scenario.specs.Parts.{Parts}
-use Rattle.zk_scenario.proofs.Told.{IsReadable-read, text_of-read}
+use Rattle.zk_scenario.proofs.ReadText.{IsReadable-read, text_of-read}
 use Rattle.zk_scenario.proofs.read.read_scenario.Goals as goal
 
 pub read_pieces-requires : goal.read_pieces-requires

@@ -3,7 +3,7 @@ use Rattle.std.specs.List.{flat_map}
 use Rattle.std.proofs.lemmas.Result.{IfOk-equal}
 use Rattle.zk_line.specs.Text.{decl_line}
 use Rattle.zk_scenario.specs.Spelling.{script_lines, fed, lines_text}
-use Rattle.zk_scenario.proofs.Printed.{lines_text-body_lines}
+use Rattle.zk_scenario.proofs.ScenarioLines.{lines_text-body_lines}
 use Rattle.zk_scenario.proofs.text.put_scenario.Goals as goal
 
 pub returns-clause-text : goal.returns-clause-text

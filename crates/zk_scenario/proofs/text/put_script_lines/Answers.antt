@@ -3,7 +3,7 @@ use Rattle.std.specs.List.{flat_map}
 use Rattle.std.proofs.lemmas.Result.{IfOk-equal}
 use Rattle.zk_line.specs.Text.{call_line}
 use Rattle.zk_scenario.specs.Spelling.{script_line, end_line, fed}
-use Rattle.zk_scenario.proofs.Printed.{lines_text-script_lines}
+use Rattle.zk_scenario.proofs.ScenarioLines.{lines_text-script_lines}
 use Rattle.zk_scenario.proofs.text.put_script_lines.Goals as goal
 
 pub returns : goal.returns

@@ -8,7 +8,7 @@ use Rattle.zk_model_work.proofs.state.WorkState.cancel_start.Goals as goal
 pub invariant_of-self-2 : goal.invariant_of-self-2
 invariant_of-self-2 c =
     let inside = c.self.inside in
-    let admissions = c.deref-7.result.now in
+    let admissions = c.deref-3.result.now in
     let count : inside.entries ≡ c.args.self.now.entries = ap (λ (s : State). s.entries) c.self.view_is in
     let settled = c.settle.ensures ∙ ap (settle admissions) c.deref_mut-3.ensures.value in (
       IsCounted-settle inside.entries inside.queues.len (is_empty_and_idle admissions) inside.queues.items c.settle.new.queues c.self.invariant.0 (omega arith) inside.queues.ok.0 settled,

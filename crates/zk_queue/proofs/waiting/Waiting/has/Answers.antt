@@ -1,6 +1,6 @@
 use Rattle.std.proofs.Common.{◌<◌, length, is_some, sym, ap, ◌∙◌, arith}
 use Rattle.zk_queue.specs.Line.{InLine, number_among}
-use Rattle.zk_queue.specs.Kept.{tickets_of}
+use Rattle.zk_queue.specs.Places.{tickets_of}
 use Rattle.zk_queue.proofs.Tables.{place_read, tells_some}
 use Rattle.zk_queue.proofs.waiting.Waiting.has.Goals as goal
 

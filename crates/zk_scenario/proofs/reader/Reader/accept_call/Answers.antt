@@ -1,5 +1,5 @@
 use Rattle.std.proofs.Common.{rules}
-use Rattle.zk_scenario.proofs.Kept.{IsValid-called-is}
+use Rattle.zk_scenario.proofs.AcceptedLines.{IsValid-called-is}
 use Rattle.zk_scenario.proofs.reader.Reader.accept_call.Goals as goal
 
 pub call-requires-clause-valid : goal.call-requires-clause-valid

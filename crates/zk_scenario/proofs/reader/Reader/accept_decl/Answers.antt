@@ -1,7 +1,7 @@
 use Rattle.std.proofs.Common.{rules}
 use Rattle.zk_line.proofs.Fits.{fresh-read}
 use Rattle.zk_words.specs.declared.word.Head.TheVariants as head
-use Rattle.zk_scenario.proofs.Kept.{Passes-verdict, IsValid-declared-is}
+use Rattle.zk_scenario.proofs.AcceptedLines.{Passes-verdict, IsValid-declared-is}
 use Rattle.zk_scenario.proofs.reader.Reader.accept_decl.Goals as goal
 
 pub declare-requires-clause-fresh : goal.declare-requires-clause-fresh

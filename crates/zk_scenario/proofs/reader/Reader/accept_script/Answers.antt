@@ -1,5 +1,5 @@
 use Rattle.std.proofs.Common.{rules}
-use Rattle.zk_scenario.proofs.Kept.{IsValid-opened-is}
+use Rattle.zk_scenario.proofs.AcceptedLines.{IsValid-opened-is}
 use Rattle.zk_scenario.proofs.reader.Reader.accept_script.Goals as goal
 
 pub open-requires-clause-valid : goal.open-requires-clause-valid

@@ -1,6 +1,6 @@
 use Rattle.std.proofs.Common.{◌∙◌, sym}
 use Rattle.zk_scenario.specs.Reading.{Reading}
-use Rattle.zk_scenario.proofs.Kept.{fresh-closed}
+use Rattle.zk_scenario.proofs.AcceptedLines.{fresh-closed}
 use Rattle.zk_scenario.proofs.reader.Reader.end.Goals as goal
 
 pub push-requires : goal.push-requires

@@ -1,7 +1,7 @@
 use Rattle.std.proofs.Common.{◌≡◌, ◌∙◌, ap, sym, Some, slice_get, get_or, List, ℕ, Option}
 use Rattle.std.specs.Option.{option_flatten}
 use Rattle.zk_scenario.specs.Scripts.{script_of}
-use Rattle.zk_scenario.proofs.Played.{calls_of-none, calls_of-some}
+use Rattle.zk_scenario.proofs.ScriptTables.{calls_of-none, calls_of-some}
 use Rattle.zk_scenario.proofs.scripts.Scripts.calls.Goals as goal
 
 pub returns-in-Some : goal.returns-in-Some

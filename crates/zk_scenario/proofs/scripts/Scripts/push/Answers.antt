@@ -1,6 +1,6 @@
 use Rattle.std.proofs.Common.{◌≡◌, ◌∙◌, ◌<◌, ◌++◌, ◌∷◌, [], ap, sym, subst, arith, set, Some, length}
 use Rattle.zk_scenario.specs.Scripts.{script_of, IsByOwner}
-use Rattle.zk_scenario.proofs.Played.{IsByOwner-push}
+use Rattle.zk_scenario.proofs.ScriptTables.{IsByOwner-push}
 use Rattle.zk_scenario.proofs.scripts.Scripts.push.Goals as goal
 
 pub invariant_of-self-2 : goal.invariant_of-self-2

@@ -1,16 +1,16 @@
 use Rattle.std.proofs.Common.{◌≡◌, ◌≤◌, vec_len, vec_capacity}
-use Rattle.zk_work.specs.Kept.{IsWhole}
+use Rattle.zk_work.specs.EngineState.{IsWhole}
 use Rattle.zk_work.specs.Engine.{expired, told}
 use Rattle.zk_work.proofs.engine.WorkEngine.expire.Given as goal
 
 abbrev pub invariant-loop : goal.invariant-loop
 invariant-loop l =
-    (l.self.kept ≡ expired l.counter l.time l.fn.self.kept)
-    × (l.one.items ≡ told l.counter l.time l.fn.self.kept)
-    × (l.other.items ≡ told l.counter l.time l.fn.self.kept)
-    × IsWhole l.self.kept
+    (l.self.state ≡ expired l.counter l.time l.fn.self.state)
+    × (l.expiries.items ≡ told l.counter l.time l.fn.self.state)
+    × (l.copy.items ≡ told l.counter l.time l.fn.self.state)
+    × IsWhole l.self.state
     × (l.self.room ≡ l.fn.self.room)
-    × (vec_len l.one ≡ l.counter)
-    × (vec_len l.other ≡ l.counter)
-    × (vec_capacity l.fn.one ≤ vec_capacity l.one)
-    × (vec_capacity l.fn.other ≤ vec_capacity l.other)
+    × (vec_len l.expiries ≡ l.counter)
+    × (vec_len l.copy ≡ l.counter)
+    × (vec_capacity l.fn.expiries ≤ vec_capacity l.expiries)
+    × (vec_capacity l.fn.copy ≤ vec_capacity l.copy)

@@ -3,7 +3,7 @@ use Rattle.zk_worker.specs.declared.steps.TheConstants.{MOST_STEPS}
 use Rattle.zk_worker.specs.Places.{At}
 use Rattle.zk_worker.specs.Follows.{IsFollowing}
 use Rattle.zk_worker.specs.Ranges.{FramesFit}
-use Rattle.zk_worker.proofs.Moves.{ahead_short, IsRoomy-moved}
+use Rattle.zk_worker.proofs.Limits.{ahead_short, IsRoomy-moved}
 use Rattle.zk_worker.proofs.Fits.{after-fits}
 use Rattle.zk_worker.proofs.Following.{following-more}
 use Rattle.zk_worker.proofs.player.Player.made.Goals as goal

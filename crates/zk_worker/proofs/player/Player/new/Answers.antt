@@ -5,7 +5,7 @@ use Rattle.zk_line.specs.declared.types.Decl.{Decl}
 use Rattle.zk_worker.specs.declared.frames.Frame.{Frame}
 use Rattle.zk_worker.specs.Places.{At}
 use Rattle.zk_worker.specs.Protocol.{settled, first_frame, role_at}
-use Rattle.zk_worker.proofs.Numbers.{players-below}
+use Rattle.zk_worker.proofs.DeclaredObjects.{players-below}
 use Rattle.zk_worker.proofs.Starts.{At-same, start_at-found}
 use Rattle.zk_worker.proofs.Fits.{start_at-fits}
 use Rattle.zk_worker.proofs.Following.{following-fresh}

@@ -5,7 +5,7 @@ use Rattle.zk_worker.specs.Ranges.{FramesFit}
 use Rattle.zk_worker.proofs.Fits.{after-fits}
 use Rattle.zk_worker.proofs.Ranges.{ahead-takes}
 use Rattle.zk_worker.proofs.Between.{log-still}
-use Rattle.zk_worker.proofs.Made.{log-stepped}
+use Rattle.zk_worker.proofs.ShownSteps.{log-stepped}
 use Rattle.zk_worker.proofs.Following.{following-between, stands-made}
 use Rattle.zk_worker.proofs.Trying.{tried-some, tried-none}
 use Rattle.zk_worker.proofs.player.Player.step.Goals as goal

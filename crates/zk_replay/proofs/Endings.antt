@@ -1,0 +1,260 @@
+-- The trace of a run that has come to its end.
+use Rattle.std.proofs.Common.{◌≡◌, ℕ, zero, suc, ◌+◌, ◌<◌, ◌∙◌, Bool, true, false, not, ◌&&◌, cond, eqb, eq-eqb, nat_lt, Option, Some, None, List, [], ◌∷◌, length, map, All, refl, sym, ap, subst, arith, length-append}
+use Rattle.std.specs.List.{slice_get, list_all}
+use Rattle.std.specs.Option.{option_map}
+use Rattle.std.proofs.lemmas.Bool.{and_parts, and_from}
+use Rattle.std.proofs.lemmas.Bool.Decides.{nat_tests}
+use Rattle.std.proofs.lemmas.List.{length-set}
+use Rattle.std.proofs.lemmas.List.Elements.{All-head, All-tail}
+use Rattle.zk_base.specs.declared.ids.Entry.{Entry}
+use Rattle.zk_base.proofs.Lists.{and_second, cond_nil-at, All-at, list_all-at}
+use Rattle.zk_base.specs.Legal.{state_after}
+use Rattle.zk_model_wait.specs.declared.clock.ClockOp.{ClockOp}
+use Rattle.zk_model_wait.specs.declared.clock.ClockReply.{ClockReply}
+use Rattle.zk_model_wait.specs.Clock.{new_clock, clock_reply, clock_machine}
+use Rattle.zk_model_work.specs.declared.ops.WorkOp.{WorkOp}
+use Rattle.zk_model_work.specs.declared.ops.WorkOp.TheVariants as ops
+use Rattle.zk_model_work.specs.declared.ops.WorkReply.{WorkReply}
+use Rattle.zk_model_work.specs.declared.parts.Admission.{Admission}
+use Rattle.zk_model_work.specs.declared.parts.Life.{Life}
+use Rattle.zk_model_work.specs.declared.parts.Life.TheVariants.{Waiting, Running, Ended, Dropped}
+use Rattle.zk_model_work.specs.Questions.{is_waiting, is_running, is_open, waits_for, runs_on}
+use Rattle.zk_model_work.specs.State.{State}
+use Rattle.zk_model_work.specs.Machine.{work_machine, work_reply, work_next}
+use Rattle.zk_scenario.specs.Parts.{Parts}
+use Rattle.zk_scenario.specs.Valid.{IsValid}
+use Rattle.zk_line.specs.Objects.{places, is_thread, is_queue}
+use Rattle.zk_worker.specs.declared.steps.TheConstants.{MOST_STEPS}
+use Rattle.zk_worker.specs.declared.steps.Step.{Step}
+use Rattle.zk_worker.specs.declared.steps.Step.TheVariants as steps
+use Rattle.zk_worker.specs.declared.steps.StepReply.{StepReply}
+use Rattle.zk_worker.specs.declared.steps.StepReply.TheVariants as step_replies
+use Rattle.zk_worker.specs.declared.frames.Frame.{Frame}
+use Rattle.zk_worker.specs.declared.frames.Role.{Role}
+use Rattle.zk_worker.specs.declared.frames.Role.TheVariants.{Script, Worker}
+use Rattle.zk_worker.specs.declared.frames.Stage.{Stage}
+use Rattle.zk_worker.specs.declared.frames.Stage.TheVariants.{Start, Runs, Waits, Halfway}
+use Rattle.zk_worker.specs.declared.log.Log.{Log}
+use Rattle.zk_worker.specs.Places.{At}
+use Rattle.zk_worker.specs.Protocol.{attempts, frames_attempts, role_attempts, after}
+use Rattle.zk_worker.specs.Follows.{log_of, is_done, is_between, is_spent_at}
+use Rattle.zk_worker.specs.Machines.{work_start_of, machines_of}
+use Rattle.zk_worker.specs.Attempt.{reply_in}
+use Rattle.zk_worker.proofs.Lists.{none-passes}
+use Rattle.zk_worker.proofs.ShownSteps.{made-of}
+use Rattle.zk_worker.proofs.Ranges.{same-lengths}
+use Rattle.zk_trace.specs.declared.trace.Ending.{Ending}
+use Rattle.zk_trace.specs.declared.trace.Ending.TheVariants as endings
+use Rattle.zk_trace.specs.declared.trace.Trace.{Trace}
+use Rattle.zk_replay.specs.RoundRobin.{World, or_else, first_possible, chosen, stepped, first, round, rounds, is_spent, IsRun}
+use Rattle.zk_replay.specs.Ready.{IsReady}
+use Rattle.zk_replay.specs.Replay.{all_done, none_waits, ending_of, trace_of, IsReplay}
+use Rattle.zk_replay.specs.Ending.{ending_by}
+use Rattle.zk_replay.specs.Over.{IsOver}
+use Rattle.zk_replay.specs.Tending.{IsIdle, IsWorkers, Tends, IsTended}
+use Rattle.zk_replay.proofs.Readiness.{ready-stepped}
+use Rattle.zk_replay.proofs.Beginning.{ready-first, first-there, first-players}
+use Rattle.zk_model_work.proofs.Runs.{none-waits-for}
+use Rattle.zk_replay.proofs.WorkerRuns.{tended-step, tended-clock, tended-first, worker-of}
+use Rattle.zk_replay.proofs.StillRounds.{first_possible-is, rounds-keep, round-still}
+
+-- what holds of each world of the run of a valid scenario
+record IsGood (s : Parts) (w : World) : Type 0 where
+  all_there : length w.players ≡ length (places is_thread s.decls) + length (places is_queue s.decls)
+  ready : IsReady s w
+  state : State
+  tended : IsTended s w state
+
+-- a step keeps what holds of each world, if each worker still tends its queue
+good-from : (s : Parts) (w : World) (p : ℕ) (at : At) (made : Step × StepReply) (state : State) → IsGood s w → is_spent w ≡ false → slice_get w.players p ≡ Some at →
+    chosen (machines_of s) s w.shown at ≡ Some made → IsTended s (stepped s w p at (Some made)) state → IsGood s (stepped s w p at (Some made))
+good-from s w p at made state good unspent is choice tended = record {
+  all_there = length-set w.players p (after s at made.0 made.1) ∙ good.all_there;
+  ready = ready-stepped (machines_of s) s w p at made good.ready is (none-passes is_spent_at w.players p at unspent is)
+      (first_possible-is (machines_of s) w.shown at.who (attempts s at) made choice);
+  state = state;
+  tended = tended;
+}
+
+good-step : (s : Parts) (w : World) (p : ℕ) (at : At) (made : Step × StepReply) → IsGood s w → is_spent w ≡ false → slice_get w.players p ≡ Some at →
+    chosen (machines_of s) s w.shown at ≡ Some made → IsGood s (stepped s w p at (Some made))
+good-step s w p at (step, reply) good unspent is choice =
+    let made = first_possible-is (machines_of s) w.shown at.who (attempts s at) (step, reply) choice in
+    let ahead = (cond_nil-at (nat_lt (length at.spots) MOST_STEPS) (frames_attempts s at.frames) made.place step made.is_there).1 in
+    by_step step reply made.place choice ahead made.answered
+  where
+    by_step : (step : Step) (reply : StepReply) (place : ℕ) → chosen (machines_of s) s w.shown at ≡ Some (step, reply) → slice_get (frames_attempts s at.frames) place ≡ Some step →
+        reply_in (machines_of s) w.shown at.who step ≡ Some reply → IsGood s (stepped s w p at (Some (step, reply)))
+    by_step (steps.Work op) reply place choice ahead answered =
+        let from = made-of (λ (r : WorkReply). step_replies.Work r (length w.shown.work)) (work_reply (state_after work_machine (work_start_of s) w.shown.work) at.who op) reply answered in
+        let possible = ap (λ (t : State). work_reply t at.who op) good.tended.after ∙ from.1 in
+        let tended = tended-step s w good.state p at op from.0 (length w.shown.work) place good.tended is (good.ready.numbers p at is) ahead possible in
+        good-from s w p at (steps.Work op, reply) (work_next good.state at.who op) good unspent is choice
+        (subst (λ (r : StepReply). IsTended s (stepped s w p at (Some (steps.Work op, r))) (work_next good.state at.who op)) from.2 tended)
+    by_step (steps.Clock op) reply place choice ahead answered =
+        let from = made-of (λ (r : ClockReply). step_replies.Clock r (length w.shown.clock)) (clock_reply (state_after clock_machine new_clock w.shown.clock) at.who op) reply answered in
+        let tended = tended-clock s w good.state p at op from.0 (length w.shown.clock) place good.tended is ahead in
+        good-from s w p at (steps.Clock op, reply) good.state good unspent is choice
+        (subst (λ (r : StepReply). IsTended s (stepped s w p at (Some (steps.Clock op, r))) good.state) from.2 tended)
+
+good-first : (s : Parts) → IsValid s → IsGood s (first s)
+good-first s valid = record {
+  all_there = first-players s ∙ length-append (places is_thread s.decls) (places is_queue s.decls);
+  ready = ready-first s valid;
+  state = work_start_of s;
+  tended = tended-first s (first-there s) (same-lengths s);
+}
+
+good-rounds : (s : Parts) (n : ℕ) → IsValid s → IsGood s (rounds (machines_of s) s n (first s))
+good-rounds s n valid = rounds-keep (machines_of s) s (IsGood s) (good-step s) n (first s) (good-first s valid)
+
+-- a worker between two runs, whose queue runs nothing, can only begin
+done-ahead : (s : Parts) (queue : ℕ) (frames : List Frame) (admissions : List Admission) → Tends s.decls queue frames admissions → is_done frames ≡ true →
+    (frames_attempts s frames ≡ steps.Work (ops.Begin queue) ∷ []) × IsIdle queue admissions
+done-ahead s queue [] admissions tends done = absurd tends
+done-ahead s queue (frame ∷ next ∷ below) admissions tends done = absurd (cc)
+done-ahead s queue (frame ∷ []) admissions tends done = by_role frame.role frame.next frame.stage tends done
+  where
+    by_role : (role : Role) (next : ℕ) (stage : Stage) → IsWorkers s.decls queue role stage admissions → is_between role stage ≡ true →
+        (role_attempts s role next stage ≡ steps.Work (ops.Begin queue) ∷ []) × IsIdle queue admissions
+    by_role (Worker object) next Start tends done = (ap (λ (q : ℕ). steps.Work (ops.Begin q) ∷ []) tends.0, tends.1)
+    by_role (Worker object) next Runs tends done = absurd (cc)
+    by_role (Worker object) next (Waits place) tends done = absurd tends
+    by_role (Worker object) next Halfway tends done = absurd tends
+    by_role (Script owner) next stage tends done = absurd tends
+
+answer-none : (r : Option WorkReply) (long : ℕ) (step : Step) → or_else step (option_map (λ x. step_replies.Work x long) r) None ≡ None → r ≡ None
+answer-none None long step none = refl
+answer-none (Some x) long step none = absurd (cc)
+
+none-wait : (many : ℕ) (xs : List Admission) → All (λ a. a.queue < many) xs → ((queue : ℕ) → queue < many → All (λ a. waits_for queue a ≡ false) xs) → list_all (λ a. not (is_waiting a.life)) xs ≡ true
+none-wait many [] homes none = refl
+none-wait many (a ∷ xs) homes none =
+    let P : Admission → Type 0 = λ a. a.queue < many in
+    let here : waits_for a.queue a ≡ false = let Q : Admission → Type 0 = λ b. waits_for a.queue b ≡ false in All-head Q a xs (none a.queue (All-head P a xs homes)) in
+    let rest = none-wait many xs (All-tail P a xs homes) (λ queue less. let Q : Admission → Type 0 = λ b. waits_for queue b ≡ false in All-tail Q a xs (none queue less)) in
+    and_from (not (is_waiting a.life)) (list_all (λ a. not (is_waiting a.life)) xs) (not_waits (eqb a.queue a.queue) (is_waiting a.life) (eq-eqb a.queue a.queue refl) here) rest
+  where
+    not_waits : (b c : Bool) → b ≡ true → (b && c) ≡ false → not c ≡ true
+    not_waits true true is none = absurd (cc)
+    not_waits true false is none = refl
+    not_waits false c is none = absurd (cc)
+
+short-unspent : (at : At) → is_spent_at at ≡ false → nat_lt (length at.spots) MOST_STEPS ≡ true
+short-unspent at is = grind (arith, nat_tests)
+
+-- where a list is long enough something is at a place
+pub there-is : (xs : List At) (p : ℕ) → p < length xs → (x : At) × (slice_get xs p ≡ Some x)
+there-is [] p within = absurd (omega arith)
+there-is (x ∷ xs) zero within = (x, refl)
+there-is (x ∷ xs) (suc p) within = there-is xs p (omega arith)
+
+not-open : (life : Life) → is_waiting life ≡ false → is_running life ≡ false → is_open life ≡ false
+not-open Waiting waits runs = absurd (cc)
+not-open Running waits runs = absurd (cc)
+not-open Ended waits runs = refl
+not-open Dropped waits runs = refl
+
+module _ (s : Parts) (w : World) (good : IsGood s w) (still : round (machines_of s) s w ≡ w) (unspent : is_spent w ≡ false) (done : all_done w.players ≡ true) where
+  -- the worker of a queue, which stands between two runs
+  worker-at : (queue : ℕ) → queue < length (places is_queue s.decls) → (at : At) × (slice_get w.players (length (places is_thread s.decls) + queue) ≡ Some at)
+  worker-at queue within = there-is w.players (length (places is_thread s.decls) + queue) (omega (arith, good.all_there))
+
+  between : (queue : ℕ) (within : queue < length (places is_queue s.decls)) →
+      (frames_attempts s (worker-at queue within).0.frames ≡ steps.Work (ops.Begin queue) ∷ []) × IsIdle queue good.state.admissions
+  between queue within =
+      let there = worker-at queue within in
+      let is_done_at = list_all-at (λ at. is_done at.frames) w.players (length (places is_thread s.decls) + queue) there.0 done there.1 in
+      done-ahead s queue there.0.frames good.state.admissions (good.tended.tended queue there.0 there.1 within) is_done_at
+
+  none-for : (queue : ℕ) → queue < length (places is_queue s.decls) → All (λ a. waits_for queue a ≡ false) good.state.admissions
+  none-for queue within =
+      let threads = length (places is_thread s.decls) in
+      let there = worker-at queue within in
+      let at = there.0 in
+      let only = between queue within in
+      let none = round-still (machines_of s) s w still unspent (threads + queue) at (omega (arith, good.all_there)) there.1 in
+      let ahead : attempts s at ≡ steps.Work (ops.Begin queue) ∷ [] =
+      ap (λ b. cond b (frames_attempts s at.frames) []) (short-unspent at (none-passes is_spent_at w.players (threads + queue) at unspent there.1)) ∙ only.0 in
+      let first_none = sym (ap (first_possible (machines_of s) w.shown at.who) ahead) ∙ none in
+      let not_begun : work_reply good.state at.who (ops.Begin queue) ≡ None =
+      ap (λ (t : State). work_reply t at.who (ops.Begin queue)) good.tended.after
+      ∙ answer-none (work_reply (state_after work_machine (work_start_of s) w.shown.work) at.who (ops.Begin queue)) (length w.shown.work) (steps.Work (ops.Begin queue)) first_none in
+      none-waits-for good.state at.who queue
+      (worker-of s w good.state queue good.tended within ∙ ap (λ (n : ℕ). Some n) (sym (good.ready.numbers (threads + queue) at there.1))) only.1 not_begun
+
+  -- where all are done at the end of a run that isn't spent, no admission waits
+  ended : none_waits (state_after work_machine (work_start_of s) w.shown.work) ≡ true
+  ended = subst (λ (t : State). none_waits t ≡ true) good.tended.after (none-wait (length (places is_queue s.decls)) good.state.admissions good.tended.homes none-for)
+
+  -- and none runs
+  over-at : (number : ℕ) (a : Admission) → slice_get good.state.admissions number ≡ Some a → is_open a.life ≡ false
+  over-at number a is =
+      let Home : Admission → Type 0 = λ b. b.queue < length (places is_queue s.decls) in
+      let Waits : Admission → Type 0 = λ b. waits_for a.queue b ≡ false in
+      let Runs : Admission → Type 0 = λ b. runs_on a.queue b ≡ false in
+      let within = All-at Home good.state.admissions number a good.tended.homes is in
+      let here = eq-eqb a.queue a.queue refl in
+      not-open a.life
+      (and_second (eqb a.queue a.queue) (is_waiting a.life) here (All-at Waits good.state.admissions number a (none-for a.queue within) is))
+      (and_second (eqb a.queue a.queue) (is_running a.life) here (All-at Runs good.state.admissions number a (between a.queue within).1 is))
+
+ending-good : (s : Parts) (w : World) → IsGood s w → round (machines_of s) s w ≡ w → ending_by w.players ≡ ending_of s w
+ending-good s w good still = by_spent (is_spent w) refl
+  where
+    waits : Bool
+    waits = none_waits (state_after work_machine (work_start_of s) w.shown.work)
+
+    by_done : (b : Bool) → is_spent w ≡ false → all_done w.players ≡ b → cond b endings.Ended endings.Stuck ≡ cond (b && none_waits (state_after work_machine (work_start_of s) w.shown.work)) endings.Ended endings.Stuck
+    by_done true unspent done = sym (ap (λ c. cond c endings.Ended endings.Stuck) (ended s w good still unspent done))
+    by_done false unspent done = refl
+
+    by_spent : (b : Bool) → is_spent w ≡ b → cond b endings.Spent (cond (all_done w.players) endings.Ended endings.Stuck)
+        ≡ cond b endings.Spent (cond (all_done w.players && none_waits (state_after work_machine (work_start_of s) w.shown.work)) endings.Ended endings.Stuck)
+    by_spent true spent = refl
+    by_spent false unspent = by_done (all_done w.players) unspent refl
+
+-- at the end of a run the players alone say how it ended
+ending-is : (s : Parts) (w : World) → IsValid s → IsRun (machines_of s) s w → ending_by w.players ≡ ending_of s w
+ending-is s w valid run =
+    ending-good s w (subst (λ (v : World). IsGood s v) (sym run.1) (good-rounds s run.0 valid)) run.2
+
+-- equal parts make equal traces
+Trace-same : (e e' : Ending) (h h' : List (Entry WorkOp WorkReply)) (c c' : List (Entry ClockOp ClockReply)) (l l' : List Log) → e ≡ e' → h ≡ h' → c ≡ c' → l ≡ l' →
+    ◌≡◌ {A = Trace} (record { ending = e; work = h; clock = c; logs = l }) (record { ending = e'; work = h'; clock = c'; logs = l' })
+Trace-same e e' h h' c c' l l' ee eh ec el =
+    let P : Trace → Type 0 = λ x. ◌≡◌ {A = Trace} (record { ending = e; work = h; clock = c; logs = l }) x in
+    subst (λ (x : List Log). P (record { ending = e'; work = h'; clock = c'; logs = x })) el
+    (subst (λ (x : List (Entry ClockOp ClockReply)). P (record { ending = e'; work = h'; clock = x; logs = l })) ec
+    (subst (λ (x : List (Entry WorkOp WorkReply)). P (record { ending = e'; work = x; clock = c; logs = l })) eh
+    (subst (λ (x : Ending). P (record { ending = x; work = h; clock = c; logs = l })) ee refl)))
+
+-- what the code hands out is the trace of the run
+pub replayed : (s : Parts) (old w : World) (ending : Ending) (work : List (Entry WorkOp WorkReply)) (clock : List (Entry ClockOp ClockReply)) (logs : List Log) → IsValid s →
+    old ≡ first s → (n : ℕ) → w ≡ rounds (machines_of s) s n old → round (machines_of s) s w ≡ w →
+    ending ≡ ending_by w.players → work ≡ w.shown.work → clock ≡ w.shown.clock → logs ≡ map log_of w.players →
+    IsReplay s (record { ending = ending; work = work; clock = clock; logs = logs })
+replayed s old w ending work clock logs valid begins n so_far over end same_work same_clock log =
+    let run : IsRun (machines_of s) s w = (n, so_far ∙ ap (rounds (machines_of s) s n) begins, over) in
+    (w, run, Trace-same ending (ending_of s w) work w.shown.work clock w.shown.clock logs (map log_of w.players) (end ∙ ending-is s w valid run) same_work same_clock log)
+
+-- what an ending says of the players
+ended-parts : (spent done waits : Bool) → cond spent endings.Spent (cond (done && waits) endings.Ended endings.Stuck) ≡ endings.Ended → (spent ≡ false) × (done ≡ true)
+ended-parts true done waits is = absurd (cc)
+ended-parts false true waits is = (refl, refl)
+ended-parts false false waits is = absurd (cc)
+
+life-closed : (o : Option Admission) (life : Life) → ((a : Admission) → o ≡ Some a → is_open a.life ≡ false) → option_map (λ a. a.life) o ≡ Some life → is_open life ≡ false
+life-closed None life each is = absurd (cc)
+life-closed (Some a) life each is = let same : a.life ≡ life = cc in subst (λ (l : Life). is_open l ≡ false) same (each a refl)
+
+run-over : (s : Parts) (w : World) → IsValid s → IsRun (machines_of s) s w → IsOver s (trace_of s w)
+run-over s w valid run ends number life is =
+    let good = subst (λ (v : World). IsGood s v) (sym run.1) (good-rounds s run.0 valid) in
+    let parts = ended-parts (is_spent w) (all_done w.players) (none_waits (state_after work_machine (work_start_of s) w.shown.work)) ends in
+    life-closed (slice_get (state_after work_machine (work_start_of s) w.shown.work).admissions number) life
+    (λ a there. over-at s w good run.2 parts.0 parts.1 number a (ap (λ (t : State). slice_get t.admissions number) good.tended.after ∙ there)) is
+
+-- where the trace of a run has ended, none of its admissions waits or runs
+pub over : (s : Parts) (t : Trace) → IsValid s → IsReplay s t → IsOver s t
+over s t valid run = subst (λ (x : Trace). IsOver s x) (sym run.2) (run-over s run.0 valid run.1)

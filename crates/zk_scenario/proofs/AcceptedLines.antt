@@ -1,0 +1,259 @@
+-- A line to which no reason applies keeps what was read valid.
+use Rattle.std.proofs.Common.{◌≡◌, ℕ, pos, ◌+◌, ◌<◌, ◌≤◌, Bool, true, false, not, cond, eqb, nat_le, nat_lt, ◌&&◌, ◌||◌, Option, None, Some, List, [], ◌∷◌, ◌++◌, length, slice_get, count_by, is_some, refl, sym, ap, subst, ◌∙◌, ⊎_elim, arith, length-append}
+use Rattle.std.specs.List.{list_all}
+use Rattle.std.specs.Option.{option_map_or, option_map, option_to_list}
+use Rattle.std.specs.Prelude.{option_and_then}
+use Rattle.std.proofs.lemmas.Bool.{and_parts, and_from, cases_order, leb-false, ltb-false, not-false, eq-eqb, ne_eqb, cond-true, cond-false}
+use Rattle.std.proofs.lemmas.List.{append-nil}
+use Rattle.std.proofs.lemmas.List.Folds.{list_all-append}
+use Rattle.std.proofs.lemmas.List.Quantifiers.{position-Some}
+use Rattle.std.proofs.lemmas.List.Sums.{sum_by-append}
+use Rattle.std.proofs.lemmas.Option.{none-some, same_Some, slice_get_past, slice_get_within}
+use Rattle.zk_words.specs.declared.kind.Kind.{Kind}
+use Rattle.zk_words.specs.declared.slot.Rest.TheVariants.{Nothing}
+use Rattle.zk_words.specs.declared.slot.Slot.TheVariants as slot
+use Rattle.zk_words.specs.declared.word.Word.{Word}
+use Rattle.zk_words.specs.declared.word.Head.{Head}
+use Rattle.zk_words.specs.declared.word.Head.TheVariants as head
+use Rattle.zk_words.specs.Lines.{IsForm}
+use Rattle.zk_words.specs.Parts.{Placed, fits, parts_of as placed_of}
+use Rattle.zk_words.specs.Table.{call_row}
+use Rattle.zk_line.specs.declared.types.Decl.{Decl}
+use Rattle.zk_line.specs.declared.types.Decl.TheVariants as decl
+use Rattle.zk_line.specs.declared.types.Call.{Call}
+use Rattle.zk_line.specs.Args.{args_of}
+use Rattle.zk_line.specs.Calls.{call_of}
+use Rattle.zk_line.specs.Checks.{first_object, are_in_range, are_well_named}
+use Rattle.zk_line.specs.Decls.{decl_of}
+use Rattle.zk_line.specs.Fits.{call_fits}
+use Rattle.zk_line.specs.Objects.{object_of, kind_of, is_at, is_of, names, plays_script, is_thread, is_queue, is_item, player_count}
+use Rattle.zk_line.proofs.Fits.{call_fits-read, kind_of-read}
+use Rattle.zk_line.proofs.Lists.{slice_get-append_left, slice_get-push, count_by-push, position-push}
+use Rattle.zk_line.proofs.Spelled.{one_part}
+use Rattle.zk_scenario.specs.declared.types.Script.{Script}
+use Rattle.zk_scenario.specs.declared.refused.Why.{Why}
+use Rattle.zk_scenario.specs.declared.refused.Why.TheVariants as why
+use Rattle.zk_scenario.specs.Reading.{Reading, all_scripts, declared, begun, with_call, called, parts_of}
+use Rattle.zk_scenario.specs.Scripts.{script_of}
+use Rattle.zk_scenario.specs.Valid.{IsValid, OneEach, script_fits, call_count}
+use Rattle.zk_scenario.specs.Verdict.{has_begun, has_script, is_misplaced, is_full, is_past_limit, verdict, opened, after}
+use Rattle.zk_scenario.proofs.ScriptTables.{script_of-push}
+
+-- no reason applies: none of the tests says so
+pub record Passes (r : Reading) (h : Head) (parts : List Placed) : Type 0 where
+  pub placed : is_misplaced r h parts ≡ false
+  pub in_range : are_in_range parts ≡ true
+  pub well_named : are_well_named r.decls parts ≡ true
+  pub within : is_past_limit r h ≡ false
+
+drop_test : (b : Bool) (reason : Why) (rest : Option Why) → cond b (Some reason) rest ≡ None → (b ≡ false) × (rest ≡ None)
+drop_test true reason rest e = absurd (cc)
+drop_test false reason rest e = (refl, e)
+
+pub Passes-verdict : (r : Reading) (h : Head) (parts : List Placed) → verdict r h parts ≡ None → Passes r h parts
+Passes-verdict r h parts e =
+    let one = drop_test (is_misplaced r h parts) why.Order _ e in
+    let two = drop_test (not (are_in_range parts)) why.Number _ one.1 in
+    let three = drop_test (not (are_well_named r.decls parts)) why.Name _ two.1 in
+    let four = drop_test (is_past_limit r h) why.Limit _ three.1 in
+    record { placed = one.0; in_range = not-false _ two.0; well_named = not-false _ three.0; within = four.0 }
+
+pub or_none : (a b : Bool) → (a || b) ≡ false → (a ≡ false) × (b ≡ false)
+or_none true b e = absurd (cc)
+or_none false b e = (refl, e)
+
+pub is_some-none : {X : Type 0} (o : Option X) → is_some o ≡ false → o ≡ None
+is_some-none None e = refl
+is_some-none (Some x) e = absurd (cc)
+
+pub is_some-some : {X : Type 0} (o : Option X) → is_some o ≡ true → (x : X) × (o ≡ Some x)
+is_some-some None e = absurd (cc)
+is_some-some (Some x) e = (x, refl)
+
+one_each-left : (ss : List Script) (s : Script) → OneEach (ss ++ s ∷ []) → OneEach ss
+one_each-left ss s held n x e =
+    let within = slice_get_within ss n x e in
+    let found = held n x (slice_get-append_left ss (s ∷ []) n within ∙ e) in
+    pick (script_of ss x.owner) (eqb s.owner x.owner) (sym (position-push (λ y. eqb y.owner x.owner) ss s) ∙ found) within where
+      pick : (o : Option ℕ) (b : Bool) → cond (is_some o) o (cond b (Some (length ss)) None) ≡ Some n → n < length ss → o ≡ Some n
+      pick (Some k) b found within = found
+      pick None true found within = let same : length ss ≡ n = cc in absurd (omega arith)
+      pick None false found within = absurd (cc)
+
+one_each-fresh : (ss : List Script) (s : Script) → OneEach (ss ++ s ∷ []) → script_of ss s.owner ≡ None
+one_each-fresh ss s held =
+    pick (script_of ss s.owner) (eqb s.owner s.owner) (sym (position-push (λ y. eqb y.owner s.owner) ss s) ∙ held (length ss) s (slice_get-push ss s))
+    (λ k e. (position-Some (λ y. eqb y.owner s.owner) ss k s e).0) where
+      pick : (o : Option ℕ) (b : Bool) → cond (is_some o) o (cond b (Some (length ss)) None) ≡ Some (length ss) → ((k : ℕ) → o ≡ Some k → k < length ss) → o ≡ None
+      pick (Some k) b found within = let same : k ≡ length ss = cc in let short = within k refl in absurd (omega arith)
+      pick None b found within = refl
+
+one_each-push : (ss : List Script) (s : Script) → OneEach ss → script_of ss s.owner ≡ None → OneEach (ss ++ s ∷ [])
+one_each-push ss s held fresh n x e =
+    ⊎_elim
+    (λ at. let here : x ≡ s = cc (slice_get-push ss s, ap (slice_get (ss ++ s ∷ [])) at) in
+    script_of-push ss s x.owner fresh ∙ cond-true (eqb s.owner x.owner) (Some (length ss)) (script_of ss x.owner) (eq-eqb s.owner x.owner (ap (λ y. y.owner) (sym here))) ∙ ap Some (sym at))
+    (⊎_elim
+    (λ below.
+    let before = held n x (sym (slice_get-append_left ss (s ∷ []) n below) ∙ e) in
+    script_of-push ss s x.owner fresh ∙ cond-false (eqb s.owner x.owner) (Some (length ss)) (script_of ss x.owner) (ne_eqb s.owner x.owner (λ same. none-some n (sym fresh ∙ ap (script_of ss) same ∙ before))) ∙ before)
+    (λ above. absurd (none-some x (sym (slice_get_past (ss ++ s ∷ []) n (omega (arith, length-append ss (s ∷ [])))) ∙ e))))
+    (cases_order n (length ss))
+
+-- before the first script none stands and none is open
+pub nothing_begun : (r : Reading) → has_begun r ≡ false → (r.scripts ≡ []) × (r.current ≡ None)
+nothing_begun r first =
+    let parts = or_none (is_some r.current) (nat_lt 0 (length r.scripts)) first in
+    (empty r.scripts (ltb-false 0 (length r.scripts) parts.1), is_some-none r.current parts.0) where
+      empty : (xs : List Script) → length xs ≤ 0 → xs ≡ []
+      empty [] h = refl
+      empty (x ∷ xs) h = absurd (omega arith)
+
+-- no script stands yet, so a declaration says nothing of one
+valid-declared : (r : Reading) (d : Decl) → IsValid (parts_of r) → has_begun r ≡ false → player_count (r.decls ++ d ∷ []) ≤ 64 → count_by is_queue (r.decls ++ d ∷ []) ≤ 8 → count_by is_item (r.decls ++ d ∷ []) ≤ 256
+    → IsValid (parts_of (declared r d))
+valid-declared r d valid first players queues items =
+    let nothing = nothing_begun r first in
+    let none : all_scripts r ≡ [] = ap (λ o. r.scripts ++ option_to_list o) nothing.1 ∙ append-nil r.scripts ∙ nothing.0 in
+    record { players = players; queues = queues; items = items; calls = valid.calls; fit = ap (list_all (script_fits (r.decls ++ d ∷ []))) none; one_each = valid.one_each }
+
+-- where no script is open, all scripts are those that have ended
+pub all_scripts-none : (r : Reading) → r.current ≡ None → all_scripts r ≡ r.scripts
+all_scripts-none r e = ap (λ o. r.scripts ++ option_to_list o) e ∙ append-nil r.scripts
+
+call_count-push : (ss : List Script) (s : Script) → call_count (ss ++ s ∷ []) ≡ call_count ss + length s.calls
+call_count-push ss s = sum_by-append (λ x. length x.calls) ss (s ∷ []) ∙ ap (λ n. call_count ss + n) (omega arith)
+
+fit-push : (decls : List Decl) (ss : List Script) (s : Script) → list_all (script_fits decls) (ss ++ s ∷ []) ≡ (list_all (script_fits decls) ss && script_fits decls s)
+fit-push decls ss s = list_all-append (script_fits decls) ss (s ∷ []) ∙ ap (λ b. list_all (script_fits decls) ss && b) (and-true (script_fits decls s)) where
+  and-true : (b : Bool) → (b && true) ≡ b
+  and-true true = refl
+  and-true false = refl
+
+valid-begun : (r : Reading) (owner : ℕ) → IsValid (parts_of r) → r.current ≡ None → is_at plays_script r.decls owner ≡ true → script_of r.scripts owner ≡ None → IsValid (parts_of (begun r (record { owner = owner; calls = [] })))
+valid-begun r owner valid none thread fresh =
+    let s : Script = record { owner = owner; calls = [] } in
+    let same = all_scripts-none r none in
+    record {
+      players = valid.players;
+      queues = valid.queues;
+      items = valid.items;
+      calls = omega (arith, call_count-push r.scripts s, ap call_count same, valid.calls);
+      fit = fit-push r.decls r.scripts s ∙ and_from (list_all (script_fits r.decls) r.scripts) (script_fits r.decls s) (ap (list_all (script_fits r.decls)) (sym same) ∙ valid.fit) (and_from (is_at plays_script r.decls owner) true thread refl);
+      one_each = one_each-push r.scripts s (subst OneEach same valid.one_each) fresh;
+    }
+
+valid-called : (decls : List Decl) (ss : List Script) (s : Script) (c : Call) → IsValid (record { decls = decls; scripts = ss ++ s ∷ [] }) → call_fits decls c ≡ true → call_count (ss ++ s ∷ []) < 4096
+    → IsValid (record { decls = decls; scripts = ss ++ with_call c s ∷ [] })
+valid-called decls ss s c valid fits few =
+    let both = and_parts (list_all (script_fits decls) ss) (script_fits decls s) (sym (fit-push decls ss s) ∙ valid.fit) in
+    let own = and_parts (is_at plays_script decls s.owner) (list_all (call_fits decls) s.calls) both.1 in
+    let calls = list_all-append (call_fits decls) s.calls (c ∷ []) ∙ and_from (list_all (call_fits decls) s.calls) (call_fits decls c && true) own.1 (and_from (call_fits decls c) true fits refl) in
+    record {
+      players = valid.players;
+      queues = valid.queues;
+      items = valid.items;
+      calls = omega (arith, call_count-push ss s, call_count-push ss (with_call c s), length-append s.calls (c ∷ []));
+      fit = fit-push decls ss (with_call c s) ∙ and_from (list_all (script_fits decls) ss) (script_fits decls (with_call c s)) both.0 (and_from (is_at plays_script decls s.owner) (list_all (call_fits decls) (s.calls ++ c ∷ [])) own.0 calls);
+      one_each = one_each-push ss (with_call c s) (one_each-left ss s valid.one_each) (one_each-fresh ss s valid.one_each);
+    }
+
+-- the script that ends has an owner of its own
+pub fresh-closed : (r : Reading) (s : Script) → IsValid (parts_of r) → r.current ≡ Some s → script_of r.scripts s.owner ≡ None
+fresh-closed r s valid e = one_each-fresh r.scripts s (subst (λ o. OneEach (r.scripts ++ option_to_list o)) e valid.one_each)
+
+called_fits : (r : Reading) (c : Call) → IsValid (parts_of r) → not (is_some r.current) ≡ false → call_fits r.decls c ≡ true → nat_le 4096 (call_count (all_scripts r)) ≡ false → IsValid (parts_of (called r c))
+called_fits r c valid placed fits few =
+    let s = is_some-some r.current (not-false (is_some r.current) placed) in
+    subst (λ o. IsValid (record { decls = r.decls; scripts = r.scripts ++ option_to_list (option_map (with_call c) o) })) (sym s.1)
+    (valid-called r.decls r.scripts s.0 c (subst (λ o. IsValid (record { decls = r.decls; scripts = r.scripts ++ option_to_list o })) s.1 valid) fits
+    (subst (λ o. call_count (r.scripts ++ option_to_list o) < 4096) s.1 (leb-false 4096 (call_count (all_scripts r)) few)))
+
+-- where a kind isn't full, there may be one more of it
+room : (decls : List Decl) (d : Decl) → is_full decls (kind_of d) ≡ false → player_count decls ≤ 64 → count_by is_queue decls ≤ 8 → count_by is_item decls ≤ 256
+    → (player_count (decls ++ d ∷ []) ≤ 64) × (count_by is_queue (decls ++ d ∷ []) ≤ 8) × (count_by is_item (decls ++ d ∷ []) ≤ 256)
+room decls (decl.Thread name prio user) free players queues items =
+    let d = decl.Thread name prio user in
+    let more = leb-false 64 (player_count decls) (or_none (nat_le 64 (count_by is_thread decls)) (nat_le 64 (player_count decls)) free).1 in (
+      omega (arith, more, count_by-push is_thread decls d, count_by-push is_queue decls d),
+      omega (arith, queues, count_by-push is_queue decls d),
+      omega (arith, items, count_by-push is_item decls d),
+    )
+room decls (decl.Queue name prio on) free players queues items =
+    let d = decl.Queue name prio on in
+    let both = or_none (nat_le 8 (count_by is_queue decls)) (nat_le 64 (player_count decls)) free in
+    let one = leb-false 8 (count_by is_queue decls) both.0 in
+    let more = leb-false 64 (player_count decls) both.1 in (
+      omega (arith, more, count_by-push is_thread decls d, count_by-push is_queue decls d),
+      omega (arith, one, count_by-push is_queue decls d),
+      omega (arith, items, count_by-push is_item decls d),
+    )
+room decls (decl.Item name) free players queues items =
+    let d = decl.Item name in
+    let one = leb-false 256 (count_by is_item decls) (or_none (nat_le 256 (count_by is_item decls)) false free).0 in (
+      omega (arith, players, count_by-push is_thread decls d, count_by-push is_queue decls d),
+      omega (arith, queues, count_by-push is_queue decls d),
+      omega (arith, one, count_by-push is_item decls d),
+    )
+
+-- a declaration to which no reason applies keeps what was read valid
+pub IsValid-declared : (r : Reading) (k : Kind) (parts : List Placed) (d : Decl) → Passes r (head.Declare k) parts → option_and_then (decl_of k) (args_of r.decls parts) ≡ Some d → IsValid (parts_of r)
+    → IsValid (parts_of (declared r d))
+IsValid-declared r k parts d p made valid =
+    let is = room r.decls d (ap (is_full r.decls) (kind_of-read r.decls k parts d made) ∙ p.within) valid.players valid.queues valid.items in
+    valid-declared r d valid p.placed is.0 is.1 is.2
+
+-- the one word of a script's head names its owner
+owner_of : (r : Reading) (parts : List Placed) (ws : List (List ℕ)) (owner : ℕ) → fits (slot.Owner ∷ []) Nothing ws ≡ true → parts ≡ placed_of (slot.Owner ∷ []) Nothing ws
+    → are_well_named r.decls parts ≡ true → first_object r.decls parts ≡ Some owner → is_at plays_script r.decls owner ≡ true
+owner_of r parts [] owner fit is named found = absurd (cc)
+owner_of r parts (w ∷ []) owner fit is named found =
+    let said : object_of r.decls w ≡ Some owner = sym (ap (first_object r.decls) is) ∙ found in
+    let plays : names plays_script r.decls w ≡ true = (and_parts (names plays_script r.decls w) true (sym (ap (are_well_named r.decls) is) ∙ named)).0 in
+    sym (ap (λ o. option_map_or (is_at plays_script r.decls) o false) said) ∙ plays
+owner_of r parts (w ∷ v ∷ ws) owner fit is named found = absurd (cc)
+
+-- a script's head to which no reason applies keeps what was read valid
+pub IsValid-opened : (r : Reading) (parts : List Placed) (owner : ℕ) → IsForm head.Script parts → Passes r head.Script parts → first_object r.decls parts ≡ Some owner → IsValid (parts_of r)
+    → IsValid (parts_of (opened r owner))
+IsValid-opened r parts owner form p found valid =
+    let both = or_none (is_some r.current) (has_script r (first_object r.decls parts)) p.placed in
+    let fresh = is_some-none (script_of r.scripts owner) (sym (ap (has_script r) found) ∙ both.1) in
+    valid-begun r owner valid (is_some-none r.current both.0) (owner_of r parts form.words owner form.fitting form.placed p.well_named found) fresh
+
+-- a call to which no reason applies keeps what was read valid
+pub IsValid-called : (r : Reading) (w : Word) (parts : List Placed) (c : Call) → IsForm (head.Call w) parts → Passes r (head.Call w) parts → option_and_then (call_of w) (args_of r.decls parts) ≡ Some c → IsValid (parts_of r)
+    → IsValid (parts_of (called r c))
+IsValid-called r w parts c form p made valid =
+    let fitting = call_fits-read r.decls w form.words c (sym (ap (are_well_named r.decls) form.placed) ∙ p.well_named) (sym (ap (λ ps. option_and_then (call_of w) (args_of r.decls ps)) form.placed) ∙ made) in
+    called_fits r c valid p.placed fitting p.within
+
+-- a line to which no reason applies keeps what was read valid
+pub IsValid-after : (r s : Reading) (h : Head) (parts : List Placed) → IsForm h parts → verdict r h parts ≡ None → after r h parts ≡ Some s → IsValid (parts_of r) → IsValid (parts_of s)
+IsValid-after r s (head.Declare k) parts form e made valid =
+    let d = one_part (declared r) (option_and_then (decl_of k) (args_of r.decls parts)) s made in
+    subst (λ x. IsValid (parts_of x)) d.2 (IsValid-declared r k parts d.0 (Passes-verdict r (head.Declare k) parts e) d.1 valid)
+IsValid-after r s head.Script parts form e made valid =
+    let o = one_part (opened r) (first_object r.decls parts) s made in
+    subst (λ x. IsValid (parts_of x)) o.2 (IsValid-opened r parts o.0 form (Passes-verdict r head.Script parts e) o.1 valid)
+IsValid-after r s head.End parts form e made valid =
+    subst (λ x. IsValid (parts_of x)) (same_Some _ _ made) (subst (λ ss. IsValid (record { decls = r.decls; scripts = ss })) (sym (append-nil (all_scripts r))) valid)
+IsValid-after r s (head.Call w) parts form e made valid =
+    let c = one_part (called r) (option_and_then (call_of w) (args_of r.decls parts)) s made in
+    subst (λ x. IsValid (parts_of x)) c.2 (IsValid-called r w parts c.0 form (Passes-verdict r (head.Call w) parts e) c.1 valid)
+
+-- the same three, where what was read is given by an equation
+pub IsValid-declared-is : (before now : Reading) (k : Kind) (parts : List Placed) (d : Decl) → before ≡ now → IsValid (parts_of before) → verdict now (head.Declare k) parts ≡ None
+    → option_and_then (decl_of k) (args_of now.decls parts) ≡ Some d → IsValid (parts_of (declared now d))
+IsValid-declared-is before now k parts d view valid e made =
+    IsValid-declared now k parts d (Passes-verdict now (head.Declare k) parts e) made (subst (λ r. IsValid (parts_of r)) view valid)
+
+pub IsValid-opened-is : (before now : Reading) (parts : List Placed) (owner : ℕ) → before ≡ now → IsValid (parts_of before) → IsForm head.Script parts → verdict now head.Script parts ≡ None
+    → first_object now.decls parts ≡ Some owner → IsValid (parts_of (opened now owner))
+IsValid-opened-is before now parts owner view valid form e found =
+    IsValid-opened now parts owner form (Passes-verdict now head.Script parts e) found (subst (λ r. IsValid (parts_of r)) view valid)
+
+pub IsValid-called-is : (before now : Reading) (w : Word) (parts : List Placed) (c : Call) → before ≡ now → IsValid (parts_of before) → IsForm (head.Call w) parts → verdict now (head.Call w) parts ≡ None
+    → option_and_then (call_of w) (args_of now.decls parts) ≡ Some c → IsValid (parts_of (called now c))
+IsValid-called-is before now w parts c view valid form e made =
+    IsValid-called now w parts c form (Passes-verdict now (head.Call w) parts e) made (subst (λ r. IsValid (parts_of r)) view valid)

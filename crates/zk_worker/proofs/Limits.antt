@@ -1,0 +1,145 @@
+-- What a step keeps of the limits of a player.
+use Rattle.std.proofs.Common.{◌≡◌, ℕ, ◌+◌, ◌<◌, ◌≤◌, Bool, true, false, Option, Some, None, List, [], ◌∷◌, ◌++◌, length, All, refl, sym, subst, arith, cond, length-append, nat_lt}
+use Rattle.std.specs.List.{slice_get}
+use Rattle.std.proofs.lemmas.List.Elements.{All-nil, All-cons, All-head, All-tail, All-weaker}
+use Rattle.std.proofs.lemmas.Bool.{ltb-true}
+use Rattle.std.proofs.lemmas.Bool.Decides.{nat_tests}
+use Rattle.zk_base.proofs.Lists.{cond_nil-at}
+use Rattle.zk_scenario.specs.Parts.{Parts}
+use Rattle.zk_worker.specs.declared.steps.TheConstants.{MOST_STEPS, MOST_ATTEMPTS}
+use Rattle.zk_worker.specs.declared.steps.Step.{Step}
+use Rattle.zk_worker.specs.declared.steps.Spot.{Spot}
+use Rattle.zk_worker.specs.declared.answers.Answered.{Answered}
+use Rattle.zk_worker.specs.declared.frames.TheConstants.{MOST_FRAMES}
+use Rattle.zk_worker.specs.declared.frames.Frame.{Frame}
+use Rattle.zk_worker.specs.declared.frames.Progress.{Progress}
+use Rattle.zk_worker.specs.declared.frames.Progress.TheVariants.{Goes, Answers, Enters}
+use Rattle.zk_worker.specs.declared.frames.Role.{Role}
+use Rattle.zk_worker.specs.declared.frames.Role.TheVariants.{Script, Worker}
+use Rattle.zk_worker.specs.declared.frames.Stage.{Stage}
+use Rattle.zk_worker.specs.declared.frames.Stage.TheVariants.{Start, Runs, Waits, Halfway}
+use Rattle.zk_worker.specs.declared.frames.Plan.{Plan}
+use Rattle.zk_worker.specs.declared.frames.Plan.TheVariants.{One, Pair, Twice}
+use Rattle.zk_worker.specs.Places.{At}
+use Rattle.zk_worker.specs.Calls.{plan_of, plan_attempts}
+use Rattle.zk_line.specs.declared.types.Call.{Call}
+use Rattle.zk_scenario.specs.Players.{calls_of}
+use Rattle.zk_worker.specs.Protocol.{attempts, IsAhead, is_over, settled, entered, first_frame, frames_after, answers_after, frames_attempts, role_attempts, call_attempts}
+use Rattle.zk_worker.specs.Stacks.{IsRoomy}
+
+-- a player with a next attempt has made fewer steps than it may
+pub ahead_short : (s : Parts) (at : At) (step : Step) → IsAhead s at step → length at.spots < MOST_STEPS
+ahead_short s at step ahead =
+    ltb-true (length at.spots) MOST_STEPS (cond_nil-at (nat_lt (length at.spots) MOST_STEPS) (frames_attempts s at.frames) ahead.0 step ahead.1).0
+
+-- what holds of each frame holds of those that are left
+pub settled-all : (P : Frame → Type 0) (s : Parts) (frames : List Frame) → All P frames → All P (settled s frames)
+settled-all P s [] all = all
+settled-all P s (frame ∷ below) all =
+    elim (is_over s frame.role frame.next) as (λ b. All P (cond b (settled s below) (frame ∷ below)))
+    [ true ↦ settled-all P s below (All-tail P frame below all) | false ↦ all ]
+
+settled-length : (s : Parts) (frames : List Frame) → length (settled s frames) ≤ length frames
+settled-length s [] = omega arith
+settled-length s (frame ∷ below) =
+    elim (is_over s frame.role frame.next) as (λ b. length (cond b (settled s below) (frame ∷ below)) ≤ length (frame ∷ below))
+    [ true ↦ omega (arith, settled-length s below) | false ↦ omega arith ]
+
+pub entered-all : (P : Frame → Type 0) (frames : List Frame) (owner : ℕ) → P (first_frame (Script owner)) → All P frames → All P (entered frames owner)
+entered-all P frames owner first all =
+    elim (nat_lt (length frames) MOST_FRAMES) as (λ b. All P (cond b (first_frame (Script owner) ∷ frames) frames))
+    [ true ↦ All-cons P (first_frame (Script owner)) frames first all | false ↦ all ]
+
+entered-length : (frames : List Frame) (owner : ℕ) → length frames ≤ MOST_FRAMES → length (entered frames owner) ≤ MOST_FRAMES
+entered-length frames owner few = grind (arith, nat_tests)
+
+frames_after-length : (s : Parts) (frames : List Frame) (progress : Progress) → length frames ≤ MOST_FRAMES → length (frames_after s frames progress) ≤ MOST_FRAMES
+frames_after-length s [] progress few = few
+frames_after-length s (frame ∷ below) (Goes stage) few = few
+frames_after-length s (frame ∷ below) (Answers word answer) few =
+    let next = record frame { next = frame.next + 1; stage = Start } in
+    omega (arith, settled-length s (next ∷ below))
+frames_after-length s (frame ∷ below) (Enters owner stage) few =
+    let next = record frame { stage = stage } in
+    omega (arith, settled-length s (entered (next ∷ below) owner), entered-length (next ∷ below) owner few)
+
+frames_after-nexts : (s : Parts) (n : ℕ) (frames : List Frame) (progress : Progress) →
+    All (λ frame. frame.next ≤ n) frames → All (λ frame. frame.next ≤ n + 1) (frames_after s frames progress)
+frames_after-nexts s n [] progress all = let P : Frame → Type 0 = λ frame. frame.next ≤ n + 1 in All-nil P
+frames_after-nexts s n (frame ∷ below) progress all =
+    let P : Frame → Type 0 = λ f. f.next ≤ n in
+    let Q : Frame → Type 0 = λ f. f.next ≤ n + 1 in
+    let here : frame.next ≤ n = All-head P frame below all in
+    let there : All Q below = All-weaker P Q (λ f le. omega arith) below (All-tail P frame below all) in
+    elim progress as (λ p. All Q (frames_after s (frame ∷ below) p)) [
+      | Goes stage ↦ All-cons Q (record frame { stage = stage }) below (omega arith) there
+      | Answers word answer ↦
+          let next = record frame { next = frame.next + 1; stage = Start } in
+          settled-all Q s (next ∷ below) (All-cons Q next below (omega arith) there)
+      | Enters owner stage ↦
+          let next = record frame { stage = stage } in
+          settled-all Q s (entered (next ∷ below) owner)
+          (entered-all Q (next ∷ below) owner (omega arith) (All-cons Q next below (omega arith) there))
+    ]
+
+answers_after-length : (answers : List Answered) (number : ℕ) (progress : Progress) → length (answers_after answers number progress) ≤ length answers + 1
+answers_after-length answers number (Goes stage) = omega arith
+answers_after-length answers number (Answers word answer) =
+    omega (arith, length-append answers (record { step = number; word = word; answer = answer } ∷ []))
+answers_after-length answers number (Enters owner stage) = omega arith
+
+-- the limits are kept by a step of a player that has made fewer steps than it may
+pub IsRoomy-moved : (s : Parts) (frames frames' : List Frame) (answers answers' : List Answered) (spots spots' : List Spot) (spot : Spot) (number : ℕ) (progress : Progress) (a b c a' b' c' : ℕ) →
+    IsRoomy frames answers spots a b c → length spots < MOST_STEPS →
+    frames' ≡ frames_after s frames progress → answers' ≡ answers_after answers number progress → spots' ≡ spots ++ spot ∷ [] →
+    a ≤ a' → b ≤ b' → c ≤ c' → IsRoomy frames' answers' spots' a' b' c'
+IsRoomy-moved s frames frames' answers answers' spots spots' spot number progress a b c a' b' c' was short frames_are answers_are spots_are for_a for_b for_c =
+    let long : length (spots ++ spot ∷ []) ≡ length spots + 1 = omega (arith, length-append spots (spot ∷ [])) in
+    let here : IsRoomy (frames_after s frames progress) (answers_after answers number progress) (spots ++ spot ∷ []) a' b' c' = record {
+      few_frames = frames_after-length s frames progress was.few_frames;
+      few_answers = omega (arith, was.few_answers, answers_after-length answers number progress);
+      few_spots = omega arith;
+      nexts = subst (λ (n : ℕ). All (λ frame. frame.next ≤ n) (frames_after s frames progress)) (sym long)
+          (frames_after-nexts s (length spots) frames progress was.nexts);
+      for_frames = omega (arith, was.for_frames);
+      for_answers = omega (arith, was.for_answers);
+      for_spots = omega (arith, was.for_spots);
+    } in
+    subst (λ (f : List Frame). IsRoomy f answers' spots' a' b' c') (sym frames_are)
+    (subst (λ (n : List Answered). IsRoomy (frames_after s frames progress) n spots' a' b' c') (sym answers_are)
+    (subst (λ (p : List Spot). IsRoomy (frames_after s frames progress) (answers_after answers number progress) p a' b' c') (sym spots_are) here))
+
+plan_attempts-few : (plan : Plan) (stage : Stage) → length (plan_attempts plan stage) ≤ 1
+plan_attempts-few (One step) Start = omega arith
+plan_attempts-few (One step) Runs = omega arith
+plan_attempts-few (One step) (Waits place) = omega arith
+plan_attempts-few (One step) Halfway = omega arith
+plan_attempts-few (Pair opening closing) Start = omega arith
+plan_attempts-few (Pair opening closing) Runs = omega arith
+plan_attempts-few (Pair opening closing) (Waits place) = omega arith
+plan_attempts-few (Pair opening closing) Halfway = omega arith
+plan_attempts-few (Twice first second) Start = omega arith
+plan_attempts-few (Twice first second) Runs = omega arith
+plan_attempts-few (Twice first second) (Waits place) = omega arith
+plan_attempts-few (Twice first second) Halfway = omega arith
+
+frames_attempts-few : (s : Parts) (frames : List Frame) → length (frames_attempts s frames) ≤ 1
+frames_attempts-few s [] = omega arith
+frames_attempts-few s (frame ∷ below) = role_few s frame.role frame.next frame.stage
+  where
+    call_few : (s : Parts) (call : Option Call) (stage : Stage) → length (call_attempts s.decls call stage) ≤ 1
+    call_few s None stage = omega arith
+    call_few s (Some call) stage = plan_attempts-few (plan_of s.decls call) stage
+
+    role_few : (s : Parts) (role : Role) (next : ℕ) (stage : Stage) → length (role_attempts s role next stage) ≤ 1
+    role_few s (Script owner) next stage = call_few s (slice_get (calls_of s.scripts owner) next) stage
+    role_few s (Worker queue) next Start = omega arith
+    role_few s (Worker queue) next Runs = omega arith
+    role_few s (Worker queue) next (Waits place) = omega arith
+    role_few s (Worker queue) next Halfway = omega arith
+
+-- a player has few attempts at a time
+pub attempts-few : (s : Parts) (at : At) → length (attempts s at) ≤ MOST_ATTEMPTS
+attempts-few s at =
+    elim (nat_lt (length at.spots) MOST_STEPS) as (λ b. length (cond b (frames_attempts s at.frames) []) ≤ MOST_ATTEMPTS)
+    [ true ↦ omega (arith, frames_attempts-few s at.frames) | false ↦ omega arith ]
