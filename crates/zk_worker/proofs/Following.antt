@@ -8,7 +8,7 @@ use Rattle.zk_worker.specs.Places.{At}
 use Rattle.zk_worker.specs.Protocol.{IsAhead, after, start_at, spot_of}
 use Rattle.zk_worker.specs.Follows.{IsPlayed, made_at, StandsMore, IsFollowing}
 use Rattle.zk_worker.specs.Machines.{Machines}
-use Rattle.zk_worker.specs.Shown.{Shown, shown_after, Between}
+use Rattle.zk_worker.specs.Shown.{Shown, Between}
 use Rattle.zk_worker.specs.Attempt.{IsMade}
 use Rattle.zk_worker.proofs.Starts.{start_at-fresh}
 use Rattle.zk_worker.proofs.Between.{stands-longer}

@@ -1,10 +1,8 @@
-use Rattle.std.proofs.Common.{ℕ, Option, Ok, length, sym, subst, arith, rules, ◌∙◌}
+use Rattle.std.proofs.Common.{ℕ, length, sym, subst, arith, rules, ◌∙◌}
 use Rattle.std.specs.List.{slice_get}
 use Rattle.zk_base.specs.declared.ids.Who.{Who}
-use Rattle.zk_worker.specs.declared.steps.StepReply.{StepReply}
 use Rattle.zk_worker.specs.Protocol.{attempts}
 use Rattle.zk_worker.specs.Shown.{IsLater}
-use Rattle.zk_worker.specs.Attempt.{Attempted}
 use Rattle.zk_worker.proofs.Between.{between-both, log-still, log-later}
 use Rattle.zk_worker.proofs.Trying.{attempted-some, attempted-none, attempted-err, tried-next, first-made}
 use Rattle.zk_worker.proofs.playing.try_ahead.Goals as goal

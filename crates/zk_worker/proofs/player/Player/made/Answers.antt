@@ -1,4 +1,4 @@
-use Rattle.std.proofs.Common.{◌≡◌, ◌<◌, ap, sym, subst, arith, rules, length, reverse, vec_capacity}
+use Rattle.std.proofs.Common.{◌<◌, ap, sym, subst, arith, rules, length, reverse, vec_capacity}
 use Rattle.zk_worker.specs.declared.steps.TheConstants.{MOST_STEPS}
 use Rattle.zk_worker.specs.Places.{At}
 use Rattle.zk_worker.specs.Follows.{IsFollowing}

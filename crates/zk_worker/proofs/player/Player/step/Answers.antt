@@ -1,8 +1,3 @@
-use Rattle.std.proofs.Common.{length, sym, subst}
-use Rattle.zk_worker.specs.Places.{At}
-use Rattle.zk_worker.specs.Protocol.{attempts}
-use Rattle.zk_worker.specs.Ranges.{FramesFit}
-use Rattle.zk_worker.proofs.Fits.{after-fits}
 use Rattle.zk_worker.proofs.Ranges.{ahead-takes}
 use Rattle.zk_worker.proofs.Between.{log-still}
 use Rattle.zk_worker.proofs.ShownSteps.{log-stepped}
