@@ -8,8 +8,9 @@ use Rattle.std.proofs.lemmas.List.FromFn.{length-range_with_len, get_or-range_wi
 use Rattle.std.proofs.lemmas.List.Sums.{sum_by-le}
 use Rattle.zk_scenario.specs.Parts.{Parts}
 use Rattle.zk_scenario.specs.Valid.{IsValid}
-use Rattle.zk_scenario.specs.Players.{places, players, is_thread, is_queue, is_item}
-use Rattle.zk_scenario.proofs.Tables.{length-places}
+use Rattle.zk_line.specs.Objects.{places, is_thread, is_queue, is_item}
+use Rattle.zk_scenario.specs.Players.{players}
+use Rattle.zk_line.proofs.Tables.{length-places}
 use Rattle.zk_scenario.proofs.Valid.{length-players}
 use Rattle.zk_base.specs.declared.ids.Entry.{Entry}
 use Rattle.zk_model_wait.specs.declared.clock.ClockOp.{ClockOp}

@@ -23,7 +23,7 @@ use Rattle.zk_model_work.specs.State.{State}
 use Rattle.zk_model_work.specs.Machine.{work_machine, work_reply, work_next}
 use Rattle.zk_scenario.specs.Parts.{Parts}
 use Rattle.zk_scenario.specs.Valid.{IsValid}
-use Rattle.zk_scenario.specs.Players.{places, is_thread, is_queue}
+use Rattle.zk_line.specs.Objects.{places, is_thread, is_queue}
 use Rattle.zk_worker.specs.declared.steps.TheConstants.{MOST_STEPS}
 use Rattle.zk_worker.specs.declared.steps.Step.{Step}
 use Rattle.zk_worker.specs.declared.steps.Step.TheVariants as steps

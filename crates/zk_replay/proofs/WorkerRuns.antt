@@ -10,12 +10,13 @@ use Rattle.zk_base.specs.declared.ids.Who.{Who}
 use Rattle.zk_base.specs.History.{entry}
 use Rattle.zk_base.proofs.Lists.{slice_get-one}
 use Rattle.zk_base.proofs.Histories.{state_after-snoc}
-use Rattle.zk_scenario.specs.declared.types.Decl.{Decl}
-use Rattle.zk_scenario.specs.declared.types.Decl.TheVariants as decls
-use Rattle.zk_scenario.specs.declared.types.Call.{Call}
-use Rattle.zk_scenario.specs.declared.types.Call.TheVariants as calls
+use Rattle.zk_line.specs.declared.types.Decl.{Decl}
+use Rattle.zk_line.specs.declared.types.Decl.TheVariants as decls
+use Rattle.zk_line.specs.declared.types.Call.{Call}
+use Rattle.zk_line.specs.declared.types.Call.TheVariants as calls
 use Rattle.zk_scenario.specs.Parts.{Parts}
-use Rattle.zk_scenario.specs.Players.{places_from, places, players, is_thread, is_queue, is_item, same_kind, number_of, calls_of}
+use Rattle.zk_line.specs.Objects.{places_from, places, is_thread, is_queue, is_item, same_kind, number_of}
+use Rattle.zk_scenario.specs.Players.{players, calls_of}
 use Rattle.zk_scenario.proofs.Valid.{count_by-cons}
 use Rattle.zk_model_wait.specs.declared.clock.ClockOp.{ClockOp}
 use Rattle.zk_model_wait.specs.declared.clock.ClockOp.TheVariants as clock_ops
@@ -42,8 +43,8 @@ use Rattle.zk_worker.specs.declared.frames.Stage.TheVariants.{Start, Runs, Waits
 use Rattle.zk_worker.specs.declared.frames.Closing.{Closing}
 use Rattle.zk_worker.specs.declared.frames.Closing.TheVariants as closings
 use Rattle.zk_worker.specs.declared.frames.Plan.TheVariants.{One, Pair, Twice}
-use Rattle.zk_worker.specs.declared.answers.Word.{Word}
-use Rattle.zk_worker.specs.declared.answers.Word.TheVariants as words
+use Rattle.zk_words.specs.declared.word.Word.{Word}
+use Rattle.zk_words.specs.declared.word.Word.TheVariants as words
 use Rattle.zk_worker.specs.Calls.{closing_step, plan_attempts, opening_progress, plan_progress}
 use Rattle.zk_worker.specs.Places.{At}
 use Rattle.zk_worker.specs.Protocol.{call_attempts, frames_attempts, frames_progress, frames_after, call_progress, run_progress, is_over, settled, entered, first_frame, starting, start_at, after}

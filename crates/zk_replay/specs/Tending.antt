@@ -1,8 +1,8 @@
 use Rattle.std.specs.Prelude.{◌≡◌, ℕ, ◌+◌, ◌<◌, false, Some, List, [], ◌∷◌, length, map, slice_get, All}
 use Rattle.zk_base.specs.Legal.{state_after}
-use Rattle.zk_scenario.specs.declared.types.Decl.{Decl}
+use Rattle.zk_line.specs.declared.types.Decl.{Decl}
 use Rattle.zk_scenario.specs.Parts.{Parts}
-use Rattle.zk_scenario.specs.Players.{places, number_of, is_thread, is_queue}
+use Rattle.zk_line.specs.Objects.{places, number_of, is_thread, is_queue}
 use Rattle.zk_model_work.specs.declared.parts.Admission.{Admission}
 use Rattle.zk_model_work.specs.Questions.{runs_on}
 use Rattle.zk_model_work.specs.State.{State}

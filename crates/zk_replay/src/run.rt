@@ -1,6 +1,7 @@
 ghost use Rattle.std.specs.Prelude.{◌≡◌, ℕ, ◌+◌, ◌-◌, ◌^◌, ◌<◌, ◌≤◌, [], length, map, IfOk};
 ghost use Rattle.std.specs.List.{list_any};
-ghost use Rattle.zk_scenario.specs.Players.{places, players, is_queue};
+ghost use Rattle.zk_line.specs.Objects.{places, is_queue};
+ghost use Rattle.zk_scenario.specs.Players.{players};
 ghost use Rattle.zk_scenario.specs.Valid.{IsValid};
 ghost use Rattle.zk_work.specs.Seen.{work_start, work_history};
 ghost use Rattle.zk_worker.specs.Follows.{log_of, is_spent_at};

@@ -1,55 +1,62 @@
 -- A line to which no reason applies keeps what was read valid.
-use Rattle.std.proofs.Common.{◌≡◌, ℕ, pos, ◌+◌, ◌<◌, ◌≤◌, Bool, true, false, not, cond, eqb, nat_le, nat_lt, ◌&&◌, ◌||◌, Option, None, Some, List, [], ◌∷◌, ◌++◌, length, slice_get, count_by, is_some, unwrap_or, refl, sym, ap, subst, ◌∙◌, ⊎_elim, arith, length-append}
+use Rattle.std.proofs.Common.{◌≡◌, ℕ, pos, ◌+◌, ◌<◌, ◌≤◌, Bool, true, false, not, cond, eqb, nat_le, nat_lt, ◌&&◌, ◌||◌, Option, None, Some, List, [], ◌∷◌, ◌++◌, length, slice_get, count_by, is_some, refl, sym, ap, subst, ◌∙◌, ⊎_elim, arith, length-append}
 use Rattle.std.specs.List.{list_all}
 use Rattle.std.specs.Option.{option_map_or, option_map, option_to_list}
+use Rattle.std.specs.Prelude.{option_and_then}
 use Rattle.std.proofs.lemmas.Bool.{and_parts, and_from, cases_order, leb-false, ltb-false, not-false, eq-eqb, ne_eqb, cond-true, cond-false}
 use Rattle.std.proofs.lemmas.List.{append-nil}
 use Rattle.std.proofs.lemmas.List.Folds.{list_all-append}
 use Rattle.std.proofs.lemmas.List.Quantifiers.{position-Some}
 use Rattle.std.proofs.lemmas.List.Sums.{sum_by-append}
 use Rattle.std.proofs.lemmas.Option.{none-some, same_Some, slice_get_past, slice_get_within}
-use Rattle.zk_scenario.specs.declared.types.Decl.{Decl}
-use Rattle.zk_scenario.specs.declared.types.Decl.TheVariants as decl
-use Rattle.zk_scenario.specs.declared.types.Call.{Call}
-use Rattle.zk_scenario.specs.declared.types.Call.TheVariants as call
+use Rattle.zk_words.specs.declared.kind.Kind.{Kind}
+use Rattle.zk_words.specs.declared.slot.Rest.TheVariants.{Nothing}
+use Rattle.zk_words.specs.declared.slot.Slot.TheVariants as slot
+use Rattle.zk_words.specs.declared.word.Word.{Word}
+use Rattle.zk_words.specs.declared.word.Head.{Head}
+use Rattle.zk_words.specs.declared.word.Head.TheVariants as head
+use Rattle.zk_words.specs.Lines.{IsForm}
+use Rattle.zk_words.specs.Parts.{Placed, fits, parts_of as placed_of}
+use Rattle.zk_words.specs.Table.{call_row}
+use Rattle.zk_line.specs.declared.types.Decl.{Decl}
+use Rattle.zk_line.specs.declared.types.Decl.TheVariants as decl
+use Rattle.zk_line.specs.declared.types.Call.{Call}
+use Rattle.zk_line.specs.Args.{args_of}
+use Rattle.zk_line.specs.Calls.{call_of}
+use Rattle.zk_line.specs.Checks.{first_object, are_in_range, are_well_named}
+use Rattle.zk_line.specs.Decls.{decl_of}
+use Rattle.zk_line.specs.Fits.{call_fits}
+use Rattle.zk_line.specs.Objects.{object_of, kind_of, is_at, is_of, names, plays_script, is_thread, is_queue, is_item, player_count}
+use Rattle.zk_line.proofs.Fits.{call_fits-read, kind_of-read}
+use Rattle.zk_line.proofs.Lists.{slice_get-append_left, slice_get-push, count_by-push, position-push}
+use Rattle.zk_line.proofs.Spelled.{one_part}
 use Rattle.zk_scenario.specs.declared.types.Script.{Script}
-use Rattle.zk_scenario.specs.declared.form.Named.{Named}
-use Rattle.zk_scenario.specs.declared.form.Named.TheVariants.{Plain, Reserved}
-use Rattle.zk_scenario.specs.declared.form.Form.{Form}
-use Rattle.zk_scenario.specs.declared.form.Form.TheVariants as form
 use Rattle.zk_scenario.specs.declared.refused.Why.{Why}
 use Rattle.zk_scenario.specs.declared.refused.Why.TheVariants as why
-use Rattle.zk_scenario.specs.Forms.{named_text, IsUnreserved, IsPlain}
-use Rattle.zk_scenario.specs.Numbers.{is_delay, is_advance}
-use Rattle.zk_scenario.specs.Objects.{object_of, is_at}
-use Rattle.zk_scenario.specs.Players.{plays_script, is_thread, is_queue, is_item}
 use Rattle.zk_scenario.specs.Reading.{Reading, all_scripts, declared, begun, with_call, called, parts_of}
 use Rattle.zk_scenario.specs.Scripts.{script_of}
-use Rattle.zk_scenario.specs.Valid.{IsValid, OneEach, call_fits, script_fits, player_count, call_count}
-use Rattle.zk_scenario.specs.Verdict.{named, names, is_taken, has_begun, has_script, is_unbuilt, is_misplaced, is_out_of_range, is_misnamed, is_past_limit, verdict, object, ref, call_of, after}
-use Rattle.zk_scenario.proofs.Lists.{slice_get-append_left, slice_get-push, count_by-push, position-push}
+use Rattle.zk_scenario.specs.Valid.{IsValid, OneEach, script_fits, call_count}
+use Rattle.zk_scenario.specs.Verdict.{has_begun, has_script, is_misplaced, is_full, is_past_limit, verdict, opened, after}
 use Rattle.zk_scenario.proofs.ScriptTables.{script_of-push}
 
 -- no reason applies: none of the tests says so
-pub record Passes (r : Reading) (f : Form) : Type 0 where
-  pub built : is_unbuilt f ≡ false
-  pub placed : is_misplaced r f ≡ false
-  pub in_range : is_out_of_range f ≡ false
-  pub well_named : is_misnamed r.decls f ≡ false
-  pub within : is_past_limit r f ≡ false
+pub record Passes (r : Reading) (h : Head) (parts : List Placed) : Type 0 where
+  pub placed : is_misplaced r h parts ≡ false
+  pub in_range : are_in_range parts ≡ true
+  pub well_named : are_well_named r.decls parts ≡ true
+  pub within : is_past_limit r h ≡ false
 
 drop_test : (b : Bool) (reason : Why) (rest : Option Why) → cond b (Some reason) rest ≡ None → (b ≡ false) × (rest ≡ None)
 drop_test true reason rest e = absurd (cc)
 drop_test false reason rest e = (refl, e)
 
-pub Passes-verdict : (r : Reading) (f : Form) → verdict r f ≡ None → Passes r f
-Passes-verdict r f e =
-    let one = drop_test (is_unbuilt f) why.Unbuilt _ e in
-    let two = drop_test (is_misplaced r f) why.Order _ one.1 in
-    let three = drop_test (is_out_of_range f) why.Number _ two.1 in
-    let four = drop_test (is_misnamed r.decls f) why.Name _ three.1 in
-    let five = drop_test (is_past_limit r f) why.Limit _ four.1 in
-    record { built = one.0; placed = two.0; in_range = three.0; well_named = four.0; within = five.0 }
+pub Passes-verdict : (r : Reading) (h : Head) (parts : List Placed) → verdict r h parts ≡ None → Passes r h parts
+Passes-verdict r h parts e =
+    let one = drop_test (is_misplaced r h parts) why.Order _ e in
+    let two = drop_test (not (are_in_range parts)) why.Number _ one.1 in
+    let three = drop_test (not (are_well_named r.decls parts)) why.Name _ two.1 in
+    let four = drop_test (is_past_limit r h) why.Limit _ three.1 in
+    record { placed = one.0; in_range = not-false _ two.0; well_named = not-false _ three.0; within = four.0 }
 
 pub or_none : (a b : Bool) → (a || b) ≡ false → (a ≡ false) × (b ≡ false)
 or_none true b e = absurd (cc)
@@ -162,139 +169,91 @@ called_fits r c valid placed fits few =
     (valid-called r.decls r.scripts s.0 c (subst (λ o. IsValid (record { decls = r.decls; scripts = r.scripts ++ option_to_list o })) s.1 valid) fits
     (subst (λ o. call_count (r.scripts ++ option_to_list o) < 4096) s.1 (leb-false 4096 (call_count (all_scripts r)) few)))
 
-at_object : (kind : Decl → Bool) (decls : List Decl) (o : Option ℕ) → option_map_or (is_at kind decls) o false ≡ true → is_at kind decls (unwrap_or o 0) ≡ true
-at_object kind decls None e = absurd (cc)
-at_object kind decls (Some k) e = e
+-- where a kind isn't full, there may be one more of it
+room : (decls : List Decl) (d : Decl) → is_full decls (kind_of d) ≡ false → player_count decls ≤ 64 → count_by is_queue decls ≤ 8 → count_by is_item decls ≤ 256
+    → (player_count (decls ++ d ∷ []) ≤ 64) × (count_by is_queue (decls ++ d ∷ []) ≤ 8) × (count_by is_item (decls ++ d ∷ []) ≤ 256)
+room decls (decl.Thread name prio user) free players queues items =
+    let d = decl.Thread name prio user in
+    let more = leb-false 64 (player_count decls) (or_none (nat_le 64 (count_by is_thread decls)) (nat_le 64 (player_count decls)) free).1 in (
+      omega (arith, more, count_by-push is_thread decls d, count_by-push is_queue decls d),
+      omega (arith, queues, count_by-push is_queue decls d),
+      omega (arith, items, count_by-push is_item decls d),
+    )
+room decls (decl.Queue name prio on) free players queues items =
+    let d = decl.Queue name prio on in
+    let both = or_none (nat_le 8 (count_by is_queue decls)) (nat_le 64 (player_count decls)) free in
+    let one = leb-false 8 (count_by is_queue decls) both.0 in
+    let more = leb-false 64 (player_count decls) both.1 in (
+      omega (arith, more, count_by-push is_thread decls d, count_by-push is_queue decls d),
+      omega (arith, one, count_by-push is_queue decls d),
+      omega (arith, items, count_by-push is_item decls d),
+    )
+room decls (decl.Item name) free players queues items =
+    let d = decl.Item name in
+    let one = leb-false 256 (count_by is_item decls) (or_none (nat_le 256 (count_by is_item decls)) false free).0 in (
+      omega (arith, players, count_by-push is_thread decls d, count_by-push is_queue decls d),
+      omega (arith, queues, count_by-push is_queue decls d),
+      omega (arith, one, count_by-push is_item decls d),
+    )
 
-none_at : (kind : Decl → Bool) (decls : List Decl) (ss : List Script) (o : Option ℕ) → option_map_or (is_at kind decls) o false ≡ true → option_map_or (λ owner. is_some (script_of ss owner)) o false ≡ false → script_of ss (unwrap_or o 0) ≡ None
-none_at kind decls ss None e none = absurd (cc)
-none_at kind decls ss (Some k) e none = is_some-none (script_of ss k) none
+-- a declaration to which no reason applies keeps what was read valid
+pub IsValid-declared : (r : Reading) (k : Kind) (parts : List Placed) (d : Decl) → Passes r (head.Declare k) parts → option_and_then (decl_of k) (args_of r.decls parts) ≡ Some d → IsValid (parts_of r)
+    → IsValid (parts_of (declared r d))
+IsValid-declared r k parts d p made valid =
+    let is = room r.decls d (ap (is_full r.decls) (kind_of-read r.decls k parts d made) ∙ p.within) valid.players valid.queues valid.items in
+    valid-declared r d valid p.placed is.0 is.1 is.2
+
+-- the one word of a script's head names its owner
+owner_of : (r : Reading) (parts : List Placed) (ws : List (List ℕ)) (owner : ℕ) → fits (slot.Owner ∷ []) Nothing ws ≡ true → parts ≡ placed_of (slot.Owner ∷ []) Nothing ws
+    → are_well_named r.decls parts ≡ true → first_object r.decls parts ≡ Some owner → is_at plays_script r.decls owner ≡ true
+owner_of r parts [] owner fit is named found = absurd (cc)
+owner_of r parts (w ∷ []) owner fit is named found =
+    let said : object_of r.decls w ≡ Some owner = sym (ap (first_object r.decls) is) ∙ found in
+    let plays : names plays_script r.decls w ≡ true = (and_parts (names plays_script r.decls w) true (sym (ap (are_well_named r.decls) is) ∙ named)).0 in
+    sym (ap (λ o. option_map_or (is_at plays_script r.decls) o false) said) ∙ plays
+owner_of r parts (w ∷ v ∷ ws) owner fit is named found = absurd (cc)
+
+-- a script's head to which no reason applies keeps what was read valid
+pub IsValid-opened : (r : Reading) (parts : List Placed) (owner : ℕ) → IsForm head.Script parts → Passes r head.Script parts → first_object r.decls parts ≡ Some owner → IsValid (parts_of r)
+    → IsValid (parts_of (opened r owner))
+IsValid-opened r parts owner form p found valid =
+    let both = or_none (is_some r.current) (has_script r (first_object r.decls parts)) p.placed in
+    let fresh = is_some-none (script_of r.scripts owner) (sym (ap (has_script r) found) ∙ both.1) in
+    valid-begun r owner valid (is_some-none r.current both.0) (owner_of r parts form.words owner form.fitting form.placed p.well_named found) fresh
+
+-- a call to which no reason applies keeps what was read valid
+pub IsValid-called : (r : Reading) (w : Word) (parts : List Placed) (c : Call) → IsForm (head.Call w) parts → Passes r (head.Call w) parts → option_and_then (call_of w) (args_of r.decls parts) ≡ Some c → IsValid (parts_of r)
+    → IsValid (parts_of (called r c))
+IsValid-called r w parts c form p made valid =
+    let fitting = call_fits-read r.decls w form.words c (sym (ap (are_well_named r.decls) form.placed) ∙ p.well_named) (sym (ap (λ ps. option_and_then (call_of w) (args_of r.decls ps)) form.placed) ∙ made) in
+    called_fits r c valid p.placed fitting p.within
 
 -- a line to which no reason applies keeps what was read valid
-pub IsValid-after : (r : Reading) (f : Form) → verdict r f ≡ None → IsValid (parts_of r) → IsValid (parts_of (after r f))
-IsValid-after r f e valid = by_form f (Passes-verdict r f e) where
-  both_fit : (item queue : Named) → not (names is_item r.decls item && names is_queue r.decls queue) ≡ false
-      → (is_at is_item r.decls (object r.decls item) && is_at is_queue r.decls (object r.decls queue)) ≡ true
-  both_fit item queue named_both =
-      let both = and_parts (names is_item r.decls item) (names is_queue r.decls queue) (not-false (names is_item r.decls item && names is_queue r.decls queue) named_both) in
-      and_from (is_at is_item r.decls (object r.decls item)) (is_at is_queue r.decls (object r.decls queue)) (at_object is_item r.decls (named r.decls item) both.0) (at_object is_queue r.decls (named r.decls queue) both.1)
+pub IsValid-after : (r s : Reading) (h : Head) (parts : List Placed) → IsForm h parts → verdict r h parts ≡ None → after r h parts ≡ Some s → IsValid (parts_of r) → IsValid (parts_of s)
+IsValid-after r s (head.Declare k) parts form e made valid =
+    let d = one_part (declared r) (option_and_then (decl_of k) (args_of r.decls parts)) s made in
+    subst (λ x. IsValid (parts_of x)) d.2 (IsValid-declared r k parts d.0 (Passes-verdict r (head.Declare k) parts e) d.1 valid)
+IsValid-after r s head.Script parts form e made valid =
+    let o = one_part (opened r) (first_object r.decls parts) s made in
+    subst (λ x. IsValid (parts_of x)) o.2 (IsValid-opened r parts o.0 form (Passes-verdict r head.Script parts e) o.1 valid)
+IsValid-after r s head.End parts form e made valid =
+    subst (λ x. IsValid (parts_of x)) (same_Some _ _ made) (subst (λ ss. IsValid (record { decls = r.decls; scripts = ss })) (sym (append-nil (all_scripts r))) valid)
+IsValid-after r s (head.Call w) parts form e made valid =
+    let c = one_part (called r) (option_and_then (call_of w) (args_of r.decls parts)) s made in
+    subst (λ x. IsValid (parts_of x)) c.2 (IsValid-called r w parts c.0 form (Passes-verdict r (head.Call w) parts e) c.1 valid)
 
-  delayed_fits : (item queue : Named) (delay : ℕ) → not (names is_item r.decls item && names is_queue r.decls queue) ≡ false → not (is_delay delay) ≡ false
-      → (is_at is_item r.decls (object r.decls item) && is_at is_queue r.decls (object r.decls queue) && is_delay delay) ≡ true
-  delayed_fits item queue delay named_both within =
-      and_from (is_at is_item r.decls (object r.decls item) && is_at is_queue r.decls (object r.decls queue)) (is_delay delay) (both_fit item queue named_both) (not-false (is_delay delay) within)
+-- the same three, where what was read is given by an equation
+pub IsValid-declared-is : (before now : Reading) (k : Kind) (parts : List Placed) (d : Decl) → before ≡ now → IsValid (parts_of before) → verdict now (head.Declare k) parts ≡ None
+    → option_and_then (decl_of k) (args_of now.decls parts) ≡ Some d → IsValid (parts_of (declared now d))
+IsValid-declared-is before now k parts d view valid e made =
+    IsValid-declared now k parts d (Passes-verdict now (head.Declare k) parts e) made (subst (λ r. IsValid (parts_of r)) view valid)
 
-  by_form : (f : Form) → Passes r f → IsValid (parts_of (after r f))
-  by_form (form.Thread name prio user) p =
-      let d = decl.Thread (named_text name) (unwrap_or prio (pos 0)) user in
-      let more = leb-false 64 (player_count r.decls) p.within in
-      valid-declared r d valid p.placed (omega (arith, more, count_by-push is_thread r.decls d, count_by-push is_queue r.decls d)) (omega (arith, valid.queues, count_by-push is_queue r.decls d)) (omega (arith, valid.items, count_by-push is_item r.decls d))
-  by_form (form.Queue name prio on) p =
-      let d = decl.Queue (named_text name) (unwrap_or prio (pos 0)) on in
-      let both = or_none (nat_le 64 (player_count r.decls)) (nat_le 8 (count_by is_queue r.decls)) p.within in
-      let more = leb-false 64 (player_count r.decls) both.0 in
-      let queues = leb-false 8 (count_by is_queue r.decls) both.1 in
-      valid-declared r d valid p.placed (omega (arith, more, count_by-push is_thread r.decls d, count_by-push is_queue r.decls d)) (omega (arith, queues, count_by-push is_queue r.decls d)) (omega (arith, valid.items, count_by-push is_item r.decls d))
-  by_form (form.Item name) p =
-      let d = decl.Item (named_text name) in
-      let items = leb-false 256 (count_by is_item r.decls) p.within in
-      valid-declared r d valid p.placed (omega (arith, valid.players, count_by-push is_thread r.decls d, count_by-push is_queue r.decls d)) (omega (arith, valid.queues, count_by-push is_queue r.decls d)) (omega (arith, items, count_by-push is_item r.decls d))
-  by_form (form.Script owner) p =
-      let both = or_none (is_some r.current) (has_script r owner) p.placed in
-      let thread = not-false (names plays_script r.decls owner) p.well_named in
-      valid-begun r (object r.decls owner) valid (is_some-none r.current both.0) (at_object plays_script r.decls (named r.decls owner) thread) (none_at plays_script r.decls r.scripts (named r.decls owner) thread both.1)
-  by_form (form.Submit item None) p =
-      let named_item = not-false (names is_item r.decls item) p.well_named in
-      called_fits r (call.Submit (ref r.decls item) None) valid p.placed (at_object is_item r.decls (named r.decls item) named_item) p.within
-  by_form (form.Submit item (Some queue)) p =
-      called_fits r (call.Submit (ref r.decls item) (Some (ref r.decls queue))) valid p.placed (both_fit item queue p.well_named) p.within
-  by_form (form.Cancel item) p =
-      let named_item = not-false (names is_item r.decls item) p.well_named in
-      called_fits r (call.Cancel (ref r.decls item)) valid p.placed (at_object is_item r.decls (named r.decls item) named_item) p.within
-  by_form (form.CancelSync item) p =
-      let named_item = not-false (names is_item r.decls item) p.well_named in
-      called_fits r (call.CancelSync (ref r.decls item)) valid p.placed (at_object is_item r.decls (named r.decls item) named_item) p.within
-  by_form (form.Flush item) p =
-      let named_item = not-false (names is_item r.decls item) p.well_named in
-      called_fits r (call.Flush (ref r.decls item)) valid p.placed (at_object is_item r.decls (named r.decls item) named_item) p.within
-  by_form (form.Schedule item queue delay) p =
-      called_fits r (call.Schedule (ref r.decls item) (ref r.decls queue) delay) valid p.placed (delayed_fits item queue delay p.well_named p.in_range) p.within
-  by_form (form.Reschedule item queue delay) p =
-      called_fits r (call.Reschedule (ref r.decls item) (ref r.decls queue) delay) valid p.placed (delayed_fits item queue delay p.well_named p.in_range) p.within
-  by_form (form.Remaining item) p =
-      let named_item = not-false (names is_item r.decls item) p.well_named in
-      called_fits r (call.Remaining (ref r.decls item)) valid p.placed (at_object is_item r.decls (named r.decls item) named_item) p.within
-  by_form (form.Start queue) p =
-      let named_queue = not-false (names is_queue r.decls queue) p.well_named in
-      called_fits r (call.Start (ref r.decls queue)) valid p.placed (at_object is_queue r.decls (named r.decls queue) named_queue) p.within
-  by_form (form.Drain queue plug) p =
-      let named_queue = not-false (names is_queue r.decls queue) p.well_named in
-      called_fits r (call.Drain (ref r.decls queue) plug) valid p.placed (at_object is_queue r.decls (named r.decls queue) named_queue) p.within
-  by_form (form.Unplug queue) p =
-      let named_queue = not-false (names is_queue r.decls queue) p.well_named in
-      called_fits r (call.Unplug (ref r.decls queue)) valid p.placed (at_object is_queue r.decls (named r.decls queue) named_queue) p.within
-  by_form (form.Tick ticks) p = called_fits r (call.Tick ticks) valid p.placed (not-false (is_advance ticks) p.in_range) p.within
-  by_form form.End p = subst (λ ss. IsValid (record { decls = r.decls; scripts = ss })) (sym (append-nil (all_scripts r))) valid
+pub IsValid-opened-is : (before now : Reading) (parts : List Placed) (owner : ℕ) → before ≡ now → IsValid (parts_of before) → IsForm head.Script parts → verdict now head.Script parts ≡ None
+    → first_object now.decls parts ≡ Some owner → IsValid (parts_of (opened now owner))
+IsValid-opened-is before now parts owner view valid form e found =
+    IsValid-opened now parts owner form (Passes-verdict now head.Script parts e) found (subst (λ r. IsValid (parts_of r)) view valid)
 
--- a line that stands for a call is that call in the open script
-pub after-call_of : (r : Reading) (f : Form) (c : Call) → call_of r.decls f ≡ Some c → after r f ≡ called r c
-after-call_of r (form.Thread name prio user) c e = absurd (cc)
-after-call_of r (form.Queue name prio on) c e = absurd (cc)
-after-call_of r (form.Item name) c e = absurd (cc)
-after-call_of r (form.Script owner) c e = absurd (cc)
-after-call_of r (form.Submit item queue) c e = ap (called r) (same_Some _ _ e)
-after-call_of r (form.Cancel item) c e = ap (called r) (same_Some _ _ e)
-after-call_of r (form.CancelSync item) c e = ap (called r) (same_Some _ _ e)
-after-call_of r (form.Flush item) c e = ap (called r) (same_Some _ _ e)
-after-call_of r (form.Schedule item queue delay) c e = ap (called r) (same_Some _ _ e)
-after-call_of r (form.Reschedule item queue delay) c e = ap (called r) (same_Some _ _ e)
-after-call_of r (form.Remaining item) c e = ap (called r) (same_Some _ _ e)
-after-call_of r (form.Start queue) c e = ap (called r) (same_Some _ _ e)
-after-call_of r (form.Drain queue plug) c e = ap (called r) (same_Some _ _ e)
-after-call_of r (form.Unplug queue) c e = ap (called r) (same_Some _ _ e)
-after-call_of r (form.Tick ticks) c e = ap (called r) (same_Some _ _ e)
-after-call_of r form.End c e = absurd (cc)
-
--- the name of a new object isn't reserved, and no other's
-pub untaken : (decls : List Decl) (name : Named) → is_taken decls name ≡ false → IsUnreserved name × (object_of decls (named_text name) ≡ None)
-untaken decls (Plain name) e = (tt, is_some-none (object_of decls name) e)
-untaken decls Reserved e = absurd (cc)
-
--- a name of an object isn't reserved
-pub unreserved-names : (kind : Decl → Bool) (decls : List Decl) (name : Named) → names kind decls name ≡ true → IsUnreserved name
-unreserved-names kind decls (Plain name) e = tt
-unreserved-names kind decls Reserved e = absurd (cc)
-
--- a line to which no reason applies has its numbers in range and no reserved name
-pub IsPlain-verdict : (r : Reading) (f : Form) → verdict r f ≡ None → IsPlain f
-IsPlain-verdict r f e = by_form f (Passes-verdict r f e) where
-  unreserved-both : (item queue : Named) → not (names is_item r.decls item && names is_queue r.decls queue) ≡ false → IsUnreserved item × IsUnreserved queue
-  unreserved-both item queue named_both =
-      let both = and_parts (names is_item r.decls item) (names is_queue r.decls queue) (not-false (names is_item r.decls item && names is_queue r.decls queue) named_both) in
-      (unreserved-names is_item r.decls item both.0, unreserved-names is_queue r.decls queue both.1)
-
-  by_form : (f : Form) → Passes r f → IsPlain f
-  by_form (form.Thread name prio user) p = ((untaken r.decls name p.well_named).0, not-false (is_some prio) p.in_range)
-  by_form (form.Queue name prio on) p = ((untaken r.decls name p.well_named).0, not-false (is_some prio) p.in_range)
-  by_form (form.Item name) p = (untaken r.decls name p.well_named).0
-  by_form (form.Script owner) p = unreserved-names plays_script r.decls owner (not-false (names plays_script r.decls owner) p.well_named)
-  by_form (form.Submit item None) p = (unreserved-names is_item r.decls item (not-false (names is_item r.decls item) p.well_named), tt)
-  by_form (form.Submit item (Some queue)) p = unreserved-both item queue p.well_named
-  by_form (form.Cancel item) p = unreserved-names is_item r.decls item (not-false (names is_item r.decls item) p.well_named)
-  by_form (form.CancelSync item) p = unreserved-names is_item r.decls item (not-false (names is_item r.decls item) p.well_named)
-  by_form (form.Flush item) p = unreserved-names is_item r.decls item (not-false (names is_item r.decls item) p.well_named)
-  by_form (form.Schedule item queue delay) p =
-      let both = unreserved-both item queue p.well_named in (both.0, both.1, not-false (is_delay delay) p.in_range)
-  by_form (form.Reschedule item queue delay) p =
-      let both = unreserved-both item queue p.well_named in (both.0, both.1, not-false (is_delay delay) p.in_range)
-  by_form (form.Remaining item) p = unreserved-names is_item r.decls item (not-false (names is_item r.decls item) p.well_named)
-  by_form (form.Start queue) p = unreserved-names is_queue r.decls queue (not-false (names is_queue r.decls queue) p.well_named)
-  by_form (form.Drain queue plug) p = unreserved-names is_queue r.decls queue (not-false (names is_queue r.decls queue) p.well_named)
-  by_form (form.Unplug queue) p = unreserved-names is_queue r.decls queue (not-false (names is_queue r.decls queue) p.well_named)
-  by_form (form.Tick ticks) p = not-false (is_advance ticks) p.in_range
-  by_form form.End p = tt
-
--- the same, where what was read after is given by an equation
-pub IsValid-after-is : (before now next : Reading) (f : Form) → before ≡ now → IsValid (parts_of before) → verdict now f ≡ None → after now f ≡ next → IsValid (parts_of next)
-IsValid-after-is before now next f view valid e is =
-    subst (λ r. IsValid (parts_of r)) is (IsValid-after now f e (subst (λ r. IsValid (parts_of r)) view valid))
+pub IsValid-called-is : (before now : Reading) (w : Word) (parts : List Placed) (c : Call) → before ≡ now → IsValid (parts_of before) → IsForm (head.Call w) parts → verdict now (head.Call w) parts ≡ None
+    → option_and_then (call_of w) (args_of now.decls parts) ≡ Some c → IsValid (parts_of (called now c))
+IsValid-called-is before now w parts c view valid form e made =
+    IsValid-called now w parts c form (Passes-verdict now (head.Call w) parts e) made (subst (λ r. IsValid (parts_of r)) view valid)

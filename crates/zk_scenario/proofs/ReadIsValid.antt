@@ -2,14 +2,16 @@
 use Rattle.std.proofs.Common.{◌≡◌, ℕ, ◌+◌, Bool, true, false, cond, nat_lt, Option, None, Some, Result, Ok, Err, List, [], ◌∷◌, length, is_some, codes, refl, sym, ap, subst, ◌∙◌, arith}
 use Rattle.std.specs.Str.{bytes_eq}
 use Rattle.zk_scenario.specs.declared.types.Script.{Script}
-use Rattle.zk_scenario.specs.declared.form.Form.{Form}
-use Rattle.zk_scenario.specs.declared.form.Line.{Line}
-use Rattle.zk_scenario.specs.declared.form.Line.TheVariants as line
+use Rattle.zk_words.specs.declared.word.Head.{Head}
+use Rattle.zk_words.specs.declared.line.Line.{Line}
+use Rattle.zk_words.specs.declared.line.Line.TheVariants as line
 use Rattle.zk_scenario.specs.declared.refused.Why.{Why}
 use Rattle.zk_scenario.specs.declared.refused.Why.TheVariants as why
 use Rattle.zk_scenario.specs.declared.refused.ScenarioRefused.{ScenarioRefused}
 use Rattle.zk_scenario.specs.declared.refused.ScenarioRefused.TheVariants.{At}
-use Rattle.zk_scenario.specs.Forms.{line_of}
+use Rattle.zk_words.specs.Lines.{line_of}
+use Rattle.zk_words.specs.Parts.{Placed}
+use Rattle.zk_words.proofs.Formed.{line_is_form}
 use Rattle.zk_scenario.specs.Grammar.{told, taken, read_line, at_end, behind, read_lines, behind_header, read_pieces, pieces_of, scenario_of, IsReadable}
 use Rattle.zk_scenario.specs.Parts.{Parts}
 use Rattle.zk_scenario.specs.Reading.{Reading, start, parts_of}
@@ -19,15 +21,20 @@ use Rattle.zk_scenario.specs.Verdict.{verdict, after}
 use Rattle.zk_scenario.proofs.AcceptedLines.{IsValid-after, all_scripts-none}
 
 valid-line : (r s : Reading) (text : List ℕ) → read_line r text ≡ Ok s → IsValid (parts_of r) → IsValid (parts_of s)
-valid-line r s text e valid = by_line (line_of text) e where
-  by_verdict : (f : Form) (o : Option Why) → verdict r f ≡ o → told o (after r f) ≡ Ok s → IsValid (parts_of s)
-  by_verdict f None passes here = let is : after r f ≡ s = cc in subst (λ x. IsValid (parts_of x)) is (IsValid-after r f passes valid)
-  by_verdict f (Some reason) passes here = absurd (cc)
+valid-line r s text e valid = by_line (line_of text) refl e where
+  by_next : (h : Head) (parts : List Placed) → line_of text ≡ line.Formed h parts → verdict r h parts ≡ None → (o : Option Reading) → after r h parts ≡ o → told None o ≡ Ok s → IsValid (parts_of s)
+  by_next h parts same passes None made here = absurd (cc)
+  by_next h parts same passes (Some t) made here =
+      let is : t ≡ s = cc in subst (λ x. IsValid (parts_of x)) is (IsValid-after r t h parts (line_is_form text h parts same) passes made valid)
 
-  by_line : (l : Line) → taken r l ≡ Ok s → IsValid (parts_of s)
-  by_line line.Unbuilt here = absurd (cc)
-  by_line line.Misspelled here = absurd (cc)
-  by_line (line.Formed f) here = by_verdict f (verdict r f) refl here
+  by_verdict : (h : Head) (parts : List Placed) → line_of text ≡ line.Formed h parts → (o : Option Why) → verdict r h parts ≡ o → told o (after r h parts) ≡ Ok s → IsValid (parts_of s)
+  by_verdict h parts same None passes here = by_next h parts same passes (after r h parts) refl here
+  by_verdict h parts same (Some reason) passes here = absurd (cc)
+
+  by_line : (l : Line) → line_of text ≡ l → taken r l ≡ Ok s → IsValid (parts_of s)
+  by_line line.Unbuilt same here = absurd (cc)
+  by_line line.Misspelled same here = absurd (cc)
+  by_line (line.Formed h parts) same here = by_verdict h parts same (verdict r h parts) refl here
 
 valid-at_end : (n : ℕ) (r : Reading) (p : Parts) (piece : List ℕ) → at_end n r piece ≡ Ok p → IsValid (parts_of r) → IsValid p
 valid-at_end n r p [] e valid = by_current r.current refl e where

@@ -4,10 +4,10 @@ use Rattle.std.specs.List.{flat_map}
 use Rattle.std.proofs.lemmas.List.{append-nil}
 use Rattle.std.proofs.lemmas.Grind.{flat_map-append}
 use Rattle.std.proofs.lemmas.List.Folds.{flat_map-map}
-use Rattle.zk_scenario.specs.declared.types.Decl.{Decl}
+use Rattle.zk_line.specs.declared.types.Decl.{Decl}
 use Rattle.zk_scenario.specs.declared.types.Script.{Script}
-use Rattle.zk_scenario.specs.Spelling.{decl_line, name_at, call_line, script_lines, body_lines, fed, lines_text}
-use Rattle.zk_scenario.specs.Text.{line_text, script_words, end_words}
+use Rattle.zk_line.specs.Text.{decl_line, call_line}
+use Rattle.zk_scenario.specs.Spelling.{script_line, end_line, script_lines, body_lines, fed, lines_text}
 
 lines_text-flat_map : (decls : List Decl) (ss : List Script) → lines_text (flat_map (script_lines decls) ss) ≡ flat_map (λ s. lines_text (script_lines decls s)) ss
 lines_text-flat_map decls [] = refl
@@ -22,9 +22,9 @@ lines_text-body_lines decls ss =
     ∙ ap (λ t. flat_map (λ d. fed (decl_line d)) decls ++ t) (lines_text-flat_map decls ss))
 
 -- the head, the calls and the end
-pub lines_text-script_lines : (decls : List Decl) (s : Script) → lines_text (script_lines decls s) ≡ fed (line_text (script_words (name_at decls s.owner))) ++ (flat_map (λ c. fed (call_line decls c)) s.calls ++ fed (line_text end_words))
+pub lines_text-script_lines : (decls : List Decl) (s : Script) → lines_text (script_lines decls s) ≡ fed (script_line decls s.owner) ++ (flat_map (λ c. fed (call_line decls c)) s.calls ++ fed (end_line))
 lines_text-script_lines decls s =
-    let head = fed (line_text (script_words (name_at decls s.owner))) in
-    ap (λ t. head ++ t) (flat_map-append fed (map (call_line decls) s.calls) (line_text end_words ∷ [])
-    ∙ ap (λ t. t ++ (fed (line_text end_words) ++ [])) (flat_map-map fed (call_line decls) s.calls)
-    ∙ ap (λ t. flat_map (λ c. fed (call_line decls c)) s.calls ++ t) (append-nil (fed (line_text end_words))))
+    let head = fed (script_line decls s.owner) in
+    ap (λ t. head ++ t) (flat_map-append fed (map (call_line decls) s.calls) (end_line ∷ [])
+    ∙ ap (λ t. t ++ (fed (end_line) ++ [])) (flat_map-map fed (call_line decls) s.calls)
+    ∙ ap (λ t. flat_map (λ c. fed (call_line decls c)) s.calls ++ t) (append-nil (fed (end_line))))

@@ -8,7 +8,7 @@ use Rattle.std.proofs.lemmas.List.Quantifiers.{position-Some}
 use Rattle.zk_scenario.specs.declared.types.Script.{Script}
 use Rattle.zk_scenario.specs.Players.{calls_of}
 use Rattle.zk_scenario.specs.Scripts.{script_of, IsByOwner}
-use Rattle.zk_scenario.proofs.Lists.{position-push, slice_get-set}
+use Rattle.zk_line.proofs.Lists.{position-push, slice_get-set}
 
 calls_from-none : (n : ℕ) (ss : List Script) (owner : ℕ) → position_from (λ s. eqb s.owner owner) n ss ≡ None → calls_of ss owner ≡ []
 calls_from-none n [] owner e = refl

@@ -7,16 +7,17 @@ use Rattle.std.proofs.lemmas.List.Quantifiers.{position-Some}
 use Rattle.std.proofs.lemmas.List.Sums.{sum_by-append}
 use Rattle.std.proofs.lemmas.Option.{slice_get-get_or}
 use Rattle.zk_base.proofs.Lists.{list_all-at}
-use Rattle.zk_scenario.specs.declared.types.Decl.{Decl}
-use Rattle.zk_scenario.specs.declared.types.Decl.TheVariants.{Thread, Queue, Item}
+use Rattle.zk_line.specs.declared.types.Decl.{Decl}
+use Rattle.zk_line.specs.declared.types.Decl.TheVariants.{Thread, Queue, Item}
 use Rattle.zk_scenario.specs.declared.types.Script.{Script}
-use Rattle.zk_scenario.specs.Objects.{is_at}
+use Rattle.zk_line.specs.Objects.{is_at, plays_script, is_thread, is_queue, is_item, same_kind, places, number_of, player_count}
 use Rattle.zk_scenario.specs.Parts.{Parts}
-use Rattle.zk_scenario.specs.Players.{plays_script, is_thread, is_queue, is_item, same_kind, players, places, number_of, calls_of}
+use Rattle.zk_scenario.specs.Players.{players, calls_of}
 use Rattle.zk_scenario.specs.Scripts.{script_of}
-use Rattle.zk_scenario.specs.Valid.{IsValid, call_fits, script_fits, player_count}
+use Rattle.zk_line.specs.Fits.{call_fits}
+use Rattle.zk_scenario.specs.Valid.{IsValid, script_fits}
 use Rattle.zk_scenario.proofs.ScriptTables.{calls_of-none, calls_of-some}
-use Rattle.zk_scenario.proofs.Tables.{length-places}
+use Rattle.zk_line.proofs.Tables.{length-places}
 
 -- the players of the table are as many as their count
 pub length-players : (decls : List Decl) → length (players decls) ≡ player_count decls

@@ -1,60 +1,68 @@
-use Rattle.std.specs.Prelude.{◌≡◌, ℕ, ◌+◌, ◌==◌, nat_lt, Option, None, Some, Result, Ok, Err, List, [], ◌∷◌, length, is_some, codes, if◌then◌else◌}
+use Rattle.std.specs.Prelude.{◌≡◌, ℕ, ◌+◌, ◌==◌, nat_lt, Bool, true, false, Option, None, Some, Result, Ok, Err, List, [], ◌∷◌, length, is_some, codes, if◌then◌else◌}
 use Rattle.std.specs.List.{slice_split}
 use Rattle.std.specs.Str.{bytes_eq}
-use Rattle.zk_scenario.specs.declared.form.Line.{Line}
-use Rattle.zk_scenario.specs.declared.form.Line.TheVariants as line
+use Rattle.zk_words.specs.declared.line.Line.{Line}
+use Rattle.zk_words.specs.declared.line.Line.TheVariants as line
 use Rattle.zk_scenario.specs.declared.refused.Why.{Why}
 use Rattle.zk_scenario.specs.declared.refused.Why.TheVariants as why
 use Rattle.zk_scenario.specs.declared.refused.ScenarioRefused.{ScenarioRefused}
 use Rattle.zk_scenario.specs.declared.refused.ScenarioRefused.TheVariants.{At, NoMemory}
-use Rattle.zk_scenario.specs.Forms.{line_of}
+use Rattle.zk_words.specs.Lines.{line_of}
 use Rattle.zk_scenario.specs.Parts.{Parts}
 use Rattle.zk_scenario.specs.Reading.{Reading, start}
 use Rattle.zk_scenario.specs.Spelling.{text_of}
-use Rattle.zk_scenario.specs.Verdict.{is_unbuilt, verdict, after}
+use Rattle.zk_scenario.specs.Verdict.{verdict, after}
 
--- what the lines said, where no reason applies to the last of them
-abbrev pub told : Option Why → Reading → Result Reading Why
-told None r = Ok r
-told (Some reason) r = Err reason
+-- what the lines said with one line more, where no reason applies to it; then it always says something
+abbrev pub told : Option Why → Option Reading → Result Reading Why
+told (Some reason) next = Err reason
+told None (Some r) = Ok r
+told None None = Err why.Line
+
+-- what is answered of a line: the reason why it is refused, or what was said with it
+abbrev pub answered : Option Why → Reading → Result Reading Why
+answered None r = Ok r
+answered (Some reason) r = Err reason
+
+-- what was said with a line that was taken
+abbrev pub accepted : Bool → Reading → Option Reading
+accepted true r = Some r
+accepted false r = None
 
 -- a line behind those before it, by what its spelling says
 abbrev pub taken : Reading → Line → Result Reading Why
 taken r line.Unbuilt = Err why.Unbuilt
 taken r line.Misspelled = Err why.Line
-taken r (line.Formed form) = told (verdict r form) (after r form)
+taken r (line.Formed head parts) = told (verdict r head parts) (after r head parts)
 
 -- a line behind those before it
 abbrev pub read_line : Reading → List ℕ → Result Reading Why
 read_line r text = taken r (line_of text)
 
 -- why a last line without its line feed is refused
-abbrev pub unfed : Reading → Line → Why
-unfed r line.Unbuilt = why.Unbuilt
-unfed r line.Misspelled = why.Line
-unfed r (line.Formed form) = (if is_unbuilt form then why.Unbuilt else why.Line)
+abbrev pub unfed : Line → Why
+unfed line.Unbuilt = why.Unbuilt
+unfed line.Misspelled = why.Line
+unfed (line.Formed head parts) = why.Line
 
 -- the end of the input behind a line feed; n is the number after the last line
 abbrev pub ended : ℕ → Reading → Result Parts ScenarioRefused
-ended n r =
-    (if is_some r.current then Err (At n why.Order) else Ok (record { decls = r.decls; scripts = r.scripts }))
+ended n r = (if is_some r.current then Err (At n why.Order) else Ok (record { decls = r.decls; scripts = r.scripts }))
 
 -- what stands behind the last line feed: nothing, or a line without its feed
 abbrev pub at_end : ℕ → Reading → List ℕ → Result Parts ScenarioRefused
 at_end n r [] = ended n r
-at_end n r (b ∷ bs) = Err (At n (unfed r (line_of (b ∷ bs))))
+at_end n r (b ∷ bs) = Err (At n (unfed (line_of (b ∷ bs))))
 
 -- what follows a line, where that is accepted
-abbrev pub behind : ℕ → Result Reading Why → (Reading → Result Parts ScenarioRefused) →
-    Result Parts ScenarioRefused
+abbrev pub behind : ℕ → Result Reading Why → (Reading → Result Parts ScenarioRefused) → Result Parts ScenarioRefused
 behind n (Ok r) next = next r
 behind n (Err reason) next = Err (At n reason)
 
 -- the pieces between the line feeds, from the one of number n on
 abbrev pub read_lines : ℕ → Reading → List ℕ → List (List ℕ) → Result Parts ScenarioRefused
 read_lines n r piece [] = at_end n r piece
-read_lines n r piece (next ∷ more) =
-    behind n (read_line r piece) (λ s. read_lines (n + 1) s next more)
+read_lines n r piece (next ∷ more) = behind n (read_line r piece) (λ s. read_lines (n + 1) s next more)
 
 -- what stands behind the header's line feed, if it has one
 abbrev pub behind_header : List (List ℕ) → Result Parts ScenarioRefused
@@ -64,8 +72,7 @@ behind_header (piece ∷ more) = read_lines 2 start piece more
 -- the pieces between the line feeds, the header first
 abbrev pub read_pieces : List (List ℕ) → Result Parts ScenarioRefused
 read_pieces [] = Err (At 1 why.Header)
-read_pieces (first ∷ more) =
-    (if bytes_eq first (codes "zk 1") then behind_header more else Err (At 1 why.Header))
+read_pieces (first ∷ more) = (if bytes_eq first (codes "zk 1") then behind_header more else Err (At 1 why.Header))
 
 -- the pieces between the line feeds of a text: its lines, and what stands behind the last feed
 abbrev pub pieces_of : List ℕ → List (List ℕ)
@@ -73,8 +80,7 @@ pieces_of text = slice_split (λ b. b == 10) text
 
 -- the scenario of a text, or the first failing line and the first reason that applies there
 abbrev pub scenario_of : List ℕ → Result Parts ScenarioRefused
-scenario_of text =
-    (if nat_lt 1048576 (length text) then Err (At 0 why.Length) else read_pieces (pieces_of text))
+scenario_of text = (if nat_lt 1048576 (length text) then Err (At 0 why.Length) else read_pieces (pieces_of text))
 
 -- an answer that is what the grammar says, or want of memory
 abbrev pub Answers : Result Parts ScenarioRefused → Result Parts ScenarioRefused → Type 0

@@ -1,16 +1,9 @@
-pub mod ByName
-pub mod Forms
 pub mod Grammar
-pub mod Keywords
-pub mod Numbers
-pub mod Objects
 pub mod Parts
 pub mod Players
 pub mod Reading
 pub mod Reasons
 pub mod Scripts
 pub mod Spelling
-pub mod Text
 pub mod Valid
 pub mod Verdict
-pub mod Words

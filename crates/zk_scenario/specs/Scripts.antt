@@ -9,5 +9,4 @@ script_of scripts owner = position (λ s. s.owner == owner) scripts
 
 -- the table has under each object the place of its script
 abbrev pub IsByOwner : List Script → List (Option ℕ) → Type 0
-IsByOwner scripts table =
-    (owner : ℕ) → option_flatten (slice_get table owner) ≡ script_of scripts owner
+IsByOwner scripts table = (owner : ℕ) → option_flatten (slice_get table owner) ≡ script_of scripts owner

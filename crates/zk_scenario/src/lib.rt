@@ -1,16 +1,10 @@
-//! The scenario: its types, its one spelling, the reader and the printer.
+//! The scenario: its one spelling, the reader, the printer and the look-ups.
 #![tactic(auto)]
 
-mod form;
-mod keyword;
 mod laws;
 #[cfg(test)]
 mod line_tests;
 mod lines;
-mod names;
-mod numbers;
-mod objects;
-mod print;
 mod read;
 mod reader;
 mod refused;
@@ -20,12 +14,12 @@ mod scripts;
 mod tests;
 mod text;
 mod types;
-mod verdict;
-mod words;
 
 pub use laws::tells_them_apart;
 pub use read::read_scenario;
 pub use refused::{ScenarioRefused, Why};
 pub use scenario::Scenario;
 pub use text::print_scenario;
-pub use types::{Call, Decl, Ref, Script};
+pub use types::Script;
+pub use zk_line::{Call, Decl, Ref, word_of};
+pub use zk_words::Word;

@@ -1,55 +1,48 @@
-use crate::form::{Form, Line, Named, line_of};
-use crate::numbers::number_of;
-use crate::print::{
-    put_cancel, put_cancel_sync, put_drain, put_end, put_flush, put_item, put_queue, put_remaining,
-    put_reschedule, put_schedule, put_script, put_start, put_submit, put_thread, put_tick,
-    put_unplug,
-};
 use std::test::Fail;
-use zk_base::NoMemory;
+use zk_base::{NoMemory, is_name, put};
+use zk_line::are_in_range;
+use zk_words::{Head, Line, Parts, Slot, line_of, row_of};
 
-// Writes the line that a form stands for, or a word on why there is none.
-fn put_form(out: &mut Vec<u8>, form: &Form) -> Result<(), NoMemory> {
-    match form {
-        Form::Thread(Named::Plain(name), Some(prio), user) => {
-            put_thread(out, name.bytes(), *prio, *user)
+// Whether a word where a name is asked for is a reserved one.
+fn has_reserved(parts: Parts<'_>) -> bool {
+    let mut parts = parts;
+    while let Some(part) = parts.next() {
+        match part.slot {
+            Slot::New | Slot::Owner | Slot::Object(_) => {
+                if !is_name(part.text) {
+                    return true;
+                }
+            }
+            _ => {}
         }
-        Form::Queue(Named::Plain(name), Some(prio), on) => {
-            put_queue(out, name.bytes(), *prio, *on)
-        }
-        Form::Item(Named::Plain(name)) => put_item(out, name.bytes()),
-        Form::Script(Named::Plain(owner)) => put_script(out, owner.bytes()),
-        Form::Submit(Named::Plain(item), Some(Named::Plain(queue))) => {
-            put_submit(out, item.bytes(), Some(queue.bytes()))
-        }
-        Form::Submit(Named::Plain(item), None) => put_submit(out, item.bytes(), None),
-        Form::Cancel(Named::Plain(item)) => put_cancel(out, item.bytes()),
-        Form::CancelSync(Named::Plain(item)) => put_cancel_sync(out, item.bytes()),
-        Form::Flush(Named::Plain(item)) => put_flush(out, item.bytes()),
-        Form::Schedule(Named::Plain(item), Named::Plain(queue), delay) => {
-            put_schedule(out, item.bytes(), queue.bytes(), *delay)
-        }
-        Form::Reschedule(Named::Plain(item), Named::Plain(queue), delay) => {
-            put_reschedule(out, item.bytes(), queue.bytes(), *delay)
-        }
-        Form::Remaining(Named::Plain(item)) => put_remaining(out, item.bytes()),
-        Form::Start(Named::Plain(queue)) => put_start(out, queue.bytes()),
-        Form::Drain(Named::Plain(queue), plug) => put_drain(out, queue.bytes(), *plug),
-        Form::Unplug(Named::Plain(queue)) => put_unplug(out, queue.bytes()),
-        Form::Tick(ticks) => put_tick(out, *ticks),
-        Form::End => put_end(out),
-        Form::Thread(Named::Plain(_), None, _) | Form::Queue(Named::Plain(_), None, _) => put_item(
-            out, b"number",
-        ),
-        _ => put_item(out, b"reserved"),
     }
+    false
 }
 
+fn put_form(out: &mut Vec<u8>, head: Head, parts: Parts<'_>) -> Result<(), NoMemory> {
+    let mut parts = parts;
+    put(out, row_of(head).first)?;
+    while let Some(part) = parts.next() {
+        put(out, b" ")?;
+        put(out, part.text)?;
+    }
+    Ok(())
+}
+
+// Writes the line that was read, or a word on why there is none.
 fn put_line(out: &mut Vec<u8>, line: &[u8]) -> Result<(), NoMemory> {
     match line_of(line) {
-        Line::Formed(form) => put_form(out, &form),
-        Line::Unbuilt => put_item(out, b"unbuilt"),
-        Line::Misspelled => put_item(out, b"misspelled"),
+        Line::Unbuilt => put(out, b"item unbuilt"),
+        Line::Misspelled => put(out, b"item misspelled"),
+        Line::Formed(head, parts) => {
+            if !are_in_range(parts.again()) {
+                return put(out, b"item number");
+            }
+            if has_reserved(parts.again()) {
+                return put(out, b"item reserved");
+            }
+            put_form(out, head, parts)
+        }
     }
 }
 
@@ -57,7 +50,7 @@ fn put_line(out: &mut Vec<u8>, line: &[u8]) -> Result<(), NoMemory> {
 fn tells_forms_from_misspellings(rt: HostRuntime) -> Result<(), Fail> {
     let table: [(&str, &str); 49] = [
         ("thread main 0 super", "thread main 0 super"),
-        ("thread a_1 -16 user", "thread a_1 -16 user"),
+        ("thread a_1 -16 user", "item unbuilt"),
         ("queue q0 15 on", "queue q0 15 on"),
         ("queue q0 -1 off", "queue q0 -1 off"),
         ("item abcdefghijklmnop", "item abcdefghijklmnop"),
@@ -169,14 +162,11 @@ fn tells_the_calls_with_ticks(rt: HostRuntime) -> Result<(), Fail> {
         ("reschedule i0 q0 10", "reschedule i0 q0 10"),
         ("remaining i0", "remaining i0"),
         ("tick 1", "tick 1"),
-        ("tick 1000001", "tick 1000001"),
-        ("schedule i0 q0 4294967295", "schedule i0 q0 4294967295"),
-        ("schedule i0 q0 4294967296", "schedule i0 q0 4294967295"),
-        (
-            "reschedule i0 q0 18446744073709551617",
-            "reschedule i0 q0 4294967295",
-        ),
-        ("tick 99999999999999999999999999999", "tick 4294967295"),
+        ("tick 1000001", "item number"),
+        ("schedule i0 q0 4294967295", "item number"),
+        ("schedule i0 q0 4294967296", "item number"),
+        ("reschedule i0 q0 18446744073709551617", "item number"),
+        ("tick 99999999999999999999999999999", "item number"),
         ("schedule wait q0 1", "item reserved"),
         ("reschedule i0 clock 1", "item reserved"),
         ("remaining nomsg", "item reserved"),
@@ -204,24 +194,5 @@ fn tells_the_calls_with_ticks(rt: HostRuntime) -> Result<(), Fail> {
         put_line(&mut out, line.as_bytes())?;
         assert_eq!(rt; out.as_slice(), told.as_bytes(), "at {line}");
     }
-    Ok(())
-}
-
-#[test]
-fn reads_numbers(rt: HostRuntime) -> Result<(), Fail> {
-    let table: [(&str, Option<u64>); 8] = [
-        ("0", Some(0)),
-        ("1000000", Some(1_000_000)),
-        ("18446744073709551615", Some(u64::MAX)),
-        ("00", None),
-        ("-1", None),
-        ("", None),
-        ("1 ", None),
-        ("1a", None),
-    ];
-    for (word, told) in table {
-        assert_eq!(rt; number_of(word.as_bytes()), told, "at {word}");
-    }
-    assert_eq!(rt; number_of(b"18446744073709551616"), Some(u64::MAX));
     Ok(())
 }

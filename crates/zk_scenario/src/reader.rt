@@ -1,27 +1,24 @@
-ghost use Rattle.std.specs.Prelude.{◌≡◌, false, None, Some, Ok, Err, OnOk, OnErr, IfOk, IsSome, is_some, MatchOption, [], option_map};
-ghost use Rattle.zk_scenario.specs.Forms.{IsUnreserved, named_text, line_of};
-ghost use Rattle.zk_scenario.specs.Grammar.{read_line, told, unfed};
-ghost use Rattle.zk_scenario.specs.Objects.{object_of};
-ghost use Rattle.zk_scenario.specs.Players.{name_of};
-ghost use Rattle.zk_scenario.specs.Reading.{start, declared, begun, called, closed, with_call, parts_of};
+ghost use Rattle.std.specs.Prelude.{◌≡◌, None, Some, OnOk, OnErr, IfOk, IsSome, is_some, [], option_map, option_and_then};
+ghost use Rattle.zk_words.specs.Lines.{line_of, IsForm};
+ghost use Rattle.zk_line.specs.Args.{args_of};
+ghost use Rattle.zk_line.specs.Objects.{object_of, name_of};
+ghost use Rattle.zk_scenario.specs.Grammar.{read_line, told, answered, accepted, unfed};
+ghost use Rattle.zk_scenario.specs.Reading.{start, declared, called, closed, with_call, parts_of};
 ghost use Rattle.zk_scenario.specs.Valid.{IsValid};
-ghost use Rattle.zk_scenario.specs.Verdict.{has_begun, has_script, is_misplaced, is_past_limit, verdict, call_of, after};
+ghost use Rattle.zk_scenario.specs.Verdict.{has_begun, has_script, is_misplaced, most, is_past_limit, verdict, opened, after};
 
-use crate::form::{Form, Line, Named, line_of};
-use crate::objects::Objects;
 use crate::refused::Why;
 use crate::scripts::Scripts;
-use crate::types::{Call, Decl, Script};
-use crate::verdict::{call_of, is_misnamed, is_out_of_range, is_unbuilt, named, object};
+use crate::types::Script;
 use std::alloc::Global;
 use std::marker::Model;
-use zk_base::{Listed, Name, NoMemory};
+use zk_base::{Listed, NoMemory};
+use zk_line::{
+    Call, Decl, Objects, Ref, are_in_range, are_well_named, args_of, call_of, decl_of, first_object,
+};
+use zk_words::{Head, Kind, Line, Parts, Word, line_of, makes_player};
 
 const MOST_PLAYERS: usize = 64;
-
-const MOST_QUEUES: usize = 8;
-
-const MOST_ITEMS: usize = 256;
 
 const MOST_CALLS: u32 = 4096;
 
@@ -67,83 +64,58 @@ impl Reader {
         self.current.is_some() || 0 < self.scripts.scripts().len()
     }
 
-    fn has_script(&self, owner: &Named) -> bool
-        ensures { result ≡ has_script self.now owner.now }
+    fn has_script(&self, object: Option<u32>) -> bool
+        ensures { result ≡ has_script self.now object }
     {
-        match named(&self.objects, owner) {
+        match object {
             Some(owner) => self.scripts.find(owner).is_some(),
             None => false,
         }
     }
 
     /// Whether the line may not stand there.
-    fn is_misplaced(&self, form: &Form) -> bool
-        ensures { result ≡ is_misplaced self.now form.now }
+    fn is_misplaced(&self, head: Head, parts: Parts<'_>) -> bool
+        ensures { result ≡ is_misplaced self.now head parts.entry }
     {
-        match form {
-            Form::Thread(_, _, _) => self.has_begun(),
-            Form::Queue(_, _, _) => self.has_begun(),
-            Form::Item(_) => self.has_begun(),
-            Form::Script(owner) => self.current.is_some() || self.has_script(owner),
-            Form::Submit(_, _) => !self.current.is_some(),
-            Form::Cancel(_) => !self.current.is_some(),
-            Form::CancelSync(_) => !self.current.is_some(),
-            Form::Flush(_) => !self.current.is_some(),
-            Form::Schedule(_, _, _) => !self.current.is_some(),
-            Form::Reschedule(_, _, _) => !self.current.is_some(),
-            Form::Remaining(_) => !self.current.is_some(),
-            Form::Start(_) => !self.current.is_some(),
-            Form::Drain(_, _) => !self.current.is_some(),
-            Form::Unplug(_) => !self.current.is_some(),
-            Form::Tick(_) => !self.current.is_some(),
-            Form::End => !self.current.is_some(),
+        match head {
+            Head::Declare(_) => self.has_begun(),
+            Head::Script => {
+                self.current.is_some() || self.has_script(first_object(&self.objects, parts))
+            }
+            Head::End => !self.current.is_some(),
+            Head::Call(_) => !self.current.is_some(),
         }
     }
 
     /// Whether the line passes a limit.
-    fn is_past_limit(&self, form: &Form) -> bool
-        ensures { result ≡ is_past_limit self.now form.now }
+    fn is_past_limit(&self, head: Head) -> bool
+        ensures { result ≡ is_past_limit self.now head }
     {
-        match form {
-            Form::Thread(_, _, _) => MOST_PLAYERS <= self.objects.player_count(),
-            Form::Queue(_, _, _) => {
-                MOST_PLAYERS <= self.objects.player_count()
-                    || MOST_QUEUES <= self.objects.queue_count()
+        match head {
+            Head::Declare(kind) => {
+                most(kind) <= self.objects.count(kind)
+                    || makes_player(kind) && MOST_PLAYERS <= self.objects.player_count()
             }
-            Form::Item(_) => MOST_ITEMS <= self.objects.item_count(),
-            Form::Script(_) => false,
-            Form::Submit(_, _) => MOST_CALLS <= self.calls,
-            Form::Cancel(_) => MOST_CALLS <= self.calls,
-            Form::CancelSync(_) => MOST_CALLS <= self.calls,
-            Form::Flush(_) => MOST_CALLS <= self.calls,
-            Form::Schedule(_, _, _) => MOST_CALLS <= self.calls,
-            Form::Reschedule(_, _, _) => MOST_CALLS <= self.calls,
-            Form::Remaining(_) => MOST_CALLS <= self.calls,
-            Form::Start(_) => MOST_CALLS <= self.calls,
-            Form::Drain(_, _) => MOST_CALLS <= self.calls,
-            Form::Unplug(_) => MOST_CALLS <= self.calls,
-            Form::Tick(_) => MOST_CALLS <= self.calls,
-            Form::End => false,
+            Head::Script => false,
+            Head::End => false,
+            Head::Call(_) => MOST_CALLS <= self.calls,
         }
     }
 
     /// The first reason that applies to a line behind those read.
-    fn verdict(&self, form: &Form) -> Option<Why>
-        ensures { result ≡ verdict self.now form.now }
+    fn verdict(&self, head: Head, parts: Parts<'_>) -> Option<Why>
+        ensures { result ≡ verdict self.now head parts.entry }
     {
-        if is_unbuilt(form) {
-            return Some(Why::Unbuilt);
-        }
-        if self.is_misplaced(form) {
+        if self.is_misplaced(head, parts.again()) {
             return Some(Why::Order);
         }
-        if is_out_of_range(form) {
+        if !are_in_range(parts.again()) {
             return Some(Why::Number);
         }
-        if is_misnamed(&self.objects, form) {
+        if !are_well_named(&self.objects, parts) {
             return Some(Why::Name);
         }
-        if self.is_past_limit(form) {
+        if self.is_past_limit(head) {
             return Some(Why::Limit);
         }
         None
@@ -151,40 +123,32 @@ impl Reader {
 
     /// Reads a line without its line feed. The answer is the reason why it is refused, if it is.
     pub fn read_line(&mut self, alloc: Global, line: &[u8]) -> Result<Option<Why>, NoMemory>
-        ensures { IfOk result (λ refusal. read_line self.old line.now ≡ told refusal self.new) }
+        ensures { IfOk result (λ refusal. read_line self.old line.now ≡ answered refusal self.new) }
     {
         match line_of(line) {
             Line::Unbuilt => Ok(Some(Why::Unbuilt)),
             Line::Misspelled => Ok(Some(Why::Line)),
-            Line::Formed(form) => self.read_form(alloc, &form),
+            Line::Formed(head, parts) => self.read_form(alloc, head, parts),
         }
     }
 
-    fn read_form(&mut self, alloc: Global, form: &Form) -> Result<Option<Why>, NoMemory>
+    fn read_form(
+        &mut self,
+        alloc: Global,
+        head: Head,
+        parts: Parts<'_>,
+    ) -> Result<Option<Why>, NoMemory>
+        requires { IsForm head parts }
         ensures { IfOk result (λ refusal.
-            told (verdict self.old form.now) (after self.old form.now) ≡ told refusal self.new) }
+            told (verdict self.old head parts.entry) (after self.old head parts.entry) ≡ answered refusal self.new) }
     {
-        if let Some(reason) = self.verdict(form) {
+        if let Some(reason) = self.verdict(head, parts.again()) {
             return Ok(Some(reason));
         }
-        self.accept(alloc, form)?;
-        Ok(None)
-    }
-
-    /// Why a last line without its line feed is refused.
-    pub fn unfed(&self, line: &[u8]) -> Why
-        ensures { result ≡ unfed self.now (line_of line.now) }
-    {
-        match line_of(line) {
-            Line::Unbuilt => Why::Unbuilt,
-            Line::Misspelled => Why::Line,
-            Line::Formed(form) => {
-                if is_unbuilt(&form) {
-                    Why::Unbuilt
-                } else {
-                    Why::Line
-                }
-            }
+        if self.accept(alloc, head, parts)? {
+            Ok(None)
+        } else {
+            Ok(Some(Why::Line))
         }
     }
 
@@ -209,41 +173,65 @@ impl Reader {
         self.current.is_some()
     }
 
-    /// Takes a line to which no reason applies.
-    fn accept(&mut self, alloc: Global, form: &Form) -> Result<(), NoMemory>
-        requires { verdict self.old form.now ≡ None }
-        ensures { OnOk result (self.new ≡ after self.old form.now) }
+    /// Takes a line to which no reason applies. The answer is whether it says something.
+    fn accept(&mut self, alloc: Global, head: Head, parts: Parts<'_>) -> Result<bool, NoMemory>
+        requires form { IsForm head parts }
+        requires passes { verdict self.old head parts ≡ None }
+        ensures { IfOk result (λ done. after self.old head parts.entry ≡ accepted done self.new) }
     {
-        let _valid = &self.calls;
-        match form {
-            Form::Thread(name, prio, user) => {
-                self.declare(alloc, Decl::Thread(plain(name), prio.unwrap_or(0), *user))
+        match head {
+            Head::Declare(kind) => self.accept_decl(alloc, kind, parts),
+            Head::Script => Ok(self.accept_script(alloc, parts)),
+            Head::End => {
+                self.end()?;
+                Ok(true)
             }
-            Form::Queue(name, prio, on) => {
-                self.declare(alloc, Decl::Queue(plain(name), prio.unwrap_or(0), *on))
-            }
-            Form::Item(name) => self.declare(alloc, Decl::Item(plain(name))),
-            Form::Script(owner) => {
-                let owner = object(&self.objects, owner);
-                self.begin(alloc, owner);
-                Ok(())
-            }
-            Form::End => self.end(),
-            _ => self.accept_call(form),
+            Head::Call(word) => self.accept_call(alloc, word, parts),
         }
     }
 
-    /// Takes a call to which no reason applies.
-    fn accept_call(&mut self, form: &Form) -> Result<(), NoMemory>
-        requires call { IsSome (call_of self.old.decls form.now) }
-        requires passes { verdict self.old form.now ≡ None }
-        ensures { OnOk result (self.new ≡ after self.old form.now) }
+    fn accept_decl(&mut self, alloc: Global, kind: Kind, parts: Parts<'_>) -> Result<bool, NoMemory>
+        requires { verdict self.old (Head.Declare kind) parts ≡ None }
+        ensures { IfOk result (λ done. after self.old (Head.Declare kind) parts.entry ≡ accepted done self.new) }
     {
         let _valid = &self.calls;
-        match call_of(&self.objects, form) {
-            Some(call) => self.call(call),
-            None => unreachable!(),
-        }
+        let Some(args) = args_of(alloc, &self.objects, parts)? else {
+            return Ok(false);
+        };
+        let Some(decl) = decl_of(kind, args.items()) else {
+            return Ok(false);
+        };
+        self.declare(alloc, decl)?;
+        Ok(true)
+    }
+
+    fn accept_script(&mut self, alloc: Global, parts: Parts<'_>) -> bool
+        requires form { IsForm Head.Script parts }
+        requires passes { verdict self.old Head.Script parts ≡ None }
+        ensures { after self.old Head.Script parts.entry ≡ accepted result self.new }
+    {
+        let _valid = &self.calls;
+        let Some(owner) = first_object(&self.objects, parts) else {
+            return false;
+        };
+        self.open(alloc, owner);
+        true
+    }
+
+    fn accept_call(&mut self, alloc: Global, word: Word, parts: Parts<'_>) -> Result<bool, NoMemory>
+        requires form { IsForm (Head.Call word) parts }
+        requires passes { verdict self.old (Head.Call word) parts ≡ None }
+        ensures { IfOk result (λ done. after self.old (Head.Call word) parts.entry ≡ accepted done self.new) }
+    {
+        let _valid = &self.calls;
+        let Some(args) = args_of(alloc, &self.objects, parts)? else {
+            return Ok(false);
+        };
+        let Some(call) = call_of(word, args.items()) else {
+            return Ok(false);
+        };
+        self.call(call)?;
+        Ok(true)
     }
 
     /// One declaration more.
@@ -257,10 +245,10 @@ impl Reader {
     }
 
     /// A script begins.
-    fn begin(&mut self, alloc: Global, owner: u32)
+    fn open(&mut self, alloc: Global, owner: u32)
         requires between { self.old.current ≡ None }
-        requires valid { IsValid (parts_of (begun self.old (record { owner = owner; calls = [] }))) }
-        ensures { self.new ≡ begun self.old (record { owner = owner; calls = [] }) }
+        requires valid { IsValid (parts_of (opened self.old owner)) }
+        ensures { self.new ≡ opened self.old owner }
     {
         self.current = Some(Script {
             owner,
@@ -299,14 +287,25 @@ impl Reader {
     }
 }
 
-/// A name that isn't reserved.
-fn plain(name: &Named) -> Name
-    requires { IsUnreserved name.now }
-    ensures { result ≡ named_text name.now }
+/// How many objects of a kind there may be.
+fn most(kind: Kind) -> usize
+    ensures { result ≡ most kind }
 {
-    match name {
-        Named::Plain(name) => *name,
-        Named::Reserved => unreachable!(),
+    match kind {
+        Kind::Thread => 64,
+        Kind::Queue => 8,
+        Kind::Item => 256,
+    }
+}
+
+/// Why a last line without its line feed is refused.
+pub fn unfed(line: &[u8]) -> Why
+    ensures { result ≡ unfed (line_of line.now) }
+{
+    match line_of(line) {
+        Line::Unbuilt => Why::Unbuilt,
+        Line::Misspelled => Why::Line,
+        Line::Formed(_, _) => Why::Line,
     }
 }
 
@@ -315,6 +314,7 @@ fn push_call(current: &mut Option<Script>, call: Call) -> Result<(), NoMemory>
     ensures ok { OnOk result (current.new ≡ option_map (with_call call) current.old) }
     ensures unchanged { OnErr result (current.new ≡ current.old) }
 {
+    let _known: Option<Ref> = None;
     match current {
         Some(script) => script.calls.push(call),
         None => Ok(()),

@@ -1,14 +1,15 @@
 ghost use Rattle.std.specs.Prelude.{◌≡◌, ℕ, ◌++◌, length, slice_get};
 ghost use Rattle.zk_scenario.specs.Grammar.{IsReadable};
 ghost use Rattle.zk_scenario.specs.Parts.{Parts};
-ghost use Rattle.zk_scenario.specs.Players.{is_thread, is_queue, is_item, prio_of, places, players, who_of, number_of, calls_of};
+ghost use Rattle.zk_line.specs.Objects.{is_thread, is_queue, is_item, places, number_of};
+ghost use Rattle.zk_scenario.specs.Players.{prio_of, players, who_of, calls_of};
 ghost use Rattle.zk_scenario.specs.Valid.{IsValid};
 
-use crate::objects::Objects;
+use crate::Script;
 use crate::scripts::Scripts;
-use crate::{Call, Decl, Script};
 use std::marker::Model;
 use zk_base::Who;
+use zk_line::{Call, Decl, Objects};
 
 /// A scenario: declarations, and scripts over them. There is none but what has a text in the grammar.
 ///

@@ -3,11 +3,11 @@ ghost use Rattle.std.specs.Option.{option_flatten};
 ghost use Rattle.zk_scenario.specs.Players.{calls_of};
 ghost use Rattle.zk_scenario.specs.Scripts.{script_of};
 
-use crate::objects::{make_room, put};
-use crate::{Call, Script};
+use crate::Script;
 use std::alloc::Global;
 use std::marker::Model;
 use zk_base::NoMemory;
+use zk_line::{Call, make_room, put};
 
 /// The scripts in the written order, with the place of each object's script.
 #[derive(Drop)]

@@ -1,49 +1,5 @@
-use zk_base::{Listed, Name};
-
-/// One declaration. Objects are numbered from 0 in declared order.
-#[derive(Clone, Copy, Debug)]
-pub enum Decl {
-    /// A thread, its priority (-16 to 15, the lower number first), and whether it is a user thread.
-    Thread(Name, i8, bool),
-    /// A work queue, the priority of its worker, and whether it is started at first.
-    Queue(Name, i8, bool),
-    /// A work item.
-    Item(Name),
-}
-
-/// An object as a call names it.
-#[derive(Clone, Copy, Debug)]
-pub enum Ref {
-    /// A declared object, by its number.
-    Known(u32),
-}
-
-/// One call of a script, its arguments in the written order.
-#[derive(Clone, Copy, Debug)]
-pub enum Call {
-    /// An item, and the queue where one is named. Zephyr's `k_work_submit_to_queue`.
-    Submit(Ref, Option<Ref>),
-    /// Zephyr's `k_work_cancel`.
-    Cancel(Ref),
-    /// Zephyr's `k_work_cancel_sync`.
-    CancelSync(Ref),
-    /// Zephyr's `k_work_flush`.
-    Flush(Ref),
-    /// An item, a queue, and a delay of 0 to 1,000,000 ticks. Zephyr's `k_work_schedule_for_queue`.
-    Schedule(Ref, Ref, u32),
-    /// The same, of Zephyr's `k_work_reschedule_for_queue`.
-    Reschedule(Ref, Ref, u32),
-    /// Zephyr's `k_work_delayable_remaining_get`.
-    Remaining(Ref),
-    /// A queue. Zephyr's `k_work_queue_start`.
-    Start(Ref),
-    /// A queue, and whether it is plugged with the drain. Zephyr's `k_work_queue_drain`.
-    Drain(Ref, bool),
-    /// A queue. Zephyr's `k_work_queue_unplug`.
-    Unplug(Ref),
-    /// The clock goes on by 1 to 1,000,000 ticks. Zephyr's `sys_clock_announce`.
-    Tick(u32),
-}
+use zk_base::Listed;
+use zk_line::Call;
 
 /// The calls that an object makes, in order: those of a thread, or those of an item's handler.
 #[derive(Debug, Drop)]

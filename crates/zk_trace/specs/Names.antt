@@ -1,7 +1,8 @@
 use Rattle.std.specs.Prelude.{ℕ, Option, List, [], slice_get, option_and_then}
 use Rattle.std.specs.Option.{option_map_or}
-use Rattle.zk_scenario.specs.declared.types.Decl.{Decl}
-use Rattle.zk_scenario.specs.Players.{places, players, is_item, is_queue, name_of}
+use Rattle.zk_line.specs.declared.types.Decl.{Decl}
+use Rattle.zk_line.specs.Objects.{places, is_item, is_queue, name_of}
+use Rattle.zk_scenario.specs.Players.{players}
 
 -- the name of an object, if there is one
 abbrev pub object_name : List Decl → Option ℕ → List ℕ

@@ -4,8 +4,8 @@ use Rattle.zk_base.specs.declared.errors.Errno.{Errno}
 use Rattle.zk_base.specs.declared.errors.Errno.TheVariants.{Busy, Again, Inval, NoDev, NoMsg, Already, Fault}
 use Rattle.zk_worker.specs.declared.answers.Answer.{Answer}
 use Rattle.zk_worker.specs.declared.answers.Answer.TheVariants as answers
-use Rattle.zk_worker.specs.declared.answers.Word.{Word}
-use Rattle.zk_worker.specs.declared.answers.Word.TheVariants as words
+use Rattle.zk_words.specs.declared.word.Word.{Word}
+use Rattle.zk_words.specs.Table.{call_row}
 use Rattle.zk_worker.specs.declared.log.PlayerState.{PlayerState}
 use Rattle.zk_worker.specs.declared.log.PlayerState.TheVariants as states
 use Rattle.zk_trace.specs.declared.trace.Ending.{Ending}
@@ -59,19 +59,9 @@ abbrev pub mode_word : Bool → List ℕ
 mode_word true = codes "plug"
 mode_word false = codes "open"
 
--- the word of a call
+-- the word of a call, as it stands in the table
 abbrev pub call_word : Word → List ℕ
-call_word words.Submit = codes "submit"
-call_word words.Cancel = codes "cancel"
-call_word words.CancelSync = codes "cancelsync"
-call_word words.Flush = codes "flush"
-call_word words.Schedule = codes "schedule"
-call_word words.Reschedule = codes "reschedule"
-call_word words.Remaining = codes "remaining"
-call_word words.Start = codes "start"
-call_word words.Drain = codes "drain"
-call_word words.Unplug = codes "unplug"
-call_word words.Tick = codes "tick"
+call_word word = (call_row word).first
 
 -- the answer of a call
 abbrev pub answer_text : Answer → List ℕ

@@ -1,5 +1,6 @@
 ghost use Rattle.std.specs.Prelude.{◌≡◌, slice_get, option_copied};
-ghost use Rattle.zk_scenario.specs.Players.{places, players, is_item, is_queue, name_of};
+ghost use Rattle.zk_line.specs.Objects.{places, is_item, is_queue, name_of};
+ghost use Rattle.zk_scenario.specs.Players.{players};
 ghost use Rattle.zk_trace.specs.Names.{object_name, item_name, queue_name, player_name};
 
 use zk_scenario::{Decl, Scenario};

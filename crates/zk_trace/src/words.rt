@@ -5,7 +5,8 @@ ghost use Rattle.zk_trace.specs.Words.{spaced, ending_word, errno_word, admissio
 
 use crate::Ending;
 use zk_base::{Errno, NoMemory, put, put_decimal};
-use zk_worker::{Answer, PlayerState, Word};
+use zk_words::{Head, Word, row_of};
+use zk_worker::{Answer, PlayerState};
 
 /// Appends a space and then the word.
 pub fn put_spaced(out: &mut Vec<u8>, word: &[u8]) -> Result<(), NoMemory>
@@ -110,19 +111,7 @@ pub fn mode_word(plug: bool) -> &'static [u8]
 pub fn call_word(word: Word) -> &'static [u8]
     ensures { result.now ≡ call_word word }
 {
-    match word {
-        Word::Submit => b"submit",
-        Word::Cancel => b"cancel",
-        Word::CancelSync => b"cancelsync",
-        Word::Flush => b"flush",
-        Word::Schedule => b"schedule",
-        Word::Reschedule => b"reschedule",
-        Word::Remaining => b"remaining",
-        Word::Start => b"start",
-        Word::Drain => b"drain",
-        Word::Unplug => b"unplug",
-        Word::Tick => b"tick",
-    }
+    row_of(Head::Call(word)).first
 }
 
 /// Appends the answer of a call.

@@ -3,8 +3,9 @@ use Rattle.std.proofs.Common.{◌≡◌, ℕ, ◌+◌, ◌<◌, Bool, true, fals
 use Rattle.std.specs.List.{slice_get}
 use Rattle.std.proofs.lemmas.List.Elements.{All-nil, All-cons, All-append}
 use Rattle.zk_base.proofs.Lists.{All-at}
-use Rattle.zk_scenario.specs.declared.types.Decl.{Decl}
-use Rattle.zk_scenario.specs.Players.{places_from, places, players, is_thread, is_queue}
+use Rattle.zk_line.specs.declared.types.Decl.{Decl}
+use Rattle.zk_line.specs.Objects.{places_from, places, is_thread, is_queue}
+use Rattle.zk_scenario.specs.Players.{players}
 
 places_from-below : (n : ℕ) (test : Decl → Bool) (decls : List Decl) → All (λ o. o < n + length decls) (places_from n test decls)
 places_from-below n test [] = let P : ℕ → Type 0 = λ o. o < n + length {A = Decl} [] in All-nil P

@@ -1,22 +1,23 @@
 -- The attempts of a player name items and queues that are declared.
-use Rattle.std.proofs.Common.{◌≡◌, ℕ, ◌+◌, true, false, Option, Some, None, List, [], ◌∷◌, length, All, refl, ap, subst, arith, nat_lt, ◌&&◌}
+use Rattle.std.proofs.Common.{◌≡◌, ℕ, ◌+◌, Bool, true, false, Option, Some, None, List, [], ◌∷◌, length, All, refl, ap, subst, arith, nat_lt, ◌&&◌}
 use Rattle.std.specs.Option.{option_map, option_map_or}
 use Rattle.std.specs.List.{slice_get, list_all}
 use Rattle.std.proofs.lemmas.Bool.{and_parts, and_from, lt-ltb}
 use Rattle.std.proofs.lemmas.List.Elements.{All-nil, All-cons, All-head, All-tail}
 use Rattle.std.proofs.lemmas.Option.{option_and_then_some}
 use Rattle.zk_base.proofs.Lists.{slice_get-one, cond_nil-at, list_all-at}
-use Rattle.zk_scenario.specs.declared.types.Decl.{Decl}
-use Rattle.zk_scenario.specs.declared.types.Decl.TheVariants.{Thread, Queue, Item}
-use Rattle.zk_scenario.specs.declared.types.Ref.TheVariants.{Known}
-use Rattle.zk_scenario.specs.declared.types.Call.{Call}
-use Rattle.zk_scenario.specs.declared.types.Call.TheVariants.{Submit, Cancel, CancelSync, Flush, Schedule, Reschedule, Remaining, Start, Drain, Unplug, Tick}
-use Rattle.zk_scenario.specs.Players.{places, players, is_queue, is_item, number_of, calls_of}
-use Rattle.zk_scenario.specs.Objects.{is_at}
+use Rattle.zk_line.specs.declared.types.Decl.{Decl}
+use Rattle.zk_line.specs.declared.types.Decl.TheVariants.{Thread, Queue, Item}
+use Rattle.zk_line.specs.declared.types.Ref.TheVariants.{Known}
+use Rattle.zk_line.specs.declared.types.Call.{Call}
+use Rattle.zk_line.specs.declared.types.Call.TheVariants.{Submit, Cancel, CancelSync, Flush, Schedule, Reschedule, Remaining, Start, Drain, Unplug, Tick}
+use Rattle.zk_line.specs.Objects.{places, is_queue, is_item, number_of, is_at}
+use Rattle.zk_scenario.specs.Players.{players, calls_of}
 use Rattle.zk_scenario.specs.Parts.{Parts}
-use Rattle.zk_scenario.specs.Numbers.{is_delay}
-use Rattle.zk_scenario.specs.Valid.{IsValid, call_fits}
-use Rattle.zk_scenario.proofs.Tables.{length-places}
+use Rattle.zk_words.specs.Numbers.{is_between}
+use Rattle.zk_line.specs.Fits.{call_fits}
+use Rattle.zk_scenario.specs.Valid.{IsValid}
+use Rattle.zk_line.proofs.Tables.{length-places}
 use Rattle.zk_scenario.proofs.Valid.{number_of-item, number_of-queue, call_fits-calls_of}
 use Rattle.zk_worker.specs.declared.steps.TheConstants.{MOST_STEPS}
 use Rattle.zk_worker.specs.declared.steps.Step.{Step}
@@ -62,22 +63,35 @@ PlanFits decls (One step) = step_fits decls step ≡ true
 PlanFits decls (Pair opening closing) = step_fits decls opening ≡ true
 PlanFits decls (Twice first second) = (step_fits decls first ≡ true) × (step_fits decls second ≡ true)
 
+-- a call of one object, an item or a queue
+item-alone : (decls : List Decl) (item : ℕ) → (is_at is_item decls item && true) ≡ true → nat_lt (number_of decls item) (length (places is_item decls)) ≡ true
+item-alone decls item fits = item-fits decls item (and_parts (is_at is_item decls item) true fits).0
+
+queue-first : (decls : List Decl) (queue : ℕ) (more : Bool) → (is_at is_queue decls queue && more) ≡ true → nat_lt (number_of decls queue) (length (places is_queue decls)) ≡ true
+queue-first decls queue more fits = queue-fits decls queue (and_parts (is_at is_queue decls queue) more fits).0
+
+-- a call of an item, a queue and a delay
+delayed-fit : (decls : List Decl) (item queue : ℕ) (more : Bool) → (is_at is_item decls item && (is_at is_queue decls queue && more)) ≡ true →
+    (nat_lt (number_of decls item) (length (places is_item decls)) && nat_lt (number_of decls queue) (length (places is_queue decls))) ≡ true
+delayed-fit decls item queue more fits =
+    let first = and_parts (is_at is_item decls item) (is_at is_queue decls queue && more) fits in
+    let second = and_parts (is_at is_queue decls queue) more first.1 in
+    both-fit decls item queue (and_from (is_at is_item decls item) (is_at is_queue decls queue) first.0 second.0)
+
 plan_of-fits : (decls : List Decl) (call : Call) → call_fits decls call ≡ true → PlanFits decls (plan_of decls call)
 unfolding PlanFits
 plan_of-fits decls (Submit (Known item) None) fits =
-    and_from (nat_lt (number_of decls item) (length (places is_item decls))) true (item-fits decls item fits) refl
+    and_from (nat_lt (number_of decls item) (length (places is_item decls))) true (item-alone decls item fits) refl
 plan_of-fits decls (Submit (Known item) (Some (Known queue))) fits = both-fit decls item queue fits
-plan_of-fits decls (Cancel (Known item)) fits = item-fits decls item fits
-plan_of-fits decls (CancelSync (Known item)) fits = item-fits decls item fits
-plan_of-fits decls (Flush (Known item)) fits = item-fits decls item fits
-plan_of-fits decls (Schedule (Known item) (Known queue) delay) fits =
-    both-fit decls item queue (and_parts (is_at is_item decls item && is_at is_queue decls queue) (is_delay delay) fits).0
-plan_of-fits decls (Reschedule (Known item) (Known queue) delay) fits =
-    both-fit decls item queue (and_parts (is_at is_item decls item && is_at is_queue decls queue) (is_delay delay) fits).0
-plan_of-fits decls (Remaining (Known item)) fits = item-fits decls item fits
-plan_of-fits decls (Start (Known queue)) fits = queue-fits decls queue fits
-plan_of-fits decls (Drain (Known queue) plug) fits = queue-fits decls queue fits
-plan_of-fits decls (Unplug (Known queue)) fits = queue-fits decls queue fits
+plan_of-fits decls (Cancel (Known item)) fits = item-alone decls item fits
+plan_of-fits decls (CancelSync (Known item)) fits = item-alone decls item fits
+plan_of-fits decls (Flush (Known item)) fits = item-alone decls item fits
+plan_of-fits decls (Schedule (Known item) (Known queue) delay) fits = delayed-fit decls item queue (is_between 0 1000000 delay && true) fits
+plan_of-fits decls (Reschedule (Known item) (Known queue) delay) fits = delayed-fit decls item queue (is_between 0 1000000 delay && true) fits
+plan_of-fits decls (Remaining (Known item)) fits = item-alone decls item fits
+plan_of-fits decls (Start (Known queue)) fits = queue-first decls queue true fits
+plan_of-fits decls (Drain (Known queue) plug) fits = queue-first decls queue true fits
+plan_of-fits decls (Unplug (Known queue)) fits = queue-first decls queue true fits
 plan_of-fits decls (Tick ticks) fits = (refl, refl)
 
 -- all that a plan tries fits

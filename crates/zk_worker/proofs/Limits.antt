@@ -22,7 +22,7 @@ use Rattle.zk_worker.specs.declared.frames.Plan.{Plan}
 use Rattle.zk_worker.specs.declared.frames.Plan.TheVariants.{One, Pair, Twice}
 use Rattle.zk_worker.specs.Places.{At}
 use Rattle.zk_worker.specs.Calls.{plan_of, plan_attempts}
-use Rattle.zk_scenario.specs.declared.types.Call.{Call}
+use Rattle.zk_line.specs.declared.types.Call.{Call}
 use Rattle.zk_scenario.specs.Players.{calls_of}
 use Rattle.zk_worker.specs.Protocol.{attempts, IsAhead, is_over, settled, entered, first_frame, frames_after, answers_after, frames_attempts, role_attempts, call_attempts}
 use Rattle.zk_worker.specs.Stacks.{IsRoomy}

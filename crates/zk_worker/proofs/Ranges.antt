@@ -4,7 +4,7 @@ use Rattle.std.proofs.lemmas.List.{length-map}
 use Rattle.std.proofs.lemmas.List.FromFn.{length-range_with_len}
 use Rattle.zk_scenario.specs.Parts.{Parts}
 use Rattle.zk_scenario.specs.Valid.{IsValid}
-use Rattle.zk_scenario.specs.Players.{places, is_thread, is_queue, is_item}
+use Rattle.zk_line.specs.Objects.{places, is_thread, is_queue, is_item}
 use Rattle.zk_model_work.specs.State.{fresh_queues}
 use Rattle.zk_model_work.specs.Machine.{is_among}
 use Rattle.zk_worker.specs.declared.steps.Step.{Step}

@@ -1,10 +1,10 @@
 use Rattle.std.specs.Prelude.{ℕ, List, [], ◌∷◌, option_map}
-use Rattle.zk_scenario.specs.declared.types.Decl.{Decl}
-use Rattle.zk_scenario.specs.declared.types.Ref.{Ref}
-use Rattle.zk_scenario.specs.declared.types.Ref.TheVariants.{Known}
-use Rattle.zk_scenario.specs.declared.types.Call.{Call}
-use Rattle.zk_scenario.specs.declared.types.Call.TheVariants as calls
-use Rattle.zk_scenario.specs.Players.{number_of}
+use Rattle.zk_line.specs.declared.types.Decl.{Decl}
+use Rattle.zk_line.specs.declared.types.Ref.{Ref}
+use Rattle.zk_line.specs.declared.types.Ref.TheVariants.{Known}
+use Rattle.zk_line.specs.declared.types.Call.{Call}
+use Rattle.zk_line.specs.declared.types.Call.TheVariants as calls
+use Rattle.zk_line.specs.Objects.{number_of}
 use Rattle.zk_model_wait.specs.declared.clock.ClockOp.TheVariants as clock_ops
 use Rattle.zk_model_work.specs.declared.ops.WorkOp.TheVariants as ops
 use Rattle.zk_model_work.specs.declared.ops.WorkReply.{WorkReply}
@@ -18,8 +18,7 @@ use Rattle.zk_worker.specs.declared.steps.StepReply.{StepReply}
 use Rattle.zk_worker.specs.declared.steps.StepReply.TheVariants as step_replies
 use Rattle.zk_worker.specs.declared.answers.Answer.{Answer}
 use Rattle.zk_worker.specs.declared.answers.Answer.TheVariants.{Number, Flags, Truth, Refused}
-use Rattle.zk_worker.specs.declared.answers.Word.{Word}
-use Rattle.zk_worker.specs.declared.answers.Word.TheVariants as words
+use Rattle.zk_words.specs.declared.word.Word.{Word}
 use Rattle.zk_worker.specs.declared.frames.Closing.{Closing}
 use Rattle.zk_worker.specs.declared.frames.Closing.TheVariants as closings
 use Rattle.zk_worker.specs.declared.frames.Plan.{Plan}
@@ -53,20 +52,6 @@ plan_of decls (calls.Drain queue plug) =
 plan_of decls (calls.Unplug queue) = One (steps.Work (ops.Unplug (ref_number decls queue)))
 plan_of decls (calls.Tick ticks) =
     Twice (steps.Work (ops.Announce ticks)) (steps.Clock (clock_ops.Announce ticks))
-
--- which call it is
-abbrev pub word_of : Call → Word
-word_of (calls.Submit item queue) = words.Submit
-word_of (calls.Cancel item) = words.Cancel
-word_of (calls.CancelSync item) = words.CancelSync
-word_of (calls.Flush item) = words.Flush
-word_of (calls.Schedule item queue delay) = words.Schedule
-word_of (calls.Reschedule item queue delay) = words.Reschedule
-word_of (calls.Remaining item) = words.Remaining
-word_of (calls.Start queue) = words.Start
-word_of (calls.Drain queue plug) = words.Drain
-word_of (calls.Unplug queue) = words.Unplug
-word_of (calls.Tick ticks) = words.Tick
 
 -- what a submission answers
 abbrev pub submission_answer : Submitted → Answer

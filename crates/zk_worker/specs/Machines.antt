@@ -2,10 +2,10 @@ use Rattle.std.specs.Prelude.{ℕ, Bool, false, List, length, map, slice_get}
 use Rattle.std.specs.List.{range_with_len}
 use Rattle.std.specs.Option.{option_map_or}
 use Rattle.zk_base.specs.Legal.{Machine}
-use Rattle.zk_scenario.specs.declared.types.Decl.{Decl}
-use Rattle.zk_scenario.specs.declared.types.Decl.TheVariants.{Queue}
+use Rattle.zk_line.specs.declared.types.Decl.{Decl}
+use Rattle.zk_line.specs.declared.types.Decl.TheVariants.{Queue}
 use Rattle.zk_scenario.specs.Parts.{Parts}
-use Rattle.zk_scenario.specs.Players.{places, is_thread, is_queue, is_item}
+use Rattle.zk_line.specs.Objects.{places, is_thread, is_queue, is_item}
 use Rattle.zk_model_wait.specs.declared.clock.ClockOp.{ClockOp}
 use Rattle.zk_model_wait.specs.declared.clock.ClockReply.{ClockReply}
 use Rattle.zk_model_wait.specs.Clock.{Clock, new_clock, clock_machine}

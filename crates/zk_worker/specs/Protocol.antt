@@ -1,9 +1,10 @@
 use Rattle.std.specs.Prelude.{◌≡◌, ℕ, ◌+◌, Bool, false, nat_lt, nat_le, if◌then◌else◌, Option, Some, None, List, [], ◌∷◌, ◌++◌, length, slice_get, option_map, option_and_then}
-use Rattle.zk_scenario.specs.declared.types.Decl.{Decl}
-use Rattle.zk_scenario.specs.declared.types.Decl.TheVariants as decls
-use Rattle.zk_scenario.specs.declared.types.Call.{Call}
+use Rattle.zk_line.specs.declared.types.Decl.{Decl}
+use Rattle.zk_line.specs.declared.types.Decl.TheVariants as decls
+use Rattle.zk_line.specs.declared.types.Call.{Call}
 use Rattle.zk_scenario.specs.Parts.{Parts}
-use Rattle.zk_scenario.specs.Players.{places, players, is_item, prio_of, number_of, calls_of}
+use Rattle.zk_line.specs.Objects.{places, is_item, number_of}
+use Rattle.zk_scenario.specs.Players.{players, prio_of, calls_of}
 use Rattle.zk_model_work.specs.declared.ops.WorkOp.TheVariants as ops
 use Rattle.zk_model_work.specs.declared.ops.WorkReply.TheVariants as replies
 use Rattle.zk_worker.specs.declared.steps.TheConstants.{MOST_STEPS}
@@ -22,7 +23,8 @@ use Rattle.zk_worker.specs.declared.frames.Role.TheVariants.{Script, Worker}
 use Rattle.zk_worker.specs.declared.frames.Frame.{Frame}
 use Rattle.zk_worker.specs.declared.frames.Progress.{Progress}
 use Rattle.zk_worker.specs.declared.frames.Progress.TheVariants.{Goes, Answers, Enters}
-use Rattle.zk_worker.specs.Calls.{plan_of, word_of, plan_attempts, plan_progress}
+use Rattle.zk_line.specs.Calls.{word_of}
+use Rattle.zk_worker.specs.Calls.{plan_of, plan_attempts, plan_progress}
 use Rattle.zk_worker.specs.Places.{At}
 
 -- the next attempts of a worker: between two runs the Begin of its queue, in a run whose script is over the End

@@ -1,4 +1,5 @@
 use zk_base::{Errno, Listed};
+use zk_words::Word;
 
 /// What a call of a script is answered.
 #[derive(Clone, Copy, Debug)]
@@ -13,22 +14,6 @@ pub enum Answer {
     Truth(bool),
     /// A refusal, with its name.
     Refused(Errno),
-}
-
-/// Which call it was.
-#[derive(Clone, Copy, Debug, PartialEq, Eq)]
-pub enum Word {
-    Submit,
-    Cancel,
-    CancelSync,
-    Flush,
-    Schedule,
-    Reschedule,
-    Remaining,
-    Start,
-    Drain,
-    Unplug,
-    Tick,
 }
 
 /// A call that has its answer.

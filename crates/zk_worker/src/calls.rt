@@ -1,5 +1,5 @@
 ghost use Rattle.std.specs.Prelude.{◌≡◌, slice_get, option_map};
-ghost use Rattle.zk_worker.specs.Calls.{ref_number, plan_of, word_of, submission_answer, work_answer, answer_of, closing_step, plan_attempts, opening_progress, plan_progress};
+ghost use Rattle.zk_worker.specs.Calls.{ref_number, plan_of, submission_answer, work_answer, answer_of, closing_step, plan_attempts, opening_progress, plan_progress};
 
 use crate::{Answer, Closing, Plan, Progress, Stage, Step, StepReply, Word};
 use zk_base::Errno;
@@ -78,25 +78,6 @@ pub fn plan_of(scenario: &Scenario, call: Call) -> Plan
             Step::Work(WorkOp::Announce(ticks)),
             Step::Clock(ClockOp::Announce(ticks)),
         ),
-    }
-}
-
-/// Which call it is.
-pub fn word_of(call: Call) -> Word
-    ensures { result ≡ word_of call }
-{
-    match call {
-        Call::Submit(_, _) => Word::Submit,
-        Call::Cancel(_) => Word::Cancel,
-        Call::CancelSync(_) => Word::CancelSync,
-        Call::Flush(_) => Word::Flush,
-        Call::Schedule(_, _, _) => Word::Schedule,
-        Call::Reschedule(_, _, _) => Word::Reschedule,
-        Call::Remaining(_) => Word::Remaining,
-        Call::Start(_) => Word::Start,
-        Call::Drain(_, _) => Word::Drain,
-        Call::Unplug(_) => Word::Unplug,
-        Call::Tick(_) => Word::Tick,
     }
 }
 

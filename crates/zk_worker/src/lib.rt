@@ -14,10 +14,11 @@ mod steps;
 #[cfg(test)]
 mod tests;
 
-pub use answers::{Answer, Answered, Answers, Word};
+pub use answers::{Answer, Answered, Answers};
 pub use frames::{Closing, Frame, Plan, Progress, Role, Stage};
 pub use log::{Log, PlayerState};
 pub use player::Player;
 pub use playing::Stepped;
 pub use services::Services;
 pub use steps::{MOST_ATTEMPTS, MOST_STEPS, Spot, Spots, Step, StepReply};
+pub use zk_words::Word;

@@ -1,11 +1,12 @@
 ghost use Rattle.std.specs.Prelude.{◌≡◌, slice_get, reverse};
-ghost use Rattle.zk_scenario.specs.Players.{places, is_item, players, calls_of};
+ghost use Rattle.zk_line.specs.Objects.{places, is_item};
+ghost use Rattle.zk_scenario.specs.Players.{players, calls_of};
 ghost use Rattle.zk_worker.specs.Protocol.{worker_attempts, call_attempts, role_attempts, run_progress, worker_progress, call_progress, role_progress, is_over, spot_of};
 
-use crate::calls::{plan_ahead, plan_of, plan_progress, word_of};
+use crate::calls::{plan_ahead, plan_of, plan_progress};
 use crate::{Frame, Progress, Role, Spot, Stage, Step, StepReply};
 use zk_model_work::{WorkOp, WorkReply};
-use zk_scenario::{Call, Scenario};
+use zk_scenario::{Call, Scenario, word_of};
 
 fn call_at(scenario: &Scenario, owner: u32, next: u32) -> Option<Call>
     ensures { result ≡ slice_get (calls_of scenario.now.scripts owner) next }
@@ -81,7 +82,7 @@ fn call_progress(
     ensures { result ≡ call_progress scenario.now.decls call stage made reply.now }
 {
     match call {
-        Some(call) => plan_progress(word_of(call), plan_of(scenario, call), stage, made, reply),
+        Some(call) => plan_progress(word_of(&call), plan_of(scenario, call), stage, made, reply),
         None => Progress::Goes(stage),
     }
 }

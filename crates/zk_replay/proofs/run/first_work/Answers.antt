@@ -1,6 +1,6 @@
 use Rattle.std.proofs.Common.{◌≡◌, ◌≢◌, ◌∙◌, Bool, List, ℕ, AllPairs, length, map, ap, sym, subst, arith, rules}
-use Rattle.zk_scenario.specs.declared.types.Decl.{Decl}
-use Rattle.zk_scenario.specs.Players.{places, is_thread, is_queue}
+use Rattle.zk_line.specs.declared.types.Decl.{Decl}
+use Rattle.zk_line.specs.Objects.{places, is_thread, is_queue}
 use Rattle.zk_worker.specs.Machines.{is_on}
 use Rattle.zk_worker.proofs.Ranges.{same-lengths}
 use Rattle.zk_replay.proofs.Beginning.{few-items, range_differs, few-workers}

@@ -1,6 +1,7 @@
 use Rattle.std.proofs.Common.{◌≡◌, ◌++◌, take}
 use Rattle.std.specs.List.{flat_map}
-use Rattle.zk_scenario.specs.Spelling.{call_line, fed}
+use Rattle.zk_line.specs.Text.{call_line}
+use Rattle.zk_scenario.specs.Spelling.{fed}
 use Rattle.zk_scenario.proofs.text.put_calls.Given as goal
 
 abbrev pub invariant-loop-call : goal.invariant-loop-call

@@ -1,7 +1,8 @@
 use Rattle.std.proofs.Common.{◌≡◌, ◌∙◌, ◌++◌, codes, ap, append_assoc}
 use Rattle.std.specs.List.{flat_map}
 use Rattle.std.proofs.lemmas.Result.{IfOk-equal}
-use Rattle.zk_scenario.specs.Spelling.{decl_line, script_lines, fed, lines_text}
+use Rattle.zk_line.specs.Text.{decl_line}
+use Rattle.zk_scenario.specs.Spelling.{script_lines, fed, lines_text}
 use Rattle.zk_scenario.proofs.ScenarioLines.{lines_text-body_lines}
 use Rattle.zk_scenario.proofs.text.put_scenario.Goals as goal
 

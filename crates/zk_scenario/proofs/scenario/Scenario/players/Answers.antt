@@ -1,7 +1,7 @@
 use Rattle.std.proofs.Common.{ap, arith, length}
-use Rattle.zk_scenario.specs.Players.{is_thread, is_queue}
+use Rattle.zk_line.specs.Objects.{is_thread, is_queue}
 use Rattle.zk_scenario.proofs.ReadIsValid.{IsValid-readable}
-use Rattle.zk_scenario.proofs.Tables.{length-places}
+use Rattle.zk_line.proofs.Tables.{length-places}
 use Rattle.zk_scenario.proofs.scenario.Scenario.players.Goals as goal
 
 pub overflow_cast-result : goal.overflow_cast-result

@@ -1,7 +1,7 @@
 use Rattle.std.proofs.Common.{◌≡◌, ◌<◌, ◌∙◌, Some, List, [], ◌∷◌, ◌++◌, length, reverse, refl, sym, ap, subst}
 use Rattle.std.specs.List.{slice_get}
 use Rattle.std.proofs.lemmas.Option.{slice_get_read}
-use Rattle.zk_scenario.specs.declared.types.Decl.{Decl}
+use Rattle.zk_line.specs.declared.types.Decl.{Decl}
 use Rattle.zk_worker.specs.declared.frames.Frame.{Frame}
 use Rattle.zk_worker.specs.Places.{At}
 use Rattle.zk_worker.specs.Protocol.{settled, first_frame, role_at}

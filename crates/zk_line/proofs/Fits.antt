@@ -1,0 +1,111 @@
+-- A call that is made of well named words fits, and a declaration that is made of them has a new name.
+use Rattle.std.proofs.Common.{◌≡◌, ℕ, Bool, true, false, cond, not, ◌&&◌, List, [], ◌∷◌, Option, Some, None, is_some, refl, sym, ap, ◌∙◌}
+use Rattle.std.specs.Prelude.{option_map, option_and_then}
+use Rattle.std.specs.Option.{option_map_or, option_flatten}
+use Rattle.std.proofs.lemmas.Bool.{and_parts, and_from}
+use Rattle.std.proofs.lemmas.Option.{cond_some, option_and_then_some, same_Some}
+use Rattle.zk_base.specs.Names.{is_name}
+use Rattle.zk_words.specs.declared.kind.Kind.{Kind}
+use Rattle.zk_words.specs.declared.slot.Slot.{Slot}
+use Rattle.zk_words.specs.declared.slot.Slot.TheVariants as slot
+use Rattle.zk_words.specs.declared.slot.Rest.{Rest}
+use Rattle.zk_words.specs.declared.slot.Rest.TheVariants.{Nothing, Maybe}
+use Rattle.zk_words.specs.declared.word.Word.{Word}
+use Rattle.zk_words.specs.Numbers.{number_in, priority_of}
+use Rattle.zk_words.specs.Parts.{Placed, parts_of}
+use Rattle.zk_words.specs.Table.{call_row}
+use Rattle.zk_words.proofs.Numerals.{number_in_spelled}
+use Rattle.zk_line.specs.declared.types.Decl.{Decl}
+use Rattle.zk_line.specs.declared.types.Decl.TheVariants as decl
+use Rattle.zk_line.specs.declared.types.Ref.TheVariants.{Known}
+use Rattle.zk_line.specs.declared.types.Arg.{Arg}
+use Rattle.zk_line.specs.declared.types.Arg.TheVariants as arg
+use Rattle.zk_line.specs.declared.types.Call.{Call}
+use Rattle.zk_line.specs.Args.{truth_of, ref_of, arg_of, args_of}
+use Rattle.zk_line.specs.Calls.{call_of}
+use Rattle.zk_line.specs.Checks.{is_well_named, are_well_named}
+use Rattle.zk_line.specs.Decls.{decl_of, decl_args}
+use Rattle.zk_line.specs.Fits.{fits_in, rest_fit, args_fit, call_fits}
+use Rattle.zk_line.specs.Objects.{object_of, kind_of, name_of, is_at, is_met}
+use Rattle.zk_line.proofs.Inverse.{said_of-call_of, written_of-decl_of}
+use Rattle.zk_line.proofs.Spelled.{one_part}
+
+arg_fits : (decls : List Decl) (s : Slot) (w : List ℕ) (a : Arg) → is_well_named decls s w ≡ true → arg_of decls s w ≡ Some a → fits_in decls s a ≡ true
+arg_fits decls (slot.Object need) w a named said =
+    let object = one_part arg.Object (ref_of decls w) a said in
+    let known = one_part Known (object_of decls w) object.0 object.1 in
+    ap (fits_in decls (slot.Object need)) (sym object.2 ∙ ap arg.Object (sym known.2)) ∙ sym (ap (λ o. option_map_or (is_at (is_met need) decls) o false) known.1) ∙ named
+arg_fits decls (slot.Number least most) w a named said =
+    let number = one_part arg.Number (number_in least most w) a said in
+    ap (fits_in decls (slot.Number least most)) (sym number.2) ∙ (number_in_spelled least most w number.0 number.1).1
+arg_fits decls slot.New w a named said = refl
+arg_fits decls slot.Owner w a named said = refl
+arg_fits decls slot.Priority w a named said = refl
+arg_fits decls (slot.Either choice) w a named said = refl
+
+-- a line's words and what they say, side by side
+args_fit-read : (decls : List Decl) (slots : List Slot) (rest : Rest) (ws : List (List ℕ)) (args : List Arg) → are_well_named decls (parts_of slots rest ws) ≡ true
+    → args_of decls (parts_of slots rest ws) ≡ Some args → args_fit decls slots rest args ≡ true
+args_fit-read decls [] Nothing ws args named said = refl
+args_fit-read decls [] (Maybe s) [] args named said = ap (rest_fit decls (Maybe s)) (sym (same_Some [] args said))
+args_fit-read decls [] (Maybe s) (w ∷ ws) args named said =
+    option_and_then_some _ (arg_of decls s w) args said
+    (λ a is_a given. ap (rest_fit decls (Maybe s)) (sym (same_Some _ _ given)) ∙ arg_fits decls s w a (and_parts (is_well_named decls s w) true named).0 is_a)
+args_fit-read decls (s ∷ slots) rest [] args named said = ap (args_fit decls (s ∷ slots) rest) (sym (same_Some [] args said))
+args_fit-read decls (s ∷ slots) rest (w ∷ ws) args named said =
+    let both = and_parts (is_well_named decls s w) (are_well_named decls (parts_of slots rest ws)) named in
+    option_and_then_some _ (arg_of decls s w) args said
+    (λ a is_a given.
+    let more = one_part (λ xs. a ∷ xs) (args_of decls (parts_of slots rest ws)) args given in
+    ap (args_fit decls (s ∷ slots) rest) (sym more.2)
+    ∙ and_from (fits_in decls s a) (args_fit decls slots rest more.0) (arg_fits decls s w a both.0 is_a) (args_fit-read decls slots rest ws more.0 both.1 more.1))
+
+-- the call of a line whose words are well named fits
+pub call_fits-read : (decls : List Decl) (w : Word) (ws : List (List ℕ)) (c : Call) → are_well_named decls (parts_of (call_row w).slots (call_row w).rest ws) ≡ true
+    → option_and_then (call_of w) (args_of decls (parts_of (call_row w).slots (call_row w).rest ws)) ≡ Some c → call_fits decls c ≡ true
+call_fits-read decls w ws c named made =
+    option_and_then_some (call_of w) (args_of decls (parts_of (call_row w).slots (call_row w).rest ws)) c made
+    (λ args is_args given.
+    ap (λ said. args_fit decls (call_row said.word).slots (call_row said.word).rest said.args) (said_of-call_of w args c given)
+    ∙ args_fit-read decls (call_row w).slots (call_row w).rest ws args named is_args)
+
+-- the kind of what a line declares
+pub kind_of-read : (decls : List Decl) (k : Kind) (parts : List Placed) (d : Decl) → option_and_then (decl_of k) (args_of decls parts) ≡ Some d → kind_of d ≡ k
+kind_of-read decls k parts d made =
+    option_and_then_some (decl_of k) (args_of decls parts) d made (λ args is_args given. ap (λ w. w.kind) (written_of-decl_of k args d given))
+
+-- a word that says a name stands for a new object
+fresh : (decls : List Decl) (s : Slot) (w name : List ℕ) → is_well_named decls s w ≡ true → arg_of decls s w ≡ Some (arg.Name name) → object_of decls name ≡ None
+fresh decls slot.New w name named said =
+    let is : w ≡ name = cc (cond_some (is_name w) (arg.Name w) (arg.Name name) said).1 in
+    ap (object_of decls) (sym is) ∙ none (object_of decls w) (and_parts (is_name w) (not (is_some (object_of decls w))) named).1 where
+      none : (o : Option ℕ) → not (is_some o) ≡ true → o ≡ None
+      none None e = refl
+      none (Some k) e = absurd (cc)
+fresh decls slot.Owner w name named said = let part = one_part arg.Object (ref_of decls w) (arg.Name name) said in absurd (cc part.2)
+fresh decls (slot.Object need) w name named said = let part = one_part arg.Object (ref_of decls w) (arg.Name name) said in absurd (cc part.2)
+fresh decls (slot.Number least most) w name named said = let part = one_part arg.Number (number_in least most w) (arg.Name name) said in absurd (cc part.2)
+fresh decls slot.Priority w name named said = let part = one_part arg.Priority (option_flatten (priority_of w)) (arg.Name name) said in absurd (cc part.2)
+fresh decls (slot.Either choice) w name named said = let part = one_part (arg.Truth choice) (truth_of choice w) (arg.Name name) said in absurd (cc part.2)
+
+-- the first that is written of a declaration is its name
+first_name : (d : Decl) → (more : List Arg) × (decl_args d ≡ arg.Name (name_of d) ∷ more)
+first_name (decl.Thread name prio user) = (_, refl)
+first_name (decl.Queue name prio on) = (_, refl)
+first_name (decl.Item name) = (_, refl)
+
+-- the name of what a line declares is no other's
+pub fresh-read : (decls : List Decl) (k : Kind) (parts : List Placed) (d : Decl) → are_well_named decls parts ≡ true → option_and_then (decl_of k) (args_of decls parts) ≡ Some d → object_of decls (name_of d) ≡ None
+fresh-read decls k parts d named made =
+    option_and_then_some (decl_of k) (args_of decls parts) d made
+    (λ args is_args given.
+    let first = first_name d in
+    by_parts parts named (is_args ∙ ap Some (sym (ap (λ w. w.args) (written_of-decl_of k args d given)) ∙ first.1))) where
+      by_parts : {more : List Arg} (ps : List Placed) → are_well_named decls ps ≡ true → args_of decls ps ≡ Some (arg.Name (name_of d) ∷ more) → object_of decls (name_of d) ≡ None
+      by_parts [] all said = absurd (cc)
+      by_parts {more} (p ∷ ps) all said =
+          option_and_then_some _ (arg_of decls p.slot p.text) (arg.Name (name_of d) ∷ more) said
+          (λ a is_a given.
+          let rest = one_part (λ xs. a ∷ xs) (args_of decls ps) (arg.Name (name_of d) ∷ more) given in
+          let same : a ≡ arg.Name (name_of d) = cc rest.2 in
+          fresh decls p.slot p.text (name_of d) (and_parts (is_well_named decls p.slot p.text) (are_well_named decls ps) all).0 (is_a ∙ ap Some same))

@@ -1,0 +1,172 @@
+-- A call and how it is written say each other, and so do a declaration and how it is written.
+use Rattle.std.proofs.Common.{◌≡◌, ℕ, Bool, true, false, cond, List, [], ◌∷◌, Option, Some, None, refl, sym, ap, ◌∙◌}
+use Rattle.std.specs.Prelude.{ℤ, option_map, option_to_list}
+use Rattle.std.proofs.lemmas.Option.{same_Some}
+use Rattle.zk_words.specs.declared.slot.Choice.{Choice}
+use Rattle.zk_words.specs.declared.slot.Choice.TheVariants.{Mode, State, Drain}
+use Rattle.zk_words.specs.declared.kind.Kind.{Kind}
+use Rattle.zk_words.specs.declared.kind.Kind.TheVariants as kind
+use Rattle.zk_words.specs.declared.word.Word.{Word}
+use Rattle.zk_words.specs.declared.word.Word.TheVariants as word
+use Rattle.zk_words.specs.Spelled.{same_choice}
+use Rattle.zk_line.specs.declared.types.Ref.{Ref}
+use Rattle.zk_line.specs.declared.types.Arg.{Arg}
+use Rattle.zk_line.specs.declared.types.Arg.TheVariants.{Name, Object, Number, Priority, Truth}
+use Rattle.zk_line.specs.declared.types.Call.{Call}
+use Rattle.zk_line.specs.declared.types.Call.TheVariants as call
+use Rattle.zk_line.specs.declared.types.Decl.{Decl}
+use Rattle.zk_line.specs.declared.types.Decl.TheVariants as decl
+use Rattle.zk_line.specs.Calls.{saying, call_of, said_of}
+use Rattle.zk_line.specs.Decls.{decl_of, decl_args}
+use Rattle.zk_line.specs.Objects.{kind_of}
+use Rattle.zk_line.specs.Shapes.{as_name, as_object, as_number, as_priority, as_truth, both, all_three, one, two, three, one_or_two}
+
+-- an argument is read from just the one that is written of it
+abbrev pub IsPart : {A : Type 0} → (Arg → Option A) → (A → Arg) → Type 0
+IsPart {A} f back = (a : Arg) (x : A) → f a ≡ Some x → a ≡ back x
+
+-- a shape of arguments is read from just the arguments that are written of it
+abbrev pub IsShape : {X : Type 0} → (List Arg → Option X) → (X → List Arg) → Type 0
+IsShape {X} shape back = (args : List Arg) (x : X) → shape args ≡ Some x → args ≡ back x
+
+same_choice_is : (c d : Choice) → same_choice c d ≡ true → d ≡ c
+same_choice_is Mode Mode e = refl
+same_choice_is State State e = refl
+same_choice_is Drain Drain e = refl
+same_choice_is c d e = absurd (cc)
+
+name-is : IsPart as_name Name
+name-is (Name n) x e = ap Name (same_Some n x e)
+name-is a x e = absurd (cc)
+
+object-is : IsPart as_object Object
+object-is (Object o) x e = ap Object (same_Some o x e)
+object-is a x e = absurd (cc)
+
+number-is : IsPart as_number Number
+number-is (Number n) x e = ap Number (same_Some n x e)
+number-is a x e = absurd (cc)
+
+priority-is : IsPart as_priority Priority
+priority-is (Priority p) x e = ap Priority (same_Some p x e)
+priority-is a x e = absurd (cc)
+
+truth-is : (choice : Choice) → IsPart (as_truth choice) (Truth choice)
+truth-is choice (Truth c t) x e = by_same (same_choice choice c) refl e where
+  by_same : (b : Bool) → same_choice choice c ≡ b → cond b (Some t) None ≡ Some x → Truth c t ≡ Truth choice x
+  by_same true same here = ap (λ d. Truth d t) (same_choice_is choice c same) ∙ ap (Truth choice) (same_Some t x here)
+  by_same false same here = absurd (cc)
+truth-is choice a x e = absurd (cc)
+
+both_is : {A B : Type 0} (a : Option A) (b : Option B) (p : A × B) → both a b ≡ Some p → (a ≡ Some p.0) × (b ≡ Some p.1)
+both_is (Some a) (Some b) p e = let is = same_Some _ _ e in (ap (λ q. Some q.0) is, ap (λ q. Some q.1) is)
+both_is a b p e = absurd (cc)
+
+three_are : {A B C : Type 0} (a : Option A) (b : Option B) (c : Option C) (p : A × B × C) → all_three a b c ≡ Some p → (a ≡ Some p.0) × (b ≡ Some p.1) × (c ≡ Some p.2)
+three_are (Some a) (Some b) (Some c) p e = let is = same_Some _ _ e in (ap (λ q. Some q.0) is, ap (λ q. Some q.1) is, ap (λ q. Some q.2) is)
+three_are a b c p e = absurd (cc)
+
+one-is : {A : Type 0} (f : Arg → Option A) (p : A → Arg) → IsPart f p → IsShape (one f) (λ x. p x ∷ [])
+one-is f p is (a ∷ []) x e = ap (λ b. b ∷ []) (is a x e)
+one-is f p is args x e = absurd (cc)
+
+two-is : {A B : Type 0} (f : Arg → Option A) (p : A → Arg) (g : Arg → Option B) (q : B → Arg) → IsPart f p → IsPart g q → IsShape (two f g) (λ x. p x.0 ∷ q x.1 ∷ [])
+two-is f p g q is js (a ∷ b ∷ []) x e =
+    let parts = both_is (f a) (g b) x e in ap (λ c. c ∷ b ∷ []) (is a x.0 parts.0) ∙ ap (λ c. p x.0 ∷ c ∷ []) (js b x.1 parts.1)
+two-is f p g q is js args x e = absurd (cc)
+
+three-is : {A B C : Type 0} (f : Arg → Option A) (p : A → Arg) (g : Arg → Option B) (q : B → Arg) (h : Arg → Option C) (r : C → Arg)
+    → IsPart f p → IsPart g q → IsPart h r → IsShape (three f g h) (λ x. p x.0 ∷ q x.1 ∷ r x.2 ∷ [])
+three-is f p g q h r is js ks (a ∷ b ∷ c ∷ []) x e =
+    let parts = three_are (f a) (g b) (h c) x e in
+    ap (λ d. d ∷ b ∷ c ∷ []) (is a x.0 parts.0) ∙ ap (λ d. p x.0 ∷ d ∷ c ∷ []) (js b x.1 parts.1) ∙ ap (λ d. p x.0 ∷ q x.1 ∷ d ∷ []) (ks c x.2 parts.2)
+three-is f p g q h r is js ks args x e = absurd (cc)
+
+one_or_two-is : {A B : Type 0} (f : Arg → Option A) (p : A → Arg) (g : Arg → Option B) (q : B → Arg) → IsPart f p → IsPart g q → IsShape (one_or_two f g) (λ x. p x.0 ∷ option_to_list (option_map q x.1))
+one_or_two-is f p g q is js (a ∷ []) x e =
+    let parts = both_is (f a) (Some None) x e in
+    ap (λ c. c ∷ []) (is a x.0 parts.0) ∙ ap (λ o. p x.0 ∷ option_to_list (option_map q o)) (same_Some _ _ parts.1)
+one_or_two-is {B = B} f p g q is js (a ∷ b ∷ []) x e = by_second (g b) refl (both_is (f a) (option_map Some (g b)) x e).1 where
+  by_second : (o : Option B) → g b ≡ o → option_map Some o ≡ Some x.1 → a ∷ b ∷ [] ≡ p x.0 ∷ option_to_list (option_map q x.1)
+  by_second None same here = absurd (cc)
+  by_second (Some y) same here =
+      ap (λ c. c ∷ b ∷ []) (is a x.0 (both_is (f a) (option_map Some (g b)) x e).0) ∙ ap (λ c. p x.0 ∷ c ∷ []) (js b y same)
+      ∙ ap (λ o. p x.0 ∷ option_to_list (option_map q o)) (same_Some _ _ here)
+one_or_two-is f p g q is js args x e = absurd (cc)
+
+-- what is made of arguments of a shape is written as they are
+by_shape : {X C D : Type 0} (shape : List Arg → Option X) (back : X → List Arg) (make : X → C) (say : C → D) (tell : List Arg → D) → IsShape shape back → ((x : X) → say (make x) ≡ tell (back x))
+    → (args : List Arg) (c : C) → option_map make (shape args) ≡ Some c → say c ≡ tell args
+by_shape {X} shape back make say tell is says args c said = by_read (shape args) refl said where
+  by_read : (read : Option X) → shape args ≡ read → option_map make read ≡ Some c → say c ≡ tell args
+  by_read None same made = absurd (cc)
+  by_read (Some x) same made = ap say (sym (same_Some (make x) c made)) ∙ says x ∙ ap tell (sym (is args x same))
+
+-- the words of one object alone
+one_object : (w : Word) (f : Ref → Call) → ((x : Ref) → said_of (f x) ≡ saying w (Object x ∷ [])) → (args : List Arg) (c : Call) → option_map f (one as_object args) ≡ Some c → said_of c ≡ saying w args
+one_object w f says = by_shape (one as_object) _ f said_of (saying w) (one-is as_object Object object-is) says
+
+-- the words of an item, a queue and a delay
+delayed : (w : Word) (f : Ref × Ref × ℕ → Call) → ((x : Ref × Ref × ℕ) → said_of (f x) ≡ saying w (Object x.0 ∷ Object x.1 ∷ Number x.2 ∷ [])) → (args : List Arg) (c : Call)
+    → option_map f (three as_object as_object as_number args) ≡ Some c → said_of c ≡ saying w args
+delayed w f says = by_shape (three as_object as_object as_number) _ f said_of (saying w) (three-is as_object Object as_object Object as_number Number object-is object-is number-is) says
+
+-- what is made a call is written so
+pub said_of-call_of : (w : Word) (args : List Arg) (c : Call) → call_of w args ≡ Some c → said_of c ≡ saying w args
+said_of-call_of word.Submit = by_shape (one_or_two as_object as_object) _ (λ p. call.Submit p.0 p.1) said_of (saying word.Submit) (one_or_two-is as_object Object as_object Object object-is object-is) (λ x. refl)
+said_of-call_of word.Cancel = one_object word.Cancel call.Cancel (λ x. refl)
+said_of-call_of word.CancelSync = one_object word.CancelSync call.CancelSync (λ x. refl)
+said_of-call_of word.Flush = one_object word.Flush call.Flush (λ x. refl)
+said_of-call_of word.Schedule = delayed word.Schedule (λ p. call.Schedule p.0 p.1 p.2) (λ x. refl)
+said_of-call_of word.Reschedule = delayed word.Reschedule (λ p. call.Reschedule p.0 p.1 p.2) (λ x. refl)
+said_of-call_of word.Remaining = one_object word.Remaining call.Remaining (λ x. refl)
+said_of-call_of word.Start = one_object word.Start call.Start (λ x. refl)
+said_of-call_of word.Drain = by_shape (two as_object (as_truth Drain)) _ (λ p. call.Drain p.0 p.1) said_of (saying word.Drain) (two-is as_object Object (as_truth Drain) (Truth Drain) object-is (truth-is Drain)) (λ x. refl)
+said_of-call_of word.Unplug = one_object word.Unplug call.Unplug (λ x. refl)
+said_of-call_of word.Tick = by_shape (one as_number) _ call.Tick said_of (saying word.Tick) (one-is as_number Number number-is) (λ x. refl)
+
+-- what is written of a call makes that call
+pub call_of-said_of : (c : Call) → call_of (said_of c).word (said_of c).args ≡ Some c
+call_of-said_of (call.Submit item None) = refl
+call_of-said_of (call.Submit item (Some queue)) = refl
+call_of-said_of (call.Cancel item) = refl
+call_of-said_of (call.CancelSync item) = refl
+call_of-said_of (call.Flush item) = refl
+call_of-said_of (call.Schedule item queue delay) = refl
+call_of-said_of (call.Reschedule item queue delay) = refl
+call_of-said_of (call.Remaining item) = refl
+call_of-said_of (call.Start queue) = refl
+call_of-said_of (call.Drain queue plug) = refl
+call_of-said_of (call.Unplug queue) = refl
+call_of-said_of (call.Tick ticks) = refl
+
+-- a declaration as it is written: its kind, and what stands behind that
+pub record Written : Type 0 where
+  pub kind : Kind
+  pub args : List Arg
+
+-- a kind and what stands behind it
+abbrev pub written : Kind → List Arg → Written
+written k args = record { kind = k; args = args }
+
+-- how a declaration is written
+abbrev pub written_of : Decl → Written
+written_of d = written (kind_of d) (decl_args d)
+
+-- the kinds of a name, a priority and one of the two words of a choice
+playing : (k : Kind) (choice : Choice) (f : List ℕ × ℤ × Bool → Decl) → ((x : List ℕ × ℤ × Bool) → written_of (f x) ≡ written k (Name x.0 ∷ Priority x.1 ∷ Truth choice x.2 ∷ []))
+    → (args : List Arg) (d : Decl) → option_map f (three as_name as_priority (as_truth choice) args) ≡ Some d → written_of d ≡ written k args
+playing k choice f says =
+    by_shape (three as_name as_priority (as_truth choice)) _ f written_of (written k) (three-is as_name Name as_priority Priority (as_truth choice) (Truth choice) name-is priority-is (truth-is choice)) says
+
+-- what is made a declaration is written so
+pub written_of-decl_of : (k : Kind) (args : List Arg) (d : Decl) → decl_of k args ≡ Some d → written_of d ≡ written k args
+written_of-decl_of kind.Thread = playing kind.Thread Mode (λ p. decl.Thread p.0 p.1 p.2) (λ x. refl)
+written_of-decl_of kind.Queue = playing kind.Queue State (λ p. decl.Queue p.0 p.1 p.2) (λ x. refl)
+written_of-decl_of kind.Item = by_shape (one as_name) _ decl.Item written_of (written kind.Item) (one-is as_name Name name-is) (λ x. refl)
+
+-- what is written of a declaration makes that declaration
+pub decl_of-decl_args : (d : Decl) → decl_of (kind_of d) (decl_args d) ≡ Some d
+decl_of-decl_args (decl.Thread name prio user) = refl
+decl_of-decl_args (decl.Queue name prio on) = refl
+decl_of-decl_args (decl.Item name) = refl

@@ -1,0 +1,197 @@
+-- A line of right words makes its call or its declaration.
+use Rattle.std.proofs.Common.{◌≡◌, ℕ, Bool, true, false, cond, ◌&&◌, ◌||◌, List, [], ◌∷◌, Option, Some, None, is_some, refl, sym, ap, subst, ◌∙◌}
+use Rattle.std.specs.Prelude.{ℤ, option_map, option_and_then, IsSome, bytes_eq}
+use Rattle.std.specs.List.{list_all}
+use Rattle.std.specs.Option.{option_map_or, option_flatten}
+use Rattle.std.proofs.lemmas.Bool.{and_parts, cond-true}
+use Rattle.zk_base.specs.Names.{is_name}
+use Rattle.zk_words.specs.declared.kind.Kind.{Kind}
+use Rattle.zk_words.specs.declared.kind.Kind.TheVariants as kind
+use Rattle.zk_words.specs.declared.kind.Need.{Need}
+use Rattle.zk_words.specs.declared.kind.Need.TheVariants as need
+use Rattle.zk_words.specs.declared.slot.Choice.{Choice}
+use Rattle.zk_words.specs.declared.slot.Choice.TheVariants.{Mode, State, Drain}
+use Rattle.zk_words.specs.declared.slot.Slot.{Slot}
+use Rattle.zk_words.specs.declared.slot.Slot.TheVariants as slot
+use Rattle.zk_words.specs.declared.slot.Rest.{Rest}
+use Rattle.zk_words.specs.declared.slot.Rest.TheVariants.{Nothing, Maybe}
+use Rattle.zk_words.specs.declared.word.Word.{Word}
+use Rattle.zk_words.specs.declared.word.Word.TheVariants as word
+use Rattle.zk_words.specs.Numbers.{number_in, priority_of}
+use Rattle.zk_words.specs.Parts.{Placed, placed, parts_of, fits}
+use Rattle.zk_words.specs.Spelled.{choice_text, is_spelled_in, part_is_spelled}
+use Rattle.zk_words.specs.Table.{call_row, kind_row, item, queue, delay, ticks}
+use Rattle.zk_line.specs.declared.types.Decl.{Decl}
+use Rattle.zk_line.specs.declared.types.Decl.TheVariants as decl
+use Rattle.zk_line.specs.declared.types.Ref.{Ref}
+use Rattle.zk_line.specs.declared.types.Ref.TheVariants.{Known}
+use Rattle.zk_line.specs.declared.types.Arg.{Arg}
+use Rattle.zk_line.specs.declared.types.Arg.TheVariants.{Name, Object, Number, Priority, Truth}
+use Rattle.zk_line.specs.declared.types.Call.{Call}
+use Rattle.zk_line.specs.declared.types.Call.TheVariants as call
+use Rattle.zk_line.specs.Args.{truth_of, arg_of, args_of}
+use Rattle.zk_line.specs.Calls.{call_of}
+use Rattle.zk_line.specs.Checks.{is_in_range, are_in_range, is_well_named, are_well_named}
+use Rattle.zk_line.specs.Decls.{decl_of}
+use Rattle.zk_line.specs.Objects.{object_of, is_at, is_met}
+use Rattle.zk_line.specs.Shapes.{as_name, as_object, as_number, as_priority, as_truth, both, all_three, one, two, three, one_or_two}
+
+-- a word is spelled, in range and well named
+pub record IsRight (decls : List Decl) (s : Slot) (w : List ℕ) : Type 0 where
+  pub spelled : is_spelled_in s w ≡ true
+  pub in_range : is_in_range s w ≡ true
+  pub named : is_well_named decls s w ≡ true
+
+-- each word of a line is
+abbrev pub AreRight : List Decl → List Placed → Type 0
+AreRight decls [] = Unit {0}
+AreRight decls (p ∷ ps) = IsRight decls p.slot p.text × AreRight decls ps
+
+-- the three tests of a line's words, side by side
+pub are_right : (decls : List Decl) (ps : List Placed) → list_all part_is_spelled ps ≡ true → are_in_range ps ≡ true → are_well_named decls ps ≡ true → AreRight decls ps
+are_right decls [] s r n = tt
+are_right decls (p ∷ ps) s r n =
+    let ss = and_parts (part_is_spelled p) (list_all part_is_spelled ps) s in
+    let rs = and_parts (is_in_range p.slot p.text) (are_in_range ps) r in
+    let ns = and_parts (is_well_named decls p.slot p.text) (are_well_named decls ps) n in
+    (record { spelled = ss.0; in_range = rs.0; named = ns.0 }, are_right decls ps ss.1 rs.1 ns.1)
+
+is_some-some : {X : Type 0} (o : Option X) → is_some o ≡ true → (x : X) × (o ≡ Some x)
+is_some-some None e = absurd (cc)
+is_some-some (Some x) e = (x, refl)
+
+-- a right word says something of the kind that is asked for
+abbrev IsMade : {A : Type 0} → Slot → (Arg → Option A) → Type 0
+IsMade s f = (decls : List Decl) (w : List ℕ) → IsRight decls s w → (arg : Arg) × (arg_of decls s w ≡ Some arg) × IsSome (f arg)
+
+name-made : IsMade slot.New as_name
+name-made decls w right = (Name w, cond-true (is_name w) (Some (Name w)) None (and_parts (is_name w) _ right.named).0, refl)
+
+object-made : (n : Need) → IsMade (slot.Object n) as_object
+object-made n decls w right = by_place (object_of decls w) refl where
+  by_place : (o : Option ℕ) → object_of decls w ≡ o → (arg : Arg) × (arg_of decls (slot.Object n) w ≡ Some arg) × IsSome (as_object arg)
+  by_place (Some k) same = (Object (Known k), ap (λ o. option_map Object (option_map Known o)) same, refl)
+  by_place None same = let none : false ≡ true = sym (ap (λ o. option_map_or (is_at (is_met n) decls) o false) same) ∙ right.named in absurd (cc)
+
+number-made : (least most : ℕ) → IsMade (slot.Number least most) as_number
+number-made least most decls w right = let n = is_some-some (number_in least most w) right.in_range in (Number n.0, ap (option_map Number) n.1, refl)
+
+priority-made : IsMade slot.Priority as_priority
+priority-made decls w right = let p = is_some-some (option_flatten (priority_of w)) right.in_range in (Priority p.0, ap (option_map Priority) p.1, refl)
+
+truth_same : (choice : Choice) (t : Bool) → IsSome (as_truth choice (Truth choice t))
+truth_same Mode t = refl
+truth_same State t = refl
+truth_same Drain t = refl
+
+truth-made : (choice : Choice) → IsMade (slot.Either choice) (as_truth choice)
+truth-made choice decls w right = by_first (bytes_eq w (choice_text choice true)) (bytes_eq w (choice_text choice false)) refl refl right.spelled where
+  by_first : (p q : Bool) → bytes_eq w (choice_text choice true) ≡ p → bytes_eq w (choice_text choice false) ≡ q → (p || q) ≡ true
+      → (arg : Arg) × (option_map (Truth choice) (truth_of choice w) ≡ Some arg) × IsSome (as_truth choice arg)
+  by_first true q is_first is_second e =
+      (Truth choice true, ap (λ b. option_map (Truth choice) (cond b (Some true) (cond (bytes_eq w (choice_text choice false)) (Some false) None))) is_first, truth_same choice true)
+  by_first false true is_first is_second e =
+      (Truth choice false, ap (λ b. option_map (Truth choice) (cond b (Some true) (cond (bytes_eq w (choice_text choice false)) (Some false) None))) is_first ∙ ap (λ b. option_map (Truth choice) (cond b (Some false) None)) is_second, truth_same choice false)
+  by_first false false is_first is_second e = absurd (cc)
+
+-- a right line says something throughout, of the shape that is asked for
+abbrev IsLine : {X : Type 0} → List Slot → Rest → (List Arg → Option X) → Type 0
+IsLine slots rest shape = (decls : List Decl) (ws : List (List ℕ)) → fits slots rest ws ≡ true → AreRight decls (parts_of slots rest ws)
+    → (args : List Arg) × (args_of decls (parts_of slots rest ws) ≡ Some args) × IsSome (shape args)
+
+args-cons : (decls : List Decl) (s : Slot) (w : List ℕ) (ps : List Placed) (arg : Arg) (args : List Arg) → arg_of decls s w ≡ Some arg → args_of decls ps ≡ Some args → args_of decls (placed s w ∷ ps) ≡ Some (arg ∷ args)
+args-cons decls s w ps arg args e es =
+    ap (λ o. option_and_then (λ x. option_map (λ xs. x ∷ xs) (args_of decls ps)) o) e ∙ ap (option_map (λ xs. arg ∷ xs)) es
+
+both-some : {A B : Type 0} (x : Option A) (y : Option B) → IsSome x → IsSome y → IsSome (both x y)
+both-some (Some a) (Some b) e h = refl
+both-some None y e h = absurd (cc)
+both-some (Some a) None e h = absurd (cc)
+
+three-some : {A B C : Type 0} (x : Option A) (y : Option B) (z : Option C) → IsSome x → IsSome y → IsSome z → IsSome (all_three x y z)
+three-some (Some a) (Some b) (Some c) e h k = refl
+three-some None y z e h k = absurd (cc)
+three-some (Some a) None z e h k = absurd (cc)
+three-some (Some a) (Some b) None e h k = absurd (cc)
+
+one-line : {A : Type 0} (s : Slot) (f : Arg → Option A) → IsMade s f → IsLine (s ∷ []) Nothing (one f)
+one-line s f made decls [] fit right = absurd (cc)
+one-line s f made decls (w ∷ []) fit right = let m = made decls w right.0 in (m.0 ∷ [], args-cons decls s w [] m.0 [] m.1 refl, m.2)
+one-line s f made decls (w ∷ v ∷ ws) fit right = absurd (cc)
+
+two-line : {A B : Type 0} (s : Slot) (f : Arg → Option A) (t : Slot) (g : Arg → Option B) → IsMade s f → IsMade t g → IsLine (s ∷ t ∷ []) Nothing (two f g)
+two-line s f t g made also decls [] fit right = absurd (cc)
+two-line s f t g made also decls (w ∷ []) fit right = absurd (cc)
+two-line s f t g made also decls (w ∷ v ∷ []) fit right =
+    let m = made decls w right.0 in let n = also decls v right.1.0 in
+    (m.0 ∷ n.0 ∷ [], args-cons decls s w (placed t v ∷ []) m.0 (n.0 ∷ []) m.1 (args-cons decls t v [] n.0 [] n.1 refl), both-some (f m.0) (g n.0) m.2 n.2)
+two-line s f t g made also decls (w ∷ v ∷ u ∷ ws) fit right = absurd (cc)
+
+three-line : {A B C : Type 0} (s : Slot) (f : Arg → Option A) (t : Slot) (g : Arg → Option B) (r : Slot) (h : Arg → Option C) → IsMade s f → IsMade t g → IsMade r h → IsLine (s ∷ t ∷ r ∷ []) Nothing (three f g h)
+three-line s f t g r h made also third decls [] fit right = absurd (cc)
+three-line s f t g r h made also third decls (w ∷ []) fit right = absurd (cc)
+three-line s f t g r h made also third decls (w ∷ v ∷ []) fit right = absurd (cc)
+three-line s f t g r h made also third decls (w ∷ v ∷ u ∷ []) fit right =
+    let m = made decls w right.0 in let n = also decls v right.1.0 in let o = third decls u right.1.1.0 in (
+      m.0 ∷ n.0 ∷ o.0 ∷ [],
+      args-cons decls s w (placed t v ∷ placed r u ∷ []) m.0 (n.0 ∷ o.0 ∷ []) m.1 (args-cons decls t v (placed r u ∷ []) n.0 (o.0 ∷ []) n.1 (args-cons decls r u [] o.0 [] o.1 refl)),
+      three-some (f m.0) (g n.0) (h o.0) m.2 n.2 o.2,
+    )
+three-line s f t g r h made also third decls (w ∷ v ∷ u ∷ x ∷ ws) fit right = absurd (cc)
+
+one_or_two-line : {A B : Type 0} (s : Slot) (f : Arg → Option A) (t : Slot) (g : Arg → Option B) → IsMade s f → IsMade t g → IsLine (s ∷ []) (Maybe t) (one_or_two f g)
+one_or_two-line s f t g made also decls [] fit right = absurd (cc)
+one_or_two-line {B = B} s f t g made also decls (w ∷ []) fit right =
+    let m = made decls w right.0 in (m.0 ∷ [], args-cons decls s w [] m.0 [] m.1 refl, both-some (f m.0) (Some None) m.2 refl)
+one_or_two-line s f t g made also decls (w ∷ v ∷ []) fit right =
+    let m = made decls w right.0 in let n = also decls v right.1.0 in
+    (m.0 ∷ n.0 ∷ [], args-cons decls s w (placed t v ∷ []) m.0 (n.0 ∷ []) m.1 (args-cons decls t v [] n.0 [] n.1 refl), both-some (f m.0) (option_map Some (g n.0)) m.2 (some-map (g n.0) n.2)) where
+      some-map : {Y : Type 0} (o : Option Y) → IsSome o → IsSome (option_map Some o)
+      some-map (Some y) e = refl
+      some-map None e = absurd (cc)
+one_or_two-line s f t g made also decls (w ∷ v ∷ u ∷ ws) fit right = absurd (cc)
+
+-- a right line of these slots makes something
+abbrev Makes : {C : Type 0} → List Slot → Rest → (List Arg → Option C) → Type 0
+Makes slots rest make = (decls : List Decl) (ws : List (List ℕ)) → fits slots rest ws ≡ true → AreRight decls (parts_of slots rest ws) → IsSome (option_and_then make (args_of decls (parts_of slots rest ws)))
+
+by_line : {X C : Type 0} (slots : List Slot) (rest : Rest) (shape : List Arg → Option X) (f : X → C) → IsLine slots rest shape → Makes slots rest (λ args. option_map f (shape args))
+by_line {X} {C} slots rest shape f is decls ws fit right = let m = is decls ws fit right in
+    subst (λ o. IsSome (option_and_then (λ args. option_map f (shape args)) o)) (sym m.1) (some-map (shape m.0) m.2) where
+      some-map : (o : Option X) → IsSome o → IsSome (option_map f o)
+      some-map (Some y) e = refl
+      some-map None e = absurd (cc)
+
+-- the lines of one item or one queue, and those of an item, a queue and a delay
+one_item : (f : Ref → Call) → Makes (item ∷ []) Nothing (λ args. option_map f (one as_object args))
+one_item f = by_line (item ∷ []) Nothing (one as_object) f (one-line item as_object (object-made need.Item))
+
+one_queue : (f : Ref → Call) → Makes (queue ∷ []) Nothing (λ args. option_map f (one as_object args))
+one_queue f = by_line (queue ∷ []) Nothing (one as_object) f (one-line queue as_object (object-made need.Queue))
+
+delayed : IsLine (item ∷ queue ∷ delay ∷ []) Nothing (three as_object as_object as_number)
+delayed = three-line item as_object queue as_object delay as_number (object-made need.Item) (object-made need.Queue) (number-made 0 1000000)
+
+-- a right line of a call word makes its call
+pub makes_call : (w : Word) → Makes (call_row w).slots (call_row w).rest (call_of w)
+makes_call word.Submit = by_line (item ∷ []) (Maybe queue) (one_or_two as_object as_object) (λ p. call.Submit p.0 p.1) (one_or_two-line item as_object queue as_object (object-made need.Item) (object-made need.Queue))
+makes_call word.Cancel = one_item call.Cancel
+makes_call word.CancelSync = one_item call.CancelSync
+makes_call word.Flush = one_item call.Flush
+makes_call word.Schedule = by_line (item ∷ queue ∷ delay ∷ []) Nothing (three as_object as_object as_number) (λ p. call.Schedule p.0 p.1 p.2) delayed
+makes_call word.Reschedule = by_line (item ∷ queue ∷ delay ∷ []) Nothing (three as_object as_object as_number) (λ p. call.Reschedule p.0 p.1 p.2) delayed
+makes_call word.Remaining = one_item call.Remaining
+makes_call word.Start = one_queue call.Start
+makes_call word.Drain = by_line (queue ∷ slot.Either Drain ∷ []) Nothing (two as_object (as_truth Drain)) (λ p. call.Drain p.0 p.1) (two-line queue as_object (slot.Either Drain) (as_truth Drain) (object-made need.Queue) (truth-made Drain))
+makes_call word.Unplug = one_queue call.Unplug
+makes_call word.Tick = by_line (ticks ∷ []) Nothing (one as_number) call.Tick (one-line ticks as_number (number-made 1 1000000))
+
+-- the lines of a name, a priority and one of the two words of a choice
+playing : (choice : Choice) → IsLine (slot.New ∷ slot.Priority ∷ slot.Either choice ∷ []) Nothing (three as_name as_priority (as_truth choice))
+playing choice = three-line slot.New as_name slot.Priority as_priority (slot.Either choice) (as_truth choice) name-made priority-made (truth-made choice)
+
+-- a right line of a kind makes its declaration
+pub makes_decl : (k : Kind) → Makes (kind_row k).slots (kind_row k).rest (decl_of k)
+makes_decl kind.Thread = by_line (slot.New ∷ slot.Priority ∷ slot.Either Mode ∷ []) Nothing (three as_name as_priority (as_truth Mode)) (λ p. decl.Thread p.0 p.1 p.2) (playing Mode)
+makes_decl kind.Queue = by_line (slot.New ∷ slot.Priority ∷ slot.Either State ∷ []) Nothing (three as_name as_priority (as_truth State)) (λ p. decl.Queue p.0 p.1 p.2) (playing State)
+makes_decl kind.Item = by_line (slot.New ∷ []) Nothing (one as_name) decl.Item (one-line slot.New as_name name-made)

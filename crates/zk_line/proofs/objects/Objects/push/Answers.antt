@@ -1,0 +1,48 @@
+use Rattle.std.proofs.Common.{◌≡◌, ◌∙◌, ◌<◌, ◌+◌, ◌^◌, length, ap, arith, ◌++◌, ◌∷◌, [], ℕ, List, Some, cond}
+use Rattle.std.specs.Str.{bytes_eq}
+use Rattle.zk_line.specs.ByName.{by_name}
+use Rattle.zk_line.specs.Objects.{grown, own_list, object_of, is_thread, is_queue, is_item, name_of}
+use Rattle.zk_line.proofs.Tables.{length-kind, IsTabled-after}
+use Rattle.zk_line.proofs.objects.Objects.push.Goals as goal
+
+pub enlist-number-requires-clause-thread_room : goal.enlist-number-requires-clause-thread_room
+enlist-number-requires-clause-thread_room c =
+    let few = length-kind is_thread _ _ c.make_room-3.new.list.items c.self.invariant.few c.self.invariant.each_thread c.make_room-3.ensures.unchanged in
+    (omega (arith, c.in_ok-make_room-3.ensures.room), omega (arith, c.make_room-3.new.list.ok.0))
+
+pub enlist-number-requires-clause-queue_room : goal.enlist-number-requires-clause-queue_room
+enlist-number-requires-clause-queue_room c =
+    let few = length-kind is_queue _ _ c.make_room-4.new.list.items c.self.invariant.few c.self.invariant.each_queue c.make_room-4.ensures.unchanged in
+    (omega (arith, c.in_ok-make_room-4.ensures.room), omega (arith, c.make_room-4.new.list.ok.0))
+
+pub enlist-number-requires-clause-item_room : goal.enlist-number-requires-clause-item_room
+enlist-number-requires-clause-item_room c =
+    let few = length-kind is_item _ _ c.make_room-5.new.list.items c.self.invariant.few c.self.invariant.each_item c.make_room-5.ensures.unchanged in
+    (omega (arith, c.in_ok-make_room-5.ensures.room), omega (arith, c.make_room-5.new.list.ok.0))
+
+pub invariant_of-self-2 : goal.invariant_of-self-2
+invariant_of-self-2 c =
+    let at = c.self.inside in
+    let ds = at.decls.items in
+    let d = c.args.decl in
+    let object : c.len-object.result ≡ length ds = omega (arith, c.len-object.ensures, c.make_room.new.list.ok.0, ap length c.make_room.ensures.unchanged) in
+    let view : ds ≡ c.args.self.now = c.self.view_is in
+    let few : length ds + 1 < 2 ^ 32 = omega (arith, c.requires.few, ap length view) in
+    let fresh = ap (λ xs. object_of xs (name_of d)) view ∙ c.requires.fresh in
+    let name = c.name_of.ensures in
+    let put = λ (other : List ℕ). c.in_ok-insert.ensures.ok other
+    ∙ ap (λ q. cond (bytes_eq q other) (Some c.len-object.result) (by_name at.names other)) name
+    ∙ ap (λ k. cond (bytes_eq (name_of d) other) (Some k) (by_name at.names other)) object in
+    let threads = c.make_room-3.ensures.unchanged in
+    let queues = c.make_room-4.ensures.unchanged in
+    let items = c.make_room-5.ensures.unchanged in
+    let number : c.enlist-number.result ≡ length (own_list d at.threads.items at.queues.items at.items.items) =
+    c.enlist-number.ensures.number ∙ ap (λ l. length (own_list d l c.make_room-4.new.list.items c.make_room-5.new.list.items)) threads
+    ∙ ap (λ l. length (own_list d at.threads.items l c.make_room-5.new.list.items)) queues ∙ ap (λ l. length (own_list d at.threads.items at.queues.items l)) items in
+    IsTabled-after ds d at.threads.items at.queues.items at.items.items at.numbers.items c.enlist-number.result at.names c.insert.new.self c.self.invariant few fresh number put
+    c.put-2.new.list.items c.enlist-number.new.threads.items c.enlist-number.new.queues.items c.enlist-number.new.items.items c.put.new.list.items
+    (c.put-2.ensures ∙ ap (λ l. l ++ d ∷ []) c.make_room.ensures.unchanged)
+    (c.enlist-number.ensures.threads ∙ ap (λ l. grown is_thread d c.len-object.result l) threads ∙ ap (λ k. grown is_thread d k at.threads.items) object)
+    (c.enlist-number.ensures.queues ∙ ap (λ l. grown is_queue d c.len-object.result l) queues ∙ ap (λ k. grown is_queue d k at.queues.items) object)
+    (c.enlist-number.ensures.items ∙ ap (λ l. grown is_item d c.len-object.result l) items ∙ ap (λ k. grown is_item d k at.items.items) object)
+    (c.put.ensures ∙ ap (λ l. l ++ c.enlist-number.result ∷ []) c.make_room-2.ensures.unchanged)

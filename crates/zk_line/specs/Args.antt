@@ -1,0 +1,54 @@
+use Rattle.std.specs.Prelude.{ℕ, Bool, true, false, List, [], ◌∷◌, Option, Some, None, option_map, option_and_then, if◌then◌else◌}
+use Rattle.std.specs.Fmt.{decimal, signed_decimal}
+use Rattle.std.specs.Option.{option_flatten}
+use Rattle.std.specs.Str.{bytes_eq}
+use Rattle.zk_base.specs.Names.{is_name}
+use Rattle.zk_words.specs.declared.slot.Choice.{Choice}
+use Rattle.zk_words.specs.declared.slot.Slot.{Slot}
+use Rattle.zk_words.specs.declared.slot.Slot.TheVariants as slot
+use Rattle.zk_words.specs.Numbers.{number_in, priority_of}
+use Rattle.zk_words.specs.Parts.{Placed}
+use Rattle.zk_words.specs.Spelled.{choice_text}
+use Rattle.zk_line.specs.declared.types.Decl.{Decl}
+use Rattle.zk_line.specs.declared.types.Ref.{Ref}
+use Rattle.zk_line.specs.declared.types.Ref.TheVariants.{Known}
+use Rattle.zk_line.specs.declared.types.Arg.{Arg}
+use Rattle.zk_line.specs.declared.types.Arg.TheVariants.{Name, Object, Number, Priority, Truth}
+use Rattle.zk_line.specs.Objects.{object_of, name_at}
+
+-- which of the two words of a choice it is
+abbrev pub truth_of : Choice → List ℕ → Option Bool
+truth_of choice word =
+    if bytes_eq word (choice_text choice true) then Some true else
+    if bytes_eq word (choice_text choice false) then Some false else None
+
+-- an object as a line names it
+abbrev pub ref_of : List Decl → List ℕ → Option Ref
+ref_of decls word = option_map Known (object_of decls word)
+
+-- what a word says in its slot, where it is right by itself
+abbrev pub arg_of : List Decl → Slot → List ℕ → Option Arg
+arg_of decls slot.New word = (if is_name word then Some (Name word) else None)
+arg_of decls slot.Owner word = option_map Object (ref_of decls word)
+arg_of decls (slot.Object need) word = option_map Object (ref_of decls word)
+arg_of decls (slot.Number least most) word = option_map Number (number_in least most word)
+arg_of decls slot.Priority word = option_map Priority (option_flatten (priority_of word))
+arg_of decls (slot.Either choice) word = option_map (Truth choice) (truth_of choice word)
+
+-- what all words of a line say, where each says something
+abbrev pub args_of : List Decl → List Placed → Option (List Arg)
+args_of decls [] = Some []
+args_of decls (part ∷ parts) =
+    option_and_then (λ arg. option_map (λ args. arg ∷ args) (args_of decls parts)) (arg_of decls part.slot part.text)
+
+-- the name of an object that a call names
+abbrev pub ref_name : List Decl → Ref → List ℕ
+ref_name decls (Known object) = name_at decls object
+
+-- the one spelling of what a word says
+abbrev pub arg_text : List Decl → Arg → List ℕ
+arg_text decls (Name name) = name
+arg_text decls (Object object) = ref_name decls object
+arg_text decls (Number number) = decimal number
+arg_text decls (Priority prio) = signed_decimal prio
+arg_text decls (Truth choice truth) = choice_text choice truth

@@ -1,0 +1,56 @@
+use Rattle.std.specs.Prelude.{List, [], ◌∷◌, Option, Some, None, option_map, option_to_list}
+use Rattle.zk_words.specs.declared.slot.Choice.TheVariants.{Drain}
+use Rattle.zk_words.specs.declared.word.Word.{Word}
+use Rattle.zk_words.specs.declared.word.Word.TheVariants as word
+use Rattle.zk_line.specs.declared.types.Arg.{Arg}
+use Rattle.zk_line.specs.declared.types.Arg.TheVariants.{Object, Number, Truth}
+use Rattle.zk_line.specs.declared.types.Call.{Call}
+use Rattle.zk_line.specs.declared.types.Call.TheVariants as call
+use Rattle.zk_line.specs.Shapes.{as_object, as_number, as_truth, one, two, three, one_or_two}
+
+-- a call as it is written: its word, and what stands behind that
+pub record Saying : Type 0 where
+  pub word : Word
+  pub args : List Arg
+
+-- a word and what stands behind it
+abbrev pub saying : Word → List Arg → Saying
+saying word args = record { word = word; args = args }
+
+-- the call of a word and what stands behind it
+abbrev pub call_of : Word → List Arg → Option Call
+call_of word.Submit args = option_map (λ p. call.Submit p.0 p.1) (one_or_two as_object as_object args)
+call_of word.Cancel args = option_map call.Cancel (one as_object args)
+call_of word.CancelSync args = option_map call.CancelSync (one as_object args)
+call_of word.Flush args = option_map call.Flush (one as_object args)
+call_of word.Schedule args = option_map (λ p. call.Schedule p.0 p.1 p.2) (three as_object as_object as_number args)
+call_of word.Reschedule args = option_map (λ p. call.Reschedule p.0 p.1 p.2) (three as_object as_object as_number args)
+call_of word.Remaining args = option_map call.Remaining (one as_object args)
+call_of word.Start args = option_map call.Start (one as_object args)
+call_of word.Drain args = option_map (λ p. call.Drain p.0 p.1) (two as_object (as_truth Drain) args)
+call_of word.Unplug args = option_map call.Unplug (one as_object args)
+call_of word.Tick args = option_map call.Tick (one as_number args)
+
+-- how a call is written
+abbrev pub said_of : Call → Saying
+said_of (call.Submit item queue) = saying word.Submit (Object item ∷ option_to_list (option_map Object queue))
+said_of (call.Cancel item) = saying word.Cancel (Object item ∷ [])
+said_of (call.CancelSync item) = saying word.CancelSync (Object item ∷ [])
+said_of (call.Flush item) = saying word.Flush (Object item ∷ [])
+said_of (call.Schedule item queue delay) = saying word.Schedule (Object item ∷ Object queue ∷ Number delay ∷ [])
+said_of (call.Reschedule item queue delay) = saying word.Reschedule (Object item ∷ Object queue ∷ Number delay ∷ [])
+said_of (call.Remaining item) = saying word.Remaining (Object item ∷ [])
+said_of (call.Start queue) = saying word.Start (Object queue ∷ [])
+said_of (call.Drain queue plug) = saying word.Drain (Object queue ∷ Truth Drain plug ∷ [])
+said_of (call.Unplug queue) = saying word.Unplug (Object queue ∷ [])
+said_of (call.Tick ticks) = saying word.Tick (Number ticks ∷ [])
+
+-- the word of a call
+abbrev pub word_of : Call → Word
+word_of call = (said_of call).word
+
+-- those arguments that stand
+abbrev pub standing : List (Option Arg) → List Arg
+standing [] = []
+standing (None ∷ args) = standing args
+standing (Some arg ∷ args) = arg ∷ standing args

@@ -1,0 +1,9 @@
+pub mod Args
+pub mod ByName
+pub mod Calls
+pub mod Checks
+pub mod Decls
+pub mod Fits
+pub mod Objects
+pub mod Shapes
+pub mod Text

@@ -1,0 +1,109 @@
+use Rattle.std.specs.Prelude.{◌≡◌, ℕ, ◌^◌, ◌+◌, ◌<◌, Bool, true, false, if◌then◌else◌, Option, List, [], ◌∷◌, ◌++◌, take, length, count_by, slice_get, unwrap_or}
+use Rattle.std.specs.List.{position}
+use Rattle.std.specs.Option.{option_map_or}
+use Rattle.std.specs.Str.{bytes_eq}
+use Rattle.zk_words.specs.declared.kind.Kind.{Kind}
+use Rattle.zk_words.specs.declared.kind.Kind.TheVariants as kind
+use Rattle.zk_words.specs.declared.kind.Need.{Need}
+use Rattle.zk_words.specs.Kinds as kinds
+use Rattle.zk_line.specs.declared.names.Names.{Names}
+use Rattle.zk_line.specs.declared.types.Decl.{Decl}
+use Rattle.zk_line.specs.declared.types.Decl.TheVariants.{Thread, Queue, Item}
+use Rattle.zk_line.specs.ByName.{by_name}
+
+-- the kind of what is declared
+abbrev pub kind_of : Decl → Kind
+kind_of (Thread name prio user) = kind.Thread
+kind_of (Queue name prio on) = kind.Queue
+kind_of (Item name) = kind.Item
+
+-- the name that a declaration gives
+abbrev pub name_of : Decl → List ℕ
+name_of (Thread name prio user) = name
+name_of (Queue name prio on) = name
+name_of (Item name) = name
+
+-- whether a declaration is of a kind
+abbrev pub is_of : Kind → Decl → Bool
+is_of kind decl = kinds.same_kind (kind_of decl) kind
+
+-- whether a declaration is of a thread
+abbrev pub is_thread : Decl → Bool
+is_thread decl = is_of kind.Thread decl
+
+-- whether a declaration is of a work queue
+abbrev pub is_queue : Decl → Bool
+is_queue decl = is_of kind.Queue decl
+
+-- whether a declaration is of a work item
+abbrev pub is_item : Decl → Bool
+is_item decl = is_of kind.Item decl
+
+-- the test for declarations of the same kind
+abbrev pub same_kind : Decl → Decl → Bool
+same_kind decl = is_of (kind_of decl)
+
+-- whether what is declared can play a script
+abbrev pub plays_script : Decl → Bool
+plays_script decl = kinds.plays_script (kind_of decl)
+
+-- whether what is declared meets a need
+abbrev pub is_met : Need → Decl → Bool
+is_met need decl = kinds.meets need (kind_of decl)
+
+-- the positions of the elements that pass a test, counted from the first one's own position
+abbrev pub places_from : ℕ → (Decl → Bool) → List Decl → List ℕ
+places_from n test [] = []
+places_from n test (d ∷ ds) = (if test d then n ∷ places_from (n + 1) test ds else places_from (n + 1) test ds)
+
+-- the object numbers of the declarations that pass a test, in declared order
+abbrev pub places : (Decl → Bool) → List Decl → List ℕ
+places test decls = places_from 0 test decls
+
+-- how many players there are: the threads, and a worker for each queue
+abbrev pub player_count : List Decl → ℕ
+player_count decls = count_by is_thread decls + count_by is_queue decls
+
+-- the number of an object among those of its kind, from 0 in declared order
+abbrev pub number_of : List Decl → ℕ → ℕ
+number_of decls object = option_map_or (λ d. count_by (same_kind d) (take object decls)) (slice_get decls object) 0
+
+-- the object of a name, if it is declared
+abbrev pub object_of : List Decl → List ℕ → Option ℕ
+object_of decls name = position (λ d. bytes_eq (name_of d) name) decls
+
+-- the name of an object
+abbrev pub name_at : List Decl → ℕ → List ℕ
+name_at decls object = option_map_or name_of (slice_get decls object) []
+
+-- whether an object is declared, and its declaration passes a test
+abbrev pub is_at : (Decl → Bool) → List Decl → ℕ → Bool
+is_at test decls object = option_map_or test (slice_get decls object) false
+
+-- whether a name is that of an object whose declaration passes a test
+abbrev pub names : (Decl → Bool) → List Decl → List ℕ → Bool
+names test decls name = option_map_or (is_at test decls) (object_of decls name) false
+
+-- the list of a declaration's kind, among those of the threads, the queues and the items
+abbrev pub own_list : Decl → List ℕ → List ℕ → List ℕ → List ℕ
+own_list (Thread name prio user) threads queues items = threads
+own_list (Queue name prio on) threads queues items = queues
+own_list (Item name) threads queues items = items
+
+-- a list of objects after one more declaration, which stands in it where it passes the list's test
+abbrev pub grown : (Decl → Bool) → Decl → ℕ → List ℕ → List ℕ
+grown test d object list = (if test d then list ++ object ∷ [] else list)
+
+-- a list of this length and capacity has room for one more, and its length fits a number
+abbrev pub HasRoom : ℕ → ℕ → Type 0
+HasRoom len capacity = (len < capacity) × (len < 2 ^ 32)
+
+-- the tables say what the declarations say
+pub record IsTabled (decls : List Decl) (threads queues items numbers : List ℕ) (names : Names) : Type 0 where
+  pub few : length decls < 2 ^ 32
+  pub each_thread : threads ≡ places is_thread decls
+  pub each_queue : queues ≡ places is_queue decls
+  pub each_item : items ≡ places is_item decls
+  pub long : length numbers ≡ length decls
+  pub each_number : (object : ℕ) → unwrap_or (slice_get numbers object) 0 ≡ number_of decls object
+  pub each_name : (name : List ℕ) → by_name names name ≡ object_of decls name

@@ -1,0 +1,62 @@
+use Rattle.std.specs.Prelude.{ℕ, ℤ, Bool, List, [], ◌∷◌, Option, Some, None, option_map, if◌then◌else◌}
+use Rattle.zk_words.specs.declared.slot.Choice.{Choice}
+use Rattle.zk_words.specs.Spelled.{same_choice}
+use Rattle.zk_line.specs.declared.types.Ref.{Ref}
+use Rattle.zk_line.specs.declared.types.Arg.{Arg}
+use Rattle.zk_line.specs.declared.types.Arg.TheVariants.{Name, Object, Number, Priority, Truth}
+
+-- the name that an argument is, if it is one
+abbrev pub as_name : Arg → Option (List ℕ)
+as_name (Name name) = Some name
+as_name arg = None
+
+-- the object that it is
+abbrev pub as_object : Arg → Option Ref
+as_object (Object object) = Some object
+as_object arg = None
+
+-- the number that it is
+abbrev pub as_number : Arg → Option ℕ
+as_number (Number number) = Some number
+as_number arg = None
+
+-- the priority that it is
+abbrev pub as_priority : Arg → Option ℤ
+as_priority (Priority prio) = Some prio
+as_priority arg = None
+
+-- which of the two words of a choice it is
+abbrev pub as_truth : Choice → Arg → Option Bool
+as_truth choice (Truth other truth) = (if same_choice choice other then Some truth else None)
+as_truth choice arg = None
+
+-- two parts, where each is one
+abbrev pub both : {A B : Type 0} → Option A → Option B → Option (A × B)
+both (Some a) (Some b) = Some (a, b)
+both a b = None
+
+-- three parts, where each is one
+abbrev pub all_three : {A B C : Type 0} → Option A → Option B → Option C → Option (A × B × C)
+all_three (Some a) (Some b) (Some c) = Some (a, b, c)
+all_three a b c = None
+
+-- one argument of such a kind
+abbrev pub one : {A : Type 0} → (Arg → Option A) → List Arg → Option A
+one f (a ∷ []) = f a
+one f args = None
+
+-- two arguments of such kinds
+abbrev pub two : {A B : Type 0} → (Arg → Option A) → (Arg → Option B) → List Arg → Option (A × B)
+two f g (a ∷ b ∷ []) = both (f a) (g b)
+two f g args = None
+
+-- three
+abbrev pub three : {A B C : Type 0} → (Arg → Option A) → (Arg → Option B) → (Arg → Option C) → List Arg → Option (A × B × C)
+three f g h (a ∷ b ∷ c ∷ []) = all_three (f a) (g b) (h c)
+three f g h args = None
+
+-- one, and perhaps another
+abbrev pub one_or_two : {A B : Type 0} → (Arg → Option A) → (Arg → Option B) → List Arg → Option (A × Option B)
+one_or_two f g (a ∷ []) = both (f a) (Some None)
+one_or_two f g (a ∷ b ∷ []) = both (f a) (option_map Some (g b))
+one_or_two f g args = None

@@ -1,0 +1,29 @@
+use Rattle.std.specs.Prelude.{ℕ, List, [], ◌∷◌, ◌++◌, map}
+use Rattle.zk_words.specs.declared.word.Head.{Head}
+use Rattle.zk_words.specs.declared.word.Head.TheVariants as head
+use Rattle.zk_words.specs.Table.{row_of}
+use Rattle.zk_words.specs.Text.{line_text}
+use Rattle.zk_line.specs.declared.types.Decl.{Decl}
+use Rattle.zk_line.specs.declared.types.Arg.{Arg}
+use Rattle.zk_line.specs.declared.types.Call.{Call}
+use Rattle.zk_line.specs.Args.{arg_text}
+use Rattle.zk_line.specs.Calls.{said_of}
+use Rattle.zk_line.specs.Decls.{decl_args}
+use Rattle.zk_line.specs.Objects.{kind_of}
+
+-- the line of a head and what stands behind it
+abbrev pub said_line : List Decl → Head → List Arg → List ℕ
+said_line decls head args = line_text ((row_of head).first ∷ map (arg_text decls) args)
+
+-- the line of a declaration
+abbrev pub decl_line : Decl → List ℕ
+decl_line decl = said_line [] (head.Declare (kind_of decl)) (decl_args decl)
+
+-- the line of a call
+abbrev pub call_line : List Decl → Call → List ℕ
+call_line decls call = let said = said_of call in said_line decls (head.Call said.word) said.args
+
+-- words behind another, each behind a space
+abbrev pub behind : List (List ℕ) → List ℕ
+behind [] = []
+behind (word ∷ words) = 32 ∷ word ++ behind words

@@ -1,0 +1,108 @@
+ghost use Rattle.std.specs.Prelude.{◌≡◌, [], ◌∷◌};
+ghost use Rattle.zk_line.specs.Calls.{saying, call_of, said_of, word_of};
+
+use crate::shapes::{object_maybe, object_truth, one_number, one_object, two_objects_number};
+use crate::types::{Arg, Call, Ref};
+use std::marker::Model;
+use zk_words::{Choice, Word};
+
+/// A call as it is written: its word, and what stands behind that.
+#[derive(Drop)]
+pub struct Said {
+    pub word: Word,
+    // From the left as many as there are.
+    pub args: [Option<Arg>; 3],
+}
+
+impl Model for Said {
+    ghost use Rattle.zk_line.specs.Calls.{Saying, saying, standing};
+
+    ghost Value = { Saying };
+
+    ghost view = { λ s. saying s.word (standing s.args) };
+}
+
+/// The call of a word and what stands behind it.
+pub fn call_of(word: Word, args: &[Arg]) -> Option<Call>
+    ensures { result ≡ call_of word args.now }
+{
+    match word {
+        Word::Submit => object_maybe(args).map(|p| Call::Submit(p.0, p.1)),
+        Word::Cancel => one_object(args).map(Call::Cancel),
+        Word::CancelSync => one_object(args).map(Call::CancelSync),
+        Word::Flush => one_object(args).map(Call::Flush),
+        Word::Schedule => two_objects_number(args).map(|p| Call::Schedule(p.0, p.1, p.2)),
+        Word::Reschedule => two_objects_number(args).map(|p| Call::Reschedule(p.0, p.1, p.2)),
+        Word::Remaining => one_object(args).map(Call::Remaining),
+        Word::Start => one_object(args).map(Call::Start),
+        Word::Drain => object_truth(Choice::Drain, args).map(|p| Call::Drain(p.0, p.1)),
+        Word::Unplug => one_object(args).map(Call::Unplug),
+        Word::Tick => one_number(args).map(Call::Tick),
+    }
+}
+
+/// How a call is written.
+pub fn said_of(call: &Call) -> Said
+    ensures { result ≡ said_of call.now }
+{
+    match call {
+        Call::Submit(item, None) => of_one(Word::Submit, object(item)),
+        Call::Submit(item, Some(queue)) => of_two(Word::Submit, object(item), object(queue)),
+        Call::Cancel(item) => of_one(Word::Cancel, object(item)),
+        Call::CancelSync(item) => of_one(Word::CancelSync, object(item)),
+        Call::Flush(item) => of_one(Word::Flush, object(item)),
+        Call::Schedule(item, queue, delay) => delayed(Word::Schedule, item, queue, *delay),
+        Call::Reschedule(item, queue, delay) => delayed(Word::Reschedule, item, queue, *delay),
+        Call::Remaining(item) => of_one(Word::Remaining, object(item)),
+        Call::Start(queue) => of_one(Word::Start, object(queue)),
+        Call::Drain(queue, plug) => {
+            of_two(Word::Drain, object(queue), Arg::Truth(Choice::Drain, *plug))
+        }
+        Call::Unplug(queue) => of_one(Word::Unplug, object(queue)),
+        Call::Tick(ticks) => of_one(Word::Tick, Arg::Number(*ticks)),
+    }
+}
+
+/// The word of a call.
+pub fn word_of(call: &Call) -> Word
+    ensures { result ≡ word_of call.now }
+{
+    said_of(call).word
+}
+
+fn object(object: &Ref) -> Arg
+    ensures { result ≡ Arg.Object object.now }
+{
+    Arg::Object(*object)
+}
+
+fn of_one(word: Word, arg: Arg) -> Said
+    ensures { result ≡ saying word (arg ∷ []) }
+{
+    Said {
+        word,
+        args: [Some(arg), None, None],
+    }
+}
+
+fn of_two(word: Word, first: Arg, second: Arg) -> Said
+    ensures { result ≡ saying word (first ∷ second ∷ []) }
+{
+    Said {
+        word,
+        args: [Some(first), Some(second), None],
+    }
+}
+
+fn delayed(word: Word, item: &Ref, queue: &Ref, delay: u32) -> Said
+    ensures { result ≡ saying word (Arg.Object item.now ∷ Arg.Object queue.now ∷ Arg.Number delay ∷ []) }
+{
+    Said {
+        word,
+        args: [
+            Some(object(item)),
+            Some(object(queue)),
+            Some(Arg::Number(delay)),
+        ],
+    }
+}

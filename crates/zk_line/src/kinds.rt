@@ -1,0 +1,57 @@
+ghost use Rattle.std.specs.Prelude.{◌≡◌};
+ghost use Rattle.zk_line.specs.Objects.{kind_of, name_of, is_at, is_met, name_at, plays_script};
+
+use crate::types::Decl;
+use zk_words::{Kind, Need, meets, plays_script};
+
+/// The kind of what is declared.
+pub fn kind_of(decl: &Decl) -> Kind
+    ensures { result ≡ kind_of decl.now }
+{
+    match decl {
+        Decl::Thread(..) => Kind::Thread,
+        Decl::Queue(..) => Kind::Queue,
+        Decl::Item(_) => Kind::Item,
+    }
+}
+
+/// The name that a declaration gives.
+pub fn name_of(decl: &Decl) -> &[u8]
+    ensures { result.now ≡ name_of decl.now }
+{
+    match decl {
+        Decl::Thread(name, _, _) => name.bytes(),
+        Decl::Queue(name, _, _) => name.bytes(),
+        Decl::Item(name) => name.bytes(),
+    }
+}
+
+/// The name of an object; none is no name.
+pub fn name_at(decls: &[Decl], object: u32) -> &[u8]
+    ensures { result.now ≡ name_at decls.now object }
+{
+    match decls.get(object as usize) {
+        Some(decl) => name_of(decl),
+        None => &[],
+    }
+}
+
+/// Whether an object is declared, and can play a script.
+pub fn plays_at(decls: &[Decl], object: u32) -> bool
+    ensures { result ≡ is_at plays_script decls.now object }
+{
+    match decls.get(object as usize) {
+        Some(decl) => plays_script(kind_of(decl)),
+        None => false,
+    }
+}
+
+/// Whether an object is declared, and meets a need.
+pub fn meets_at(need: Need, decls: &[Decl], object: u32) -> bool
+    ensures { result ≡ is_at (is_met need) decls.now object }
+{
+    match decls.get(object as usize) {
+        Some(decl) => meets(need, kind_of(decl)),
+        None => false,
+    }
+}

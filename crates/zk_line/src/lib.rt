@@ -1,0 +1,26 @@
+//! What one line of a scenario means: its arguments, the call or the declaration that is made of them, its reasons and its text.
+#![tactic(auto)]
+
+mod arg_list;
+mod args;
+mod calls;
+mod checks;
+mod decls;
+mod kinds;
+mod names;
+mod objects;
+mod print;
+mod shapes;
+#[cfg(test)]
+mod tests;
+mod types;
+
+pub use arg_list::Args;
+pub use args::args_of;
+pub use calls::{Said, call_of, said_of, word_of};
+pub use checks::{are_in_range, are_well_named, first_object};
+pub use decls::{decl_args, decl_of};
+pub use kinds::{kind_of, name_of};
+pub use objects::{Objects, make_room, put};
+pub use print::{put_call, put_decl, put_said};
+pub use types::{Arg, Call, Decl, Ref};

@@ -1,0 +1,211 @@
+ghost use Rattle.std.specs.Prelude.{◌≡◌, ◌+◌, ◌-◌, ◌^◌, ◌<◌, None, [], ◌∷◌, ◌++◌, OnOk, OnErr, length, count_by, vec_len, vec_capacity};
+ghost use Rattle.zk_line.specs.Objects.{is_of, object_of, own_list, grown, HasRoom, is_thread, is_queue, is_item, name_of, places, number_of, player_count};
+
+use crate::kinds::name_of;
+use crate::names::Names;
+use crate::types::Decl;
+use std::alloc::Global;
+use std::marker::Model;
+use zk_base::NoMemory;
+use zk_words::Kind;
+
+/// The declarations, with a table for each question to them.
+///
+/// `numbers` has for each object its number among those of its kind, `names` the object of each name.
+#[derive(Drop)]
+pub struct Objects {
+    decls: Vec<Decl>,
+    threads: Vec<u32>,
+    queues: Vec<u32>,
+    items: Vec<u32>,
+    numbers: Vec<u32>,
+    names: Names,
+}
+
+impl Model for Objects {
+    ghost use Rattle.std.specs.Prelude.{List};
+    ghost use Rattle.zk_line.specs.declared.types.Decl.{Decl};
+    ghost use Rattle.zk_line.specs.Objects.{IsTabled};
+
+    ghost Value = { List Decl };
+
+    ghost view = { λ a. a.decls.items };
+
+    ghost invariant = { λ a.
+        IsTabled a.decls.items a.threads.items a.queues.items a.items.items a.numbers.items a.names };
+}
+
+impl Objects {
+    /// No declaration. It takes no memory.
+    pub fn new(alloc: Global) -> Objects
+        ensures { result ≡ [] }
+    {
+        Objects {
+            decls: Vec::new(alloc),
+            threads: Vec::new(alloc),
+            queues: Vec::new(alloc),
+            items: Vec::new(alloc),
+            numbers: Vec::new(alloc),
+            names: Names::new(alloc),
+        }
+    }
+
+    /// All declarations, in order. An object's number is its place among them.
+    pub fn decls(&self) -> &[Decl]
+        ensures all { result.now ≡ self.now }
+        ensures few { length self.now < 2 ^ 32 }
+    {
+        &self.decls
+    }
+
+    /// The object numbers of the threads, in order.
+    pub fn threads(&self) -> &[u32]
+        ensures all { result.now ≡ places is_thread self.now }
+    {
+        &self.threads
+    }
+
+    /// The object numbers of the work queues, in order.
+    pub fn queues(&self) -> &[u32]
+        ensures all { result.now ≡ places is_queue self.now }
+    {
+        &self.queues
+    }
+
+    /// The object numbers of the work items, in order.
+    pub fn items(&self) -> &[u32]
+        ensures all { result.now ≡ places is_item self.now }
+    {
+        &self.items
+    }
+
+    /// How many players there are: the threads, and a worker for each queue.
+    pub fn player_count(&self) -> usize
+        ensures { result ≡ player_count self.now }
+    {
+        self.threads.len() + self.queues.len()
+    }
+
+    /// How many objects of a kind there are.
+    pub fn count(&self, kind: Kind) -> usize
+        ensures { result ≡ count_by (is_of kind) self.now }
+    {
+        match kind {
+            Kind::Thread => self.thread_count(),
+            Kind::Queue => self.queue_count(),
+            Kind::Item => self.item_count(),
+        }
+    }
+
+    fn thread_count(&self) -> usize
+        ensures { result ≡ count_by is_thread self.now }
+    {
+        self.threads.len()
+    }
+
+    fn queue_count(&self) -> usize
+        ensures { result ≡ count_by is_queue self.now }
+    {
+        self.queues.len()
+    }
+
+    fn item_count(&self) -> usize
+        ensures { result ≡ count_by is_item self.now }
+    {
+        self.items.len()
+    }
+
+    /// The number of an object among those of its kind.
+    pub fn number(&self, object: u32) -> u32
+        ensures { result ≡ number_of self.now object }
+    {
+        self.numbers.get(object as usize).copied().unwrap_or(0)
+    }
+
+    /// The object of a name.
+    pub fn find(&self, name: &[u8]) -> Option<u32>
+        ensures { result ≡ object_of self.now name.now }
+    {
+        self.names.find(name)
+    }
+
+    /// One declaration more, of a new name.
+    pub fn push(&mut self, alloc: Global, decl: Decl) -> Result<(), NoMemory>
+        requires few { length self.old < 2 ^ 32 - 1 }
+        requires fresh { object_of self.old (name_of decl) ≡ None }
+        ensures ok { OnOk result (self.new ≡ self.old ++ decl ∷ []) }
+        ensures unchanged { OnErr result (self.new ≡ self.old) }
+    {
+        make_room(&mut self.decls)?;
+        make_room(&mut self.numbers)?;
+        make_room(&mut self.threads)?;
+        make_room(&mut self.queues)?;
+        make_room(&mut self.items)?;
+        let object = self.decls.len() as u32;
+        self.names.insert(alloc, name_of(&decl), object)?;
+        let number = enlist(
+            &decl,
+            object,
+            &mut self.threads,
+            &mut self.queues,
+            &mut self.items,
+        );
+        put(&mut self.numbers, number);
+        put(&mut self.decls, decl);
+        Ok(())
+    }
+}
+
+/// Puts an object into the list of its declaration's kind, and answers its number there.
+fn enlist(
+    decl: &Decl,
+    object: u32,
+    threads: &mut Vec<u32>,
+    queues: &mut Vec<u32>,
+    items: &mut Vec<u32>,
+) -> u32
+    requires thread_room { HasRoom (vec_len threads.old) (vec_capacity threads.old) }
+    requires queue_room { HasRoom (vec_len queues.old) (vec_capacity queues.old) }
+    requires item_room { HasRoom (vec_len items.old) (vec_capacity items.old) }
+    ensures number { result ≡ length (own_list decl.now threads.old.items queues.old.items items.old.items) }
+    ensures threads { threads.new.items ≡ grown is_thread decl.now object threads.old.items }
+    ensures queues { queues.new.items ≡ grown is_queue decl.now object queues.old.items }
+    ensures items { items.new.items ≡ grown is_item decl.now object items.old.items }
+{
+    match decl {
+        Decl::Thread(..) => put_counted(threads, object),
+        Decl::Queue(..) => put_counted(queues, object),
+        Decl::Item(_) => put_counted(items, object),
+    }
+}
+
+/// One object more, for which there is room; answers how many there were.
+fn put_counted(list: &mut Vec<u32>, object: u32) -> u32
+    requires { HasRoom (vec_len list.old) (vec_capacity list.old) }
+    ensures number { result ≡ length list.old.items }
+    ensures items { list.new.items ≡ list.old.items ++ object ∷ [] }
+{
+    let number = list.len() as u32;
+    put(list, object);
+    number
+}
+
+/// Room for one item more.
+pub fn make_room<T>(list: &mut Vec<T>) -> Result<(), NoMemory>
+    ensures room { OnOk result (vec_len list.new < vec_capacity list.new) }
+    ensures unchanged { list.new.items ≡ list.old.items }
+{
+    list.reserve(1)?;
+    Ok(())
+}
+
+/// One item more, for which there is room.
+pub fn put<T: Drop>(list: &mut Vec<T>, item: T)
+    requires { vec_len list.old < vec_capacity list.old }
+    ensures { list.new.items ≡ list.old.items ++ item ∷ [] }
+{
+    match list.push(item) {
+        Ok(()) => {}
+        Err(_) => unreachable!(),
+    }
+}

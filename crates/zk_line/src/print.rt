@@ -1,0 +1,103 @@
+ghost use Rattle.std.specs.Prelude.{◌≡◌, [], ◌∷◌, ◌++◌, map, OnOk};
+ghost use Rattle.std.specs.Fmt.{signed_decimal};
+ghost use Rattle.zk_line.specs.Args.{arg_text, ref_name};
+ghost use Rattle.zk_line.specs.Calls.{standing};
+ghost use Rattle.zk_line.specs.Text.{said_line, decl_line, call_line, behind};
+ghost use Rattle.zk_words.specs.Table.{row_of};
+
+use crate::calls::said_of;
+use crate::decls::decl_args;
+use crate::kinds::{kind_of, name_at};
+use crate::types::{Arg, Call, Decl, Ref};
+use itoa::Buffer;
+use zk_base::{NoMemory, put, put_decimal};
+use zk_words::{Head, choice_text, row_of};
+
+/// Appends the line of a declaration. As below, no line feed is written, and after an error a part of
+/// the line may stand there.
+pub fn put_decl(out: &mut Vec<u8>, decl: &Decl) -> Result<(), NoMemory>
+    ensures { OnOk result (out.new.items ≡ out.old.items ++ decl_line decl.now) }
+{
+    put_said(out, &[], Head::Declare(kind_of(decl)), &decl_args(decl))
+}
+
+/// The line of a call.
+pub fn put_call(out: &mut Vec<u8>, decls: &[Decl], call: &Call) -> Result<(), NoMemory>
+    ensures { OnOk result (out.new.items ≡ out.old.items ++ call_line decls.now call.now) }
+{
+    let said = said_of(call);
+    put_said(out, decls, Head::Call(said.word), &said.args)
+}
+
+/// The line of a head and what stands behind it.
+pub fn put_said(
+    out: &mut Vec<u8>,
+    decls: &[Decl],
+    head: Head,
+    args: &[Option<Arg>],
+) -> Result<(), NoMemory>
+    ensures { OnOk result (out.new.items ≡ out.old.items ++ said_line decls.now head (standing args.now)) }
+{
+    put_first(out, head)?;
+    put_args(out, decls, args)
+}
+
+fn put_first(out: &mut Vec<u8>, head: Head) -> Result<(), NoMemory>
+    ensures { OnOk result (out.new.items ≡ out.old.items ++ (row_of head).first) }
+{
+    put(out, row_of(head).first)
+}
+
+fn put_args(out: &mut Vec<u8>, decls: &[Decl], args: &[Option<Arg>]) -> Result<(), NoMemory>
+    ensures { OnOk result
+        (out.new.items ≡ out.old.items ++ behind (map (arg_text decls.now) (standing args.now))) }
+{
+    let mut args = args;
+    while let [arg, more @ ..] = args {
+        put_some(out, decls, arg)?;
+        args = more;
+    }
+    Ok(())
+}
+
+fn put_some(out: &mut Vec<u8>, decls: &[Decl], arg: &Option<Arg>) -> Result<(), NoMemory>
+    ensures { OnOk result
+        (out.new.items ≡ out.old.items ++ behind (map (arg_text decls.now) (standing (arg.now ∷ [])))) }
+{
+    match arg {
+        Some(arg) => {
+            out.push(b' ')?;
+            put_arg(out, decls, arg)
+        }
+        None => Ok(()),
+    }
+}
+
+/// The one spelling of what a word says.
+fn put_arg(out: &mut Vec<u8>, decls: &[Decl], arg: &Arg) -> Result<(), NoMemory>
+    ensures { OnOk result (out.new.items ≡ out.old.items ++ arg_text decls.now arg.now) }
+{
+    match arg {
+        Arg::Name(name) => put(out, name.bytes()),
+        Arg::Object(object) => put(out, ref_name(decls, object)),
+        Arg::Number(number) => put_decimal(out, u64::from(*number)),
+        Arg::Priority(prio) => put_priority(out, *prio),
+        Arg::Truth(choice, truth) => put(out, choice_text(*choice, *truth)),
+    }
+}
+
+fn put_priority(out: &mut Vec<u8>, prio: i8) -> Result<(), NoMemory>
+    ensures { OnOk result (out.new.items ≡ out.old.items ++ signed_decimal prio) }
+{
+    let mut digits = Buffer::new();
+    put(out, digits.format(prio).as_bytes())
+}
+
+/// The name of an object that a call names.
+fn ref_name<'a>(decls: &'a [Decl], object: &Ref) -> &'a [u8]
+    ensures { result.now ≡ ref_name decls.now object.now }
+{
+    match object {
+        Ref::Known(object) => name_at(decls, *object),
+    }
+}

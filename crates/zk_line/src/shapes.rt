@@ -1,0 +1,95 @@
+ghost use Rattle.std.specs.Prelude.{◌≡◌};
+ghost use Rattle.zk_line.specs.Shapes.{as_name, as_object, as_number, as_priority, as_truth, one, two, three, one_or_two};
+
+use crate::types::{Arg, Ref};
+use zk_base::Name;
+use zk_words::{Choice, same_choice};
+
+/// One object.
+pub fn one_object(args: &[Arg]) -> Option<Ref>
+    ensures { result ≡ one as_object args.now }
+{
+    match args {
+        [Arg::Object(object)] => Some(*object),
+        _ => None,
+    }
+}
+
+/// One number.
+pub fn one_number(args: &[Arg]) -> Option<u32>
+    ensures { result ≡ one as_number args.now }
+{
+    match args {
+        [Arg::Number(number)] => Some(*number),
+        _ => None,
+    }
+}
+
+/// An object, and perhaps another.
+pub fn object_maybe(args: &[Arg]) -> Option<(Ref, Option<Ref>)>
+    ensures { result ≡ one_or_two as_object as_object args.now }
+{
+    match args {
+        [Arg::Object(object)] => Some((*object, None)),
+        [Arg::Object(object), Arg::Object(other)] => Some((*object, Some(*other))),
+        _ => None,
+    }
+}
+
+/// Two objects and a number.
+pub fn two_objects_number(args: &[Arg]) -> Option<(Ref, Ref, u32)>
+    ensures { result ≡ three as_object as_object as_number args.now }
+{
+    match args {
+        [Arg::Object(first), Arg::Object(second), Arg::Number(number)] => Some((
+            *first, *second, *number,
+        )),
+        _ => None,
+    }
+}
+
+/// An object and one of the two words of a choice.
+pub fn object_truth(choice: Choice, args: &[Arg]) -> Option<(Ref, bool)>
+    ensures { result ≡ two as_object (as_truth choice) args.now }
+{
+    match args {
+        [Arg::Object(object), Arg::Truth(other, truth)] => {
+            if same_choice(choice, *other) {
+                Some((*object, *truth))
+            } else {
+                None
+            }
+        }
+        _ => None,
+    }
+}
+
+/// One name.
+pub fn one_name(args: &[Arg]) -> Option<Name>
+    ensures { result ≡ one as_name args.now }
+{
+    match args {
+        [Arg::Name(name)] => Some(*name),
+        _ => None,
+    }
+}
+
+/// A name, a priority and one of the two words of a choice.
+pub fn name_priority_truth(choice: Choice, args: &[Arg]) -> Option<(Name, i8, bool)>
+    ensures { result ≡ three as_name as_priority (as_truth choice) args.now }
+{
+    match args {
+        [
+            Arg::Name(name),
+            Arg::Priority(prio),
+            Arg::Truth(other, truth),
+        ] => {
+            if same_choice(choice, *other) {
+                Some((*name, *prio, *truth))
+            } else {
+                None
+            }
+        }
+        _ => None,
+    }
+}

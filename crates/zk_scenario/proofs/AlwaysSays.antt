@@ -1,0 +1,51 @@
+-- A line to which no reason applies says something, so the last refusal of `told` never comes.
+use Rattle.std.proofs.Common.{◌≡◌, ℕ, Bool, true, false, List, [], ◌∷◌, Option, Some, None, refl, sym, ap, subst, ◌∙◌}
+use Rattle.std.specs.Prelude.{option_map, option_and_then, IsSome}
+use Rattle.std.specs.Option.{option_map_or}
+use Rattle.std.proofs.lemmas.Bool.{and_parts}
+use Rattle.zk_words.specs.declared.slot.Rest.TheVariants.{Nothing}
+use Rattle.zk_words.specs.declared.slot.Slot.TheVariants as slot
+use Rattle.zk_words.specs.declared.word.Head.{Head}
+use Rattle.zk_words.specs.declared.word.Head.TheVariants as head
+use Rattle.zk_words.specs.Lines.{IsForm}
+use Rattle.zk_words.specs.Parts.{Placed, fits, parts_of as placed_of}
+use Rattle.zk_line.specs.Args.{args_of}
+use Rattle.zk_line.specs.Calls.{call_of}
+use Rattle.zk_line.specs.Checks.{first_object, are_well_named}
+use Rattle.zk_line.specs.Decls.{decl_of}
+use Rattle.zk_line.specs.Objects.{object_of, is_at, names, plays_script}
+use Rattle.zk_line.proofs.Makes.{AreRight, are_right, makes_call, makes_decl}
+use Rattle.zk_scenario.specs.Reading.{Reading, declared, called}
+use Rattle.zk_scenario.specs.Verdict.{verdict, opened, after}
+use Rattle.zk_scenario.proofs.AcceptedLines.{Passes, Passes-verdict}
+
+some-map : {X Y : Type 0} (f : X → Y) (o : Option X) → IsSome o → IsSome (option_map f o)
+some-map f (Some x) e = refl
+some-map f None e = absurd (cc)
+
+-- the one word of a script's head names an object
+owner-some : (r : Reading) (parts : List Placed) (ws : List (List ℕ)) → fits (slot.Owner ∷ []) Nothing ws ≡ true → parts ≡ placed_of (slot.Owner ∷ []) Nothing ws → are_well_named r.decls parts ≡ true
+    → IsSome (first_object r.decls parts)
+owner-some r parts [] fit is named = absurd (cc)
+owner-some r parts (w ∷ []) fit is named =
+    subst (λ ps. IsSome (first_object r.decls ps)) (sym is) (by_place (object_of r.decls w) (and_parts (names plays_script r.decls w) true (sym (ap (are_well_named r.decls) is) ∙ named)).0) where
+      by_place : (o : Option ℕ) → option_map_or (is_at plays_script r.decls) o false ≡ true → IsSome o
+      by_place (Some k) e = refl
+      by_place None e = absurd (cc)
+owner-some r parts (w ∷ v ∷ ws) fit is named = absurd (cc)
+
+pub after-some : (r : Reading) (h : Head) (parts : List Placed) → IsForm h parts → verdict r h parts ≡ None → IsSome (after r h parts)
+after-some r (head.Declare k) parts form e =
+    let p = Passes-verdict r (head.Declare k) parts e in
+    let right = subst (AreRight r.decls) form.placed (are_right r.decls parts form.spelled p.in_range p.well_named) in
+    some-map (declared r) (option_and_then (decl_of k) (args_of r.decls parts))
+    (subst (λ ps. IsSome (option_and_then (decl_of k) (args_of r.decls ps))) (sym form.placed) (makes_decl k r.decls form.words form.fitting right))
+after-some r head.Script parts form e =
+    let p = Passes-verdict r head.Script parts e in
+    some-map (opened r) (first_object r.decls parts) (owner-some r parts form.words form.fitting form.placed p.well_named)
+after-some r head.End parts form e = refl
+after-some r (head.Call w) parts form e =
+    let p = Passes-verdict r (head.Call w) parts e in
+    let right = subst (AreRight r.decls) form.placed (are_right r.decls parts form.spelled p.in_range p.well_named) in
+    some-map (called r) (option_and_then (call_of w) (args_of r.decls parts))
+    (subst (λ ps. IsSome (option_and_then (call_of w) (args_of r.decls ps))) (sym form.placed) (makes_call w r.decls form.words form.fitting right))

@@ -1,0 +1,14 @@
+use Rattle.std.proofs.Common.{rules}
+use Rattle.zk_line.proofs.Fits.{fresh-read}
+use Rattle.zk_words.specs.declared.word.Head.TheVariants as head
+use Rattle.zk_scenario.proofs.AcceptedLines.{Passes-verdict, IsValid-declared-is}
+use Rattle.zk_scenario.proofs.reader.Reader.accept_decl.Goals as goal
+
+pub declare-requires-clause-fresh : goal.declare-requires-clause-fresh
+declare-requires-clause-fresh c =
+    let passes = Passes-verdict c.args.self.now (head.Declare c.args.kind) c.args.parts c.requires in
+    fresh-read c.args.self.now.decls c.args.kind c.args.parts c.in-Some-decl_of.decl passes.well_named (search rules)
+
+pub declare-requires-clause-valid : goal.declare-requires-clause-valid
+declare-requires-clause-valid c =
+    IsValid-declared-is _ _ c.args.kind c.args.parts _ c.self.view_is c.self.invariant.valid c.requires (search rules)

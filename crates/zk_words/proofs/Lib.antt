@@ -1,0 +1,4 @@
+pub mod FirstWord
+pub mod Formed
+pub mod Numerals
+pub mod Placed

@@ -1,0 +1,10 @@
+pub mod Kinds
+pub mod Lines
+pub mod Numbers
+pub mod Parts
+pub mod Rows
+pub mod Spelled
+pub mod Table
+pub mod Text
+pub mod Unbuilt
+pub mod Words

@@ -1,0 +1,45 @@
+use Rattle.std.specs.Prelude.{ℕ, ◌^◌, ◌-◌, min, ℤ, pos, negsuc, neg_ℤ, ◌≤ℤ◌, Bool, false, not, ◌==◌, nat_le, nat_lt, ◌&&◌, ◌||◌, List, [], ◌∷◌, length, Option, Some, None, option_map, option_and_then, if◌then◌else◌}
+use Rattle.std.specs.Char.{is_ascii_digit}
+use Rattle.std.specs.List.{list_all}
+use Rattle.std.specs.Str.Parse.{digits_value}
+
+-- one decimal digit or more, where a zero stands first only alone
+abbrev pub is_number : List ℕ → Bool
+is_number [] = false
+is_number (b ∷ bs) = list_all is_ascii_digit (b ∷ bs) && (not (b == 48) || length bs == 0)
+
+-- the number that a word spells, of any size
+abbrev pub number_of : List ℕ → Option ℕ
+number_of word = if is_number word then Some (digits_value 10 word) else None
+
+-- the nearest number of 64 bits
+abbrev pub saturated : ℕ → ℕ
+saturated n = min n (2 ^ 64 - 1)
+
+-- whether a number is in a range
+abbrev pub is_between : ℕ → ℕ → ℕ → Bool
+is_between least most n = nat_le least n && nat_le n most
+
+-- the number of 32 bits in a range that a word spells
+abbrev pub number_in : ℕ → ℕ → List ℕ → Option ℕ
+number_in least most word =
+    option_and_then (λ n. if is_between least most n && nat_lt n (2 ^ 32) then Some n else None) (number_of word)
+
+-- the priority n, nothing where it is out of its range
+abbrev pub priority_above : ℕ → Option ℤ
+priority_above n = if nat_le n 15 then Some (pos n) else None
+
+-- the priority -n, likewise; `-0` is no spelling
+abbrev pub priority_below : ℕ → Option (Option ℤ)
+priority_below n = if n == 0 then None else Some (if nat_le n 16 then Some (neg_ℤ (pos n)) else None)
+
+-- what a word says as a priority: no spelling of one, one out of its range, or one from -16 to 15
+abbrev pub priority_of : List ℕ → Option (Option ℤ)
+priority_of [] = None
+priority_of (b ∷ bs) =
+    if b == 45 then option_and_then priority_below (number_of bs) else option_map priority_above (number_of (b ∷ bs))
+
+-- a priority from -16 to 15
+abbrev pub IsPriority : Option ℤ → Type 0
+IsPriority None = ⊥
+IsPriority (Some prio) = (negsuc 15 ≤ℤ prio) × (prio ≤ℤ pos 15)

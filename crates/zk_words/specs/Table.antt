@@ -1,0 +1,73 @@
+use Rattle.std.specs.Prelude.{ℕ, List, [], ◌∷◌, codes}
+use Rattle.zk_words.specs.declared.kind.Kind.{Kind}
+use Rattle.zk_words.specs.declared.kind.Kind.TheVariants as kind
+use Rattle.zk_words.specs.declared.kind.Need.TheVariants as need
+use Rattle.zk_words.specs.declared.word.Word.{Word}
+use Rattle.zk_words.specs.declared.word.Word.TheVariants as word
+use Rattle.zk_words.specs.declared.word.Head.{Head}
+use Rattle.zk_words.specs.declared.word.Head.TheVariants.{Declare, Script, End, Call}
+use Rattle.zk_words.specs.declared.slot.Choice.TheVariants.{Mode, State, Drain}
+use Rattle.zk_words.specs.declared.slot.Slot.{Slot}
+use Rattle.zk_words.specs.declared.slot.Slot.TheVariants.{New, Owner, Object, Number, Priority, Either}
+use Rattle.zk_words.specs.declared.slot.Rest.{Rest}
+use Rattle.zk_words.specs.declared.slot.Rest.TheVariants.{Nothing, Maybe}
+use Rattle.zk_words.specs.Rows.{Form}
+
+-- a work item
+abbrev pub item : Slot
+item = Object need.Item
+
+-- a work queue
+abbrev pub queue : Slot
+queue = Object need.Queue
+
+-- a delay in ticks
+abbrev pub delay : Slot
+delay = Number 0 1000000
+
+-- the ticks by which the clock goes on at once
+abbrev pub ticks : Slot
+ticks = Number 1 1000000
+
+-- a line of just these slots
+abbrev pub exactly : List ℕ → List Slot → Form
+exactly first slots = record { first = first; slots = slots; rest = Nothing }
+
+-- a line of these slots, and perhaps one more
+abbrev pub perhaps : List ℕ → List Slot → Slot → Form
+perhaps first slots last = record { first = first; slots = slots; rest = Maybe last }
+
+-- the declarations
+abbrev pub kind_row : Kind → Form
+kind_row kind.Thread = exactly (codes "thread") (New ∷ Priority ∷ Either Mode ∷ [])
+kind_row kind.Queue = exactly (codes "queue") (New ∷ Priority ∷ Either State ∷ [])
+kind_row kind.Item = exactly (codes "item") (New ∷ [])
+
+-- the calls
+abbrev pub call_row : Word → Form
+call_row word.Submit = perhaps (codes "submit") (item ∷ []) queue
+call_row word.Cancel = exactly (codes "cancel") (item ∷ [])
+call_row word.CancelSync = exactly (codes "cancelsync") (item ∷ [])
+call_row word.Flush = exactly (codes "flush") (item ∷ [])
+call_row word.Schedule = exactly (codes "schedule") (item ∷ queue ∷ delay ∷ [])
+call_row word.Reschedule = exactly (codes "reschedule") (item ∷ queue ∷ delay ∷ [])
+call_row word.Remaining = exactly (codes "remaining") (item ∷ [])
+call_row word.Start = exactly (codes "start") (queue ∷ [])
+call_row word.Drain = exactly (codes "drain") (queue ∷ Either Drain ∷ [])
+call_row word.Unplug = exactly (codes "unplug") (queue ∷ [])
+call_row word.Tick = exactly (codes "tick") (ticks ∷ [])
+
+-- the table: the form of each line behind the first
+abbrev pub row_of : Head → Form
+row_of (Declare kind) = kind_row kind
+row_of Script = exactly (codes "script") (Owner ∷ [])
+row_of End = exactly (codes "end") []
+row_of (Call word) = call_row word
+
+-- the heads of the lines that are built
+abbrev pub heads : List Head
+heads =
+    Declare kind.Thread ∷ Declare kind.Queue ∷ Declare kind.Item ∷ Script ∷ End
+    ∷ Call word.Submit ∷ Call word.Cancel ∷ Call word.CancelSync ∷ Call word.Flush
+    ∷ Call word.Schedule ∷ Call word.Reschedule ∷ Call word.Remaining
+    ∷ Call word.Start ∷ Call word.Drain ∷ Call word.Unplug ∷ Call word.Tick ∷ []

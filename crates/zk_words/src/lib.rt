@@ -1,0 +1,25 @@
+//! The words of a scenario's line: one table says what stands behind each first word, and a line is read by it.
+#![tactic(auto)]
+
+mod kind;
+mod line;
+mod numbers;
+mod parts;
+mod slot;
+mod spelled;
+mod table;
+#[cfg(test)]
+mod tests;
+mod unbuilt;
+mod word;
+mod words;
+
+pub use kind::{Kind, Need, makes_player, meets, plays_script, same_kind};
+pub use line::{Line, line_of};
+pub use numbers::{number_in, number_of, priority_of};
+pub use parts::{Part, Parts};
+pub use slot::{Choice, Rest, Slot};
+pub use spelled::{choice_text, same_choice};
+pub use table::{Row, row_of};
+pub use word::{Head, Word};
+pub use words::Words;

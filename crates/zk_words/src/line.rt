@@ -1,0 +1,80 @@
+ghost use Rattle.std.specs.Prelude.{◌≡◌};
+ghost use Rattle.zk_words.specs.Lines.{head_of, are_behind, formed, line_behind, rowless, line_of};
+
+use crate::parts::{Parts, fits};
+use crate::spelled::{are_spelled, has_later};
+use crate::table::{Row, heads, row_of};
+use crate::unbuilt::is_unbuilt;
+use crate::word::Head;
+use crate::words::Words;
+
+/// One line of a scenario behind the first, by its spelling alone.
+#[derive(Debug, Drop)]
+pub enum Line<'a> {
+    /// The grammar has the line, and the program can't play it yet.
+    Unbuilt,
+    /// No form of a line, or a wrong spelling.
+    Misspelled,
+    /// What the line is, and the words behind its first.
+    Formed(Head, Parts<'a>),
+}
+
+/// What a line, without its line feed, says by its spelling alone.
+pub fn line_of(line: &[u8]) -> Line<'_>
+    ensures { result ≡ line_of line.now }
+{
+    let mut words = Words::of(line);
+    let Some(first) = words.next() else {
+        return Line::Misspelled;
+    };
+    match head_of(first) {
+        Some(head) => line_behind(head, words),
+        None => rowless(first),
+    }
+}
+
+fn head_of(first: &[u8]) -> Option<Head>
+    ensures { result ≡ head_of first.now }
+{
+    heads()
+        .iter()
+        .copied()
+        .find(|head| first == row_of(*head).first)
+}
+
+fn rowless(first: &[u8]) -> Line<'_>
+    ensures { result ≡ rowless first.now }
+{
+    if is_unbuilt(first) {
+        Line::Unbuilt
+    } else {
+        Line::Misspelled
+    }
+}
+
+fn line_behind<'a>(head: Head, words: Words<'a>) -> Line<'a>
+    ensures { result ≡ line_behind head words.entry }
+{
+    let row = row_of(head);
+    if are_behind(&row, words.again()) {
+        formed(head, Parts::of(&row, words))
+    } else {
+        Line::Misspelled
+    }
+}
+
+fn formed<'a>(head: Head, parts: Parts<'a>) -> Line<'a>
+    ensures { result ≡ formed head parts.entry }
+{
+    if has_later(parts.again()) {
+        Line::Unbuilt
+    } else {
+        Line::Formed(head, parts)
+    }
+}
+
+fn are_behind(row: &Row, words: Words<'_>) -> bool
+    ensures { result ≡ are_behind row.now words.entry }
+{
+    fits(row, words.again()) && are_spelled(Parts::of(row, words))
+}

@@ -1,0 +1,37 @@
+use crate::kind::Need;
+
+/// One of two words, the first of which is true.
+#[derive(Clone, Copy, Debug)]
+pub enum Choice {
+    /// `user` or `super`.
+    Mode,
+    /// `on` or `off`.
+    State,
+    /// `plug` or `open`.
+    Drain,
+}
+
+/// What stands for one word of a line.
+#[derive(Clone, Copy, Debug)]
+pub enum Slot {
+    /// The name of a new object.
+    New,
+    /// The name of an object that can play a script.
+    Owner,
+    /// The name of an object that meets the need.
+    Object(Need),
+    /// A number from the first to the second.
+    Number(u32, u32),
+    /// A priority, from -16 to 15.
+    Priority,
+    /// One of two words.
+    Either(Choice),
+}
+
+/// What may stand behind the slots.
+#[derive(Clone, Copy, Debug)]
+pub enum Rest {
+    Nothing,
+    /// One word or none.
+    Maybe(Slot),
+}

@@ -1,0 +1,121 @@
+ghost use Rattle.std.specs.Prelude.{◌≡◌};
+ghost use Rattle.zk_words.specs.Table.{exactly, perhaps, heads, row_of, call_row, kind_row};
+
+use crate::kind::{Kind, Need};
+use crate::slot::{Choice, Rest, Slot};
+use crate::word::{Head, Word};
+use std::marker::Model;
+
+/// A form of a line: its first word, the slots behind that, and what may stand behind those.
+#[derive(Debug, Drop)]
+pub struct Row {
+    pub first: &'static [u8],
+    pub slots: &'static [Slot],
+    pub rest: Rest,
+}
+
+impl Model for Row {
+    ghost use Rattle.zk_words.specs.Rows.{Form};
+
+    ghost Value = { Form };
+
+    ghost view = { λ r. record { first = r.first.now; slots = r.slots.now; rest = r.rest } };
+}
+
+const ITEM: Slot = Slot::Object(Need::Item);
+
+const QUEUE: Slot = Slot::Object(Need::Queue);
+
+const DELAY: Slot = Slot::Number(0, 1_000_000);
+
+const TICKS: Slot = Slot::Number(1, 1_000_000);
+
+/// The form of a line.
+pub fn row_of(head: Head) -> Row
+    ensures { result ≡ row_of head }
+{
+    match head {
+        Head::Declare(kind) => kind_row(kind),
+        Head::Script => exactly(b"script", &[Slot::Owner]),
+        Head::End => exactly(b"end", &[]),
+        Head::Call(word) => call_row(word),
+    }
+}
+
+fn exactly(first: &'static [u8], slots: &'static [Slot]) -> Row
+    ensures { result ≡ exactly first.now slots.now }
+{
+    Row {
+        first,
+        slots,
+        rest: Rest::Nothing,
+    }
+}
+
+fn perhaps(first: &'static [u8], slots: &'static [Slot], last: Slot) -> Row
+    ensures { result ≡ perhaps first.now slots.now last }
+{
+    Row {
+        first,
+        slots,
+        rest: Rest::Maybe(last),
+    }
+}
+
+fn kind_row(kind: Kind) -> Row
+    ensures { result ≡ kind_row kind }
+{
+    match kind {
+        Kind::Thread => exactly(
+            b"thread",
+            &[Slot::New, Slot::Priority, Slot::Either(Choice::Mode)],
+        ),
+        Kind::Queue => exactly(
+            b"queue",
+            &[Slot::New, Slot::Priority, Slot::Either(Choice::State)],
+        ),
+        Kind::Item => exactly(b"item", &[Slot::New]),
+    }
+}
+
+fn call_row(word: Word) -> Row
+    ensures { result ≡ call_row word }
+{
+    match word {
+        Word::Submit => perhaps(b"submit", &[ITEM], QUEUE),
+        Word::Cancel => exactly(b"cancel", &[ITEM]),
+        Word::CancelSync => exactly(b"cancelsync", &[ITEM]),
+        Word::Flush => exactly(b"flush", &[ITEM]),
+        Word::Schedule => exactly(b"schedule", &[ITEM, QUEUE, DELAY]),
+        Word::Reschedule => exactly(b"reschedule", &[ITEM, QUEUE, DELAY]),
+        Word::Remaining => exactly(b"remaining", &[ITEM]),
+        Word::Start => exactly(b"start", &[QUEUE]),
+        Word::Drain => exactly(b"drain", &[QUEUE, Slot::Either(Choice::Drain)]),
+        Word::Unplug => exactly(b"unplug", &[QUEUE]),
+        Word::Tick => exactly(b"tick", &[TICKS]),
+    }
+}
+
+/// The heads of the lines that are built.
+pub fn heads() -> &'static [Head]
+    ensures { result.now ≡ heads }
+{
+    &[
+        Head::Declare(Kind::Thread),
+        Head::Declare(Kind::Queue),
+        Head::Declare(Kind::Item),
+        Head::Script,
+        Head::End,
+        Head::Call(Word::Submit),
+        Head::Call(Word::Cancel),
+        Head::Call(Word::CancelSync),
+        Head::Call(Word::Flush),
+        Head::Call(Word::Schedule),
+        Head::Call(Word::Reschedule),
+        Head::Call(Word::Remaining),
+        Head::Call(Word::Start),
+        Head::Call(Word::Drain),
+        Head::Call(Word::Unplug),
+        Head::Call(Word::Tick),
+    ]
+}

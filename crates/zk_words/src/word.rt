@@ -1,0 +1,30 @@
+use crate::kind::Kind;
+
+/// The call that a line makes.
+#[derive(Clone, Copy, Debug, PartialEq, Eq)]
+pub enum Word {
+    Submit,
+    Cancel,
+    CancelSync,
+    Flush,
+    Schedule,
+    Reschedule,
+    Remaining,
+    Start,
+    Drain,
+    Unplug,
+    Tick,
+}
+
+/// What a line's first word says that the line is.
+#[derive(Clone, Copy, Debug)]
+pub enum Head {
+    /// The declaration of an object of this kind.
+    Declare(Kind),
+    /// The head of a script.
+    Script,
+    /// The end of the open script.
+    End,
+    /// A call of the open script.
+    Call(Word),
+}
