@@ -58,4 +58,3 @@ Appends-more (Some xs) (Some ys) (Some zs) text m n within so more =
 -- the rest of a text is all that lies behind a place
 pub take-rest : (m : ℕ) (text : List ℕ) → take (length text - m) (drop m text) ≡ drop m text
 take-rest m text = take_all (length text - m) (drop m text) (let sized = length-drop m text in omega arith)
-

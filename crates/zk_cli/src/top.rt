@@ -90,7 +90,7 @@ fn is_replay(words: &[String]) -> bool
 fn refuse_words<K: Sink>(sink: &mut K) -> Status
     ensures { ((result ≡ Status.Words) × Appends (K.held sink.old) (K.held sink.new) words_refused)
         ⊎ ((result ≡ Status.WriteFault) × AppendsFront (K.held sink.old) (K.held sink.new) words_refused
-            × Rose (K.faults sink.old) (K.faults sink.new)) }
+        × Rose (K.faults sink.old) (K.faults sink.new)) }
 {
     match write_text(sink, b"refused words\n") {
         Ok(()) => Status::Words,
