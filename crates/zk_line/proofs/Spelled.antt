@@ -1,6 +1,6 @@
 -- What a word says in its slot has one spelling, the word; so has what a line says.
-use Rattle.std.proofs.Common.{◌≡◌, ℕ, Bool, true, false, cond, List, [], ◌∷◌, map, get_or, Option, Some, None, refl, sym, ap, ◌∙◌, unwrap_or}
-use Rattle.std.specs.Prelude.{ℤ, pos, option_map, option_and_then}
+use Rattle.std.proofs.Common.{◌≡◌, ℕ, Bool, true, false, cond, List, [], ◌∷◌, map, get_or, Option, Some, None, refl, sym, ap, ◌∙◌}
+use Rattle.std.specs.Prelude.{ℤ, option_map, option_and_then}
 use Rattle.std.specs.Fmt.{signed_decimal}
 use Rattle.std.specs.Option.{option_map_or, option_flatten}
 use Rattle.std.specs.Str.{bytes_eq}

@@ -3,7 +3,7 @@ use Rattle.zk_words.specs.declared.kind.Need.{Need}
 use Rattle.zk_words.specs.declared.slot.Slot.{Slot}
 use Rattle.zk_words.specs.declared.slot.Slot.TheVariants as slot
 use Rattle.zk_words.specs.declared.slot.Rest.{Rest}
-use Rattle.zk_words.specs.declared.slot.Rest.TheVariants.{Nothing, Maybe}
+use Rattle.zk_words.specs.declared.slot.Rest.TheVariants.{Maybe}
 use Rattle.zk_words.specs.Numbers.{is_between}
 use Rattle.zk_words.specs.Table.{call_row}
 use Rattle.zk_line.specs.declared.types.Decl.{Decl}

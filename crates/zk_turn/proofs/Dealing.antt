@@ -1,23 +1,22 @@
 -- The rule at the start of a cell, and the passes that are dealt from its first seat.
-use Rattle.std.proofs.Common.{◌≡◌, ◌≢◌, ◌⊎◌, inl, inr, ⊎_elim, ℕ, zero, suc, ◌+◌, ◌<◌, ◌≤◌, ◌||◌, true, false, Some, Option, List, [], ◌∷◌, ◌++◌, length, set, All, refl, sym, ap, subst, ◌∙◌, arith, eqb}
-use Rattle.std.specs.List.{sum_by}
+use Rattle.std.proofs.Common.{◌≡◌, inl, ⊎_elim, ℕ, zero, suc, ◌≤◌, ◌||◌, true, false, Some, Option, List, [], ◌∷◌, ◌++◌, length, set, refl, sym, ap, subst, ◌∙◌, arith, eqb}
 use Rattle.std.proofs.lemmas.Bool.{or_cases, or_left, or_right, or_parts}
 use Rattle.std.proofs.lemmas.List.Sums.{sum_by_push}
-use Rattle.std.proofs.lemmas.List.Elements.{All-nil, All-weaker}
+use Rattle.std.proofs.lemmas.List.Elements.{All-nil}
 use mathlib.Core.Option.{some, some-injective, some-ne-none}
 use native.Mathlib.Decide.{ℕ_discrete}
 use lib.ListN.{get_elem?}
 use Rattle.atomic_table.specs.declared.shared.Seat.{Seat}
-use Rattle.atomic_table.specs.Table.{State, Me, Splits, opening}
+use Rattle.atomic_table.specs.Table.{Me, Splits, opening}
 use Rattle.atomic_table.proofs.Lists.{at_set, set_else, at_longer, at_last}
 use Rattle.zk_base.specs.declared.ids.Who.{Who}
 use Rattle.zk_base.specs.declared.ids.Entry.{Entry}
 use Rattle.zk_turn.specs.declared.views.View.{View}
 use Rattle.zk_turn.specs.declared.pass.Pass.{Pass}
 use Rattle.zk_turn.specs.declared.cell.Cell.{Cell}
-use Rattle.zk_turn.specs.Players.{has, is_by, Differ, most_entries}
+use Rattle.zk_turn.specs.Players.{has, is_by, Differ}
 use Rattle.zk_turn.specs.Views.{opened, dealt_from, dealt}
-use Rattle.zk_turn.specs.Turn.{HoldsTurn, SeatStands, AreApart, IsCovered, NoneHolds, SomeHolds, player_count, tickets_of, made_of, IsHome, Turn}
+use Rattle.zk_turn.specs.Turn.{HoldsTurn, SeatStands, AreApart, IsCovered, player_count, tickets_of, made_of, Turn}
 use Rattle.zk_turn.specs.Passes.{IsNewPass, AreNewPasses, given_to}
 use Rattle.zk_turn.proofs.Players.{has-first, first-apart, GoesOn-same, GoesOn-fewer}
 use Rattle.zk_turn.proofs.Seats.{at-same, at-set_there, at-push, sum-set, AllApart-set, AllApart-push}

@@ -1,5 +1,5 @@
 -- The rule at the end of a cell, where one seat stands for all players.
-use Rattle.std.proofs.Common.{◌≡◌, ◌≢◌, ◌⊎◌, inl, inr, ⊎_elim, ℕ, ◌+◌, ◌<◌, ◌≤◌, true, false, Some, Option, List, [], ◌∷◌, ◌++◌, length, All, refl, sym, ap, subst, ◌∙◌, arith}
+use Rattle.std.proofs.Common.{◌≡◌, ◌≢◌, ⊎_elim, ℕ, ◌≤◌, true, false, Some, Option, List, [], ◌∷◌, length, All, refl, sym, ap, subst, ◌∙◌, arith}
 use Rattle.std.proofs.lemmas.List.Elements.{All-weaker}
 use mathlib.Core.Option.{some, some-injective}
 use native.Mathlib.Decide.{ℕ_discrete}
@@ -11,7 +11,7 @@ use Rattle.zk_turn.specs.declared.views.Stage.{Stage}
 use Rattle.zk_turn.specs.declared.views.Stage.TheVariants.{Idle, Waiting, Holding}
 use Rattle.zk_turn.specs.declared.views.View.{View}
 use Rattle.zk_turn.specs.Players.{has, is_by, own}
-use Rattle.zk_turn.specs.Turn.{ticket_count, HoldsTurn, IsCovered, player_count, IsHome, SomeHolds, Turn}
+use Rattle.zk_turn.specs.Turn.{ticket_count, HoldsTurn, IsCovered, player_count, IsHome, Turn}
 use Rattle.zk_turn.specs.Steps.{Fits}
 use Rattle.zk_turn.proofs.Players.{own-all, GoesOn-all}
 use Rattle.zk_turn.proofs.Seats.{at-same, sum-two}

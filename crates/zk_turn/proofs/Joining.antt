@@ -1,21 +1,19 @@
 -- Two seats become one and keep the rule.
-use Rattle.std.proofs.Common.{◌≡◌, ◌≢◌, ◌⊎◌, inl, inr, ⊎_elim, ℕ, ◌+◌, ◌<◌, ◌≤◌, ◌||◌, true, Some, Option, List, [], ◌∷◌, ◌++◌, length, set, All, refl, sym, ap, subst, ◌∙◌, arith}
+use Rattle.std.proofs.Common.{◌≡◌, ◌≢◌, ⊎_elim, ℕ, ◌+◌, ◌<◌, ◌||◌, true, List, length, set, sym, ap, subst, ◌∙◌, arith}
 use Rattle.std.specs.List.{sum_by}
 use Rattle.std.proofs.lemmas.Bool.{or_cases, or_left, or_right}
 use Rattle.std.proofs.lemmas.List.{set_comm, length-append}
-use Rattle.std.proofs.lemmas.List.Elements.{All-weaker}
 use mathlib.Core.Option.{some}
 use native.Mathlib.Decide.{ℕ_discrete}
 use lib.ListN.{get_elem?}
-use Rattle.atomic_table.specs.Table.{State, Joins}
+use Rattle.atomic_table.specs.Table.{Joins}
 use Rattle.atomic_table.proofs.Lists.{at_set, set_else}
 use Rattle.zk_base.specs.declared.ids.Entry.{Entry}
-use Rattle.zk_turn.specs.declared.views.Stage.{Stage}
 use Rattle.zk_turn.specs.declared.views.Stage.TheVariants.{Idle}
 use Rattle.zk_turn.specs.declared.views.View.{View}
 use Rattle.zk_turn.specs.Players.{has, is_by, longer}
 use Rattle.zk_turn.specs.Views.{joined, spent}
-use Rattle.zk_turn.specs.Turn.{ticket_count, HoldsTurn, SeatStands, AreApart, IsCovered, player_count, tickets_of, made_of, IsHome, SomeHolds, Turn}
+use Rattle.zk_turn.specs.Turn.{ticket_count, HoldsTurn, SeatStands, AreApart, IsCovered, player_count, tickets_of, made_of, SomeHolds, Turn}
 use Rattle.zk_turn.proofs.Players.{has-append, GoesOn-nobody, BothGoOn, GoesOn-longer}
 use Rattle.zk_turn.proofs.Seats.{at-same, at-set_there, sum-set, apart-turned, AllApart-set}
 use Rattle.zk_turn.proofs.Moving.{idle_holds_none, Turn-views}

@@ -1,5 +1,5 @@
 -- Each step of a seat keeps the rule, and tells what it tells.
-use Rattle.std.proofs.Common.{◌≡◌, ◌≢◌, ◌⊎◌, inl, inr, ⊎_elim, ℕ, ◌+◌, ◌*◌, ◌%◌, ◌^◌, ◌<◌, ◌≤◌, Bool, true, false, Some, None, Option, List, [], ◌∷◌, ◌++◌, length, set, get_or, All, refl, sym, ap, subst, ◌∙◌, arith}
+use Rattle.std.proofs.Common.{◌≡◌, ◌≢◌, inl, inr, ⊎_elim, ℕ, ◌+◌, ◌%◌, ◌^◌, ◌<◌, Bool, true, false, Some, None, Option, List, [], ◌∷◌, ◌++◌, length, set, get_or, All, refl, sym, ap, subst, ◌∙◌, arith}
 use Rattle.std.proofs.Math.Nat.{mod-eq_of_lt}
 use Rattle.std.proofs.lemmas.List.{length-set, get_or-set_same, length-append}
 use Rattle.std.proofs.lemmas.List.Elements.{All-nil, All-cons, All-append}
@@ -9,13 +9,12 @@ use lib.ListN.{get_elem?}
 use Rattle.atomic_table.specs.Table.{State, Me, Act, keeps, takes, gives, Allows, step, put_back, stepped, carried_after, Valid}
 use Rattle.atomic_table.proofs.Lists.{set_here, one_turn}
 use Rattle.zk_base.specs.declared.ids.Entry.{Entry}
-use Rattle.zk_turn.specs.declared.views.Stage.{Stage}
-use Rattle.zk_turn.specs.declared.views.Stage.TheVariants.{Idle, Waiting, Holding}
+use Rattle.zk_turn.specs.declared.views.Stage.TheVariants.{Idle, Waiting}
 use Rattle.zk_turn.specs.declared.views.View.{View}
-use Rattle.zk_turn.specs.Players.{is_by, GoesOn, most_entries}
+use Rattle.zk_turn.specs.Players.{is_by, GoesOn}
 use Rattle.zk_turn.specs.Views.{staged, holding, with_entry}
-use Rattle.zk_turn.specs.Turn.{ticket_count, HasTicket, HoldsTurn, TicketStands, SeatStands, IsCovered, SomeHolds, IsHome, Turn}
-use Rattle.zk_turn.specs.Steps.{out_with, Took, Came, Awaits, Draws, Publishes, PassesOn, Recalls}
+use Rattle.zk_turn.specs.Turn.{ticket_count, HasTicket, TicketStands, IsCovered, SomeHolds, IsHome, Turn}
+use Rattle.zk_turn.specs.Steps.{out_with, Awaits, Draws, Publishes, PassesOn, Recalls}
 use Rattle.zk_turn.specs.Passes.{IsReady, MayPass}
 use Rattle.zk_turn.proofs.Players.{GoesOn-same, GoesOn-push}
 use Rattle.zk_turn.proofs.Seats.{at-same, at-set_there}

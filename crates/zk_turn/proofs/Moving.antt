@@ -1,8 +1,8 @@
 -- A seat that changes its view and stands for the same players keeps the rule.
-use Rattle.std.proofs.Common.{◌≡◌, ◌≢◌, ◌⊎◌, inl, inr, ⊎_elim, ℕ, zero, suc, ◌+◌, ◌*◌, ◌%◌, ◌^◌, ◌<◌, ◌≤◌, true, Some, Option, List, [], ◌∷◌, ◌++◌, length, set, get_or, All, refl, sym, ap, subst, ◌∙◌, arith}
+use Rattle.std.proofs.Common.{◌≡◌, ◌≢◌, ◌⊎◌, inl, inr, ⊎_elim, ℕ, ◌+◌, ◌*◌, ◌%◌, ◌^◌, ◌<◌, ◌≤◌, Option, List, length, set, get_or, All, refl, sym, ap, subst, ◌∙◌, arith}
 use Rattle.std.specs.List.{sum_by}
 use Rattle.std.proofs.Math.Nat.{mod-add-mod}
-use Rattle.std.proofs.lemmas.List.{length-set, get_or-set_same, get_or-set_other, set-get_or}
+use Rattle.std.proofs.lemmas.List.{get_or-set_same, get_or-set_other, set-get_or}
 use Rattle.std.proofs.lemmas.List.Elements.{All-weaker}
 use mathlib.Core.Option as maths
 use mathlib.Core.Option.{some}
@@ -17,7 +17,7 @@ use Rattle.zk_turn.specs.declared.views.Stage.TheVariants.{Idle, Waiting, Holdin
 use Rattle.zk_turn.specs.declared.views.View.{View}
 use Rattle.zk_turn.specs.Players.{has, is_by, most_entries}
 use Rattle.zk_turn.specs.Turn.{ticket_count, HasTicket, HoldsTurn, TicketStands, SeatStands, AreApart, IsCovered, NoneHolds, SomeHolds, player_count, tickets_of, made_of, IsHome, Turn}
-use Rattle.zk_turn.proofs.Seats.{at-same, at-set_there, sum-set, sum-times, apart-turned, AllApart, AllApart-set}
+use Rattle.zk_turn.proofs.Seats.{at-same, at-set_there, sum-set, sum-times, AllApart, AllApart-set}
 
 -- the words after a step on one of them
 pub word-other : (words : List ℕ) (i j n d : ℕ) → j ≢ i → get_or words j 0 ≡ d → get_or (set words i n) j 0 ≡ d

@@ -8,15 +8,14 @@ use Rattle.zk_base.specs.declared.ids.Entry.{Entry}
 use Rattle.zk_base.specs.History.{entry, IsAbove}
 use Rattle.zk_base.specs.Legal.{Machine, IsLegal, state_after}
 use Rattle.zk_base.proofs.Histories.{IsLegal-snoc}
-use Rattle.zk_turn.specs.declared.views.Stage.{Stage}
-use Rattle.zk_turn.specs.declared.views.Stage.TheVariants.{Idle, Waiting, Holding}
+use Rattle.zk_turn.specs.declared.views.Stage.TheVariants.{Idle, Waiting}
 use Rattle.zk_turn.specs.declared.views.View.{View}
 use Rattle.zk_turn.specs.declared.pass.Pass.{Pass}
 use Rattle.zk_turn.specs.declared.held.Held.{Held}
 use Rattle.zk_turn.specs.declared.cell.Cell.{Cell}
-use Rattle.zk_turn.specs.Players.{has, is_by, most_entries}
+use Rattle.zk_turn.specs.Players.{is_by, most_entries}
 use Rattle.zk_turn.specs.Views.{staged, holding, with_entry, joined}
-use Rattle.zk_turn.specs.Steps.{Fits, Took, out_with}
+use Rattle.zk_turn.specs.Steps.{Fits, out_with}
 use Rattle.zk_turn.specs.Passes.{HasAdded, added_count, IsPassOf, IsHeld, IsHeldOf, IsReady, MayPass, IsPublished, given_to}
 use Rattle.zk_turn.proofs.Players.{longer-either, length-longer}
 

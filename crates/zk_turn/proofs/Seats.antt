@@ -6,8 +6,6 @@ use Rattle.std.proofs.lemmas.List.Sums.{sum_by-cons, sum_by-set, get_or-le-sum_b
 use mathlib.Core.Option.{some, some-injective, some-ne-none}
 use lib.ListN.{get_elem?}
 use Rattle.atomic_table.proofs.Lists.{at_set}
-use Rattle.zk_base.specs.declared.ids.Who.{Who}
-use Rattle.zk_base.specs.declared.ids.Entry.{Entry}
 use Rattle.zk_turn.specs.declared.views.View.{View}
 use Rattle.zk_turn.specs.Turn.{AreApart}
 

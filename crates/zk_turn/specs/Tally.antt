@@ -1,5 +1,5 @@
 -- A small service for the tests: it counts its entries, and answers how many there were before.
-use Rattle.std.specs.Prelude.{◌≡◌, ℕ, ◌+◌, ◌≤◌, Bool, true, false, Option, Some, is_some}
+use Rattle.std.specs.Prelude.{◌≡◌, ℕ, ◌+◌, ◌≤◌, Bool, true, false, Some, is_some}
 use Rattle.std.proofs.Common.{arith}
 use Rattle.zk_base.specs.declared.ids.Who.{Who}
 use Rattle.zk_base.specs.Legal.{Machine}

@@ -1,9 +1,9 @@
 -- What a seat at the table of a cell knows, and how that changes.
-use Rattle.std.specs.Prelude.{ℕ, ◌+◌, Option, Some, None, List, [], ◌∷◌, ◌++◌}
+use Rattle.std.specs.Prelude.{ℕ, ◌+◌, Some, None, List, [], ◌∷◌, ◌++◌}
 use Rattle.zk_base.specs.declared.ids.Who.{Who}
 use Rattle.zk_base.specs.declared.ids.Entry.{Entry}
 use Rattle.zk_turn.specs.declared.views.Stage.{Stage}
-use Rattle.zk_turn.specs.declared.views.Stage.TheVariants.{Idle, Waiting, Holding}
+use Rattle.zk_turn.specs.declared.views.Stage.TheVariants.{Idle, Holding}
 use Rattle.zk_turn.specs.declared.views.Part.{Part}
 use Rattle.zk_turn.specs.declared.views.View.{View}
 use Rattle.zk_turn.specs.Players.{but_first, first_alone, longer}

@@ -7,7 +7,6 @@ use Rattle.std.proofs.lemmas.Option.{same_Some}
 use Rattle.std.proofs.lemmas.Slice.Eq.{bytes_eq-Decides}
 use Rattle.std.proofs.lemmas.List.Splits.{join_with_byte-slice_split}
 use Rattle.zk_words.specs.declared.word.Head.{Head}
-use Rattle.zk_words.specs.declared.line.Line.{Line}
 use Rattle.zk_words.specs.declared.line.Line.TheVariants.{Unbuilt, Misspelled, Formed}
 use Rattle.zk_words.specs.Lines.{head_of, are_behind, formed, rowless, line_after, line_of_words, line_of, form_words, IsForm}
 use Rattle.zk_words.specs.Parts.{Placed, parts_of, fits}

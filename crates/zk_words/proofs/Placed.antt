@@ -1,9 +1,9 @@
 -- The words of a line in their slots.
-use Rattle.std.proofs.Common.{◌≡◌, ℕ, Bool, true, false, List, [], ◌∷◌, map, refl, ap}
+use Rattle.std.proofs.Common.{◌≡◌, ℕ, true, List, [], ◌∷◌, map, refl, ap}
 use Rattle.zk_words.specs.declared.slot.Slot.{Slot}
 use Rattle.zk_words.specs.declared.slot.Rest.{Rest}
 use Rattle.zk_words.specs.declared.slot.Rest.TheVariants.{Nothing, Maybe}
-use Rattle.zk_words.specs.Parts.{Placed, placed, rest_parts, parts_of, rest_fits, fits}
+use Rattle.zk_words.specs.Parts.{rest_parts, parts_of, rest_fits, fits}
 
 -- no word fills no slot
 pub parts_of_none : (slots : List Slot) (rest : Rest) → parts_of slots rest [] ≡ []

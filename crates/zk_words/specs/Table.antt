@@ -9,7 +9,6 @@ use Rattle.zk_words.specs.declared.word.Head.TheVariants.{Declare, Script, End, 
 use Rattle.zk_words.specs.declared.slot.Choice.TheVariants.{Mode, State, Drain}
 use Rattle.zk_words.specs.declared.slot.Slot.{Slot}
 use Rattle.zk_words.specs.declared.slot.Slot.TheVariants.{New, Owner, Object, Number, Priority, Either}
-use Rattle.zk_words.specs.declared.slot.Rest.{Rest}
 use Rattle.zk_words.specs.declared.slot.Rest.TheVariants.{Nothing, Maybe}
 use Rattle.zk_words.specs.Rows.{Form}
 

@@ -1,4 +1,4 @@
-use Rattle.std.proofs.Common.{◌-◌, take, ap, ◌≡◌, [], ◌∷◌, ◌++◌, subst, ◌∙◌, sym}
+use Rattle.std.proofs.Common.{◌-◌, take, ap, [], ◌∷◌, ◌++◌, subst, ◌∙◌}
 use Rattle.zk_base.specs.Legal.{IsLegal}
 use Rattle.zk_turn.specs.Passes.{AreNewPasses}
 use Rattle.zk_turn.proofs.Dealing.{AreNewPasses-some, AreNewPasses-pop}

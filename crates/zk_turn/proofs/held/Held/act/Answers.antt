@@ -1,4 +1,4 @@
-use Rattle.std.proofs.Common.{refl, sym}
+use Rattle.std.proofs.Common.{sym}
 use Rattle.zk_turn.proofs.Passes.{short_now, acted_now}
 use Rattle.zk_base.specs.Legal.{IsLegal}
 use Rattle.zk_turn.proofs.held.Held.act.Goals as goal
