@@ -17,7 +17,8 @@ length-padded bytes len held =
 -- padding gives the bytes back
 pub padded_name-take : (bytes : List ℕ) (len : ℕ) → IsPadded bytes len → padded_name (take len bytes) ≡ bytes
 padded_name-take bytes len held =
-    ap (λ n. take len bytes ++ replicate (16 - n) 0) (length-padded bytes len held) ∙ ap (λ z. take len bytes ++ z) (sym held.zeros) ∙ take-append-drop len bytes
+    ap (λ n. take len bytes ++ replicate (16 - n) 0) (length-padded bytes len held) ∙
+    ap (λ z. take len bytes ++ z) (sym held.zeros) ∙ take-append-drop len bytes
 
 -- a name has at most 16 bytes
 pub length-name : (text : List ℕ) → is_name text ≡ true → length text ≤ 16
@@ -29,10 +30,12 @@ length-name (b ∷ bs) named =
     omega arith
 
 -- a name written over the front of 16 zeros is padded
-pub IsPadded-made : (text zeros front : List ℕ) → is_name text ≡ true → zeros ≡ replicate 16 0 → front ≡ text → IsPadded (front ++ drop (length text) zeros) (length text)
+pub IsPadded-made : (text zeros front : List ℕ) → is_name text ≡ true → zeros ≡ replicate 16 0 → front ≡ text →
+    IsPadded (front ++ drop (length text) zeros) (length text)
 IsPadded-made text zeros front said are same =
     let within = length-name text said in
-    let rest : drop (length text) zeros ≡ replicate (16 - length text) 0 = ap (λ (z : List ℕ). drop (length text) z) are ∙ drop-replicate (length text) 16 0 in
+    let rest : drop (length text) zeros ≡ replicate (16 - length text) 0 =
+    ap (λ (z : List ℕ). drop (length text) z) are ∙ drop-replicate (length text) 16 0 in
     let sized = length-append text (drop (length text) zeros) in
     let long = ap length rest ∙ length-replicate (16 - length text) 0 in
     let P : List ℕ → Type 0 = λ f. IsPadded (f ++ drop (length text) zeros) (length text) in

@@ -10,7 +10,8 @@ Steps m s who op (Ok None) after = (m.reply_of s who op ≡ None) × after s
 Steps m s who op (Ok (Some two)) after = (m.reply_of s who op ≡ Some two.0) × (two.1 ≡ two.0) × after (m.next s who op)
 
 -- an engine beside its history: it stands for the state after the history, which is legal, and the owed entries have their room
-pub record IsRecorded {S O R : Type 0} (m : Machine S O R) (owed entries : S → ℕ) (stands : S → Type 0) (start : S) (past : List (Entry O R)) (long capacity : ℕ) : Type 0 where
+pub record IsRecorded {S O R : Type 0} (m : Machine S O R) (owed entries : S → ℕ) (stands : S → Type 0)
+    (start : S) (past : List (Entry O R)) (long capacity : ℕ) : Type 0 where
   pub stands_for : stands (state_after m start past)
   pub first : entries start ≡ 0
   pub legal : IsLegal m start past

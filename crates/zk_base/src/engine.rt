@@ -41,7 +41,8 @@ pub trait Engine: Drop {
         who: Who,
         op: &Self::Op,
     ) -> Result<Option<(Self::Reply, Self::Reply)>, NoMemory>
-        requires ready { (s : Self.State) × stands_for self.old s × (machine.in_range s op.now ≡ true) × (entries s < 2 ^ 32 - 1) }
+        requires ready { (s : Self.State) × stands_for self.old s
+            × (machine.in_range s op.now ≡ true) × (entries s < 2 ^ 32 - 1) }
         ensures step { (s : Self.State) → stands_for self.old s → Steps machine s who op.now result (stands_for self.new) }
         ensures closing { (s : Self.State) → stands_for self.old s → closes s who op.now ≡ true → IsOk result }
         ensures roomy { 3 ≤ room self.old → grows op.now ≡ false → IsOk result }

@@ -382,7 +382,8 @@ OneLiveArm start h = (place other : ℕ) (a b : Arm) → arm_after start h place
 
 -- an announce tells the items of just the arms that expire at it, by deadline and, at one deadline, in the order of arming
 abbrev pub ExpireInOrder : State → WorkHistory → Type 0
-ExpireInOrder = AtEach (λ before e later. (ticks time : ℕ) (told : List Expiry) → e.op ≡ Announce ticks → e.reply ≡ Now time told →
+ExpireInOrder = AtEach (λ before e later. (ticks time : ℕ) (told : List Expiry) → e.op ≡ Announce ticks →
+    e.reply ≡ Now time told →
     (time ≡ later.time) × AreToldInOrder before time told)
 
 -- an arm is made just where the answer says so: of the item, to the queue and for the tick that were asked for, and live

@@ -74,7 +74,8 @@ module _ {S O R T : Type 0} where
   service_of h = h.service
 
   -- it is a pass of this cell
-  pub record IsPassOf (legal : T → List (Entry O R) → Type 0) (start_of : S → T) (c : Cell S O R T) (p : Pass S O R T) : Type 0 where
+  pub record IsPassOf (legal : T → List (Entry O R) → Type 0)
+      (start_of : S → T) (c : Cell S O R T) (p : Pass S O R T) : Type 0 where
     pub table : p.seat.table_id ≡ c.table.shared.table_id
     pub idle : p.seat.me.0.stage ≡ Idle
     pub slots : p.seat.me.1 ≡ []
@@ -85,7 +86,8 @@ module _ {S O R T : Type 0} where
     pub lawful : legal (start_of (given_to c)) p.seat.me.0.seen
 
   -- the turn is held: the service goes on from the history that was found, with one entry at most
-  pub record IsHeld (legal : T → List (Entry O R) → Type 0) (start_of : S → T) (history_of : S → List (Entry O R)) (h : Held S O R T) : Type 0 where
+  pub record IsHeld (legal : T → List (Entry O R) → Type 0) (start_of : S → T)
+      (history_of : S → List (Entry O R)) (h : Held S O R T) : Type 0 where
     pub holds : (ticket : ℕ) × (h.seat.me.0.stage ≡ Holding ticket)
     pub slots : h.seat.me.1 ≡ (0, None) ∷ []
     pub first : (others : List Who) × (h.seat.me.0.players ≡ h.who ∷ others)
@@ -97,7 +99,8 @@ module _ {S O R T : Type 0} where
     pub short : length h.seat.me.0.seen ≤ most_entries * 256
 
   -- it is a turn of this cell
-  pub record IsHeldOf (legal : T → List (Entry O R) → Type 0) (start_of : S → T) (history_of : S → List (Entry O R)) (c : Cell S O R T) (h : Held S O R T) : Type 0 where
+  pub record IsHeldOf (legal : T → List (Entry O R) → Type 0) (start_of : S → T)
+      (history_of : S → List (Entry O R)) (c : Cell S O R T) (h : Held S O R T) : Type 0 where
     pub table : h.seat.table_id ≡ c.table.shared.table_id
     pub held : IsHeld legal start_of history_of h
     pub same_start : start_of h.service ≡ start_of (given_to c)
@@ -125,7 +128,8 @@ module _ {S O R T : Type 0} where
   Spends g h (Err e) = IsUnspent g h
 
   -- the seat has the service out that has the entry to be published, and may publish it
-  pub record IsReady (legal : T → List (Entry O R) → Type 0) (history_of : S → List (Entry O R)) (m : Me (Option S) (View O R T)) : Type 0 where
+  pub record IsReady (legal : T → List (Entry O R) → Type 0)
+      (history_of : S → List (Entry O R)) (m : Me (Option S) (View O R T)) : Type 0 where
     pub ticket : ℕ
     pub service : S
     pub entry : Entry O R
@@ -150,7 +154,8 @@ module _ {S O R T : Type 0} where
   IsPublished history true old new = (service : S) → old.1 ≡ out_with service → new ≡ (with_entry old.0 (history service), old.1)
 
   -- a new pass of this player
-  pub record IsNewPass (legal : T → List (Entry O R) → Type 0) (start_of : S → T) (c : Cell S O R T) (w : Who) (p : Pass S O R T) : Type 0 where
+  pub record IsNewPass (legal : T → List (Entry O R) → Type 0)
+      (start_of : S → T) (c : Cell S O R T) (w : Who) (p : Pass S O R T) : Type 0 where
     pub of_cell : IsPassOf legal start_of c p
     pub who : p.who ≡ w
     pub players : p.seat.me.0.players ≡ w ∷ []
@@ -163,4 +168,5 @@ module _ {S O R T : Type 0} where
   AreNewPasses legal start c [] [] = Unit {0}
   AreNewPasses legal start c [] (p ∷ passes) = ⊥
   AreNewPasses legal start c (who ∷ players) [] = ⊥
-  AreNewPasses legal start c (who ∷ players) (p ∷ passes) = IsNewPass legal start c who p × AreNewPasses legal start c players passes
+  AreNewPasses legal start c (who ∷ players) (p ∷ passes) =
+      IsNewPass legal start c who p × AreNewPasses legal start c players passes

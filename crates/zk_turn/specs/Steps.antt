@@ -37,20 +37,24 @@ module _ {S O R T : Type 0} (legal : T → List (Entry O R) → Type 0) (fits : 
 
 module _ {S O R T : Type 0} where
   -- draw: the seat waits with the ticket that it found
-  pub record Draws (step : Step (Option S)) (old : Me (Option S) (View O R T)) (found : ℕ) (new : Me (Option S) (View O R T)) : Type 0 where
+  pub record Draws (step : Step (Option S)) (old : Me (Option S) (View O R T)) (found : ℕ)
+      (new : Me (Option S) (View O R T)) : Type 0 where
     pub ticket : ℕ
     pub shown : found ≡ ticket % 2 ^ 64
     pub now : new ≡ (staged old.0 (Waiting ticket), old.1)
 
   -- publish: the history of the service that is out is seen, with one entry more
-  abbrev pub Publishes : (S → List (Entry O R)) → Step (Option S) → Me (Option S) (View O R T) → ℕ → Me (Option S) (View O R T) → Type 0
-  Publishes history step old found new = (service : S) → old.1 ≡ out_with service → new ≡ (with_entry old.0 (history service), old.1)
+  abbrev pub Publishes : (S → List (Entry O R)) → Step (Option S) → Me (Option S) (View O R T) → ℕ →
+      Me (Option S) (View O R T) → Type 0
+  Publishes history step old found new = (service : S) → old.1 ≡ out_with service →
+      new ≡ (with_entry old.0 (history service), old.1)
 
   -- pass on: the service was given back, and the turn with it
   abbrev pub PassesOn : Step (Option S) → Me (Option S) (View O R T) → ℕ → Me (Option S) (View O R T) → Type 0
   PassesOn step old found new = new ≡ (staged old.0 Idle, rest old.1)
 
   -- recall: what a joined seat has seen goes on from what its parts had seen
-  pub record Recalls (step : Step (Option S)) (old : Me (Option S) (View O R T)) (found : ℕ) (new : Me (Option S) (View O R T)) : Type 0 where
+  pub record Recalls (step : Step (Option S)) (old : Me (Option S) (View O R T)) (found : ℕ)
+      (new : Me (Option S) (View O R T)) : Type 0 where
     pub same : new ≡ old
     pub parts : Continues old.0.parts old.0.seen

@@ -14,11 +14,13 @@ tally_closes count who op = false
 pub adds : (count : ℕ) (who : Who) (op : ℕ) → 0 ≤ 0 + 2
 adds count who op = omega arith
 
-pub gives : (count : ℕ) (who : Who) (op : ℕ) → tally_closes count who op ≡ true → is_some (tally_machine.reply_of count who op) ≡ true → 1 + 0 ≤ 0
+pub gives : (count : ℕ) (who : Who) (op : ℕ) → tally_closes count who op ≡ true →
+    is_some (tally_machine.reply_of count who op) ≡ true → 1 + 0 ≤ 0
 gives count who op closes possible = absurd (cc)
 
 pub counts : (count : ℕ) (who : Who) (op : ℕ) → tally_machine.next count who op ≡ count + 1
 counts count who op = λ i. count + 1
 
-pub ranges : (count : ℕ) (who : Who) (op : ℕ) → tally_machine.in_range (tally_machine.next count who op) ≡ tally_machine.in_range count
+pub ranges : (count : ℕ) (who : Who) (op : ℕ) →
+    tally_machine.in_range (tally_machine.next count who op) ≡ tally_machine.in_range count
 ranges count who op = λ i. tally_machine.in_range count

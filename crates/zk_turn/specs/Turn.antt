@@ -112,7 +112,8 @@ module _ {S O R T : Type 0} (legal : T → List (Entry O R) → Type 0) (fits : 
     pub tickets : sum_by tickets_of s.views + served ≡ drawn
     pub made : sum_by made_of s.views ≡ length history
     pub each : (place : ℕ) (v : View O R T) → get_elem? s.views place ≡ some v → SeatStands origin history served drawn v
-    pub apart : (i j : ℕ) (v w : View O R T) → ¬ (i ≡ j) → get_elem? s.views i ≡ some v → get_elem? s.views j ≡ some w → AreApart v w
+    pub apart : (i j : ℕ) (v w : View O R T) → ¬ (i ≡ j) → get_elem? s.views i ≡ some v →
+        get_elem? s.views j ≡ some w → AreApart v w
     pub covered : All (IsCovered s.views) history
     -- the service is at home, or out with whoever holds the turn
     pub place : IsHome origin history s ⊎ SomeHolds s.views

@@ -11,7 +11,15 @@ use Rattle.zk_turn.specs.Players.{but_first, first_alone, longer}
 module _ {O R T : Type 0} where
   -- a seat that stands for these players and has seen nothing, at a cell whose service starts in this state
   abbrev pub opened : T → List Who → View O R T
-  opened start players = record { players = players; seen = []; start = Some start; made = 0; holds = 0; stage = Idle; parts = [] }
+  opened start players = record {
+    players = players;
+    seen = [];
+    start = Some start;
+    made = 0;
+    holds = 0;
+    stage = Idle;
+    parts = [];
+  }
 
   -- a seat at another stage
   abbrev pub staged : View O R T → Stage → View O R T

@@ -73,7 +73,8 @@ impl<S: Service> Cell<S> {
     // The pass of the first player that has none yet.
     fn deal(&self, seat: &mut Seat<Option<S>, View<S::Op, S::Reply, S::State>>, who: Who) -> Pass<S>
         requires table { seat.old.table_id ≡ self.now.table.shared.table_id }
-        requires first { (others : List Who) × (seat.old.me ≡ (opened (S.start (given_to self.now)) (who ∷ others), [])) × Differ (who ∷ others) }
+        requires first { (others : List Who)
+            × (seat.old.me ≡ (opened (S.start (given_to self.now)) (who ∷ others), [])) × Differ (who ∷ others) }
         ensures table { seat.new.table_id ≡ seat.old.table_id }
         ensures others { (others : List Who) → seat.old.me ≡ (opened (S.start (given_to self.now)) (who ∷ others), []) →
             seat.new.me ≡ (opened (S.start (given_to self.now)) others, []) }

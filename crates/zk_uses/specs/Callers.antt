@@ -6,6 +6,7 @@ use Rattle.zk_turn.specs.Passes.{IsNewPass}
 use Rattle.zk_uses.specs.declared.often.Caller.{Caller}
 
 -- two callers have each a new pass of this cell
-pub record AreNew {S O R T : Type 0} (legal : T → List (Entry O R) → Type 0) (start_of : S → T) (cell : Cell S O R T) (first second : Caller S O R T) : Type 0 where
+pub record AreNew {S O R T : Type 0} (legal : T → List (Entry O R) → Type 0)
+    (start_of : S → T) (cell : Cell S O R T) (first second : Caller S O R T) : Type 0 where
   pub one : IsNewPass legal start_of cell first.who first.pass
   pub other : IsNewPass legal start_of cell second.who second.pass

@@ -13,7 +13,8 @@ pub fn last_caller<S: Service>(cell: &Cell<S>, who: Who, passes: &mut Vec<Pass<S
     requires { (others : List Who) × AreNewPasses (IsLegal S.machine) S.start cell.now (others ++ who ∷ []) passes.old.items }
     ensures caller { IsNewPass (IsLegal S.machine) S.start cell.now who result.pass }
     ensures who { result.who ≡ who }
-    ensures others { (others : List Who) → AreNewPasses (IsLegal S.machine) S.start cell.now (others ++ who ∷ []) passes.old.items →
+    ensures others { (others : List Who) →
+        AreNewPasses (IsLegal S.machine) S.start cell.now (others ++ who ∷ []) passes.old.items →
         AreNewPasses (IsLegal S.machine) S.start cell.now others passes.new.items }
 {
     let Some(pass) = passes.pop() else {
