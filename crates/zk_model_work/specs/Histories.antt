@@ -256,8 +256,7 @@ has_to_wait (WaitFor number) = true
 has_to_wait reply = false
 
 -- why a submission after a history is refused: busy where the item is being cancelled, or its target is started and bars
--- the submitter;
--- else nodev where its target isn't started, and inval where it has none
+-- the submitter; else nodev where its target isn't started, and inval where it has none
 abbrev pub IsCause : State → WorkHistory → State → Option ℕ → ℕ → Option ℕ → Errno → Type 0
 IsCause start front s caller item named errnos.Busy = IsBeingCancelled start front item
     ⊎ ((queue : ℕ) × (q : Queue) × (target_of s item named ≡ Some queue) × (slice_get s.queues queue ≡ Some q)

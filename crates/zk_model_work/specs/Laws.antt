@@ -253,8 +253,7 @@ FlushWaitsForNewest = AtEach (λ before e later. (item : ℕ) → e.op ≡ Flush
     × NoneIsOpen later item))
 
 -- a flush of an item with a live arm submits it, as its player: then one of it waits, unless it was being cancelled or its
--- target takes
--- nothing of that player; without a live arm it makes nothing
+-- target takes nothing of that player; without a live arm it makes nothing
 abbrev pub FlushHurries : State → WorkHistory → Type 0
 FlushHurries start h = (front rest : WorkHistory) (e : WorkEntry) (item : ℕ) → h ≡ front ++ e ∷ rest →
     e.op ≡ FlushStart item →
@@ -392,8 +391,7 @@ ArmedAsAsked = AtEach (λ before e later.
     drop (length before.arms) later.arms ≡ (if is_armed e.reply then asked_arm before.time e.op else []))
 
 -- a schedule of an item that is delayed, waits or is being cancelled is answered 0 and changes nothing; else it delays the
--- item
--- just where there is a delay, and so does each reschedule
+-- item just where there is a delay, and so does each reschedule
 abbrev pub ScheduleTells : State → WorkHistory → Type 0
 ScheduleTells start h = (front rest : WorkHistory) (e : WorkEntry) (item queue delay : ℕ) → h ≡ front ++ e ∷ rest →
     (e.op ≡ Schedule item queue delay → IsPending start front item → (e.reply ≡ Sub submitteds.Already)

@@ -35,14 +35,15 @@ pub fn cancels_hold()
 {}
 
 /// Of every legal work history: a flush waits for the newest admission of its item that waits or runs
-/// after it, and is told to be done only after that one has ended or was dropped.
+/// after it, and is told to be done only after that one has ended or was dropped. Of an item with a delay
+/// it ends the delay and submits the item, as its caller.
 pub fn flushes_hold()
     ensures { OfEach FlushesHold }
 {}
 
 /// Of every legal work history: a draining goes on until nothing of its queue waits or runs, and ends
-/// there. Meanwhile only the queue's own worker submits to it, and no drain that waits is told to be
-/// done before. A queue that is plugged and doesn't drain takes nothing, and nothing of it waits or
+/// there. Meanwhile each admission to it is submitted by its own worker. A drain that had to wait is told
+/// to be done only after a draining has ended since its start. A queue that is plugged and doesn't drain takes nothing, and nothing of it waits or
 /// runs; it is plugged and started as was asked.
 pub fn drains_hold()
     ensures { OfEach DrainsHold }
@@ -57,8 +58,8 @@ pub fn delays_hold()
 {}
 
 /// Of every legal work history: a worker may begin what waits for its queue while that runs nothing,
-/// and may end what it runs; whatever isn't the end of a wait may be asked at any time. Each operation
-/// is answered in its form.
+/// and may end what it runs. Who had to wait may be told to be done once what it waits for has come, and
+/// is told so once. Every other operation may be made at any time. Each is answered in its form.
 pub fn goes_on()
     ensures { OfEach GoesOn }
 {}
