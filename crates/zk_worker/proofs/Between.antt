@@ -1,24 +1,30 @@
 -- What comes between two moments beside the steps of a player.
-use Rattle.std.proofs.Common.{◌≡◌, ◌≢◌, ◌⊎◌, ◌∷◌, inl, inr, ℕ, suc, ◌+◌, ◌<◌, Bool, true, false, Some, List, [], ◌++◌, length, refl, sym, ap, subst, ◌∙◌}
-use Rattle.std.specs.List.{slice_get}
+use Rattle.std.proofs.Common.{◌≡◌, ◌≢◌, ◌⊎◌, ◌∷◌, inl, inr, ℕ, zero, suc, ◌+◌, ◌<◌, Bool, true, false, Option, Some, None, List, [], ◌++◌, length, refl, sym, ap, subst, ◌∙◌}
+use Rattle.std.specs.List.{slice_get, AllZip}
 use Rattle.std.specs.Option.{option_map}
 use Rattle.std.proofs.lemmas.List.Elements.{All-nil, All-cons, All-append}
 use Rattle.std.proofs.lemmas.List.{append-nil, append_assoc}
 use Rattle.std.proofs.lemmas.Option.{slice_get_within}
 use Rattle.zk_base.specs.declared.ids.Entry.{Entry}
+use Rattle.zk_base.specs.declared.seen.Seen.{Seen}
 use Rattle.zk_base.specs.History.{IsAbove}
 use Rattle.zk_base.proofs.Lists.{All-at}
+use Rattle.zk_line.specs.declared.types.Decl.{Decl}
 use Rattle.zk_worker.specs.declared.steps.Step.{Step}
 use Rattle.zk_worker.specs.declared.steps.Step.TheVariants as steps
 use Rattle.zk_worker.specs.declared.steps.StepReply.{StepReply}
 use Rattle.zk_worker.specs.declared.steps.StepReply.TheVariants as step_replies
 use Rattle.zk_worker.specs.declared.steps.Spot.{Spot}
 use Rattle.zk_worker.specs.declared.steps.Spot.TheVariants as spots
-use Rattle.zk_worker.specs.Follows.{made_at}
-use Rattle.zk_worker.specs.Shown.{Shown, nothing_shown, step_of, shown_at, ShowsLog, IsLater, AreShort, OthersGrew, AllGrew, Between}
+use Rattle.zk_worker.specs.Follows.{Stands}
+use Rattle.zk_worker.specs.Single.{step_of, OthersGrew}
+use Rattle.zk_worker.specs.Families.{entry_at, EachGrew}
+use Rattle.zk_worker.specs.Looks.{Longer, LooksGrew, LookedBelow}
+use Rattle.zk_worker.specs.Shown.{Shown, nothing_shown, shown_at, ShowsLog, IsLater, AreShort, AllGrew, Between}
 use Rattle.zk_worker.proofs.Lists.{known-longer, known-back, known-there}
+use Rattle.zk_worker.proofs.Families.{of-object}
 
--- the histories of each kind
+-- the history of one object
 module _ {O R : Type 0} (number : ℕ) where
   -- a history grew by nothing
   pub grew-none : (h : List (Entry O R)) → OthersGrew number h h
@@ -62,10 +68,78 @@ module _ {O R : Type 0} (number : ℕ) where
       let P : Entry O R → Type 0 = λ e. e.who.number ≡ number → e.step < next in
       All-cons P e h (λ mine. each 0 e.step (ap (λ (n : ℕ). Some (n, e.step)) mine)) (above-all h next (λ place step is. each (suc place) step is))
 
+-- the histories of the objects of a kind
+module _ {O R : Type 0} (number : ℕ) where
+  pub grew-none_each : (hs : List (List (Entry O R))) → EachGrew number hs hs
+  grew-none_each [] = tt
+  grew-none_each (h ∷ hs) = (grew-none number h, grew-none_each hs)
+
+  pub grew-both_each : (old mid new : List (List (Entry O R))) → EachGrew number old mid → EachGrew number mid new → EachGrew number old new
+  grew-both_each [] [] new first then_ = then_
+  grew-both_each [] (m ∷ ms) new first then_ = absurd first
+  grew-both_each (o ∷ os) [] new first then_ = absurd first
+  grew-both_each (o ∷ os) (m ∷ ms) [] first then_ = absurd then_
+  grew-both_each (o ∷ os) (m ∷ ms) (n ∷ ns) first then_ = (grew-both number o m n first.0 then_.0, grew-both_each os ms ns first.1 then_.1)
+
+  pub entry-longer_each : {B : Type 0} (f : Entry O R → B) (old new : List (List (Entry O R))) (object place : ℕ) (b : B) → EachGrew number old new →
+      option_map f (entry_at old object place) ≡ Some b → option_map f (entry_at new object place) ≡ Some b
+  entry-longer_each f [] new object place b grew is = absurd (cc)
+  entry-longer_each f (o ∷ os) [] object place b grew is = absurd grew
+  entry-longer_each f (o ∷ os) (n ∷ ns) zero place b grew is = entry-longer number f o n place b grew.0 is
+  entry-longer_each f (o ∷ os) (n ∷ ns) (suc object) place b grew is = entry-longer_each f os ns object place b grew.1 is
+
+  pub entry-back_each : (step : ℕ) (old new : List (List (Entry O R))) (object place : ℕ) → EachGrew number old new →
+      option_map step_of (entry_at new object place) ≡ Some (number, step) → option_map step_of (entry_at old object place) ≡ Some (number, step)
+  entry-back_each step old [] object place grew is = absurd (cc)
+  entry-back_each step [] (n ∷ ns) object place grew is = absurd grew
+  entry-back_each step (o ∷ os) (n ∷ ns) zero place grew is = entry-back number step o n place grew.0 is
+  entry-back_each step (o ∷ os) (n ∷ ns) (suc object) place grew is = entry-back_each step os ns object place grew.1 is
+
+  -- a step above all of its player's entries is above those of each object
+  pub above-each : (hs : List (List (Entry O R))) (object next : ℕ) (h : List (Entry O R)) → slice_get hs object ≡ Some h →
+      ((place step : ℕ) → option_map step_of (entry_at hs object place) ≡ Some (number, step) → step < next) → IsAbove h number next
+  above-each hs object next h there each = above-all number h next (λ place step is. each place step (of-object step_of hs object h place (number, step) there is))
+
+-- the looks of one signal, and of each
+module _ {A : Type 0} where
+  longer-none : (xs : List A) → Longer xs xs
+  longer-none xs = ([], sym (append-nil xs))
+
+  longer-both : (old mid new : List A) → Longer old mid → Longer mid new → Longer old new
+  longer-both old mid new first then_ =
+      (first.0 ++ then_.0, then_.1 ∙ ap (λ (xs : List A). xs ++ then_.0) first.1 ∙ append_assoc old first.0 then_.0)
+
+  longer-none_each : (xss : List (List A)) → AllZip Longer xss xss
+  longer-none_each [] = tt
+  longer-none_each (xs ∷ xss) = (longer-none xs, longer-none_each xss)
+
+  longer-both_each : (old mid new : List (List A)) → AllZip Longer old mid → AllZip Longer mid new → AllZip Longer old new
+  longer-both_each [] [] new first then_ = then_
+  longer-both_each [] (m ∷ ms) new first then_ = absurd first
+  longer-both_each (o ∷ os) [] new first then_ = absurd first
+  longer-both_each (o ∷ os) (m ∷ ms) [] first then_ = absurd then_
+  longer-both_each (o ∷ os) (m ∷ ms) (n ∷ ns) first then_ = (longer-both o m n first.0 then_.0, longer-both_each os ms ns first.1 then_.1)
+
+looks-none : (looks : Option (List (List Seen))) → LooksGrew looks looks
+looks-none None = tt
+looks-none (Some looks) = longer-none_each looks
+
+looks-both : (old mid new : Option (List (List Seen))) → LooksGrew old mid → LooksGrew mid new → LooksGrew old new
+looks-both None None new first then_ = then_
+looks-both None (Some m) new first then_ = absurd first
+looks-both (Some o) None new first then_ = absurd first
+looks-both (Some o) (Some m) None first then_ = absurd then_
+looks-both (Some o) (Some m) (Some n) first then_ = longer-both_each o m n first then_
+
 -- nothing comes between a moment and itself
 pub between-none : (alone : Bool) (number : ℕ) (shown : Shown) → Between alone number shown shown
 between-none true number shown = refl
-between-none false number shown = record { work = grew-none number shown.work; clock = grew-none number shown.clock }
+between-none false number shown = record {
+  work = grew-none number shown.work;
+  clock = grew-none number shown.clock;
+  looks = looks-none shown.looks;
+  looked = refl;
+}
 
 -- what comes between two moments, and then between the second and a third
 pub between-both : (alone : Bool) (number : ℕ) (old mid new : Shown) → Between alone number old mid → Between alone number mid new → Between alone number old new
@@ -73,6 +147,8 @@ between-both true number old mid new first then_ = then_ ∙ first
 between-both false number old mid new first then_ = record {
   work = grew-both number old.work mid.work new.work first.work then_.work;
   clock = grew-both number old.clock mid.clock new.clock first.clock then_.clock;
+  looks = looks-both old.looks mid.looks new.looks first.looks then_.looks;
+  looked = then_.looked ∙ first.looked;
 }
 
 -- histories that have room have it still where nothing came between
@@ -87,7 +163,7 @@ shown-longer number old new (spots.Clock place) b grew is = entry-longer number 
 
 -- and so does the step that it stands for
 pub stands-longer : (number : ℕ) (old new : Shown) → AllGrew number old new → (spot : Spot) (made : Step × StepReply) →
-    made_at old spot ≡ Some made → made_at new spot ≡ Some made
+    Stands old spot made → Stands new spot made
 stands-longer number old new grew (spots.Work place) made is =
     entry-longer number (λ e. (steps.Work e.op, step_replies.Work e.reply place)) old.work new.work place made grew.work is
 stands-longer number old new grew (spots.Clock place) made is =
@@ -102,26 +178,41 @@ shown-back number step old new (spots.Clock place) grew is = entry-back number s
 pub log-still : (alone : Bool) (number : ℕ) (log : List Spot) (old new : Shown) → ShowsLog old number log → Between alone number old new → ShowsLog new number log
 log-still true number log old new shows nothing = subst (λ (s : Shown). ShowsLog s number log) (sym nothing) shows
 log-still false number log old new shows grew = record {
-  each = λ step spot is. shown-longer number old new spot (number, step) grew (shows.each step spot is);
+  each = λ step spot is not_look. shown-longer number old new spot (number, step) grew (shows.each step spot is not_look);
   no_other = λ step spot is. shows.no_other step spot (shown-back number step old new spot grew is);
+  looked = subst (λ (o : Option ℕ). LookedBelow o (length log)) (sym grew.looked) shows.looked;
 }
 
 -- the next step of a log is above all that are shown of its player
 pub log-later : (number : ℕ) (log : List Spot) (shown : Shown) → ShowsLog shown number log → IsLater shown number (length log)
-log-later number log shown shows = λ step spot is. slice_get_within log step spot (shows.no_other step spot is)
+log-later number log shown shows = record {
+  entries = λ step spot is. slice_get_within log step spot (shows.no_other step spot is);
+  looked = shows.looked;
+}
+
+-- what is above all that is shown was above all that was shown before
+pub later-before : (number next : ℕ) (old new : Shown) → AllGrew number old new → IsLater new number next → IsLater old number next
+later-before number next old new grew later = record {
+  entries = λ step spot is. later.entries step spot (shown-longer number old new spot (number, step) grew is);
+  looked = subst (λ (o : Option ℕ). LookedBelow o next) grew.looked later.looked;
+}
 
 -- no step is shown where none was made
-pub log-none : (number : ℕ) (log : List Spot) → log ≡ [] → ShowsLog nothing_shown number log
-log-none number [] none = record { each = λ step spot is. absurd (cc); no_other = λ step spot is. absurd (nothing_there step spot is) }
+pub log-none : (decls : List Decl) (number : ℕ) (log : List Spot) → log ≡ [] → ShowsLog (nothing_shown decls) number log
+log-none decls number [] none = record {
+  each = λ step spot is not_look. absurd (cc);
+  no_other = λ step spot is. absurd (nothing_there step spot is);
+  looked = tt;
+}
   where
-    nothing_there : (step : ℕ) (spot : Spot) → shown_at nothing_shown spot ≡ Some (number, step) → ⊥
+    nothing_there : (step : ℕ) (spot : Spot) → shown_at (nothing_shown decls) spot ≡ Some (number, step) → ⊥
     nothing_there step (spots.Work place) is = cc
     nothing_there step (spots.Clock place) is = cc
-log-none number (spot ∷ log) none = absurd (cc)
+log-none decls number (spot ∷ log) none = absurd (cc)
 
 -- a step above all that are shown of its player is above those of its entries at each service
 pub above-work : (shown : Shown) (number next : ℕ) → IsLater shown number next → IsAbove shown.work number next
-above-work shown number next later = above-all number shown.work next (λ place step is. later step (spots.Work place) is)
+above-work shown number next later = above-all number shown.work next (λ place step is. later.entries step (spots.Work place) is)
 
 pub above-clock : (shown : Shown) (number next : ℕ) → IsLater shown number next → IsAbove shown.clock number next
-above-clock shown number next later = above-all number shown.clock next (λ place step is. later step (spots.Clock place) is)
+above-clock shown number next later = above-all number shown.clock next (λ place step is. later.entries step (spots.Clock place) is)

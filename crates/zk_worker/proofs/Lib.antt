@@ -4,7 +4,9 @@ pub mod Limits
 pub mod Starts
 pub mod Fits
 pub mod Ranges
+pub mod Families
 pub mod Between
 pub mod ShownSteps
+pub mod Looking
 pub mod Following
 pub mod Trying

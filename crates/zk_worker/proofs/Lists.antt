@@ -1,6 +1,6 @@
 -- What is at the places of a list that grows, or in which one place is written.
 use Rattle.std.proofs.Common.{◌≡◌, ◌≢◌, ◌⊎◌, ℕ, zero, suc, ◌+◌, ◌<◌, ◌||◌, Bool, true, false, Some, List, [], ◌∷◌, ◌++◌, length, map, set, inl, inr, refl, sym, ap, subst, ◌∙◌, arith}
-use Rattle.std.specs.List.{slice_get, list_any, sum_by}
+use Rattle.std.specs.List.{slice_get, list_any, sum_by, AllZip}
 use Rattle.std.specs.Option.{option_map}
 use Rattle.std.proofs.lemmas.Bool.{or_parts}
 use Rattle.std.proofs.lemmas.Option.{slice_get_within, get_or_from_slice_get}
@@ -133,3 +133,17 @@ module _ {A : Type 0} where
   sum-set f xs p x v is =
       subst (λ (y : A). sum_by f (set xs p v) + f y ≡ sum_by f xs + f v) (get_or_from_slice_get xs p x x is)
       (sum_by-set f xs p v x (slice_get_within xs p x is))
+
+-- what relates two lists place by place
+module _ {A B : Type 0} where
+  pub zip-weaker : (R Q : A → B → Type 0) (xs : List A) (ys : List B) → ((x : A) (y : B) → R x y → Q x y) → AllZip R xs ys → AllZip Q xs ys
+  zip-weaker R Q [] [] so is = tt
+  zip-weaker R Q [] (y ∷ ys) so is = absurd is
+  zip-weaker R Q (x ∷ xs) [] so is = absurd is
+  zip-weaker R Q (x ∷ xs) (y ∷ ys) so is = (so x y is.0, zip-weaker R Q xs ys so is.1)
+
+  pub zip-push : (R : A → B → Type 0) (xs : List A) (ys : List B) (x : A) (y : B) → AllZip R xs ys → R x y → AllZip R (xs ++ x ∷ []) (ys ++ y ∷ [])
+  zip-push R [] [] x y is last = (last, tt)
+  zip-push R [] (z ∷ ys) x y is last = absurd is
+  zip-push R (z ∷ xs) [] x y is last = absurd is
+  zip-push R (a ∷ xs) (b ∷ ys) x y is last = (is.0, zip-push R xs ys x y is.1 last)

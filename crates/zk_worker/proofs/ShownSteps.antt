@@ -1,9 +1,10 @@
 -- What is shown of a player that makes a step.
-use Rattle.std.proofs.Common.{◌≡◌, ◌≢◌, ◌⊎◌, inl, inr, ℕ, ◌+◌, Bool, Option, Some, None, List, [], ◌∷◌, ◌++◌, length, length-append, refl, sym, ap, subst, ◌∙◌, arith}
+use Rattle.std.proofs.Common.{◌≡◌, ◌≢◌, ◌⊎◌, inl, inr, ℕ, ◌+◌, ◌≤◌, Bool, false, Option, Some, None, List, [], ◌∷◌, ◌++◌, length, length-append, refl, sym, ap, subst, ◌∙◌, arith}
 use Rattle.std.specs.List.{slice_get}
 use Rattle.std.specs.Option.{option_map}
 use Rattle.zk_base.specs.declared.ids.Who.{Who}
 use Rattle.zk_base.specs.declared.ids.Entry.{Entry}
+use Rattle.zk_base.specs.declared.seen.Seen.{Seen}
 use Rattle.zk_base.specs.History.{entry}
 use Rattle.zk_base.specs.Legal.{state_after}
 use Rattle.zk_scenario.specs.Parts.{Parts}
@@ -19,11 +20,15 @@ use Rattle.zk_worker.specs.declared.steps.Spot.{Spot}
 use Rattle.zk_worker.specs.declared.steps.Spot.TheVariants as spots
 use Rattle.zk_worker.specs.Places.{At}
 use Rattle.zk_worker.specs.Protocol.{after, spot_of}
-use Rattle.zk_worker.specs.Follows.{made_at, StandsMore}
+use Rattle.zk_worker.specs.Follows.{made_at, Stands, StandsMore}
 use Rattle.zk_worker.specs.Machines.{Machines}
-use Rattle.zk_worker.specs.Shown.{Shown, step_of, shown_at, shown_after, entry_count, ShowsLog}
+use Rattle.zk_worker.specs.Single.{step_of}
+use Rattle.zk_worker.specs.Families.{entry_at, with_entry}
+use Rattle.zk_worker.specs.Looks.{LookedBelow}
+use Rattle.zk_worker.specs.Shown.{Shown, shown_at, shown_after, is_look, entry_count, ShowsLog}
 use Rattle.zk_worker.specs.Attempt.{reply_in, IsMade}
-use Rattle.zk_worker.proofs.Lists.{at-end, there-longer, there-behind, known-longer, known-end}
+use Rattle.zk_worker.proofs.Lists.{at-end, there-longer, there-behind}
+use Rattle.zk_worker.proofs.Families.{with-here, with-longer, with-back}
 use Rattle.zk_worker.proofs.Between.{log-still}
 
 -- what is mapped to something is there
@@ -31,110 +36,183 @@ pub made-of : {A B : Type 0} (f : A → B) (o : Option A) (b : B) → option_map
 made-of f None b is = absurd (cc)
 made-of f (Some a) b is = (a, refl, cc)
 
--- an entry more is shown at this spot, of this player and step, and it stands for what was made there; elsewhere is what was there before
+-- a step more is shown: its entry at this spot, unless it is a look, and it stands for what was made there; elsewhere is what was there before
 pub record IsMore (shown longer : Shown) (spot : Spot) (step : ℕ × ℕ) (made : Step × StepReply) : Type 0 where
-  pub here : shown_at longer spot ≡ Some step
+  pub here : is_look spot ≡ false → shown_at longer spot ≡ Some step
   pub stays : (at : Spot) (b : ℕ × ℕ) → shown_at shown at ≡ Some b → shown_at longer at ≡ Some b
   pub back : (at : Spot) (b : ℕ × ℕ) → shown_at longer at ≡ Some b → (shown_at shown at ≡ Some b) ⊎ ((at ≡ spot) × (step ≡ b))
   pub stands : StandsMore shown longer spot made
-  pub count : entry_count longer ≡ entry_count shown + 1
+  pub count : entry_count longer ≤ entry_count shown + 1
 
--- an entry of the work service more
-work-more : (shown : Shown) (who : Who) (number : ℕ) (op : WorkOp) (reply : WorkReply) →
-    IsMore shown (record shown { work = shown.work ++ entry who number op reply ∷ [] }) (spots.Work (length shown.work)) (who.number, number)
-    (steps.Work op, step_replies.Work reply (length shown.work))
-work-more shown who number op reply = record {
-  here = ap (option_map step_of) (there-behind shown.work new);
-  stays = stays;
-  back = back;
-  stands = record { here = ap (option_map (stood (length shown.work))) (there-behind shown.work new); still = still };
-  count = omega (arith, length-append shown.work (new ∷ []));
+pair-same : (a b a' b' : ℕ) → a ≡ a' → b ≡ b' → ◌≡◌ {A = ℕ × ℕ} (a, b) (a', b')
+pair-same a b a' b' one other = cc
+
+-- the entries of a kind by their places, with one entry more
+pub record IsWith {P E : Type 0} (old new : P → Option E) (place : P) (e : E) : Type 0 where
+  pub here : new place ≡ Some e
+  pub stays : (p : P) (x : E) → old p ≡ Some x → new p ≡ Some x
+  pub back : (p : P) (x : E) → new p ≡ Some x → (old p ≡ Some x) ⊎ ((p ≡ place) × (e ≡ x))
+
+-- the history of one object
+pub history-with : {E : Type 0} (h : List E) (e : E) → IsWith (slice_get h) (slice_get (h ++ e ∷ [])) (length h) e
+history-with h e = record {
+  here = there-behind h e;
+  stays = λ p x is. there-longer h (e ∷ []) p x is;
+  back = λ p x is. at-end h e x p is;
+}
+
+-- the histories of the objects of a kind, where a place is an object and a place in its history
+pub histories-with : {O R : Type 0} (hs : List (List (Entry O R))) (object : ℕ) (h : List (Entry O R)) (e : Entry O R) → slice_get hs object ≡ Some h →
+    IsWith {P = ℕ × ℕ} (λ p. entry_at hs p.0 p.1) (λ p. entry_at (with_entry hs object e) p.0 p.1) (object, length h) e
+histories-with {O = O} {R = R} hs object h e there = record {
+  here = with-here hs object e h there;
+  stays = λ p x is. with-longer hs object e p.0 p.1 x is;
+  back = λ p x is. by_place p x (with-back hs object e h p.0 p.1 x there is);
 }
   where
-    new : Entry WorkOp WorkReply
-    new = entry who number op reply
+    by_place : (p : ℕ × ℕ) (x : Entry O R) → (entry_at hs p.0 p.1 ≡ Some x) ⊎ ((p.0 ≡ object) × (p.1 ≡ length h) × (e ≡ x)) →
+        (entry_at hs p.0 p.1 ≡ Some x) ⊎ (◌≡◌ {A = ℕ × ℕ} p (object, length h) × (e ≡ x))
+    by_place p x (inl before) = inl before
+    by_place p x (inr last) = inr (pair-same p.0 p.1 object (length h) last.0 last.1, last.2)
 
-    stood : ℕ → Entry WorkOp WorkReply → Step × StepReply
-    stood place e = (steps.Work e.op, step_replies.Work e.reply place)
+-- a spot is one of a kind, or what is there stays
+abbrev pub Elsewhere : {P : Type 0} → (P → Spot) → Shown → Shown → Spot → Type 0
+Elsewhere {P = P} spot old new at = ((p : P) × (at ≡ spot p)) ⊎ ((shown_at new at ≡ shown_at old at) × (made_at new at ≡ made_at old at))
 
-    stays : (at : Spot) (b : ℕ × ℕ) → shown_at shown at ≡ Some b → shown_at (record shown { work = shown.work ++ new ∷ [] }) at ≡ Some b
-    stays (spots.Work place) b is = known-longer step_of shown.work (new ∷ []) place b is
-    stays (spots.Clock place) b is = is
+-- a kind's spots, with the steps and replies that its entries stand for
+module _ {P O R : Type 0} (spot : P → Spot) (step : P → O → Step) (step_reply : P → R → StepReply) where
+  abbrev stood : P → Entry O R → Step × StepReply
+  stood p e = (step p e.op, step_reply p e.reply)
 
-    back : (at : Spot) (b : ℕ × ℕ) → shown_at (record shown { work = shown.work ++ new ∷ [] }) at ≡ Some b →
-        (shown_at shown at ≡ Some b) ⊎ ((at ≡ spots.Work (length shown.work)) × ((who.number, number) ≡ b))
-    back (spots.Work place) b is = by_place (known-end step_of shown.work new place b is)
+  -- at the spots of a kind these entries are shown
+  pub record Shows (shown : Shown) (entries : P → Option (Entry O R)) : Type 0 where
+    pub seen : (p : P) → shown_at shown (spot p) ≡ option_map step_of (entries p)
+    pub made : (p : P) → made_at shown (spot p) ≡ option_map (stood p) (entries p)
+
+  module _ (old new : Shown) (entries entries' : P → Option (Entry O R)) (before : Shows old entries) (then_ : Shows new entries')
+      (elsewhere : (at : Spot) → Elsewhere spot old new at) where
+    -- what is known of the entry at a spot of the kind stays so
+    known-stays : {B : Type 0} (see : Shown → Spot → Option B) (f : P → Entry O R → B) →
+        ((p : P) → see old (spot p) ≡ option_map (f p) (entries p)) → ((p : P) → see new (spot p) ≡ option_map (f p) (entries' p)) →
+        ((p : P) (x : Entry O R) → entries p ≡ Some x → entries' p ≡ Some x) → (p : P) (b : B) → see old (spot p) ≡ Some b → see new (spot p) ≡ Some b
+    known-stays {B = B} see f was is stays p b there =
+        let x = made-of (f p) (entries p) b (sym (was p) ∙ there) in
+        is p ∙ ap (option_map (f p)) (stays p x.0 x.1) ∙ ap (λ (y : B). Some y) x.2
+
+    -- a step of a kind that adds its entry
+    pub object-more : (place : P) (who : Who) (number : ℕ) (op : O) (reply : R) → IsWith entries entries' place (entry who number op reply) → entry_count new ≤ entry_count old + 1 →
+        IsMore old new (spot place) (who.number, number) (step place op, step_reply place reply)
+    object-more place who number op reply more count = record {
+      here = λ not_look. then_.seen place ∙ ap (option_map step_of) more.here;
+      stays = stays;
+      back = back;
+      stands = record { here = then_.made place ∙ ap (option_map (stood place)) more.here; still = still };
+      count = count;
+    }
       where
-        by_place : (option_map step_of (slice_get shown.work place) ≡ Some b) ⊎ ((place ≡ length shown.work) × (step_of new ≡ b)) →
-            (shown_at shown (spots.Work place) ≡ Some b) ⊎ ((spots.Work place ≡ spots.Work (length shown.work)) × ((who.number, number) ≡ b))
-        by_place (inl before) = inl before
-        by_place (inr last) = inr (ap spots.Work last.0, last.1)
-    back (spots.Clock place) b is = inl is
+        stays : (at : Spot) (b : ℕ × ℕ) → shown_at old at ≡ Some b → shown_at new at ≡ Some b
+        stays at b is = by_kind (elsewhere at) is
+          where
+            by_kind : Elsewhere spot old new at → shown_at old at ≡ Some b → shown_at new at ≡ Some b
+            by_kind (inl mine) is =
+                subst (λ (x : Spot). shown_at new x ≡ Some b) (sym mine.1)
+                (known-stays shown_at (λ p. step_of) before.seen then_.seen more.stays mine.0 b (ap (shown_at old) (sym mine.1) ∙ is))
+            by_kind (inr same) is = same.0 ∙ is
 
-    still : (at : Spot) (x : Step × StepReply) → made_at shown at ≡ Some x → made_at (record shown { work = shown.work ++ new ∷ [] }) at ≡ Some x
-    still (spots.Work place) x is = known-longer (stood place) shown.work (new ∷ []) place x is
-    still (spots.Clock place) x is = is
+        still : (at : Spot) (x : Step × StepReply) → made_at old at ≡ Some x → made_at new at ≡ Some x
+        still at x is = by_kind (elsewhere at) is
+          where
+            by_kind : Elsewhere spot old new at → made_at old at ≡ Some x → made_at new at ≡ Some x
+            by_kind (inl mine) is =
+                subst (λ (y : Spot). made_at new y ≡ Some x) (sym mine.1)
+                (known-stays made_at stood before.made then_.made more.stays mine.0 x (ap (made_at old) (sym mine.1) ∙ is))
+            by_kind (inr same) is = same.1 ∙ is
 
--- an entry of the clock more
-clock-more : (shown : Shown) (who : Who) (number : ℕ) (op : ClockOp) (reply : ClockReply) →
-    IsMore shown (record shown { clock = shown.clock ++ entry who number op reply ∷ [] }) (spots.Clock (length shown.clock)) (who.number, number)
-    (steps.Clock op, step_replies.Clock reply (length shown.clock))
-clock-more shown who number op reply = record {
-  here = ap (option_map step_of) (there-behind shown.clock new);
-  stays = stays;
-  back = back;
-  stands = record { here = ap (option_map (stood (length shown.clock))) (there-behind shown.clock new); still = still };
-  count = omega (arith, length-append shown.clock (new ∷ []));
-}
-  where
-    new : Entry ClockOp ClockReply
-    new = entry who number op reply
+        back : (at : Spot) (b : ℕ × ℕ) → shown_at new at ≡ Some b → (shown_at old at ≡ Some b) ⊎ ((at ≡ spot place) × ((who.number, number) ≡ b))
+        back at b is = by_kind (elsewhere at) is
+          where
+            by_kind : Elsewhere spot old new at → shown_at new at ≡ Some b → (shown_at old at ≡ Some b) ⊎ ((at ≡ spot place) × ((who.number, number) ≡ b))
+            by_kind (inl mine) is =
+                let x = made-of step_of (entries' mine.0) b (sym (then_.seen mine.0) ∙ ap (shown_at new) (sym mine.1) ∙ is) in
+                by_entry (more.back mine.0 x.0 x.1) x.2
+              where
+                by_entry : {x : Entry O R} → (entries mine.0 ≡ Some x) ⊎ ((mine.0 ≡ place) × (entry who number op reply ≡ x)) → step_of x ≡ b →
+                    (shown_at old at ≡ Some b) ⊎ ((at ≡ spot place) × ((who.number, number) ≡ b))
+                by_entry (inl was) told = inl (ap (shown_at old) mine.1 ∙ before.seen mine.0 ∙ ap (option_map step_of) was ∙ ap (λ (y : ℕ × ℕ). Some y) told)
+                by_entry (inr last) told = inr (mine.1 ∙ ap spot last.0, ap step_of last.1 ∙ told)
+            by_kind (inr same) is = inl (sym same.0 ∙ is)
 
-    stood : ℕ → Entry ClockOp ClockReply → Step × StepReply
-    stood place e = (steps.Clock e.op, step_replies.Clock e.reply place)
+-- where each answer adds its step, so does the one that was given
+pub answered-more : {A : Type 0} (shown : Shown) (who : Who) (number : ℕ) (step : Step) (tell : A → StepReply) (answer : Option A) (reply : StepReply) → option_map tell answer ≡ Some reply →
+    ((a : A) → IsMore shown (shown_after shown who number step (tell a)) (spot_of step (tell a)) (who.number, number) (step, tell a)) →
+    IsMore shown (shown_after shown who number step reply) (spot_of step reply) (who.number, number) (step, reply)
+answered-more shown who number step tell answer reply is each =
+    let from = made-of tell answer reply is in
+    subst (λ (x : StepReply). IsMore shown (shown_after shown who number step x) (spot_of step x) (who.number, number) (step, x)) from.2 (each from.0)
 
-    stays : (at : Spot) (b : ℕ × ℕ) → shown_at shown at ≡ Some b → shown_at (record shown { clock = shown.clock ++ new ∷ [] }) at ≡ Some b
-    stays (spots.Clock place) b is = known-longer step_of shown.clock (new ∷ []) place b is
-    stays (spots.Work place) b is = is
+-- an entry more of a service changes nothing at the spots of others
+work-elsewhere : (shown : Shown) (h : List (Entry WorkOp WorkReply)) (at : Spot) → Elsewhere spots.Work shown (record shown { work = h }) at
+work-elsewhere shown h (spots.Work p) = inl (p, refl)
+work-elsewhere shown h at = inr (refl, refl)
 
-    back : (at : Spot) (b : ℕ × ℕ) → shown_at (record shown { clock = shown.clock ++ new ∷ [] }) at ≡ Some b →
-        (shown_at shown at ≡ Some b) ⊎ ((at ≡ spots.Clock (length shown.clock)) × ((who.number, number) ≡ b))
-    back (spots.Clock place) b is = by_place (known-end step_of shown.clock new place b is)
-      where
-        by_place : (option_map step_of (slice_get shown.clock place) ≡ Some b) ⊎ ((place ≡ length shown.clock) × (step_of new ≡ b)) →
-            (shown_at shown (spots.Clock place) ≡ Some b) ⊎ ((spots.Clock place ≡ spots.Clock (length shown.clock)) × ((who.number, number) ≡ b))
-        by_place (inl before) = inl before
-        by_place (inr last) = inr (ap spots.Clock last.0, last.1)
-    back (spots.Work place) b is = inl is
+clock-elsewhere : (shown : Shown) (h : List (Entry ClockOp ClockReply)) (at : Spot) → Elsewhere spots.Clock shown (record shown { clock = h }) at
+clock-elsewhere shown h (spots.Clock p) = inl (p, refl)
+clock-elsewhere shown h at = inr (refl, refl)
 
-    still : (at : Spot) (x : Step × StepReply) → made_at shown at ≡ Some x → made_at (record shown { clock = shown.clock ++ new ∷ [] }) at ≡ Some x
-    still (spots.Clock place) x is = known-longer (stood place) shown.clock (new ∷ []) place x is
-    still (spots.Work place) x is = is
-
--- a step that its machine answers adds its entry
+-- a step that its machine answers is shown with it
 pub made-more : (m : Machines) (shown : Shown) (who : Who) (number : ℕ) (step : Step) (reply : StepReply) → reply_in m shown who step ≡ Some reply →
     IsMore shown (shown_after shown who number step reply) (spot_of step reply) (who.number, number) (step, reply)
 made-more m shown who number (steps.Work op) reply answered =
-    let from = made-of (λ (r : WorkReply). step_replies.Work r (length shown.work)) (m.work.reply_of (state_after m.work m.work_start shown.work) who op) reply answered in
-    subst (λ (x : StepReply). IsMore shown (shown_after shown who number (steps.Work op) x) (spot_of (steps.Work op) x) (who.number, number) (steps.Work op, x)) from.2
-    (work-more shown who number op from.0)
+    answered-more shown who number (steps.Work op) (λ r. step_replies.Work r (length shown.work)) (m.work.reply_of (state_after m.work m.work_start shown.work) who op) reply answered (λ r.
+    let e = entry who number op r in
+    object-more spots.Work (λ p. steps.Work) (λ p r. step_replies.Work r p) shown (record shown { work = shown.work ++ e ∷ [] }) (slice_get shown.work) (slice_get (shown.work ++ e ∷ []))
+    (record { seen = λ p. refl; made = λ p. refl }) (record { seen = λ p. refl; made = λ p. refl }) (work-elsewhere shown (shown.work ++ e ∷ []))
+    (length shown.work) who number op r (history-with shown.work e) (omega (arith, length-append shown.work (e ∷ []))))
 made-more m shown who number (steps.Clock op) reply answered =
-    let from = made-of (λ (r : ClockReply). step_replies.Clock r (length shown.clock)) (m.clock.reply_of (state_after m.clock m.clock_start shown.clock) who op) reply answered in
-    subst (λ (x : StepReply). IsMore shown (shown_after shown who number (steps.Clock op) x) (spot_of (steps.Clock op) x) (who.number, number) (steps.Clock op, x)) from.2
-    (clock-more shown who number op from.0)
+    answered-more shown who number (steps.Clock op) (λ r. step_replies.Clock r (length shown.clock)) (m.clock.reply_of (state_after m.clock m.clock_start shown.clock) who op) reply answered (λ r.
+    let e = entry who number op r in
+    object-more spots.Clock (λ p. steps.Clock) (λ p r. step_replies.Clock r p) shown (record shown { clock = shown.clock ++ e ∷ [] }) (slice_get shown.clock) (slice_get (shown.clock ++ e ∷ []))
+    (record { seen = λ p. refl; made = λ p. refl }) (record { seen = λ p. refl; made = λ p. refl }) (clock-elsewhere shown (shown.clock ++ e ∷ []))
+    (length shown.clock) who number op r (history-with shown.clock e) (omega (arith, length-append shown.clock (e ∷ []))))
+
+-- where no looks are shown, a step shows none
+pub unlooked-after : (shown : Shown) (who : Who) (number : ℕ) (step : Step) (reply : StepReply) → shown.looked ≡ None → (shown_after shown who number step reply).looked ≡ None
+unlooked-after shown who number (steps.Work op) (step_replies.Work reply place) none = none
+unlooked-after shown who number step (step_replies.Work reply place) none = none
+unlooked-after shown who number step reply none = none
+
+pub whole-after : (shown : Shown) (who : Who) (number : ℕ) (step : Step) (reply : StepReply) → shown.looks ≡ None → (shown_after shown who number step reply).looks ≡ None
+whole-after shown who number (steps.Work op) (step_replies.Work reply place) none = none
+whole-after shown who number step (step_replies.Work reply place) none = none
+whole-after shown who number step reply none = none
+
+below-next : (o : Option ℕ) (number : ℕ) → LookedBelow o number → LookedBelow o (number + 1)
+below-next None number below = tt
+below-next (Some n) number below = omega (arith, below)
+
+-- after a step the looks at items that are shown are below the next one
+looked-after : (shown : Shown) (who : Who) (number : ℕ) (step : Step) (reply : StepReply) → LookedBelow shown.looked number → LookedBelow (shown_after shown who number step reply).looked (number + 1)
+looked-after shown who number (steps.Work op) (step_replies.Work reply place) below = below-next shown.looked number below
+looked-after shown who number step (step_replies.Work reply place) below = below-next shown.looked number below
+looked-after shown who number step reply below = below-next shown.looked number below
 
 -- the log with a step that adds an entry is shown with it
 log-longer : (shown longer : Shown) (number : ℕ) (log : List Spot) (spot : Spot) (made : Step × StepReply) → IsMore shown longer spot (number, length log) made →
-    ShowsLog shown number log → ShowsLog longer number (log ++ spot ∷ [])
-log-longer shown longer number log spot made more shows = record { each = each; no_other = no_other }
+    LookedBelow longer.looked (length log + 1) → ShowsLog shown number log → ShowsLog longer number (log ++ spot ∷ [])
+log-longer shown longer number log spot made more looked shows = record {
+  each = each;
+  no_other = no_other;
+  looked = let long : length log + 1 ≡ length (log ++ spot ∷ []) = omega (arith, length-append log (spot ∷ [])) in subst (LookedBelow longer.looked) long looked;
+}
   where
-    each : (step : ℕ) (at : Spot) → slice_get (log ++ spot ∷ []) step ≡ Some at → shown_at longer at ≡ Some (number, step)
-    each step at is = by_step (at-end log spot at step is)
+    each : (step : ℕ) (at : Spot) → slice_get (log ++ spot ∷ []) step ≡ Some at → is_look at ≡ false → shown_at longer at ≡ Some (number, step)
+    each step at is not_look = by_step (at-end log spot at step is)
       where
         by_step : (slice_get log step ≡ Some at) ⊎ ((step ≡ length log) × (spot ≡ at)) → shown_at longer at ≡ Some (number, step)
-        by_step (inl before) = more.stays at (number, step) (shows.each step at before)
+        by_step (inl before) = more.stays at (number, step) (shows.each step at before not_look)
         by_step (inr last) =
-            subst (λ (x : Spot). shown_at longer x ≡ Some (number, step)) last.1 (more.here ∙ ap (λ (n : ℕ). Some (number, n)) (sym last.0))
+            let here = more.here (subst (λ (x : Spot). is_look x ≡ false) (sym last.1) not_look) in
+            subst (λ (x : Spot). shown_at longer x ≡ Some (number, step)) last.1 (here ∙ ap (λ (n : ℕ). Some (number, n)) (sym last.0))
 
     no_other : (step : ℕ) (at : Spot) → shown_at longer at ≡ Some (number, step) → slice_get (log ++ spot ∷ []) step ≡ Some at
     no_other step at is = by_spot (more.back at (number, step) is)
@@ -147,10 +225,11 @@ log-longer shown longer number log spot made more shows = record { each = each; 
 
 -- the log of another player is shown as before
 pub log-others : (shown longer : Shown) (number other step : ℕ) (log : List Spot) (spot : Spot) (made : Step × StepReply) → IsMore shown longer spot (number, step) made → other ≢ number →
-    ShowsLog shown other log → ShowsLog longer other log
-log-others shown longer number other step log spot made more apart shows = record {
-  each = λ n at is. more.stays at (other, n) (shows.each n at is);
+    LookedBelow longer.looked (length log) → ShowsLog shown other log → ShowsLog longer other log
+log-others shown longer number other step log spot made more apart looked shows = record {
+  each = λ n at is not_look. more.stays at (other, n) (shows.each n at is not_look);
   no_other = λ n at is. by_spot n at (more.back at (other, n) is);
+  looked = looked;
 }
   where
     by_spot : (n : ℕ) (at : Spot) → (shown_at shown at ≡ Some (other, n)) ⊎ ((at ≡ spot) × ◌≡◌ {A = ℕ × ℕ} (number, step) (other, n)) → slice_get log n ≡ Some at
@@ -161,7 +240,8 @@ log-others shown longer number other step log spot made more apart shows = recor
 pub log-answered : (m : Machines) (shown : Shown) (who : Who) (log : List Spot) (step : Step) (reply : StepReply) → ShowsLog shown who.number log →
     reply_in m shown who step ≡ Some reply → ShowsLog (shown_after shown who (length log) step reply) who.number (log ++ spot_of step reply ∷ [])
 log-answered m shown who log step reply shows answered =
-    log-longer shown (shown_after shown who (length log) step reply) who.number log (spot_of step reply) (step, reply) (made-more m shown who (length log) step reply answered) shows
+    log-longer shown (shown_after shown who (length log) step reply) who.number log (spot_of step reply) (step, reply) (made-more m shown who (length log) step reply answered)
+    (looked-after shown who (length log) step reply shows.looked) shows
 
 -- the log of a player is shown with the step that it has made
 pub log-stepped : (alone : Bool) (m : Machines) (s : Parts) (at at' : At) (step : Step) (reply : StepReply) (old new : Shown) → ShowsLog old at.who.number at.spots →

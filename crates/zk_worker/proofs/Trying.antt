@@ -9,7 +9,7 @@ use Rattle.zk_worker.specs.declared.steps.Step.{Step}
 use Rattle.zk_worker.specs.declared.steps.StepReply.{StepReply}
 use Rattle.zk_worker.specs.Machines.{Machines}
 use Rattle.zk_worker.specs.Shown.{Shown, Between}
-use Rattle.zk_worker.specs.Attempt.{Counts, count_at, NoneFell, IsMade, reply_in, Attempted}
+use Rattle.zk_worker.specs.Attempt.{Counts, NoneFell, IsMade, reply_in, Attempted}
 use Rattle.zk_worker.specs.Playing.{WasTried, WereTried, WasFirst, WasNone, Tried}
 use Rattle.zk_worker.proofs.Between.{between-none, between-both}
 
@@ -28,7 +28,7 @@ tried-since alone m who ahead many old mid new counts counts' counts'' tried oth
       since = was.since;
       until = between-both alone who.number was.found mid new was.until others;
       impossible = was.impossible;
-      rose = rose-since (count_at counts step) (count_at counts' step) (count_at counts'' step) was.rose (kept step).0 (kept step).1;
+      rose = rose-since (counts step) (counts' step) (counts'' step) was.rose (kept step).0 (kept step).1;
     }
 
 lower-or-last : (k n : ℕ) → k < n + 1 → (k < n) ⊎ (k ≡ n)
@@ -43,7 +43,7 @@ lower-or-last (suc k) (suc n) low = further (lower-or-last k n (omega arith))
 -- one attempt more was made, and wasn't possible
 pub tried-next : (alone : Bool) (m : Machines) (who : Who) (ahead : List Step) (many : ℕ) (last : Step) (old mid new : Shown) (counts counts' counts'' : Counts) →
     WereTried alone m who ahead many old mid counts counts' → slice_get ahead many ≡ Some last → Between alone who.number old mid → Between alone who.number mid new →
-    reply_in m new who last ≡ None → Rose (count_at counts' last) (count_at counts'' last) → ((step : Step) → count_at counts step ≤ count_at counts' step) → NoneFell counts' counts'' →
+    reply_in m new who last ≡ None → Rose (counts' last) (counts'' last) → ((step : Step) → counts step ≤ counts' step) → NoneFell counts' counts'' →
     WereTried alone m who ahead (many + 1) old new counts counts''
 tried-next alone m who ahead many last old mid new counts counts' counts'' tried is before others impossible rose kept none_fell = λ k step below there.
     by_place k step there (lower-or-last k many below)
@@ -58,7 +58,7 @@ tried-next alone m who ahead many last old mid new counts counts' counts'' tried
           since = between-both alone who.number old mid new before others;
           until = between-none alone who.number new;
           impossible = impossible;
-          rose = Rose-from (count_at counts last) (count_at counts' last) (count_at counts'' last) (kept last) rose;
+          rose = Rose-from (counts last) (counts' last) (counts'' last) (kept last) rose;
         })
 
 -- an attempt is made, behind those that weren't possible
@@ -68,7 +68,13 @@ pub first-made : (alone : Bool) (m : Machines) (who : Who) (number : ℕ) (ahead
 first-made alone m who number ahead many step reply old mid new counts counts' counts'' tried is before made none_fell = record {
   index = many;
   is_there = is;
-  made = record { found = made.found; since = between-both alone who.number old mid made.found before made.since; replied = made.replied; shown = made.shown };
+  made = record {
+    found = made.found;
+    since = between-both alone who.number old mid made.found before made.since;
+    replied = made.replied;
+    read_at = made.read_at;
+    shown = made.shown;
+  };
   tried = tried-since alone m who ahead many old mid made.found counts counts' counts'' tried made.since none_fell;
 }
 

@@ -1,20 +1,13 @@
-use Rattle.std.specs.Prelude.{◌≡◌, ℕ, ◌-◌, ◌^◌, ◌≤◌, Bool, Option, Some, None, Result, Ok, Err, List, length, option_map}
+use Rattle.std.specs.Prelude.{◌≡◌, ℕ, ◌-◌, ◌^◌, ◌≤◌, Bool, Option, Some, None, Result, Ok, Err}
 use Rattle.zk_base.specs.declared.ids.Who.{Who}
-use Rattle.zk_base.specs.declared.ids.Entry.{Entry}
 use Rattle.zk_base.specs.declared.errors.NoMemory.{NoMemory}
-use Rattle.zk_base.specs.Legal.{Machine, state_after}
 use Rattle.zk_worker.specs.declared.steps.Step.{Step}
 use Rattle.zk_worker.specs.declared.steps.Step.TheVariants as steps
 use Rattle.zk_worker.specs.declared.steps.StepReply.{StepReply}
 use Rattle.zk_worker.specs.declared.steps.StepReply.TheVariants as step_replies
+use Rattle.zk_worker.specs.Single.{answer_in}
 use Rattle.zk_worker.specs.Machines.{Machines}
 use Rattle.zk_worker.specs.Shown.{Shown, shown_after, Between}
-
--- what a machine answers to an operation after a history, if it is possible: the reply to the step, which has the place of its entry
-abbrev pub answer_in : {S O R : Type 0} → Machine S O R → S → List (Entry O R) →
-    (R → ℕ → StepReply) → Who → O → Option StepReply
-answer_in m start h step_reply who op =
-    option_map (λ reply. step_reply reply (length h)) (m.reply_of (state_after m start h) who op)
 
 -- what is answered to a step where this is shown, if it is possible
 abbrev pub reply_in : Machines → Shown → Who → Step → Option StepReply
@@ -32,25 +25,22 @@ takes m (steps.Clock op) = m.clock.in_range m.clock_start op
 abbrev pub SamePlayers : (Who → Type 0) → (Who → Type 0) → Type 0
 SamePlayers old new = (who : Who) → (old who → new who) × (new who → old who)
 
--- how many attempts were made at each service
-pub record Counts : Type 0 where
-  pub work : ℕ
-  pub clock : ℕ
-
--- how many were made at the service of a step
-abbrev pub count_at : Counts → Step → ℕ
-count_at counts (steps.Work op) = counts.work
-count_at counts (steps.Clock op) = counts.clock
+-- how many attempts were made at the service of a step, as far as they are counted
+abbrev pub Counts : Type 0
+Counts = Step → ℕ
 
 -- no count fell, and each is one that 64 bits hold
 abbrev pub NoneFell : Counts → Counts → Type 0
-NoneFell old new =
-    (step : Step) → (count_at old step ≤ count_at new step) × (count_at new step ≤ 2 ^ 64 - 1)
+NoneFell old new = (step : Step) → (old step ≤ new step) × (new step ≤ 2 ^ 64 - 1)
 
 -- of all that is shown only the history of a step's service may have changed
 abbrev pub KeepsElsewhere : Step → Shown → Shown → Type 0
 KeepsElsewhere (steps.Work op) old new = new ≡ record old { work = new.work }
 KeepsElsewhere (steps.Clock op) old new = new ≡ record old { clock = new.clock }
+
+-- a look reads at the end of what is shown; other steps say nothing of it
+abbrev pub ReadsAt : Shown → Step → StepReply → Type 0
+ReadsAt shown step reply = Unit {0}
 
 -- a step was made: in between something was shown, its reply is the machine's there, and its entry is all that came then
 pub record IsMade (alone : Bool) (m : Machines) (who : Who) (number : ℕ) (step : Step)
@@ -58,6 +48,7 @@ pub record IsMade (alone : Bool) (m : Machines) (who : Who) (number : ℕ) (step
   pub found : Shown
   pub since : Between alone who.number old found
   pub replied : reply_in m found who step ≡ Some reply
+  pub read_at : ReadsAt found step reply
   pub shown : new ≡ shown_after found who number step reply
 
 -- what an attempt answers, and what it leaves: no entry of this player but that of the step made

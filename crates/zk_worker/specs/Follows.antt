@@ -1,4 +1,5 @@
-use Rattle.std.specs.Prelude.{◌≡◌, ℕ, Bool, true, false, nat_le, if◌then◌else◌, Option, Some, List, [], ◌∷◌, length, map, slice_get, option_map}
+use Rattle.std.specs.Prelude.{◌≡◌, ℕ, Bool, true, false, nat_le, if◌then◌else◌, Option, Some, List, [], ◌∷◌, length, slice_get, option_map}
+use Rattle.std.specs.List.{AllZip}
 use Rattle.zk_scenario.specs.Parts.{Parts}
 use Rattle.zk_worker.specs.declared.steps.TheConstants.{MOST_STEPS}
 use Rattle.zk_worker.specs.declared.steps.Step.{Step}
@@ -62,18 +63,21 @@ made_at shown (spots.Clock place) =
     option_map (λ e. (steps.Clock e.op, step_replies.Clock e.reply place))
     (slice_get shown.clock place)
 
+-- a spot stands for a step with its reply
+abbrev pub Stands : Shown → Spot → Step × StepReply → Type 0
+Stands shown spot made = made_at shown spot ≡ Some made
+
 -- a step with its reply stands at this spot, and what stood at a spot stands there still
 pub record StandsMore (old new : Shown) (spot : Spot) (made : Step × StepReply) : Type 0 where
-  pub here : made_at new spot ≡ Some made
-  pub still : (at : Spot) (other : Step × StepReply) → made_at old at ≡ Some other →
-      made_at new at ≡ Some other
+  pub here : Stands new spot made
+  pub still : (at : Spot) (other : Step × StepReply) → Stands old at other → Stands new at other
 
 -- a player is where the protocol leads it from its start, by the steps and replies that its spots stand for
 pub record IsFollowing (s : Parts) (number : ℕ) (shown : Shown) (at : At) : Type 0 where
   pub start : At
   pub made : List (Step × StepReply)
   pub starts : start_at s number ≡ Some start
-  pub stands : map (made_at shown) at.spots ≡ map Some made
+  pub stands : AllZip (Stands shown) at.spots made
   pub played : IsPlayed s start made at
 
 -- the log of a player follows the scenario: it is the log of a place to which the protocol leads

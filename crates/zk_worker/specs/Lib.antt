@@ -1,10 +1,14 @@
 pub mod Attempt
 pub mod Calls
+pub mod Families
 pub mod Follows
+pub mod Looks
 pub mod Machines
 pub mod Places
 pub mod Playing
 pub mod Protocol
 pub mod Ranges
+pub mod Right
 pub mod Shown
+pub mod Single
 pub mod Stacks

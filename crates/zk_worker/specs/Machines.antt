@@ -1,4 +1,4 @@
-use Rattle.std.specs.Prelude.{ℕ, Bool, false, List, length, map, slice_get}
+use Rattle.std.specs.Prelude.{ℕ, ◌+◌, Bool, false, if◌then◌else◌, Option, Some, None, List, [], ◌∷◌, length, map, slice_get}
 use Rattle.std.specs.List.{range_with_len}
 use Rattle.std.specs.Option.{option_map_or}
 use Rattle.zk_base.specs.Legal.{Machine}
@@ -33,14 +33,26 @@ work_start_of s =
     start_of (length (places is_item s.decls)) (workers s.decls)
     (map (is_on s.decls) (places is_queue s.decls))
 
--- the machine of each service, and the state that it starts in
+-- the number of each item among the items, by object number; objects of other kinds have none
+abbrev pub items_from : ℕ → List Decl → List (Option ℕ)
+items_from n [] = []
+items_from n (decl ∷ decls) =
+    (if is_item decl then Some n ∷ items_from (n + 1) decls else None ∷ items_from n decls)
+
+-- the machine of each service, and the state that it starts in; and by object number the number of each item at the work service
 pub record Machines : Type 0 where
   pub work : Machine State WorkOp WorkReply
   pub work_start : State
+  pub items : List (Option ℕ)
   pub clock : Machine Clock ClockOp ClockReply
   pub clock_start : Clock
 
 -- the machines of a scenario
 abbrev pub machines_of : Parts → Machines
-machines_of s =
-    record { work = work_machine; work_start = work_start_of s; clock = clock_machine; clock_start = new_clock }
+machines_of s = record {
+  work = work_machine;
+  work_start = work_start_of s;
+  items = items_from 0 s.decls;
+  clock = clock_machine;
+  clock_start = new_clock;
+}

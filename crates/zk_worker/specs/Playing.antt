@@ -11,7 +11,7 @@ use Rattle.zk_worker.specs.Protocol.{attempts, after}
 use Rattle.zk_worker.specs.Follows.{is_spent_at, is_through}
 use Rattle.zk_worker.specs.Machines.{Machines}
 use Rattle.zk_worker.specs.Shown.{Shown, Between}
-use Rattle.zk_worker.specs.Attempt.{reply_in, Counts, count_at, IsMade}
+use Rattle.zk_worker.specs.Attempt.{reply_in, Counts, IsMade}
 
 -- a step was tried between two moments: its service counted the attempt, and the machine says that it isn't possible at what was shown at a moment between
 pub record WasTried (alone : Bool) (m : Machines) (who : Who) (old new : Shown)
@@ -20,7 +20,7 @@ pub record WasTried (alone : Bool) (m : Machines) (who : Who) (old new : Shown)
   pub since : Between alone who.number old found
   pub until : Between alone who.number found new
   pub impossible : reply_in m found who step ≡ None
-  pub rose : Rose (count_at counts step) (count_at counts' step)
+  pub rose : Rose (counts step) (counts' step)
 
 -- so many of these attempts, from the first, were tried
 abbrev pub WereTried : Bool → Machines → Who → List Step → ℕ → Shown → Shown → Counts → Counts →

@@ -121,10 +121,15 @@ answers_after answers number (Answers word answer) =
     answers ++ record { step = number; word = word; answer = answer } ∷ []
 answers_after answers number progress = answers
 
+-- the place of the entry of a step, in the history of its service
+abbrev pub place_of : StepReply → ℕ
+place_of (step_replies.Work reply place) = place
+place_of (step_replies.Clock reply place) = place
+
 -- where a step is recorded
 abbrev pub spot_of : Step → StepReply → Spot
-spot_of made (step_replies.Work reply place) = spots.Work place
-spot_of made (step_replies.Clock reply place) = spots.Clock place
+spot_of (steps.Work op) reply = spots.Work (place_of reply)
+spot_of (steps.Clock op) reply = spots.Clock (place_of reply)
 
 -- where a player stands after a step that does this, and is recorded there
 abbrev pub moved : Parts → At → Progress → Spot → At

@@ -1,7 +1,9 @@
-use Rattle.std.specs.Prelude.{◌≡◌, ◌≢◌, ℕ, ◌+◌, ◌-◌, ◌^◌, ◌<◌, Bool, true, false, Option, Some, List, [], ◌∷◌, ◌++◌, length, slice_get, option_map, All}
+use Rattle.std.specs.Prelude.{◌≡◌, ℕ, ◌+◌, ◌-◌, ◌^◌, ◌<◌, Bool, true, false, Option, Some, None, List, [], ◌∷◌, ◌++◌, length, slice_get, option_map}
 use Rattle.zk_base.specs.declared.ids.Who.{Who}
 use Rattle.zk_base.specs.declared.ids.Entry.{Entry}
+use Rattle.zk_base.specs.declared.seen.Seen.{Seen}
 use Rattle.zk_base.specs.History.{entry}
+use Rattle.zk_line.specs.declared.types.Decl.{Decl}
 use Rattle.zk_model_wait.specs.declared.clock.ClockOp.{ClockOp}
 use Rattle.zk_model_wait.specs.declared.clock.ClockReply.{ClockReply}
 use Rattle.zk_model_work.specs.declared.ops.WorkOp.{WorkOp}
@@ -12,19 +14,23 @@ use Rattle.zk_worker.specs.declared.steps.StepReply.{StepReply}
 use Rattle.zk_worker.specs.declared.steps.StepReply.TheVariants as step_replies
 use Rattle.zk_worker.specs.declared.steps.Spot.{Spot}
 use Rattle.zk_worker.specs.declared.steps.Spot.TheVariants as spots
+use Rattle.zk_worker.specs.Single.{step_of, OthersGrew}
+use Rattle.zk_worker.specs.Looks.{LooksGrew, LookedBelow}
 
--- what the services show: the history of each
+-- what the services show: the history of each; the looks of this player at each signal, where signals are shared without a turn; and, where looks at items are shown, the first number above those of this player's
 pub record Shown : Type 0 where
   pub work : List (Entry WorkOp WorkReply)
   pub clock : List (Entry ClockOp ClockReply)
+  pub looks : Option (List (List Seen))
+  pub looked : Option ℕ
 
 -- how many entries are shown
 abbrev pub entry_count : Shown → ℕ
 entry_count shown = length shown.work + length shown.clock
 
--- nothing was shown of any service
-abbrev pub nothing_shown : Shown
-nothing_shown = record { work = []; clock = [] }
+-- nothing was shown of the services of these declarations, which show whole histories
+abbrev pub nothing_shown : List Decl → Shown
+nothing_shown decls = record { work = []; clock = []; looks = None; looked = None }
 
 -- what is shown with the entry of a step, in the history of its service
 abbrev pub shown_after : Shown → Who → ℕ → Step → StepReply → Shown
@@ -34,42 +40,39 @@ shown_after shown who number (steps.Clock op) (step_replies.Clock reply place) =
     record shown { clock = shown.clock ++ entry who number op reply ∷ [] }
 shown_after shown who number step reply = shown
 
--- whose step an entry is, and the step of which number
-abbrev pub step_of : {O R : Type 0} → Entry O R → ℕ × ℕ
-step_of e = (e.who.number, e.step)
-
 -- whose step is shown at a spot, and the step of which number
 abbrev pub shown_at : Shown → Spot → Option (ℕ × ℕ)
 shown_at shown (spots.Work place) = option_map step_of (slice_get shown.work place)
 shown_at shown (spots.Clock place) = option_map step_of (slice_get shown.clock place)
 
--- of the player of this number just the steps of a log are shown: each at its spot, and no other
+-- whether a spot is that of a look, which has no entry
+abbrev pub is_look : Spot → Bool
+is_look spot = false
+
+-- of the player of this number just the steps of a log are shown: each at its spot, but for looks, and no other
 pub record ShowsLog (shown : Shown) (number : ℕ) (log : List Spot) : Type 0 where
-  pub each : (step : ℕ) (spot : Spot) → slice_get log step ≡ Some spot →
+  pub each : (step : ℕ) (spot : Spot) → slice_get log step ≡ Some spot → is_look spot ≡ false →
       shown_at shown spot ≡ Some (number, step)
   pub no_other : (step : ℕ) (spot : Spot) → shown_at shown spot ≡ Some (number, step) →
       slice_get log step ≡ Some spot
+  pub looked : LookedBelow shown.looked (length log)
 
--- the step is above all that are shown of this player
-abbrev pub IsLater : Shown → ℕ → ℕ → Type 0
-IsLater shown number next =
-    (step : ℕ) (spot : Spot) → shown_at shown spot ≡ Some (number, step) → step < next
+-- the step is above all that are shown of this player: those with an entry, and the looks
+pub record IsLater (shown : Shown) (number next : ℕ) : Type 0 where
+  pub entries : (step : ℕ) (spot : Spot) → shown_at shown spot ≡ Some (number, step) → step < next
+  pub looked : LookedBelow shown.looked next
 
 -- each history has room for an entry
 pub record AreShort (shown : Shown) : Type 0 where
   pub work : length shown.work < 2 ^ 32 - 1
   pub clock : length shown.clock < 2 ^ 32 - 1
 
--- a history grew by entries of other players than the one of this number
-pub record OthersGrew {O R : Type 0} (number : ℕ) (old new : List (Entry O R)) : Type 0 where
-  pub more : List (Entry O R)
-  pub longer : new ≡ old ++ more
-  pub others : All (λ e. e.who.number ≢ number) more
-
--- each history grew so
+-- each history grew by entries of other players than the one of this number, and looks at signals at most were added
 pub record AllGrew (number : ℕ) (old new : Shown) : Type 0 where
   pub work : OthersGrew number old.work new.work
   pub clock : OthersGrew number old.clock new.clock
+  pub looks : LooksGrew old.looks new.looks
+  pub looked : new.looked ≡ old.looked
 
 -- what came between two moments beside the steps of this player: nothing where it is alone, else entries of other players
 abbrev pub Between : Bool → ℕ → Shown → Shown → Type 0

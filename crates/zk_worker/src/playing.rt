@@ -6,6 +6,7 @@ ghost use Rattle.zk_worker.specs.Follows.{IsFollowing};
 ghost use Rattle.zk_worker.specs.Ranges.{FramesFit};
 ghost use Rattle.zk_worker.specs.Machines.{machines_of};
 ghost use Rattle.zk_worker.specs.Shown.{ShowsLog, AreShort, Between};
+ghost use Rattle.zk_worker.specs.Right.{LooksRight};
 ghost use Rattle.zk_worker.specs.Attempt.{takes, SamePlayers};
 ghost use Rattle.zk_worker.specs.Playing.{Tried, Does};
 
@@ -47,6 +48,7 @@ fn try_ahead<V: Services>(
     ensures machines { V.machines services.new ≡ V.machines services.old }
     ensures serves { SamePlayers (V.serves services.old) (V.serves services.new) }
     ensures alone { V.alone services.new ≡ V.alone services.old }
+    ensures home { V.home services.new ≡ V.home services.old }
 {
     for index in 0..MOST_ATTEMPTS {
         let Some(step) = player.ahead(scenario, index) else {
@@ -68,12 +70,13 @@ impl Player {
         scenario: &Scenario,
         services: &mut V,
     ) -> Result<Stepped, NoMemory>
-        // The services serve this player of this scenario, and show of it just its log.
+        // The services serve this player of this scenario, and show of it just its log, whose looks are right.
         requires valid { IsValid scenario.now }
         requires machines { V.machines services.old ≡ machines_of scenario.now }
         requires served { V.serves services.old self.old.who }
         requires fits { FramesFit scenario.now.decls self.old.frames }
         requires log { ShowsLog (V.shown services.old) self.old.who.number self.old.spots }
+        requires looks { LooksRight (V.machines services.old) (V.shown services.old) self.old.spots }
         requires short { V.alone services.old ≡ true → AreShort (V.shown services.old) }
 
         // What was done, by the answer.
@@ -86,12 +89,14 @@ impl Player {
 
         // After every answer it can be called again.
         ensures log { ShowsLog (V.shown services.new) self.new.who.number self.new.spots }
+        ensures looks { LooksRight (V.machines services.new) (V.shown services.new) self.new.spots }
         ensures follows { (number : ℕ) → IsFollowing scenario.now number (V.shown services.old) self.old →
             IsFollowing scenario.now number (V.shown services.new) self.new }
         ensures fits { FramesFit scenario.now.decls self.new.frames }
         ensures machines { V.machines services.new ≡ V.machines services.old }
         ensures serves { SamePlayers (V.serves services.old) (V.serves services.new) }
         ensures alone { V.alone services.new ≡ V.alone services.old }
+        ensures home { V.home services.new ≡ V.home services.old }
     {
         if self.is_spent() {
             return Ok(Stepped::Spent);

@@ -1,7 +1,7 @@
 ghost use Rattle.std.specs.Prelude.{◌≡◌, slice_get, reverse};
 ghost use Rattle.zk_line.specs.Objects.{places, is_item};
 ghost use Rattle.zk_scenario.specs.Players.{players, calls_of};
-ghost use Rattle.zk_worker.specs.Protocol.{worker_attempts, call_attempts, role_attempts, run_progress, worker_progress, call_progress, role_progress, is_over, spot_of};
+ghost use Rattle.zk_worker.specs.Protocol.{worker_attempts, call_attempts, role_attempts, run_progress, worker_progress, call_progress, role_progress, is_over, place_of, spot_of};
 
 use crate::calls::{plan_ahead, plan_of, plan_progress};
 use crate::{Frame, Progress, Role, Spot, Stage, Step, StepReply};
@@ -110,12 +110,21 @@ pub fn is_over(scenario: &Scenario, frame: Frame) -> bool
     }
 }
 
-/// Where a step is recorded.
-pub fn spot_of(_made: Step, reply: &StepReply) -> Spot
-    ensures { result ≡ spot_of _made reply.now }
+fn place_of(reply: &StepReply) -> u64
+    ensures { result ≡ place_of reply.now }
 {
     match reply {
-        StepReply::Work(_, place) => Spot::Work(*place),
-        StepReply::Clock(_, place) => Spot::Clock(*place),
+        StepReply::Work(_, place) => *place,
+        StepReply::Clock(_, place) => *place,
+    }
+}
+
+/// Where a step is recorded.
+pub fn spot_of(made: Step, reply: &StepReply) -> Spot
+    ensures { result ≡ spot_of made reply.now }
+{
+    match made {
+        Step::Work(_) => Spot::Work(place_of(reply)),
+        Step::Clock(_) => Spot::Clock(place_of(reply)),
     }
 }

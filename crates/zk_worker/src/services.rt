@@ -3,7 +3,7 @@ ghost use Rattle.zk_base.specs.declared.ids.Who.{Who};
 ghost use Rattle.zk_base.specs.Causes.{Rose};
 ghost use Rattle.zk_worker.specs.Machines.{Machines};
 ghost use Rattle.zk_worker.specs.Shown.{Shown, IsLater, AreShort};
-ghost use Rattle.zk_worker.specs.Attempt.{Counts, count_at, takes, NoneFell, SamePlayers, Attempted, KeepsElsewhere};
+ghost use Rattle.zk_worker.specs.Attempt.{Counts, takes, NoneFell, SamePlayers, Attempted, KeepsElsewhere};
 
 use crate::steps::MOST_STEPS;
 use crate::{Step, StepReply};
@@ -11,6 +11,12 @@ use zk_base::{NoMemory, Who};
 
 /// The services of the kernel, as whoever plays on them sees them.
 pub trait Services {
+    /// What tells these services from others of their type.
+    type Home;
+
+    /// What they stand on. No call changes it.
+    ghost home: { Self → Self.Home };
+
     /// The machines that the services are the services of. No call changes them.
     ghost machines: { Self → Machines };
 
@@ -20,10 +26,10 @@ pub trait Services {
     /// Whether nobody else uses them meanwhile. No call changes that.
     ghost alone: { Self → Bool };
 
-    /// The history that they show of each service.
+    /// What they show: the history of each service, and the looks where they show those.
     ghost shown: { Self → Shown };
 
-    /// How many attempts were made at each service, as far as they are counted.
+    /// How many attempts were made at the service of each step, as far as they are counted.
     ghost counts: { Self → Counts };
 
     /// One attempt of a step: its reply, or nothing where the machine says that it isn't possible.
@@ -47,9 +53,10 @@ pub trait Services {
         // The counts, with the one of an attempt that wasn't possible.
         ensures counts { NoneFell (counts self.old) (counts self.new) }
         ensures rose { IfOk result (λ reply. reply ≡ None →
-            Rose (count_at (counts self.old) step.now) (count_at (counts self.new) step.now)) }
+            Rose (counts self.old step.now) (counts self.new step.now)) }
 
         ensures machines { machines self.new ≡ machines self.old }
         ensures serves { SamePlayers (serves self.old) (serves self.new) }
-        ensures alone { alone self.new ≡ alone self.old };
+        ensures alone { alone self.new ≡ alone self.old }
+        ensures home { home self.new ≡ home self.old };
 }

@@ -1,11 +1,22 @@
-use Rattle.std.proofs.Common.{ℕ, length, sym, subst, arith, rules, ◌∙◌}
+use Rattle.std.proofs.Common.{ℕ, length, refl, sym, subst, arith, rules, ◌∙◌}
 use Rattle.std.specs.List.{slice_get}
 use Rattle.zk_base.specs.declared.ids.Who.{Who}
 use Rattle.zk_worker.specs.Protocol.{attempts}
 use Rattle.zk_worker.specs.Shown.{IsLater}
-use Rattle.zk_worker.proofs.Between.{between-both, log-still, log-later}
+use Rattle.zk_worker.proofs.Between.{between-none, between-both, log-still, log-later}
 use Rattle.zk_worker.proofs.Trying.{attempted-some, attempted-none, attempted-err, tried-next, first-made}
 use Rattle.zk_worker.proofs.playing.try_ahead.Goals as goal
+
+pub loop-index-init : goal.loop-index-init
+loop-index-init g c = record {
+  machines = refl;
+  serves = λ who. (λ served. served, λ served. served);
+  alone = refl;
+  home = refl;
+  others = between-none (g.V.Services.alone c.args.services.now) c.args.player.now.who.number (g.V.Services.shown c.args.services.now);
+  counts = λ step. omega arith;
+  tried = λ k step below there. absurd (omega arith);
+}
 
 pub attempt-requires-clause-later : goal.attempt-requires-clause-later
 attempt-requires-clause-later g c =
@@ -45,6 +56,7 @@ loop-index-preserved g c =
       machines = c.attempt.ensures.machines ∙ was.machines;
       serves = λ who. (λ served. (c.attempt.ensures.serves who).0 ((was.serves who).0 served), λ served. (was.serves who).1 ((c.attempt.ensures.serves who).1 served));
       alone = c.attempt.ensures.alone ∙ was.alone;
+      home = c.attempt.ensures.home ∙ was.home;
       others = between-both alone c.args.player.now.who.number old _ new was.others none.0;
       counts = λ step. omega (arith, was.counts step, (c.attempt.ensures.counts step).0);
       tried = tried-next alone _ _ ahead c.loop-index.index _ old _ new _ _ _ was.tried (sym {b = slice_get ahead c.loop-index.index} c.in-Some.ensures)

@@ -2,7 +2,7 @@ use Rattle.std.proofs.Common.{◌≡◌, ◌≤◌}
 use Rattle.zk_worker.specs.declared.steps.Step.{Step}
 use Rattle.zk_worker.specs.Protocol.{attempts}
 use Rattle.zk_worker.specs.Shown.{Between}
-use Rattle.zk_worker.specs.Attempt.{count_at, SamePlayers}
+use Rattle.zk_worker.specs.Attempt.{SamePlayers}
 use Rattle.zk_worker.specs.Playing.{WereTried}
 use Rattle.zk_worker.proofs.playing.try_ahead.Given as goal
 
@@ -15,8 +15,9 @@ invariant-loop-index g l =
       machines : g.V.Services.machines l.services ≡ m;
       serves : SamePlayers (g.V.Services.serves first) (g.V.Services.serves l.services);
       alone : g.V.Services.alone l.services ≡ lone;
+      home : g.V.Services.home l.services ≡ g.V.Services.home first;
       others : Between lone l.player.who.number (g.V.Services.shown first) (g.V.Services.shown l.services);
-      counts : (step : Step) → count_at (g.V.Services.counts first) step ≤ count_at (g.V.Services.counts l.services) step;
+      counts : (step : Step) → g.V.Services.counts first step ≤ g.V.Services.counts l.services step;
       tried : WereTried lone m l.player.who (attempts l.scenario l.player) l.index (g.V.Services.shown first) (g.V.Services.shown l.services)
           (g.V.Services.counts first) (g.V.Services.counts l.services);
     }

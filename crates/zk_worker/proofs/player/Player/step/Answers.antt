@@ -1,6 +1,7 @@
 use Rattle.zk_worker.proofs.Ranges.{ahead-takes}
 use Rattle.zk_worker.proofs.Between.{log-still}
 use Rattle.zk_worker.proofs.ShownSteps.{log-stepped}
+use Rattle.zk_worker.proofs.Looking.{looks-still, looks-stepped}
 use Rattle.zk_worker.proofs.Following.{following-between, stands-made}
 use Rattle.zk_worker.proofs.Trying.{tried-some, tried-none}
 use Rattle.zk_worker.proofs.player.Player.step.Goals as goal
@@ -38,3 +39,17 @@ pub returns-in-None-clause-follows : goal.returns-in-None-clause-follows
 returns-in-None-clause-follows g c =
     let none = tried-none _ _ _ _ _ _ _ _ _ _ c.in_ok-step.ensures.tried c.in-None.is in
     λ number is. following-between _ _ number _ _ _ _ none.others is
+
+pub returns-in_err-step-clause-looks : goal.returns-in_err-step-clause-looks
+returns-in_err-step-clause-looks g c =
+    looks-still _ _ _ _ _ _ _ c.in_err-step.ensures.machines c.requires.looks c.in_err-step.ensures.err
+
+pub returns-in-Some-clause-looks : goal.returns-in-Some-clause-looks
+returns-in-Some-clause-looks g c =
+    let first = tried-some _ _ _ _ _ c.in-Some.step c.in-Some.reply _ _ _ _ _ c.in_ok-step.ensures.tried c.in-Some.is in
+    looks-stepped _ _ _ c.args.scenario.now c.args.self.now _ _ _ _ _ c.in_ok-step.ensures.machines c.requires.log c.requires.looks first.made c.made.ensures.next
+
+pub returns-in-None-clause-looks : goal.returns-in-None-clause-looks
+returns-in-None-clause-looks g c =
+    let none = tried-none _ _ _ _ _ _ _ _ _ _ c.in_ok-step.ensures.tried c.in-None.is in
+    looks-still _ _ _ _ _ _ _ c.in_ok-step.ensures.machines c.requires.looks none.others
