@@ -1,13 +1,14 @@
 -- The world in which nothing was done.
-use Rattle.std.proofs.Common.{◌≡◌, ◌≢◌, ◌⊎◌, ℕ, zero, suc, ◌+◌, ◌≤◌, false, Option, Some, None, option_to_list, List, [], ◌∷◌, ◌++◌, length, All, AllPairs, inl, inr, refl, sym, ap, ◌∙◌, arith, length-append}
+use Rattle.std.proofs.Common.{◌≡◌, ◌≢◌, ◌⊎◌, ℕ, zero, suc, ◌+◌, ◌≤◌, false, Option, Some, None, option_to_list, List, [], ◌∷◌, ◌++◌, length, map, All, AllPairs, inl, inr, refl, sym, ap, ◌∙◌, arith, length-append}
 use Rattle.std.specs.List.{slice_get, range_with_len}
 use Rattle.std.proofs.lemmas.Bool.Decides.{nat_tests}
+use Rattle.std.proofs.lemmas.List.{map-append}
 use Rattle.std.proofs.lemmas.List.Elements.{All-nil, All-cons, All-append, All-weaker}
 use Rattle.std.proofs.lemmas.List.Folds.{list_any_none}
 use Rattle.std.proofs.lemmas.List.FromFn.{length-range_with_len, get_or-range_with_len}
-use Rattle.std.proofs.lemmas.List.Sums.{sum_by-le}
 use Rattle.zk_scenario.specs.Parts.{Parts}
 use Rattle.zk_scenario.specs.Valid.{IsValid}
+use Rattle.zk_line.specs.declared.types.Decl.{Decl}
 use Rattle.zk_line.specs.Objects.{places, is_thread, is_queue, is_item}
 use Rattle.zk_scenario.specs.Players.{players}
 use Rattle.zk_line.proofs.Tables.{length-places}
@@ -15,24 +16,25 @@ use Rattle.zk_scenario.proofs.Valid.{length-players}
 use Rattle.zk_base.specs.declared.ids.Entry.{Entry}
 use Rattle.zk_model_wait.specs.declared.clock.ClockOp.{ClockOp}
 use Rattle.zk_model_wait.specs.declared.clock.ClockReply.{ClockReply}
-use Rattle.zk_model_wait.specs.Clock.{Clock, new_clock, clock_machine}
+use Rattle.zk_model_wait.specs.Clock.{Clock, new_clock}
 use Rattle.zk_model_work.specs.declared.ops.WorkOp.{WorkOp}
 use Rattle.zk_model_work.specs.declared.ops.WorkReply.{WorkReply}
 use Rattle.zk_model_work.specs.State.{State}
-use Rattle.zk_model_work.specs.Machine.{work_machine}
 use Rattle.zk_worker.specs.declared.steps.Spot.{Spot}
 use Rattle.zk_worker.specs.declared.steps.TheConstants.{MOST_STEPS}
 use Rattle.zk_worker.specs.Places.{At}
 use Rattle.zk_worker.specs.Protocol.{start_at}
 use Rattle.zk_worker.specs.Follows.{is_spent_at}
 use Rattle.zk_worker.specs.Ranges.{FramesFit}
-use Rattle.zk_worker.specs.Machines.{Machines, machines_of, workers, work_start_of}
+use Rattle.zk_worker.specs.Machines.{Machines, machines_of, workers, work_start_of, item_number, items_of}
 use Rattle.zk_worker.specs.Shown.{Shown, nothing_shown}
 use Rattle.zk_worker.proofs.Fits.{start_at-fits}
 use Rattle.zk_worker.proofs.Following.{following-fresh}
 use Rattle.zk_worker.proofs.Between.{log-none}
+use Rattle.zk_worker.proofs.Looking.{looks-fresh}
 use Rattle.zk_worker.proofs.Starts.{start_at-some, start_at-fresh, IsFresh}
 use Rattle.zk_worker.proofs.Lists.{at-end}
+use Rattle.zk_replay.specs.Alone.{machines_from, whole_shown}
 use Rattle.zk_replay.specs.RoundRobin.{starts, first, is_spent}
 use Rattle.zk_replay.specs.Ready.{IsReady}
 use Rattle.zk_replay.specs.Turning.{world}
@@ -132,10 +134,13 @@ ready-first s valid =
     record {
       few = omega (arith, length-starts s n (omega arith), length-players s.decls, valid.players);
       numbers = numbers-starts s n (omega arith);
-      shows = λ p at is. log-none at.who.number at.spots (start_at-fresh s p at (first-there s p at is)).none_made;
+      shows = λ p at is. log-none s.decls at.who.number at.spots (start_at-fresh s p at (first-there s p at is)).none_made;
+      looks = λ p at is. looks-fresh (machines_of s) (nothing_shown s.decls) at.spots (start_at-fresh s p at (first-there s p at is)).none_made;
       short = All-weaker None_made Short (λ at le. omega arith) (starts s n) none;
-      counted = omega (arith, sum_by-le count 0 (starts s n) none);
-      follow = λ p at is. following-fresh s p nothing_shown at (first-there s p at is);
+      counted = omega arith;
+      whole = refl;
+      unlooked = refl;
+      follow = λ p at is. following-fresh s p (nothing_shown s.decls) at (first-there s p at is);
       fits = starts-all Fits s (λ k at is. start_at-fits s k at is) n;
     }
 
@@ -155,15 +160,23 @@ few-workers s valid =
     omega (arith, few-queues s valid, length-range_with_len (length (places is_thread s.decls)) (length (places is_queue s.decls)))
 
 -- nothing done, and the players as they start, are the first world
-pub world-first : (s : Parts) (shown : Shown) (made : List At) → shown.work ≡ [] → shown.clock ≡ [] → made ≡ starts s (length (players s.decls)) → world shown made ≡ first s
-world-first s shown made no_work no_clock all =
-    ap (λ (h : List (Entry WorkOp WorkReply)). world (record { work = h; clock = shown.clock }) made) no_work
-    ∙ ap (λ (h : List (Entry ClockOp ClockReply)). world (record { work = []; clock = h }) made) no_clock ∙ ap (world nothing_shown) all
+pub world-first : (s : Parts) (shown : Shown) (made : List At) → shown ≡ nothing_shown s.decls → made ≡ starts s (length (players s.decls)) → world shown made ≡ first s
+world-first s shown made nothing all = ap (λ (x : Shown). world x made) nothing ∙ ap (world (nothing_shown s.decls)) all
 
--- the machines of services that start in these states
-abbrev pub machines_from : State → Clock → Machines
-machines_from work clock = record { work = work_machine; work_start = work; clock = clock_machine; clock_start = clock }
+-- services that start as those of a scenario do have its machines
+pub machines-first : (s : Parts) (work : State) (items : List (Option ℕ)) (clock : Clock) → work ≡ work_start_of s → items ≡ items_of s.decls → clock ≡ new_clock →
+    machines_from work items clock ≡ machines_of s
+machines-first s work items clock same_work same_items same_clock =
+    ap (λ (x : State). machines_from x items clock) same_work ∙ ap (λ (x : List (Option ℕ)). machines_from (work_start_of s) x clock) same_items
+    ∙ ap (machines_from (work_start_of s) (items_of s.decls)) same_clock
 
--- and of services that start as those of a scenario do
-pub machines-first : (s : Parts) (work : State) (clock : Clock) → work ≡ work_start_of s → clock ≡ new_clock → machines_from work clock ≡ machines_of s
-machines-first s work clock same_work same_clock = ap (λ (x : State). machines_from x clock) same_work ∙ ap (machines_from (work_start_of s)) same_clock
+-- and show nothing
+pub shown-first : (s : Parts) (work : List (Entry WorkOp WorkReply)) (clock : List (Entry ClockOp ClockReply)) → work ≡ [] → clock ≡ [] → whole_shown work clock ≡ nothing_shown s.decls
+shown-first s work clock no_work no_clock = ap (λ (h : List (Entry WorkOp WorkReply)). whole_shown h clock) no_work ∙ ap (whole_shown []) no_clock
+
+-- one number more
+pub items_more : (decls : List Decl) (n : ℕ) → map (item_number decls) (range_with_len 0 n) ++ item_number decls n ∷ [] ≡ map (item_number decls) (range_with_len 0 (n + 1))
+items_more decls n =
+    let zero_more : 0 + n ≡ n = omega arith in
+    sym (map-append (item_number decls) (range_with_len 0 n) (n ∷ []))
+    ∙ ap (map (item_number decls)) (ap (λ (k : ℕ). range_with_len 0 n ++ k ∷ []) (sym zero_more) ∙ range_more 0 n)

@@ -70,7 +70,7 @@ good-from : (s : Parts) (w : World) (p : ℕ) (at : At) (made : Step × StepRepl
     chosen (machines_of s) s w.shown at ≡ Some made → IsTended s (stepped s w p at (Some made)) state → IsGood s (stepped s w p at (Some made))
 good-from s w p at made state good unspent is choice tended = record {
   all_there = length-set w.players p (after s at made.0 made.1) ∙ good.all_there;
-  ready = ready-stepped (machines_of s) s w p at made good.ready is (none-passes is_spent_at w.players p at unspent is)
+  ready = ready-stepped (machines_of s) s w p at made refl good.ready is (none-passes is_spent_at w.players p at unspent is)
       (first_possible-is (machines_of s) w.shown at.who (attempts s at) made choice);
   state = state;
   tended = tended;

@@ -1,13 +1,19 @@
 -- The trace of a run is lawful.
-use Rattle.std.proofs.Common.{◌≡◌, ◌⊎◌, ℕ, ◌<◌, ◌≤◌, Bool, true, false, ◌&&◌, ◌||◌, cond, Some, List, [], ◌∷◌, length, map, inl, inr, refl, sym, ap, subst, ◌∙◌, arith}
+use Rattle.std.proofs.Common.{◌≡◌, ◌⊎◌, ℕ, ◌<◌, ◌≤◌, Bool, true, false, ◌&&◌, ◌||◌, cond, Option, Some, None, List, [], ◌∷◌, length, map, inl, inr, refl, sym, ap, subst, ◌∙◌, arith}
 use Rattle.std.specs.List.{slice_get, slice_set, list_any, list_all}
 use Rattle.std.specs.Option.{option_map, option_and_then}
 use Rattle.std.proofs.lemmas.Bool.{or_parts}
 use Rattle.std.proofs.lemmas.List.{length-map, length-set}
 use Rattle.std.proofs.lemmas.Option.{slice_get-map, slice_get_within}
+use Rattle.zk_base.specs.declared.ids.Entry.{Entry}
+use Rattle.zk_base.specs.declared.seen.Seen.{Seen}
 use Rattle.zk_base.proofs.Lists.{All-at}
 use Rattle.zk_base.specs.Legal.{IsLegal, state_after}
+use Rattle.zk_model_wait.specs.declared.clock.ClockOp.{ClockOp}
+use Rattle.zk_model_wait.specs.declared.clock.ClockReply.{ClockReply}
 use Rattle.zk_model_wait.specs.Clock.{new_clock, clock_machine}
+use Rattle.zk_model_work.specs.declared.ops.WorkOp.{WorkOp}
+use Rattle.zk_model_work.specs.declared.ops.WorkReply.{WorkReply}
 use Rattle.zk_model_work.specs.Machine.{work_machine}
 use Rattle.zk_scenario.specs.Parts.{Parts}
 use Rattle.zk_scenario.specs.Players.{players}
@@ -21,9 +27,9 @@ use Rattle.zk_worker.specs.declared.log.PlayerState.TheVariants as states
 use Rattle.zk_worker.specs.declared.log.Log.{Log}
 use Rattle.zk_worker.specs.Places.{At}
 use Rattle.zk_worker.specs.Protocol.{attempts, after, spot_of}
-use Rattle.zk_worker.specs.Follows.{log_of, is_done, is_spent_at, Follows}
+use Rattle.zk_worker.specs.Follows.{log_of, is_done, is_spent_at, IsFollowing, Follows}
 use Rattle.zk_worker.specs.Machines.{Machines, work_start_of, machines_of}
-use Rattle.zk_worker.specs.Shown.{shown_at, shown_after}
+use Rattle.zk_worker.specs.Shown.{Shown, shown_at, shown_after}
 use Rattle.zk_worker.proofs.Lists.{none-passes, there-mapped}
 use Rattle.zk_worker.proofs.ShownSteps.{IsMore, made-more}
 use Rattle.zk_trace.specs.declared.trace.Ending.TheVariants.{Ended, Stuck, Spent}
@@ -31,7 +37,7 @@ use Rattle.zk_trace.specs.declared.trace.Trace.{Trace}
 use Rattle.zk_replay.specs.RoundRobin.{World, IsRun, chosen, first, stepped, is_spent}
 use Rattle.zk_replay.specs.Ready.{IsReady}
 use Rattle.zk_replay.specs.Replay.{IsReplay, none_waits, all_done, ending_of, trace_of}
-use Rattle.zk_replay.specs.Lawful.{is_spent_state, is_done_state, lawful_ending, IsPlaced, IsLawful}
+use Rattle.zk_replay.specs.Lawful.{trace_shown, is_spent_state, is_done_state, lawful_ending, IsPlaced, IsLawful}
 use Rattle.zk_replay.proofs.StillRounds.{first_possible-is, rounds-keep}
 use Rattle.zk_replay.proofs.Readiness.{ready-stepped}
 use Rattle.zk_replay.proofs.Beginning.{ready-first, first-players}
@@ -70,7 +76,7 @@ run-known s w valid run =
     let P : World → Type 0 = λ v. IsReady s v × AreKnown v in
     subst P (sym run.1)
     (rounds-keep m s P (λ v p at made both unspent there choice. (
-      ready-stepped m s v p at made both.0 there (none-passes is_spent_at v.players p at unspent there)
+      ready-stepped m s v p at made refl both.0 there (none-passes is_spent_at v.players p at unspent there)
           (first_possible-is m v.shown at.who (attempts s at) made choice),
       known-step m s v p at made both.0 both.1 there choice,
     )) run.0 (first s) (ready-first s valid, known-first s))
@@ -128,14 +134,29 @@ unspent-ending s w never = by_spent (is_spent w) refl
         absurd (never (ap (λ b. cond b Spent (cond (all_done w.players && none_waits (state_after work_machine (work_start_of s) w.shown.work)) Ended Stuck)) spent))
     by_spent false none = none
 
+-- whole histories are all that is shown
+whole-same : (work : List (Entry WorkOp WorkReply)) (clock : List (Entry ClockOp ClockReply)) (looks : Option (List (List Seen))) (looked : Option ℕ) → looks ≡ None → looked ≡ None →
+    ◌≡◌ {A = Shown} (record { work = work; clock = clock; looks = None; looked = None }) (record { work = work; clock = clock; looks = looks; looked = looked })
+whole-same work clock None None whole unlooked = refl
+whole-same work clock (Some looks) looked whole unlooked = absurd (cc)
+whole-same work clock None (Some looked) whole unlooked = absurd (cc)
+
 module _ (s : Parts) (w : World) (valid : IsValid s) (run : IsRun (machines_of s) s w) where
   known : IsReady s w × AreKnown w
   known = run-known s w valid run
 
-  abbrev follows : (number : ℕ) (log : Log) → slice_get (map log_of w.players) number ≡ Some log → Follows s number w.shown log
+  -- the trace shows what was shown
+  shown-same : trace_shown (trace_of s w) ≡ w.shown
+  shown-same = whole-same w.shown.work w.shown.clock w.shown.looks w.shown.looked known.0.whole known.0.unlooked
+
+  abbrev follows : (number : ℕ) (log : Log) → slice_get (map log_of w.players) number ≡ Some log → Follows s number (trace_shown (trace_of s w)) log
   follows number log is =
       let found = there-mapped log_of w.players number log is in
-      record { end = found.0; led = known.0.follow number found.0 found.1; logged = found.2 }
+      record {
+        end = found.0;
+        led = subst (λ (x : Shown). IsFollowing s number x found.0) (sym shown-same) (known.0.follow number found.0 found.1);
+        logged = found.2;
+      }
 
   placed : IsPlaced (trace_of s w)
   placed = record {
@@ -146,12 +167,14 @@ module _ (s : Parts) (w : World) (valid : IsValid s) (run : IsRun (machines_of s
     stands = λ number step spot log is recorded.
         let found = there-mapped log_of w.players number log is in
         let shows = known.0.shows number found.0 found.1 in
-        shows.each step spot (ap (λ (l : Log). slice_get l.steps step) found.2 ∙ recorded)
+        ap (λ (x : Shown). shown_at x spot) shown-same
+        ∙ shows.each step spot (ap (λ (l : Log). slice_get l.steps step) found.2 ∙ recorded) refl
         ∙ ap (λ (n : ℕ). Some (n, step)) (known.0.numbers number found.0 found.1);
     each = λ spot number step is.
-        let found = there-is w.players number (known.1 spot number step is) in
+        let there = ap (λ (x : Shown). shown_at x spot) (sym shown-same) ∙ is in
+        let found = there-is w.players number (known.1 spot number step there) in
         let shows = known.0.shows number found.0 found.1 in
-        let recorded = shows.no_other step spot (is ∙ ap (λ (n : ℕ). Some (n, step)) (sym (known.0.numbers number found.0 found.1))) in
+        let recorded = shows.no_other step spot (there ∙ ap (λ (n : ℕ). Some (n, step)) (sym (known.0.numbers number found.0 found.1))) in
         ap (option_and_then (λ (log : Log). slice_get log.steps step)) (slice_get-map log_of w.players number ∙ ap (option_map log_of) found.1) ∙ recorded;
   }
 
@@ -165,7 +188,8 @@ module _ (s : Parts) (w : World) (valid : IsValid s) (run : IsRun (machines_of s
     ends = ends-so s w;
     halts = λ never number log is.
         let found = there-mapped log_of w.players number log is in
-        none_goes_on s w run (unspent-ending s w never) number found.0 found.1;
+        ap (λ (x : Shown). chosen (machines_of s) s x found.0) shown-same
+        ∙ none_goes_on s w run (unspent-ending s w never) number found.0 found.1;
   }
 
 -- the trace of a run whose histories are legal is lawful

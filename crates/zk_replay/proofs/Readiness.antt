@@ -1,5 +1,5 @@
 -- What a run keeps in each turn.
-use Rattle.std.proofs.Common.{◌≡◌, ◌≢◌, ◌⊎◌, ℕ, ◌+◌, ◌*◌, ◌<◌, ◌≤◌, false, Some, [], ◌∷◌, length, set, inl, inr, refl, sym, ap, subst, ◌∙◌, arith, length-append}
+use Rattle.std.proofs.Common.{◌≡◌, ◌≢◌, ◌⊎◌, ℕ, ◌+◌, ◌*◌, ◌<◌, ◌≤◌, true, false, Option, Some, [], ◌∷◌, length, set, inl, inr, refl, sym, ap, subst, ◌∙◌, arith, length-append}
 use Rattle.std.specs.List.{slice_get, sum_by}
 use Rattle.std.proofs.lemmas.Bool.Decides.{nat_tests}
 use Rattle.std.proofs.lemmas.List.{length-set}
@@ -14,11 +14,14 @@ use Rattle.zk_worker.specs.Places.{At}
 use Rattle.zk_worker.specs.Protocol.{attempts, after, spot_of}
 use Rattle.zk_worker.specs.Follows.{is_spent_at, StandsMore, IsFollowing}
 use Rattle.zk_worker.specs.Ranges.{FramesFit}
-use Rattle.zk_worker.specs.Machines.{Machines}
-use Rattle.zk_worker.specs.Attempt.{reply_in}
+use Rattle.zk_worker.specs.Machines.{Machines, machines_of}
+use Rattle.zk_worker.specs.Attempt.{reply_in, IsMade}
+use Rattle.zk_worker.specs.Looks.{LookedBelow}
+use Rattle.zk_worker.specs.Right.{LooksRight}
 use Rattle.zk_worker.specs.Shown.{Shown, shown_after, ShowsLog, AreShort}
 use Rattle.zk_worker.proofs.Fits.{after-fits}
-use Rattle.zk_worker.proofs.ShownSteps.{made-more, log-answered, log-others}
+use Rattle.zk_worker.proofs.ShownSteps.{made-more, log-answered, log-others, unlooked-after, whole-after}
+use Rattle.zk_worker.proofs.Looking.{looks-stepped, looks-others, reads-whole}
 use Rattle.zk_worker.proofs.Following.{following-still, following-more}
 use Rattle.zk_worker.proofs.Lists.{slice_get-set, sum-set}
 use Rattle.zk_replay.specs.RoundRobin.{World, stepped}
@@ -59,8 +62,26 @@ shows-after m s w p at step reply ready is answered q other found = by_place (sl
         (log-answered m w.shown at.who at.spots step reply (ready.shows p at is) answered)
     by_place (inr apart) =
         let differ : other.who.number ≢ at.who.number = λ same. apart.0 (sym (ready.numbers q other apart.1) ∙ same ∙ ready.numbers p at is) in
+        let unlooked = subst (λ (o : Option ℕ). LookedBelow o (length other.spots)) (sym (unlooked-after w.shown at.who (length at.spots) step reply ready.unlooked)) tt in
         log-others w.shown (shown_after w.shown at.who (length at.spots) step reply) at.who.number other.who.number (length at.spots) other.spots (spot_of step reply) (step, reply)
-        (made-more m w.shown at.who (length at.spots) step reply answered) differ (ready.shows q other apart.1)
+        (made-more m w.shown at.who (length at.spots) step reply answered) differ unlooked (ready.shows q other apart.1)
+
+looks-after : (m : Machines) (s : Parts) (w : World) (p : ℕ) (at : At) (step : Step) (reply : StepReply) → m ≡ machines_of s → IsReady s w → slice_get w.players p ≡ Some at →
+    reply_in m w.shown at.who step ≡ Some reply → (q : ℕ) (other : At) → slice_get (set w.players p (after s at step reply)) q ≡ Some other →
+    LooksRight (machines_of s) (shown_after w.shown at.who (length at.spots) step reply) other.spots
+looks-after m s w p at step reply same ready is answered q other found = by_place (slice_get-set w.players p q (after s at step reply) other found)
+  where
+    longer : Shown
+    longer = shown_after w.shown at.who (length at.spots) step reply
+
+    made : IsMade true m at.who (length at.spots) step reply w.shown (shown_after w.shown at.who (length at.spots) step reply)
+    made = record { found = w.shown; since = refl; replied = answered; read_at = reads-whole m w.shown at.who step reply ready.whole answered; shown = refl }
+
+    by_place : ((q ≡ p) × (other ≡ after s at step reply)) ⊎ ((q ≢ p) × (slice_get w.players q ≡ Some other)) → LooksRight (machines_of s) longer other.spots
+    by_place (inl mine) =
+        let right = subst (λ (x : Machines). LooksRight x w.shown at.spots) (sym same) (ready.looks p at is) in
+        looks-stepped true m (machines_of s) s at other step reply w.shown longer (sym same) (ready.shows p at is) right made mine.1
+    by_place (inr apart) = looks-others (machines_of s) w.shown at.who (length at.spots) step reply other.spots (ready.looks q other apart.1)
 
 follow-after : (m : Machines) (s : Parts) (w : World) (p : ℕ) (at : At) (made : Step × StepReply) → IsReady s w → slice_get w.players p ≡ Some at →
     IsChosen m w.shown at.who (attempts s at) made → (q : ℕ) (other : At) → slice_get (set w.players p (after s at made.0 made.1)) q ≡ Some other →
@@ -89,9 +110,9 @@ numbers-after s w p at at' ready is more q other found = by_place (slice_get-set
     by_place (inr apart) = ready.numbers q other apart.1
 
 -- a world that is ready is so after a step that a player with steps left chooses
-pub ready-stepped : (m : Machines) (s : Parts) (w : World) (p : ℕ) (at : At) (made : Step × StepReply) → IsReady s w → slice_get w.players p ≡ Some at →
+pub ready-stepped : (m : Machines) (s : Parts) (w : World) (p : ℕ) (at : At) (made : Step × StepReply) → m ≡ machines_of s → IsReady s w → slice_get w.players p ≡ Some at →
     is_spent_at at ≡ false → IsChosen m w.shown at.who (attempts s at) made → IsReady s (stepped s w p at (Some made))
-ready-stepped m s w p at made ready is unspent found =
+ready-stepped m s w p at made same ready is unspent found =
     let at' = after s at made.0 made.1 in
     let more = after-one s at made.0 made.1 in
     let long = (made-more m w.shown at.who (length at.spots) made.0 made.1 found.answered).count in
@@ -102,8 +123,11 @@ ready-stepped m s w p at made ready is unspent found =
       few = omega (arith, length-set w.players p at', ready.few);
       numbers = numbers-after s w p at at' ready is more;
       shows = shows-after m s w p at made.0 made.1 ready is found.answered;
+      looks = looks-after m s w p at made.0 made.1 same ready is found.answered;
       short = All-set Short w.players p at' (omega (arith, more.count, unspent-short at unspent)) ready.short;
       counted = omega (arith, long, ready.counted, sum-set count w.players p at at' is, more.count);
+      whole = whole-after w.shown at.who (length at.spots) made.0 made.1 ready.whole;
+      unlooked = unlooked-after w.shown at.who (length at.spots) made.0 made.1 ready.unlooked;
       follow = follow-after m s w p at made ready is found;
       fits = All-set Fits w.players p at' (more.fits (All-at Fits w.players p at ready.fits is)) ready.fits;
     }

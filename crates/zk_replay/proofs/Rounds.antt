@@ -8,7 +8,7 @@ use Rattle.zk_worker.specs.declared.steps.Step.{Step}
 use Rattle.zk_worker.specs.declared.steps.StepReply.{StepReply}
 use Rattle.zk_worker.specs.Places.{At}
 use Rattle.zk_worker.specs.Protocol.{attempts}
-use Rattle.zk_worker.specs.Machines.{Machines}
+use Rattle.zk_worker.specs.Machines.{Machines, machines_of}
 use Rattle.zk_worker.specs.Shown.{Shown}
 use Rattle.zk_worker.specs.Follows.{is_spent_at}
 use Rattle.zk_worker.proofs.Lists.{set-there, none-passes, any-set}
@@ -34,10 +34,10 @@ module _ (m : Machines) (s : Parts) where
 
   -- a turn in the code is a turn of the definition
   pub turned-from : (shown shown' : Shown) (players players' : List At) (p : ℕ) (at at' : At) (told : Turn) (made : Option (Step × StepReply)) →
-      IsReady s (world shown players) → is_spent (world shown players) ≡ false → slice_get players p ≡ Some at → chosen m s shown at ≡ made →
+      m ≡ machines_of s → IsReady s (world shown players) → is_spent (world shown players) ≡ false → slice_get players p ≡ Some at → chosen m s shown at ≡ made →
       shown' ≡ shown_with shown at.who (length at.spots) made → at' ≡ at_after s at made → players' ≡ set players p at' →
       told.moved ≡ is_some made → told.spent ≡ is_spent_at at' → Turned m s (world shown players) (world shown' players') p told
-  turned-from shown shown' players players' p at at' told made ready unspent is choice history place written moved spent =
+  turned-from shown shown' players players' p at at' told made of_scenario ready unspent is choice history place written moved spent =
       let all : world shown' players' ≡ stepped s (world shown players) p at made =
       ap (λ (h : Shown). world h players') history
       ∙ ap (world (shown_with shown at.who (length at.spots) made)) (written ∙ ap (set players p) place)
@@ -57,7 +57,7 @@ module _ (m : Machines) (s : Parts) where
       ready_after : (made : Option (Step × StepReply)) → chosen m s shown at ≡ made → IsReady s (stepped s (world shown players) p at made)
       ready_after None choice = ready
       ready_after (Some made) choice =
-          ready-stepped m s (world shown players) p at made ready is alone (first_possible-is m shown at.who (attempts s at) made choice)
+          ready-stepped m s (world shown players) p at made of_scenario ready is alone (first_possible-is m shown at.who (attempts s at) made choice)
 
       less : (made : Option (Step × StepReply)) → is_some made ≡ true → all_left (stepped s (world shown players) p at made).players < all_left players
       less None moves = absurd (cc)
@@ -132,13 +132,13 @@ module _ (m : Machines) (s : Parts) where
 
 -- the same of a turn in the code, which may have had no memory
 pub turned-if : (m : Machines) (s : Parts) (result : Result Turn NoMemory) (old new : Shown) (players players' : List At) (p : ℕ) (at at' : At) →
-    IsReady s (world old players) → is_spent (world old players) ≡ false → slice_get players p ≡ Some at → players' ≡ set players p at' →
+    m ≡ machines_of s → IsReady s (world old players) → is_spent (world old players) ≡ false → slice_get players p ≡ Some at → players' ≡ set players p at' →
     IfOk result (λ told. IsTurn m s at at' old new told.moved) → IfOk result (λ told. told.spent ≡ is_spent_at at') →
     IfOk result (λ told. Turned m s (world old players) (world new players') p told)
-turned-if m s (Ok told) old new players players' p at at' ready unspent is written turn spent =
-    turned-from m s old new players players' p at at' told (chosen m s old at) ready unspent is refl
+turned-if m s (Ok told) old new players players' p at at' of_scenario ready unspent is written turn spent =
+    turned-from m s old new players players' p at at' told (chosen m s old at) of_scenario ready unspent is refl
     turn.shows turn.place written turn.moves spent
-turned-if m s (Err e) old new players players' p at at' ready unspent is written turn spent = tt
+turned-if m s (Err e) old new players players' p at at' of_scenario ready unspent is written turn spent = tt
 
 -- what a turn leaves, by the machines of the services
 pub turned-at : (m m' : Machines) (s : Parts) (old new : World) (p : ℕ) (result : Result Turn NoMemory) → m ≡ m' →

@@ -1,16 +1,16 @@
 -- What each step keeps holds after any number of rounds; and where a round changes nothing, no player can go on.
-use Rattle.std.proofs.Common.{◌≡◌, ◌⊎◌, inl, inr, ℕ, zero, suc, ◌+◌, ◌<◌, ◌≤◌, Bool, true, false, cond, Option, Some, None, List, [], ◌∷◌, length, refl, sym, ap, subst, ◌∙◌, arith}
-use Rattle.std.specs.List.{slice_get}
+use Rattle.std.proofs.Common.{◌≡◌, ◌⊎◌, inl, inr, ℕ, zero, suc, ◌+◌, ◌<◌, ◌≤◌, Bool, true, false, cond, Option, Some, None, List, [], ◌∷◌, length, refl, sym, ap, subst, ◌∙◌, arith, length-append}
+use Rattle.std.specs.List.{slice_get, sum_by}
 use Rattle.zk_base.specs.declared.ids.Who.{Who}
 use Rattle.zk_scenario.specs.Parts.{Parts}
 use Rattle.zk_worker.specs.declared.steps.Step.{Step}
 use Rattle.zk_worker.specs.declared.steps.StepReply.{StepReply}
 use Rattle.zk_worker.specs.Places.{At}
-use Rattle.zk_worker.specs.Protocol.{attempts}
+use Rattle.zk_worker.specs.Protocol.{attempts, after, spot_of}
 use Rattle.zk_worker.specs.Machines.{Machines}
 use Rattle.zk_worker.specs.Attempt.{reply_in}
-use Rattle.zk_worker.specs.Shown.{Shown, entry_count}
-use Rattle.zk_worker.proofs.ShownSteps.{made-more}
+use Rattle.zk_worker.specs.Shown.{Shown}
+use Rattle.zk_worker.proofs.Lists.{sum-set}
 use Rattle.zk_replay.specs.RoundRobin.{World, or_else, first_possible, chosen, stepped, turn, turn_of, turns, round, rounds, is_spent}
 
 -- a step that is made is one of the attempts, and was answered so
@@ -49,6 +49,10 @@ at_or_above (suc p) (suc q) low = further (at_or_above p q (omega arith))
     further (inl same) = inl (ap suc same)
     further (inr above) = inr (omega arith)
 
+-- how many steps all players have made
+abbrev steps_of : World → ℕ
+steps_of w = sum_by (λ at. length at.spots) w.players
+
 module _ (m : Machines) (s : Parts) where
   -- what holds before a turn, and after a step of its player, holds after the turn
   pub turn-keeps : (P : World → Type 0) (w : World) (p : ℕ) → P w →
@@ -79,43 +83,44 @@ module _ (m : Machines) (s : Parts) where
     rounds-keep zero w here = here
     rounds-keep (suc n) w here = let before = rounds m s n w in turns-keep before (length before.players) 0 (rounds-keep n w here)
 
-  -- a step adds an entry
-  shown-longer : (w : World) (p : ℕ) (at : At) (made : Step × StepReply) → chosen m s w.shown at ≡ Some made → entry_count (stepped s w p at (Some made)).shown ≡ entry_count w.shown + 1
-  shown-longer w p at made choice =
-      (made-more m w.shown at.who (length at.spots) made.0 made.1 (first_possible-is m w.shown at.who (attempts s at) made choice).answered).count
+  -- a step more is made
+  steps-more : (w : World) (p : ℕ) (at : At) (made : Step × StepReply) → slice_get w.players p ≡ Some at → steps_of (stepped s w p at (Some made)) ≡ steps_of w + 1
+  steps-more w p at made is =
+      let count : At → ℕ = λ at. length at.spots in
+      omega (arith, sum-set count w.players p at (after s at made.0 made.1) is, length-append at.spots (spot_of made.0 made.1 ∷ []))
 
-  turns-longer : (w : World) (n p : ℕ) → entry_count w.shown ≤ entry_count (turns m s w n p).shown
+  turns-longer : (w : World) (n p : ℕ) → steps_of w ≤ steps_of (turns m s w n p)
   turns-longer w n p =
-      let P : World → Type 0 = λ v. entry_count w.shown ≤ entry_count v.shown in
-      turns-keep P (λ v q at made here unspent is choice. omega (arith, shown-longer v q at made choice)) w n p (omega arith)
+      let P : World → Type 0 = λ v. steps_of w ≤ steps_of v in
+      turns-keep P (λ v q at made here unspent is choice. omega (arith, steps-more v q at made is)) w n p (omega arith)
 
-  -- a turn that adds nothing to the history changes nothing, since its player can't go on
-  turn-still : (w : World) (p : ℕ) → is_spent w ≡ false → entry_count (turn m s w p).shown ≤ entry_count w.shown →
+  -- a turn in which no step is made changes nothing, since its player can't go on
+  turn-still : (w : World) (p : ℕ) → is_spent w ≡ false → steps_of (turn m s w p) ≤ steps_of w →
       (turn m s w p ≡ w) × ((at : At) → slice_get w.players p ≡ Some at → chosen m s w.shown at ≡ None)
-  turn-still w p unspent short = by_at (slice_get w.players p) refl (subst (λ (v : World). entry_count v.shown ≤ entry_count w.shown) opened short)
+  turn-still w p unspent short = by_at (slice_get w.players p) refl (subst (λ (v : World). steps_of v ≤ steps_of w) opened short)
     where
       opened : turn m s w p ≡ turn_of m s w p (slice_get w.players p)
       opened = ap (λ b. cond b w (turn_of m s w p (slice_get w.players p))) unspent
 
-      by_made : (at : At) (made : Option (Step × StepReply)) → slice_get w.players p ≡ Some at → chosen m s w.shown at ≡ made → entry_count (stepped s w p at made).shown ≤ entry_count w.shown →
+      by_made : (at : At) (made : Option (Step × StepReply)) → slice_get w.players p ≡ Some at → chosen m s w.shown at ≡ made → steps_of (stepped s w p at made) ≤ steps_of w →
           turn_of m s w p (slice_get w.players p) ≡ stepped s w p at made →
           (turn m s w p ≡ w) × ((at : At) → slice_get w.players p ≡ Some at → chosen m s w.shown at ≡ None)
       by_made at None is choice short same =
           (opened ∙ same, λ other there. let it : at ≡ other = cc in ap (chosen m s w.shown) (sym it) ∙ choice)
-      by_made at (Some made) is choice short same = absurd (omega (arith, shown-longer w p at made choice))
+      by_made at (Some made) is choice short same = absurd (omega (arith, steps-more w p at made is))
 
-      by_at : (o : Option At) → slice_get w.players p ≡ o → entry_count (turn_of m s w p (slice_get w.players p)).shown ≤ entry_count w.shown →
+      by_at : (o : Option At) → slice_get w.players p ≡ o → steps_of (turn_of m s w p (slice_get w.players p)) ≤ steps_of w →
           (turn m s w p ≡ w) × ((at : At) → slice_get w.players p ≡ Some at → chosen m s w.shown at ≡ None)
       by_at None is short = (opened ∙ ap (turn_of m s w p) is, λ at there. absurd (cc))
       by_at (Some at) is short =
           let same = ap (turn_of m s w p) is in
-          by_made at (chosen m s w.shown at) is refl (subst (λ (v : World). entry_count v.shown ≤ entry_count w.shown) same short) same
+          by_made at (chosen m s w.shown at) is refl (subst (λ (v : World). steps_of v ≤ steps_of w) same short) same
 
   turns-still : (w : World) (n p : ℕ) → is_spent w ≡ false → turns m s w n p ≡ w → (q : ℕ) (at : At) → p ≤ q → q < p + n → slice_get w.players q ≡ Some at → chosen m s w.shown at ≡ None
   turns-still w zero p unspent same q at low high is = absurd (omega arith)
   turns-still w (suc n) p unspent same q at low high is =
       let long = turns-longer (turn m s w p) n (p + 1) in
-      let all = ap (λ (v : World). entry_count v.shown) same in
+      let all = ap steps_of same in
       let here = turn-still w p unspent (omega arith) in
       let further = turns-still w n (p + 1) unspent (ap (λ (v : World). turns m s v n (p + 1)) (sym here.0) ∙ same) in
       by_place (at_or_above p q low) here.1 (λ above. further q at above (omega arith) is)

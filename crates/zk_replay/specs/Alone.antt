@@ -1,4 +1,11 @@
-use Rattle.zk_model_wait.specs.Clock.{clock_machine}
+use Rattle.std.specs.Prelude.{ℕ, Option, None, List}
+use Rattle.zk_base.specs.declared.ids.Entry.{Entry}
+use Rattle.zk_model_wait.specs.declared.clock.ClockOp.{ClockOp}
+use Rattle.zk_model_wait.specs.declared.clock.ClockReply.{ClockReply}
+use Rattle.zk_model_wait.specs.Clock.{Clock, clock_machine}
+use Rattle.zk_model_work.specs.declared.ops.WorkOp.{WorkOp}
+use Rattle.zk_model_work.specs.declared.ops.WorkReply.{WorkReply}
+use Rattle.zk_model_work.specs.State.{State}
 use Rattle.zk_model_work.specs.Machine.{work_machine}
 use Rattle.zk_time.specs.ClockSeen.{clock_start, clock_history}
 use Rattle.zk_work.specs.Seen.{work_start, work_history}
@@ -6,11 +13,24 @@ use Rattle.zk_worker.specs.Machines.{Machines}
 use Rattle.zk_worker.specs.Shown.{Shown}
 use Rattle.zk_replay.specs.declared.plain.Plain.{Plain}
 
+-- the machines of services that start in these states, with the numbers of the items
+abbrev pub machines_from : State → List (Option ℕ) → Clock → Machines
+machines_from work items clock = record {
+  work = work_machine;
+  work_start = work;
+  items = items;
+  clock = clock_machine;
+  clock_start = clock;
+}
+
+-- what services show that have these whole histories
+abbrev pub whole_shown : List (Entry WorkOp WorkReply) → List (Entry ClockOp ClockReply) → Shown
+whole_shown work clock = record { work = work; clock = clock; looks = None; looked = None }
+
 -- the machine of each plain service, and the state that it started in
 abbrev pub plain_machines : Plain → Machines
-plain_machines p =
-    record { work = work_machine; work_start = work_start p.work; clock = clock_machine; clock_start = clock_start p.clock }
+plain_machines p = machines_from (work_start p.work) p.items.items (clock_start p.clock)
 
 -- what plain services show: the whole history of each
 abbrev pub plain_shown : Plain → Shown
-plain_shown p = record { work = work_history p.work; clock = clock_history p.clock }
+plain_shown p = whole_shown (work_history p.work) (clock_history p.clock)

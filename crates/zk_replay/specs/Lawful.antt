@@ -19,9 +19,9 @@ use Rattle.zk_trace.specs.declared.trace.Trace.{Trace}
 use Rattle.zk_replay.specs.RoundRobin.{chosen}
 use Rattle.zk_replay.specs.Replay.{none_waits}
 
--- what a trace shows of each service
+-- what a trace shows of each service: whole histories
 abbrev pub trace_shown : Trace → Shown
-trace_shown t = record { work = t.work; clock = t.clock }
+trace_shown t = record { work = t.work; clock = t.clock; looks = None; looked = None }
 
 -- each step of each player is recorded in exactly one entry
 pub record IsPlaced (t : Trace) : Type 0 where

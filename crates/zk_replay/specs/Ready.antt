@@ -1,11 +1,13 @@
-use Rattle.std.specs.Prelude.{◌≡◌, ℕ, ◌-◌, ◌≤◌, Some, List, length, slice_get, All}
+use Rattle.std.specs.Prelude.{◌≡◌, ℕ, ◌-◌, ◌≤◌, Some, None, List, length, slice_get, All}
 use Rattle.std.specs.List.{sum_by}
 use Rattle.zk_scenario.specs.Parts.{Parts}
 use Rattle.zk_worker.specs.declared.steps.TheConstants.{MOST_STEPS}
 use Rattle.zk_worker.specs.Places.{At}
 use Rattle.zk_worker.specs.Follows.{IsFollowing}
 use Rattle.zk_worker.specs.Ranges.{FramesFit}
+use Rattle.zk_worker.specs.Machines.{machines_of}
 use Rattle.zk_worker.specs.Shown.{entry_count, ShowsLog}
+use Rattle.zk_worker.specs.Right.{LooksRight}
 use Rattle.zk_replay.specs.RoundRobin.{World}
 
 -- how many steps of the player are left
@@ -22,7 +24,11 @@ pub record IsReady (s : Parts) (w : World) : Type 0 where
   pub numbers : (p : ℕ) (at : At) → slice_get w.players p ≡ Some at → at.who.number ≡ p
   pub shows : (p : ℕ) (at : At) → slice_get w.players p ≡ Some at →
       ShowsLog w.shown at.who.number at.spots
+  pub looks : (p : ℕ) (at : At) → slice_get w.players p ≡ Some at →
+      LooksRight (machines_of s) w.shown at.spots
   pub short : All (λ at. length at.spots ≤ MOST_STEPS) w.players
-  pub counted : entry_count w.shown ≡ sum_by (λ at. length at.spots) w.players
+  pub counted : entry_count w.shown ≤ sum_by (λ at. length at.spots) w.players
+  pub whole : w.shown.looks ≡ None
+  pub unlooked : w.shown.looked ≡ None
   pub follow : (p : ℕ) (at : At) → slice_get w.players p ≡ Some at → IsFollowing s p w.shown at
   pub fits : All (λ at. FramesFit s.decls at.frames) w.players

@@ -74,7 +74,7 @@ starts s (suc n) = starts s n ++ option_to_list (start_at s n)
 
 -- the world in which nothing was done
 abbrev pub first : Parts → World
-first s = record { shown = nothing_shown; players = starts s (length (players s.decls)) }
+first s = record { shown = nothing_shown s.decls; players = starts s (length (players s.decls)) }
 
 -- the round robin run of a scenario: the world after some number of rounds that a further round leaves as it is
 abbrev pub IsRun : Machines → Parts → World → Type 0

@@ -4,7 +4,7 @@ ghost use Rattle.zk_work.specs.Seen.{work_start, work_history};
 ghost use Rattle.zk_model_wait.specs.Clock.{clock_machine};
 ghost use Rattle.zk_model_work.specs.Machine.{work_machine};
 ghost use Rattle.zk_time.specs.ClockSeen.{clock_start, clock_history};
-ghost use Rattle.zk_replay.specs.Alone.{plain_machines, plain_shown};
+ghost use Rattle.zk_replay.specs.Alone.{machines_from, whole_shown, plain_machines, plain_shown};
 
 use zk_base::{Entry, NoMemory, Service, Who};
 use zk_model_wait::{ClockOp, ClockReply};
@@ -26,18 +26,18 @@ pub struct Histories {
 #[derive(Drop)]
 pub struct Plain {
     work: Work,
+    // The number of each item at the work service, by object number.
+    items: Vec<Option<u32>>,
     clock: Clock,
 }
 
 impl Plain {
-    /// These services, as far as they have come.
-    pub fn new(work: Work, clock: Clock) -> Plain
-        ensures work_start { (plain_machines result).work_start ≡ work_start work }
-        ensures work { (plain_shown result).work ≡ work_history work }
-        ensures clock_start { (plain_machines result).clock_start ≡ clock_start clock }
-        ensures clock { (plain_shown result).clock ≡ clock_history clock }
+    /// These services, as far as they have come; the work service's items have these numbers, by object number.
+    pub fn new(work: Work, items: Vec<Option<u32>>, clock: Clock) -> Plain
+        ensures machines { plain_machines result ≡ machines_from (work_start work) items.items (clock_start clock) }
+        ensures shown { plain_shown result ≡ whole_shown (work_history work) (clock_history clock) }
     {
-        Plain { work, clock }
+        Plain { work, items, clock }
     }
 
     /// All entries of the work service so far.
@@ -61,7 +61,7 @@ impl Plain {
         ensures legal { IsLegal work_machine (plain_machines self).work_start result.work.items }
         ensures legal_clock { IsLegal clock_machine (plain_machines self).clock_start result.clock.items }
     {
-        let Plain { work, clock } = self;
+        let Plain { work, clock, .. } = self;
         Histories {
             work: work.into_history(),
             clock: clock.into_history(),
@@ -70,8 +70,12 @@ impl Plain {
 }
 
 impl Services for Plain {
+    type Home = ();
+
     ghost use Rattle.std.specs.Prelude.{true, ◌-◌, ◌^◌};
     ghost use Rattle.zk_replay.specs.Alone.{plain_machines, plain_shown};
+
+    ghost home = { λ p. tt };
 
     ghost machines = { plain_machines };
 
@@ -82,7 +86,7 @@ impl Services for Plain {
     ghost shown = { plain_shown };
 
     // Nothing is counted: each count stands at the most that it can be.
-    ghost counts = { λ p. record { work = 2 ^ 64 - 1; clock = 2 ^ 64 - 1 } };
+    ghost counts = { λ p step. 2 ^ 64 - 1 };
 
     fn attempt(
         &mut self,

@@ -5,7 +5,9 @@ ghost use Rattle.zk_scenario.specs.Players.{players};
 ghost use Rattle.zk_scenario.specs.Valid.{IsValid};
 ghost use Rattle.zk_work.specs.Seen.{work_start, work_history};
 ghost use Rattle.zk_worker.specs.Follows.{log_of, is_spent_at};
-ghost use Rattle.zk_worker.specs.Machines.{workers, is_on, work_start_of};
+ghost use Rattle.zk_worker.specs.Machines.{workers, is_on, work_start_of, item_number, items_of, machines_of};
+ghost use Rattle.zk_worker.specs.Shown.{nothing_shown};
+ghost use Rattle.zk_replay.specs.Alone.{plain_machines, plain_shown};
 ghost use Rattle.zk_replay.specs.RoundRobin.{starts};
 ghost use Rattle.zk_replay.specs.Replay.{all_done, IsReplay};
 ghost use Rattle.zk_replay.specs.Ending.{ending_by};
@@ -57,7 +59,7 @@ fn started(alloc: Global, decls: &[Decl], queues: &[u32]) -> Result<Vec<bool>, N
 }
 
 /// The work service of a scenario.
-pub fn first_work(alloc: Global, scenario: &Scenario) -> Result<Work, NoMemory>
+fn first_work(alloc: Global, scenario: &Scenario) -> Result<Work, NoMemory>
     ensures start { IfOk result (λ work. work_start work ≡ work_start_of scenario.now) }
     ensures none { IfOk result (λ work. work_history work ≡ []) }
     ensures valid { IsValid scenario.now }
@@ -66,6 +68,40 @@ pub fn first_work(alloc: Global, scenario: &Scenario) -> Result<Work, NoMemory>
     let workers = worker_numbers(alloc, scenario)?;
     let items = scenario.items().len() as u32;
     Work::new(alloc, items, &workers, &started)
+}
+
+/// The number of an item at the work service, by its object number.
+fn item_number(scenario: &Scenario, object: u32) -> Option<u32>
+    ensures { result ≡ item_number scenario.now.decls object }
+{
+    match scenario.decls().get(object as usize) {
+        Some(Decl::Item(_)) => Some(scenario.number(object)),
+        _ => None,
+    }
+}
+
+fn item_numbers(alloc: Global, scenario: &Scenario) -> Result<Vec<Option<u32>>, NoMemory>
+    requires { IsValid scenario.now }
+    ensures { IfOk result (λ numbers. numbers.items ≡ items_of scenario.now.decls) }
+{
+    let objects = scenario.decls().len() as u32;
+    let mut numbers = Vec::new(alloc);
+    for object in 0..objects {
+        numbers.push(item_number(scenario, object))?;
+    }
+    Ok(numbers)
+}
+
+/// The services of a scenario, at which nothing was done.
+pub fn first_services(alloc: Global, scenario: &Scenario) -> Result<Plain, NoMemory>
+    ensures machines { IfOk result (λ services. plain_machines services ≡ machines_of scenario.now) }
+    ensures shown { IfOk result (λ services. plain_shown services ≡ nothing_shown scenario.now.decls) }
+    ensures valid { IsValid scenario.now }
+{
+    let work = first_work(alloc, scenario)?;
+    let items = item_numbers(alloc, scenario)?;
+    let clock = Clock::new(alloc);
+    Ok(Plain::new(work, items, clock))
 }
 
 /// The players of a scenario, none of which has made a step.
@@ -124,9 +160,7 @@ pub fn replay(alloc: Global, scenario: &Scenario) -> Result<Trace, NoMemory>
     ensures lawful { IfOk result (λ trace. IsLawful scenario.now trace) }
     ensures over { IfOk result (λ trace. IsOver scenario.now trace) }
 {
-    let work = first_work(alloc, scenario)?;
-    let clock = Clock::new(alloc);
-    let mut services = Plain::new(work, clock);
+    let mut services = first_services(alloc, scenario)?;
     let mut players = first_players(alloc, scenario)?;
     play_rounds(&mut services, scenario, &mut players)?;
     let ending = ending_of(&players);

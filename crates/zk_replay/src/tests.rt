@@ -1,9 +1,7 @@
-use crate::plain::Plain;
 use crate::replay;
-use crate::run::first_work;
+use crate::run::first_services;
 use std::test::*;
 use zk_scenario::read_scenario;
-use zk_time::Clock;
 use zk_trace::Ending;
 use zk_worker::{Answer, Answered, Log, Player, Stepped};
 
@@ -12,8 +10,7 @@ use zk_worker::{Answer, Answered, Log, Player, Stepped};
 fn did_and_ended(rt: HostRuntime) -> Result<(), Fail> {
     let text = b"zk 1\nthread t0 0 super\nqueue q0 0 on\nitem w0\nscript t0\nsubmit w0 q0\nend\n";
     let scenario = read_scenario(rt.alloc(), text)?;
-    let work = first_work(rt.alloc(), &scenario)?;
-    let mut services = Plain::new(work, Clock::new(rt.alloc()));
+    let mut services = first_services(rt.alloc(), &scenario)?;
     assert!(&rt; 0 < scenario.players());
     let mut thread = Player::new(rt.alloc(), &scenario, 0)?;
     let first = thread.step(&scenario, &mut services)?;
@@ -30,8 +27,7 @@ fn did_and_ended(rt: HostRuntime) -> Result<(), Fail> {
 fn not_yet(rt: HostRuntime) -> Result<(), Fail> {
     let text = b"zk 1\nqueue q0 0 on\nitem w0\n";
     let scenario = read_scenario(rt.alloc(), text)?;
-    let work = first_work(rt.alloc(), &scenario)?;
-    let mut services = Plain::new(work, Clock::new(rt.alloc()));
+    let mut services = first_services(rt.alloc(), &scenario)?;
     assert!(&rt; 0 < scenario.players());
     let mut worker = Player::new(rt.alloc(), &scenario, 0)?;
     let first = worker.step(&scenario, &mut services)?;

@@ -4,6 +4,7 @@ ghost use Rattle.zk_worker.specs.Follows.{is_spent_at};
 ghost use Rattle.zk_worker.specs.Ranges.{FramesFit};
 ghost use Rattle.zk_worker.specs.Machines.{machines_of};
 ghost use Rattle.zk_worker.specs.Shown.{ShowsLog, AreShort};
+ghost use Rattle.zk_worker.specs.Right.{LooksRight};
 ghost use Rattle.zk_replay.specs.RoundRobin.{World, chosen, turn, round, rounds, is_spent};
 ghost use Rattle.zk_replay.specs.Ready.{IsReady};
 ghost use Rattle.zk_replay.specs.Turning.{did, world, IsAlone, IsTurn, Turned, Rounded};
@@ -51,6 +52,7 @@ fn play<V: Services>(
     requires alone { IsAlone scenario.now (V.alone services.old) (V.machines services.old) (V.serves services.old) }
     requires fits { FramesFit scenario.now.decls player.old.frames }
     requires log { ShowsLog (V.shown services.old) player.old.who.number player.old.spots }
+    requires looks { LooksRight (V.machines services.old) (V.shown services.old) player.old.spots }
     requires short { AreShort (V.shown services.old) }
     requires unspent { is_spent_at player.old ≡ false }
     ensures turn { IfOk result (λ turn.

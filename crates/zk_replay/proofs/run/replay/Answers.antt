@@ -13,44 +13,36 @@ use Rattle.zk_replay.specs.RoundRobin.{World, is_spent}
 use Rattle.zk_replay.specs.Ready.{IsReady}
 use Rattle.zk_replay.specs.Turning.{world}
 use Rattle.zk_replay.specs.Ending.{ending_by}
-use Rattle.zk_replay.proofs.Beginning.{ready-first, unspent-first, world-first, machines-first}
+use Rattle.zk_replay.proofs.Beginning.{ready-first, unspent-first, world-first}
 use Rattle.zk_replay.proofs.Endings.{replayed, over}
 use Rattle.zk_replay.proofs.Lawful.{lawful}
 use Rattle.zk_replay.proofs.run.replay.Goals as goal
 
 pub play_rounds-requires-clause-alone : goal.play_rounds-requires-clause-alone
-play_rounds-requires-clause-alone c = record {
-  is_alone = refl;
-  machines = machines-first c.args.scenario.now (plain_machines c.new-services.result).work_start (plain_machines c.new-services.result).clock_start
-      (c.new-services.ensures.work_start ∙ c.in_ok-work.ensures.start) (c.new-services.ensures.clock_start ∙ c.new-clock.ensures.start);
-  serves_all = λ who. tt;
-}
+play_rounds-requires-clause-alone c = record { is_alone = refl; machines = c.in_ok-services.ensures.machines; serves_all = λ who. tt }
 
 pub play_rounds-requires-clause-ready : goal.play_rounds-requires-clause-ready
 play_rounds-requires-clause-ready c =
     let s = c.args.scenario.now in
     subst (λ (w : World). IsReady s w)
-    (sym (world-first s (plain_shown c.new-services.result) c.in_ok-players.players.items (c.new-services.ensures.work ∙ c.in_ok-work.ensures.none)
-    (c.new-services.ensures.clock ∙ c.new-clock.ensures.history) c.in_ok-players.ensures))
-    (ready-first s c.first_work.ensures.valid)
+    (sym (world-first s (plain_shown c.in_ok-services.services) c.in_ok-players.players.items c.in_ok-services.ensures.shown c.in_ok-players.ensures))
+    (ready-first s c.first_services.ensures.valid)
 
 pub play_rounds-requires-clause-unspent : goal.play_rounds-requires-clause-unspent
 play_rounds-requires-clause-unspent c =
     let s = c.args.scenario.now in
     subst (λ (w : World). is_spent w ≡ false)
-    (sym (world-first s (plain_shown c.new-services.result) c.in_ok-players.players.items (c.new-services.ensures.work ∙ c.in_ok-work.ensures.none)
-    (c.new-services.ensures.clock ∙ c.new-clock.ensures.history) c.in_ok-players.ensures))
+    (sym (world-first s (plain_shown c.in_ok-services.services) c.in_ok-players.players.items c.in_ok-services.ensures.shown c.in_ok-players.ensures))
     (unspent-first s)
 
 pub returns-clause-replay : goal.returns-clause-replay
 returns-clause-replay c =
     let s = c.args.scenario.now in
-    let old = world (plain_shown c.new-services.result) c.in_ok-players.players.items in
+    let old = world (plain_shown c.in_ok-services.services) c.in_ok-players.players.items in
     let new = world (plain_shown c.play_rounds.new.services) c.play_rounds.new.players.items in
     let so_far = c.in_ok-play_rounds.ensures.rounds in
-    replayed s old new c.ending_of-ending.result c.from_vec.result c.from_vec-2.result c.in_ok-logs.logs c.first_work.ensures.valid
-    (world-first s (plain_shown c.new-services.result) c.in_ok-players.players.items (c.new-services.ensures.work ∙ c.in_ok-work.ensures.none)
-    (c.new-services.ensures.clock ∙ c.new-clock.ensures.history) c.in_ok-players.ensures)
+    replayed s old new c.ending_of-ending.result c.from_vec.result c.from_vec-2.result c.in_ok-logs.logs c.first_services.ensures.valid
+    (world-first s (plain_shown c.in_ok-services.services) c.in_ok-players.players.items c.in_ok-services.ensures.shown c.in_ok-players.ensures)
     so_far.0 so_far.1 c.in_ok-play_rounds.ensures.over
     (c.ending_of-ending.ensures ∙ ap ending_by c.deref.ensures.value) (c.from_vec.ensures ∙ c.into_histories-work.ensures.work)
     (c.from_vec-2.ensures ∙ c.into_histories-work.ensures.clock) c.in_ok-logs.ensures
@@ -63,12 +55,12 @@ returns-clause-lawful c =
     c.into_histories-work.ensures.legal in
     let legal_clock = subst (λ (h : List (Entry ClockOp ClockReply)). IsLegal clock_machine (plain_machines c.play_rounds.new.services).clock_start h) (sym c.from_vec-2.ensures)
     c.into_histories-work.ensures.legal_clock in
-    lawful s (record { ending = c.ending_of-ending.result; work = c.from_vec.result; clock = c.from_vec-2.result; logs = c.in_ok-logs.logs }) c.first_work.ensures.valid
+    lawful s (record { ending = c.ending_of-ending.result; work = c.from_vec.result; clock = c.from_vec-2.result; logs = c.in_ok-logs.logs }) c.first_services.ensures.valid
     (returns-clause-replay c)
     (subst (λ (m : Machines). IsLegal work_machine m.work_start c.from_vec.result) machines legal)
     (subst (λ (m : Machines). IsLegal clock_machine m.clock_start c.from_vec-2.result) machines legal_clock)
 
 pub returns-clause-over : goal.returns-clause-over
 returns-clause-over c =
-    over c.args.scenario.now (record { ending = c.ending_of-ending.result; work = c.from_vec.result; clock = c.from_vec-2.result; logs = c.in_ok-logs.logs }) c.first_work.ensures.valid
+    over c.args.scenario.now (record { ending = c.ending_of-ending.result; work = c.from_vec.result; clock = c.from_vec-2.result; logs = c.in_ok-logs.logs }) c.first_services.ensures.valid
     (returns-clause-replay c)

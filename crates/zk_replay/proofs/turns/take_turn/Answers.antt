@@ -1,9 +1,10 @@
-use Rattle.std.proofs.Common.{◌≡◌, Some, length, refl, arith}
+use Rattle.std.proofs.Common.{◌≡◌, Some, length, refl, sym, subst, arith}
 use Rattle.std.specs.List.{slice_get}
 use Rattle.std.proofs.lemmas.Option.{slice_get_read}
 use Rattle.zk_base.proofs.Lists.{All-at}
 use Rattle.zk_worker.specs.Places.{At}
-use Rattle.zk_worker.specs.Machines.{machines_of}
+use Rattle.zk_worker.specs.Machines.{Machines, machines_of}
+use Rattle.zk_worker.specs.Right.{LooksRight}
 use Rattle.zk_worker.specs.Ranges.{FramesFit}
 use Rattle.zk_replay.specs.Turning.{world}
 use Rattle.zk_replay.proofs.Readiness.{short-shown}
@@ -26,6 +27,16 @@ play-requires-clause-log g c =
     slice_get_read players.items (length players.items) c.args.number c.index_mut-player.result.now refl (omega (arith, c.requires.number, players.ok.0)) c.index_mut-player.ensures.value in
     c.requires.ready.shows c.args.number c.index_mut-player.result.now is
 
+pub play-requires-clause-looks : goal.play-requires-clause-looks
+play-requires-clause-looks g c =
+    let players = c.args.players.now in
+    let s = c.args.scenario.now in
+    let shown = g.V.Services.shown c.args.services.now in
+    let at = c.index_mut-player.result.now in
+    let is : slice_get players.items c.args.number ≡ Some at =
+    slice_get_read players.items (length players.items) c.args.number at refl (omega (arith, c.requires.number, players.ok.0)) c.index_mut-player.ensures.value in
+    subst (λ (m : Machines). LooksRight m shown at.spots) (sym c.requires.alone.machines) (c.requires.ready.looks c.args.number at is)
+
 pub play-requires-clause-short : goal.play-requires-clause-short
 play-requires-clause-short g c = short-shown c.args.scenario.now (world (g.V.Services.shown c.args.services.now) c.args.players.now.items) c.requires.ready
 
@@ -39,4 +50,4 @@ returns-clause-turned g c =
     let is : slice_get players.items c.args.number ≡ Some at = slice_get_read players.items (length players.items) c.args.number at refl (omega (arith, c.requires.number, players.ok.0)) c.index_mut-player.ensures.value in
     turned-at m (machines_of s) s old (world (g.V.Services.shown c.play.new.services) _) c.args.number c.play.result c.requires.alone.machines
     (turned-if m s c.play.result (g.V.Services.shown c.args.services.now) (g.V.Services.shown c.play.new.services) players.items _ c.args.number at c.play.new.player
-    c.requires.ready c.requires.unspent is refl c.play.ensures.turn c.play.ensures.spent)
+    c.requires.alone.machines c.requires.ready c.requires.unspent is refl c.play.ensures.turn c.play.ensures.spent)

@@ -1,0 +1,20 @@
+use Rattle.std.proofs.Common.{◌≡◌, ℕ, ◌∙◌, Option, List, ◌∷◌, [], ◌++◌, length, ap, rules}
+use Rattle.zk_line.specs.declared.types.Decl.{Decl}
+use Rattle.zk_scenario.proofs.Valid.{length-decls}
+use Rattle.zk_worker.specs.Machines.{item_number, items_of}
+use Rattle.zk_replay.proofs.Beginning.{items_more}
+use Rattle.zk_replay.proofs.run.item_numbers.Goals as goal
+
+pub overflow_cast-objects : goal.overflow_cast-objects
+overflow_cast-objects c =
+    let few = length-decls c.args.scenario.now c.requires in
+    let same = ap (λ (l : List Decl). length l) c.decls.ensures.all in
+    search rules
+
+pub loop-object-preserved : goal.loop-object-preserved
+loop-object-preserved c =
+    let decls = c.args.scenario.now.decls in
+    c.in_ok-push.ensures.items
+    ∙ ap (λ (l : List (Option ℕ)). l ++ c.item_number.result ∷ []) c.loop-object.invariant
+    ∙ ap (λ (n : Option ℕ). _ ++ n ∷ []) c.item_number.ensures
+    ∙ items_more decls c.loop-object.object
