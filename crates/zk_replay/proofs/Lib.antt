@@ -7,3 +7,4 @@ pub mod WorkerRuns
 pub mod StillRounds
 pub mod OneRun
 pub mod Lawful
+pub mod Among

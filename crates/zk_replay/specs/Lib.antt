@@ -1,4 +1,5 @@
 pub mod Alone
+pub mod Objects
 pub mod RoundRobin
 pub mod Ready
 pub mod Turning

@@ -2,6 +2,9 @@
 #![tactic(auto)]
 
 mod laws;
+#[cfg(test)]
+mod object_tests;
+mod objects;
 mod plain;
 mod run;
 #[cfg(test)]
@@ -9,4 +12,5 @@ mod tests;
 mod turns;
 
 pub use laws::{none_goes_on, one_run};
+pub use objects::act_at;
 pub use run::replay;
