@@ -6,10 +6,10 @@ ghost use Rattle.zk_scenario.specs.Valid.{IsValid};
 ghost use Rattle.zk_work.specs.Seen.{work_start, work_history};
 ghost use Rattle.zk_worker.specs.Follows.{log_of, is_spent_at};
 ghost use Rattle.zk_worker.specs.Machines.{workers, is_on, work_start_of};
+ghost use Rattle.zk_trace.specs.Lawful.{IsLawful};
 ghost use Rattle.zk_replay.specs.RoundRobin.{starts};
 ghost use Rattle.zk_replay.specs.Replay.{all_done, IsReplay};
 ghost use Rattle.zk_replay.specs.Ending.{ending_by};
-ghost use Rattle.zk_replay.specs.Lawful.{IsLawful};
 ghost use Rattle.zk_replay.specs.Over.{IsOver};
 
 use crate::plain::{Histories, Plain};
