@@ -13,8 +13,8 @@ use Rattle.zk_trace.specs.declared.trace.Trace.{Trace}
 use Rattle.zk_trace.specs.declared.trace.Ending.{Ending}
 use Rattle.zk_trace.specs.declared.trace.Ending.TheVariants as endings
 use Rattle.zk_trace.specs.Text.{trace_text}
+use Rattle.zk_trace.specs.Lawful.{IsLawful}
 use Rattle.zk_replay.specs.Replay.{IsReplay}
-use Rattle.zk_replay.specs.Lawful.{IsLawful}
 use Rattle.zk_replay.specs.Over.{IsOver}
 use Rattle.zk_cli.specs.Moments.{AtEachMoment}
 use Rattle.zk_cli.specs.Refusal.{refusal_text}

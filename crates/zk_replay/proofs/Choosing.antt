@@ -17,7 +17,7 @@ use Rattle.zk_worker.specs.Machines.{Machines}
 use Rattle.zk_worker.specs.Shown.{Shown, shown_after}
 use Rattle.zk_worker.specs.Attempt.{reply_in, Counts}
 use Rattle.zk_worker.specs.Playing.{WereTried, HasStepped, HasWaited, Does}
-use Rattle.zk_replay.specs.RoundRobin.{or_else, first_possible, chosen}
+use Rattle.zk_worker.specs.Choosing.{or_else, first_possible, chosen}
 use Rattle.zk_replay.specs.Turning.{did, shown_with, at_after, IsTurn}
 
 module _ (m : Machines) (shown : Shown) (who : Who) where

@@ -46,9 +46,11 @@ use Rattle.zk_worker.proofs.Ranges.{same-lengths}
 use Rattle.zk_trace.specs.declared.trace.Ending.{Ending}
 use Rattle.zk_trace.specs.declared.trace.Ending.TheVariants as endings
 use Rattle.zk_trace.specs.declared.trace.Trace.{Trace}
-use Rattle.zk_replay.specs.RoundRobin.{World, or_else, first_possible, chosen, stepped, first, round, rounds, is_spent, IsRun}
+use Rattle.zk_worker.specs.Choosing.{or_else, first_possible, chosen}
+use Rattle.zk_replay.specs.RoundRobin.{World, stepped, first, round, rounds, is_spent, IsRun}
 use Rattle.zk_replay.specs.Ready.{IsReady}
-use Rattle.zk_replay.specs.Replay.{all_done, none_waits, ending_of, trace_of, IsReplay}
+use Rattle.zk_trace.specs.Ending.{none_waits}
+use Rattle.zk_replay.specs.Replay.{all_done, ending_of, trace_of, IsReplay}
 use Rattle.zk_replay.specs.Ending.{ending_by}
 use Rattle.zk_replay.specs.Over.{IsOver}
 use Rattle.zk_replay.specs.Tending.{IsIdle, IsWorkers, Tends, IsTended}

@@ -8,10 +8,9 @@ use Rattle.std.proofs.lemmas.Option.{slice_get-map, slice_get_within}
 use Rattle.zk_base.specs.declared.ids.Entry.{Entry}
 use Rattle.zk_base.specs.declared.seen.Seen.{Seen}
 use Rattle.zk_base.proofs.Lists.{All-at}
-use Rattle.zk_base.specs.Legal.{IsLegal, state_after}
+use Rattle.zk_base.specs.Legal.{state_after}
 use Rattle.zk_model_wait.specs.declared.clock.ClockOp.{ClockOp}
 use Rattle.zk_model_wait.specs.declared.clock.ClockReply.{ClockReply}
-use Rattle.zk_model_wait.specs.Clock.{new_clock, clock_machine}
 use Rattle.zk_model_work.specs.declared.ops.WorkOp.{WorkOp}
 use Rattle.zk_model_work.specs.declared.ops.WorkReply.{WorkReply}
 use Rattle.zk_model_work.specs.Machine.{work_machine}
@@ -34,10 +33,15 @@ use Rattle.zk_worker.proofs.Lists.{none-passes, there-mapped}
 use Rattle.zk_worker.proofs.ShownSteps.{IsMore, made-more}
 use Rattle.zk_trace.specs.declared.trace.Ending.TheVariants.{Ended, Stuck, Spent}
 use Rattle.zk_trace.specs.declared.trace.Trace.{Trace}
-use Rattle.zk_replay.specs.RoundRobin.{World, IsRun, chosen, first, stepped, is_spent}
+use Rattle.zk_trace.specs.Shown.{trace_shown}
+use Rattle.zk_trace.specs.Place.{IsPlaced}
+use Rattle.zk_trace.specs.History.{AreLegal}
+use Rattle.zk_trace.specs.Ending.{is_spent_state, is_done_state, none_waits, lawful_ending}
+use Rattle.zk_trace.specs.Lawful.{IsLawful}
+use Rattle.zk_worker.specs.Choosing.{chosen}
+use Rattle.zk_replay.specs.RoundRobin.{World, IsRun, first, stepped, is_spent}
 use Rattle.zk_replay.specs.Ready.{IsReady}
-use Rattle.zk_replay.specs.Replay.{IsReplay, none_waits, all_done, ending_of, trace_of}
-use Rattle.zk_replay.specs.Lawful.{trace_shown, is_spent_state, is_done_state, lawful_ending, IsPlaced, IsLawful}
+use Rattle.zk_replay.specs.Replay.{IsReplay, all_done, ending_of, trace_of}
 use Rattle.zk_replay.proofs.StillRounds.{first_possible-is, rounds-keep}
 use Rattle.zk_replay.proofs.Readiness.{ready-stepped}
 use Rattle.zk_replay.proofs.Beginning.{ready-first, first-players}
@@ -178,23 +182,22 @@ module _ (s : Parts) (w : World) (valid : IsValid s) (run : IsRun (machines_of s
         ap (option_and_then (λ (log : Log). slice_get log.steps step)) (slice_get-map log_of w.players number ∙ ap (option_map log_of) found.1) ∙ recorded;
   }
 
-  lawful-run : IsLegal work_machine (work_start_of s) w.shown.work → IsLegal clock_machine new_clock w.shown.clock → IsLawful s (trace_of s w)
-  lawful-run legal legal_clock = record {
-    placed = placed;
-    legal = legal;
-    legal_clock = legal_clock;
-    logged = length-map w.players log_of ∙ run-players s w run;
-    follow = follows;
-    ends = ends-so s w;
-    halts = λ never number log is.
-        let found = there-mapped log_of w.players number log is in
-        ap (λ (x : Shown). chosen (machines_of s) s x found.0) shown-same
-        ∙ none_goes_on s w run (unspent-ending s w never) number found.0 found.1;
+  lawful-run : AreLegal s (trace_of s w) → IsLawful s (trace_of s w)
+  lawful-run legal = record {
+    place = placed;
+    history = legal;
+    log = record { logged = length-map w.players log_of ∙ run-players s w run; follow = follows };
+    ending = record {
+      ends = ends-so s w;
+      halts = λ never number log is.
+          let found = there-mapped log_of w.players number log is in
+          ap (λ (x : Shown). chosen (machines_of s) s x found.0) shown-same
+          ∙ none_goes_on s w run (unspent-ending s w never) number found.0 found.1;
+    };
   }
 
 -- the trace of a run whose histories are legal is lawful
-pub lawful : (s : Parts) (t : Trace) → IsValid s → IsReplay s t → IsLegal work_machine (work_start_of s) t.work → IsLegal clock_machine new_clock t.clock → IsLawful s t
-lawful s t valid run legal legal_clock =
+pub lawful : (s : Parts) (t : Trace) → IsValid s → IsReplay s t → AreLegal s t → IsLawful s t
+lawful s t valid run legal =
     subst (λ (x : Trace). IsLawful s x) (sym run.2)
-    (lawful-run s run.0 valid run.1 (subst (λ (x : Trace). IsLegal work_machine (work_start_of s) x.work) run.2 legal)
-    (subst (λ (x : Trace). IsLegal clock_machine new_clock x.clock) run.2 legal_clock))
+    (lawful-run s run.0 valid run.1 (subst (λ (x : Trace). AreLegal s x) run.2 legal))

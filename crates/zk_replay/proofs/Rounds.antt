@@ -15,7 +15,8 @@ use Rattle.zk_worker.proofs.Lists.{set-there, none-passes, any-set}
 use Rattle.zk_replay.specs.declared.turns.Turn.{Turn}
 use Rattle.zk_replay.specs.declared.turns.Course.{Course}
 use Rattle.zk_replay.specs.declared.turns.Course.TheVariants.{Still, Goes, Spent}
-use Rattle.zk_replay.specs.RoundRobin.{World, chosen, stepped, turn, turn_of, turns, round, rounds, is_spent}
+use Rattle.zk_worker.specs.Choosing.{chosen}
+use Rattle.zk_replay.specs.RoundRobin.{World, stepped, turn, turn_of, turns, round, rounds, is_spent}
 use Rattle.zk_replay.specs.Ready.{IsReady, all_left}
 use Rattle.zk_replay.specs.Turning.{world, shown_with, at_after, IsTurn, Turned, Rounded, WithinRound}
 use Rattle.zk_replay.proofs.StillRounds.{first_possible-is}

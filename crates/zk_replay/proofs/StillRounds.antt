@@ -10,8 +10,9 @@ use Rattle.zk_worker.specs.Protocol.{attempts, after, spot_of}
 use Rattle.zk_worker.specs.Machines.{Machines}
 use Rattle.zk_worker.specs.Attempt.{reply_in}
 use Rattle.zk_worker.specs.Shown.{Shown}
+use Rattle.zk_worker.specs.Choosing.{or_else, first_possible, chosen}
 use Rattle.zk_worker.proofs.Lists.{sum-set}
-use Rattle.zk_replay.specs.RoundRobin.{World, or_else, first_possible, chosen, stepped, turn, turn_of, turns, round, rounds, is_spent}
+use Rattle.zk_replay.specs.RoundRobin.{World, stepped, turn, turn_of, turns, round, rounds, is_spent}
 
 -- a step that is made is one of the attempts, and was answered so
 pub record IsChosen (m : Machines) (shown : Shown) (who : Who) (ahead : List Step) (made : Step × StepReply) : Type 0 where

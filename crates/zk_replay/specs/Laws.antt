@@ -2,7 +2,8 @@ use Rattle.std.specs.Prelude.{◌≡◌, ℕ, false, Some, None, slice_get}
 use Rattle.zk_scenario.specs.Parts.{Parts}
 use Rattle.zk_worker.specs.Places.{At}
 use Rattle.zk_worker.specs.Machines.{machines_of}
-use Rattle.zk_replay.specs.RoundRobin.{World, IsRun, chosen, is_spent}
+use Rattle.zk_worker.specs.Choosing.{chosen}
+use Rattle.zk_replay.specs.RoundRobin.{World, IsRun, is_spent}
 
 -- a scenario has at most one round robin run
 abbrev pub HasOneRun : Type 0

@@ -7,5 +7,4 @@ pub mod Replay
 pub mod Ending
 pub mod Tending
 pub mod Laws
-pub mod Lawful
 pub mod Over

@@ -1,9 +1,7 @@
-use Rattle.std.specs.Prelude.{◌≡◌, Bool, not, ◌&&◌, if◌then◌else◌, List, map}
+use Rattle.std.specs.Prelude.{◌≡◌, Bool, ◌&&◌, if◌then◌else◌, List, map}
 use Rattle.std.specs.List.{list_all}
 use Rattle.zk_base.specs.Legal.{state_after}
 use Rattle.zk_scenario.specs.Parts.{Parts}
-use Rattle.zk_model_work.specs.Questions.{is_waiting}
-use Rattle.zk_model_work.specs.State.{State}
 use Rattle.zk_model_work.specs.Machine.{work_machine}
 use Rattle.zk_worker.specs.Places.{At}
 use Rattle.zk_worker.specs.Follows.{is_done, log_of}
@@ -11,11 +9,8 @@ use Rattle.zk_worker.specs.Machines.{work_start_of, machines_of}
 use Rattle.zk_trace.specs.declared.trace.Ending.{Ending}
 use Rattle.zk_trace.specs.declared.trace.Ending.TheVariants.{Ended, Stuck, Spent}
 use Rattle.zk_trace.specs.declared.trace.Trace.{Trace}
+use Rattle.zk_trace.specs.Ending.{none_waits}
 use Rattle.zk_replay.specs.RoundRobin.{World, IsRun, is_spent}
-
--- no admission waits
-abbrev pub none_waits : State → Bool
-none_waits state = list_all (λ a. not (is_waiting a.life)) state.admissions
 
 -- each thread is through its script, and each worker is between two runs
 abbrev pub all_done : List At → Bool

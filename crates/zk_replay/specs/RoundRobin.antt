@@ -1,36 +1,20 @@
 use Rattle.std.specs.Prelude.{◌≡◌, ℕ, zero, suc, ◌+◌, Bool, if◌then◌else◌, Option, Some, None, option_to_list, List, [], ◌∷◌, ◌++◌, length, slice_get, slice_set}
 use Rattle.std.specs.List.{list_any}
-use Rattle.zk_base.specs.declared.ids.Who.{Who}
 use Rattle.zk_scenario.specs.Parts.{Parts}
 use Rattle.zk_scenario.specs.Players.{players}
 use Rattle.zk_worker.specs.declared.steps.Step.{Step}
 use Rattle.zk_worker.specs.declared.steps.StepReply.{StepReply}
 use Rattle.zk_worker.specs.Places.{At}
-use Rattle.zk_worker.specs.Protocol.{attempts, after, start_at}
+use Rattle.zk_worker.specs.Choosing.{chosen}
+use Rattle.zk_worker.specs.Protocol.{after, start_at}
 use Rattle.zk_worker.specs.Follows.{is_spent_at}
 use Rattle.zk_worker.specs.Machines.{Machines}
 use Rattle.zk_worker.specs.Shown.{Shown, nothing_shown, shown_after}
-use Rattle.zk_worker.specs.Attempt.{reply_in}
 
 -- all that a run has come to: what the services show, and where each player stands
 pub record World : Type 0 where
   pub shown : Shown
   pub players : List At
-
--- a step with its answer, or else what comes after it
-abbrev pub or_else : Step → Option StepReply → Option (Step × StepReply) → Option (Step × StepReply)
-or_else step None further = further
-or_else step (Some reply) further = Some (step, reply)
-
--- the first of these attempts that is possible, with its answer
-abbrev pub first_possible : Machines → Shown → Who → List Step → Option (Step × StepReply)
-first_possible m shown who [] = None
-first_possible m shown who (step ∷ more) =
-    or_else step (reply_in m shown who step) (first_possible m shown who more)
-
--- the attempt that a player makes in a turn
-abbrev pub chosen : Machines → Parts → Shown → At → Option (Step × StepReply)
-chosen m s shown at = first_possible m shown at.who (attempts s at)
 
 -- the world after a step of the player of this number, if it makes one
 abbrev pub stepped : Parts → World → ℕ → At → Option (Step × StepReply) → World

@@ -12,7 +12,8 @@ use Rattle.zk_worker.specs.Shown.{Shown, shown_after}
 use Rattle.zk_replay.specs.declared.turns.Turn.{Turn}
 use Rattle.zk_replay.specs.declared.turns.Course.{Course}
 use Rattle.zk_replay.specs.declared.turns.Course.TheVariants.{Still, Goes, Spent}
-use Rattle.zk_replay.specs.RoundRobin.{World, chosen, turn, turns, round, is_spent}
+use Rattle.zk_worker.specs.Choosing.{chosen}
+use Rattle.zk_replay.specs.RoundRobin.{World, turn, turns, round, is_spent}
 use Rattle.zk_replay.specs.Ready.{IsReady, all_left}
 
 -- what is shown after a turn

@@ -7,11 +7,11 @@ ghost use Rattle.zk_work.specs.Seen.{work_start, work_history};
 ghost use Rattle.zk_worker.specs.Follows.{log_of, is_spent_at};
 ghost use Rattle.zk_worker.specs.Machines.{workers, is_on, work_start_of, item_number, items_of, machines_of};
 ghost use Rattle.zk_worker.specs.Shown.{nothing_shown};
+ghost use Rattle.zk_trace.specs.Lawful.{IsLawful};
 ghost use Rattle.zk_replay.specs.Alone.{plain_machines, plain_shown};
 ghost use Rattle.zk_replay.specs.RoundRobin.{starts};
 ghost use Rattle.zk_replay.specs.Replay.{all_done, IsReplay};
 ghost use Rattle.zk_replay.specs.Ending.{ending_by};
-ghost use Rattle.zk_replay.specs.Lawful.{IsLawful};
 ghost use Rattle.zk_replay.specs.Over.{IsOver};
 
 use crate::plain::{Histories, Plain};

@@ -5,7 +5,8 @@ ghost use Rattle.zk_worker.specs.Ranges.{FramesFit};
 ghost use Rattle.zk_worker.specs.Machines.{machines_of};
 ghost use Rattle.zk_worker.specs.Shown.{ShowsLog, AreShort};
 ghost use Rattle.zk_worker.specs.Right.{LooksRight};
-ghost use Rattle.zk_replay.specs.RoundRobin.{World, chosen, turn, round, rounds, is_spent};
+ghost use Rattle.zk_worker.specs.Choosing.{chosen};
+ghost use Rattle.zk_replay.specs.RoundRobin.{World, turn, round, rounds, is_spent};
 ghost use Rattle.zk_replay.specs.Ready.{IsReady};
 ghost use Rattle.zk_replay.specs.Turning.{did, world, IsAlone, IsTurn, Turned, Rounded};
 

@@ -4,3 +4,9 @@ pub mod Work
 pub mod Clock
 pub mod Text
 pub mod Fronts
+pub mod Shown
+pub mod Place
+pub mod History
+pub mod Log
+pub mod Ending
+pub mod Lawful

@@ -24,7 +24,7 @@ returns c =
       run = run;
       lawful = c.in_ok-trace.ensures.lawful;
       laws = λ front rest parts. c.keeps_laws.ensures start front (record {
-        work = record { fresh = refl; legal = IsLegal-front work_machine start front rest (subst (IsLegal work_machine start) parts c.in_ok-trace.ensures.lawful.legal) };
+        work = record { fresh = refl; legal = IsLegal-front work_machine start front rest (subst (IsLegal work_machine start) parts c.in_ok-trace.ensures.lawful.history.work) };
         first = refl;
         arms = refl;
         marks = refl;
@@ -32,7 +32,7 @@ returns c =
         undrained = undrained-fresh _ _;
       });
       clock_laws = λ front rest parts.
-          c.keeps_clock_laws.ensures front (IsLegal-front clock_machine new_clock front rest (subst (IsLegal clock_machine new_clock) parts c.in_ok-trace.ensures.lawful.legal_clock));
+          c.keeps_clock_laws.ensures front (IsLegal-front clock_machine new_clock front rest (subst (IsLegal clock_machine new_clock) parts c.in_ok-trace.ensures.lawful.history.clock));
       over = c.in_ok-trace.ensures.over;
       ends = refl;
       printed = c.in_ok-put_trace.ensures.text ∙ ap (λ (text : List ℕ). text ++ trace_text c.args.scenario.now trace) c.requires.spelled;

@@ -57,8 +57,10 @@ returns-clause-lawful c =
     c.into_histories-work.ensures.legal_clock in
     lawful s (record { ending = c.ending_of-ending.result; work = c.from_vec.result; clock = c.from_vec-2.result; logs = c.in_ok-logs.logs }) c.first_services.ensures.valid
     (returns-clause-replay c)
-    (subst (λ (m : Machines). IsLegal work_machine m.work_start c.from_vec.result) machines legal)
-    (subst (λ (m : Machines). IsLegal clock_machine m.clock_start c.from_vec-2.result) machines legal_clock)
+    (record {
+      work = subst (λ (m : Machines). IsLegal work_machine m.work_start c.from_vec.result) machines legal;
+      clock = subst (λ (m : Machines). IsLegal clock_machine m.clock_start c.from_vec-2.result) machines legal_clock;
+    })
 
 pub returns-clause-over : goal.returns-clause-over
 returns-clause-over c =

@@ -1,0 +1,48 @@
+use Rattle.std.specs.Prelude.{◌≡◌, ℕ, Bool, true, false, not, ◌&&◌, if◌then◌else◌, Some, None, slice_get}
+use Rattle.std.specs.List.{list_any, list_all}
+use Rattle.zk_base.specs.Legal.{state_after}
+use Rattle.zk_scenario.specs.Parts.{Parts}
+use Rattle.zk_model_work.specs.Questions.{is_waiting}
+use Rattle.zk_model_work.specs.State.{State}
+use Rattle.zk_model_work.specs.Machine.{work_machine}
+use Rattle.zk_worker.specs.declared.log.PlayerState.{PlayerState}
+use Rattle.zk_worker.specs.declared.log.PlayerState.TheVariants as states
+use Rattle.zk_worker.specs.declared.log.Log.{Log}
+use Rattle.zk_worker.specs.Choosing.{chosen}
+use Rattle.zk_worker.specs.Machines.{work_start_of, machines_of}
+use Rattle.zk_trace.specs.declared.trace.Ending.{Ending}
+use Rattle.zk_trace.specs.declared.trace.Ending.TheVariants.{Ended, Stuck, Spent}
+use Rattle.zk_trace.specs.declared.trace.Trace.{Trace}
+use Rattle.zk_trace.specs.Shown.{trace_shown}
+use Rattle.zk_trace.specs.Log.{AreLogged}
+
+-- whether a player has made all its steps
+abbrev pub is_spent_state : PlayerState → Bool
+is_spent_state states.Spent = true
+is_spent_state state = false
+
+-- whether a thread is through its script, or a worker between two runs
+abbrev pub is_done_state : PlayerState → Bool
+is_done_state states.Done = true
+is_done_state state = false
+
+-- no admission waits
+abbrev pub none_waits : State → Bool
+none_waits state = list_all (λ a. not (is_waiting a.life)) state.admissions
+
+-- how a trace ends: spent where a player has made all its steps, else ended where all are done and no admission waits
+abbrev pub lawful_ending : Parts → Trace → Ending
+lawful_ending s t =
+    if list_any (λ log. is_spent_state log.state) t.logs then Spent else
+    if list_all (λ log. is_done_state log.state) t.logs
+    && none_waits (state_after work_machine (work_start_of s) t.work)
+    then Ended else Stuck
+
+-- a trace ends where its logs and its history of work end
+pub record EndsSo (s : Parts) (t : Trace) (log : AreLogged s t) : Type 0 where
+  -- its ending is what they say
+  pub ends : t.ending ≡ lawful_ending s t
+  -- and unless a player is spent, none has a possible attempt where its log ends
+  pub halts : (t.ending ≡ Spent → ⊥) →
+      (number : ℕ) (of_player : Log) (there : slice_get t.logs number ≡ Some of_player) →
+      chosen (machines_of s) s (trace_shown t) (log.follow number of_player there).end ≡ None

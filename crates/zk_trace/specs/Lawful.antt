@@ -1,0 +1,17 @@
+use Rattle.zk_scenario.specs.Parts.{Parts}
+use Rattle.zk_trace.specs.declared.trace.Trace.{Trace}
+use Rattle.zk_trace.specs.Place.{IsPlaced}
+use Rattle.zk_trace.specs.History.{AreLegal}
+use Rattle.zk_trace.specs.Log.{AreLogged}
+use Rattle.zk_trace.specs.Ending.{EndsSo}
+
+-- a trace is lawful for a scenario
+pub record IsLawful (s : Parts) (t : Trace) : Type 0 where
+  -- each step stands in one entry
+  pub place : IsPlaced t
+  -- the histories are those of the services
+  pub history : AreLegal s t
+  -- the logs are those of the players
+  pub log : AreLogged s t
+  -- it ends as these say, where these end
+  pub ending : EndsSo s t log
