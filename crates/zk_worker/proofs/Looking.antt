@@ -1,5 +1,5 @@
 -- The looks of a log stay right, and a look that is made is right, and not older than what its player had seen.
-use Rattle.std.proofs.Common.{◌≡◌, ℕ, Bool, List, [], length}
+use Rattle.std.proofs.Common.{◌≡◌, ℕ, Bool, Some, None, List, [], length}
 use Rattle.zk_base.specs.declared.ids.Who.{Who}
 use Rattle.zk_scenario.specs.Parts.{Parts}
 use Rattle.zk_worker.specs.declared.steps.Step.{Step}
@@ -9,7 +9,7 @@ use Rattle.zk_worker.specs.Places.{At}
 use Rattle.zk_worker.specs.Protocol.{after}
 use Rattle.zk_worker.specs.Machines.{Machines}
 use Rattle.zk_worker.specs.Shown.{Shown, shown_after, ShowsLog, Between}
-use Rattle.zk_worker.specs.Attempt.{IsMade}
+use Rattle.zk_worker.specs.Attempt.{reply_in, ReadsAt, IsMade}
 use Rattle.zk_worker.specs.Right.{LooksRight}
 
 -- a log without looks
@@ -33,3 +33,7 @@ looks-others m shown who number step reply log right = none-looked m (shown_afte
 -- nothing is looked at before the first step
 pub looks-fresh : (m : Machines) (shown : Shown) (log : List Spot) → log ≡ [] → LooksRight m shown log
 looks-fresh m shown log none = none-looked m shown log
+
+-- a look reads at the end of what is shown, where whole histories are shown
+pub reads-whole : (m : Machines) (shown : Shown) (who : Who) (step : Step) (reply : StepReply) → shown.looks ≡ None → reply_in m shown who step ≡ Some reply → ReadsAt shown step reply
+reads-whole m shown who step reply whole is = tt

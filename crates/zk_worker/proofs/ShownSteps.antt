@@ -23,12 +23,12 @@ use Rattle.zk_worker.specs.Protocol.{after, spot_of}
 use Rattle.zk_worker.specs.Follows.{made_at, Stands, StandsMore}
 use Rattle.zk_worker.specs.Machines.{Machines}
 use Rattle.zk_worker.specs.Single.{step_of}
-use Rattle.zk_worker.specs.Families.{entry_at, with_entry}
+use Rattle.zk_worker.specs.Families.{Family, entry_at, with_entry, answer_at}
 use Rattle.zk_worker.specs.Looks.{LookedBelow}
 use Rattle.zk_worker.specs.Shown.{Shown, shown_at, shown_after, is_look, entry_count, ShowsLog}
 use Rattle.zk_worker.specs.Attempt.{reply_in, IsMade}
 use Rattle.zk_worker.proofs.Lists.{at-end, there-longer, there-behind}
-use Rattle.zk_worker.proofs.Families.{with-here, with-longer, with-back}
+use Rattle.zk_worker.proofs.Families.{with-here, with-longer, with-back, answered-at}
 use Rattle.zk_worker.proofs.Between.{log-still}
 
 -- what is mapped to something is there
@@ -149,6 +149,15 @@ pub answered-more : {A : Type 0} (shown : Shown) (who : Who) (number : ℕ) (ste
 answered-more shown who number step tell answer reply is each =
     let from = made-of tell answer reply is in
     subst (λ (x : StepReply). IsMore shown (shown_after shown who number step x) (spot_of step x) (who.number, number) (step, x)) from.2 (each from.0)
+
+-- the same of an object of a kind of which there are many
+pub at-more : {S O R : Type 0} (shown : Shown) (who : Who) (number : ℕ) (step : Step) (step_reply : ℕ → R → ℕ → StepReply) (family : Family S O R) (hs : List (List (Entry O R))) (object : ℕ) (op : O) (reply : StepReply) →
+    answer_at family hs step_reply who object op ≡ Some reply → ((h : List (Entry O R)) (r : R) → slice_get hs object ≡ Some h →
+        let told : StepReply = step_reply object r (length h) in IsMore shown (shown_after shown who number step told) (spot_of step told) (who.number, number) (step, told)) →
+    IsMore shown (shown_after shown who number step reply) (spot_of step reply) (who.number, number) (step, reply)
+at-more shown who number step step_reply family hs object op reply is each =
+    let from = answered-at family hs step_reply who object op reply is in
+    subst (λ (x : StepReply). IsMore shown (shown_after shown who number step x) (spot_of step x) (who.number, number) (step, x)) from.tells (each from.history from.reply from.there)
 
 -- an entry more of a service changes nothing at the spots of others
 work-elsewhere : (shown : Shown) (h : List (Entry WorkOp WorkReply)) (at : Spot) → Elsewhere spots.Work shown (record shown { work = h }) at

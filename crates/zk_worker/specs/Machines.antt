@@ -1,11 +1,11 @@
-use Rattle.std.specs.Prelude.{ℕ, ◌+◌, Bool, false, if◌then◌else◌, Option, Some, None, List, [], ◌∷◌, length, map, slice_get}
+use Rattle.std.specs.Prelude.{ℕ, Bool, false, if◌then◌else◌, Option, Some, None, List, length, map, slice_get}
 use Rattle.std.specs.List.{range_with_len}
 use Rattle.std.specs.Option.{option_map_or}
 use Rattle.zk_base.specs.Legal.{Machine}
 use Rattle.zk_line.specs.declared.types.Decl.{Decl}
 use Rattle.zk_line.specs.declared.types.Decl.TheVariants.{Queue}
 use Rattle.zk_scenario.specs.Parts.{Parts}
-use Rattle.zk_line.specs.Objects.{places, is_thread, is_queue, is_item}
+use Rattle.zk_line.specs.Objects.{places, number_of, is_at, is_thread, is_queue, is_item}
 use Rattle.zk_model_wait.specs.declared.clock.ClockOp.{ClockOp}
 use Rattle.zk_model_wait.specs.declared.clock.ClockReply.{ClockReply}
 use Rattle.zk_model_wait.specs.Clock.{Clock, new_clock, clock_machine}
@@ -33,11 +33,14 @@ work_start_of s =
     start_of (length (places is_item s.decls)) (workers s.decls)
     (map (is_on s.decls) (places is_queue s.decls))
 
--- the number of each item among the items, by object number; objects of other kinds have none
-abbrev pub items_from : ℕ → List Decl → List (Option ℕ)
-items_from n [] = []
-items_from n (decl ∷ decls) =
-    (if is_item decl then Some n ∷ items_from (n + 1) decls else None ∷ items_from n decls)
+-- the number of an item at the work service, by its object number; an object of another kind has none
+abbrev pub item_number : List Decl → ℕ → Option ℕ
+item_number decls object =
+    if is_at is_item decls object then Some (number_of decls object) else None
+
+-- that of each object
+abbrev pub items_of : List Decl → List (Option ℕ)
+items_of decls = map (item_number decls) (range_with_len 0 (length decls))
 
 -- the machine of each service, and the state that it starts in; and by object number the number of each item at the work service
 pub record Machines : Type 0 where
@@ -52,7 +55,7 @@ abbrev pub machines_of : Parts → Machines
 machines_of s = record {
   work = work_machine;
   work_start = work_start_of s;
-  items = items_from 0 s.decls;
+  items = items_of s.decls;
   clock = clock_machine;
   clock_start = new_clock;
 }

@@ -1,4 +1,4 @@
-use Rattle.std.proofs.Common.{◌≡◌, ℕ, ap, ◌∙◌}
+use Rattle.std.proofs.Common.{◌≡◌, ℕ, ap, ◌∙◌, arith}
 use Rattle.std.specs.Option.{option_map}
 use Rattle.std.proofs.lemmas.Result.{IfOk-weaker, on_err_weaker}
 use Rattle.zk_worker.specs.declared.steps.StepReply.{StepReply}
@@ -9,7 +9,9 @@ use Rattle.zk_replay.proofs.Among.{taken-there, slot-there, taken-one, history-t
 use Rattle.zk_replay.proofs.objects.act_at.Goals as goal
 
 pub index_mut-requires : goal.index_mut-requires
-index_mut-requires g c = taken-there g.S.Service.machine g.S.Service.start g.S.Service.history c.args.objects.now.items c.args.object c.args.op c.requires.taken
+index_mut-requires g c =
+    let objects = c.args.objects.now in
+    omega (arith, taken-there g.S.Service.machine g.S.Service.start g.S.Service.history objects.items c.args.object c.args.op c.requires.taken, objects.ok.0)
 
 pub act_one-requires-clause-taken : goal.act_one-requires-clause-taken
 act_one-requires-clause-taken g c =
