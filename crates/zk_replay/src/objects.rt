@@ -51,7 +51,7 @@ pub fn act_at<S: Service>(
     ensures made { IfOk result (λ made. (step_reply : ℕ → S.Reply → ℕ → StepReply) →
         option_map (λ made. step_reply object made.0 made.1) made
         ≡ answer_at (record { machine = S.machine; starts = starts_of S.start objects.old.items })
-            (histories_of S.history objects.old.items) step_reply who object op) }
+        (histories_of S.history objects.old.items) step_reply who object op) }
     ensures entry { IfOk result (λ made. histories_of S.history objects.new.items
         ≡ histories_after (histories_of S.history objects.old.items) object who step op made) }
     ensures err { OnErr result (histories_of S.history objects.new.items ≡ histories_of S.history objects.old.items) }

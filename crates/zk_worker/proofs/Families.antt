@@ -1,5 +1,5 @@
 -- The histories of the objects of a kind of which there are many.
-use Rattle.std.proofs.Common.{◌≡◌, ◌⊎◌, inl, inr, ℕ, zero, suc, ◌+◌, Bool, true, false, Option, Some, None, is_some, List, [], ◌∷◌, ◌++◌, length, length-append, map, refl, ap, subst, ◌∙◌, arith}
+use Rattle.std.proofs.Common.{◌≡◌, ◌⊎◌, inl, inr, ℕ, zero, suc, ◌+◌, true, false, Option, Some, None, is_some, List, [], ◌∷◌, ◌++◌, length, length-append, map, refl, ap, subst, ◌∙◌, arith}
 use Rattle.std.specs.List.{slice_get, sum_by}
 use Rattle.std.specs.Option.{option_map, option_map_or, option_and_then}
 use Rattle.std.proofs.lemmas.Option.{option_and_then_some}

@@ -4,7 +4,6 @@ use Rattle.std.specs.List.{slice_get}
 use Rattle.std.specs.Option.{option_map}
 use Rattle.zk_base.specs.declared.ids.Who.{Who}
 use Rattle.zk_base.specs.declared.ids.Entry.{Entry}
-use Rattle.zk_base.specs.declared.seen.Seen.{Seen}
 use Rattle.zk_base.specs.History.{entry}
 use Rattle.zk_base.specs.Legal.{state_after}
 use Rattle.zk_scenario.specs.Parts.{Parts}
@@ -20,7 +19,7 @@ use Rattle.zk_worker.specs.declared.steps.Spot.{Spot}
 use Rattle.zk_worker.specs.declared.steps.Spot.TheVariants as spots
 use Rattle.zk_worker.specs.Places.{At}
 use Rattle.zk_worker.specs.Protocol.{after, spot_of}
-use Rattle.zk_worker.specs.Follows.{made_at, Stands, StandsMore}
+use Rattle.zk_worker.specs.Follows.{made_at, StandsMore}
 use Rattle.zk_worker.specs.Machines.{Machines}
 use Rattle.zk_worker.specs.Single.{step_of}
 use Rattle.zk_worker.specs.Families.{Family, entry_at, with_entry, answer_at}
@@ -153,7 +152,7 @@ answered-more shown who number step tell answer reply is each =
 -- the same of an object of a kind of which there are many
 pub at-more : {S O R : Type 0} (shown : Shown) (who : Who) (number : ℕ) (step : Step) (step_reply : ℕ → R → ℕ → StepReply) (family : Family S O R) (hs : List (List (Entry O R))) (object : ℕ) (op : O) (reply : StepReply) →
     answer_at family hs step_reply who object op ≡ Some reply → ((h : List (Entry O R)) (r : R) → slice_get hs object ≡ Some h →
-        let told : StepReply = step_reply object r (length h) in IsMore shown (shown_after shown who number step told) (spot_of step told) (who.number, number) (step, told)) →
+    let told : StepReply = step_reply object r (length h) in IsMore shown (shown_after shown who number step told) (spot_of step told) (who.number, number) (step, told)) →
     IsMore shown (shown_after shown who number step reply) (spot_of step reply) (who.number, number) (step, reply)
 at-more shown who number step step_reply family hs object op reply is each =
     let from = answered-at family hs step_reply who object op reply is in

@@ -4,7 +4,7 @@ use Rattle.std.proofs.lemmas.Result.{IfOk-weaker, on_err_weaker}
 use Rattle.zk_worker.specs.declared.steps.StepReply.{StepReply}
 use Rattle.zk_base.specs.History.{extended}
 use Rattle.zk_worker.specs.Families.{answer_at}
-use Rattle.zk_replay.specs.Objects.{starts_of, history_of, histories_of, made_of, histories_after}
+use Rattle.zk_replay.specs.Objects.{starts_of, history_of, histories_of, made_of}
 use Rattle.zk_replay.proofs.Among.{taken-there, slot-there, taken-one, history-there, answered-one, histories-made, histories-same, starts-same}
 use Rattle.zk_replay.proofs.objects.act_at.Goals as goal
 
@@ -50,9 +50,9 @@ returns-clause-made g c =
     let m = g.S.Service.machine in
     IfOk-weaker c.act_one.result (λ made. made ≡ made_of m start history slot c.args.who c.args.op)
     (λ made. (step_reply : ℕ → _ → ℕ → StepReply) → option_map (λ made. step_reply c.args.object made.0 made.1) made
-        ≡ answer_at (record { machine = m; starts = starts_of start objects }) (histories_of history objects) step_reply c.args.who c.args.object c.args.op)
+    ≡ answer_at (record { machine = m; starts = starts_of start objects }) (histories_of history objects) step_reply c.args.who c.args.object c.args.op)
     (λ made is step_reply. ap (option_map (λ made. step_reply c.args.object made.0 made.1)) is
-        ∙ answered-one m start history objects c.args.object slot step_reply c.args.who c.args.op there)
+    ∙ answered-one m start history objects c.args.object slot step_reply c.args.who c.args.op there)
     c.act_one.ensures.made
 
 pub returns-clause-entry : goal.returns-clause-entry

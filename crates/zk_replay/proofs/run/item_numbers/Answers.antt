@@ -1,4 +1,4 @@
-use Rattle.std.proofs.Common.{◌≡◌, ℕ, ◌∙◌, Option, List, ◌∷◌, [], ◌++◌, length, map, ap, rules}
+use Rattle.std.proofs.Common.{ℕ, ◌∙◌, Option, List, ◌∷◌, [], ◌++◌, length, map, ap, rules}
 use Rattle.std.specs.List.{range_with_len}
 use Rattle.zk_line.specs.declared.types.Decl.{Decl}
 use Rattle.zk_scenario.proofs.Valid.{length-decls}
