@@ -1,34 +1,39 @@
 //! Each public call once, with ample memory.
 use crate::*;
 use std::io;
+use std::process::Abort;
 use std::test::Fail;
 
-#[test]
-fn names_are_told_from_other_words(rt: HostRuntime) -> Result<(), Fail> {
-    for (text, named) in [
-        (b"w0".as_slice(), true),
-        (b"a_long_name_of16".as_slice(), true),
-        (b"a_longer_name_17_".as_slice(), false),
-        (b"".as_slice(), false),
-        (b"0w".as_slice(), false),
-        (b"_w".as_slice(), false),
-        (b"W".as_slice(), false),
-        (b"w-0".as_slice(), false),
-        (b"work".as_slice(), false),
-        (b"clock".as_slice(), false),
-        (b"table".as_slice(), false),
-        (b"wait".as_slice(), false),
-        (b"again".as_slice(), false),
-        (b"nomsg".as_slice(), false),
-        (b"works".as_slice(), true),
-    ] {
-        assert_eq!(rt; Name::new(text).is_some(), named, "{text:?}");
-        assert_eq!(rt; is_name(text), named);
+/// Whether each of the words is a name.
+fn names<R: Abort>(rt: &R, words: &[&str], named: bool) {
+    for word in words {
+        assert_eq!(rt; is_name(word.as_bytes()), named, "{word}");
+        assert_eq!(rt; Name::new(word.as_bytes()).is_some(), named, "{word}");
     }
-    let name = Name::new(b"debounce").ok_or("a name")?;
-    assert_eq!(rt; name.bytes(), b"debounce".as_slice());
+}
+
+#[test]
+fn names_are_told_from_other_words(rt: HostRuntime) {
+    names(&rt, &["w0", "a_long_name_of16", "works"], true);
+    names(
+        &rt,
+        &["a_longer_name_17_", "", "0w", "_w", "W", "w-0"],
+        false,
+    );
+    names(
+        &rt,
+        &["work", "clock", "table", "wait", "again", "nomsg"],
+        false,
+    );
     assert!(rt; is_spelled(b"work"));
-    Ok(())
+}
+
+#[test]
+fn a_name_gives_its_bytes(rt: HostRuntime) {
+    let Some(name) = Name::new(b"debounce") else {
+        panic!(rt; "it is a name")
+    };
+    assert_eq!(rt; name.bytes(), b"debounce".as_slice());
 }
 
 #[test]
@@ -68,21 +73,52 @@ fn text_is_appended(rt: HostRuntime) -> Result<(), Fail> {
     Ok(())
 }
 
+/// Reads once for each row: what is answered, and what stands in the buffer then.
+fn reads<R: Abort, S: Source>(rt: &R, source: &mut S, rows: &[(Result<usize, Failed>, &[u8; 8])]) {
+    let mut into = [0; 8];
+    for (answer, text) in rows {
+        assert_eq!(rt; source.read(&mut into), *answer);
+        assert_eq!(rt; into.as_slice(), text.as_slice());
+    }
+}
+
+/// Writes each piece: what is answered.
+fn writes<R: Abort, S: Sink>(rt: &R, sink: &mut S, rows: &[(&[u8], Result<usize, Failed>)]) {
+    for (piece, answer) in rows {
+        if !piece.is_empty() {
+            assert_eq!(rt; sink.write(piece), *answer);
+        }
+    }
+}
+
 #[test]
 fn a_source_gives_pieces_and_fails_where_it_is_told(rt: HostRuntime) -> Result<(), Fail> {
-    let bytes = b"abcdef".to_vec(rt.alloc())?;
-    let mut source = MemSource::new(bytes, 4, vec![in rt.alloc(); 1u64]?);
-    let mut into = [0; 8];
-    assert_eq!(rt; source.read(&mut into), Ok(4));
-    assert_eq!(rt; into.as_slice(), b"abcd\0\0\0\0".as_slice());
-    assert_eq!(rt; source.read(&mut into), Err(Failed));
-    assert_eq!(rt; source.read(&mut into), Ok(2));
-    assert_eq!(rt; into.as_slice(), b"efcd\0\0\0\0".as_slice());
-    assert_eq!(rt; source.read(&mut into), Ok(0));
-    let mut sure = SureSource::new(b"abc".to_vec(rt.alloc())?, 2);
-    assert_eq!(rt; sure.read(&mut into), Ok(2));
-    assert_eq!(rt; sure.read(&mut into), Ok(1));
-    assert_eq!(rt; sure.read(&mut into), Ok(0));
+    let mut source = MemSource::new(b"abcdef".to_vec(rt.alloc())?, 4, vec![in rt.alloc(); 1u64]?);
+    reads(
+        &rt,
+        &mut source,
+        &[
+            (Ok(4), b"abcd\0\0\0\0"),
+            (Err(Failed), b"abcd\0\0\0\0"),
+            (Ok(2), b"efcd\0\0\0\0"),
+            (Ok(0), b"efcd\0\0\0\0"),
+        ],
+    );
+    Ok(())
+}
+
+#[test]
+fn a_sure_source_gives_pieces(rt: HostRuntime) -> Result<(), Fail> {
+    let mut source = SureSource::new(b"abc".to_vec(rt.alloc())?, 2);
+    reads(
+        &rt,
+        &mut source,
+        &[
+            (Ok(2), b"ab\0\0\0\0\0\0"),
+            (Ok(1), b"cb\0\0\0\0\0\0"),
+            (Ok(0), b"cb\0\0\0\0\0\0"),
+        ],
+    );
     Ok(())
 }
 
@@ -90,16 +126,29 @@ fn a_source_gives_pieces_and_fails_where_it_is_told(rt: HostRuntime) -> Result<(
 fn a_sink_takes_pieces_and_fails_where_it_is_told(rt: HostRuntime) -> Result<(), Fail> {
     let room = Vec::with_capacity(rt.alloc(), 6)?;
     let mut sink = MemSink::new(room, 4, vec![in rt.alloc(); 1u64]?);
-    assert_eq!(rt; sink.write(b"abcdef"), Ok(4));
-    assert_eq!(rt; sink.write(b"ef"), Err(Failed));
-    assert_eq!(rt; sink.write(b"efgh"), Ok(2));
-    assert_eq!(rt; sink.write(b"gh"), Err(Failed), "the room is full");
+    writes(
+        &rt,
+        &mut sink,
+        &[
+            (b"abcdef", Ok(4)),
+            (b"ef", Err(Failed)),
+            (b"efgh", Ok(2)),
+            (b"gh", Err(Failed)),
+        ],
+    );
     assert_eq!(rt; sink.held(), b"abcdef".as_slice());
-    let mut sure = SureSink::new(Vec::with_capacity(rt.alloc(), 3)?, 2);
-    assert_eq!(rt; sure.write(b"abc"), Ok(2));
-    assert_eq!(rt; sure.write(b"c"), Ok(1));
-    assert_eq!(rt; sure.write(b"d"), Err(Failed));
-    assert_eq!(rt; sure.held(), b"abc".as_slice());
+    Ok(())
+}
+
+#[test]
+fn a_sure_sink_takes_pieces(rt: HostRuntime) -> Result<(), Fail> {
+    let mut sink = SureSink::new(Vec::with_capacity(rt.alloc(), 3)?, 2);
+    writes(
+        &rt,
+        &mut sink,
+        &[(b"abc", Ok(2)), (b"c", Ok(1)), (b"d", Err(Failed))],
+    );
+    assert_eq!(rt; sink.held(), b"abc".as_slice());
     Ok(())
 }
 
@@ -138,16 +187,20 @@ impl io::Write for Broken {
 #[test]
 fn a_reader_that_fails_is_a_fault(rt: HostRuntime) {
     let mut source = StdSource::new(Broken { calls: 0 });
-    let mut into = [0; 4];
-    assert_eq!(rt; source.read(&mut into), Ok(2));
-    assert_eq!(rt; into.as_slice(), b"ok\0\0".as_slice());
-    assert_eq!(rt; source.read(&mut into), Err(Failed));
+    reads(
+        &rt,
+        &mut source,
+        &[(Ok(2), b"ok\0\0\0\0\0\0"), (Err(Failed), b"ok\0\0\0\0\0\0")],
+    );
 }
 
+/// It takes one byte, then none, and then it fails.
 #[test]
 fn a_writer_that_takes_nothing_is_a_fault(rt: HostRuntime) {
     let mut sink = StdSink::new(Broken { calls: 0 });
-    assert_eq!(rt; sink.write(b"abc"), Ok(1));
-    assert_eq!(rt; sink.write(b"bc"), Err(Failed), "it took nothing");
-    assert_eq!(rt; sink.write(b"bc"), Err(Failed), "it failed");
+    writes(
+        &rt,
+        &mut sink,
+        &[(b"abc", Ok(1)), (b"bc", Err(Failed)), (b"bc", Err(Failed))],
+    );
 }
