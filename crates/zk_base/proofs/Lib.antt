@@ -1,4 +1,5 @@
 pub mod Causes
+pub mod Firsts
 pub mod Histories
 pub mod Lists
 pub mod Order

@@ -3,8 +3,10 @@ pub mod Codes
 pub mod History
 pub mod InMemory
 pub mod Legal
+pub mod Lists
 pub mod Names
 pub mod Order
 pub mod Padding
 pub mod Recording
 pub mod Shown
+pub mod Waits

@@ -16,6 +16,7 @@ mod standard;
 #[cfg(test)]
 mod tests;
 mod text;
+mod waits;
 
 pub use engine::Engine;
 pub use errors::{Errno, Failed, NewRefused, NoMemory, Status};
@@ -30,3 +31,4 @@ pub use sink::Sink;
 pub use source::Source;
 pub use standard::{StdSink, StdSource};
 pub use text::{put, put_decimal};
+pub use waits::{Decision, WaitList, Waiter};

@@ -1,3 +1,2 @@
 pub mod Alarms
-pub mod Firsts
 pub mod Ticks

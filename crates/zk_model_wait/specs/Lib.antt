@@ -1,3 +1,2 @@
 pub mod Clock
 pub mod ClockLaws
-pub mod Lists
