@@ -1,4 +1,4 @@
-ghost use Rattle.std.specs.Prelude.{◌≡◌, ◌+◌, ◌≤◌, ◌<◌, ◌++◌, Bool, length, map, position, vec_len, vec_capacity, IsOk, IfOk, IfSome, OnOk, OnErr, slice_get};
+ghost use Rattle.std.specs.Prelude.{◌≡◌, ◌+◌, ◌≤◌, ◌<◌, ◌++◌, Bool, false, length, map, position, vec_len, vec_capacity, IsOk, IfOk, IfSome, IfNone, OnOk, OnErr, slice_get};
 ghost use Rattle.std.specs.List.{find, position_or_len};
 ghost use Rattle.zk_base.specs.Lists.{without_first, put_before};
 ghost use Rattle.zk_base.specs.Waits.{no_waits, is_served_after, is_waiter, is_decision, decide, decision_of, goes_on, joined, left, first_decided, all_decided, ended, quitted, quit_answer};
@@ -144,6 +144,7 @@ impl<M: Drop + Copy, A: Drop + Copy> WaitList<M, A> {
     pub fn end(&mut self, player: u32, place: u64) -> Option<A>
         ensures answer { result ≡ decision_of self.old.waits player place }
         ensures waits { self.new.waits ≡ ended self.old.waits player place }
+        ensures none { IfNone result (self.new.waits ≡ self.old.waits) }
         ensures room { self.old.room ≤ self.new.room }
     {
         let at = decision_at(&self.decided, player, place);
@@ -156,6 +157,7 @@ impl<M: Drop + Copy, A: Drop + Copy> WaitList<M, A> {
     pub fn quit(&mut self, player: u32, place: u64, gives_up: A) -> Option<A>
         ensures answer { result ≡ quit_answer gives_up self.old.waits player place }
         ensures waits { self.new.waits ≡ quitted self.old.waits player place }
+        ensures none { IfNone result (self.new.waits ≡ self.old.waits) }
         ensures room { self.old.room ≤ self.new.room }
     {
         let decided = self.end(player, place);
@@ -171,6 +173,7 @@ impl<M: Drop + Copy, A: Drop + Copy> WaitList<M, A> {
     fn leave(&mut self, player: u32, place: u64) -> bool
         ensures found { result ≡ goes_on self.old.waits player place }
         ensures waits { self.new.waits ≡ left self.old.waits player place }
+        ensures none { result ≡ false → self.new.waits ≡ self.old.waits }
         ensures room { self.old.room ≤ self.new.room }
     {
         let at = waiter_at(&self.waiting, player, place);
@@ -269,6 +272,7 @@ fn take_out<T: Drop>(items: &mut Vec<T>, at: Option<usize>) -> Option<T>
     ensures found { (p : T → Bool) → at ≡ position p items.old.items → result ≡ find p items.old.items }
     ensures rest { (p : T → Bool) → at ≡ position p items.old.items →
         items.new.items ≡ without_first p items.old.items }
+    ensures none { IfNone result (items.new.items ≡ items.old.items) }
     ensures len { vec_len items.new ≤ vec_len items.old }
     ensures capacity { vec_capacity items.new ≡ vec_capacity items.old }
 {

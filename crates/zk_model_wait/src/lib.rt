@@ -3,9 +3,11 @@
 
 mod clock;
 mod clock_laws;
+mod sem;
 
 pub use clock::{Alarm, ClockOp, ClockReply, ClockState, ClockStore, clock_next};
 pub use clock_laws::{alarms_hold, keeps_clock_laws, time_passes};
+pub use sem::{SemOp, SemReply, SemState, SemStore, sem_next};
 
 #[cfg(test)]
 mod clock_tests;
