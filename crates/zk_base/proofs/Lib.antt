@@ -3,3 +3,4 @@ pub mod Firsts
 pub mod Histories
 pub mod Lists
 pub mod Order
+pub mod WaitMoves

@@ -1,4 +1,4 @@
-use Rattle.std.specs.Prelude.{◌≡◌, ℕ, Bool, true, false, if◌then◌else◌, ◌==◌, ◌&&◌, int_lt, Option, Some, None, option_map, List, [], ◌∷◌, ◌++◌, map}
+use Rattle.std.specs.Prelude.{ℕ, ◌+◌, Bool, true, false, ◌==◌, ◌&&◌, int_lt, Option, Some, None, option_map, List, [], ◌∷◌, ◌++◌, length, map}
 use Rattle.std.specs.List.{find, list_any}
 use Rattle.zk_base.specs.declared.ids.Who.{Who}
 use Rattle.zk_base.specs.declared.waits.Waiter.{Waiter}
@@ -42,6 +42,10 @@ decision_of ws player place = option_map (λ d. d.answer) (find (is_decision pla
 -- the wait goes on
 abbrev pub goes_on : {M A : Type 0} → Waits M A → ℕ → ℕ → Bool
 goes_on ws player place = list_any (is_waiter player place) ws.waiting
+
+-- how many waits haven't ended
+abbrev pub open_waits : {M A : Type 0} → Waits M A → ℕ
+open_waits ws = length ws.waiting + length ws.decided
 
 -- The six moves of waits. The first is that they stay as they are.
 

@@ -1,7 +1,7 @@
 ghost use Rattle.std.specs.Prelude.{◌≡◌, ◌+◌, ◌≤◌, ◌<◌, ◌++◌, Bool, false, length, map, position, vec_len, vec_capacity, IsOk, IfOk, IfSome, IfNone, OnOk, OnErr, slice_get};
 ghost use Rattle.std.specs.List.{find, position_or_len};
 ghost use Rattle.zk_base.specs.Lists.{without_first, put_before};
-ghost use Rattle.zk_base.specs.Waits.{no_waits, is_served_after, is_waiter, is_decision, decide, decision_of, goes_on, joined, left, first_decided, all_decided, ended, quitted, quit_answer};
+ghost use Rattle.zk_base.specs.Waits.{no_waits, is_served_after, is_waiter, is_decision, decide, decision_of, goes_on, open_waits, joined, left, first_decided, all_decided, ended, quitted, quit_answer};
 
 use crate::recorded::put;
 use crate::{NoMemory, Who};
@@ -91,7 +91,7 @@ impl<M: Drop + Copy, A: Drop + Copy> WaitList<M, A> {
 
     /// How many waits there are that haven't ended, decided or not.
     pub fn open(&self) -> u64
-        ensures { result ≡ length self.now.waits.waiting + length self.now.waits.decided }
+        ensures { result ≡ open_waits self.now.waits }
     {
         (self.waiting.len() + self.decided.len()) as u64
     }

@@ -1,8 +1,8 @@
-use Rattle.std.specs.Prelude.{ℕ, zero, suc, ◌+◌, ◌-◌, ◌^◌, ◌<◌, ◌≤◌, Bool, true, false, nat_lt, if◌then◌else◌, Option, Some, None, is_some, List, [], ◌∷◌, length}
+use Rattle.std.specs.Prelude.{ℕ, zero, suc, ◌+◌, ◌^◌, ◌<◌, ◌≤◌, Bool, true, false, nat_lt, if◌then◌else◌, Option, Some, None, is_some, List, [], ◌∷◌}
 use Rattle.zk_base.specs.declared.ids.Who.{Who}
 use Rattle.zk_base.specs.declared.waits.Waiter.{Waiter}
 use Rattle.zk_base.specs.Legal.{Machine}
-use Rattle.zk_base.specs.Waits.{Waits, no_waits, joined, ended, quitted, first_decided, all_decided, decision_of, quit_answer}
+use Rattle.zk_base.specs.Waits.{Waits, no_waits, open_waits, joined, ended, quitted, first_decided, all_decided, decision_of, quit_answer}
 use Rattle.zk_model_wait.specs.declared.sem.SemOp.{SemOp}
 use Rattle.zk_model_wait.specs.declared.sem.SemOp.TheVariants as ops
 use Rattle.zk_model_wait.specs.declared.sem.SemReply.{SemReply}
@@ -83,7 +83,7 @@ may_wait _ = false
 
 -- the waits that haven't ended
 abbrev pub open_takes : Sem → ℕ
-open_takes s = length s.takers.waiting + length s.takers.decided
+open_takes s = open_waits s.takers
 
 -- an operation names nothing that could be missing
 abbrev pub sem_in_range : Sem → SemOp → Bool
