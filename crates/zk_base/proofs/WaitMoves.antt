@@ -35,6 +35,16 @@ module _ {M A : Type 0} where
       let one = length-without (is_decision player place) ws.decided (decided-there ws player place some) in
       omega arith
 
+  -- no more are open after an end, whatever was there
+  pub open-ended-most : (ws : Waits M A) (player place : ℕ) → open_waits (ended ws player place) ≤ open_waits ws
+  open-ended-most ws player place = let less = length-less (is_decision {A = A} player place) ws.decided in omega arith
+
+  pub open-quitted-most : (ws : Waits M A) (player place : ℕ) → open_waits (quitted ws player place) ≤ open_waits ws
+  open-quitted-most ws player place =
+      let less = length-less (is_decision {A = A} player place) ws.decided in
+      let fewer = length-less (is_waiter {M = M} player place) ws.waiting in
+      omega arith
+
   quit-by : (ws : Waits M A) (player place : ℕ) (gives_up : A) (waits : Bool) (decided : Option A) → goes_on ws player place ≡ waits → decision_of ws player place ≡ decided →
       is_some (given_up gives_up waits decided) ≡ true → 1 + open_waits (quitted ws player place) ≤ open_waits ws
   quit-by ws player place gives_up waits (Some answer) goes is some =
