@@ -44,9 +44,7 @@ fn play<R: Abort>(rt: &R, mut sem: Sem, alloc: Global, rows: &[Row]) -> Result<u
 /// A low and a high waiter: a give serves the high one, a reset ends the other, and what is given later is counted up to the limit.
 #[test]
 fn served_by_priority(rt: HostRuntime) -> Result<(), Fail> {
-    let Ok(sem) = Sem::new(rt.alloc(), 0, 1) else {
-        return Err(Fail);
-    };
+    let sem = Sem::new(rt.alloc(), 0, 1)?;
     let entries = play(
         &rt,
         sem,
@@ -76,9 +74,7 @@ fn served_by_priority(rt: HostRuntime) -> Result<(), Fail> {
 /// Waits that are given up: one that was served meanwhile gets it, one that wasn't goes without, and what comes next goes to the next.
 #[test]
 fn given_up(rt: HostRuntime) -> Result<(), Fail> {
-    let Ok(sem) = Sem::new(rt.alloc(), 1, 2) else {
-        return Err(Fail);
-    };
+    let sem = Sem::new(rt.alloc(), 1, 2)?;
     let entries = play(
         &rt,
         sem,
@@ -118,9 +114,7 @@ fn refused(rt: HostRuntime) -> Result<(), Fail> {
 /// Room for three entries lets three waits begin, and the ends of the waits take none of it.
 #[test]
 fn room(rt: HostRuntime) -> Result<(), Fail> {
-    let Ok(mut sem) = Sem::new(rt.alloc(), 0, 1) else {
-        return Err(Fail);
-    };
+    let mut sem = Sem::new(rt.alloc(), 0, 1)?;
     sem.reserve()?;
     assert!(&rt; sem.room() >= 3);
     let reply = sem.act(Who { number: 0, prio: 0 }, 0, Take(true))?;
