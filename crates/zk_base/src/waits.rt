@@ -112,6 +112,7 @@ impl<M: Drop + Copy, A: Drop + Copy> WaitList<M, A> {
         ensures roomy { 1 ≤ self.old.room → IsOk result }
         ensures room { self.old.room ≤ self.new.room + 1 }
         ensures kept { OnErr result (self.old.room ≤ self.new.room) }
+        ensures open { open_waits self.new.waits ≤ open_waits self.old.waits + 1 }
     {
         self.reserve(1)?;
         let behind = place_behind(&self.waiting, &waiter);
@@ -122,6 +123,7 @@ impl<M: Drop + Copy, A: Drop + Copy> WaitList<M, A> {
     /// Decides the wait of the first who waits, if anybody does.
     pub fn decide_first(&mut self, answer: A)
         ensures waits { self.new.waits ≡ first_decided answer self.old.waits }
+        ensures open { open_waits self.new.waits ≡ open_waits self.old.waits }
         ensures room { self.old.room ≤ self.new.room }
     {
         if self.waiting.is_empty() {
@@ -134,6 +136,7 @@ impl<M: Drop + Copy, A: Drop + Copy> WaitList<M, A> {
     /// Decides all waits alike.
     pub fn decide_all(&mut self, answer: A)
         ensures waits { self.new.waits ≡ all_decided answer self.old.waits }
+        ensures open { open_waits self.new.waits ≡ open_waits self.old.waits }
         ensures room { self.old.room ≤ self.new.room }
     {
         decide_each(&self.waiting, &mut self.decided, answer);
@@ -144,6 +147,7 @@ impl<M: Drop + Copy, A: Drop + Copy> WaitList<M, A> {
     pub fn end(&mut self, player: u32, place: u64) -> Option<A>
         ensures answer { result ≡ decision_of self.old.waits player place }
         ensures waits { self.new.waits ≡ ended self.old.waits player place }
+        ensures open { open_waits self.new.waits ≤ open_waits self.old.waits }
         ensures none { IfNone result (self.new.waits ≡ self.old.waits) }
         ensures room { self.old.room ≤ self.new.room }
     {
@@ -157,6 +161,7 @@ impl<M: Drop + Copy, A: Drop + Copy> WaitList<M, A> {
     pub fn quit(&mut self, player: u32, place: u64, gives_up: A) -> Option<A>
         ensures answer { result ≡ quit_answer gives_up self.old.waits player place }
         ensures waits { self.new.waits ≡ quitted self.old.waits player place }
+        ensures open { open_waits self.new.waits ≤ open_waits self.old.waits }
         ensures none { IfNone result (self.new.waits ≡ self.old.waits) }
         ensures room { self.old.room ≤ self.new.room }
     {
@@ -173,6 +178,7 @@ impl<M: Drop + Copy, A: Drop + Copy> WaitList<M, A> {
     fn leave(&mut self, player: u32, place: u64) -> bool
         ensures found { result ≡ goes_on self.old.waits player place }
         ensures waits { self.new.waits ≡ left self.old.waits player place }
+        ensures open { open_waits self.new.waits ≤ open_waits self.old.waits }
         ensures none { result ≡ false → self.new.waits ≡ self.old.waits }
         ensures room { self.old.room ≤ self.new.room }
     {

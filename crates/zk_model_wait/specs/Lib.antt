@@ -1,3 +1,4 @@
 pub mod Clock
 pub mod ClockLaws
+pub mod Msgq
 pub mod Sem

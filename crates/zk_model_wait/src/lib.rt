@@ -3,10 +3,12 @@
 
 mod clock;
 mod clock_laws;
+mod msgq;
 mod sem;
 
 pub use clock::{Alarm, ClockOp, ClockReply, ClockState, ClockStore, clock_next};
 pub use clock_laws::{alarms_hold, keeps_clock_laws, time_passes};
+pub use msgq::{MsgqOp, MsgqReply, MsgqState, MsgqStore, msgq_next};
 pub use sem::{SemOp, SemReply, SemState, SemStore, sem_next};
 
 #[cfg(test)]
