@@ -2,3 +2,4 @@ pub mod Clock
 pub mod ClockLaws
 pub mod Msgq
 pub mod Sem
+pub mod SemLaws

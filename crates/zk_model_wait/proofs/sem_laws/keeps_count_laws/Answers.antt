@@ -1,0 +1,15 @@
+use Rattle.zk_model_wait.specs.Sem.{new_sem}
+use Rattle.zk_model_wait.proofs.sem_laws.keeps_count_laws.Goals as goal
+
+pub returns : goal.returns
+returns c = λ initial limit low h legal. record {
+  within = c.gives_add_up.ensures.within initial limit low h legal;
+  none_waits = c.gives_add_up.ensures.none_waits initial limit low h legal;
+  add_up = c.gives_add_up.ensures.add_up initial limit low h legal;
+  got = c.gives_add_up.ensures.got initial limit low h legal;
+  takes = c.calls_are_told.ensures.takes initial limit low h legal;
+  told = c.calls_are_told.ensures.told initial limit low h legal;
+  reset = c.calls_are_told.ensures.reset (new_sem initial limit) h;
+  always = c.calls_are_told.ensures.always (new_sem initial limit) h;
+  done = c.calls_are_told.ensures.done initial limit low h legal;
+}

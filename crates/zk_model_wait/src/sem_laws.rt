@@ -1,0 +1,29 @@
+ghost use Rattle.std.specs.Prelude.{◌≤◌};
+ghost use Rattle.zk_model_wait.specs.Sem.{Sem};
+ghost use Rattle.zk_model_wait.specs.SemLaws.{SemHistory, OfEachSem, CountWithinLimit, NoneWaitsWhileCount, GivesAddUp, GotWithinGives, TakeWaitsOnlyAtZero, CountTellsTheCount, ResetEndsEveryWait, MayAlways, GiveIsDone, KeepsCountLaws};
+
+/// Of every legal history of a semaphore: it loses and invents no count, its count keeps its limit, and nobody waits while the
+/// count is above 0.
+pub fn gives_add_up()
+    ensures add_up { OfEachSem GivesAddUp }
+    ensures got { OfEachSem GotWithinGives }
+    ensures within { OfEachSem CountWithinLimit }
+    ensures none_waits { OfEachSem NoneWaitsWhileCount }
+{}
+
+/// Of every legal history of a semaphore: what each operation is answered, what a reset leaves, and which are possible at any time.
+pub fn calls_are_told()
+    ensures takes { OfEachSem TakeWaitsOnlyAtZero }
+    ensures told { OfEachSem CountTellsTheCount }
+    ensures done { OfEachSem GiveIsDone }
+    ensures reset { (s : Sem) (h : SemHistory) → ResetEndsEveryWait s h }
+    ensures always { (s : Sem) (h : SemHistory) → MayAlways s h }
+{}
+
+/// All of it, of every legal history of a semaphore. It does nothing when it runs.
+pub fn keeps_count_laws()
+    ensures { OfEachSem KeepsCountLaws }
+{
+    gives_add_up();
+    calls_are_told();
+}
