@@ -4,3 +4,4 @@ pub mod Histories
 pub mod Lists
 pub mod Order
 pub mod WaitMoves
+pub mod WaitsHold

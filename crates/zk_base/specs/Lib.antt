@@ -11,4 +11,5 @@ pub mod Padded
 pub mod Padding
 pub mod Recording
 pub mod Shown
+pub mod WaitLaws
 pub mod Waits

@@ -8,6 +8,7 @@ use Rattle.zk_base.specs.declared.ids.Who.{Who}
 use Rattle.zk_base.specs.declared.ids.Entry.{Entry}
 use Rattle.zk_base.specs.declared.waits.Waiter.{Waiter}
 use Rattle.zk_base.specs.declared.waits.Decision.{Decision}
+use Rattle.zk_base.specs.History.{IsEntry}
 use Rattle.zk_base.specs.Legal.{state_after, Replays}
 use Rattle.zk_base.specs.Lists.{without_first}
 use Rattle.zk_base.specs.Waits.{is_waiter, is_decision, decide, decides_first, goes_on, given_up}
@@ -18,7 +19,7 @@ use Rattle.zk_model_wait.specs.declared.sem.SemOp.TheVariants as ops
 use Rattle.zk_model_wait.specs.declared.sem.SemReply.{SemReply}
 use Rattle.zk_model_wait.specs.declared.sem.SemReply.TheVariants.{Got, Again, Done, Number}
 use Rattle.zk_model_wait.specs.Sem.{Sem, new_sem, take_reply, take_at, give_to, sem_reply, sem_next, sem_machine}
-use Rattle.zk_model_wait.specs.SemLaws.{SemHistory, OfEachSem, IsEntry, sem_after_all, is_got, gives_one, is_give, takes_one, held, wasted_at, thrown_away, all_thrown_away, ends_wait, CountWithinLimit, NoneWaitsWhileCount, GivesAddUp, GotWithinGives, TakeWaitsOnlyAtZero, CountTellsTheCount, ResetEndsEveryWait, MayAlways, GiveIsDone}
+use Rattle.zk_model_wait.specs.SemLaws.{SemHistory, OfEachSem, sem_after_all, is_got, gives_one, is_give, takes_one, held, wasted_at, thrown_away, all_thrown_away, ends_wait, CountWithinLimit, NoneWaitsWhileCount, GivesAddUp, GotWithinGives, TakeWaitsOnlyAtZero, CountTellsTheCount, ResetEndsEveryWait, MayAlways, GiveIsDone}
 
 -- the limit stays
 take-limit : (n : ℕ) (s : Sem) (who : Who) (waits : Bool) → (take_at n s who waits).limit ≡ s.limit

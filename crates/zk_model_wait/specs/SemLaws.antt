@@ -2,6 +2,7 @@ use Rattle.std.specs.Prelude.{◌≡◌, ℕ, ◌+◌, ◌<◌, ◌≤◌, Bool,
 use Rattle.zk_base.specs.declared.ids.Who.{Who}
 use Rattle.zk_base.specs.declared.ids.Entry.{Entry}
 use Rattle.zk_base.specs.declared.waits.Waiter.{Waiter}
+use Rattle.zk_base.specs.History.{IsEntry}
 use Rattle.zk_base.specs.Legal.{state_after, IsLegal}
 use Rattle.zk_model_wait.specs.declared.sem.SemOp.{SemOp}
 use Rattle.zk_model_wait.specs.declared.sem.SemOp.TheVariants as ops
@@ -21,11 +22,6 @@ sem_after_all s h = state_after sem_machine s h
 abbrev pub OfEachSem : (Sem → SemHistory → Type 0) → Type 0
 OfEachSem P = (initial limit : ℕ) → initial ≤ limit → (h : SemHistory) →
     IsLegal sem_machine (new_sem initial limit) h → P (new_sem initial limit) h
-
--- an entry of a history: it, what stands before it and what stands behind it
-pub record IsEntry (h front : SemHistory) (e : Entry SemOp SemReply) : Type 0 where
-  pub rest : SemHistory
-  pub whole : h ≡ front ++ e ∷ rest
 
 -- the reply tells its caller that it has taken one
 abbrev pub is_got : SemReply → Bool
