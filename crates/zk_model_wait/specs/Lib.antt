@@ -3,3 +3,4 @@ pub mod ClockLaws
 pub mod Msgq
 pub mod Sem
 pub mod SemLaws
+pub mod SemWaits

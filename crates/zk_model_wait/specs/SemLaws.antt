@@ -4,6 +4,8 @@ use Rattle.zk_base.specs.declared.ids.Entry.{Entry}
 use Rattle.zk_base.specs.declared.waits.Waiter.{Waiter}
 use Rattle.zk_base.specs.History.{IsEntry}
 use Rattle.zk_base.specs.Legal.{state_after, IsLegal}
+use Rattle.zk_base.specs.WaitLaws.{EachWaitHasItsOpening, EndTellsItsDecision, QuitTellsItsDecision, MayEndOnceDecided, MayQuitUntilEnded}
+use Rattle.zk_model_wait.specs.SemWaits.{takers}
 use Rattle.zk_model_wait.specs.declared.sem.SemOp.{SemOp}
 use Rattle.zk_model_wait.specs.declared.sem.SemOp.TheVariants as ops
 use Rattle.zk_model_wait.specs.declared.sem.SemReply.{SemReply}
@@ -111,8 +113,8 @@ abbrev pub GiveIsDone : Sem → SemHistory → Type 0
 GiveIsDone s h = (front : SemHistory) (e : Entry SemOp SemReply) → IsEntry h front e →
     (e.op ≡ ops.Give) ⊎ (e.op ≡ ops.Reset) → e.reply ≡ Done
 
--- the laws of a semaphore's count
-pub record KeepsCountLaws (s : Sem) (h : SemHistory) : Type 0 where
+-- the laws of a semaphore: its count, what its calls are told, and its waits
+pub record KeepsSemLaws (s : Sem) (h : SemHistory) : Type 0 where
   pub within : CountWithinLimit s h
   pub none_waits : NoneWaitsWhileCount s h
   pub add_up : GivesAddUp s h
@@ -122,3 +124,8 @@ pub record KeepsCountLaws (s : Sem) (h : SemHistory) : Type 0 where
   pub reset : ResetEndsEveryWait s h
   pub always : MayAlways s h
   pub done : GiveIsDone s h
+  pub opened : EachWaitHasItsOpening sem_machine takers s h
+  pub ends : EndTellsItsDecision sem_machine takers s h
+  pub quits : QuitTellsItsDecision sem_machine takers s h
+  pub may_end : MayEndOnceDecided sem_machine takers s h
+  pub may_quit : MayQuitUntilEnded sem_machine takers s h

@@ -1,6 +1,7 @@
-ghost use Rattle.std.specs.Prelude.{◌≤◌};
-ghost use Rattle.zk_model_wait.specs.Sem.{Sem};
-ghost use Rattle.zk_model_wait.specs.SemLaws.{SemHistory, OfEachSem, CountWithinLimit, NoneWaitsWhileCount, GivesAddUp, GotWithinGives, TakeWaitsOnlyAtZero, CountTellsTheCount, ResetEndsEveryWait, MayAlways, GiveIsDone, KeepsCountLaws};
+ghost use Rattle.zk_base.specs.WaitLaws.{EachWaitHasItsOpening, EndTellsItsDecision, QuitTellsItsDecision, MayEndOnceDecided, MayQuitUntilEnded};
+ghost use Rattle.zk_model_wait.specs.Sem.{Sem, sem_machine};
+ghost use Rattle.zk_model_wait.specs.SemWaits.{takers};
+ghost use Rattle.zk_model_wait.specs.SemLaws.{SemHistory, OfEachSem, CountWithinLimit, NoneWaitsWhileCount, GivesAddUp, GotWithinGives, TakeWaitsOnlyAtZero, CountTellsTheCount, ResetEndsEveryWait, MayAlways, GiveIsDone, KeepsSemLaws};
 
 /// Of every legal history of a semaphore: it loses and invents no count, its count keeps its limit, and nobody waits while the
 /// count is above 0.
@@ -20,10 +21,21 @@ pub fn calls_are_told()
     ensures always { (s : Sem) (h : SemHistory) → MayAlways s h }
 {}
 
+/// Of every legal history of a semaphore: who waits has asked for it, the end of a wait is answered its decision, and one who gives
+/// up gets what was decided meanwhile.
+pub fn waits_end()
+    ensures opened { OfEachSem (EachWaitHasItsOpening sem_machine takers) }
+    ensures ends { OfEachSem (EndTellsItsDecision sem_machine takers) }
+    ensures quits { OfEachSem (QuitTellsItsDecision sem_machine takers) }
+    ensures may_end { OfEachSem (MayEndOnceDecided sem_machine takers) }
+    ensures may_quit { OfEachSem (MayQuitUntilEnded sem_machine takers) }
+{}
+
 /// All of it, of every legal history of a semaphore. It does nothing when it runs.
-pub fn keeps_count_laws()
-    ensures { OfEachSem KeepsCountLaws }
+pub fn keeps_sem_laws()
+    ensures { OfEachSem KeepsSemLaws }
 {
     gives_add_up();
     calls_are_told();
+    waits_end();
 }
