@@ -25,3 +25,8 @@ IsAbove h number step = All (λ e. e.who.number ≡ number → e.step < step) h
 abbrev pub Rises : {O R : Type 0} → List (Entry O R) → Type 0
 Rises [] = Unit {0}
 Rises (e ∷ es) = All (λ f. f.who.number ≡ e.who.number → e.step < f.step) es × Rises es
+
+-- an entry of a history: it, what stands before it and what stands behind it
+pub record IsEntry {O R : Type 0} (h front : List (Entry O R)) (e : Entry O R) : Type 0 where
+  pub rest : List (Entry O R)
+  pub whole : h ≡ front ++ e ∷ rest

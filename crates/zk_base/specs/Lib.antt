@@ -3,8 +3,13 @@ pub mod Codes
 pub mod History
 pub mod InMemory
 pub mod Legal
+pub mod Lists
+pub mod Messages
 pub mod Names
 pub mod Order
+pub mod Padded
 pub mod Padding
 pub mod Recording
 pub mod Shown
+pub mod WaitLaws
+pub mod Waits

@@ -1,4 +1,4 @@
-use Rattle.std.specs.Prelude.{◌≡◌, ℕ, ◌-◌, ◌≤◌, Bool, true, false, not, ◌==◌, nat_lt, nat_le, ◌&&◌, ◌||◌, List, [], ◌∷◌, ◌++◌, length, take, drop, replicate, codes}
+use Rattle.std.specs.Prelude.{ℕ, Bool, false, not, ◌==◌, nat_lt, nat_le, ◌&&◌, ◌||◌, List, [], ◌∷◌, length, codes}
 use Rattle.std.specs.List.{list_all}
 use Rattle.std.specs.Str.{bytes_eq}
 
@@ -24,14 +24,3 @@ is_reserved text =
 -- spelled as a name, and not reserved
 abbrev pub is_name : List ℕ → Bool
 is_name text = is_spelled text && not (is_reserved text)
-
--- a name with zeros up to 16 bytes
-abbrev pub padded_name : List ℕ → List ℕ
-padded_name text = text ++ replicate (16 - length text) 0
-
--- the name fills the front of the bytes, and zeros the rest
-pub record IsPadded (bytes : List ℕ) (len : ℕ) : Type 0 where
-  pub long : length bytes ≡ 16
-  pub within : len ≤ 16
-  pub zeros : drop len bytes ≡ replicate (16 - len) 0
-  pub named : is_name (take len bytes) ≡ true

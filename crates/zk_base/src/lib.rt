@@ -7,6 +7,7 @@ mod ids;
 mod listed;
 mod memory_sink;
 mod memory_source;
+mod message;
 mod name;
 mod recorded;
 mod seen;
@@ -17,6 +18,7 @@ mod standard;
 #[cfg(test)]
 mod tests;
 mod text;
+mod waits;
 
 pub use engine::Engine;
 pub use errors::{Errno, Failed, NewRefused, NoMemory, Status};
@@ -24,6 +26,7 @@ pub use ids::{Entry, Who};
 pub use listed::Listed;
 pub use memory_sink::{MemSink, SureSink};
 pub use memory_source::{MemSource, SureSource};
+pub use message::{LONGEST_MESSAGE, Msg};
 pub use name::{LONGEST_NAME, Name, is_name, is_spelled};
 pub use recorded::Recorded;
 pub use seen::Seen;
@@ -32,3 +35,4 @@ pub use sink::Sink;
 pub use source::Source;
 pub use standard::{StdSink, StdSource};
 pub use text::{put, put_decimal};
+pub use waits::{Decision, WaitList, Waiter};

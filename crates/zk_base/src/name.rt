@@ -20,18 +20,19 @@ pub struct Name {
 
 impl Model for Name {
     ghost use Rattle.std.specs.Prelude.{◌≡◌, ℕ, List, take, length};
-    ghost use Rattle.zk_base.specs.Names.{padded_name, IsPadded};
-    ghost use Rattle.zk_base.specs.Padding.{padded_name-take, length-padded};
+    ghost use Rattle.zk_base.specs.Names.{is_name};
+    ghost use Rattle.zk_base.specs.Padded.{padded, IsPadded};
+    ghost use Rattle.zk_base.specs.Padding.{padded-take, length-padded};
 
     ghost Value = { List ℕ };
 
     ghost view = { λ n. take n.len n.bytes };
 
-    ghost invariant = { λ n. IsPadded n.bytes n.len };
+    ghost invariant = { λ n. IsPadded 16 is_name n.bytes n.len };
 
-    ghost inverse = { λ v. record { bytes = padded_name v; len = length v } };
+    ghost inverse = { λ v. record { bytes = padded 16 v; len = length v } };
 
-    ghost inverse_ok = { λ n held. λ i. record { bytes = padded_name-take n.bytes n.len held i; len = length-padded n.bytes n.len held i } };
+    ghost inverse_ok = { λ n held. λ i. record { bytes = padded-take 16 is_name n.bytes n.len held i; len = length-padded 16 is_name n.bytes n.len held i } };
 }
 
 impl Name {

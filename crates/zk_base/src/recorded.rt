@@ -48,7 +48,7 @@ impl<C: Engine> Recorded<C> {
 }
 
 /// One item more, for which there is room.
-fn put<T: Drop>(items: &mut Vec<T>, item: T)
+pub fn put<T: Drop>(items: &mut Vec<T>, item: T)
     requires { vec_len items.old < vec_capacity items.old }
     ensures items { items.new.items ≡ items.old.items ++ item ∷ [] }
     ensures len { vec_len items.new ≡ vec_len items.old + 1 }

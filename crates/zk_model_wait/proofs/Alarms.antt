@@ -15,10 +15,10 @@ use Rattle.zk_model_wait.specs.declared.clock.ClockOp.{ClockOp}
 use Rattle.zk_model_wait.specs.declared.clock.ClockOp.TheVariants as ops
 use Rattle.zk_model_wait.specs.declared.clock.ClockReply.{ClockReply}
 use Rattle.zk_model_wait.specs.declared.clock.ClockReply.TheVariants.{Now, At, Due}
-use Rattle.zk_model_wait.specs.Lists.{without_first}
+use Rattle.zk_base.specs.Lists.{without_first}
 use Rattle.zk_model_wait.specs.Clock.{Clock, new_clock, is_alarm, has_alarm, is_due, clock_reply, clock_next, clock_machine}
 use Rattle.zk_model_wait.specs.ClockLaws.{ClockHistory, clock_after, is_at, is_end_of, sets, ends, IsClockHistory, OfEach, DueWhenItsMomentHasCome, EachEndsOnce, MayEndOnceItHasCome}
-use Rattle.zk_model_wait.proofs.Firsts.{one_if, count-without, count-aside, any-counted, counted-any}
+use Rattle.zk_base.proofs.Firsts.{one_if, count-without, count-aside, any-counted, counted-any}
 use Rattle.zk_model_wait.proofs.Ticks.{replied}
 
 -- how many alarms of a player and moment stand

@@ -1,3 +1,4 @@
 pub mod Alarms
-pub mod Firsts
+pub mod SemCounts
+pub mod SemWaits
 pub mod Ticks

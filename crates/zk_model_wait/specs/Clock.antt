@@ -7,7 +7,7 @@ use Rattle.zk_model_wait.specs.declared.clock.ClockOp.{ClockOp}
 use Rattle.zk_model_wait.specs.declared.clock.ClockOp.TheVariants as ops
 use Rattle.zk_model_wait.specs.declared.clock.ClockReply.{ClockReply}
 use Rattle.zk_model_wait.specs.declared.clock.ClockReply.TheVariants.{Now, At, Due}
-use Rattle.zk_model_wait.specs.Lists.{without_first}
+use Rattle.zk_base.specs.Lists.{without_first}
 
 -- the state of the clock: the ticks so far, the number of entries so far,
 -- and the alarms that haven't ended, in the order in which they were set

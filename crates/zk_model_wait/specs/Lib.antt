@@ -1,3 +1,6 @@
 pub mod Clock
 pub mod ClockLaws
-pub mod Lists
+pub mod Msgq
+pub mod Sem
+pub mod SemLaws
+pub mod SemWaits

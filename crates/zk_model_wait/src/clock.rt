@@ -1,6 +1,6 @@
 ghost use Rattle.std.specs.Prelude.{◌≡◌, false, ◌+◌, ◌-◌, ◌^◌, ◌<◌, ◌≤◌, ◌++◌, ◌∷◌, [], position, length, vec_len, vec_capacity, if◌then◌else◌, IsOk, IfOk, OnOk, OnErr};
 ghost use Rattle.zk_base.specs.History.{AddsNone};
-ghost use Rattle.zk_model_wait.specs.Lists.{without_first};
+ghost use Rattle.zk_base.specs.Lists.{without_first};
 ghost use Rattle.zk_model_wait.specs.Clock.{new_clock, is_alarm, has_alarm, is_due, clock_reply, after_reply, sets_alarm};
 
 use std::alloc::Global;

@@ -3,9 +3,15 @@
 
 mod clock;
 mod clock_laws;
+mod msgq;
+mod sem;
+mod sem_laws;
 
 pub use clock::{Alarm, ClockOp, ClockReply, ClockState, ClockStore, clock_next};
 pub use clock_laws::{alarms_hold, keeps_clock_laws, time_passes};
+pub use msgq::{MsgqOp, MsgqReply, MsgqState, MsgqStore, msgq_next};
+pub use sem::{SemOp, SemReply, SemState, SemStore, sem_next};
+pub use sem_laws::{calls_are_told, gives_add_up, keeps_sem_laws, waits_end};
 
 #[cfg(test)]
 mod clock_tests;

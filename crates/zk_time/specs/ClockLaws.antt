@@ -8,7 +8,7 @@ use Rattle.zk_model_wait.specs.declared.clock.ClockOp.{ClockOp}
 use Rattle.zk_model_wait.specs.declared.clock.ClockOp.TheVariants as ops
 use Rattle.zk_model_wait.specs.declared.clock.ClockReply.TheVariants.{Due}
 use Rattle.zk_model_wait.specs.Clock.{Clock, is_alarm, has_alarm, is_due, in_range, clock_next, clock_reply}
-use Rattle.zk_model_wait.proofs.Firsts.{length-without, length-less}
+use Rattle.zk_base.proofs.Firsts.{length-without, length-less}
 use Rattle.zk_time.specs.ClockOwed.{clock_owed, clock_closes}
 
 -- each entry is counted

@@ -1,7 +1,7 @@
 use Rattle.std.proofs.Common.{sym, ap, ◌∙◌}
 use Rattle.std.specs.List.{position}
 use Rattle.zk_model_wait.specs.Clock.{is_alarm}
-use Rattle.zk_model_wait.proofs.Firsts.{remove-place, without-none}
+use Rattle.zk_base.proofs.Firsts.{remove-place, without-none}
 use Rattle.zk_model_wait.proofs.clock.end_alarm.Goals as goal
 
 pub returns-in-Some-clause-next : goal.returns-in-Some-clause-next

@@ -1,10 +1,12 @@
 -- A list without its first element that passes, and how many pass.
-use Rattle.std.proofs.Common.{◌≡◌, ℕ, suc, ◌+◌, ◌<◌, ◌≤◌, Bool, true, false, not, cond, ltb, ◌||◌, Some, None, List, [], ◌∷◌, length, refl, ap, sym, ◌∙◌, arith}
-use Rattle.std.specs.List.{position, position_or_len, remove, list_any, count_by}
+use Rattle.std.proofs.Common.{◌≡◌, ℕ, suc, ◌+◌, ◌<◌, ◌≤◌, Bool, true, false, not, cond, ltb, ◌||◌, Some, None, List, [], ◌∷◌, length, slice_get, is_some, refl, ap, sym, ◌∙◌, arith}
+use Rattle.std.specs.List.{find, position, position_or_len, remove, insert, list_any, count_by}
 use Rattle.std.proofs.lemmas.Bool.Decides.{nat_tests}
 use Rattle.std.proofs.lemmas.Grind.{common_steps}
+use Rattle.std.proofs.lemmas.List.Folds.{find_at}
 use Rattle.std.proofs.lemmas.List.Sums.{sum_by-cons}
-use Rattle.zk_model_wait.specs.Lists.{without_first}
+use Rattle.std.proofs.lemmas.Option.{slice_get_past}
+use Rattle.zk_base.specs.Lists.{without_first, put_before}
 
 -- a search that finds nothing, and one that finds a place
 place_past : (n long : ℕ) → cond (ltb n long) (Some n) None ≡ None → long ≤ n
@@ -33,13 +35,58 @@ module _ {A : Type 0} (p : A → Bool) where
 
   -- the first place that passes, taken out
   pub remove-place : (xs : List A) (place : ℕ) → position p xs ≡ Some place → remove xs place ≡ without_first p xs
-  remove-place xs place found = ap (remove xs) (sym (place_within (position_or_len p xs) place (length xs) found).0) ∙ remove-first xs
+  remove-place xs place found = ap (remove xs) (sym ((place_within (position_or_len p xs) place (length xs) found).0)) ∙ remove-first xs
 
   -- where no place passes, nothing is taken out
   pub without-none : (xs : List A) → position p xs ≡ None → without_first p xs ≡ xs
   without-none xs none =
       let past = place_past (position_or_len p xs) (length xs) none in
       sym (remove-first xs) ∙ remove_past (position_or_len p xs) xs past
+
+  most-at : (x : A) (xs : List A) (b : Bool) → position_or_len p xs ≤ length xs → cond (not b) (1 + position_or_len p xs) 0 ≤ suc (length xs)
+  most-at x xs true below = omega arith
+  most-at x xs false below = omega arith
+
+  most : (xs : List A) → position_or_len p xs ≤ length xs
+  most [] = omega arith
+  most (x ∷ xs) = most-at x xs (p x) (most xs)
+
+  -- the first place that passes, or the end
+  pub first-place : (xs : List A) (place : ℕ) → position p xs ≡ Some place → place ≡ position_or_len p xs
+  first-place xs place found = sym ((place_within (position_or_len p xs) place (length xs) found).0)
+
+  pub no-place : (xs : List A) → position p xs ≡ None → length xs ≡ position_or_len p xs
+  no-place xs none =
+      let past = place_past (position_or_len p xs) (length xs) none in
+      let below = most xs in
+      omega arith
+
+  -- what is found is taken out
+  pub find-place : (xs : List A) (place : ℕ) → position p xs ≡ Some place → find p xs ≡ slice_get xs place
+  find-place xs place found = find_at p xs ∙ ap (slice_get xs) (place_within (position_or_len p xs) place (length xs) found).0
+
+  pub find-none : (xs : List A) → position p xs ≡ None → find p xs ≡ None
+  find-none xs none = find_at p xs ∙ slice_get_past xs (position_or_len p xs) (place_past (position_or_len p xs) (length xs) none)
+
+  any-find-at : (x : A) (xs : List A) (b : Bool) → list_any p xs ≡ is_some (find p xs) → (b || list_any p xs) ≡ is_some (cond b (Some x) (find p xs))
+  any-find-at x xs true rest = refl
+  any-find-at x xs false rest = rest
+
+  -- one passes where one is found
+  pub any-find : (xs : List A) → list_any p xs ≡ is_some (find p xs)
+  any-find [] = refl
+  any-find (x ∷ xs) = any-find-at x xs (p x) (any-find xs)
+
+  insert-before-at : (x y : A) (ys : List A) (b : Bool) (n : ℕ) (rest : List A) → insert ys n x ≡ rest → insert (y ∷ ys) (cond (not b) (1 + n) 0) x ≡ cond b (x ∷ y ∷ ys) (y ∷ rest)
+  insert-before-at x y ys true n rest same = refl
+  insert-before-at x y ys false n rest same =
+      let next : 1 + n ≡ suc n = omega arith in
+      ap (λ (k : ℕ). insert (y ∷ ys) k x) next ∙ ap (λ (xs : List A). y ∷ xs) same
+
+  -- what is put in at the first place that passes
+  pub insert-before : (x : A) (xs : List A) → insert xs (position_or_len p xs) x ≡ put_before p x xs
+  insert-before x [] = refl
+  insert-before x (y ∷ ys) = insert-before-at x y ys (p y) (position_or_len p ys) (put_before p x ys) (insert-before x ys)
 
   length-without-at : (x : A) (xs : List A) (b : Bool) → (list_any p xs ≡ true → 1 + length (without_first p xs) ≡ length xs) → (b || list_any p xs) ≡ true →
       1 + length (cond b xs (x ∷ without_first p xs)) ≡ suc (length xs)

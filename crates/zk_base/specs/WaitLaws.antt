@@ -1,0 +1,104 @@
+use Rattle.std.specs.Prelude.{◌≡◌, ℕ, ◌+◌, Bool, Option, Some, None, List, [], ◌∷◌, ◌++◌, length, All}
+use Rattle.zk_base.specs.declared.ids.Who.{Who}
+use Rattle.zk_base.specs.declared.ids.Entry.{Entry}
+use Rattle.zk_base.specs.declared.waits.Waiter.{Waiter}
+use Rattle.zk_base.specs.declared.waits.Decision.{Decision}
+use Rattle.zk_base.specs.History.{IsEntry}
+use Rattle.zk_base.specs.Legal.{Machine, state_after, Replays}
+use Rattle.zk_base.specs.Waits.{Waits, no_waits, joined, ended, quitted, first_decided, all_decided, decision_of, quit_answer}
+
+-- whom an entry that ends no wait decides: nobody, the first who waits, or all who wait
+pub data Decides (R : Type 0) : Type 0 where
+  nobody : Decides R
+  first : R → Decides R
+  all : R → Decides R
+
+-- a list of waits of a machine: where it stands in the state, and what opens, ends and decides its waits
+pub record WaitKind (S O R M : Type 0) : Type 0 where
+  pub waits : S → Waits M R
+  -- how many entries there are
+  pub entries : S → ℕ
+  -- what the wait that an entry opens is for, if it opens one
+  pub opens : O → R → Option M
+  -- the place of the wait that an operation ends, if it ends one
+  pub ends : O → Option ℕ
+  -- and of the one that it gives up
+  pub quits : O → Option ℕ
+  -- what giving up a wait that isn't decided answers
+  pub gives_up : R
+  -- whom an entry decides, and how
+  pub decides : S → O → R → Decides R
+
+-- the waits after an entry that decides
+abbrev pub after_decision : {R M : Type 0} → Decides R → Waits M R → Waits M R
+after_decision nobody ws = ws
+after_decision (first answer) ws = first_decided answer ws
+after_decision (all answer) ws = all_decided answer ws
+
+-- the waits after an entry: one more, one less, or as it decides
+abbrev pub after_entry : {R M : Type 0} → Waits M R → ℕ → Who → Decides R → Option M → Option ℕ → Option ℕ → Waits M R
+after_entry ws place who decides (Some matter) ends quits = joined ws (record { place = place; who = who; matter = matter })
+after_entry ws place who decides None (Some at) quits = ended ws who.number at
+after_entry ws place who decides None None (Some at) = quitted ws who.number at
+after_entry ws place who decides None None None = after_decision decides ws
+
+-- a machine has such waits: this is all that happens to them, and an end or a quit is possible just where the wait is there
+pub record HasWaits {S O R M : Type 0} (m : Machine S O R) (k : WaitKind S O R M) : Type 0 where
+  pub counts : (s : S) (who : Who) (op : O) → k.entries (m.next s who op) ≡ k.entries s + 1
+  pub moves : (s : S) (who : Who) (op : O) (reply : R) → m.reply_of s who op ≡ Some reply →
+      k.waits (m.next s who op)
+      ≡ after_entry (k.waits s) (k.entries s) who (k.decides s op reply) (k.opens op reply) (k.ends op) (k.quits op)
+  pub ends : (s : S) (who : Who) (op : O) (place : ℕ) → k.ends op ≡ Some place →
+      m.reply_of s who op ≡ decision_of (k.waits s) who.number place
+  pub quits : (s : S) (who : Who) (op : O) (place : ℕ) → k.quits op ≡ Some place →
+      m.reply_of s who op ≡ quit_answer k.gives_up (k.waits s) who.number place
+
+-- a first state: nobody waits, and there is no entry
+pub record IsFirst {S O R M : Type 0} (k : WaitKind S O R M) (s : S) : Type 0 where
+  pub none : k.waits s ≡ no_waits
+  pub new : k.entries s ≡ 0
+
+-- the wait of this place was opened there, by this player, for this
+pub record WasOpened {S O R M : Type 0} (k : WaitKind S O R M) (h : List (Entry O R)) (place : ℕ) (who : Who) (matter : M) : Type 0 where
+  pub front : List (Entry O R)
+  pub e : Entry O R
+  pub at : IsEntry h front e
+  pub there : length front ≡ place
+  pub by : e.who ≡ who
+  pub opening : k.opens e.op e.reply ≡ Some matter
+
+-- the wait that is decided was opened by the player of the decision
+abbrev pub WasOpenedBy : {S O R M : Type 0} → WaitKind S O R M → List (Entry O R) → Decision R → Type 0
+WasOpenedBy {M = M} k h d = (who : Who) × (matter : M) × (who.number ≡ d.player) × WasOpened k h d.place who matter
+
+-- Each of what follows is said of one history of a machine, from a first state on.
+
+-- who waits, and whose wait is decided, has opened it at its place
+abbrev pub EachWaitHasItsOpening : {S O R M : Type 0} → Machine S O R → WaitKind S O R M → S → List (Entry O R) → Type 0
+EachWaitHasItsOpening m k s h =
+    All (λ w. WasOpened k h w.place w.who w.matter) (k.waits (state_after m s h)).waiting
+    × All (WasOpenedBy k h) (k.waits (state_after m s h)).decided
+
+-- the end of a wait is answered its decision
+abbrev pub EndTellsItsDecision : {S O R M : Type 0} → Machine S O R → WaitKind S O R M → S → List (Entry O R) → Type 0
+EndTellsItsDecision {O = O} {R = R} m k s h = (front : List (Entry O R)) (e : Entry O R) (place : ℕ) → IsEntry h front e →
+    k.ends e.op ≡ Some place →
+    decision_of (k.waits (state_after m s front)) e.who.number place ≡ Some e.reply
+
+-- a wait that is given up is answered its decision, if it has one, else that it was given up
+abbrev pub QuitTellsItsDecision : {S O R M : Type 0} → Machine S O R → WaitKind S O R M → S → List (Entry O R) → Type 0
+QuitTellsItsDecision {O = O} {R = R} m k s h = (front : List (Entry O R)) (e : Entry O R) (place : ℕ) → IsEntry h front e →
+    k.quits e.op ≡ Some place →
+    quit_answer k.gives_up (k.waits (state_after m s front)) e.who.number place ≡ Some e.reply
+
+-- a wait that is decided may end, with its decision
+abbrev pub MayEndOnceDecided : {S O R M : Type 0} → Machine S O R → WaitKind S O R M → S → List (Entry O R) → Type 0
+MayEndOnceDecided {O = O} {R = R} m k s h = (who : Who) (op : O) (place : ℕ) (answer : R) → k.ends op ≡ Some place →
+    decision_of (k.waits (state_after m s h)) who.number place ≡ Some answer →
+    m.reply_of (state_after m s h) who op ≡ Some answer
+
+-- a wait that goes on, or is decided, may be given up
+abbrev pub MayQuitUntilEnded : {S O R M : Type 0} → Machine S O R → WaitKind S O R M → S → List (Entry O R) → Type 0
+MayQuitUntilEnded {O = O} {R = R} m k s h = (who : Who) (op : O) (place : ℕ) (answer : R) → k.quits op ≡ Some place →
+    quit_answer k.gives_up (k.waits (state_after m s h)) who.number place ≡ Some answer →
+    m.reply_of (state_after m s h) who op ≡ Some answer

@@ -1,0 +1,241 @@
+-- What a semaphore counts, along a history.
+use Rattle.std.proofs.Common.{◌≡◌, ℕ, zero, suc, ◌+◌, ◌<◌, ◌≤◌, Bool, true, false, ◌==◌, ◌||◌, ◌⊎◌, inl, inr, ltb, cond, Option, Some, None, option_map, List, [], ◌∷◌, ◌++◌, map, refl, sym, ap, subst, ◌∙◌, arith}
+use Rattle.std.specs.List.{find, count_by}
+use Rattle.std.proofs.lemmas.Bool.{ltb-true}
+use Rattle.std.proofs.lemmas.List.Sums.{sum_by-cons, sum_by_push, sum_by-append}
+use Rattle.std.proofs.lemmas.Option.{same_Some}
+use Rattle.zk_base.specs.declared.ids.Who.{Who}
+use Rattle.zk_base.specs.declared.ids.Entry.{Entry}
+use Rattle.zk_base.specs.declared.waits.Waiter.{Waiter}
+use Rattle.zk_base.specs.declared.waits.Decision.{Decision}
+use Rattle.zk_base.specs.History.{IsEntry}
+use Rattle.zk_base.specs.Legal.{state_after, Replays}
+use Rattle.zk_base.specs.Lists.{without_first}
+use Rattle.zk_base.specs.Waits.{is_waiter, is_decision, decide, decides_first, goes_on, given_up}
+use Rattle.zk_base.proofs.Firsts.{one_if}
+use Rattle.zk_base.proofs.Histories.{state_after-snoc, Replays-rest}
+use Rattle.zk_model_wait.specs.declared.sem.SemOp.{SemOp}
+use Rattle.zk_model_wait.specs.declared.sem.SemOp.TheVariants as ops
+use Rattle.zk_model_wait.specs.declared.sem.SemReply.{SemReply}
+use Rattle.zk_model_wait.specs.declared.sem.SemReply.TheVariants.{Got, Again, Done, Number}
+use Rattle.zk_model_wait.specs.Sem.{Sem, new_sem, take_reply, take_at, give_to, sem_reply, sem_next, sem_machine}
+use Rattle.zk_model_wait.specs.SemLaws.{SemHistory, OfEachSem, sem_after_all, is_got, gives_one, is_give, takes_one, held, wasted_at, thrown_away, all_thrown_away, ends_wait, CountWithinLimit, NoneWaitsWhileCount, GivesAddUp, GotWithinGives, TakeWaitsOnlyAtZero, CountTellsTheCount, ResetEndsEveryWait, MayAlways, GiveIsDone}
+
+-- the limit stays
+take-limit : (n : ℕ) (s : Sem) (who : Who) (waits : Bool) → (take_at n s who waits).limit ≡ s.limit
+take-limit zero s who false = refl
+take-limit zero s who true = refl
+take-limit (suc n) s who waits = refl
+
+give-limit : (waiting : List (Waiter Unit)) (s : Sem) → (give_to waiting s).limit ≡ s.limit
+give-limit [] s = refl
+give-limit (w ∷ ws) s = refl
+
+next-limit : (s : Sem) (who : Who) (op : SemOp) → (sem_next s who op).limit ≡ s.limit
+next-limit s who (ops.Take waits) = take-limit s.count s who waits
+next-limit s who (ops.TakeEnd place) = refl
+next-limit s who (ops.TakeQuit place) = refl
+next-limit s who ops.Give = give-limit s.takers.waiting s
+next-limit s who ops.Reset = refl
+next-limit s who ops.Count = refl
+
+-- the count stays within it
+take-within : (n : ℕ) (s : Sem) (who : Who) (waits : Bool) → n ≤ s.limit → s.count ≤ s.limit → (take_at n s who waits).count ≤ s.limit
+take-within zero s who false low within = within
+take-within zero s who true low within = within
+take-within (suc n) s who waits low within = omega arith
+
+raised-within : (s : Sem) (b : Bool) → ltb s.count s.limit ≡ b → s.count ≤ s.limit → cond b (s.count + 1) s.count ≤ s.limit
+raised-within s true is within = let below = ltb-true s.count s.limit is in omega arith
+raised-within s false is within = within
+
+give-within : (waiting : List (Waiter Unit)) (s : Sem) → s.count ≤ s.limit → (give_to waiting s).count ≤ s.limit
+give-within [] s within = raised-within s (ltb s.count s.limit) refl within
+give-within (w ∷ ws) s within = within
+
+next-within : (s : Sem) (who : Who) (op : SemOp) → s.count ≤ s.limit → (sem_next s who op).count ≤ s.limit
+next-within s who (ops.Take waits) within = take-within s.count s who waits within within
+next-within s who (ops.TakeEnd place) within = within
+next-within s who (ops.TakeQuit place) within = within
+next-within s who ops.Give within = give-within s.takers.waiting s within
+next-within s who ops.Reset within = omega arith
+next-within s who ops.Count within = within
+
+within-all : (s : Sem) (h : SemHistory) → s.count ≤ s.limit → (sem_after_all s h).count ≤ s.limit
+within-all s [] within = within
+within-all s (e ∷ es) within =
+    let same = next-limit s e.who e.op in
+    let here = next-within s e.who e.op within in
+    let rest = within-all (sem_next s e.who e.op) es (omega arith) in
+    omega arith
+
+pub count_within_limit : OfEachSem CountWithinLimit
+count_within_limit initial limit low h legal = within-all (new_sem initial limit) h low
+
+-- nobody waits while there is something to take
+without-nil : {A : Type 0} (p : A → Bool) (xs : List A) → xs ≡ [] → without_first p xs ≡ []
+without-nil p [] none = refl
+without-nil p (x ∷ xs) none = absurd (cc)
+
+take-served : (n : ℕ) (s : Sem) (who : Who) (waits : Bool) → s.count ≡ n → (0 < s.count → s.takers.waiting ≡ []) → 0 < (take_at n s who waits).count → (take_at n s who waits).takers.waiting ≡ []
+take-served zero s who false is served some = served some
+take-served zero s who true is served some = absurd (omega arith)
+take-served (suc n) s who waits is served some = served (omega arith)
+
+give-served : (waiting : List (Waiter Unit)) (s : Sem) → s.takers.waiting ≡ waiting → (0 < s.count → s.takers.waiting ≡ []) → 0 < (give_to waiting s).count → (give_to waiting s).takers.waiting ≡ []
+give-served [] s is served some = is
+give-served (w ∷ ws) s is served some = let none = sym is ∙ served some in absurd (cc)
+
+next-served : (s : Sem) (who : Who) (op : SemOp) → (0 < s.count → s.takers.waiting ≡ []) → 0 < (sem_next s who op).count → (sem_next s who op).takers.waiting ≡ []
+next-served s who (ops.Take waits) served some = take-served s.count s who waits refl served some
+next-served s who (ops.TakeEnd place) served some = served some
+next-served s who (ops.TakeQuit place) served some = without-nil (is_waiter who.number place) s.takers.waiting (served some)
+next-served s who ops.Give served some = give-served s.takers.waiting s refl served some
+next-served s who ops.Reset served some = refl
+next-served s who ops.Count served some = served some
+
+served-all : (s : Sem) (h : SemHistory) → (0 < s.count → s.takers.waiting ≡ []) → 0 < (sem_after_all s h).count → (sem_after_all s h).takers.waiting ≡ []
+served-all s [] served some = served some
+served-all s (e ∷ es) served some = served-all (sem_next s e.who e.op) es (next-served s e.who e.op served) some
+
+pub none_waits_while_count : OfEachSem NoneWaitsWhileCount
+none_waits_while_count initial limit low h legal some = served-all (new_sem initial limit) h (λ above. refl) some
+
+-- what is found is taken out, and counted no more
+module _ {A : Type 0} (p q : A → Bool) where
+  found-at : (x y : A) (xs : List A) (b : Bool) → (find p xs ≡ Some y → count_by q xs ≡ one_if (q y) + count_by q (without_first p xs)) →
+      cond b (Some x) (find p xs) ≡ Some y → count_by q (x ∷ xs) ≡ one_if (q y) + count_by q (cond b xs (x ∷ without_first p xs))
+  found-at x y xs true rest found =
+      let same : one_if (q x) ≡ one_if (q y) = ap (λ (z : A). one_if (q z)) (same_Some x y found) in
+      omega (arith, sum_by-cons (λ (z : A). one_if (q z)) x xs)
+  found-at x y xs false rest found =
+      let further = rest found in
+      omega (arith, sum_by-cons (λ (z : A). one_if (q z)) x xs, sum_by-cons (λ (z : A). one_if (q z)) x (without_first p xs))
+
+  count-found : (xs : List A) (y : A) → find p xs ≡ Some y → count_by q xs ≡ one_if (q y) + count_by q (without_first p xs)
+  count-found [] y found = absurd (cc)
+  count-found (x ∷ xs) y found = found-at x y xs (p x) (count-found xs y) found
+
+  lost-at : (x : A) (xs : List A) (b : Bool) → (find p xs ≡ None → without_first p xs ≡ xs) → cond b (Some x) (find p xs) ≡ None → cond b xs (x ∷ without_first p xs) ≡ x ∷ xs
+  lost-at x xs true rest none = absurd (cc)
+  lost-at x xs false rest none = ap (λ (l : List A). x ∷ l) (rest none)
+
+  without-lost : (xs : List A) → find p xs ≡ None → without_first p xs ≡ xs
+  without-lost [] none = refl
+  without-lost (x ∷ xs) none = lost-at x xs (p x) (without-lost xs) none
+
+-- those who are decided to have taken one
+
+end-by : (p : Decision SemReply → Bool) (xs : List (Decision SemReply)) (o : Option (Decision SemReply)) (reply : SemReply) → find p xs ≡ o → option_map (λ (d : Decision SemReply). d.answer) o ≡ Some reply →
+    count_by (λ (d : Decision SemReply). is_got d.answer) xs ≡ one_if (is_got reply) + count_by (λ (d : Decision SemReply). is_got d.answer) (without_first p xs)
+end-by p xs (Some d) reply found is =
+    let told : one_if (is_got d.answer) ≡ one_if (is_got reply) = ap (λ (r : SemReply). one_if (is_got r)) (same_Some d.answer reply is) in
+    let counted = count-found p (λ (d : Decision SemReply). is_got d.answer) xs d found in
+    omega arith
+end-by p xs None reply found is = absurd (cc)
+
+none-got : (ws : List (Waiter Unit)) → count_by (λ (d : Decision SemReply). is_got d.answer) (map (decide Again) ws) ≡ 0
+none-got [] = refl
+none-got (w ∷ ws) = omega (arith, none-got ws, sum_by-cons (λ (d : Decision SemReply). one_if (is_got d.answer)) (decide Again w) (map (decide Again) ws))
+
+-- An entry takes one, or gives one, or neither.
+
+
+take-adds : (n : ℕ) (s : Sem) (who : Who) (waits : Bool) (reply : SemReply) → s.count ≡ n → take_reply n waits ≡ reply →
+    s.count + held s ≡ one_if (is_got reply) + held (take_at n s who waits) + (take_at n s who waits).count
+take-adds zero s who false reply is told = let none : one_if (is_got reply) ≡ 0 = ap (λ (r : SemReply). one_if (is_got r)) (sym told) in omega arith
+take-adds zero s who true reply is told = let none : one_if (is_got reply) ≡ 0 = ap (λ (r : SemReply). one_if (is_got r)) (sym told) in omega arith
+take-adds (suc n) s who waits reply is told = let some : one_if (is_got reply) ≡ 1 = ap (λ (r : SemReply). one_if (is_got r)) (sym told) in omega arith
+
+quit-by : (s : Sem) (who : Who) (place : ℕ) (waits : Bool) (o : Option (Decision SemReply)) (reply : SemReply) → find (is_decision who.number place) s.takers.decided ≡ o →
+    given_up Again waits (option_map (λ (d : Decision SemReply). d.answer) o) ≡ Some reply → held s ≡ one_if (is_got reply) + held (sem_next s who (ops.TakeQuit place))
+quit-by s who place waits (Some d) reply found is = end-by (is_decision who.number place) s.takers.decided (Some d) reply found is
+quit-by s who place true None reply found is =
+    let none : one_if (is_got reply) ≡ 0 = ap (λ (r : SemReply). one_if (is_got r)) (sym (same_Some Again reply is)) in
+    let same = ap (λ (ds : List (Decision SemReply)). count_by (λ (d : Decision SemReply). is_got d.answer) ds) (without-lost (is_decision who.number place) (λ (d : Decision SemReply). is_got d.answer) s.takers.decided found) in
+    omega arith
+quit-by s who place false None reply found is = absurd (cc)
+
+raised-adds : (s : Sem) (b : Bool) → s.count + 1 ≡ cond b (s.count + 1) s.count + cond b 0 1
+raised-adds s true = omega arith
+raised-adds s false = refl
+
+give-adds : (waiting : List (Waiter Unit)) (s : Sem) → s.takers.waiting ≡ waiting → s.count + held s + 1 ≡ held (give_to waiting s) + (give_to waiting s).count + wasted_at waiting s
+give-adds [] s is = let here = raised-adds s (ltb s.count s.limit) in omega arith
+give-adds (w ∷ ws) s is =
+    let P : List (Waiter Unit) → Type 0 = λ l. s.count + held s + 1 ≡ count_by (λ (d : Decision SemReply). is_got d.answer) (decides_first Got l s.takers.decided).decided + s.count + 0 in
+    let pushed = sum_by_push (λ (d : Decision SemReply). one_if (is_got d.answer)) s.takers.decided (decide Got w) in
+    let here : P (w ∷ ws) = omega arith in
+    subst P (sym is) here
+
+next-adds : (s : Sem) (who : Who) (op : SemOp) (reply : SemReply) → sem_reply s who op ≡ Some reply →
+    s.count + held s + one_if (gives_one op) ≡ one_if (is_got reply) + held (sem_next s who op) + (sem_next s who op).count + thrown_away s op
+next-adds s who (ops.Take waits) reply is = let here = take-adds s.count s who waits reply refl (same_Some (take_reply s.count waits) reply is) in omega arith
+next-adds s who (ops.TakeEnd place) reply is =
+    let here = end-by (is_decision who.number place) s.takers.decided (find (is_decision who.number place) s.takers.decided) reply refl is in
+    omega arith
+next-adds s who (ops.TakeQuit place) reply is =
+    let here = quit-by s who place (goes_on s.takers who.number place) (find (is_decision who.number place) s.takers.decided) reply refl is in
+    omega arith
+next-adds s who ops.Give reply is =
+    let none : one_if (is_got reply) ≡ 0 = ap (λ (r : SemReply). one_if (is_got r)) (sym (same_Some Done reply is)) in
+    let here = give-adds s.takers.waiting s refl in
+    omega arith
+next-adds s who ops.Reset reply is =
+    let none : one_if (is_got reply) ≡ 0 = ap (λ (r : SemReply). one_if (is_got r)) (sym (same_Some Done reply is)) in
+    let both = sum_by-append (λ (d : Decision SemReply). one_if (is_got d.answer)) s.takers.decided (map (decide Again) s.takers.waiting) in
+    let again = none-got s.takers.waiting in
+    omega arith
+next-adds s who ops.Count reply is =
+    let none : one_if (is_got reply) ≡ 0 = ap (λ (r : SemReply). one_if (is_got r)) (sym (same_Some (Number s.count) reply is)) in
+    omega arith
+
+adds-all : (s : Sem) (h : SemHistory) → Replays sem_machine s h →
+    s.count + held s + count_by is_give h ≡ count_by takes_one h + held (sem_after_all s h) + (sem_after_all s h).count + all_thrown_away s h
+adds-all s [] replays = omega arith
+adds-all s (e ∷ es) replays =
+    let here = next-adds s e.who e.op e.reply replays.0 in
+    let rest = adds-all (sem_next s e.who e.op) es replays.1 in
+    omega (arith, sum_by-cons (λ (f : Entry SemOp SemReply). one_if (is_give f)) e es, sum_by-cons (λ (f : Entry SemOp SemReply). one_if (takes_one f)) e es)
+
+pub gives_add_up : OfEachSem GivesAddUp
+gives_add_up initial limit low h legal = let all = adds-all (new_sem initial limit) h legal.0 in omega arith
+
+pub got_within_gives : OfEachSem GotWithinGives
+got_within_gives initial limit low h legal = let all = adds-all (new_sem initial limit) h legal.0 in omega arith
+
+-- What one entry is answered, and what it leaves.
+
+replied : (s : Sem) (h front : SemHistory) (e : Entry SemOp SemReply) → Replays sem_machine s h → IsEntry h front e → sem_reply (sem_after_all s front) e.who e.op ≡ Some e.reply
+replied s h front e replays at = (Replays-rest sem_machine s front (e ∷ at.rest) (subst (Replays sem_machine s) at.whole replays)).0
+
+pub take_waits_only_at_zero : OfEachSem TakeWaitsOnlyAtZero
+take_waits_only_at_zero initial limit low h legal front e waits at op =
+    let s = sem_after_all (new_sem initial limit) front in
+    sym (same_Some (take_reply s.count waits) e.reply (ap (sem_reply s e.who) (sym op) ∙ replied (new_sem initial limit) h front e legal.0 at))
+
+pub count_tells_the_count : OfEachSem CountTellsTheCount
+count_tells_the_count initial limit low h legal front e at op =
+    let s = sem_after_all (new_sem initial limit) front in
+    sym (same_Some (Number s.count) e.reply (ap (sem_reply s e.who) (sym op) ∙ replied (new_sem initial limit) h front e legal.0 at))
+
+pub reset_ends_every_wait : (s : Sem) (h : SemHistory) → ResetEndsEveryWait s h
+reset_ends_every_wait s h front e at op =
+    let after = state_after-snoc sem_machine s front e ∙ ap (sem_next (sem_after_all s front) e.who) op in
+    (ap (λ (t : Sem). t.count) after, ap (λ (t : Sem). t.takers.waiting) after)
+
+pub may_always : (s : Sem) (h : SemHistory) → MayAlways s h
+may_always s h who (ops.Take waits) never = (_, refl)
+may_always s h who (ops.TakeEnd place) never = absurd (cc)
+may_always s h who (ops.TakeQuit place) never = absurd (cc)
+may_always s h who ops.Give never = (_, refl)
+may_always s h who ops.Reset never = (_, refl)
+may_always s h who ops.Count never = (_, refl)
+
+pub give_is_done : OfEachSem GiveIsDone
+give_is_done initial limit low h legal front e at (inl op) =
+    let s = sem_after_all (new_sem initial limit) front in
+    sym (same_Some Done e.reply (ap (sem_reply s e.who) (sym op) ∙ replied (new_sem initial limit) h front e legal.0 at))
+give_is_done initial limit low h legal front e at (inr op) =
+    let s = sem_after_all (new_sem initial limit) front in
+    sym (same_Some Done e.reply (ap (sem_reply s e.who) (sym op) ∙ replied (new_sem initial limit) h front e legal.0 at))

@@ -1,0 +1,20 @@
+use Rattle.zk_model_wait.specs.Sem.{new_sem}
+use Rattle.zk_model_wait.proofs.sem_laws.keeps_sem_laws.Goals as goal
+
+pub returns : goal.returns
+returns c = λ initial limit low h legal. record {
+  within = c.gives_add_up.ensures.within initial limit low h legal;
+  none_waits = c.gives_add_up.ensures.none_waits initial limit low h legal;
+  add_up = c.gives_add_up.ensures.add_up initial limit low h legal;
+  got = c.gives_add_up.ensures.got initial limit low h legal;
+  takes = c.calls_are_told.ensures.takes initial limit low h legal;
+  told = c.calls_are_told.ensures.told initial limit low h legal;
+  reset = c.calls_are_told.ensures.reset (new_sem initial limit) h;
+  always = c.calls_are_told.ensures.always (new_sem initial limit) h;
+  done = c.calls_are_told.ensures.done initial limit low h legal;
+  opened = c.waits_end.ensures.opened initial limit low h legal;
+  ends = c.waits_end.ensures.ends initial limit low h legal;
+  quits = c.waits_end.ensures.quits initial limit low h legal;
+  may_end = c.waits_end.ensures.may_end initial limit low h legal;
+  may_quit = c.waits_end.ensures.may_quit initial limit low h legal;
+}

@@ -1,0 +1,131 @@
+use Rattle.std.specs.Prelude.{◌≡◌, ℕ, ◌+◌, ◌<◌, ◌≤◌, Bool, true, false, ◌==◌, ◌&&◌, ◌⊎◌, if◌then◌else◌, nat_lt, count_by, Some, List, [], ◌∷◌, ◌++◌}
+use Rattle.zk_base.specs.declared.ids.Who.{Who}
+use Rattle.zk_base.specs.declared.ids.Entry.{Entry}
+use Rattle.zk_base.specs.declared.waits.Waiter.{Waiter}
+use Rattle.zk_base.specs.History.{IsEntry}
+use Rattle.zk_base.specs.Legal.{state_after, IsLegal}
+use Rattle.zk_base.specs.WaitLaws.{EachWaitHasItsOpening, EndTellsItsDecision, QuitTellsItsDecision, MayEndOnceDecided, MayQuitUntilEnded}
+use Rattle.zk_model_wait.specs.SemWaits.{takers}
+use Rattle.zk_model_wait.specs.declared.sem.SemOp.{SemOp}
+use Rattle.zk_model_wait.specs.declared.sem.SemOp.TheVariants as ops
+use Rattle.zk_model_wait.specs.declared.sem.SemReply.{SemReply}
+use Rattle.zk_model_wait.specs.declared.sem.SemReply.TheVariants.{Got, Busy, Wait, Again, Done, Number}
+use Rattle.zk_model_wait.specs.Sem.{Sem, new_sem, take_reply, sem_reply, sem_next, sem_machine}
+
+-- a history of a semaphore
+abbrev pub SemHistory : Type 0
+SemHistory = List (Entry SemOp SemReply)
+
+-- the semaphore after a history, from a first state on
+abbrev pub sem_after_all : Sem → SemHistory → Sem
+sem_after_all s h = state_after sem_machine s h
+
+-- it holds of each legal history of each semaphore, whatever its first count and its limit
+abbrev pub OfEachSem : (Sem → SemHistory → Type 0) → Type 0
+OfEachSem P = (initial limit : ℕ) → initial ≤ limit → (h : SemHistory) →
+    IsLegal sem_machine (new_sem initial limit) h → P (new_sem initial limit) h
+
+-- the reply tells its caller that it has taken one
+abbrev pub is_got : SemReply → Bool
+is_got Got = true
+is_got reply = false
+
+-- the operation gives one
+abbrev pub gives_one : SemOp → Bool
+gives_one ops.Give = true
+gives_one _ = false
+
+-- the entry gives one
+abbrev pub is_give : Entry SemOp SemReply → Bool
+is_give e = gives_one e.op
+
+-- the entry tells its caller that it has taken one
+abbrev pub takes_one : Entry SemOp SemReply → Bool
+takes_one e = is_got e.reply
+
+-- how many are decided to have taken one and haven't been told
+abbrev pub held : Sem → ℕ
+held s = count_by (λ d. is_got d.answer) s.takers.decided
+
+-- what is thrown away by an operation: a reset throws the count away, and a give its one where nobody waits and the count is at its limit
+abbrev pub wasted_at : List (Waiter Unit) → Sem → ℕ
+wasted_at [] s = if nat_lt s.count s.limit then 0 else 1
+wasted_at (w ∷ ws) s = 0
+
+abbrev pub thrown_away : Sem → SemOp → ℕ
+thrown_away s ops.Reset = s.count
+thrown_away s ops.Give = wasted_at s.takers.waiting s
+thrown_away s op = 0
+
+-- all that is thrown away along a history
+abbrev pub all_thrown_away : Sem → SemHistory → ℕ
+all_thrown_away s [] = 0
+all_thrown_away s (e ∷ es) = thrown_away s e.op + all_thrown_away (sem_next s e.who e.op) es
+
+-- Each of what follows is said of one history, from its first state on.
+
+-- the count is never above the limit
+abbrev pub CountWithinLimit : Sem → SemHistory → Type 0
+CountWithinLimit s h = (sem_after_all s h).count ≤ s.limit
+
+-- nobody waits while the count is above 0
+abbrev pub NoneWaitsWhileCount : Sem → SemHistory → Type 0
+NoneWaitsWhileCount s h = 0 < (sem_after_all s h).count → (sem_after_all s h).takers.waiting ≡ []
+
+-- gives add up: the first count and all that was given are what was taken, what is taken and not told yet, the count, and what was thrown away
+abbrev pub GivesAddUp : Sem → SemHistory → Type 0
+GivesAddUp s h =
+    s.count + count_by is_give h
+    ≡ count_by takes_one h + held (sem_after_all s h) + (sem_after_all s h).count + all_thrown_away s h
+
+-- no more is taken than there was at first and was given
+abbrev pub GotWithinGives : Sem → SemHistory → Type 0
+GotWithinGives s h = count_by takes_one h ≤ s.count + count_by is_give h
+
+-- a take is answered at once where the count is above 0. Else it waits, or is told so
+abbrev pub TakeWaitsOnlyAtZero : Sem → SemHistory → Type 0
+TakeWaitsOnlyAtZero s h = (front : SemHistory) (e : Entry SemOp SemReply) (waits : Bool) → IsEntry h front e →
+    e.op ≡ ops.Take waits → e.reply ≡ take_reply (sem_after_all s front).count waits
+
+-- a count is told as it is
+abbrev pub CountTellsTheCount : Sem → SemHistory → Type 0
+CountTellsTheCount s h = (front : SemHistory) (e : Entry SemOp SemReply) → IsEntry h front e →
+    e.op ≡ ops.Count → e.reply ≡ Number (sem_after_all s front).count
+
+-- after a reset the count is 0 and nobody waits
+abbrev pub ResetEndsEveryWait : Sem → SemHistory → Type 0
+ResetEndsEveryWait s h = (front : SemHistory) (e : Entry SemOp SemReply) → IsEntry h front e → e.op ≡ ops.Reset →
+    ((sem_after_all s (front ++ e ∷ [])).count ≡ 0) × ((sem_after_all s (front ++ e ∷ [])).takers.waiting ≡ [])
+
+-- the operation ends a wait, or gives one up
+abbrev pub ends_wait : SemOp → Bool
+ends_wait (ops.TakeEnd place) = true
+ends_wait (ops.TakeQuit place) = true
+ends_wait _ = false
+
+-- a take, a give, a reset and a question for the count are possible at any time
+abbrev pub MayAlways : Sem → SemHistory → Type 0
+MayAlways s h = (who : Who) (op : SemOp) → ends_wait op ≡ false →
+    (reply : SemReply) × (sem_reply (sem_after_all s h) who op ≡ Some reply)
+
+-- a give and a reset are told that they are done
+abbrev pub GiveIsDone : Sem → SemHistory → Type 0
+GiveIsDone s h = (front : SemHistory) (e : Entry SemOp SemReply) → IsEntry h front e →
+    (e.op ≡ ops.Give) ⊎ (e.op ≡ ops.Reset) → e.reply ≡ Done
+
+-- the laws of a semaphore: its count, what its calls are told, and its waits
+pub record KeepsSemLaws (s : Sem) (h : SemHistory) : Type 0 where
+  pub within : CountWithinLimit s h
+  pub none_waits : NoneWaitsWhileCount s h
+  pub add_up : GivesAddUp s h
+  pub got : GotWithinGives s h
+  pub takes : TakeWaitsOnlyAtZero s h
+  pub told : CountTellsTheCount s h
+  pub reset : ResetEndsEveryWait s h
+  pub always : MayAlways s h
+  pub done : GiveIsDone s h
+  pub opened : EachWaitHasItsOpening sem_machine takers s h
+  pub ends : EndTellsItsDecision sem_machine takers s h
+  pub quits : QuitTellsItsDecision sem_machine takers s h
+  pub may_end : MayEndOnceDecided sem_machine takers s h
+  pub may_quit : MayQuitUntilEnded sem_machine takers s h

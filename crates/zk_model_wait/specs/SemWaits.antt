@@ -1,0 +1,40 @@
+use Rattle.std.specs.Prelude.{ℕ, Bool, true, Option, Some, None}
+use Rattle.zk_base.specs.WaitLaws.{Decides, nobody, first, all, WaitKind}
+use Rattle.zk_model_wait.specs.declared.sem.SemOp.{SemOp}
+use Rattle.zk_model_wait.specs.declared.sem.SemOp.TheVariants as ops
+use Rattle.zk_model_wait.specs.declared.sem.SemReply.{SemReply}
+use Rattle.zk_model_wait.specs.declared.sem.SemReply.TheVariants.{Got, Wait, Again}
+use Rattle.zk_model_wait.specs.Sem.{Sem}
+
+-- a take that is told to wait opens a wait
+abbrev pub take_opens : SemOp → SemReply → Option Unit
+take_opens (ops.Take waits) Wait = Some tt
+take_opens op reply = None
+
+-- the place of the wait that is ended
+abbrev pub take_ends : SemOp → Option ℕ
+take_ends (ops.TakeEnd place) = Some place
+take_ends op = None
+
+-- and of the one that is given up
+abbrev pub take_quits : SemOp → Option ℕ
+take_quits (ops.TakeQuit place) = Some place
+take_quits op = None
+
+-- a give decides the first who waits, and a reset decides all
+abbrev pub take_decides : Sem → SemOp → SemReply → Decides SemReply
+take_decides s ops.Give reply = first Got
+take_decides s ops.Reset reply = all Again
+take_decides s op reply = nobody
+
+-- who waits to take a semaphore
+abbrev pub takers : WaitKind Sem SemOp SemReply Unit
+takers = record {
+  waits = λ s. s.takers;
+  entries = λ s. s.entries;
+  opens = take_opens;
+  ends = take_ends;
+  quits = take_quits;
+  gives_up = Again;
+  decides = take_decides;
+}

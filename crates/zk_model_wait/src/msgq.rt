@@ -1,0 +1,362 @@
+ghost use Rattle.std.specs.Prelude.{◌≡◌, true, false, ◌+◌, ◌-◌, ◌^◌, ◌<◌, ◌≤◌, ◌++◌, ◌∷◌, [], Some, length, IsOk, IfOk, OnOk, OnErr};
+ghost use Rattle.circular_buffer.specs.Buffer.{buffer};
+ghost use Rattle.zk_base.specs.declared.ids.Who.{Who};
+ghost use Rattle.zk_base.specs.History.{AddsNone};
+ghost use Rattle.zk_model_wait.specs.Msgq.{new_msgq, peek_reply, moved_in, only_looks, msgq_reply, msgq_after, may_wait, open_calls};
+
+use circular_buffer::HeapCircularBuffer;
+use std::alloc::Global;
+use std::marker::Model;
+use zk_base::{Msg, NoMemory, WaitList, Waiter, Who};
+
+/// What can be asked of a message queue.
+#[derive(Clone, Copy, Debug)]
+pub enum MsgqOp {
+    /// Puts a message in. Where the queue is full the caller waits, if this is true. Zephyr's `k_msgq_put`.
+    Put(Msg, bool),
+    /// Ends a put of the caller that waited and is decided: the one that the entry of this place began.
+    PutEnd(u64),
+    /// Gives a put of the caller up, decided or not: the one that the entry of this place began.
+    PutQuit(u64),
+    /// Takes the oldest message. Where there is none the caller waits, if this is true. Zephyr's `k_msgq_get`.
+    Get(bool),
+    /// Ends a get of the caller that waited and is decided: the one that the entry of this place began.
+    GetEnd(u64),
+    /// Gives a get of the caller up, decided or not: the one that the entry of this place began.
+    GetQuit(u64),
+    /// Reads the oldest message, which stays. Zephyr's `k_msgq_peek`.
+    Peek,
+    /// Reads the message of this index, from 0 for the oldest, which stays. Zephyr's `k_msgq_peek_at`.
+    PeekAt(u32),
+    /// Discards all messages, and ends all puts that wait. Zephyr's `k_msgq_purge`.
+    Purge,
+    /// Asks how many messages there are. Zephyr's `k_msgq_num_used_get`.
+    Used,
+    /// Asks for how many more there is room. Zephyr's `k_msgq_num_free_get`.
+    Free,
+}
+
+/// What a message queue answers.
+#[derive(Clone, Copy, Debug)]
+pub enum MsgqReply {
+    /// It is done.
+    Done,
+    /// There is no message, or no room for one, and the caller doesn't wait; or its put was purged.
+    NoMsg,
+    /// There is no message, or no room for one, and the caller waits.
+    Wait,
+    /// The wait was given up.
+    Again,
+    /// The message.
+    Bytes(Msg),
+    /// How many.
+    Number(u32),
+}
+
+/// The state of a message queue's machine, with the memory that it has for waits.
+#[derive(Drop)]
+pub struct MsgqStore {
+    entries: u64,
+    // The oldest message at the front. It has its room from the start.
+    ring: HeapCircularBuffer<Msg>,
+    puts: WaitList<Msg, MsgqReply>,
+    gets: WaitList<(), MsgqReply>,
+}
+
+impl Model for MsgqStore {
+    ghost use Rattle.std.specs.Prelude.{min};
+    ghost use Rattle.zk_model_wait.specs.Msgq.{MsgqView, IsWithin};
+
+    ghost Value = { MsgqView };
+
+    ghost view = { λ s. record {
+      msgq = record { most = s.ring.capacity; entries = s.entries; messages = s.ring.items; puts = s.puts.waits; gets = s.gets.waits };
+      room = min s.puts.room s.gets.room;
+    } };
+
+    ghost invariant = { λ s. IsWithin (record { most = s.ring.capacity; entries = s.entries; messages = s.ring.items; puts = s.puts.waits; gets = s.gets.waits }) };
+}
+
+/// The state of a message queue's machine alone, which contracts see as its definition has it.
+#[derive(Drop)]
+pub struct MsgqState {
+    store: MsgqStore,
+}
+
+impl Model for MsgqState {
+    ghost use Rattle.zk_model_wait.specs.Msgq.{Msgq};
+
+    ghost Value = { Msgq };
+
+    ghost view = { λ s. s.store.msgq };
+}
+
+impl MsgqState {
+    /// A message queue before the first entry, for so many messages.
+    pub fn new(alloc: Global, most: u32) -> Result<MsgqState, NoMemory>
+        requires { most ≤ 256 }
+        ensures { IfOk result (λ state. state ≡ new_msgq most) }
+    {
+        Ok(MsgqState {
+            store: MsgqStore::new(alloc, most)?,
+        })
+    }
+}
+
+/// One message more behind the others, for which there is room.
+fn append(ring: &mut HeapCircularBuffer<Msg>, message: Msg)
+    requires { length ring.old.items < ring.old.capacity }
+    ensures { ring.new ≡ buffer (ring.old.items ++ message ∷ []) ring.old.capacity }
+{
+    ring.push_back(message);
+}
+
+impl MsgqStore {
+    /// A message queue before the first entry, for so many messages.
+    pub fn new(alloc: Global, most: u32) -> Result<MsgqStore, NoMemory>
+        requires { most ≤ 256 }
+        ensures { IfOk result (λ store. store.msgq ≡ new_msgq most) }
+    {
+        Ok(MsgqStore {
+            entries: 0,
+            ring: HeapCircularBuffer::with_capacity(alloc, most as usize)?,
+            puts: WaitList::new(alloc),
+            gets: WaitList::new(alloc),
+        })
+    }
+
+    /// How many waits there are that haven't ended.
+    pub fn open(&self) -> u64
+        ensures { result ≡ open_calls self.now.msgq }
+    {
+        self.puts.open() + self.gets.open()
+    }
+
+    /// Makes room for so many waits.
+    pub fn reserve(&mut self, more: usize) -> Result<(), NoMemory>
+        ensures room { IfOk result (λ _. more ≤ self.new.room) }
+        ensures more { self.old.room ≤ self.new.room }
+        ensures same { self.new.msgq ≡ self.old.msgq }
+    {
+        self.puts.reserve(more)?;
+        self.gets.reserve(more)
+    }
+
+    /// How many waits it takes without memory.
+    pub fn room(&self) -> u64
+        ensures { result ≡ self.now.room }
+    {
+        self.puts.room().min(self.gets.room())
+    }
+
+    fn put(&mut self, who: Who, message: Msg, waits: bool) -> Result<Option<MsgqReply>, NoMemory>
+        requires { self.old.msgq.entries < 2 ^ 32 - 1 }
+        ensures reply { IfOk result (λ reply.
+            reply ≡ msgq_reply self.old.msgq who (MsgqOp.Put message waits)) }
+        ensures next { IfOk result (λ reply.
+            self.new.msgq ≡ msgq_after self.old.msgq who (MsgqOp.Put message waits) reply) }
+        ensures unchanged { OnErr result (self.new.msgq ≡ self.old.msgq) }
+        ensures memory { waits ≡ false → IsOk result }
+        ensures roomy { 1 ≤ self.old.room → IsOk result }
+        ensures room { self.old.room ≤ self.new.room + 1 }
+        ensures kept { AddsNone result → self.old.room ≤ self.new.room }
+    {
+        let mut reply = MsgqReply::Done;
+        if self.gets.first().is_some() {
+            self.gets.decide_first(MsgqReply::Bytes(message));
+        } else if !self.ring.is_full() {
+            append(&mut self.ring, message);
+        } else if waits {
+            self.puts.join(Waiter {
+                place: self.entries,
+                who,
+                matter: message,
+            })?;
+            reply = MsgqReply::Wait;
+        } else {
+            reply = MsgqReply::NoMsg;
+        }
+        self.entries += 1;
+        Ok(Some(reply))
+    }
+
+    fn put_end(&mut self, who: Who, place: u64) -> Option<MsgqReply>
+        requires { self.old.msgq.entries < 2 ^ 32 - 1 }
+        ensures reply { result ≡ msgq_reply self.old.msgq who (MsgqOp.PutEnd place) }
+        ensures next { self.new.msgq ≡ msgq_after self.old.msgq who (MsgqOp.PutEnd place) result }
+        ensures room { self.old.room ≤ self.new.room }
+    {
+        let reply = self.puts.end(who.number, place)?;
+        self.entries += 1;
+        Some(reply)
+    }
+
+    fn put_quit(&mut self, who: Who, place: u64) -> Option<MsgqReply>
+        requires { self.old.msgq.entries < 2 ^ 32 - 1 }
+        ensures reply { result ≡ msgq_reply self.old.msgq who (MsgqOp.PutQuit place) }
+        ensures next { self.new.msgq ≡ msgq_after self.old.msgq who (MsgqOp.PutQuit place) result }
+        ensures room { self.old.room ≤ self.new.room }
+    {
+        let reply = self.puts.quit(who.number, place, MsgqReply::Again)?;
+        self.entries += 1;
+        Some(reply)
+    }
+
+    /// The message of the first put that waits moves in.
+    fn move_in(&mut self)
+        requires { length self.old.msgq.messages < self.old.msgq.most }
+        ensures next { self.new.msgq ≡ moved_in self.old.msgq.puts.waiting self.old.msgq }
+        ensures room { self.old.room ≤ self.new.room }
+    {
+        if let Some(first) = self.puts.first() {
+            append(&mut self.ring, first.matter);
+            self.puts.decide_first(MsgqReply::Done);
+        }
+    }
+
+    fn get(&mut self, who: Who, waits: bool) -> Result<Option<MsgqReply>, NoMemory>
+        requires { self.old.msgq.entries < 2 ^ 32 - 1 }
+        ensures reply { IfOk result (λ reply. reply ≡ msgq_reply self.old.msgq who (MsgqOp.Get waits)) }
+        ensures next { IfOk result (λ reply.
+            self.new.msgq ≡ msgq_after self.old.msgq who (MsgqOp.Get waits) reply) }
+        ensures unchanged { OnErr result (self.new.msgq ≡ self.old.msgq) }
+        ensures memory { waits ≡ false → IsOk result }
+        ensures roomy { 1 ≤ self.old.room → IsOk result }
+        ensures room { self.old.room ≤ self.new.room + 1 }
+        ensures kept { AddsNone result → self.old.room ≤ self.new.room }
+    {
+        let Some(message) = self.ring.pop_front() else {
+            return self.get_at_none(who, waits);
+        };
+        self.move_in();
+        self.entries += 1;
+        Ok(Some(MsgqReply::Bytes(message)))
+    }
+
+    /// A get where there is no message.
+    fn get_at_none(&mut self, who: Who, waits: bool) -> Result<Option<MsgqReply>, NoMemory>
+        requires few { self.old.msgq.entries < 2 ^ 32 - 1 }
+        requires none { self.old.msgq.messages ≡ [] }
+        ensures reply { IfOk result (λ reply. reply ≡ msgq_reply self.old.msgq who (MsgqOp.Get waits)) }
+        ensures next { IfOk result (λ reply.
+            self.new.msgq ≡ msgq_after self.old.msgq who (MsgqOp.Get waits) reply) }
+        ensures unchanged { OnErr result (self.new.msgq ≡ self.old.msgq) }
+        ensures memory { waits ≡ false → IsOk result }
+        ensures roomy { 1 ≤ self.old.room → IsOk result }
+        ensures room { self.old.room ≤ self.new.room + 1 }
+        ensures kept { AddsNone result → self.old.room ≤ self.new.room }
+    {
+        let mut reply = MsgqReply::NoMsg;
+        if waits {
+            self.gets.join(Waiter {
+                place: self.entries,
+                who,
+                matter: (),
+            })?;
+            reply = MsgqReply::Wait;
+        }
+        self.entries += 1;
+        Ok(Some(reply))
+    }
+
+    fn get_end(&mut self, who: Who, place: u64) -> Option<MsgqReply>
+        requires { self.old.msgq.entries < 2 ^ 32 - 1 }
+        ensures reply { result ≡ msgq_reply self.old.msgq who (MsgqOp.GetEnd place) }
+        ensures next { self.new.msgq ≡ msgq_after self.old.msgq who (MsgqOp.GetEnd place) result }
+        ensures room { self.old.room ≤ self.new.room }
+    {
+        let reply = self.gets.end(who.number, place)?;
+        self.entries += 1;
+        Some(reply)
+    }
+
+    fn get_quit(&mut self, who: Who, place: u64) -> Option<MsgqReply>
+        requires { self.old.msgq.entries < 2 ^ 32 - 1 }
+        ensures reply { result ≡ msgq_reply self.old.msgq who (MsgqOp.GetQuit place) }
+        ensures next { self.new.msgq ≡ msgq_after self.old.msgq who (MsgqOp.GetQuit place) result }
+        ensures room { self.old.room ≤ self.new.room }
+    {
+        let reply = self.gets.quit(who.number, place, MsgqReply::Again)?;
+        self.entries += 1;
+        Some(reply)
+    }
+
+    fn purge(&mut self, who: Who) -> MsgqReply
+        requires { self.old.msgq.entries < 2 ^ 32 - 1 }
+        ensures reply { Some result ≡ msgq_reply self.old.msgq who MsgqOp.Purge }
+        ensures next { self.new.msgq ≡ msgq_after self.old.msgq who MsgqOp.Purge (Some result) }
+        ensures room { self.old.room ≤ self.new.room }
+    {
+        self.ring.clear();
+        self.puts.decide_all(MsgqReply::NoMsg);
+        self.entries += 1;
+        MsgqReply::Done
+    }
+
+    /// The message of an index, which stays.
+    fn peek(&self, index: u32) -> MsgqReply
+        ensures { result ≡ peek_reply self.now.msgq index }
+    {
+        match self.ring.get(index as usize) {
+            Some(message) => MsgqReply::Bytes(*message),
+            None => MsgqReply::NoMsg,
+        }
+    }
+
+    /// An operation that only looks is counted.
+    fn count(&mut self)
+        requires { self.old.msgq.entries < 2 ^ 32 - 1 }
+        ensures next { self.new.msgq ≡ record self.old.msgq { entries = self.old.msgq.entries + 1 } }
+        ensures room { self.old.room ≤ self.new.room }
+    {
+        self.entries += 1;
+    }
+
+    /// What an operation that changes nothing answers.
+    fn look(&self, op: &MsgqOp) -> MsgqReply
+        requires looks { only_looks op.now ≡ true }
+        ensures { (who : Who) → Some result ≡ msgq_reply self.now.msgq who op.now }
+    {
+        match *op {
+            MsgqOp::PeekAt(index) => self.peek(index),
+            MsgqOp::Used => MsgqReply::Number(self.ring.len() as u32),
+            MsgqOp::Free => MsgqReply::Number((self.ring.capacity() - self.ring.len()) as u32),
+            _ => self.peek(0),
+        }
+    }
+}
+
+/// One operation of a message queue's machine: its reply and its next state.
+///
+/// `None` says that the operation isn't possible now. Only a `Put` and a `Get` that wait take memory.
+pub fn msgq_next(
+    store: &mut MsgqStore,
+    who: Who,
+    op: &MsgqOp,
+) -> Result<Option<MsgqReply>, NoMemory>
+    requires { store.old.msgq.entries < 2 ^ 32 - 1 }
+    ensures reply { IfOk result (λ reply. reply ≡ msgq_reply store.old.msgq who op.now) }
+    ensures next { IfOk result (λ reply. store.new.msgq ≡ msgq_after store.old.msgq who op.now reply) }
+    ensures unchanged { OnErr result (store.new.msgq ≡ store.old.msgq) }
+
+    // Memory: one place is enough, and is taken only by a wait that begins.
+    ensures memory { may_wait op.now ≡ false → IsOk result }
+    ensures roomy { 1 ≤ store.old.room → IsOk result }
+    ensures room { store.old.room ≤ store.new.room + 1 }
+    ensures kept { AddsNone result → store.old.room ≤ store.new.room }
+{
+    match *op {
+        MsgqOp::Put(message, waits) => store.put(who, message, waits),
+        MsgqOp::PutEnd(place) => Ok(store.put_end(who, place)),
+        MsgqOp::PutQuit(place) => Ok(store.put_quit(who, place)),
+        MsgqOp::Get(waits) => store.get(who, waits),
+        MsgqOp::GetEnd(place) => Ok(store.get_end(who, place)),
+        MsgqOp::GetQuit(place) => Ok(store.get_quit(who, place)),
+        MsgqOp::Purge => Ok(Some(store.purge(who))),
+        MsgqOp::Peek | MsgqOp::PeekAt(_) | MsgqOp::Used | MsgqOp::Free => {
+            let reply = store.look(op);
+            store.count();
+            Ok(Some(reply))
+        }
+    }
+}

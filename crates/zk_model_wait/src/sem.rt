@@ -1,0 +1,243 @@
+ghost use Rattle.std.specs.Prelude.{◌≡◌, true, false, ◌+◌, ◌-◌, ◌^◌, ◌<◌, ◌≤◌, Some, IsOk, IfOk, OnOk, OnErr};
+ghost use Rattle.zk_base.specs.History.{AddsNone};
+ghost use Rattle.zk_model_wait.specs.Sem.{new_sem, sem_reply, sem_after, may_wait, open_takes};
+
+use std::alloc::Global;
+use std::marker::Model;
+use zk_base::{NoMemory, WaitList, Waiter, Who};
+
+/// What can be asked of a semaphore.
+#[derive(Clone, Copy, Debug)]
+pub enum SemOp {
+    /// Takes one off the count. At 0 the caller waits, where this is true. Zephyr's `k_sem_take`.
+    Take(bool),
+    /// Ends a wait of the caller that is decided: the one that the entry of this place began.
+    TakeEnd(u64),
+    /// Gives a wait of the caller up, decided or not: the one that the entry of this place began.
+    TakeQuit(u64),
+    /// Gives one to the first who waits, or to the count. Zephyr's `k_sem_give`.
+    Give,
+    /// Sets the count to 0 and ends all waits. Zephyr's `k_sem_reset`.
+    Reset,
+    /// Asks for the count. Zephyr's `k_sem_count_get`.
+    Count,
+}
+
+/// What a semaphore answers.
+#[derive(Clone, Copy, Debug, PartialEq, Eq)]
+pub enum SemReply {
+    /// The caller has taken one.
+    Got,
+    /// The count is 0, and the caller doesn't wait.
+    Busy,
+    /// The count is 0, and the caller waits.
+    Wait,
+    /// The wait ended without one: it was reset, or given up.
+    Again,
+    /// It is done.
+    Done,
+    /// The count.
+    Number(u32),
+}
+
+/// The state of a semaphore's machine, with the memory that it has for waits.
+#[derive(Drop)]
+pub struct SemStore {
+    count: u32,
+    limit: u32,
+    entries: u64,
+    takers: WaitList<(), SemReply>,
+}
+
+impl Model for SemStore {
+    ghost use Rattle.zk_model_wait.specs.Sem.{SemView, IsCounted};
+
+    ghost Value = { SemView };
+
+    ghost view = { λ s. record {
+      sem = record { count = s.count; limit = s.limit; entries = s.entries; takers = s.takers.waits };
+      room = s.takers.room;
+    } };
+
+    ghost invariant = { λ s. IsCounted (record { count = s.count; limit = s.limit; entries = s.entries; takers = s.takers.waits }) };
+}
+
+/// The state of a semaphore's machine alone, which contracts see as its definition has it.
+#[derive(Drop)]
+pub struct SemState {
+    store: SemStore,
+}
+
+impl Model for SemState {
+    ghost use Rattle.zk_model_wait.specs.Sem.{Sem};
+
+    ghost Value = { Sem };
+
+    ghost view = { λ s. s.store.sem };
+}
+
+impl SemState {
+    /// A semaphore before the first entry. It takes no memory.
+    pub fn new(alloc: Global, initial: u32, limit: u32) -> SemState
+        requires { initial ≤ limit }
+        ensures { result ≡ new_sem initial limit }
+    {
+        SemState {
+            store: SemStore::new(alloc, initial, limit),
+        }
+    }
+}
+
+impl SemStore {
+    /// A semaphore before the first entry. It takes no memory.
+    pub fn new(alloc: Global, initial: u32, limit: u32) -> SemStore
+        requires { initial ≤ limit }
+        ensures { result.sem ≡ new_sem initial limit }
+    {
+        SemStore {
+            count: initial,
+            limit,
+            entries: 0,
+            takers: WaitList::new(alloc),
+        }
+    }
+
+    /// How many waits there are that haven't ended.
+    pub fn open(&self) -> u64
+        ensures { result ≡ open_takes self.now.sem }
+    {
+        self.takers.open()
+    }
+
+    /// Makes room for so many waits.
+    pub fn reserve(&mut self, more: usize) -> Result<(), NoMemory>
+        ensures room { IfOk result (λ _. more ≤ self.new.room) }
+        ensures more { self.old.room ≤ self.new.room }
+        ensures same { self.new.sem ≡ self.old.sem }
+    {
+        self.takers.reserve(more)
+    }
+
+    /// How many waits it takes without memory.
+    pub fn room(&self) -> u64
+        ensures { result ≡ self.now.room }
+    {
+        self.takers.room()
+    }
+
+    fn take(&mut self, who: Who, waits: bool) -> Result<Option<SemReply>, NoMemory>
+        requires { self.old.sem.entries < 2 ^ 32 - 1 }
+        ensures reply { IfOk result (λ reply. reply ≡ sem_reply self.old.sem who (SemOp.Take waits)) }
+        ensures next { IfOk result (λ reply.
+            self.new.sem ≡ sem_after self.old.sem who (SemOp.Take waits) reply) }
+        ensures unchanged { OnErr result (self.new.sem ≡ self.old.sem) }
+        ensures memory { waits ≡ false → IsOk result }
+        ensures roomy { 1 ≤ self.old.room → IsOk result }
+        ensures room { self.old.room ≤ self.new.room + 1 }
+        ensures kept { AddsNone result → self.old.room ≤ self.new.room }
+    {
+        let mut reply = SemReply::Got;
+        if self.count > 0 {
+            self.count -= 1;
+        } else if waits {
+            self.takers.join(Waiter {
+                place: self.entries,
+                who,
+                matter: (),
+            })?;
+            reply = SemReply::Wait;
+        } else {
+            reply = SemReply::Busy;
+        }
+        self.entries += 1;
+        Ok(Some(reply))
+    }
+
+    fn take_end(&mut self, who: Who, place: u64) -> Option<SemReply>
+        requires { self.old.sem.entries < 2 ^ 32 - 1 }
+        ensures reply { result ≡ sem_reply self.old.sem who (SemOp.TakeEnd place) }
+        ensures next { self.new.sem ≡ sem_after self.old.sem who (SemOp.TakeEnd place) result }
+        ensures room { self.old.room ≤ self.new.room }
+    {
+        let reply = self.takers.end(who.number, place)?;
+        self.entries += 1;
+        Some(reply)
+    }
+
+    fn take_quit(&mut self, who: Who, place: u64) -> Option<SemReply>
+        requires { self.old.sem.entries < 2 ^ 32 - 1 }
+        ensures reply { result ≡ sem_reply self.old.sem who (SemOp.TakeQuit place) }
+        ensures next { self.new.sem ≡ sem_after self.old.sem who (SemOp.TakeQuit place) result }
+        ensures room { self.old.room ≤ self.new.room }
+    {
+        let reply = self.takers.quit(who.number, place, SemReply::Again)?;
+        self.entries += 1;
+        Some(reply)
+    }
+
+    fn give(&mut self, who: Who) -> SemReply
+        requires { self.old.sem.entries < 2 ^ 32 - 1 }
+        ensures reply { Some result ≡ sem_reply self.old.sem who SemOp.Give }
+        ensures next { self.new.sem ≡ sem_after self.old.sem who SemOp.Give (Some result) }
+        ensures room { self.old.room ≤ self.new.room }
+    {
+        match self.takers.first() {
+            Some(_) => self.takers.decide_first(SemReply::Got),
+            None if self.count < self.limit => self.count += 1,
+            None => {}
+        }
+        self.entries += 1;
+        SemReply::Done
+    }
+
+    fn reset(&mut self, who: Who) -> SemReply
+        requires { self.old.sem.entries < 2 ^ 32 - 1 }
+        ensures reply { Some result ≡ sem_reply self.old.sem who SemOp.Reset }
+        ensures next { self.new.sem ≡ sem_after self.old.sem who SemOp.Reset (Some result) }
+        ensures room { self.old.room ≤ self.new.room }
+    {
+        self.count = 0;
+        self.takers.decide_all(SemReply::Again);
+        self.entries += 1;
+        SemReply::Done
+    }
+
+    fn count(&mut self, who: Who) -> SemReply
+        requires { self.old.sem.entries < 2 ^ 32 - 1 }
+        ensures reply { Some result ≡ sem_reply self.old.sem who SemOp.Count }
+        ensures next { self.new.sem ≡ sem_after self.old.sem who SemOp.Count (Some result) }
+        ensures room { self.old.room ≤ self.new.room }
+    {
+        self.entries += 1;
+        SemReply::Number(self.count)
+    }
+}
+
+/// One operation of a semaphore's machine: its reply and its next state.
+///
+/// `None` says that the operation isn't possible now. Only a `Take` that waits takes memory.
+pub fn sem_next(
+    store: &mut SemStore,
+    who: Who,
+    op: &SemOp,
+) -> Result<Option<SemReply>, NoMemory>
+    requires { store.old.sem.entries < 2 ^ 32 - 1 }
+    ensures reply { IfOk result (λ reply. reply ≡ sem_reply store.old.sem who op.now) }
+    ensures next { IfOk result (λ reply. store.new.sem ≡ sem_after store.old.sem who op.now reply) }
+    ensures unchanged { OnErr result (store.new.sem ≡ store.old.sem) }
+
+    // Memory: one place is enough, and is taken only by a wait that begins.
+    ensures memory { may_wait op.now ≡ false → IsOk result }
+    ensures roomy { 1 ≤ store.old.room → IsOk result }
+    ensures room { store.old.room ≤ store.new.room + 1 }
+    ensures kept { AddsNone result → store.old.room ≤ store.new.room }
+{
+    match *op {
+        SemOp::Take(waits) => store.take(who, waits),
+        SemOp::TakeEnd(place) => Ok(store.take_end(who, place)),
+        SemOp::TakeQuit(place) => Ok(store.take_quit(who, place)),
+        SemOp::Give => Ok(Some(store.give(who))),
+        SemOp::Reset => Ok(Some(store.reset(who))),
+        SemOp::Count => Ok(Some(store.count(who))),
+    }
+}

@@ -1,0 +1,41 @@
+ghost use Rattle.zk_base.specs.WaitLaws.{EachWaitHasItsOpening, EndTellsItsDecision, QuitTellsItsDecision, MayEndOnceDecided, MayQuitUntilEnded};
+ghost use Rattle.zk_model_wait.specs.Sem.{Sem, sem_machine};
+ghost use Rattle.zk_model_wait.specs.SemWaits.{takers};
+ghost use Rattle.zk_model_wait.specs.SemLaws.{SemHistory, OfEachSem, CountWithinLimit, NoneWaitsWhileCount, GivesAddUp, GotWithinGives, TakeWaitsOnlyAtZero, CountTellsTheCount, ResetEndsEveryWait, MayAlways, GiveIsDone, KeepsSemLaws};
+
+/// Of every legal history of a semaphore: it loses and invents no count, its count keeps its limit, and nobody waits while the
+/// count is above 0.
+pub fn gives_add_up()
+    ensures add_up { OfEachSem GivesAddUp }
+    ensures got { OfEachSem GotWithinGives }
+    ensures within { OfEachSem CountWithinLimit }
+    ensures none_waits { OfEachSem NoneWaitsWhileCount }
+{}
+
+/// Of every legal history of a semaphore: what each operation is answered, what a reset leaves, and which are possible at any time.
+pub fn calls_are_told()
+    ensures takes { OfEachSem TakeWaitsOnlyAtZero }
+    ensures told { OfEachSem CountTellsTheCount }
+    ensures done { OfEachSem GiveIsDone }
+    ensures reset { (s : Sem) (h : SemHistory) → ResetEndsEveryWait s h }
+    ensures always { (s : Sem) (h : SemHistory) → MayAlways s h }
+{}
+
+/// Of every legal history of a semaphore: who waits has asked for it, the end of a wait is answered its decision, and one who gives
+/// up gets what was decided meanwhile.
+pub fn waits_end()
+    ensures opened { OfEachSem (EachWaitHasItsOpening sem_machine takers) }
+    ensures ends { OfEachSem (EndTellsItsDecision sem_machine takers) }
+    ensures quits { OfEachSem (QuitTellsItsDecision sem_machine takers) }
+    ensures may_end { OfEachSem (MayEndOnceDecided sem_machine takers) }
+    ensures may_quit { OfEachSem (MayQuitUntilEnded sem_machine takers) }
+{}
+
+/// All of it, of every legal history of a semaphore. It does nothing when it runs.
+pub fn keeps_sem_laws()
+    ensures { OfEachSem KeepsSemLaws }
+{
+    gives_add_up();
+    calls_are_told();
+    waits_end();
+}

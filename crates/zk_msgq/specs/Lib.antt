@@ -1,0 +1,5 @@
+pub mod Laws
+pub mod Owed
+pub mod Seen
+pub mod Sizes
+pub mod Tests

@@ -1,0 +1,5 @@
+use Rattle.std.specs.Prelude.{ℕ, Bool, nat_le, ◌&&◌}
+
+-- messages of 1 to 64 bytes, and 1 to 256 of them
+abbrev pub is_size : ℕ → ℕ → Bool
+is_size size most = nat_le 1 size && nat_le size 64 && nat_le 1 most && nat_le most 256

@@ -1,0 +1,10 @@
+//! The message queue service.
+#![tactic(auto)]
+
+mod engine;
+mod msgq;
+
+pub use msgq::Msgq;
+
+#[cfg(test)]
+mod tests;

@@ -1,0 +1,156 @@
+ghost use Rattle.std.specs.Prelude.{◌+◌, ◌<◌, ◌≤◌, length, IfOk};
+ghost use Rattle.zk_msgq.specs.Seen.{msgq_history};
+ghost use Rattle.zk_msgq.specs.Tests.{IsBelow};
+
+use crate::Msgq;
+use std::alloc::Global;
+use std::process::Abort;
+use std::test::*;
+use zk_base::{Msg, NewRefused, NoMemory, Service, Who};
+use zk_model_wait::MsgqOp::{
+    Free, Get, GetEnd, GetQuit, Peek, PeekAt, Purge, Put, PutEnd, PutQuit, Used,
+};
+use zk_model_wait::{MsgqOp, MsgqReply};
+
+/// One attempt: the player and its priority, the operation, and what is answered.
+type Row = (u32, i8, MsgqOp, &'static str);
+
+/// A message of one byte.
+fn message(byte: u8) -> Msg {
+    match Msg::new(&[byte]) {
+        Some(message) => message,
+        None => unreachable!(),
+    }
+}
+
+/// What was answered, in a word and a number.
+fn text(alloc: Global, reply: Option<MsgqReply>) -> Result<String, NoMemory> {
+    match reply {
+        Some(MsgqReply::Bytes(message)) => Ok(format!(in alloc; "{:?}", message.bytes())?),
+        Some(reply) => Ok(format!(in alloc; "{reply:?}")?),
+        None => Ok(format!(in alloc; "none")?),
+    }
+}
+
+/// One attempt, at a step above all earlier ones.
+fn attempt(
+    msgq: &mut Msgq,
+    who: Who,
+    step: u32,
+    op: MsgqOp,
+) -> Result<Option<MsgqReply>, NoMemory>
+    requires below { IsBelow step (msgq_history msgq.old) }
+    requires few { step < 100 }
+    ensures { IfOk result (λ _. IsBelow (step + 1) (msgq_history msgq.new)) }
+{
+    msgq.act(who, step, op)
+}
+
+/// Makes the attempts one after another.
+fn play<R: Abort>(rt: &R, mut msgq: Msgq, alloc: Global, rows: &[Row]) -> Result<usize, Fail>
+    requires few { length rows.now < 100 }
+    requires fresh { IsBelow 0 (msgq_history msgq) }
+{
+    for index in 0..rows.len() {
+        let (number, prio, op, wanted) = rows[index];
+        let reply = attempt(&mut msgq, Who { number, prio }, index as u32, op)?;
+        let told = text(alloc, reply)?;
+        assert_eq!(rt; told.as_str(), wanted, "at {index}");
+    }
+    Ok(msgq.history().len())
+}
+
+/// A full queue: a put waits until a get makes room for its message, the high one first; a purge ends the other.
+#[test]
+fn puts_wait(rt: HostRuntime) -> Result<(), Fail> {
+    let entries = play(
+        &rt,
+        Msgq::new(rt.alloc(), 1, 2)?,
+        rt.alloc(),
+        &[
+            (0, 0, Free, "Number(2)"),
+            (0, 0, Put(message(1), false), "Done"),
+            (0, 0, Put(message(2), true), "Done"),
+            (0, 0, Put(message(3), false), "NoMsg"),
+            (1, 5, Put(message(4), true), "Wait"),
+            (2, 3, Put(message(5), true), "Wait"),
+            (2, 3, PutEnd(5), "none"),
+            (0, 0, Peek, "[1]"),
+            (0, 0, PeekAt(1), "[2]"),
+            (0, 0, PeekAt(2), "NoMsg"),
+            (0, 0, Get(false), "[1]"),
+            (2, 3, PutEnd(5), "Done"),
+            (1, 5, PutEnd(4), "none"),
+            (0, 0, PeekAt(1), "[5]"),
+            (0, 0, Used, "Number(2)"),
+            (0, 0, Purge, "Done"),
+            (1, 5, PutEnd(4), "NoMsg"),
+            (0, 0, Free, "Number(2)"),
+            (0, 0, Get(false), "NoMsg"),
+        ],
+    )?;
+    assert_eq!(&rt; entries, 17);
+    Ok(())
+}
+
+/// An empty queue: gets wait, a put hands its message to the first of them, and one that is given up gets what it was handed.
+#[test]
+fn gets_wait(rt: HostRuntime) -> Result<(), Fail> {
+    let entries = play(
+        &rt,
+        Msgq::new(rt.alloc(), 64, 1)?,
+        rt.alloc(),
+        &[
+            (1, 0, Get(true), "Wait"),
+            (2, 0, Get(true), "Wait"),
+            (3, 0, Get(true), "Wait"),
+            (0, 0, Put(message(7), false), "Done"),
+            (0, 0, Used, "Number(0)"),
+            (2, 0, GetQuit(1), "Again"),
+            (2, 0, GetQuit(1), "none"),
+            (1, 0, GetQuit(0), "[7]"),
+            (0, 0, Put(message(8), false), "Done"),
+            (3, 0, GetEnd(2), "[8]"),
+            (0, 0, Put(message(9), true), "Done"),
+            (0, 0, Put(message(10), true), "Wait"),
+            (0, 0, PutQuit(10), "Again"),
+            (0, 0, Get(false), "[9]"),
+            (0, 0, Get(false), "NoMsg"),
+        ],
+    )?;
+    assert_eq!(&rt; entries, 14);
+    Ok(())
+}
+
+/// Sizes and numbers at their limits, and beside them.
+#[test]
+fn refused(rt: HostRuntime) -> Result<(), Fail> {
+    for (size, most, takes) in [
+        (1, 1, true),
+        (64, 256, true),
+        (0, 1, false),
+        (65, 1, false),
+        (1, 0, false),
+        (1, 257, false),
+    ] {
+        let made = Msgq::new(rt.alloc(), size, most);
+        assert_eq!(&rt; made.is_ok(), takes);
+        if let Err(refused) = made {
+            assert_eq!(&rt; refused, NewRefused::Inval);
+        }
+    }
+    Ok(())
+}
+
+/// Room for three entries lets a wait begin, and all that was done is handed out.
+#[test]
+fn room(rt: HostRuntime) -> Result<(), Fail> {
+    let mut msgq = Msgq::new(rt.alloc(), 4, 1)?;
+    msgq.reserve()?;
+    assert!(&rt; msgq.room() >= 3);
+    let reply = msgq.act(Who { number: 0, prio: 0 }, 0, Get(true))?;
+    let told = text(rt.alloc(), reply)?;
+    assert_eq!(&rt; told.as_str(), "Wait");
+    assert_eq!(&rt; msgq.into_history().len(), 1);
+    Ok(())
+}

@@ -1,0 +1,10 @@
+//! The semaphore service.
+#![tactic(auto)]
+
+mod engine;
+mod sem;
+
+pub use sem::Sem;
+
+#[cfg(test)]
+mod tests;

@@ -1,0 +1,81 @@
+ghost use Rattle.std.specs.Prelude.{◌≡◌, ◌<◌, ◌⊎◌, ◌↔◌, [], IsErr, IfErr, IfOk};
+ghost use Rattle.zk_model_wait.specs.Sem.{new_sem};
+ghost use Rattle.zk_sem.specs.Seen.{sem_start, sem_history};
+
+use crate::engine::SemEngine;
+use std::alloc::Global;
+use zk_base::{Entry, Errno, NoMemory, Recorded, Service, Who};
+use zk_model_wait::{SemOp, SemReply, SemState};
+
+/// A semaphore, with its history. Zephyr's `k_sem`.
+#[derive(Drop)]
+pub struct Sem {
+    inner: Recorded<SemEngine>,
+}
+
+impl Sem {
+    /// A semaphore before the first entry, at this count, which never passes the limit. Zephyr's `k_sem_init`. It takes no memory.
+    ///
+    /// The answer is `Inval` where the limit is 0 or the count is above it.
+    pub fn new(alloc: Global, initial: u32, limit: u32) -> Result<Sem, Errno>
+        ensures start { IfOk result (λ sem. sem_start sem ≡ new_sem initial limit) }
+        ensures history { IfOk result (λ sem. sem_history sem ≡ []) }
+        ensures refused { IsErr result ↔ ((limit ≡ 0) ⊎ (limit < initial)) }
+        ensures inval { IfErr result (λ errno. errno ≡ Errno.Inval) }
+    {
+        if limit == 0 || limit < initial {
+            return Err(Errno::Inval);
+        }
+        let start = SemState::new(alloc, initial, limit);
+        let engine = SemEngine::new(alloc, initial, limit);
+        Ok(Sem {
+            inner: Recorded::new(alloc, start, engine),
+        })
+    }
+}
+
+impl Service for Sem {
+    type Op = SemOp;
+
+    type Reply = SemReply;
+
+    type State = SemState;
+
+    ghost use Rattle.std.specs.Prelude.{false};
+    ghost use Rattle.zk_model_wait.specs.Sem.{sem_machine};
+    ghost use Rattle.zk_sem.specs.Owed.{sem_closes};
+    ghost use Rattle.zk_sem.specs.Seen.{sem_start, sem_history};
+
+    ghost machine = { sem_machine };
+
+    ghost start = { sem_start };
+
+    ghost history = { sem_history };
+
+    ghost room = { λ s. s.inner.room };
+
+    ghost closes = { λ s who op. sem_closes op };
+
+    ghost grows = { λ op. false };
+
+    fn act(&mut self, who: Who, step: u32, op: SemOp) -> Result<Option<SemReply>, NoMemory> {
+        self.inner.act(who, step, op)
+    }
+
+    fn reserve(&mut self) -> Result<(), NoMemory> {
+        self.inner.reserve()
+    }
+
+    fn room(&self) -> u64 {
+        self.inner.room()
+    }
+
+    fn history(&self) -> &[Entry<SemOp, SemReply>] {
+        self.inner.history()
+    }
+
+    fn into_history(self) -> Vec<Entry<SemOp, SemReply>> {
+        let Sem { inner } = self;
+        inner.into_history()
+    }
+}
