@@ -14,7 +14,7 @@ use Rattle.zk_words.specs.Spelled.{part_is_spelled, part_is_later}
 use Rattle.zk_words.specs.Table.{heads, row_of}
 use Rattle.zk_words.specs.Text.{line_text}
 use Rattle.zk_words.specs.Unbuilt.{is_unbuilt}
-use Rattle.zk_words.specs.Words.{words_of}
+use Rattle.zk_words.specs.Pieces.{words_of}
 use Rattle.zk_words.proofs.Placed.{texts-parts_of}
 
 -- what a search finds passes its test

@@ -9,7 +9,7 @@ use Rattle.zk_words.specs.Rows.{Form}
 use Rattle.zk_words.specs.Spelled.{part_is_spelled, part_is_later}
 use Rattle.zk_words.specs.Table.{heads, row_of}
 use Rattle.zk_words.specs.Unbuilt.{is_unbuilt}
-use Rattle.zk_words.specs.Words.{words_of}
+use Rattle.zk_words.specs.Pieces.{words_of}
 
 -- what a line's first word says that the line is
 abbrev pub head_of : List ℕ → Option Head

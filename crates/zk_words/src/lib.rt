@@ -5,6 +5,7 @@ mod kind;
 mod line;
 mod numbers;
 mod parts;
+mod pieces;
 mod slot;
 mod spelled;
 mod table;
@@ -12,14 +13,15 @@ mod table;
 mod tests;
 mod unbuilt;
 mod word;
-mod words;
+
 
 pub use kind::{Kind, Need, makes_player, meets, plays_script, same_kind};
 pub use line::{Line, line_of};
 pub use numbers::{number_in, number_of, priority_of};
 pub use parts::{Part, Parts};
+pub use pieces::{Lines, Pieces, Words};
 pub use slot::{Choice, Rest, Slot};
 pub use spelled::{choice_text, same_choice};
 pub use table::{Row, row_of};
 pub use word::{Head, Word};
-pub use words::Words;
+

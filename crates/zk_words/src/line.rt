@@ -6,7 +6,7 @@ use crate::spelled::{are_spelled, has_later};
 use crate::table::{Row, heads, row_of};
 use crate::unbuilt::is_unbuilt;
 use crate::word::Head;
-use crate::words::Words;
+use crate::pieces::Words;
 
 /// One line of a scenario behind the first, by its spelling alone.
 #[derive(Debug, Drop)]

@@ -3,7 +3,7 @@ ghost use Rattle.zk_words.specs.Parts.{placed, parts_of, fits, rest_fits};
 
 use crate::slot::{Rest, Slot};
 use crate::table::Row;
-use crate::words::Words;
+use crate::pieces::Words;
 use std::marker::Model;
 
 /// A word of a line, and the slot that it stands in.
