@@ -14,7 +14,6 @@ mod tests;
 mod unbuilt;
 mod word;
 
-
 pub use kind::{Kind, Need, makes_player, meets, plays_script, same_kind};
 pub use line::{Line, line_of};
 pub use numbers::{number_in, number_of, priority_of};
@@ -24,4 +23,3 @@ pub use slot::{Choice, Rest, Slot};
 pub use spelled::{choice_text, same_choice};
 pub use table::{Row, row_of};
 pub use word::{Head, Word};
-

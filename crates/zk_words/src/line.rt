@@ -1,12 +1,12 @@
 ghost use Rattle.std.specs.Prelude.{◌≡◌};
-ghost use Rattle.zk_words.specs.Lines.{head_of, are_behind, formed, line_behind, rowless, line_of};
+ghost use Rattle.zk_words.specs.Lines.{head_of, line_behind, rowless, line_of};
 
-use crate::parts::{Parts, fits};
-use crate::spelled::{are_spelled, has_later};
-use crate::table::{Row, heads, row_of};
+use crate::parts::Parts;
+use crate::pieces::Words;
+use crate::spelled::{Spelling, spelling_of};
+use crate::table::{heads, row_of};
 use crate::unbuilt::is_unbuilt;
 use crate::word::Head;
-use crate::pieces::Words;
 
 /// One line of a scenario behind the first, by its spelling alone.
 #[derive(Debug, Drop)]
@@ -56,25 +56,9 @@ fn line_behind<'a>(head: Head, words: Words<'a>) -> Line<'a>
     ensures { result ≡ line_behind head words.entry }
 {
     let row = row_of(head);
-    if are_behind(&row, words.again()) {
-        formed(head, Parts::of(&row, words))
-    } else {
-        Line::Misspelled
+    match spelling_of(&row, words.again()) {
+        Spelling::Wrong => Line::Misspelled,
+        Spelling::Later => Line::Unbuilt,
+        Spelling::Right => Line::Formed(head, Parts::of(&row, words)),
     }
-}
-
-fn formed<'a>(head: Head, parts: Parts<'a>) -> Line<'a>
-    ensures { result ≡ formed head parts.entry }
-{
-    if has_later(parts.again()) {
-        Line::Unbuilt
-    } else {
-        Line::Formed(head, parts)
-    }
-}
-
-fn are_behind(row: &Row, words: Words<'_>) -> bool
-    ensures { result ≡ are_behind row.now words.entry }
-{
-    fits(row, words.again()) && are_spelled(Parts::of(row, words))
 }
