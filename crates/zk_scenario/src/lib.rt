@@ -4,7 +4,6 @@
 mod laws;
 #[cfg(test)]
 mod line_tests;
-mod lines;
 mod read;
 mod reader;
 mod refused;
