@@ -1,10 +1,10 @@
 ghost use Rattle.std.specs.Prelude.{◌≡◌};
-ghost use Rattle.zk_words.specs.Lines.{head_of, line_behind, rowless, line_of};
+ghost use Rattle.zk_words.specs.Lines.{line_behind, rowless, line_of};
 
 use crate::parts::Parts;
 use crate::pieces::Words;
 use crate::spelled::{Spelling, spelling_of};
-use crate::table::{heads, row_of};
+use crate::table::{head_of, row_of};
 use crate::unbuilt::is_unbuilt;
 use crate::word::Head;
 
@@ -31,15 +31,6 @@ pub fn line_of(line: &[u8]) -> Line<'_>
         Some(head) => line_behind(head, words),
         None => rowless(first),
     }
-}
-
-fn head_of(first: &[u8]) -> Option<Head>
-    ensures { result ≡ head_of first.now }
-{
-    heads()
-        .iter()
-        .copied()
-        .find(|head| first == row_of(*head).first)
 }
 
 fn rowless(first: &[u8]) -> Line<'_>
