@@ -1,9 +1,14 @@
-use Rattle.std.specs.Prelude.{◌≡◌, Bool, true, false, Option, Some}
-use Rattle.zk_line.specs.declared.weights.Worth.{Worth}
-use Rattle.zk_line.specs.declared.weights.Worth.TheVariants.{OutOfRange, Misnamed, Says}
+use Rattle.std.specs.Prelude.{◌≡◌, Bool, true, false, Option, None, Some, Result, Ok, Err}
+use Rattle.zk_line.specs.declared.weights.Wrong.{Wrong}
+use Rattle.zk_line.specs.declared.weights.Wrong.TheVariants.{OutOfRange, Misnamed}
 
--- a worth says whether numbers are in range, else whether names may stand there, else what is said
-abbrev pub Weighs : {A : Type 0} → Bool → Bool → Option A → Worth A → Type 0
-Weighs in_range named said OutOfRange = in_range ≡ false
-Weighs in_range named said Misnamed = (in_range ≡ true) × (named ≡ false)
-Weighs in_range named said (Says what) = (in_range ≡ true) × (named ≡ true) × (said ≡ Some what)
+-- an answer says whether numbers are in range, else whether names may stand where they do, else what is said
+abbrev pub Weighs : {A : Type 0} → Bool → Bool → Option A → Result A Wrong → Type 0
+Weighs in_range named said (Err OutOfRange) = in_range ≡ false
+Weighs in_range named said (Err Misnamed) = (in_range ≡ true) × (named ≡ false)
+Weighs in_range named said (Ok what) = (in_range ≡ true) × (named ≡ true) × (said ≡ Some what)
+
+-- what is said, or what speaks against it where something does
+abbrev pub or_wrong : {A E : Type 0} → Option E → A → Result A E
+or_wrong None what = Ok what
+or_wrong (Some wrong) what = Err wrong

@@ -7,7 +7,7 @@ use std::marker::Model;
 use zk_base::NoMemory;
 
 /// How many words of a line take no memory.
-const FEW: usize = 4;
+const FEW: usize = 3;
 
 /// What the words of a line say, in order. Few of them take no memory.
 #[derive(Drop)]

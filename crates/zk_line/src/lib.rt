@@ -23,4 +23,4 @@ pub use kinds::{kind_of, name_of};
 pub use objects::{Objects, make_room, put};
 pub use print::{put_call, put_decl, put_said};
 pub use types::{Arg, Call, Decl, Ref};
-pub use weights::{Worth, weigh};
+pub use weights::{Wrong, weigh};

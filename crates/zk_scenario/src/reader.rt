@@ -2,6 +2,7 @@ ghost use Rattle.std.specs.Prelude.{◌≡◌, None, Some, OnOk, OnErr, IfOk, Is
 ghost use Rattle.zk_words.specs.Lines.{line_of, IsForm};
 ghost use Rattle.zk_line.specs.Args.{args_of};
 ghost use Rattle.zk_line.specs.Objects.{object_of, name_of};
+ghost use Rattle.zk_line.specs.Weights.{or_wrong};
 ghost use Rattle.zk_scenario.specs.Grammar.{read_line, told, answered, accepted, unfed};
 ghost use Rattle.zk_scenario.specs.Reading.{start, declared, called, closed, with_call, parts_of};
 ghost use Rattle.zk_scenario.specs.Valid.{IsValid};
@@ -13,7 +14,7 @@ use crate::types::Script;
 use std::alloc::Global;
 use std::marker::Model;
 use zk_base::{Listed, NoMemory};
-use zk_line::{Arg, Args, Call, Decl, Objects, Ref, Worth, call_of, decl_of, first_object, weigh};
+use zk_line::{Arg, Args, Call, Decl, Objects, Ref, Wrong, call_of, decl_of, first_object, weigh};
 use zk_words::{Head, Kind, Line, Parts, Word, line_of, makes_player};
 
 const MOST_PLAYERS: usize = 64;
@@ -100,27 +101,24 @@ impl Reader {
         }
     }
 
-    /// The first reason that applies to a line behind those read, or what the line says.
-    fn judge(
-        &self,
-        alloc: Global,
-        head: Head,
-        parts: Parts<'_>,
-    ) -> Result<Result<Args, Why>, NoMemory>
-        requires { IsForm head parts }
-        ensures { IfOk result (λ judged. Judges self.now head parts.entry judged) }
+    /// The first reason that applies to a line behind those read. Where none does, the arguments are what
+    /// the line's words say.
+    fn judge(&self, args: &mut Args, head: Head, parts: Parts<'_>) -> Result<Option<Why>, NoMemory>
+        requires empty { args.old ≡ [] }
+        requires form { IsForm head parts }
+        ensures { IfOk result (λ reason. Judges self.now head parts.entry (or_wrong reason args.new)) }
     {
         if self.is_misplaced(head, parts.again()) {
-            return Ok(Err(Why::Order));
+            return Ok(Some(Why::Order));
         }
-        match weigh(alloc, &self.objects, parts)? {
-            Worth::OutOfRange => Ok(Err(Why::Number)),
-            Worth::Misnamed => Ok(Err(Why::Name)),
-            Worth::Says(args) => {
+        match weigh(args, &self.objects, parts)? {
+            Some(Wrong::OutOfRange) => Ok(Some(Why::Number)),
+            Some(Wrong::Misnamed) => Ok(Some(Why::Name)),
+            None => {
                 if self.is_past_limit(head) {
-                    Ok(Err(Why::Limit))
+                    Ok(Some(Why::Limit))
                 } else {
-                    Ok(Ok(args))
+                    Ok(None)
                 }
             }
         }
@@ -147,10 +145,10 @@ impl Reader {
         ensures { IfOk result (λ refusal.
             told (verdict self.old head parts.entry) (after self.old head parts.entry) ≡ answered refusal self.new) }
     {
-        let args = match self.judge(alloc, head, parts.again())? {
-            Ok(args) => args,
-            Err(reason) => return Ok(Some(reason)),
-        };
+        let mut args = Args::new(alloc);
+        if let Some(reason) = self.judge(&mut args, head, parts.again())? {
+            return Ok(Some(reason));
+        }
         if self.accept(alloc, head, parts, args.items())? {
             Ok(None)
         } else {
