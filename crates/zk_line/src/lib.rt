@@ -17,7 +17,7 @@ mod weights;
 
 pub use arg_list::Args;
 pub use calls::{Said, call_of, said_of, word_of};
-pub use checks::{are_in_range, first_object};
+pub use checks::first_object;
 pub use decls::{decl_args, decl_of};
 pub use kinds::{kind_of, name_of};
 pub use objects::{Objects, make_room, put};

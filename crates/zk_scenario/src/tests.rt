@@ -3,6 +3,7 @@ use crate::{ScenarioRefused, print_scenario, read_scenario};
 use std::alloc::Global;
 use std::process::Abort;
 use std::test::Fail;
+use zk_base::{put, put_decimal};
 
 const HEADER: &str = "zk 1\n";
 
@@ -16,25 +17,36 @@ const WHOLE: &str =
     "zk 1\nthread main -3 super\nqueue q0 -1 on\nitem i0\nscript main\nsubmit i0 q0\nend\n";
 
 // The reading of a text in a word or two: `read` where it is printed again as it stood, else the refusal.
-fn reading(alloc: Global, text: &[u8]) -> Result<String, Fail> {
+fn reading(alloc: Global, text: &[u8]) -> Result<Vec<u8>, Fail> {
+    let mut said = Vec::new(alloc);
     match read_scenario(alloc, text) {
         Ok(scenario) => {
             let printed = print_scenario(alloc, &scenario)?;
-            let same = printed.as_slice() == text;
-            Ok(format!(in alloc; "{}", if same { "read" } else { "misprinted" })?)
+            put(&mut said, word(printed.as_slice() == text))?;
         }
-        Err(ScenarioRefused::At(line, why)) => Ok(format!(in alloc; "{line} {why}")?),
-        Err(ScenarioRefused::NoMemory) => Ok(format!(in alloc; "no memory")?),
+        Err(ScenarioRefused::At(line, why)) => {
+            put_decimal(&mut said, u64::from(line))?;
+            put(&mut said, b" ")?;
+            put(&mut said, why.word().as_bytes())?;
+        }
+        Err(ScenarioRefused::NoMemory) => put(&mut said, b"no memory")?,
     }
+    Ok(said)
+}
+
+fn word(same: bool) -> &'static [u8] {
+    if same { b"read" } else { b"misprinted" }
 }
 
 // Whether each of the lines, which a `|` parts, is read so behind those before it.
 fn told(alloc: Global, before: &str, lines: &str, said: &str) -> Result<bool, Fail> {
     let mut all = true;
     for line in lines.split('|') {
-        let text = format!(in alloc; "{before}{line}")?;
-        let told = reading(alloc, text.as_bytes())?;
-        all = all && told.as_str() == said;
+        let mut text = Vec::new(alloc);
+        put(&mut text, before.as_bytes())?;
+        put(&mut text, line.as_bytes())?;
+        let told = reading(alloc, &text)?;
+        all = all && told.as_slice() == said.as_bytes();
     }
     Ok(all)
 }
@@ -453,34 +465,35 @@ fn tells_what_a_single_line_is(rt: HostRuntime) -> Result<(), Fail> {
 }
 
 // Lines that differ by a number alone.
-fn numbered(
-    alloc: Global,
-    text: &mut String,
-    before: &str,
-    count: u32,
-    after: &str,
-) -> Result<(), Fail> {
+fn numbered(text: &mut Vec<u8>, before: &[u8], count: u32, after: &[u8]) -> Result<(), Fail> {
     for n in 0..count {
-        let line = format!(in alloc; "{before}{n}{after}")?;
-        text.push_str(line.as_str())?;
+        put(text, before)?;
+        put_decimal(text, u64::from(n))?;
+        put(text, after)?;
+    }
+    Ok(())
+}
+
+fn submissions(text: &mut Vec<u8>, count: u32) -> Result<(), Fail> {
+    for _ in 0..count {
+        put(text, b"submit i0\n")?;
     }
     Ok(())
 }
 
 // That many declarations of each kind, and a script of that many calls where there are some.
-fn sized(alloc: Global, counts: (u32, u32, u32, u32), last: &str) -> Result<String, Fail> {
+fn sized(alloc: Global, counts: (u32, u32, u32, u32), last: &str) -> Result<Vec<u8>, Fail> {
     let (threads, queues, items, calls) = counts;
-    let mut text = String::from_str(alloc, HEADER)?;
-    numbered(alloc, &mut text, "thread t", threads, " 0 super\n")?;
-    numbered(alloc, &mut text, "queue q", queues, " 0 on\n")?;
-    numbered(alloc, &mut text, "item i", items, "\n")?;
-    text.push_str(last)?;
+    let mut text = Vec::new(alloc);
+    put(&mut text, HEADER.as_bytes())?;
+    numbered(&mut text, b"thread t", threads, b" 0 super\n")?;
+    numbered(&mut text, b"queue q", queues, b" 0 on\n")?;
+    numbered(&mut text, b"item i", items, b"\n")?;
+    put(&mut text, last.as_bytes())?;
     if 0 < calls {
-        text.push_str("script t0\n")?;
-        for _ in 0..calls {
-            text.push_str("submit i0\n")?;
-        }
-        text.push_str("end\n")?;
+        put(&mut text, b"script t0\n")?;
+        submissions(&mut text, calls)?;
+        put(&mut text, b"end\n")?;
     }
     Ok(text)
 }
@@ -506,8 +519,8 @@ fn keeps_to_the_limits(rt: HostRuntime) -> Result<(), Fail> {
     ];
     for (counts, last, said) in table {
         let text = sized(rt.alloc(), counts, last)?;
-        let told = reading(rt.alloc(), text.as_bytes())?;
-        assert_eq!(rt; told.as_str(), said, "at {last}");
+        let told = reading(rt.alloc(), &text)?;
+        assert_eq!(rt; told.as_slice(), said.as_bytes(), "at {last}");
     }
     Ok(())
 }
@@ -515,9 +528,15 @@ fn keeps_to_the_limits(rt: HostRuntime) -> Result<(), Fail> {
 #[test]
 fn reads_no_more_than_a_mebibyte(rt: HostRuntime) -> Result<(), Fail> {
     let mut text = vec![in rt.alloc(); b' '; LONGEST_SCENARIO]?;
-    assert_eq!(rt; reading(rt.alloc(), &text)?.as_str(), "1 header");
+    assert_eq!(rt;
+        reading(rt.alloc(), &text)?.as_slice(),
+        b"1 header".as_slice()
+    );
     text.push(b'\n')?;
-    assert_eq!(rt; reading(rt.alloc(), &text)?.as_str(), "0 length");
+    assert_eq!(rt;
+        reading(rt.alloc(), &text)?.as_slice(),
+        b"0 length".as_slice()
+    );
     Ok(())
 }
 

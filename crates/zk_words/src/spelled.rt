@@ -1,7 +1,7 @@
 ghost use Rattle.std.specs.Prelude.{◌≡◌, false, []};
 ghost use Rattle.zk_words.specs.Spelled.{choice_text, same_choice, is_spelled_in, is_later_in, right, spelling_of};
 
-use crate::numbers::{number_of, priority_of};
+use crate::numbers::{is_number, priority_of};
 use crate::pieces::Words;
 use crate::slot::{Choice, Rest, Slot};
 use crate::table::Row;
@@ -104,7 +104,7 @@ fn is_spelled_in(slot: Slot, word: &[u8]) -> bool
         Slot::New => is_spelled(word),
         Slot::Owner => is_spelled(word),
         Slot::Object(_) => is_spelled(word),
-        Slot::Number(_, _) => number_of(word).is_some(),
+        Slot::Number(_, _) => is_number(word),
         Slot::Priority => priority_of(word).is_some(),
         Slot::Either(choice) => {
             word == choice_text(choice, true) || word == choice_text(choice, false)
