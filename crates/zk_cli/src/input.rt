@@ -5,9 +5,10 @@ ghost use Rattle.zk_cli.specs.declared.input.TheConstants.{LIMIT};
 
 use std::alloc::{AllocError, AllocFailed, Global};
 use zk_base::{Failed, Source};
+use zk_scenario::LONGEST_SCENARIO;
 
 /// The longest scenario, in bytes.
-pub const LIMIT: usize = 1_048_576;
+pub const LIMIT: usize = LONGEST_SCENARIO;
 
 /// How many bytes one call of the source is asked for, at the most.
 const CHUNK: usize = 4096;

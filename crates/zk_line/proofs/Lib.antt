@@ -1,4 +1,5 @@
 pub mod ByName
+pub mod Choices
 pub mod Fits
 pub mod Inverse
 pub mod Joined

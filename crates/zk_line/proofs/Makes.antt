@@ -56,7 +56,8 @@ are_right decls (p ∷ ps) s r n =
     let ns = and_parts (is_well_named decls p.slot p.text) (are_well_named decls ps) n in
     (record { spelled = ss.0; in_range = rs.0; named = ns.0 }, are_right decls ps ss.1 rs.1 ns.1)
 
-is_some-some : {X : Type 0} (o : Option X) → is_some o ≡ true → (x : X) × (o ≡ Some x)
+-- what is there is something
+pub is_some-some : {X : Type 0} (o : Option X) → is_some o ≡ true → (x : X) × (o ≡ Some x)
 is_some-some None e = absurd (cc)
 is_some-some (Some x) e = (x, refl)
 

@@ -7,3 +7,4 @@ pub mod Fits
 pub mod Objects
 pub mod Shapes
 pub mod Text
+pub mod Weights

@@ -1,14 +1,18 @@
 ghost use Rattle.std.specs.Prelude.{◌≡◌, [], ◌∷◌, ◌++◌, OnOk, OnErr};
 
-use crate::types::{Arg, Ref};
+use crate::types::Arg;
+use smallvec::SmallVec;
 use std::alloc::Global;
 use std::marker::Model;
 use zk_base::NoMemory;
 
-/// What the words of a line say, in order.
+/// How many words of a line take no memory.
+const FEW: usize = 3;
+
+/// What the words of a line say, in order. Few of them take no memory.
 #[derive(Drop)]
 pub struct Args {
-    args: Vec<Arg>,
+    args: SmallVec<Arg, FEW>,
 }
 
 impl Model for Args {
@@ -26,7 +30,7 @@ impl Args {
         ensures { result ≡ [] }
     {
         Args {
-            args: Vec::new(alloc),
+            args: SmallVec::new(alloc),
         }
     }
 
@@ -34,7 +38,7 @@ impl Args {
     pub fn items(&self) -> &[Arg]
         ensures { result.now ≡ self.now }
     {
-        &self.args
+        self.args.as_slice()
     }
 
     /// One more at the end.
@@ -42,7 +46,6 @@ impl Args {
         ensures ok { OnOk result (self.new ≡ self.old ++ arg ∷ []) }
         ensures unchanged { OnErr result (self.new ≡ self.old) }
     {
-        let _seen: Option<Ref> = None;
         self.args.push(arg)?;
         Ok(())
     }

@@ -2,7 +2,6 @@
 #![tactic(auto)]
 
 mod arg_list;
-mod args;
 mod calls;
 mod checks;
 mod decls;
@@ -14,13 +13,14 @@ mod shapes;
 #[cfg(test)]
 mod tests;
 mod types;
+mod weights;
 
 pub use arg_list::Args;
-pub use args::args_of;
 pub use calls::{Said, call_of, said_of, word_of};
-pub use checks::{are_in_range, are_well_named, first_object};
+pub use checks::first_object;
 pub use decls::{decl_args, decl_of};
 pub use kinds::{kind_of, name_of};
 pub use objects::{Objects, make_room, put};
 pub use print::{put_call, put_decl, put_said};
 pub use types::{Arg, Call, Decl, Ref};
+pub use weights::{Wrong, weigh};

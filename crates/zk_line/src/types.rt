@@ -30,6 +30,13 @@ pub enum Arg {
     Truth(Choice, bool),
 }
 
+/// What stands in a list's places that nothing fills.
+impl Default for Arg {
+    fn default() -> Arg {
+        Arg::Number(0)
+    }
+}
+
 /// One call of a script, its arguments in the written order.
 #[derive(Clone, Copy, Debug)]
 pub enum Call {

@@ -1,5 +1,5 @@
 -- A line to which no reason applies keeps what was read valid.
-use Rattle.std.proofs.Common.{◌≡◌, ℕ, pos, ◌+◌, ◌<◌, ◌≤◌, Bool, true, false, not, cond, eqb, nat_le, nat_lt, ◌&&◌, ◌||◌, Option, None, Some, List, [], ◌∷◌, ◌++◌, length, slice_get, count_by, is_some, refl, sym, ap, subst, ◌∙◌, ⊎_elim, arith, length-append}
+use Rattle.std.proofs.Common.{◌≡◌, ℕ, ◌+◌, ◌<◌, ◌≤◌, Bool, true, false, not, cond, eqb, nat_le, nat_lt, ◌&&◌, ◌||◌, Option, None, Some, List, [], ◌∷◌, ◌++◌, length, slice_get, count_by, is_some, refl, sym, ap, subst, ◌∙◌, ⊎_elim, arith, length-append}
 use Rattle.std.specs.List.{list_all}
 use Rattle.std.specs.Option.{option_map_or, option_map, option_to_list}
 use Rattle.std.specs.Prelude.{option_and_then}
@@ -9,6 +9,7 @@ use Rattle.std.proofs.lemmas.List.Folds.{list_all-append}
 use Rattle.std.proofs.lemmas.List.Quantifiers.{position-Some}
 use Rattle.std.proofs.lemmas.List.Sums.{sum_by-append}
 use Rattle.std.proofs.lemmas.Option.{none-some, same_Some, slice_get_past, slice_get_within}
+use Rattle.zk_base.proofs.Lists.{none_from_is_some}
 use Rattle.zk_words.specs.declared.kind.Kind.{Kind}
 use Rattle.zk_words.specs.declared.slot.Rest.TheVariants.{Nothing}
 use Rattle.zk_words.specs.declared.slot.Slot.TheVariants as slot
@@ -17,7 +18,6 @@ use Rattle.zk_words.specs.declared.word.Head.{Head}
 use Rattle.zk_words.specs.declared.word.Head.TheVariants as head
 use Rattle.zk_words.specs.Lines.{IsForm}
 use Rattle.zk_words.specs.Parts.{Placed, fits, parts_of as placed_of}
-use Rattle.zk_words.specs.Table.{call_row}
 use Rattle.zk_line.specs.declared.types.Decl.{Decl}
 use Rattle.zk_line.specs.declared.types.Decl.TheVariants as decl
 use Rattle.zk_line.specs.declared.types.Call.{Call}
@@ -26,9 +26,10 @@ use Rattle.zk_line.specs.Calls.{call_of}
 use Rattle.zk_line.specs.Checks.{first_object, are_in_range, are_well_named}
 use Rattle.zk_line.specs.Decls.{decl_of}
 use Rattle.zk_line.specs.Fits.{call_fits}
-use Rattle.zk_line.specs.Objects.{object_of, kind_of, is_at, is_of, names, plays_script, is_thread, is_queue, is_item, player_count}
+use Rattle.zk_line.specs.Objects.{object_of, kind_of, is_at, names, plays_script, is_thread, is_queue, is_item, player_count}
 use Rattle.zk_line.proofs.Fits.{call_fits-read, kind_of-read}
 use Rattle.zk_line.proofs.Lists.{slice_get-append_left, slice_get-push, count_by-push, position-push}
+use Rattle.zk_line.proofs.Makes.{is_some-some}
 use Rattle.zk_line.proofs.Spelled.{one_part}
 use Rattle.zk_scenario.specs.declared.types.Script.{Script}
 use Rattle.zk_scenario.specs.declared.refused.Why.{Why}
@@ -61,14 +62,6 @@ Passes-verdict r h parts e =
 pub or_none : (a b : Bool) → (a || b) ≡ false → (a ≡ false) × (b ≡ false)
 or_none true b e = absurd (cc)
 or_none false b e = (refl, e)
-
-pub is_some-none : {X : Type 0} (o : Option X) → is_some o ≡ false → o ≡ None
-is_some-none None e = refl
-is_some-none (Some x) e = absurd (cc)
-
-pub is_some-some : {X : Type 0} (o : Option X) → is_some o ≡ true → (x : X) × (o ≡ Some x)
-is_some-some None e = absurd (cc)
-is_some-some (Some x) e = (x, refl)
 
 one_each-left : (ss : List Script) (s : Script) → OneEach (ss ++ s ∷ []) → OneEach ss
 one_each-left ss s held n x e =
@@ -104,7 +97,7 @@ one_each-push ss s held fresh n x e =
 pub nothing_begun : (r : Reading) → has_begun r ≡ false → (r.scripts ≡ []) × (r.current ≡ None)
 nothing_begun r first =
     let parts = or_none (is_some r.current) (nat_lt 0 (length r.scripts)) first in
-    (empty r.scripts (ltb-false 0 (length r.scripts) parts.1), is_some-none r.current parts.0) where
+    (empty r.scripts (ltb-false 0 (length r.scripts) parts.1), none_from_is_some r.current parts.0) where
       empty : (xs : List Script) → length xs ≤ 0 → xs ≡ []
       empty [] h = refl
       empty (x ∷ xs) h = absurd (omega arith)
@@ -218,8 +211,8 @@ pub IsValid-opened : (r : Reading) (parts : List Placed) (owner : ℕ) → IsFor
     → IsValid (parts_of (opened r owner))
 IsValid-opened r parts owner form p found valid =
     let both = or_none (is_some r.current) (has_script r (first_object r.decls parts)) p.placed in
-    let fresh = is_some-none (script_of r.scripts owner) (sym (ap (has_script r) found) ∙ both.1) in
-    valid-begun r owner valid (is_some-none r.current both.0) (owner_of r parts form.words owner form.fitting form.placed p.well_named found) fresh
+    let fresh = none_from_is_some (script_of r.scripts owner) (sym (ap (has_script r) found) ∙ both.1) in
+    valid-begun r owner valid (none_from_is_some r.current both.0) (owner_of r parts form.words owner form.fitting form.placed p.well_named found) fresh
 
 -- a call to which no reason applies keeps what was read valid
 pub IsValid-called : (r : Reading) (w : Word) (parts : List Placed) (c : Call) → IsForm (head.Call w) parts → Passes r (head.Call w) parts → option_and_then (call_of w) (args_of r.decls parts) ≡ Some c → IsValid (parts_of r)

@@ -1,5 +1,5 @@
 -- A line to which no reason applies says something, so the last refusal of `told` never comes.
-use Rattle.std.proofs.Common.{◌≡◌, ℕ, Bool, true, false, List, [], ◌∷◌, Option, Some, None, refl, sym, ap, subst, ◌∙◌}
+use Rattle.std.proofs.Common.{◌≡◌, ℕ, true, false, List, [], ◌∷◌, Option, Some, None, refl, sym, ap, subst, ◌∙◌}
 use Rattle.std.specs.Prelude.{option_map, option_and_then, IsSome}
 use Rattle.std.specs.Option.{option_map_or}
 use Rattle.std.proofs.lemmas.Bool.{and_parts}
@@ -17,7 +17,7 @@ use Rattle.zk_line.specs.Objects.{object_of, is_at, names, plays_script}
 use Rattle.zk_line.proofs.Makes.{AreRight, are_right, makes_call, makes_decl}
 use Rattle.zk_scenario.specs.Reading.{Reading, declared, called}
 use Rattle.zk_scenario.specs.Verdict.{verdict, opened, after}
-use Rattle.zk_scenario.proofs.AcceptedLines.{Passes, Passes-verdict}
+use Rattle.zk_scenario.proofs.AcceptedLines.{Passes-verdict}
 
 some-map : {X Y : Type 0} (f : X → Y) (o : Option X) → IsSome o → IsSome (option_map f o)
 some-map f (Some x) e = refl

@@ -1,6 +1,5 @@
 pub mod AcceptedLines
 pub mod AlwaysSays
-pub mod FirstLine
 pub mod ReadIsValid
 pub mod ReadText
 pub mod ScenarioLines

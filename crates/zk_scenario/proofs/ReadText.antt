@@ -10,6 +10,7 @@ use Rattle.std.proofs.lemmas.List.{append-nil, map-append}
 use Rattle.std.proofs.lemmas.Grind.{flat_map-append}
 use Rattle.std.proofs.lemmas.List.Splits.{join_with_byte-slice_split}
 use Rattle.std.proofs.lemmas.Option.{same_Some}
+use Rattle.zk_base.proofs.Lists.{none_from_is_some}
 use Rattle.zk_words.specs.declared.slot.Slot.TheVariants as slot
 use Rattle.zk_words.specs.declared.slot.Rest.TheVariants.{Nothing}
 use Rattle.zk_words.specs.declared.word.Head.{Head}
@@ -26,8 +27,9 @@ use Rattle.zk_line.specs.Args.{args_of}
 use Rattle.zk_line.specs.Calls.{call_of}
 use Rattle.zk_line.specs.Checks.{first_object}
 use Rattle.zk_line.specs.Decls.{decl_of}
-use Rattle.zk_line.specs.Objects.{object_of, name_at}
+use Rattle.zk_line.specs.Objects.{object_of}
 use Rattle.zk_line.specs.Text.{decl_line, call_line}
+use Rattle.zk_line.proofs.Makes.{is_some-some}
 use Rattle.zk_line.proofs.Spelled.{one_part, name_at-object_of, decl_is_line, call_is_line}
 use Rattle.zk_scenario.specs.declared.types.Script.{Script}
 use Rattle.zk_scenario.specs.declared.refused.Why.{Why}
@@ -38,7 +40,7 @@ use Rattle.zk_scenario.specs.Parts.{Parts}
 use Rattle.zk_scenario.specs.Reading.{Reading, start, declared, with_call, called, closed}
 use Rattle.zk_scenario.specs.Spelling.{script_line, end_line, begun_lines, script_lines, body_lines, lines_of, lines_text, text_of}
 use Rattle.zk_scenario.specs.Verdict.{has_script, opened, verdict, after}
-use Rattle.zk_scenario.proofs.AcceptedLines.{Passes, Passes-verdict, or_none, is_some-none, is_some-some, nothing_begun}
+use Rattle.zk_scenario.proofs.AcceptedLines.{Passes, Passes-verdict, or_none, nothing_begun}
 
 -- the lines of the script that is open
 abbrev open_lines : List Decl → Option Script → List (List ℕ)
@@ -97,7 +99,7 @@ read-after r s (head.Declare k) parts form p made =
 read-after r s head.Script parts form p made =
     let both = or_none (is_some r.current) (has_script r (first_object r.decls parts)) p.placed in
     let o = one_part (opened r) (first_object r.decls parts) s made in
-    ap read_lines_of (sym o.2) ∙ read-opened r.decls r.scripts r.current o.0 (is_some-none r.current both.0)
+    ap read_lines_of (sym o.2) ∙ read-opened r.decls r.scripts r.current o.0 (none_from_is_some r.current both.0)
     ∙ ap (λ l. read_lines_of r ++ l ∷ []) (owner_is_line r.decls parts o.0 form.words form.fitting form.placed o.1)
 read-after r s head.End parts form p made =
     let inside = is_some-some r.current (not-false (is_some r.current) p.placed) in

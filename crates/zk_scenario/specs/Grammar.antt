@@ -1,5 +1,4 @@
-use Rattle.std.specs.Prelude.{◌≡◌, ℕ, ◌+◌, ◌==◌, nat_lt, Bool, true, false, Option, None, Some, Result, Ok, Err, List, [], ◌∷◌, length, is_some, codes, if◌then◌else◌}
-use Rattle.std.specs.List.{slice_split}
+use Rattle.std.specs.Prelude.{◌≡◌, ℕ, ◌+◌, nat_lt, Bool, true, false, Option, None, Some, Result, Ok, Err, List, [], ◌∷◌, length, is_some, codes, if◌then◌else◌}
 use Rattle.std.specs.Str.{bytes_eq}
 use Rattle.zk_words.specs.declared.line.Line.{Line}
 use Rattle.zk_words.specs.declared.line.Line.TheVariants as line
@@ -8,6 +7,7 @@ use Rattle.zk_scenario.specs.declared.refused.Why.TheVariants as why
 use Rattle.zk_scenario.specs.declared.refused.ScenarioRefused.{ScenarioRefused}
 use Rattle.zk_scenario.specs.declared.refused.ScenarioRefused.TheVariants.{At, NoMemory}
 use Rattle.zk_words.specs.Lines.{line_of}
+use Rattle.zk_words.specs.Pieces.{pieces_between}
 use Rattle.zk_scenario.specs.Parts.{Parts}
 use Rattle.zk_scenario.specs.Reading.{Reading, start}
 use Rattle.zk_scenario.specs.Spelling.{text_of}
@@ -76,7 +76,7 @@ read_pieces (first ∷ more) = (if bytes_eq first (codes "zk 1") then behind_hea
 
 -- the pieces between the line feeds of a text: its lines, and what stands behind the last feed
 abbrev pub pieces_of : List ℕ → List (List ℕ)
-pieces_of text = slice_split (λ b. b == 10) text
+pieces_of text = pieces_between 10 text
 
 -- the scenario of a text, or the first failing line and the first reason that applies there
 abbrev pub scenario_of : List ℕ → Result Parts ScenarioRefused

@@ -1,4 +1,4 @@
-use Rattle.std.specs.Prelude.{ℕ, Bool, true, false, not, nat_le, nat_lt, ◌&&◌, ◌||◌, Option, None, Some, List, [], length, count_by, is_some, option_map, option_and_then, if◌then◌else◌}
+use Rattle.std.specs.Prelude.{◌≡◌, ℕ, Bool, false, not, nat_le, nat_lt, ◌&&◌, ◌||◌, Option, None, Some, Result, Ok, Err, List, [], length, count_by, is_some, option_map, option_and_then, if◌then◌else◌}
 use Rattle.std.specs.Option.{option_map_or}
 use Rattle.zk_words.specs.declared.kind.Kind.{Kind}
 use Rattle.zk_words.specs.declared.kind.Kind.TheVariants as kind
@@ -6,6 +6,7 @@ use Rattle.zk_words.specs.declared.word.Head.{Head}
 use Rattle.zk_words.specs.declared.word.Head.TheVariants.{Declare, Script, End, Call}
 use Rattle.zk_words.specs.Kinds.{makes_player}
 use Rattle.zk_words.specs.Parts.{Placed}
+use Rattle.zk_line.specs.declared.types.Arg.{Arg}
 use Rattle.zk_line.specs.declared.types.Decl.{Decl}
 use Rattle.zk_line.specs.Args.{args_of}
 use Rattle.zk_line.specs.Calls.{call_of}
@@ -58,6 +59,11 @@ verdict r head parts =
     if not (are_in_range parts) then Some why.Number else
     if not (are_well_named r.decls parts) then Some why.Name else
     if is_past_limit r head then Some why.Limit else None
+
+-- a judgement names the first reason that applies, or says where none does what the line's words say
+abbrev pub Judges : Reading → Head → List Placed → Result (List Arg) Why → Type 0
+Judges r head parts (Err reason) = verdict r head parts ≡ Some reason
+Judges r head parts (Ok args) = (verdict r head parts ≡ None) × (args_of r.decls parts ≡ Some args)
 
 -- a script of an object begins
 abbrev pub opened : Reading → ℕ → Reading

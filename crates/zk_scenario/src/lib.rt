@@ -2,9 +2,6 @@
 #![tactic(auto)]
 
 mod laws;
-#[cfg(test)]
-mod line_tests;
-mod lines;
 mod read;
 mod reader;
 mod refused;
@@ -16,7 +13,7 @@ mod text;
 mod types;
 
 pub use laws::tells_them_apart;
-pub use read::read_scenario;
+pub use read::{LONGEST_SCENARIO, read_scenario};
 pub use refused::{ScenarioRefused, Why};
 pub use scenario::Scenario;
 pub use text::print_scenario;

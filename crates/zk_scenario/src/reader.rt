@@ -2,10 +2,11 @@ ghost use Rattle.std.specs.Prelude.{◌≡◌, None, Some, OnOk, OnErr, IfOk, Is
 ghost use Rattle.zk_words.specs.Lines.{line_of, IsForm};
 ghost use Rattle.zk_line.specs.Args.{args_of};
 ghost use Rattle.zk_line.specs.Objects.{object_of, name_of};
+ghost use Rattle.zk_line.specs.Weights.{or_wrong};
 ghost use Rattle.zk_scenario.specs.Grammar.{read_line, told, answered, accepted, unfed};
 ghost use Rattle.zk_scenario.specs.Reading.{start, declared, called, closed, with_call, parts_of};
 ghost use Rattle.zk_scenario.specs.Valid.{IsValid};
-ghost use Rattle.zk_scenario.specs.Verdict.{has_begun, has_script, is_misplaced, most, is_past_limit, verdict, opened, after};
+ghost use Rattle.zk_scenario.specs.Verdict.{has_begun, has_script, is_misplaced, most, is_past_limit, verdict, Judges, opened, after};
 
 use crate::refused::Why;
 use crate::scripts::Scripts;
@@ -13,9 +14,7 @@ use crate::types::Script;
 use std::alloc::Global;
 use std::marker::Model;
 use zk_base::{Listed, NoMemory};
-use zk_line::{
-    Call, Decl, Objects, Ref, are_in_range, are_well_named, args_of, call_of, decl_of, first_object,
-};
+use zk_line::{Arg, Args, Call, Decl, Objects, Ref, Wrong, call_of, decl_of, first_object, weigh};
 use zk_words::{Head, Kind, Line, Parts, Word, line_of, makes_player};
 
 const MOST_PLAYERS: usize = 64;
@@ -102,23 +101,27 @@ impl Reader {
         }
     }
 
-    /// The first reason that applies to a line behind those read.
-    fn verdict(&self, head: Head, parts: Parts<'_>) -> Option<Why>
-        ensures { result ≡ verdict self.now head parts.entry }
+    /// The first reason that applies to a line behind those read. Where none does, the arguments are what
+    /// the line's words say.
+    fn judge(&self, args: &mut Args, head: Head, parts: Parts<'_>) -> Result<Option<Why>, NoMemory>
+        requires empty { args.old ≡ [] }
+        requires form { IsForm head parts }
+        ensures { IfOk result (λ reason. Judges self.now head parts.entry (or_wrong reason args.new)) }
     {
         if self.is_misplaced(head, parts.again()) {
-            return Some(Why::Order);
+            return Ok(Some(Why::Order));
         }
-        if !are_in_range(parts.again()) {
-            return Some(Why::Number);
+        match weigh(args, &self.objects, parts)? {
+            Some(Wrong::OutOfRange) => Ok(Some(Why::Number)),
+            Some(Wrong::Misnamed) => Ok(Some(Why::Name)),
+            None => {
+                if self.is_past_limit(head) {
+                    Ok(Some(Why::Limit))
+                } else {
+                    Ok(None)
+                }
+            }
         }
-        if !are_well_named(&self.objects, parts) {
-            return Some(Why::Name);
-        }
-        if self.is_past_limit(head) {
-            return Some(Why::Limit);
-        }
-        None
     }
 
     /// Reads a line without its line feed. The answer is the reason why it is refused, if it is.
@@ -142,10 +145,11 @@ impl Reader {
         ensures { IfOk result (λ refusal.
             told (verdict self.old head parts.entry) (after self.old head parts.entry) ≡ answered refusal self.new) }
     {
-        if let Some(reason) = self.verdict(head, parts.again()) {
+        let mut args = Args::new(alloc);
+        if let Some(reason) = self.judge(&mut args, head, parts.again())? {
             return Ok(Some(reason));
         }
-        if self.accept(alloc, head, parts)? {
+        if self.accept(alloc, head, parts, args.items())? {
             Ok(None)
         } else {
             Ok(Some(Why::Line))
@@ -174,31 +178,42 @@ impl Reader {
     }
 
     /// Takes a line to which no reason applies. The answer is whether it says something.
-    fn accept(&mut self, alloc: Global, head: Head, parts: Parts<'_>) -> Result<bool, NoMemory>
+    fn accept(
+        &mut self,
+        alloc: Global,
+        head: Head,
+        parts: Parts<'_>,
+        args: &[Arg],
+    ) -> Result<bool, NoMemory>
         requires form { IsForm head parts }
         requires passes { verdict self.old head parts ≡ None }
+        requires said { args_of self.old.decls parts ≡ Some args.now }
         ensures { IfOk result (λ done. after self.old head parts.entry ≡ accepted done self.new) }
     {
         match head {
-            Head::Declare(kind) => self.accept_decl(alloc, kind, parts),
+            Head::Declare(kind) => self.accept_decl(alloc, kind, parts, args),
             Head::Script => Ok(self.accept_script(alloc, parts)),
             Head::End => {
                 self.end()?;
                 Ok(true)
             }
-            Head::Call(word) => self.accept_call(alloc, word, parts),
+            Head::Call(word) => self.accept_call(word, parts, args),
         }
     }
 
-    fn accept_decl(&mut self, alloc: Global, kind: Kind, parts: Parts<'_>) -> Result<bool, NoMemory>
-        requires { verdict self.old (Head.Declare kind) parts ≡ None }
+    fn accept_decl(
+        &mut self,
+        alloc: Global,
+        kind: Kind,
+        parts: Parts<'_>,
+        args: &[Arg],
+    ) -> Result<bool, NoMemory>
+        requires passes { verdict self.old (Head.Declare kind) parts ≡ None }
+        requires said { args_of self.old.decls parts ≡ Some args.now }
         ensures { IfOk result (λ done. after self.old (Head.Declare kind) parts.entry ≡ accepted done self.new) }
     {
         let _valid = &self.calls;
-        let Some(args) = args_of(alloc, &self.objects, parts)? else {
-            return Ok(false);
-        };
-        let Some(decl) = decl_of(kind, args.items()) else {
+        let Some(decl) = decl_of(kind, args) else {
             return Ok(false);
         };
         self.declare(alloc, decl)?;
@@ -218,16 +233,14 @@ impl Reader {
         true
     }
 
-    fn accept_call(&mut self, alloc: Global, word: Word, parts: Parts<'_>) -> Result<bool, NoMemory>
+    fn accept_call(&mut self, word: Word, parts: Parts<'_>, args: &[Arg]) -> Result<bool, NoMemory>
         requires form { IsForm (Head.Call word) parts }
         requires passes { verdict self.old (Head.Call word) parts ≡ None }
+        requires said { args_of self.old.decls parts ≡ Some args.now }
         ensures { IfOk result (λ done. after self.old (Head.Call word) parts.entry ≡ accepted done self.new) }
     {
         let _valid = &self.calls;
-        let Some(args) = args_of(alloc, &self.objects, parts)? else {
-            return Ok(false);
-        };
-        let Some(call) = call_of(word, args.items()) else {
+        let Some(call) = call_of(word, args) else {
             return Ok(false);
         };
         self.call(call)?;

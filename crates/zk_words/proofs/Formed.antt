@@ -1,11 +1,11 @@
 -- A line is the text of the form that it is read as, and its words fill the slots of its row.
-use Rattle.std.proofs.Common.{◌≡◌, ℕ, Bool, true, false, cond, List, [], ◌∷◌, map, Option, Some, None, refl, sym, ap, inl, inr, ◌∙◌}
-use Rattle.std.specs.Prelude.{find, bytes_eq}
+use Rattle.std.proofs.Common.{◌≡◌, ℕ, Bool, true, false, cond, List, [], ◌∷◌, map, Option, Some, None, refl, sym, ap, ◌∙◌}
+use Rattle.std.specs.Prelude.{bytes_eq}
 use Rattle.std.specs.List.{list_all, list_any}
-use Rattle.std.proofs.lemmas.Bool.{cases_Bool, cond-true, cond-false, and_parts}
-use Rattle.std.proofs.lemmas.Option.{same_Some}
+use Rattle.std.proofs.lemmas.Bool.{and_parts}
 use Rattle.std.proofs.lemmas.Slice.Eq.{bytes_eq-Decides}
 use Rattle.std.proofs.lemmas.List.Splits.{join_with_byte-slice_split}
+use Rattle.zk_base.proofs.Lists.{find-passes}
 use Rattle.zk_words.specs.declared.word.Head.{Head}
 use Rattle.zk_words.specs.declared.line.Line.TheVariants.{Unbuilt, Misspelled, Formed}
 use Rattle.zk_words.specs.Lines.{head_of, are_behind, formed, rowless, line_after, line_of_words, line_of, form_words, IsForm}
@@ -14,20 +14,12 @@ use Rattle.zk_words.specs.Spelled.{part_is_spelled, part_is_later}
 use Rattle.zk_words.specs.Table.{heads, row_of}
 use Rattle.zk_words.specs.Text.{line_text}
 use Rattle.zk_words.specs.Unbuilt.{is_unbuilt}
-use Rattle.zk_words.specs.Words.{words_of}
+use Rattle.zk_words.specs.Pieces.{words_of}
 use Rattle.zk_words.proofs.Placed.{texts-parts_of}
-
--- what a search finds passes its test
-found_passes : {X : Type 0} (test : X → Bool) (xs : List X) (x : X) → find test xs ≡ Some x → test x ≡ true
-found_passes test [] x found = absurd (cc)
-found_passes test (y ∷ ys) x found = elim (cases_Bool (test y)) [
-  | inl passes ↦ ap test (sym (same_Some y x (sym (cond-true (test y) _ _ passes) ∙ found))) ∙ passes
-  | inr fails ↦ found_passes test ys x (sym (cond-false (test y) _ _ fails) ∙ found)
-]
 
 head_spelled : (first : List ℕ) (head : Head) → head_of first ≡ Some head → first ≡ (row_of head).first
 head_spelled first head found =
-    (bytes_eq-Decides first (row_of head).first).0 (found_passes (λ h. bytes_eq first (row_of h).first) heads head found)
+    (bytes_eq-Decides first (row_of head).first).0 (find-passes (λ h. bytes_eq first (row_of h).first) heads head found)
 
 -- the words are those of the form
 abbrev Spells : List (List ℕ) → Head → List Placed → Type 0

@@ -1,4 +1,5 @@
-pub mod FirstWord
+pub mod FirstPiece
 pub mod Formed
 pub mod Numerals
 pub mod Placed
+pub mod Spellings

@@ -2,9 +2,9 @@ pub mod Kinds
 pub mod Lines
 pub mod Numbers
 pub mod Parts
+pub mod Pieces
 pub mod Rows
 pub mod Spelled
 pub mod Table
 pub mod Text
 pub mod Unbuilt
-pub mod Words

@@ -1,4 +1,4 @@
-use Rattle.std.specs.Prelude.{◌≡◌, ℕ, Bool, true, ◌&&◌, Option, Some, None, List, [], ◌∷◌, map, find, if◌then◌else◌}
+use Rattle.std.specs.Prelude.{◌≡◌, ℕ, Bool, true, Option, Some, None, List, [], ◌∷◌, map, find, if◌then◌else◌}
 use Rattle.std.specs.List.{list_all, list_any}
 use Rattle.std.specs.Str.{bytes_eq}
 use Rattle.zk_words.specs.declared.word.Head.{Head}
@@ -6,10 +6,10 @@ use Rattle.zk_words.specs.declared.line.Line.{Line}
 use Rattle.zk_words.specs.declared.line.Line.TheVariants.{Unbuilt, Misspelled, Formed}
 use Rattle.zk_words.specs.Parts.{Placed, parts_of, fits}
 use Rattle.zk_words.specs.Rows.{Form}
-use Rattle.zk_words.specs.Spelled.{part_is_spelled, part_is_later}
+use Rattle.zk_words.specs.Spelled.{part_is_spelled, part_is_later, are_spelled}
 use Rattle.zk_words.specs.Table.{heads, row_of}
 use Rattle.zk_words.specs.Unbuilt.{is_unbuilt}
-use Rattle.zk_words.specs.Words.{words_of}
+use Rattle.zk_words.specs.Pieces.{words_of}
 
 -- what a line's first word says that the line is
 abbrev pub head_of : List ℕ → Option Head
@@ -17,7 +17,7 @@ head_of first = find (λ head. bytes_eq first (row_of head).first) heads
 
 -- whether these words stand behind the first word of a form, each spelled as its slot asks
 abbrev pub are_behind : Form → List (List ℕ) → Bool
-are_behind form words = fits form.slots form.rest words && list_all part_is_spelled (parts_of form.slots form.rest words)
+are_behind form words = are_spelled form.slots form.rest words
 
 -- a line whose words are in their slots
 abbrev pub formed : Head → List Placed → Line

@@ -1,12 +1,12 @@
 ghost use Rattle.std.specs.Prelude.{◌≡◌};
-ghost use Rattle.zk_words.specs.Lines.{head_of, are_behind, formed, line_behind, rowless, line_of};
+ghost use Rattle.zk_words.specs.Lines.{line_behind, rowless, line_of};
 
-use crate::parts::{Parts, fits};
-use crate::spelled::{are_spelled, has_later};
-use crate::table::{Row, heads, row_of};
+use crate::parts::Parts;
+use crate::pieces::Words;
+use crate::spelled::{Spelling, spelling_of};
+use crate::table::{head_of, row_of};
 use crate::unbuilt::is_unbuilt;
 use crate::word::Head;
-use crate::words::Words;
 
 /// One line of a scenario behind the first, by its spelling alone.
 #[derive(Debug, Drop)]
@@ -33,15 +33,6 @@ pub fn line_of(line: &[u8]) -> Line<'_>
     }
 }
 
-fn head_of(first: &[u8]) -> Option<Head>
-    ensures { result ≡ head_of first.now }
-{
-    heads()
-        .iter()
-        .copied()
-        .find(|head| first == row_of(*head).first)
-}
-
 fn rowless(first: &[u8]) -> Line<'_>
     ensures { result ≡ rowless first.now }
 {
@@ -56,25 +47,9 @@ fn line_behind<'a>(head: Head, words: Words<'a>) -> Line<'a>
     ensures { result ≡ line_behind head words.entry }
 {
     let row = row_of(head);
-    if are_behind(&row, words.again()) {
-        formed(head, Parts::of(&row, words))
-    } else {
-        Line::Misspelled
+    match spelling_of(&row, words.again()) {
+        Spelling::Wrong => Line::Misspelled,
+        Spelling::Later => Line::Unbuilt,
+        Spelling::Right => Line::Formed(head, Parts::of(&row, words)),
     }
-}
-
-fn formed<'a>(head: Head, parts: Parts<'a>) -> Line<'a>
-    ensures { result ≡ formed head parts.entry }
-{
-    if has_later(parts.again()) {
-        Line::Unbuilt
-    } else {
-        Line::Formed(head, parts)
-    }
-}
-
-fn are_behind(row: &Row, words: Words<'_>) -> bool
-    ensures { result ≡ are_behind row.now words.entry }
-{
-    fits(row, words.again()) && are_spelled(Parts::of(row, words))
 }

@@ -17,7 +17,8 @@ pub fn number_of(word: &[u8]) -> Option<u64>
     }
 }
 
-fn is_number(word: &[u8]) -> bool
+/// Whether a word spells a number.
+pub fn is_number(word: &[u8]) -> bool
     ensures { result ≡ is_number word.now }
 {
     match word {

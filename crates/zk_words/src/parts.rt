@@ -1,9 +1,9 @@
 ghost use Rattle.std.specs.Prelude.{◌≡◌, [], ◌∷◌, MatchOption};
-ghost use Rattle.zk_words.specs.Parts.{placed, parts_of, fits, rest_fits};
+ghost use Rattle.zk_words.specs.Parts.{placed, parts_of};
 
+use crate::pieces::Words;
 use crate::slot::{Rest, Slot};
 use crate::table::Row;
-use crate::words::Words;
 use std::marker::Model;
 
 /// A word of a line, and the slot that it stands in.
@@ -75,30 +75,5 @@ impl<'a> Parts<'a> {
                 }
             },
         }
-    }
-}
-
-/// Whether there is a word for each slot of a row, and a slot for each word.
-pub fn fits(row: &Row, words: Words<'_>) -> bool
-    ensures { result ≡ fits row.now.slots row.now.rest words.entry }
-{
-    let mut words = words;
-    let mut slots = row.slots;
-    while let [_, more @ ..] = slots {
-        if words.next().is_none() {
-            return false;
-        }
-        slots = more;
-    }
-    rest_fits(row.rest, words)
-}
-
-fn rest_fits(rest: Rest, words: Words<'_>) -> bool
-    ensures { result ≡ rest_fits rest words.entry }
-{
-    let mut words = words;
-    match rest {
-        Rest::Nothing => words.next().is_none(),
-        Rest::Maybe(_) => words.next().is_none() || words.next().is_none(),
     }
 }

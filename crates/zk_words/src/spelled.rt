@@ -1,10 +1,10 @@
-ghost use Rattle.std.specs.Prelude.{◌≡◌};
-ghost use Rattle.std.specs.List.{list_all, list_any};
-ghost use Rattle.zk_words.specs.Spelled.{choice_text, same_choice, is_spelled_in, part_is_spelled, is_later_in, part_is_later};
+ghost use Rattle.std.specs.Prelude.{◌≡◌, false, []};
+ghost use Rattle.zk_words.specs.Spelled.{choice_text, same_choice, is_spelled_in, is_later_in, right, spelling_of};
 
-use crate::numbers::{number_of, priority_of};
-use crate::parts::Parts;
-use crate::slot::{Choice, Slot};
+use crate::numbers::{is_number, priority_of};
+use crate::pieces::Words;
+use crate::slot::{Choice, Rest, Slot};
+use crate::table::Row;
 use zk_base::is_spelled;
 
 /// One of the two words of a choice; the first is true.
@@ -33,17 +33,68 @@ pub fn same_choice(choice: Choice, other: Choice) -> bool
     }
 }
 
-/// Whether each word is spelled as its slot asks.
-pub fn are_spelled(parts: Parts<'_>) -> bool
-    ensures { result ≡ list_all part_is_spelled parts.entry }
+/// How the words behind a line's first stand in the slots of its row.
+#[derive(Clone, Copy, Debug)]
+pub enum Spelling {
+    /// Not a word for each slot and a slot for each word, or a word that its slot doesn't take.
+    Wrong,
+    /// Rightly, with a word that the program can't play yet.
+    Later,
+    Right,
+}
+
+/// How the words stand in the slots of a row.
+#[tactic(auto, using(crate::proofs::Spellings::spelling_next))]
+pub fn spelling_of(row: &Row, words: Words<'_>) -> Spelling
+    ensures { result ≡ spelling_of false row.now.slots row.now.rest words.entry }
 {
-    let mut parts = parts;
-    while let Some(part) = parts.next() {
-        if !is_spelled_in(part.slot, part.text) {
-            return false;
+    let mut words = words;
+    let mut slots = row.slots;
+    let mut later = false;
+    while let [slot, more @ ..] = slots {
+        let Some(word) = words.next() else {
+            return Spelling::Wrong;
+        };
+        if !is_spelled_in(*slot, word) {
+            return Spelling::Wrong;
+        }
+        later = later || is_later_in(*slot, word);
+        slots = more;
+    }
+    rest_spelling(later, row.rest, words)
+}
+
+fn rest_spelling(later: bool, rest: Rest, words: Words<'_>) -> Spelling
+    ensures { result ≡ spelling_of later [] rest words.entry }
+{
+    let mut words = words;
+    match rest {
+        Rest::Nothing => {
+            if words.next().is_some() {
+                return Spelling::Wrong;
+            }
+            right(later)
+        }
+        Rest::Maybe(slot) => {
+            let Some(word) = words.next() else {
+                return right(later);
+            };
+            if words.next().is_some() || !is_spelled_in(slot, word) {
+                return Spelling::Wrong;
+            }
+            right(later || is_later_in(slot, word))
         }
     }
-    true
+}
+
+fn right(later: bool) -> Spelling
+    ensures { result ≡ right later }
+{
+    if later {
+        Spelling::Later
+    } else {
+        Spelling::Right
+    }
 }
 
 fn is_spelled_in(slot: Slot, word: &[u8]) -> bool
@@ -53,25 +104,12 @@ fn is_spelled_in(slot: Slot, word: &[u8]) -> bool
         Slot::New => is_spelled(word),
         Slot::Owner => is_spelled(word),
         Slot::Object(_) => is_spelled(word),
-        Slot::Number(_, _) => number_of(word).is_some(),
+        Slot::Number(_, _) => is_number(word),
         Slot::Priority => priority_of(word).is_some(),
         Slot::Either(choice) => {
             word == choice_text(choice, true) || word == choice_text(choice, false)
         }
     }
-}
-
-/// Whether the program can't play one of the words in its slot yet.
-pub fn has_later(parts: Parts<'_>) -> bool
-    ensures { result ≡ list_any part_is_later parts.entry }
-{
-    let mut parts = parts;
-    while let Some(part) = parts.next() {
-        if is_later_in(part.slot, part.text) {
-            return true;
-        }
-    }
-    false
 }
 
 fn is_later_in(slot: Slot, word: &[u8]) -> bool

@@ -1,5 +1,7 @@
 ghost use Rattle.std.specs.Prelude.{◌≡◌};
-ghost use Rattle.zk_words.specs.Table.{exactly, perhaps, heads, row_of, call_row, kind_row};
+ghost use Rattle.std.specs.Str.{bytes_eq};
+ghost use Rattle.zk_words.specs.Lines.{head_of};
+ghost use Rattle.zk_words.specs.Table.{exactly, perhaps, row_of, call_row, kind_row};
 
 use crate::kind::{Kind, Need};
 use crate::slot::{Choice, Rest, Slot};
@@ -96,11 +98,24 @@ fn call_row(word: Word) -> Row
     }
 }
 
-/// The heads of the lines that are built.
-pub fn heads() -> &'static [Head]
-    ensures { result.now ≡ heads }
+/// Returns the first of the heads whose row begins with this word. The compiler makes of each a comparison
+/// with the row's own text.
+macro_rules! return_first {
+    ($first:expr; $($head:expr),+ $(,)?) => {
+        $(
+            if begins_with($head, $first) {
+                return Some($head);
+            }
+        )+
+    };
+}
+
+/// The head of the line that this word begins, if one is built.
+pub fn head_of(first: &[u8]) -> Option<Head>
+    ensures { result ≡ head_of first.now }
 {
-    &[
+    return_first!(
+        first;
         Head::Declare(Kind::Thread),
         Head::Declare(Kind::Queue),
         Head::Declare(Kind::Item),
@@ -117,5 +132,12 @@ pub fn heads() -> &'static [Head]
         Head::Call(Word::Drain),
         Head::Call(Word::Unplug),
         Head::Call(Word::Tick),
-    ]
+    );
+    None
+}
+
+fn begins_with(head: Head, first: &[u8]) -> bool
+    ensures { result ≡ bytes_eq first.now (row_of head).first }
+{
+    first == row_of(head).first
 }

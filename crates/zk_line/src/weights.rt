@@ -1,0 +1,144 @@
+ghost use Rattle.std.specs.Prelude.{◌≡◌, true, [], Some, option_map, if◌then◌else◌, IfOk};
+ghost use Rattle.std.specs.List.{list_all};
+ghost use Rattle.std.specs.Option.{option_flatten};
+ghost use Rattle.zk_words.specs.Numbers.{number_in, priority_of};
+ghost use Rattle.zk_words.specs.Spelled.{is_spelled_in, part_is_spelled};
+ghost use Rattle.zk_line.specs.Args.{truth_of, arg_of, args_of};
+ghost use Rattle.zk_line.specs.Checks.{is_in_range, are_in_range, is_well_named, are_well_named};
+ghost use Rattle.zk_line.specs.Weights.{Weighs, or_wrong};
+
+use crate::arg_list::Args;
+use crate::checks::are_in_range;
+use crate::kinds::{meets_at, plays_at};
+use crate::objects::Objects;
+use crate::types::{Arg, Ref};
+use zk_base::{Name, NoMemory};
+use zk_words::{Choice, Need, Parts, Slot, choice_text, number_in, priority_of};
+
+/// What speaks against a word in its slot, or against a line's words in theirs.
+#[derive(Clone, Copy, Debug)]
+pub enum Wrong {
+    /// A number is out of its range.
+    OutOfRange,
+    /// No number is, and a name may not stand where it does.
+    Misnamed,
+}
+
+/// What speaks against the words of a line; where nothing does, the arguments are what they say. Each
+/// name is looked up once.
+pub fn weigh(
+    args: &mut Args,
+    objects: &Objects,
+    parts: Parts<'_>,
+) -> Result<Option<Wrong>, NoMemory>
+    requires empty { args.old ≡ [] }
+    requires spelled { list_all part_is_spelled parts ≡ true }
+    ensures { IfOk result (λ wrong. Weighs
+        (are_in_range parts.entry) (are_well_named objects.now parts.entry) (args_of objects.now parts.entry)
+        (or_wrong wrong args.new)) }
+{
+    let mut parts = parts;
+    while let Some(part) = parts.next() {
+        match worth_of(objects, part.slot, part.text) {
+            Ok(arg) => args.push(arg)?,
+            Err(Wrong::OutOfRange) => return Ok(Some(Wrong::OutOfRange)),
+            Err(Wrong::Misnamed) => return Ok(Some(misnamed(are_in_range(parts)))),
+        }
+    }
+    Ok(None)
+}
+
+/// What speaks against a line in which a name is wrong, and the numbers behind it are in range or not.
+fn misnamed(in_range: bool) -> Wrong
+    ensures { result ≡ (if in_range then Wrong.Misnamed else Wrong.OutOfRange) }
+{
+    if in_range {
+        Wrong::Misnamed
+    } else {
+        Wrong::OutOfRange
+    }
+}
+
+/// What a word is worth in its slot.
+fn worth_of(objects: &Objects, slot: Slot, word: &[u8]) -> Result<Arg, Wrong>
+    requires { is_spelled_in slot word.now ≡ true }
+    ensures { Weighs (is_in_range slot word.now) (is_well_named objects.now slot word.now) (arg_of objects.now slot word.now) result }
+{
+    match slot {
+        Slot::New => new_name(objects, word),
+        Slot::Owner => owner(objects, word),
+        Slot::Object(need) => object(objects, need, word),
+        Slot::Number(least, most) => number(least, most, word),
+        Slot::Priority => priority(word),
+        Slot::Either(choice) => Ok(Arg::Truth(choice, truth(choice, word))),
+    }
+}
+
+fn new_name(objects: &Objects, word: &[u8]) -> Result<Arg, Wrong>
+    ensures { Weighs true (is_well_named objects.now Slot.New word.now) (arg_of objects.now Slot.New word.now) result }
+{
+    let Some(name) = Name::new(word) else {
+        return Err(Wrong::Misnamed);
+    };
+    if objects.find(word).is_some() {
+        Err(Wrong::Misnamed)
+    } else {
+        Ok(Arg::Name(name))
+    }
+}
+
+fn owner(objects: &Objects, word: &[u8]) -> Result<Arg, Wrong>
+    ensures { Weighs true (is_well_named objects.now Slot.Owner word.now) (arg_of objects.now Slot.Owner word.now) result }
+{
+    let Some(object) = objects.find(word) else {
+        return Err(Wrong::Misnamed);
+    };
+    if plays_at(objects.decls(), object) {
+        Ok(Arg::Object(Ref::Known(object)))
+    } else {
+        Err(Wrong::Misnamed)
+    }
+}
+
+fn object(objects: &Objects, need: Need, word: &[u8]) -> Result<Arg, Wrong>
+    ensures { Weighs true
+        (is_well_named objects.now (Slot.Object need) word.now) (arg_of objects.now (Slot.Object need) word.now) result }
+{
+    let Some(object) = objects.find(word) else {
+        return Err(Wrong::Misnamed);
+    };
+    if meets_at(need, objects.decls(), object) {
+        Ok(Arg::Object(Ref::Known(object)))
+    } else {
+        Err(Wrong::Misnamed)
+    }
+}
+
+fn number(least: u32, most: u32, word: &[u8]) -> Result<Arg, Wrong>
+    ensures { Weighs (is_in_range (Slot.Number least most) word.now) true
+        (option_map Arg.Number (number_in least most word.now)) result }
+{
+    match number_in(least, most, word) {
+        Some(number) => Ok(Arg::Number(number)),
+        None => Err(Wrong::OutOfRange),
+    }
+}
+
+fn priority(word: &[u8]) -> Result<Arg, Wrong>
+    ensures { Weighs (is_in_range Slot.Priority word.now) true
+        (option_map Arg.Priority (option_flatten (priority_of word.now))) result }
+{
+    match priority_of(word) {
+        Some(Some(prio)) => Ok(Arg::Priority(prio)),
+        _ => Err(Wrong::OutOfRange),
+    }
+}
+
+/// Which of the two words of a choice it is.
+#[tactic(auto, using(crate::proofs::Choices::truth_of_spelled))]
+fn truth(choice: Choice, word: &[u8]) -> bool
+    requires { is_spelled_in (Slot.Either choice) word.now ≡ true }
+    ensures { truth_of choice word.now ≡ Some result }
+{
+    word == choice_text(choice, true)
+}

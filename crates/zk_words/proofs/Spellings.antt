@@ -1,0 +1,22 @@
+-- How words stand in their slots, word by word.
+use Rattle.std.proofs.Common.{◌≡◌, ℕ, Bool, true, false, cond, ◌&&◌, ◌||◌, List, ◌∷◌, refl}
+use Rattle.std.specs.List.{list_all, list_any}
+use Rattle.zk_words.specs.declared.slot.Slot.{Slot}
+use Rattle.zk_words.specs.declared.slot.Rest.{Rest}
+use Rattle.zk_words.specs.declared.spelled.Spelling.TheVariants.{Wrong}
+use Rattle.zk_words.specs.Parts.{parts_of, fits}
+use Rattle.zk_words.specs.Spelled.{is_spelled_in, part_is_spelled, is_later_in, part_is_later, right, spelling_of}
+
+-- a test of three parts by the second
+spelling-step : (fit spelled all later one more : Bool) → cond (fit && (spelled && all)) (right (later || (one || more))) Wrong ≡ cond spelled (cond (fit && all) (right ((later || one) || more)) Wrong) Wrong
+spelling-step true true all true one more = refl
+spelling-step true true all false one more = refl
+spelling-step true false all later one more = refl
+spelling-step false true all later one more = refl
+spelling-step false false all later one more = refl
+
+-- a word that its slot takes leaves the spelling to the words behind it, and another settles it
+pub spelling_next : (later : Bool) (slot : Slot) (slots : List Slot) (rest : Rest) (word : List ℕ) (words : List (List ℕ))
+    → spelling_of later (slot ∷ slots) rest (word ∷ words) ≡ cond (is_spelled_in slot word) (spelling_of (later || is_later_in slot word) slots rest words) Wrong
+spelling_next later slot slots rest word words =
+    spelling-step (fits slots rest words) (is_spelled_in slot word) (list_all part_is_spelled (parts_of slots rest words)) later (is_later_in slot word) (list_any part_is_later (parts_of slots rest words))
