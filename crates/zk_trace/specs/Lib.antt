@@ -1,5 +1,6 @@
 pub mod Names
 pub mod Words
+pub mod Parts
 pub mod Work
 pub mod Clock
 pub mod Text

@@ -1,4 +1,4 @@
-use Rattle.std.specs.Prelude.{ℕ, Option, List, [], slice_get, option_and_then}
+use Rattle.std.specs.Prelude.{ℕ, Option, Some, None, List, [], slice_get, option_and_then, codes}
 use Rattle.std.specs.Option.{option_map_or}
 use Rattle.zk_line.specs.declared.types.Decl.{Decl}
 use Rattle.zk_line.specs.Objects.{places, is_item, is_queue, name_of}
@@ -15,6 +15,11 @@ item_name decls item = object_name decls (slice_get (places is_item decls) item)
 -- the name of a queue, by its number among the queues
 abbrev pub queue_name : List Decl → ℕ → List ℕ
 queue_name decls queue = object_name decls (slice_get (places is_queue decls) queue)
+
+-- the name of the queue that a submission names, and a dash for none
+abbrev pub target_name : List Decl → Option ℕ → List ℕ
+target_name decls None = codes "-"
+target_name decls (Some queue) = queue_name decls queue
 
 -- the name of a player: a thread's own, and a worker's queue's
 abbrev pub player_name : List Decl → ℕ → List ℕ

@@ -2,18 +2,12 @@ use Rattle.std.specs.Prelude.{ℕ, Bool, true, false, ◌==◌, if◌then◌else
 use Rattle.std.specs.Int.RustNames.{bit_and}
 use Rattle.zk_base.specs.declared.errors.Errno.{Errno}
 use Rattle.zk_base.specs.declared.errors.Errno.TheVariants.{Busy, Again, Inval, NoDev, NoMsg, Already, Fault}
-use Rattle.zk_worker.specs.declared.answers.Answer.{Answer}
-use Rattle.zk_worker.specs.declared.answers.Answer.TheVariants as answers
 use Rattle.zk_words.specs.declared.word.Word.{Word}
 use Rattle.zk_words.specs.Table.{call_row}
 use Rattle.zk_worker.specs.declared.log.PlayerState.{PlayerState}
 use Rattle.zk_worker.specs.declared.log.PlayerState.TheVariants as states
 use Rattle.zk_trace.specs.declared.trace.Ending.{Ending}
 use Rattle.zk_trace.specs.declared.trace.Ending.TheVariants.{Ended, Stuck, Spent}
-
--- each word behind a space
-abbrev pub spaced : List ℕ → List ℕ
-spaced word = codes " " ++ word
 
 -- the word of an ending
 abbrev pub ending_word : Ending → List ℕ
@@ -54,21 +48,9 @@ abbrev pub truth_word : Bool → List ℕ
 truth_word true = codes "true"
 truth_word false = codes "false"
 
--- whether a queue is plugged with its drain
-abbrev pub mode_word : Bool → List ℕ
-mode_word true = codes "plug"
-mode_word false = codes "open"
-
 -- the word of a call, as it stands in the table
 abbrev pub call_word : Word → List ℕ
 call_word word = (call_row word).first
-
--- the answer of a call
-abbrev pub answer_text : Answer → List ℕ
-answer_text (answers.Number number) = decimal number
-answer_text (answers.Flags flags) = flags_word flags
-answer_text (answers.Truth truth) = truth_word truth
-answer_text (answers.Refused errno) = errno_word errno
 
 -- how a player stands
 abbrev pub state_word : PlayerState → List ℕ

@@ -1,5 +1,5 @@
-use Rattle.std.specs.Prelude.{ℕ, Option, Some, None, List, ◌++◌, codes, decimal}
-use Rattle.std.specs.List.{flat_map}
+use Rattle.std.specs.Prelude.{ℕ, List, [], ◌∷◌, ◌++◌, map, codes}
+use Rattle.std.specs.List.{join_with_byte}
 use Rattle.zk_line.specs.declared.types.Decl.{Decl}
 use Rattle.zk_model_work.specs.declared.ops.WorkOp.{WorkOp}
 use Rattle.zk_model_work.specs.declared.ops.WorkOp.TheVariants as ops
@@ -8,84 +8,94 @@ use Rattle.zk_model_work.specs.declared.ops.WorkReply.TheVariants as replies
 use Rattle.zk_model_work.specs.declared.ops.Submitted.{Submitted}
 use Rattle.zk_model_work.specs.declared.ops.Submitted.TheVariants as submissions
 use Rattle.zk_model_work.specs.declared.ops.Expiry.{Expiry}
-use Rattle.zk_trace.specs.Names.{item_name, queue_name}
-use Rattle.zk_trace.specs.Words.{spaced, errno_word, admission_word, flags_word, truth_word, mode_word}
+use Rattle.zk_trace.specs.declared.work.Verb.{Verb}
+use Rattle.zk_trace.specs.declared.work.Verb.TheVariants as verbs
+use Rattle.zk_trace.specs.declared.parts.FixedWord.{FixedWord}
+use Rattle.zk_trace.specs.declared.parts.FixedWord.TheVariants.{Zero, One, Two, Wait, Done, Already, Now}
+use Rattle.zk_trace.specs.declared.parts.Part.{Part}
+use Rattle.zk_trace.specs.declared.parts.Part.TheVariants.{Item, Queue, Target, Narrow, Wide, Place, Admission, Plug, Flags, Truth, Refusal, Fixed}
+use Rattle.zk_trace.specs.Parts.{part_word}
 
--- the queue that a submission names, and a dash for none
-abbrev pub named_queue : List Decl → Option ℕ → List ℕ
-named_queue decls None = codes "-"
-named_queue decls (Some queue) = queue_name decls queue
+-- the word of a verb
+abbrev pub verb_word : Verb → List ℕ
+verb_word verbs.Submit = codes "submit"
+verb_word verbs.Cancel = codes "cancel"
+verb_word verbs.CancelStart = codes "cancelstart"
+verb_word verbs.CancelDone = codes "canceldone"
+verb_word verbs.FlushStart = codes "flushstart"
+verb_word verbs.FlushDone = codes "flushdone"
+verb_word verbs.Schedule = codes "schedule"
+verb_word verbs.Reschedule = codes "reschedule"
+verb_word verbs.Remaining = codes "remaining"
+verb_word verbs.Start = codes "start"
+verb_word verbs.DrainStart = codes "drainstart"
+verb_word verbs.DrainDone = codes "draindone"
+verb_word verbs.Unplug = codes "unplug"
+verb_word verbs.Announce = codes "announce"
+verb_word verbs.Begin = codes "begin"
+verb_word verbs.End = codes "end"
 
--- what is delayed: the item, the queue that it goes to, and the ticks until then
-abbrev pub delayed_text : List Decl → ℕ → ℕ → ℕ → List ℕ
-delayed_text decls item queue delay =
-    item_name decls item ++ spaced (queue_name decls queue) ++ spaced (decimal delay)
+-- an operation as it is written: its verb, and what stands behind that
+abbrev pub said_of : WorkOp → Verb × List Part
+said_of (ops.Submit item queue) = (verbs.Submit, Item item ∷ Target queue ∷ [])
+said_of (ops.Cancel item) = (verbs.Cancel, Item item ∷ [])
+said_of (ops.CancelStart item) = (verbs.CancelStart, Item item ∷ [])
+said_of (ops.CancelDone place) = (verbs.CancelDone, Place place ∷ [])
+said_of (ops.FlushStart item) = (verbs.FlushStart, Item item ∷ [])
+said_of (ops.FlushDone place) = (verbs.FlushDone, Place place ∷ [])
+said_of (ops.Schedule item queue delay) =
+    (verbs.Schedule, Item item ∷ Queue queue ∷ Narrow delay ∷ [])
+said_of (ops.Reschedule item queue delay) =
+    (verbs.Reschedule, Item item ∷ Queue queue ∷ Narrow delay ∷ [])
+said_of (ops.Remaining item) = (verbs.Remaining, Item item ∷ [])
+said_of (ops.Start queue) = (verbs.Start, Queue queue ∷ [])
+said_of (ops.DrainStart queue plug) = (verbs.DrainStart, Queue queue ∷ Plug plug ∷ [])
+said_of (ops.DrainDone place) = (verbs.DrainDone, Place place ∷ [])
+said_of (ops.Unplug queue) = (verbs.Unplug, Queue queue ∷ [])
+said_of (ops.Announce ticks) = (verbs.Announce, Narrow ticks ∷ [])
+said_of (ops.Begin queue) = (verbs.Begin, Queue queue ∷ [])
+said_of (ops.End queue) = (verbs.End, Queue queue ∷ [])
 
--- an operation of the work service
-abbrev pub op_text : List Decl → WorkOp → List ℕ
-op_text decls (ops.Submit item queue) =
-    codes "submit " ++ item_name decls item ++ spaced (named_queue decls queue)
-op_text decls (ops.Cancel item) = codes "cancel " ++ item_name decls item
-op_text decls (ops.CancelStart item) = codes "cancelstart " ++ item_name decls item
-op_text decls (ops.CancelDone place) = codes "canceldone " ++ decimal place
-op_text decls (ops.FlushStart item) = codes "flushstart " ++ item_name decls item
-op_text decls (ops.FlushDone place) = codes "flushdone " ++ decimal place
-op_text decls (ops.Schedule item queue delay) =
-    codes "schedule " ++ delayed_text decls item queue delay
-op_text decls (ops.Reschedule item queue delay) =
-    codes "reschedule " ++ delayed_text decls item queue delay
-op_text decls (ops.Remaining item) = codes "remaining " ++ item_name decls item
-op_text decls (ops.Start queue) = codes "start " ++ queue_name decls queue
-op_text decls (ops.DrainStart queue plug) =
-    codes "drainstart " ++ queue_name decls queue ++ spaced (mode_word plug)
-op_text decls (ops.DrainDone place) = codes "draindone " ++ decimal place
-op_text decls (ops.Unplug queue) = codes "unplug " ++ queue_name decls queue
-op_text decls (ops.Announce ticks) = codes "announce " ++ decimal ticks
-op_text decls (ops.Begin queue) = codes "begin " ++ queue_name decls queue
-op_text decls (ops.End queue) = codes "end " ++ queue_name decls queue
+-- the words of an operation
+abbrev pub op_words : List Decl → WorkOp → List (List ℕ)
+op_words decls op = let said = said_of op in verb_word said.0 ∷ map (part_word decls) said.1
+
+-- an admission: its number and its queue, behind the answer
+abbrev pub admitted : FixedWord → ℕ → ℕ → List Part
+admitted answer admission queue = Fixed answer ∷ Admission admission ∷ Queue queue ∷ []
 
 -- what became of a submission
-abbrev pub submitted_text : List Decl → Submitted → List ℕ
-submitted_text decls submissions.Already = codes "0"
-submitted_text decls (submissions.Fresh admission queue) =
-    codes "1 " ++ admission_word admission ++ spaced (queue_name decls queue)
-submitted_text decls (submissions.Rerun admission queue) =
-    codes "2 " ++ admission_word admission ++ spaced (queue_name decls queue)
-submitted_text decls (submissions.Refused errno) = errno_word errno
+abbrev pub submitted_parts : Submitted → List Part
+submitted_parts submissions.Already = Fixed Zero ∷ []
+submitted_parts (submissions.Fresh admission queue) = admitted One admission queue
+submitted_parts (submissions.Rerun admission queue) = admitted Two admission queue
+submitted_parts (submissions.Refused errno) = Refusal errno ∷ []
 
--- what became of the submission at the end of a delay: the same, with colons for its spaces
-abbrev pub expired_text : List Decl → Submitted → List ℕ
-expired_text decls submissions.Already = codes "0"
-expired_text decls (submissions.Fresh admission queue) =
-    codes "1:" ++ admission_word admission ++ codes ":" ++ queue_name decls queue
-expired_text decls (submissions.Rerun admission queue) =
-    codes "2:" ++ admission_word admission ++ codes ":" ++ queue_name decls queue
-expired_text decls (submissions.Refused errno) = errno_word errno
+-- a delay that ended: its item, and what became of the submission, with colons between
+abbrev pub expiry_word : List Decl → Expiry → List ℕ
+expiry_word decls e =
+    join_with_byte 58 (map (part_word decls) (Item e.item ∷ submitted_parts e.submitted))
 
--- a delay that ended: its item, and what became of the submission
-abbrev pub expiry_text : List Decl → Expiry → List ℕ
-expiry_text decls e =
-    codes " " ++ item_name decls e.item ++ codes ":" ++ expired_text decls e.submitted
+-- the parts of a reply
+abbrev pub reply_parts : WorkReply → List Part
+reply_parts (replies.Sub submitted) = submitted_parts submitted
+reply_parts replies.Armed = Fixed One ∷ []
+reply_parts (replies.Flags flags) = Flags flags ∷ []
+reply_parts (replies.Truth truth) = Truth truth ∷ []
+reply_parts replies.Wait = Fixed Wait ∷ []
+reply_parts (replies.WaitFor admission) = Fixed Wait ∷ Admission admission ∷ []
+reply_parts (replies.Number number) = Wide number ∷ []
+reply_parts replies.Done = Fixed Done ∷ []
+reply_parts replies.Already = Fixed Already ∷ []
+reply_parts (replies.Now time expiries) = Fixed Now ∷ Wide time ∷ []
+reply_parts (replies.Run item admission) = Item item ∷ Admission admission ∷ []
 
--- the time after an announce, and the delays that ended by it
-abbrev pub now_text : List Decl → ℕ → List Expiry → List ℕ
-now_text decls time expiries = codes "now " ++ decimal time ++ flat_map (expiry_text decls) expiries
+-- the delays that a reply says to have ended
+abbrev pub expiries_of : WorkReply → List Expiry
+expiries_of (replies.Now time expiries) = expiries
+expiries_of reply = []
 
--- a wait for the end of an admission
-abbrev pub wait_for_text : ℕ → List ℕ
-wait_for_text admission = codes "wait " ++ admission_word admission
-
--- a reply of the work service
-abbrev pub reply_text : List Decl → WorkReply → List ℕ
-reply_text decls (replies.Sub submitted) = submitted_text decls submitted
-reply_text decls replies.Armed = codes "1"
-reply_text decls (replies.Flags flags) = flags_word flags
-reply_text decls (replies.Truth truth) = truth_word truth
-reply_text decls replies.Wait = codes "wait"
-reply_text decls (replies.WaitFor admission) = wait_for_text admission
-reply_text decls (replies.Number number) = decimal number
-reply_text decls replies.Done = codes "ok"
-reply_text decls replies.Already = codes "already"
-reply_text decls (replies.Now time expiries) = now_text decls time expiries
-reply_text decls (replies.Run item admission) =
-    item_name decls item ++ spaced (admission_word admission)
+-- the words of a reply
+abbrev pub reply_words : List Decl → WorkReply → List (List ℕ)
+reply_words decls reply =
+    map (part_word decls) (reply_parts reply) ++ map (expiry_word decls) (expiries_of reply)

@@ -1,13 +1,16 @@
 //! The trace of a run, and its text.
 #![tactic(auto, using(crate::proofs::Fronts::front_same, crate::proofs::Fronts::front_put, crate::proofs::Fronts::front_then))]
 
-mod entries;
+mod clock;
+mod lined;
 mod names;
+mod parts;
 mod print;
-mod replies;
 mod sections;
+mod spelled;
 mod trace;
 mod words;
+mod work;
 
 pub use print::{print_trace, put_trace};
 pub use trace::{Ending, History, Logs, Trace};

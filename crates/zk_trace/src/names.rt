@@ -1,7 +1,7 @@
 ghost use Rattle.std.specs.Prelude.{◌≡◌, slice_get, option_copied};
 ghost use Rattle.zk_line.specs.Objects.{places, is_item, is_queue, name_of};
 ghost use Rattle.zk_scenario.specs.Players.{players};
-ghost use Rattle.zk_trace.specs.Names.{object_name, item_name, queue_name, player_name};
+ghost use Rattle.zk_trace.specs.Names.{object_name, item_name, queue_name, target_name, player_name};
 
 use zk_scenario::{Decl, Scenario};
 
@@ -17,6 +17,16 @@ pub fn queue_name(scenario: &Scenario, queue: u32) -> &[u8]
     ensures { result.now ≡ queue_name scenario.now.decls queue }
 {
     object_name(scenario.decls(), number_at(scenario.queues(), queue))
+}
+
+/// The name of the queue that a submission names, and a dash for none.
+pub fn target_name(scenario: &Scenario, queue: Option<u32>) -> &[u8]
+    ensures { result.now ≡ target_name scenario.now.decls queue }
+{
+    match queue {
+        None => b"-",
+        Some(queue) => queue_name(scenario, queue),
+    }
 }
 
 /// The name of a player: a thread's own, and a worker's queue's.

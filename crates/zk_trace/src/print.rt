@@ -4,10 +4,10 @@ ghost use Rattle.zk_trace.specs.Fronts.{StaysInFront};
 ghost use Rattle.zk_trace.specs.Text.{trace_text};
 
 use crate::Trace;
-use crate::sections::{put_clock_section, put_line, put_players, put_work_section};
+use crate::sections::{put_players, put_service};
 use crate::words::ending_word;
 use std::alloc::Global;
-use zk_base::NoMemory;
+use zk_base::{NoMemory, put};
 use zk_scenario::{Scenario, print_scenario};
 
 /// Appends the trace part of the output: the head, the ending, the sections of the services and of the players.
@@ -16,21 +16,22 @@ pub fn put_trace(out: &mut Vec<u8>, scenario: &Scenario, trace: &Trace) -> Resul
     ensures unchanged { OnErr result (out.new.items ≡ out.old.items) }
 {
     let before = out.len();
-    let put = put_parts(out, scenario, trace);
+    let put = put_all(out, scenario, trace);
     if put.is_err() {
         out.truncate(before);
     }
     put
 }
 
-fn put_parts(out: &mut Vec<u8>, scenario: &Scenario, trace: &Trace) -> Result<(), NoMemory>
+fn put_all(out: &mut Vec<u8>, scenario: &Scenario, trace: &Trace) -> Result<(), NoMemory>
     ensures text { OnOk result (out.new.items ≡ out.old.items ++ trace_text scenario.now trace.now) }
     ensures kept { OnErr result (StaysInFront out.old.items out.new.items) }
 {
-    put_line(out, b"zt 1")?;
-    put_line(out, ending_word(trace.ending))?;
-    put_work_section(out, scenario, trace.work.items())?;
-    put_clock_section(out, scenario, trace.clock.items())?;
+    put(out, b"zt 1\n")?;
+    put(out, ending_word(trace.ending))?;
+    put(out, b"\n")?;
+    put_service(out, scenario, b"work", trace.work.items())?;
+    put_service(out, scenario, b"clock", trace.clock.items())?;
     put_players(out, scenario, trace.logs.items())
 }
 

@@ -1,30 +1,12 @@
 ghost use Rattle.std.specs.Prelude.{◌≡◌, ◌++◌, ◌==◌, decimal, OnOk, OnErr};
 ghost use Rattle.std.specs.Int.RustNames.{bit_and};
 ghost use Rattle.zk_trace.specs.Fronts.{StaysInFront};
-ghost use Rattle.zk_trace.specs.Words.{spaced, ending_word, errno_word, admission_word, flag_letter, flag_letters, flags_word, truth_word, mode_word, call_word, answer_text, state_word};
+ghost use Rattle.zk_trace.specs.Words.{ending_word, errno_word, admission_word, flag_letter, flag_letters, flags_word, truth_word, call_word, state_word};
 
 use crate::Ending;
 use zk_base::{Errno, NoMemory, put, put_decimal};
 use zk_words::{Head, Word, row_of};
-use zk_worker::{Answer, PlayerState};
-
-/// Appends a space and then the word.
-pub fn put_spaced(out: &mut Vec<u8>, word: &[u8]) -> Result<(), NoMemory>
-    ensures text { OnOk result (out.new.items ≡ out.old.items ++ spaced word.now) }
-    ensures kept { OnErr result (StaysInFront out.old.items out.new.items) }
-{
-    put(out, b" ")?;
-    put(out, word)
-}
-
-/// Appends the word and then the number.
-pub fn put_number(out: &mut Vec<u8>, word: &[u8], number: u64) -> Result<(), NoMemory>
-    ensures text { OnOk result (out.new.items ≡ out.old.items ++ (word.now ++ decimal number)) }
-    ensures kept { OnErr result (StaysInFront out.old.items out.new.items) }
-{
-    put(out, word)?;
-    put_decimal(out, number)
-}
+use zk_worker::PlayerState;
 
 /// How a run ended.
 pub fn ending_word(ending: Ending) -> &'static [u8]
@@ -100,31 +82,11 @@ pub fn truth_word(truth: bool) -> &'static [u8]
     if truth { b"true" } else { b"false" }
 }
 
-/// Whether a drain plugs its queue.
-pub fn mode_word(plug: bool) -> &'static [u8]
-    ensures { result.now ≡ mode_word plug }
-{
-    if plug { b"plug" } else { b"open" }
-}
-
 /// A call, as it is spelled in a scenario.
 pub fn call_word(word: Word) -> &'static [u8]
     ensures { result.now ≡ call_word word }
 {
     row_of(Head::Call(word)).first
-}
-
-/// Appends the answer of a call.
-pub fn put_answer(out: &mut Vec<u8>, answer: Answer) -> Result<(), NoMemory>
-    ensures text { OnOk result (out.new.items ≡ out.old.items ++ answer_text answer) }
-    ensures kept { OnErr result (StaysInFront out.old.items out.new.items) }
-{
-    match answer {
-        Answer::Number(number) => put_decimal(out, number),
-        Answer::Flags(flags) => put_flags(out, flags),
-        Answer::Truth(truth) => put(out, truth_word(truth)),
-        Answer::Refused(errno) => put(out, errno_word(errno)),
-    }
 }
 
 /// How a player stands at the end.

@@ -1,6 +1,6 @@
 use Rattle.std.proofs.Common.{rules}
 use Rattle.zk_trace.proofs.Fronts.{front_then}
-use Rattle.zk_trace.proofs.replies.put_expiries.Goals as goal
+use Rattle.zk_trace.proofs.work.put_expiries.Goals as goal
 
 pub returns-in_err-put_expiry-clause-kept : goal.returns-in_err-put_expiry-clause-kept
 returns-in_err-put_expiry-clause-kept c =

@@ -1,0 +1,69 @@
+ghost use Rattle.std.specs.Prelude.{◌≡◌};
+ghost use Rattle.zk_trace.specs.Clock.{verb_word, said_of, op_words, reply_parts, reply_words};
+
+use crate::parts::{FixedWord, Part, PartList, put_parts, put_said};
+use crate::spelled::Spelled;
+use zk_base::NoMemory;
+use zk_model_wait::{ClockOp, ClockReply};
+use zk_scenario::Scenario;
+
+/// The verbs of the clock's operations.
+#[derive(Clone, Copy)]
+pub enum Verb {
+    /// Of `ClockOp::Announce`.
+    Announce,
+    /// Of `ClockOp::Alarm`.
+    Alarm,
+    /// Of `ClockOp::AlarmEnd`.
+    AlarmEnd,
+}
+
+/// The word of a verb.
+fn verb_word(verb: Verb) -> &'static [u8]
+    ensures { result.now ≡ verb_word verb }
+{
+    match verb {
+        Verb::Announce => b"announce",
+        Verb::Alarm => b"alarm",
+        Verb::AlarmEnd => b"alarmend",
+    }
+}
+
+/// An operation as it is written: its verb, and what stands behind that.
+fn said_of(op: ClockOp) -> (Verb, PartList)
+    ensures { result ≡ said_of op }
+{
+    match op {
+        ClockOp::Announce(ticks) => (Verb::Announce, PartList::one(Part::Narrow(ticks))),
+        ClockOp::Alarm(ticks) => (Verb::Alarm, PartList::one(Part::Narrow(ticks))),
+        ClockOp::AlarmEnd(moment) => (Verb::AlarmEnd, PartList::one(Part::Wide(moment))),
+    }
+}
+
+/// The parts of a reply.
+fn reply_parts(reply: ClockReply) -> PartList
+    ensures { result ≡ reply_parts reply }
+{
+    match reply {
+        ClockReply::Now(time) => PartList::two(Part::Fixed(FixedWord::Now), Part::Wide(time)),
+        ClockReply::At(moment) => PartList::two(Part::Fixed(FixedWord::At), Part::Wide(moment)),
+        ClockReply::Due => PartList::one(Part::Fixed(FixedWord::Due)),
+    }
+}
+
+impl Spelled for ClockOp {
+    ghost words = { op_words };
+
+    fn put_words(&self, out: &mut Vec<u8>, scenario: &Scenario) -> Result<(), NoMemory> {
+        let (verb, parts) = said_of(*self);
+        put_said(out, scenario, verb_word(verb), parts.items())
+    }
+}
+
+impl Spelled for ClockReply {
+    ghost words = { reply_words };
+
+    fn put_words(&self, out: &mut Vec<u8>, scenario: &Scenario) -> Result<(), NoMemory> {
+        put_parts(out, scenario, b' ', reply_parts(*self).items())
+    }
+}

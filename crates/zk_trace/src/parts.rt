@@ -1,0 +1,218 @@
+ghost use Rattle.std.specs.Prelude.{◌≡◌, [], ◌∷◌, ◌++◌, map, drop, OnOk, OnErr};
+ghost use Rattle.zk_trace.specs.Fronts.{StaysInFront};
+ghost use Rattle.zk_trace.specs.Names.{target_name};
+ghost use Rattle.zk_trace.specs.Parts.{fixed_word, part_word, answer_part, each_behind};
+
+use crate::names::{item_name, queue_name, target_name};
+use crate::words::{errno_word, put_admission, put_flags, truth_word};
+use std::marker::Model;
+use zk_base::{Errno, NoMemory, put, put_decimal};
+use zk_scenario::Scenario;
+use zk_words::{Choice, choice_text};
+use zk_worker::Answer;
+
+/// A word of an operation behind its verb, or a word of a reply.
+#[derive(Clone, Copy)]
+pub enum Part {
+    /// An item, by its number among the items: its name.
+    Item(u32),
+    /// A queue, by its number among the queues: its name.
+    Queue(u32),
+    /// The queue that a submission names: its name, and a dash for none.
+    Target(Option<u32>),
+    /// A number below 2^32, in decimal.
+    Narrow(u32),
+    /// A number below 2^64, in decimal.
+    Wide(u64),
+    /// The place in the history of the entry that began a wait, in decimal.
+    Place(u64),
+    /// The number of an admission.
+    Admission(u64),
+    /// Whether a drain plugs its queue.
+    Plug(bool),
+    /// The busy flags of an item, below 32: their letters.
+    Flags(u8),
+    /// A truth value.
+    Truth(bool),
+    /// The cause of a refusal.
+    Refusal(Errno),
+    /// A word that is the same in each line.
+    Fixed(FixedWord),
+}
+
+/// The words of replies that are the same in each line.
+#[derive(Clone, Copy)]
+pub enum FixedWord {
+    /// Not admitted, since it is queued already.
+    Zero,
+    /// Admitted, or delayed.
+    One,
+    /// Admitted while it runs.
+    Two,
+    /// There is something to wait for.
+    Wait,
+    /// Done, with nothing to say of it.
+    Done,
+    /// Done before.
+    Already,
+    /// The time follows.
+    Now,
+    /// The moment of an alarm follows.
+    At,
+    /// An alarm has ended.
+    Due,
+}
+
+/// The text of a fixed word.
+fn fixed_word(fixed: FixedWord) -> &'static [u8]
+    ensures { result.now ≡ fixed_word fixed }
+{
+    match fixed {
+        FixedWord::Zero => b"0",
+        FixedWord::One => b"1",
+        FixedWord::Two => b"2",
+        FixedWord::Wait => b"wait",
+        FixedWord::Done => b"ok",
+        FixedWord::Already => b"already",
+        FixedWord::Now => b"now",
+        FixedWord::At => b"at",
+        FixedWord::Due => b"due",
+    }
+}
+
+/// The answer of a call.
+pub fn answer_part(answer: Answer) -> Part
+    ensures { result ≡ answer_part answer }
+{
+    match answer {
+        Answer::Number(number) => Part::Wide(number),
+        Answer::Flags(flags) => Part::Flags(flags),
+        Answer::Truth(truth) => Part::Truth(truth),
+        Answer::Refused(errno) => Part::Refusal(errno),
+    }
+}
+
+/// At most three parts, in order.
+#[derive(Drop)]
+pub struct PartList {
+    // The first so many of them are meant.
+    parts: [Part; 3],
+    len: usize,
+}
+
+impl Model for PartList {
+    ghost use Rattle.std.specs.Prelude.{◌≤◌, List, take};
+    ghost use Rattle.zk_trace.specs.declared.parts.Part.{Part};
+
+    ghost Value = { List Part };
+
+    ghost view = { λ l. take l.len l.parts };
+
+    ghost invariant = { λ l. l.len ≤ 3 };
+}
+
+impl PartList {
+    /// One part.
+    pub fn one(part: Part) -> PartList
+        ensures { result ≡ part ∷ [] }
+    {
+        PartList {
+            parts: [part; 3],
+            len: 1,
+        }
+    }
+
+    /// Two parts.
+    pub fn two(first: Part, second: Part) -> PartList
+        ensures { result ≡ first ∷ second ∷ [] }
+    {
+        PartList {
+            parts: [first, second, second],
+            len: 2,
+        }
+    }
+
+    /// Three parts.
+    pub fn three(first: Part, second: Part, third: Part) -> PartList
+        ensures { result ≡ first ∷ second ∷ third ∷ [] }
+    {
+        PartList {
+            parts: [first, second, third],
+            len: 3,
+        }
+    }
+
+    /// The parts, in order.
+    pub fn items(&self) -> &[Part]
+        ensures { result.now ≡ self.now }
+    {
+        &self.parts[..self.len]
+    }
+}
+
+/// Appends a verb and what stands behind it, each behind a space.
+pub fn put_said(
+    out: &mut Vec<u8>,
+    scenario: &Scenario,
+    verb: &[u8],
+    parts: &[Part],
+) -> Result<(), NoMemory>
+    ensures text { OnOk result (out.new.items ≡
+        out.old.items ++ each_behind 32 (verb.now ∷ map (part_word scenario.now.decls) parts.now)) }
+    ensures kept { OnErr result (StaysInFront out.old.items out.new.items) }
+{
+    put(out, b" ")?;
+    put(out, verb)?;
+    put_parts(out, scenario, b' ', parts)
+}
+
+/// Appends parts, each behind this separator.
+pub fn put_parts(
+    out: &mut Vec<u8>,
+    scenario: &Scenario,
+    separator: u8,
+    parts: &[Part],
+) -> Result<(), NoMemory>
+    ensures text { OnOk result (out.new.items ≡
+        out.old.items ++ each_behind separator (map (part_word scenario.now.decls) parts.now)) }
+    ensures kept { OnErr result (StaysInFront out.old.items out.new.items) }
+{
+    for part in parts {
+        put_part(out, scenario, separator, *part)?;
+    }
+    Ok(())
+}
+
+/// Appends a separator and then a part.
+pub fn put_part(
+    out: &mut Vec<u8>,
+    scenario: &Scenario,
+    separator: u8,
+    part: Part,
+) -> Result<(), NoMemory>
+    ensures text { OnOk result (out.new.items ≡ out.old.items ++ separator ∷ part_word scenario.now.decls part) }
+    ensures kept { OnErr result (StaysInFront out.old.items out.new.items) }
+{
+    put(out, &[separator])?;
+    put_word(out, scenario, part)
+}
+
+fn put_word(out: &mut Vec<u8>, scenario: &Scenario, part: Part) -> Result<(), NoMemory>
+    ensures text { OnOk result (out.new.items ≡ out.old.items ++ part_word scenario.now.decls part) }
+    ensures kept { OnErr result (StaysInFront out.old.items out.new.items) }
+{
+    match part {
+        Part::Item(item) => put(out, item_name(scenario, item)),
+        Part::Queue(queue) => put(out, queue_name(scenario, queue)),
+        Part::Target(queue) => put(out, target_name(scenario, queue)),
+        Part::Narrow(number) => put_decimal(out, u64::from(number)),
+        Part::Wide(number) => put_decimal(out, number),
+        Part::Place(place) => put_decimal(out, place),
+        Part::Admission(number) => put_admission(out, number),
+        Part::Plug(plug) => put(out, choice_text(Choice::Drain, plug)),
+        Part::Flags(flags) => put_flags(out, flags),
+        Part::Truth(truth) => put(out, truth_word(truth)),
+        Part::Refusal(errno) => put(out, errno_word(errno)),
+        Part::Fixed(fixed) => put(out, fixed_word(fixed)),
+    }
+}

@@ -1,0 +1,18 @@
+ghost use Rattle.std.specs.Prelude.{◌≡◌, ℕ, List, ◌++◌, OnOk, OnErr};
+ghost use Rattle.zk_line.specs.declared.types.Decl.{Decl};
+ghost use Rattle.zk_trace.specs.Fronts.{StaysInFront};
+ghost use Rattle.zk_trace.specs.Parts.{each_behind};
+
+use zk_base::NoMemory;
+use zk_scenario::Scenario;
+
+/// What an entry's line spells: an operation or a reply of a service.
+pub trait Spelled {
+    /// Its words, with the names of the declarations.
+    ghost words: { List Decl → Self → List (List ℕ) };
+
+    /// Appends its words, each behind a space.
+    fn put_words(&self, out: &mut Vec<u8>, scenario: &Scenario) -> Result<(), NoMemory>
+        ensures text { OnOk result (out.new.items ≡ out.old.items ++ each_behind 32 (words scenario.now.decls self.now)) }
+        ensures kept { OnErr result (StaysInFront out.old.items out.new.items) };
+}
