@@ -1,4 +1,5 @@
 pub mod Alarms
+pub mod MsgqOrder
 pub mod MsgqWaits
 pub mod SemCounts
 pub mod SemWaits

@@ -4,7 +4,10 @@ use Rattle.std.proofs.lemmas.Option.{same_Some}
 use Rattle.zk_base.specs.declared.ids.Who.{Who}
 use Rattle.zk_base.specs.declared.waits.Waiter.{Waiter}
 use Rattle.zk_base.specs.Waits.{Waits, decides_first}
-use Rattle.zk_base.specs.WaitLaws.{nobody, first, after_decision, after_entry, HasWaits, IsFirst}
+use Rattle.zk_base.specs.WaitLaws.{WaitKind, nobody, first, after_decision, after_entry, HasWaits, IsFirst}
+use Rattle.zk_base.proofs.WaitOrder.{none_overtakes}
+use Rattle.zk_base.proofs.WaitsHold.{each_wait_has_its_opening, end_tells_its_decision, quit_tells_its_decision, may_end_once_decided, may_quit_until_ended}
+use Rattle.zk_model_wait.specs.MsgqLaws.{OfEachMsgq, KeepsWaits}
 use Rattle.zk_model_wait.specs.declared.msgq.MsgqOp.{MsgqOp}
 use Rattle.zk_model_wait.specs.declared.msgq.MsgqOp.TheVariants as ops
 use Rattle.zk_model_wait.specs.declared.msgq.MsgqReply.{MsgqReply}
@@ -132,3 +135,20 @@ first_putters most = record { none = refl; new = refl }
 
 pub first_getters : (most : ℕ) → IsFirst getters (new_msgq most)
 first_getters most = record { none = refl; new = refl }
+
+module _ {M : Type 0} (k : WaitKind Msgq MsgqOp MsgqReply M) (has : HasWaits msgq_machine k) (start : (most : ℕ) → IsFirst k (new_msgq most)) where
+  waits-hold : OfEachMsgq (KeepsWaits k)
+  waits-hold most h legal = record {
+    opened = each_wait_has_its_opening msgq_machine k has (new_msgq most) h (start most) legal.0;
+    ends = end_tells_its_decision msgq_machine k has (new_msgq most) h legal.0;
+    quits = quit_tells_its_decision msgq_machine k has (new_msgq most) h legal.0;
+    may_end = may_end_once_decided msgq_machine k has (new_msgq most) h;
+    may_quit = may_quit_until_ended msgq_machine k has (new_msgq most) h;
+    in_order = none_overtakes msgq_machine k has (new_msgq most) h (start most) legal.0;
+  }
+
+pub puts_hold : OfEachMsgq (KeepsWaits putters)
+puts_hold = waits-hold putters has_putters first_putters
+
+pub gets_hold : OfEachMsgq (KeepsWaits getters)
+gets_hold = waits-hold getters has_getters first_getters
