@@ -24,7 +24,7 @@ Replays-snoc : {S O R : Type 0} (m : Machine S O R) (s : S) (h : List (Entry O R
 Replays-snoc m s [] e r g = (g, tt)
 Replays-snoc m s (f ∷ fs) e r g = (r.0, Replays-snoc m (m.next s f.who f.op) fs e r.1 g)
 
-Replays-front : {S O R : Type 0} (m : Machine S O R) (s : S) (h l : List (Entry O R)) → Replays m s (h ++ l) → Replays m s h
+pub Replays-front : {S O R : Type 0} (m : Machine S O R) (s : S) (h l : List (Entry O R)) → Replays m s (h ++ l) → Replays m s h
 Replays-front m s [] l r = tt
 Replays-front m s (e ∷ es) l r = (r.0, Replays-front m (m.next s e.who e.op) es l r.1)
 

@@ -5,3 +5,4 @@ pub mod Lists
 pub mod Order
 pub mod WaitMoves
 pub mod WaitsHold
+pub mod WaitOrder

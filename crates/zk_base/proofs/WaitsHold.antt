@@ -19,13 +19,13 @@ module _ {A : Type 0} (P : A → Type 0) (p : A → Bool) where
   All-either x xs ys zs false left right = right
 
   -- what holds of each holds of each with one more, and with one less
-  All-put_before : (x : A) (xs : List A) → P x → All P xs → All P (put_before p x xs)
+  pub All-put_before : (x : A) (xs : List A) → P x → All P xs → All P (put_before p x xs)
   All-put_before x [] here held = All-cons P x [] here held
   All-put_before x (y ∷ ys) here held =
       All-either y ys (x ∷ y ∷ ys) (y ∷ put_before p x ys) (p y) (All-cons P x (y ∷ ys) here held)
       (All-cons P y (put_before p x ys) (All-head P y ys held) (All-put_before x ys here (All-tail P y ys held)))
 
-  All-without : (xs : List A) → All P xs → All P (without_first p xs)
+  pub All-without : (xs : List A) → All P xs → All P (without_first p xs)
   All-without [] held = held
   All-without (x ∷ xs) held =
       All-either x xs xs (x ∷ without_first p xs) (p x) (All-tail P x xs held)

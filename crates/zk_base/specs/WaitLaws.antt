@@ -1,4 +1,5 @@
-use Rattle.std.specs.Prelude.{◌≡◌, ℕ, ◌+◌, Bool, Option, Some, None, List, [], ◌∷◌, ◌++◌, length, All}
+use Rattle.std.specs.Prelude.{◌≡◌, ℕ, ◌+◌, Bool, true, not, ◌&&◌, ◌||◌, int_lt, nat_lt, Option, Some, None, List, [], ◌∷◌, ◌++◌, length, All}
+use Rattle.std.specs.List.{Contains}
 use Rattle.zk_base.specs.declared.ids.Who.{Who}
 use Rattle.zk_base.specs.declared.ids.Entry.{Entry}
 use Rattle.zk_base.specs.declared.waits.Waiter.{Waiter}
@@ -102,3 +103,16 @@ abbrev pub MayQuitUntilEnded : {S O R M : Type 0} → Machine S O R → WaitKind
 MayQuitUntilEnded {O = O} {R = R} m k s h = (who : Who) (op : O) (place : ℕ) (answer : R) → k.quits op ≡ Some place →
     quit_answer k.gives_up (k.waits (state_after m s h)) who.number place ≡ Some answer →
     m.reply_of (state_after m s h) who op ≡ Some answer
+
+-- the first is served before the second: its priority number is lower, or it is the same and it has waited longer
+abbrev pub is_before : {M : Type 0} → Waiter M → Waiter M → Bool
+is_before w v =
+    int_lt w.who.prio v.who.prio || not (int_lt v.who.prio w.who.prio) && nat_lt w.place v.place
+
+-- where an entry that gives nobody up takes a waiter out, so decides its wait, whoever still waits comes behind it
+abbrev pub NoneOvertakes : {S O R M : Type 0} → Machine S O R → WaitKind S O R M → S → List (Entry O R) → Type 0
+NoneOvertakes {O = O} {R = R} {M = M} m k s h = (front : List (Entry O R)) (e : Entry O R) (w v : Waiter M) →
+    IsEntry h front e → k.quits e.op ≡ None →
+    Contains (k.waits (state_after m s front)).waiting w →
+    (Contains (k.waits (state_after m s (front ++ e ∷ []))).waiting w → ⊥) →
+    Contains (k.waits (state_after m s (front ++ e ∷ []))).waiting v → is_before w v ≡ true

@@ -73,7 +73,7 @@ pub count_within_limit : OfEachSem CountWithinLimit
 count_within_limit initial limit low h legal = within-all (new_sem initial limit) h low
 
 -- nobody waits while there is something to take
-without-nil : {A : Type 0} (p : A → Bool) (xs : List A) → xs ≡ [] → without_first p xs ≡ []
+pub without-nil : {A : Type 0} (p : A → Bool) (xs : List A) → xs ≡ [] → without_first p xs ≡ []
 without-nil p [] none = refl
 without-nil p (x ∷ xs) none = absurd (cc)
 

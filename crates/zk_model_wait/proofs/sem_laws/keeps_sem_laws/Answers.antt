@@ -17,4 +17,5 @@ returns c = λ initial limit low h legal. record {
   quits = c.waits_end.ensures.quits initial limit low h legal;
   may_end = c.waits_end.ensures.may_end initial limit low h legal;
   may_quit = c.waits_end.ensures.may_quit initial limit low h legal;
+  in_order = c.waits_end.ensures.in_order initial limit low h legal;
 }

@@ -1,0 +1,154 @@
+-- A message queue has waits: puts, and gets.
+use Rattle.std.proofs.Common.{◌≡◌, ℕ, Bool, true, false, ltb, cond, Option, Some, None, List, [], ◌∷◌, ◌++◌, length, refl, sym, ap, subst, ◌∙◌}
+use Rattle.std.proofs.lemmas.Option.{same_Some}
+use Rattle.zk_base.specs.declared.ids.Who.{Who}
+use Rattle.zk_base.specs.declared.waits.Waiter.{Waiter}
+use Rattle.zk_base.specs.Waits.{Waits, decides_first}
+use Rattle.zk_base.specs.WaitLaws.{WaitKind, nobody, first, after_decision, after_entry, HasWaits, IsFirst}
+use Rattle.zk_base.proofs.WaitOrder.{none_overtakes}
+use Rattle.zk_base.proofs.WaitsHold.{each_wait_has_its_opening, end_tells_its_decision, quit_tells_its_decision, may_end_once_decided, may_quit_until_ended}
+use Rattle.zk_model_wait.specs.MsgqLaws.{OfEachMsgq, KeepsWaits}
+use Rattle.zk_model_wait.specs.declared.msgq.MsgqOp.{MsgqOp}
+use Rattle.zk_model_wait.specs.declared.msgq.MsgqOp.TheVariants as ops
+use Rattle.zk_model_wait.specs.declared.msgq.MsgqReply.{MsgqReply}
+use Rattle.zk_model_wait.specs.declared.msgq.MsgqReply.TheVariants.{Done, NoMsg, Wait, Bytes}
+use Rattle.zk_model_wait.specs.Msgq.{Msgq, new_msgq, else_reply, put_reply, get_reply, msgq_reply, msgq_next, msgq_machine, put_at_full, put_to, moved_in, get_from}
+use Rattle.zk_model_wait.specs.MsgqWaits.{put_opens, get_opens, get_decides, take_decides, putters, getters}
+
+-- where nobody waits, the first is nobody
+first-none : {M : Type 0} (answer : MsgqReply) (ws : Waits M MsgqReply) → ws.waiting ≡ [] → ws ≡ decides_first answer ws.waiting ws.decided
+first-none {M} answer ws none =
+    let P : List (Waiter M) → Type 0 = λ l. ◌≡◌ {A = Waits M MsgqReply} (record { waiting = l; decided = ws.decided }) (decides_first answer l ws.decided) in
+    subst P (sym none) refl
+
+-- what a put does to the puts that wait
+full-puts : (q : Msgq) (who : Who) (message : List ℕ) (waits : Bool) →
+    (put_at_full q who message waits).puts ≡ after_entry q.puts q.entries who nobody (put_opens (ops.Put message waits) (else_reply waits)) None None
+full-puts q who message true = refl
+full-puts q who message false = refl
+
+room-puts : (q : Msgq) (who : Who) (message : List ℕ) (waits room : Bool) →
+    (cond room (record q { messages = q.messages ++ message ∷ [] }) (put_at_full q who message waits)).puts
+    ≡ after_entry q.puts q.entries who nobody (put_opens (ops.Put message waits) (cond room Done (else_reply waits))) None None
+room-puts q who message waits true = refl
+room-puts q who message waits false = full-puts q who message waits
+
+put-puts : (waiting : List (Waiter Unit)) (q : Msgq) (who : Who) (message : List ℕ) (waits : Bool) →
+    (put_to waiting q who message waits).puts ≡ after_entry q.puts q.entries who nobody (put_opens (ops.Put message waits) (put_reply waiting q waits)) None None
+put-puts (w ∷ ws) q who message waits = refl
+put-puts [] q who message waits = room-puts q who message waits (ltb (length q.messages) q.most)
+
+moved-puts : (waiting : List (Waiter (List ℕ))) (q : Msgq) → q.puts.waiting ≡ waiting → (moved_in waiting q).puts ≡ after_decision (first Done) q.puts
+moved-puts [] q none = first-none Done q.puts none
+moved-puts (w ∷ ws) q some = refl
+
+get-puts : (messages : List (List ℕ)) (q : Msgq) (who : Who) (waits : Bool) → (get_from messages q who waits).puts ≡ after_decision (get_decides messages) q.puts
+get-puts (m ∷ ms) q who waits = moved-puts q.puts.waiting (record q { messages = ms }) refl
+get-puts [] q who true = refl
+get-puts [] q who false = refl
+
+put-moves : (q : Msgq) (who : Who) (op : MsgqOp) (reply : MsgqReply) → msgq_reply q who op ≡ Some reply →
+    (msgq_next q who op).puts ≡ after_entry q.puts q.entries who (putters.decides q op reply) (putters.opens op reply) (putters.ends op) (putters.quits op)
+put-moves q who (ops.Put message waits) reply is =
+    subst (λ (r : MsgqReply). (put_to q.gets.waiting q who message waits).puts ≡ after_entry q.puts q.entries who nobody (put_opens (ops.Put message waits) r) None None)
+    (same_Some (put_reply q.gets.waiting q waits) reply is) (put-puts q.gets.waiting q who message waits)
+put-moves q who (ops.PutEnd place) reply is = refl
+put-moves q who (ops.PutQuit place) reply is = refl
+put-moves q who (ops.Get waits) reply is = get-puts q.messages q who waits
+put-moves q who (ops.GetEnd place) reply is = refl
+put-moves q who (ops.GetQuit place) reply is = refl
+put-moves q who ops.Peek reply is = refl
+put-moves q who (ops.PeekAt index) reply is = refl
+put-moves q who ops.Purge reply is = refl
+put-moves q who ops.Used reply is = refl
+put-moves q who ops.Free reply is = refl
+
+-- what a put does to the gets that wait
+full-gets : (q : Msgq) (who : Who) (message : List ℕ) (waits : Bool) →
+    (put_at_full q who message waits).gets ≡ after_decision (take_decides q (ops.Put message waits) (else_reply waits)) q.gets
+full-gets q who message true = refl
+full-gets q who message false = refl
+
+room-gets : (q : Msgq) (who : Who) (message : List ℕ) (waits room : Bool) → q.gets.waiting ≡ [] →
+    (cond room (record q { messages = q.messages ++ message ∷ [] }) (put_at_full q who message waits)).gets
+    ≡ after_decision (take_decides q (ops.Put message waits) (cond room Done (else_reply waits))) q.gets
+room-gets q who message waits true none = first-none (Bytes message) q.gets none
+room-gets q who message waits false none = full-gets q who message waits
+
+put-gets : (waiting : List (Waiter Unit)) (q : Msgq) (who : Who) (message : List ℕ) (waits : Bool) → q.gets.waiting ≡ waiting →
+    (put_to waiting q who message waits).gets ≡ after_decision (take_decides q (ops.Put message waits) (put_reply waiting q waits)) q.gets
+put-gets (w ∷ ws) q who message waits some = refl
+put-gets [] q who message waits none = room-gets q who message waits (ltb (length q.messages) q.most) none
+
+moved-gets : (waiting : List (Waiter (List ℕ))) (q : Msgq) → (moved_in waiting q).gets ≡ q.gets
+moved-gets [] q = refl
+moved-gets (w ∷ ws) q = refl
+
+get-gets : (messages : List (List ℕ)) (q : Msgq) (who : Who) (waits : Bool) →
+    (get_from messages q who waits).gets ≡ after_entry q.gets q.entries who nobody (get_opens (ops.Get waits) (get_reply messages waits)) None None
+get-gets (m ∷ ms) q who waits = moved-gets q.puts.waiting (record q { messages = ms })
+get-gets [] q who true = refl
+get-gets [] q who false = refl
+
+get-moves : (q : Msgq) (who : Who) (op : MsgqOp) (reply : MsgqReply) → msgq_reply q who op ≡ Some reply →
+    (msgq_next q who op).gets ≡ after_entry q.gets q.entries who (getters.decides q op reply) (getters.opens op reply) (getters.ends op) (getters.quits op)
+get-moves q who (ops.Put message waits) reply is =
+    subst (λ (r : MsgqReply). (put_to q.gets.waiting q who message waits).gets ≡ after_decision (take_decides q (ops.Put message waits) r) q.gets)
+    (same_Some (put_reply q.gets.waiting q waits) reply is) (put-gets q.gets.waiting q who message waits refl)
+get-moves q who (ops.PutEnd place) reply is = refl
+get-moves q who (ops.PutQuit place) reply is = refl
+get-moves q who (ops.Get waits) reply is =
+    subst (λ (r : MsgqReply). (get_from q.messages q who waits).gets ≡ after_entry q.gets q.entries who nobody (get_opens (ops.Get waits) r) None None)
+    (same_Some (get_reply q.messages waits) reply is) (get-gets q.messages q who waits)
+get-moves q who (ops.GetEnd place) reply is = refl
+get-moves q who (ops.GetQuit place) reply is = refl
+get-moves q who ops.Peek reply is = refl
+get-moves q who (ops.PeekAt index) reply is = refl
+get-moves q who ops.Purge reply is = refl
+get-moves q who ops.Used reply is = refl
+get-moves q who ops.Free reply is = refl
+
+put-ends : (q : Msgq) (who : Who) (op : MsgqOp) (place : ℕ) → putters.ends op ≡ Some place → msgq_reply q who op ≡ msgq_reply q who (ops.PutEnd place)
+put-ends q who (ops.PutEnd at) place is = ap (λ (p : ℕ). msgq_reply q who (ops.PutEnd p)) (same_Some at place is)
+put-ends q who op place is = absurd (cc)
+
+put-quits : (q : Msgq) (who : Who) (op : MsgqOp) (place : ℕ) → putters.quits op ≡ Some place → msgq_reply q who op ≡ msgq_reply q who (ops.PutQuit place)
+put-quits q who (ops.PutQuit at) place is = ap (λ (p : ℕ). msgq_reply q who (ops.PutQuit p)) (same_Some at place is)
+put-quits q who op place is = absurd (cc)
+
+get-ends : (q : Msgq) (who : Who) (op : MsgqOp) (place : ℕ) → getters.ends op ≡ Some place → msgq_reply q who op ≡ msgq_reply q who (ops.GetEnd place)
+get-ends q who (ops.GetEnd at) place is = ap (λ (p : ℕ). msgq_reply q who (ops.GetEnd p)) (same_Some at place is)
+get-ends q who op place is = absurd (cc)
+
+get-quits : (q : Msgq) (who : Who) (op : MsgqOp) (place : ℕ) → getters.quits op ≡ Some place → msgq_reply q who op ≡ msgq_reply q who (ops.GetQuit place)
+get-quits q who (ops.GetQuit at) place is = ap (λ (p : ℕ). msgq_reply q who (ops.GetQuit p)) (same_Some at place is)
+get-quits q who op place is = absurd (cc)
+
+pub has_putters : HasWaits msgq_machine putters
+has_putters = record { counts = λ q who op. refl; moves = put-moves; ends = put-ends; quits = put-quits }
+
+pub has_getters : HasWaits msgq_machine getters
+has_getters = record { counts = λ q who op. refl; moves = get-moves; ends = get-ends; quits = get-quits }
+
+pub first_putters : (most : ℕ) → IsFirst putters (new_msgq most)
+first_putters most = record { none = refl; new = refl }
+
+pub first_getters : (most : ℕ) → IsFirst getters (new_msgq most)
+first_getters most = record { none = refl; new = refl }
+
+module _ {M : Type 0} (k : WaitKind Msgq MsgqOp MsgqReply M) (has : HasWaits msgq_machine k) (start : (most : ℕ) → IsFirst k (new_msgq most)) where
+  waits-hold : OfEachMsgq (KeepsWaits k)
+  waits-hold most h legal = record {
+    opened = each_wait_has_its_opening msgq_machine k has (new_msgq most) h (start most) legal.0;
+    ends = end_tells_its_decision msgq_machine k has (new_msgq most) h legal.0;
+    quits = quit_tells_its_decision msgq_machine k has (new_msgq most) h legal.0;
+    may_end = may_end_once_decided msgq_machine k has (new_msgq most) h;
+    may_quit = may_quit_until_ended msgq_machine k has (new_msgq most) h;
+    in_order = none_overtakes msgq_machine k has (new_msgq most) h (start most) legal.0;
+  }
+
+pub puts_hold : OfEachMsgq (KeepsWaits putters)
+puts_hold = waits-hold putters has_putters first_putters
+
+pub gets_hold : OfEachMsgq (KeepsWaits getters)
+gets_hold = waits-hold getters has_getters first_getters

@@ -1,0 +1,41 @@
+ghost use Rattle.zk_model_wait.specs.Msgq.{Msgq};
+ghost use Rattle.zk_model_wait.specs.MsgqWaits.{putters, getters};
+ghost use Rattle.zk_model_wait.specs.MsgqLaws.{MsgqHistory, OfEachMsgq, FirstInFirstOut, RingWithinMax, NoneWaitsToGetWhileMessages, NoneWaitsToPutWhileRoom, PutWaitsOnlyAtFull, GetWaitsOnlyAtEmpty, LooksTellTheRing, PurgeEndsEveryPut, KeepsWaits, KeepsMsgqLaws};
+
+/// Of every legal history of a message queue: each message that it accepted leaves it once, in the order in which they were accepted, be
+/// it got, handed to a get or discarded.
+pub fn first_in_first_out()
+    ensures in_order { OfEachMsgq FirstInFirstOut }
+{}
+
+/// Of every legal history of a message queue: it never holds too many messages, and nobody waits for what is there.
+pub fn ring_holds()
+    ensures within { OfEachMsgq RingWithinMax }
+    ensures gets { OfEachMsgq NoneWaitsToGetWhileMessages }
+    ensures puts { OfEachMsgq NoneWaitsToPutWhileRoom }
+{}
+
+/// Of every legal history of a message queue: what each operation is answered, and what a purge leaves.
+pub fn queue_calls_are_told()
+    ensures put { OfEachMsgq PutWaitsOnlyAtFull }
+    ensures get { OfEachMsgq GetWaitsOnlyAtEmpty }
+    ensures looks { OfEachMsgq LooksTellTheRing }
+    ensures purge { (q : Msgq) (h : MsgqHistory) → PurgeEndsEveryPut q h }
+{}
+
+/// Of every legal history of a message queue: who waits has asked for it and is served by priority, and then by longest wait; the end of
+/// a wait is answered its decision, and one who gives up gets what was decided meanwhile.
+pub fn queue_waits_end()
+    ensures put_waits { OfEachMsgq (KeepsWaits putters) }
+    ensures get_waits { OfEachMsgq (KeepsWaits getters) }
+{}
+
+/// All of it, of every legal history of a message queue. It does nothing when it runs.
+pub fn keeps_msgq_laws()
+    ensures { OfEachMsgq KeepsMsgqLaws }
+{
+    first_in_first_out();
+    ring_holds();
+    queue_calls_are_told();
+    queue_waits_end();
+}
