@@ -1,5 +1,5 @@
 -- The objects of a kind, one of which is asked.
-use Rattle.std.proofs.Common.{◌≡◌, ℕ, zero, suc, ◌<◌, true, Option, Some, None, List, [], ◌∷◌, ◌++◌, length, set, get_or, refl, sym, ap, subst, ◌∙◌, arith}
+use Rattle.std.proofs.Common.{◌≡◌, ℕ, zero, suc, ◌<◌, true, Option, Some, None, Ok, List, [], ◌∷◌, ◌++◌, length, set, get_or, refl, sym, ap, subst, ◌∙◌, arith}
 use Rattle.std.specs.List.{slice_get}
 use Rattle.std.specs.Option.{option_map}
 use Rattle.std.proofs.lemmas.Option.{slice_get_read}
@@ -7,7 +7,12 @@ use Rattle.zk_base.specs.declared.ids.Who.{Who}
 use Rattle.zk_base.specs.declared.ids.Entry.{Entry}
 use Rattle.zk_base.specs.History.{entry, extended}
 use Rattle.zk_base.specs.Legal.{Machine, state_after}
+use Rattle.zk_worker.specs.declared.steps.Step.{Step}
 use Rattle.zk_worker.specs.declared.steps.StepReply.{StepReply}
+use Rattle.zk_worker.specs.Machines.{Machines}
+use Rattle.zk_worker.specs.Shown.{Shown, shown_after}
+use Rattle.zk_worker.specs.Attempt.{reply_in, Attempted}
+use Rattle.zk_worker.proofs.Looking.{reads-whole}
 use Rattle.zk_worker.specs.Families.{with_entry, answer_at, takes_at}
 use Rattle.zk_replay.specs.Objects.{starts_of, history_of, histories_of, is_taken, made_of, histories_after}
 
@@ -94,3 +99,20 @@ module _ {V S O R : Type 0} (m : Machine S O R) (start : V → S) (history : V �
       let one : o ≡ slot = cc in
       ap (λ (s : Option S). s ∷ starts_of start os) (same ∙ ap (option_map start) (sym one))
   starts-same (o ∷ os) (suc object) slot slot' there same = ap (λ (ss : List (Option S)). option_map start o ∷ ss) (starts-same os object slot slot' there same)
+
+-- what an attempt at one of the objects is, on services that nobody else uses: they show `write` of the kind's histories
+module _ {O R : Type 0} (m : Machines) (who : Who) (number object : ℕ) (op : O) (step : Step) (tell : R → ℕ → StepReply) (old : Shown) (write : List (List (Entry O R)) → Shown)
+    (hs : List (List (Entry O R))) (stays : write hs ≡ old) (whole : old.looks ≡ None)
+    (adds : (r : R) (place : ℕ) → shown_after old who number step (tell r place) ≡ write (with_entry hs object (entry who number op r))) where
+  pub attempted-at : (hs' : List (List (Entry O R))) (made : Option (R × ℕ)) → option_map (λ (made : R × ℕ). tell made.0 made.1) made ≡ reply_in m old who step →
+      hs' ≡ histories_after hs object who number op made → Attempted true m who number step old (write hs') (Ok (option_map (λ (made : R × ℕ). tell made.0 made.1) made))
+  attempted-at hs' None said is =
+      let nothing = ap write is ∙ stays in
+      (nothing, subst (λ (x : Shown). reply_in m x who step ≡ None) (sym nothing) (sym said))
+  attempted-at hs' (Some made) said is = record {
+    found = old;
+    since = refl;
+    replied = sym said;
+    read_at = reads-whole m old who step (tell made.0 made.1) whole (sym said);
+    shown = ap write is ∙ sym (adds made.0 made.1);
+  }

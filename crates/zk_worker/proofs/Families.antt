@@ -1,8 +1,9 @@
 -- The histories of the objects of a kind of which there are many.
-use Rattle.std.proofs.Common.{◌≡◌, ◌⊎◌, inl, inr, ℕ, zero, suc, ◌+◌, true, false, Option, Some, None, is_some, List, [], ◌∷◌, ◌++◌, length, length-append, map, refl, ap, subst, ◌∙◌, arith}
+use Rattle.std.proofs.Common.{◌≡◌, ◌⊎◌, inl, inr, ℕ, zero, suc, ◌+◌, ◌<◌, true, false, Option, Some, None, is_some, List, [], ◌∷◌, ◌++◌, length, length-append, map, All, refl, ap, subst, ◌∙◌, arith}
 use Rattle.std.specs.List.{slice_get, sum_by}
 use Rattle.std.specs.Option.{option_map, option_map_or, option_and_then}
 use Rattle.std.proofs.lemmas.Option.{option_and_then_some}
+use Rattle.std.proofs.lemmas.List.Elements.{All-nil, All-cons}
 use Rattle.std.proofs.lemmas.List.Sums.{sum_by-cons}
 use Rattle.zk_base.specs.declared.ids.Who.{Who}
 use Rattle.zk_base.specs.declared.ids.Entry.{Entry}
@@ -58,6 +59,14 @@ module _ {O R : Type 0} where
       omega (arith, length-append g (e ∷ []), sum_by-cons {X = List (Entry O R)} length g hs, sum_by-cons {X = List (Entry O R)} length (g ++ e ∷ []) hs)
   with-count (g ∷ hs) (suc object) e h there =
       omega (arith, with-count hs object e h there, sum_by-cons {X = List (Entry O R)} length g hs, sum_by-cons {X = List (Entry O R)} length g (with_entry hs object e))
+
+  -- where all together are short, each is
+  pub each-short : (hs : List (List (Entry O R))) (most : ℕ) → sum_by length hs < most → All (λ h. length h < most) hs
+  each-short [] most short = let P : List (Entry O R) → Type 0 = λ h. length h < most in All-nil P
+  each-short (h ∷ hs) most short =
+      let P : List (Entry O R) → Type 0 = λ h. length h < most in
+      let both = sum_by-cons {X = List (Entry O R)} length h hs in
+      All-cons P h hs (omega arith) (each-short hs most (omega arith))
 
   -- what is known of a place of an object's history is known of it among the others
   pub of-object : {B : Type 0} (f : Entry O R → B) (hs : List (List (Entry O R))) (object : ℕ) (h : List (Entry O R)) (place : ℕ) (b : B) → slice_get hs object ≡ Some h →
