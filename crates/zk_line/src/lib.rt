@@ -10,8 +10,6 @@ mod names;
 mod objects;
 mod print;
 mod shapes;
-#[cfg(test)]
-mod tests;
 mod types;
 mod weights;
 

@@ -62,7 +62,8 @@ fn misnamed(in_range: bool) -> Wrong
 /// What a word is worth in its slot.
 fn worth_of(objects: &Objects, slot: Slot, word: &[u8]) -> Result<Arg, Wrong>
     requires { is_spelled_in slot word.now ≡ true }
-    ensures { Weighs (is_in_range slot word.now) (is_well_named objects.now slot word.now) (arg_of objects.now slot word.now) result }
+    ensures { Weighs
+        (is_in_range slot word.now) (is_well_named objects.now slot word.now) (arg_of objects.now slot word.now) result }
 {
     match slot {
         Slot::New => new_name(objects, word),
@@ -75,7 +76,8 @@ fn worth_of(objects: &Objects, slot: Slot, word: &[u8]) -> Result<Arg, Wrong>
 }
 
 fn new_name(objects: &Objects, word: &[u8]) -> Result<Arg, Wrong>
-    ensures { Weighs true (is_well_named objects.now Slot.New word.now) (arg_of objects.now Slot.New word.now) result }
+    ensures { Weighs true
+        (is_well_named objects.now Slot.New word.now) (arg_of objects.now Slot.New word.now) result }
 {
     let Some(name) = Name::new(word) else {
         return Err(Wrong::Misnamed);
@@ -88,7 +90,8 @@ fn new_name(objects: &Objects, word: &[u8]) -> Result<Arg, Wrong>
 }
 
 fn owner(objects: &Objects, word: &[u8]) -> Result<Arg, Wrong>
-    ensures { Weighs true (is_well_named objects.now Slot.Owner word.now) (arg_of objects.now Slot.Owner word.now) result }
+    ensures { Weighs true
+        (is_well_named objects.now Slot.Owner word.now) (arg_of objects.now Slot.Owner word.now) result }
 {
     let Some(object) = objects.find(word) else {
         return Err(Wrong::Misnamed);

@@ -2,6 +2,8 @@
 #![tactic(auto)]
 
 mod laws;
+#[cfg(test)]
+mod line_tests;
 mod read;
 mod reader;
 mod refused;

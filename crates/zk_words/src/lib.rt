@@ -9,8 +9,6 @@ mod pieces;
 mod slot;
 mod spelled;
 mod table;
-#[cfg(test)]
-mod tests;
 mod unbuilt;
 mod word;
 

@@ -1,5 +1,6 @@
-use crate::{Head, Line, Word, line_of, number_of};
 use std::test::Fail;
+use zk_line::{Call, Ref, said_of};
+use zk_words::{Head, Line, Word, line_of, number_of};
 
 // What a line is read as, in a word.
 fn told(line: &str) -> &'static str {
@@ -51,5 +52,13 @@ fn reads_numbers(rt: HostRuntime) -> Result<(), Fail> {
         assert_eq!(rt; number_of(word.as_bytes()), told, "at {word}");
     }
     assert_eq!(rt; number_of(b"18446744073709551616"), Some(u64::MAX));
+    Ok(())
+}
+
+#[test]
+fn says_a_call_in_its_words(rt: HostRuntime) -> Result<(), Fail> {
+    let said = said_of(&Call::Drain(Ref::Known(3), true));
+    assert!(rt; said.word == Word::Drain);
+    assert!(rt; said.args[0].is_some() && said.args[1].is_some() && said.args[2].is_none());
     Ok(())
 }
