@@ -1,5 +1,5 @@
 -- Lemmas on counts of faults and of attempts.
-use Rattle.std.proofs.Common.{◌≡◌, ℕ, ◌<◌, ◌≤◌, inl, inr, arith}
+use Rattle.std.proofs.Common.{ℕ, ◌≤◌, inl, inr, arith}
 use Rattle.zk_base.specs.Causes.{Rose}
 
 -- a count that rose since a moment rose since any moment before it

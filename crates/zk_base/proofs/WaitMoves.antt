@@ -1,11 +1,11 @@
 -- How many waits haven't ended after each move.
-use Rattle.std.proofs.Common.{◌≡◌, ℕ, suc, ◌+◌, ◌≤◌, Bool, true, false, cond, Option, Some, None, is_some, option_map, List, [], ◌∷◌, ◌++◌, map, length, refl, ap, sym, ◌∙◌, arith}
+use Rattle.std.proofs.Common.{◌≡◌, ℕ, suc, ◌+◌, ◌≤◌, Bool, true, false, cond, Option, Some, None, is_some, option_map, List, [], ◌∷◌, map, length, refl, ap, sym, ◌∙◌, arith}
 use Rattle.std.specs.List.{find, list_any}
 use Rattle.std.proofs.lemmas.List.{length-append, length-map}
 use Rattle.zk_base.specs.declared.waits.Waiter.{Waiter}
 use Rattle.zk_base.specs.declared.waits.Decision.{Decision}
-use Rattle.zk_base.specs.Lists.{put_before, without_first}
-use Rattle.zk_base.specs.Waits.{Waits, is_served_after, is_waiter, is_decision, decide, decision_of, goes_on, open_waits, joined, left, ended, quitted, decides_first, first_decided, all_decided, given_up, quit_answer}
+use Rattle.zk_base.specs.Lists.{put_before}
+use Rattle.zk_base.specs.Waits.{Waits, is_served_after, is_waiter, is_decision, decide, decision_of, goes_on, open_waits, joined, ended, quitted, decides_first, first_decided, all_decided, given_up, quit_answer}
 use Rattle.zk_base.proofs.Firsts.{any-find, length-without, length-less}
 
 length-before-at : {A : Type 0} (x y : A) (ys rest : List A) (b : Bool) → length rest ≡ suc (length ys) → length (cond b (x ∷ y ∷ ys) (y ∷ rest)) ≡ suc (suc (length ys))

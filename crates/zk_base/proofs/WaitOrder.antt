@@ -1,18 +1,17 @@
 -- Who waits stands in the order in which they are served.
-use Rattle.std.proofs.Common.{◌≡◌, ℕ, ◌+◌, ◌<◌, ◌≤◌, ◌⊎◌, inl, inr, Bool, true, false, not, ltb, cond, ◌&&◌, ◌||◌, ℤ, Option, Some, None, List, [], ◌∷◌, ◌++◌, map, length, All, refl, sym, ap, subst, ◌∙◌, arith}
+use Rattle.std.proofs.Common.{◌≡◌, ℕ, ◌+◌, ◌<◌, ◌⊎◌, inl, inr, Bool, true, false, not, ltb, cond, ◌&&◌, ◌||◌, ℤ, Option, Some, None, List, [], ◌∷◌, All, refl, sym, ap, subst, ◌∙◌, arith}
 use Rattle.std.specs.List.{Contains}
 use Rattle.std.specs.Prelude.{int_lt}
 use Rattle.std.proofs.lemmas.Bool.Decides.{nat_tests}
 use Rattle.std.proofs.lemmas.Int.{ints}
-use Rattle.std.proofs.lemmas.List.Elements.{All-nil, All-cons, All-head, All-tail, All-weaker, All-contains, All-contains_itself, Contains-append_right}
+use Rattle.std.proofs.lemmas.List.Elements.{All-nil, All-cons, All-head, All-tail, All-weaker, All-contains, All-contains_itself}
 use Rattle.zk_base.specs.declared.ids.Who.{Who}
 use Rattle.zk_base.specs.declared.ids.Entry.{Entry}
 use Rattle.zk_base.specs.declared.waits.Waiter.{Waiter}
 use Rattle.zk_base.specs.declared.waits.Decision.{Decision}
-use Rattle.zk_base.specs.History.{IsEntry}
 use Rattle.zk_base.specs.Legal.{Machine, state_after, Replays}
 use Rattle.zk_base.specs.Lists.{put_before, without_first}
-use Rattle.zk_base.specs.Waits.{Waits, no_waits, is_served_after, is_waiter, joined, ended, quitted, decides_first, first_decided, all_decided}
+use Rattle.zk_base.specs.Waits.{Waits, is_served_after, is_waiter, decides_first}
 use Rattle.zk_base.specs.WaitLaws.{Decides, nobody, first, all, WaitKind, after_decision, after_entry, HasWaits, IsFirst, is_before, NoneOvertakes}
 use Rattle.zk_base.proofs.Histories.{state_after-snoc, Replays-front, Replays-rest}
 use Rattle.zk_base.proofs.WaitsHold.{All-put_before, All-without}
@@ -50,16 +49,16 @@ module _ {M : Type 0} where
   put-in-order new [] order older = (All-nil (λ (v : Waiter M). is_before new v ≡ true), tt)
   put-in-order new (y ∷ ys) order older =
       by (int_lt new.who.prio y.who.prio) refl (put-in-order new ys order.1 (All-tail (λ (w : Waiter M). w.place < new.place) y ys older)) where
-    older_here : y.place < new.place
-    older_here = All-head (λ (w : Waiter M). w.place < new.place) y ys older
+        older_here : y.place < new.place
+        older_here = All-head (λ (w : Waiter M). w.place < new.place) y ys older
 
-    by : (b : Bool) → int_lt new.who.prio y.who.prio ≡ b → InOrder (put_before (is_served_after new) new ys) → InOrder (cond b (new ∷ y ∷ ys) (y ∷ put_before (is_served_after new) new ys))
-    by true low rest =
-        let P : Waiter M → Type 0 = λ (v : Waiter M). is_before new v ≡ true in
-        (All-cons P y ys (before-lower new.who.prio y.who.prio new.place y.place low) (behind-all new y ys low order.0), order)
-    by false high rest =
-        let P : Waiter M → Type 0 = λ (v : Waiter M). is_before y v ≡ true in
-        (All-put_before P (is_served_after new) new ys (before-longer y.who.prio new.who.prio y.place new.place high older_here) order.0, rest)
+        by : (b : Bool) → int_lt new.who.prio y.who.prio ≡ b → InOrder (put_before (is_served_after new) new ys) → InOrder (cond b (new ∷ y ∷ ys) (y ∷ put_before (is_served_after new) new ys))
+        by true low rest =
+            let P : Waiter M → Type 0 = λ (v : Waiter M). is_before new v ≡ true in
+            (All-cons P y ys (before-lower new.who.prio y.who.prio new.place y.place low) (behind-all new y ys low order.0), order)
+        by false high rest =
+            let P : Waiter M → Type 0 = λ (v : Waiter M). is_before y v ≡ true in
+            (All-put_before P (is_served_after new) new ys (before-longer y.who.prio new.who.prio y.place new.place high older_here) order.0, rest)
 
   without-in-order : (p : Waiter M → Bool) (ws : List (Waiter M)) → InOrder ws → InOrder (without_first p ws)
   without-in-order p [] order = tt
@@ -150,7 +149,7 @@ module _ {S O R M : Type 0} (m : Machine S O R) (k : WaitKind S O R M) (has : Ha
       let parts = subst (Replays m s) at.whole replays in
       let answered = (Replays-rest m s front (e ∷ at.rest) parts).0 in
       let empty : AreQueued (k.entries s) (k.waits s).waiting =
-          subst (λ (ws : Waits M R). AreQueued (k.entries s) ws.waiting) (sym start.none) (tt, All-nil (λ (w : Waiter M). w.place < k.entries s)) in
+      subst (λ (ws : Waits M R). AreQueued (k.entries s) ws.waiting) (sym start.none) (tt, All-nil (λ (w : Waiter M). w.place < k.entries s)) in
       let order = (queued-all s front (Replays-front m s front (e ∷ at.rest) parts) empty).0 in
       let same = ap k.waits (state_after-snoc m s front e) ∙ has.moves before e.who e.op e.reply answered in
       out-entry (k.waits before) (k.entries before) e.who (k.decides before e.op e.reply) (k.opens e.op e.reply) (k.ends e.op) (k.quits e.op) w v keeps order was

@@ -1,5 +1,5 @@
 -- The laws of waits, of every machine that has them.
-use Rattle.std.proofs.Common.{◌≡◌, ℕ, ◌+◌, Bool, true, false, cond, Option, Some, None, List, [], ◌∷◌, ◌++◌, map, length, All, refl, sym, ap, subst, ◌∙◌, append_assoc, append-nil, arith}
+use Rattle.std.proofs.Common.{◌≡◌, ℕ, Bool, true, false, cond, Option, Some, None, List, [], ◌∷◌, ◌++◌, map, length, All, refl, sym, ap, subst, ◌∙◌, append_assoc, append-nil, arith}
 use Rattle.std.proofs.lemmas.List.{length-append}
 use Rattle.std.proofs.lemmas.List.Elements.{All-nil, All-cons, All-head, All-tail, All-append, All-weaker}
 use Rattle.zk_base.specs.declared.ids.Who.{Who}
@@ -9,7 +9,7 @@ use Rattle.zk_base.specs.declared.waits.Decision.{Decision}
 use Rattle.zk_base.specs.History.{IsEntry}
 use Rattle.zk_base.specs.Legal.{Machine, state_after, Replays}
 use Rattle.zk_base.specs.Lists.{put_before, without_first}
-use Rattle.zk_base.specs.Waits.{Waits, no_waits, is_served_after, is_waiter, is_decision, decide, joined, ended, quitted, decides_first, first_decided, all_decided, decision_of, quit_answer}
+use Rattle.zk_base.specs.Waits.{Waits, is_served_after, is_waiter, is_decision, decide, decides_first}
 use Rattle.zk_base.specs.WaitLaws.{Decides, nobody, first, all, WaitKind, after_decision, after_entry, HasWaits, IsFirst, WasOpened, WasOpenedBy, EachWaitHasItsOpening, EndTellsItsDecision, QuitTellsItsDecision, MayEndOnceDecided, MayQuitUntilEnded}
 use Rattle.zk_base.proofs.Histories.{Replays-rest}
 
@@ -71,7 +71,7 @@ module _ {S O R M : Type 0} (m : Machine S O R) (k : WaitKind S O R M) (has : Ha
   are-longer : (h : List (Entry O R)) (l : Entry O R) (ws : Waits M R) → AreOpened h ws → AreOpened (h ++ l ∷ []) ws
   are-longer h l ws were = (
     All-weaker (λ (w : Waiter M). WasOpened k h w.place w.who w.matter) (λ (w : Waiter M). WasOpened k (h ++ l ∷ []) w.place w.who w.matter)
-    (λ w was. opened-longer h l w.place w.who w.matter was) ws.waiting were.0,
+        (λ w was. opened-longer h l w.place w.who w.matter was) ws.waiting were.0,
     All-weaker (WasOpenedBy k h) (WasOpenedBy k (h ++ l ∷ [])) (opened_by-longer h l) ws.decided were.1,
   )
 

@@ -19,13 +19,15 @@ module _ (width : ℕ) (is_right : List ℕ → Bool) where
       length-take-le len bytes (omega arith)
 
   -- padding gives the bytes back
-  pub padded-take : (bytes : List ℕ) (len : ℕ) → IsPadded width is_right bytes len → padded width (take len bytes) ≡ bytes
+  pub padded-take : (bytes : List ℕ) (len : ℕ) → IsPadded width is_right bytes len →
+      padded width (take len bytes) ≡ bytes
   padded-take bytes len held =
       ap (λ n. take len bytes ++ replicate (width - n) 0) (length-padded bytes len held) ∙
       ap (λ z. take len bytes ++ z) (sym held.zeros) ∙ take-append-drop len bytes
 
   -- right bytes written over the front of zeros are padded
-  pub IsPadded-made : (text zeros front : List ℕ) → length text ≤ width → is_right text ≡ true → zeros ≡ replicate width 0 → front ≡ text →
+  pub IsPadded-made : (text zeros front : List ℕ) → length text ≤ width → is_right text ≡ true →
+      zeros ≡ replicate width 0 → front ≡ text →
       IsPadded width is_right (front ++ drop (length text) zeros) (length text)
   IsPadded-made text zeros front within said are same =
       let rest : drop (length text) zeros ≡ replicate (width - length text) 0 =

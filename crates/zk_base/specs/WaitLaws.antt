@@ -5,7 +5,7 @@ use Rattle.zk_base.specs.declared.ids.Entry.{Entry}
 use Rattle.zk_base.specs.declared.waits.Waiter.{Waiter}
 use Rattle.zk_base.specs.declared.waits.Decision.{Decision}
 use Rattle.zk_base.specs.History.{IsEntry}
-use Rattle.zk_base.specs.Legal.{Machine, state_after, Replays}
+use Rattle.zk_base.specs.Legal.{Machine, state_after}
 use Rattle.zk_base.specs.Waits.{Waits, no_waits, joined, ended, quitted, first_decided, all_decided, decision_of, quit_answer}
 
 -- whom an entry that ends no wait decides: nobody, the first who waits, or all who wait
@@ -37,7 +37,8 @@ after_decision (first answer) ws = first_decided answer ws
 after_decision (all answer) ws = all_decided answer ws
 
 -- the waits after an entry: one more, one less, or as it decides
-abbrev pub after_entry : {R M : Type 0} → Waits M R → ℕ → Who → Decides R → Option M → Option ℕ → Option ℕ → Waits M R
+abbrev pub after_entry : {R M : Type 0} → Waits M R → ℕ → Who → Decides R → Option M →
+    Option ℕ → Option ℕ → Waits M R
 after_entry ws place who decides (Some matter) ends quits = joined ws (record { place = place; who = who; matter = matter })
 after_entry ws place who decides None (Some at) quits = ended ws who.number at
 after_entry ws place who decides None None (Some at) = quitted ws who.number at
@@ -60,7 +61,8 @@ pub record IsFirst {S O R M : Type 0} (k : WaitKind S O R M) (s : S) : Type 0 wh
   pub new : k.entries s ≡ 0
 
 -- the wait of this place was opened there, by this player, for this
-pub record WasOpened {S O R M : Type 0} (k : WaitKind S O R M) (h : List (Entry O R)) (place : ℕ) (who : Who) (matter : M) : Type 0 where
+pub record WasOpened {S O R M : Type 0} (k : WaitKind S O R M) (h : List (Entry O R))
+    (place : ℕ) (who : Who) (matter : M) : Type 0 where
   pub front : List (Entry O R)
   pub e : Entry O R
   pub at : IsEntry h front e

@@ -1,6 +1,5 @@
 use Rattle.std.specs.Prelude.{ℕ, ◌+◌, Bool, true, false, ◌==◌, ◌&&◌, int_lt, Option, Some, None, option_map, List, [], ◌∷◌, ◌++◌, length, map}
 use Rattle.std.specs.List.{find, list_any}
-use Rattle.zk_base.specs.declared.ids.Who.{Who}
 use Rattle.zk_base.specs.declared.waits.Waiter.{Waiter}
 use Rattle.zk_base.specs.declared.waits.Decision.{Decision}
 use Rattle.zk_base.specs.Lists.{put_before, without_first}

@@ -28,7 +28,10 @@ impl Model for Msg {
 
     ghost inverse = { λ v. record { bytes = padded 64 v; len = length v } };
 
-    ghost inverse_ok = { λ m held. λ i. record { bytes = padded-take 64 is_message m.bytes m.len held i; len = length-padded 64 is_message m.bytes m.len held i } };
+    ghost inverse_ok = { λ m held. λ i. record {
+      bytes = padded-take 64 is_message m.bytes m.len held i;
+      len = length-padded 64 is_message m.bytes m.len held i;
+    } };
 }
 
 impl Msg {

@@ -32,7 +32,10 @@ impl Model for Name {
 
     ghost inverse = { λ v. record { bytes = padded 16 v; len = length v } };
 
-    ghost inverse_ok = { λ n held. λ i. record { bytes = padded-take 16 is_name n.bytes n.len held i; len = length-padded 16 is_name n.bytes n.len held i } };
+    ghost inverse_ok = { λ n held. λ i. record {
+      bytes = padded-take 16 is_name n.bytes n.len held i;
+      len = length-padded 16 is_name n.bytes n.len held i;
+    } };
 }
 
 impl Name {

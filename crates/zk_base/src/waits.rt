@@ -50,7 +50,7 @@ impl<M: Drop, A: Drop> Model for WaitList<M, A> {
     ghost view = { λ l. record {
       waits = record { waiting = l.waiting.items; decided = l.decided.items };
       room = min (vec_capacity l.waiting - vec_len l.waiting)
-        (vec_capacity l.decided - (vec_len l.decided + vec_len l.waiting));
+          (vec_capacity l.decided - (vec_len l.decided + vec_len l.waiting));
     } };
 
     ghost invariant = { λ l. vec_len l.decided + vec_len l.waiting ≤ vec_capacity l.decided };
@@ -199,11 +199,7 @@ fn decide<M, A>(answer: A, waiter: &Waiter<M>) -> Decision<A>
 }
 
 /// Decides each of these waits alike. There is room for that.
-fn decide_each<M, A: Drop + Copy>(
-    waiting: &[Waiter<M>],
-    decided: &mut Vec<Decision<A>>,
-    answer: A,
-)
+fn decide_each<M, A: Drop + Copy>(waiting: &[Waiter<M>], decided: &mut Vec<Decision<A>>, answer: A)
     requires { vec_len decided.old + length waiting.now ≤ vec_capacity decided.old }
     ensures items { decided.new.items ≡ decided.old.items ++ map (decide answer) waiting.now }
     ensures len { vec_len decided.new ≡ vec_len decided.old + length waiting.now }

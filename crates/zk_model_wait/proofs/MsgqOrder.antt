@@ -1,5 +1,5 @@
 -- What goes through a message queue, along a history.
-use Rattle.std.proofs.Common.{◌≡◌, ℕ, zero, suc, ◌+◌, ◌-◌, ◌<◌, ◌≤◌, Bool, true, false, ltb, cond, Option, Some, None, List, [], ◌∷◌, ◌++◌, length, refl, sym, ap, subst, ◌∙◌, append_assoc, append-nil, arith}
+use Rattle.std.proofs.Common.{◌≡◌, ℕ, suc, ◌-◌, ◌<◌, ◌≤◌, Bool, true, false, ltb, cond, Some, List, [], ◌∷◌, ◌++◌, length, refl, sym, ap, subst, ◌∙◌, append_assoc, append-nil, arith}
 use Rattle.std.proofs.lemmas.Bool.{ltb-true}
 use Rattle.std.proofs.lemmas.Bool.Decides.{nat_tests}
 use Rattle.std.proofs.lemmas.List.{length-append}
@@ -8,14 +8,13 @@ use Rattle.zk_base.specs.declared.ids.Who.{Who}
 use Rattle.zk_base.specs.declared.ids.Entry.{Entry}
 use Rattle.zk_base.specs.declared.waits.Waiter.{Waiter}
 use Rattle.zk_base.specs.History.{IsEntry}
-use Rattle.zk_base.specs.Legal.{state_after, Replays}
-use Rattle.zk_base.specs.Lists.{put_before, without_first}
+use Rattle.zk_base.specs.Legal.{Replays}
 use Rattle.zk_base.specs.Waits.{is_waiter}
-use Rattle.zk_base.proofs.Histories.{state_after-append, state_after-snoc, Replays-front, Replays-rest}
+use Rattle.zk_base.proofs.Histories.{state_after-append, state_after-snoc, Replays-rest}
 use Rattle.zk_model_wait.specs.declared.msgq.MsgqOp.{MsgqOp}
 use Rattle.zk_model_wait.specs.declared.msgq.MsgqOp.TheVariants as ops
 use Rattle.zk_model_wait.specs.declared.msgq.MsgqReply.{MsgqReply}
-use Rattle.zk_model_wait.specs.declared.msgq.MsgqReply.TheVariants.{Done, NoMsg, Wait, Bytes, Number}
+use Rattle.zk_model_wait.specs.declared.msgq.MsgqReply.TheVariants.{Done, Number}
 use Rattle.zk_model_wait.specs.Msgq.{Msgq, new_msgq, else_reply, put_reply, get_reply, peek_reply, msgq_reply, msgq_next, msgq_machine, put_at_full, put_to, moved_in, get_from}
 use Rattle.zk_model_wait.specs.MsgqLaws.{MsgqHistory, OfEachMsgq, msgq_after_all, first_matter, moving_in, accepted, handed, leaving, all_accepted, all_leaving, FirstInFirstOut, RingWithinMax, NoneWaitsToGetWhileMessages, NoneWaitsToPutWhileRoom, PutWaitsOnlyAtFull, GetWaitsOnlyAtEmpty, LooksTellTheRing, PurgeEndsEveryPut}
 use Rattle.zk_model_wait.proofs.SemCounts.{without-nil}

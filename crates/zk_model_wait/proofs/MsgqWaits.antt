@@ -1,5 +1,5 @@
 -- A message queue has waits: puts, and gets.
-use Rattle.std.proofs.Common.{◌≡◌, ℕ, Bool, true, false, ltb, cond, Option, Some, None, List, [], ◌∷◌, ◌++◌, length, refl, sym, ap, subst, ◌∙◌}
+use Rattle.std.proofs.Common.{◌≡◌, ℕ, Bool, true, false, ltb, cond, Some, None, List, [], ◌∷◌, ◌++◌, length, refl, sym, ap, subst}
 use Rattle.std.proofs.lemmas.Option.{same_Some}
 use Rattle.zk_base.specs.declared.ids.Who.{Who}
 use Rattle.zk_base.specs.declared.waits.Waiter.{Waiter}
@@ -11,7 +11,7 @@ use Rattle.zk_model_wait.specs.MsgqLaws.{OfEachMsgq, KeepsWaits}
 use Rattle.zk_model_wait.specs.declared.msgq.MsgqOp.{MsgqOp}
 use Rattle.zk_model_wait.specs.declared.msgq.MsgqOp.TheVariants as ops
 use Rattle.zk_model_wait.specs.declared.msgq.MsgqReply.{MsgqReply}
-use Rattle.zk_model_wait.specs.declared.msgq.MsgqReply.TheVariants.{Done, NoMsg, Wait, Bytes}
+use Rattle.zk_model_wait.specs.declared.msgq.MsgqReply.TheVariants.{Done, Bytes}
 use Rattle.zk_model_wait.specs.Msgq.{Msgq, new_msgq, else_reply, put_reply, get_reply, msgq_reply, msgq_next, msgq_machine, put_at_full, put_to, moved_in, get_from}
 use Rattle.zk_model_wait.specs.MsgqWaits.{put_opens, get_opens, get_decides, take_decides, putters, getters}
 

@@ -1,5 +1,5 @@
 -- What a semaphore counts, along a history.
-use Rattle.std.proofs.Common.{◌≡◌, ℕ, zero, suc, ◌+◌, ◌<◌, ◌≤◌, Bool, true, false, ◌==◌, ◌||◌, ◌⊎◌, inl, inr, ltb, cond, Option, Some, None, option_map, List, [], ◌∷◌, ◌++◌, map, refl, sym, ap, subst, ◌∙◌, arith}
+use Rattle.std.proofs.Common.{◌≡◌, ℕ, zero, suc, ◌+◌, ◌<◌, ◌≤◌, Bool, true, false, inl, inr, ltb, cond, Option, Some, None, option_map, List, [], ◌∷◌, map, refl, sym, ap, subst, ◌∙◌, arith}
 use Rattle.std.specs.List.{find, count_by}
 use Rattle.std.proofs.lemmas.Bool.{ltb-true}
 use Rattle.std.proofs.lemmas.List.Sums.{sum_by-cons, sum_by_push, sum_by-append}
@@ -9,7 +9,7 @@ use Rattle.zk_base.specs.declared.ids.Entry.{Entry}
 use Rattle.zk_base.specs.declared.waits.Waiter.{Waiter}
 use Rattle.zk_base.specs.declared.waits.Decision.{Decision}
 use Rattle.zk_base.specs.History.{IsEntry}
-use Rattle.zk_base.specs.Legal.{state_after, Replays}
+use Rattle.zk_base.specs.Legal.{Replays}
 use Rattle.zk_base.specs.Lists.{without_first}
 use Rattle.zk_base.specs.Waits.{is_waiter, is_decision, decide, decides_first, goes_on, given_up}
 use Rattle.zk_base.proofs.Firsts.{one_if}
@@ -19,7 +19,7 @@ use Rattle.zk_model_wait.specs.declared.sem.SemOp.TheVariants as ops
 use Rattle.zk_model_wait.specs.declared.sem.SemReply.{SemReply}
 use Rattle.zk_model_wait.specs.declared.sem.SemReply.TheVariants.{Got, Again, Done, Number}
 use Rattle.zk_model_wait.specs.Sem.{Sem, new_sem, take_reply, take_at, give_to, sem_reply, sem_next, sem_machine}
-use Rattle.zk_model_wait.specs.SemLaws.{SemHistory, OfEachSem, sem_after_all, is_got, gives_one, is_give, takes_one, held, wasted_at, thrown_away, all_thrown_away, ends_wait, CountWithinLimit, NoneWaitsWhileCount, GivesAddUp, GotWithinGives, TakeWaitsOnlyAtZero, CountTellsTheCount, ResetEndsEveryWait, MayAlways, GiveIsDone}
+use Rattle.zk_model_wait.specs.SemLaws.{SemHistory, OfEachSem, sem_after_all, is_got, gives_one, is_give, takes_one, held, wasted_at, thrown_away, all_thrown_away, CountWithinLimit, NoneWaitsWhileCount, GivesAddUp, GotWithinGives, TakeWaitsOnlyAtZero, CountTellsTheCount, ResetEndsEveryWait, MayAlways, GiveIsDone}
 
 -- the limit stays
 take-limit : (n : ℕ) (s : Sem) (who : Who) (waits : Bool) → (take_at n s who waits).limit ≡ s.limit
@@ -139,7 +139,6 @@ none-got [] = refl
 none-got (w ∷ ws) = omega (arith, none-got ws, sum_by-cons (λ (d : Decision SemReply). one_if (is_got d.answer)) (decide Again w) (map (decide Again) ws))
 
 -- An entry takes one, or gives one, or neither.
-
 
 take-adds : (n : ℕ) (s : Sem) (who : Who) (waits : Bool) (reply : SemReply) → s.count ≡ n → take_reply n waits ≡ reply →
     s.count + held s ≡ one_if (is_got reply) + held (take_at n s who waits) + (take_at n s who waits).count

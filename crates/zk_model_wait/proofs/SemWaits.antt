@@ -1,17 +1,16 @@
 -- A semaphore has waits.
-use Rattle.std.proofs.Common.{◌≡◌, ℕ, zero, suc, Bool, true, false, Option, Some, None, List, [], ◌∷◌, refl, sym, ap, subst, ◌∙◌}
+use Rattle.std.proofs.Common.{◌≡◌, ℕ, zero, suc, Bool, true, false, Some, None, List, [], ◌∷◌, refl, sym, ap, subst}
 use Rattle.std.proofs.lemmas.Option.{same_Some}
 use Rattle.zk_base.specs.declared.ids.Who.{Who}
 use Rattle.zk_base.specs.declared.waits.Waiter.{Waiter}
-use Rattle.zk_base.specs.declared.waits.Decision.{Decision}
 use Rattle.zk_base.specs.Waits.{Waits, decides_first}
 use Rattle.zk_base.specs.WaitLaws.{nobody, first, after_decision, after_entry, HasWaits, IsFirst}
 use Rattle.zk_model_wait.specs.declared.sem.SemOp.{SemOp}
 use Rattle.zk_model_wait.specs.declared.sem.SemOp.TheVariants as ops
 use Rattle.zk_model_wait.specs.declared.sem.SemReply.{SemReply}
-use Rattle.zk_model_wait.specs.declared.sem.SemReply.TheVariants.{Got, Done, Number}
+use Rattle.zk_model_wait.specs.declared.sem.SemReply.TheVariants.{Got}
 use Rattle.zk_model_wait.specs.Sem.{Sem, new_sem, take_reply, take_at, give_to, sem_reply, sem_next, sem_machine}
-use Rattle.zk_model_wait.specs.SemWaits.{take_opens, take_decides, takers}
+use Rattle.zk_model_wait.specs.SemWaits.{take_opens, takers}
 
 take-moves : (n : ℕ) (s : Sem) (who : Who) (waits : Bool) (reply : SemReply) → take_reply n waits ≡ reply →
     (take_at n s who waits).takers ≡ after_entry s.takers s.entries who nobody (take_opens (ops.Take waits) reply) None None

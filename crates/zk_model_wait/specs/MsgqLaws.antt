@@ -1,5 +1,4 @@
-use Rattle.std.specs.Prelude.{◌≡◌, ℕ, ◌+◌, ◌-◌, ◌<◌, ◌≤◌, Bool, true, false, ◌⊎◌, Some, List, [], ◌∷◌, ◌++◌, length}
-use Rattle.zk_base.specs.declared.ids.Who.{Who}
+use Rattle.std.specs.Prelude.{◌≡◌, ℕ, ◌-◌, ◌<◌, ◌≤◌, Bool, List, [], ◌∷◌, ◌++◌, length}
 use Rattle.zk_base.specs.declared.ids.Entry.{Entry}
 use Rattle.zk_base.specs.declared.waits.Waiter.{Waiter}
 use Rattle.zk_base.specs.History.{IsEntry}
@@ -9,7 +8,7 @@ use Rattle.zk_model_wait.specs.declared.msgq.MsgqOp.{MsgqOp}
 use Rattle.zk_model_wait.specs.declared.msgq.MsgqOp.TheVariants as ops
 use Rattle.zk_model_wait.specs.declared.msgq.MsgqReply.{MsgqReply}
 use Rattle.zk_model_wait.specs.declared.msgq.MsgqReply.TheVariants.{Done, Bytes, Number}
-use Rattle.zk_model_wait.specs.Msgq.{Msgq, new_msgq, put_reply, get_reply, peek_reply, msgq_reply, msgq_next, msgq_machine}
+use Rattle.zk_model_wait.specs.Msgq.{Msgq, new_msgq, put_reply, get_reply, peek_reply, msgq_next, msgq_machine}
 use Rattle.zk_model_wait.specs.MsgqWaits.{putters, getters}
 
 -- a history of a message queue

@@ -1,5 +1,4 @@
-use Rattle.std.specs.Prelude.{ℕ, Bool, nat_lt, if◌then◌else◌, Option, Some, None, List, [], ◌∷◌, length}
-use Rattle.zk_base.specs.declared.waits.Waiter.{Waiter}
+use Rattle.std.specs.Prelude.{ℕ, Option, Some, None, List, [], ◌∷◌}
 use Rattle.zk_base.specs.WaitLaws.{Decides, nobody, first, all, WaitKind}
 use Rattle.zk_model_wait.specs.declared.msgq.MsgqOp.{MsgqOp}
 use Rattle.zk_model_wait.specs.declared.msgq.MsgqOp.TheVariants as ops

@@ -1,4 +1,4 @@
-use Rattle.std.specs.Prelude.{◌≡◌, ℕ, ◌+◌, ◌<◌, ◌≤◌, Bool, true, false, ◌==◌, ◌&&◌, ◌⊎◌, if◌then◌else◌, nat_lt, count_by, Some, List, [], ◌∷◌, ◌++◌}
+use Rattle.std.specs.Prelude.{◌≡◌, ℕ, ◌+◌, ◌<◌, ◌≤◌, Bool, true, false, ◌⊎◌, if◌then◌else◌, nat_lt, count_by, Some, List, [], ◌∷◌, ◌++◌}
 use Rattle.zk_base.specs.declared.ids.Who.{Who}
 use Rattle.zk_base.specs.declared.ids.Entry.{Entry}
 use Rattle.zk_base.specs.declared.waits.Waiter.{Waiter}
@@ -9,7 +9,7 @@ use Rattle.zk_model_wait.specs.SemWaits.{takers}
 use Rattle.zk_model_wait.specs.declared.sem.SemOp.{SemOp}
 use Rattle.zk_model_wait.specs.declared.sem.SemOp.TheVariants as ops
 use Rattle.zk_model_wait.specs.declared.sem.SemReply.{SemReply}
-use Rattle.zk_model_wait.specs.declared.sem.SemReply.TheVariants.{Got, Busy, Wait, Again, Done, Number}
+use Rattle.zk_model_wait.specs.declared.sem.SemReply.TheVariants.{Got, Done, Number}
 use Rattle.zk_model_wait.specs.Sem.{Sem, new_sem, take_reply, sem_reply, sem_next, sem_machine}
 
 -- a history of a semaphore

@@ -70,11 +70,23 @@ impl Model for MsgqStore {
     ghost Value = { MsgqView };
 
     ghost view = { λ s. record {
-      msgq = record { most = s.ring.capacity; entries = s.entries; messages = s.ring.items; puts = s.puts.waits; gets = s.gets.waits };
+      msgq = record {
+        most = s.ring.capacity;
+        entries = s.entries;
+        messages = s.ring.items;
+        puts = s.puts.waits;
+        gets = s.gets.waits;
+      };
       room = min s.puts.room s.gets.room;
     } };
 
-    ghost invariant = { λ s. IsWithin (record { most = s.ring.capacity; entries = s.entries; messages = s.ring.items; puts = s.puts.waits; gets = s.gets.waits }) };
+    ghost invariant = { λ s. IsWithin (record {
+      most = s.ring.capacity;
+      entries = s.entries;
+      messages = s.ring.items;
+      puts = s.puts.waits;
+      gets = s.gets.waits;
+    }) };
 }
 
 /// The state of a message queue's machine alone, which contracts see as its definition has it.

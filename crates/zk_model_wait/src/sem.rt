@@ -59,7 +59,12 @@ impl Model for SemStore {
       room = s.takers.room;
     } };
 
-    ghost invariant = { λ s. IsCounted (record { count = s.count; limit = s.limit; entries = s.entries; takers = s.takers.waits }) };
+    ghost invariant = { λ s. IsCounted (record {
+      count = s.count;
+      limit = s.limit;
+      entries = s.entries;
+      takers = s.takers.waits;
+    }) };
 }
 
 /// The state of a semaphore's machine alone, which contracts see as its definition has it.
@@ -216,11 +221,7 @@ impl SemStore {
 /// One operation of a semaphore's machine: its reply and its next state.
 ///
 /// `None` says that the operation isn't possible now. Only a `Take` that waits takes memory.
-pub fn sem_next(
-    store: &mut SemStore,
-    who: Who,
-    op: &SemOp,
-) -> Result<Option<SemReply>, NoMemory>
+pub fn sem_next(store: &mut SemStore, who: Who, op: &SemOp) -> Result<Option<SemReply>, NoMemory>
     requires { store.old.sem.entries < 2 ^ 32 - 1 }
     ensures reply { IfOk result (λ reply. reply ≡ sem_reply store.old.sem who op.now) }
     ensures next { IfOk result (λ reply. store.new.sem ≡ sem_after store.old.sem who op.now reply) }

@@ -17,7 +17,8 @@ counts q who op = refl
 pub ranges : (q : Msgq) (who : Who) (op : MsgqOp) → msgq_in_range (msgq_next q who op) ≡ msgq_in_range q
 ranges q who op = refl
 
-full-adds : (q : Msgq) (who : Who) (message : List ℕ) (waits : Bool) → open_calls (put_at_full q who message waits) ≤ open_calls q + 2
+full-adds : (q : Msgq) (who : Who) (message : List ℕ) (waits : Bool) →
+    open_calls (put_at_full q who message waits) ≤ open_calls q + 2
 full-adds q who message true = let one = open-joined q.puts (record { place = q.entries; who = who; matter = message }) in omega arith
 full-adds q who message false = omega arith
 
@@ -26,7 +27,8 @@ either-adds : (q : Msgq) (who : Who) (message : List ℕ) (waits room : Bool) �
 either-adds q who message waits true = omega arith
 either-adds q who message waits false = full-adds q who message waits
 
-put-adds : (waiting : List (Waiter Unit)) (q : Msgq) (who : Who) (message : List ℕ) (waits : Bool) → open_calls (put_to waiting q who message waits) ≤ open_calls q + 2
+put-adds : (waiting : List (Waiter Unit)) (q : Msgq) (who : Who) (message : List ℕ) (waits : Bool) →
+    open_calls (put_to waiting q who message waits) ≤ open_calls q + 2
 put-adds (w ∷ ws) q who message waits = let same = open-first (Bytes message) q.gets in omega arith
 put-adds [] q who message waits = either-adds q who message waits (nat_lt (length q.messages) q.most)
 
@@ -34,7 +36,8 @@ moved-adds : (waiting : List (Waiter (List ℕ))) (q : Msgq) → open_calls (mov
 moved-adds [] q = omega arith
 moved-adds (w ∷ ws) q = let same = open-first Done q.puts in omega arith
 
-get-adds : (messages : List (List ℕ)) (q : Msgq) (who : Who) (waits : Bool) → open_calls (get_from messages q who waits) ≤ open_calls q + 2
+get-adds : (messages : List (List ℕ)) (q : Msgq) (who : Who) (waits : Bool) →
+    open_calls (get_from messages q who waits) ≤ open_calls q + 2
 get-adds (m ∷ ms) q who waits = let most = moved-adds q.puts.waiting (record q { messages = ms }) in omega arith
 get-adds [] q who true = let one = open-joined q.gets (record { place = q.entries; who = who; matter = tt }) in omega arith
 get-adds [] q who false = omega arith
@@ -51,7 +54,8 @@ adds q who ops.Purge = let same = open-all NoMsg q.puts in omega arith
 adds q who op = omega arith
 
 -- the end of a wait gives one
-pub gives : (q : Msgq) (who : Who) (op : MsgqOp) → msgq_closes op ≡ true → is_some (msgq_reply q who op) ≡ true → 1 + open_calls (msgq_next q who op) ≤ open_calls q
+pub gives : (q : Msgq) (who : Who) (op : MsgqOp) → msgq_closes op ≡ true → is_some (msgq_reply q who op) ≡ true →
+    1 + open_calls (msgq_next q who op) ≤ open_calls q
 gives q who (ops.PutEnd place) closes some = let one = open-ended q.puts who.number place some in omega arith
 gives q who (ops.PutQuit place) closes some = let one = open-quitted q.puts who.number place Again some in omega arith
 gives q who (ops.GetEnd place) closes some = let one = open-ended q.gets who.number place some in omega arith

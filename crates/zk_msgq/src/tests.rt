@@ -33,12 +33,7 @@ fn text(alloc: Global, reply: Option<MsgqReply>) -> Result<String, NoMemory> {
 }
 
 /// One attempt, at a step above all earlier ones.
-fn attempt(
-    msgq: &mut Msgq,
-    who: Who,
-    step: u32,
-    op: MsgqOp,
-) -> Result<Option<MsgqReply>, NoMemory>
+fn attempt(msgq: &mut Msgq, who: Who, step: u32, op: MsgqOp) -> Result<Option<MsgqReply>, NoMemory>
     requires below { IsBelow step (msgq_history msgq.old) }
     requires few { step < 100 }
     ensures { IfOk result (λ _. IsBelow (step + 1) (msgq_history msgq.new)) }

@@ -1,5 +1,5 @@
 -- The laws of the engine, over all states and operations.
-use Rattle.std.proofs.Common.{◌≡◌, ℕ, zero, suc, ◌+◌, ◌≤◌, Bool, true, false, is_some, List, [], ◌∷◌, refl, sym, subst, arith}
+use Rattle.std.proofs.Common.{◌≡◌, ℕ, zero, suc, ◌+◌, ◌≤◌, Bool, true, false, is_some, List, [], ◌∷◌, refl, arith}
 use Rattle.zk_base.specs.declared.ids.Who.{Who}
 use Rattle.zk_base.specs.declared.waits.Waiter.{Waiter}
 use Rattle.zk_base.proofs.WaitMoves.{open-joined, open-ended, open-ended-most, open-quitted, open-quitted-most, open-first, open-all}
@@ -36,7 +36,8 @@ adds s who ops.Reset = let same = open-all Again s.takers in omega arith
 adds s who ops.Count = omega arith
 
 -- the end of a wait gives one
-pub gives : (s : Sem) (who : Who) (op : SemOp) → sem_closes op ≡ true → is_some (sem_reply s who op) ≡ true → 1 + open_takes (sem_next s who op) ≤ open_takes s
+pub gives : (s : Sem) (who : Who) (op : SemOp) → sem_closes op ≡ true → is_some (sem_reply s who op) ≡ true →
+    1 + open_takes (sem_next s who op) ≤ open_takes s
 gives s who (ops.TakeEnd place) closes some = open-ended s.takers who.number place some
 gives s who (ops.TakeQuit place) closes some = open-quitted s.takers who.number place Again some
 gives s who (ops.Take waits) closes some = absurd (cc)

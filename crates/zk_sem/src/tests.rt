@@ -14,12 +14,7 @@ use zk_model_wait::{SemOp, SemReply};
 type Row = (u32, i8, SemOp, &'static str);
 
 /// One attempt, at a step above all earlier ones.
-fn attempt(
-    sem: &mut Sem,
-    who: Who,
-    step: u32,
-    op: SemOp,
-) -> Result<Option<SemReply>, NoMemory>
+fn attempt(sem: &mut Sem, who: Who, step: u32, op: SemOp) -> Result<Option<SemReply>, NoMemory>
     requires below { IsBelow step (sem_history sem.old) }
     requires few { step < 100 }
     ensures { IfOk result (λ _. IsBelow (step + 1) (sem_history sem.new)) }

@@ -1,4 +1,4 @@
-use Rattle.std.proofs.Common.{◌≡◌, ℕ, ◌+◌, ◌≤◌, ◌++◌, take, drop, map, length, vec_len, vec_capacity}
+use Rattle.std.proofs.Common.{◌≡◌, ◌+◌, ◌≤◌, ◌++◌, drop, map, length, vec_len, vec_capacity}
 use Rattle.zk_base.specs.Waits.{decide}
 use Rattle.zk_base.proofs.waits.decide_each.Given as goal
 

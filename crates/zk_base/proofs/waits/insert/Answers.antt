@@ -1,4 +1,4 @@
-use Rattle.std.proofs.Common.{ℕ, List, ap, sym, ◌∙◌}
+use Rattle.std.proofs.Common.{ℕ, ap, ◌∙◌}
 use Rattle.std.specs.List.{insert}
 use Rattle.zk_base.proofs.Firsts.{insert-before}
 use Rattle.zk_base.proofs.waits.insert.Goals as goal
