@@ -1,43 +1,79 @@
 use crate::plain::Plain;
 use crate::replay;
 use crate::run::first_work;
-use std::test::*;
-use zk_scenario::read_scenario;
+use std::alloc::Global;
+use std::test::Fail;
+use zk_scenario::{Scenario, read_scenario};
 use zk_time::Clock;
 use zk_trace::Ending;
 use zk_worker::{Answer, Answered, Log, Player, Stepped};
 
+/// The scenario of this text.
+fn scenario_of(alloc: Global, text: &str) -> Result<Scenario, Fail> {
+    let scenario = read_scenario(alloc, text.as_bytes())?;
+    Ok(scenario)
+}
+
+/// What comes of the next step of the first player, on services that nobody used before, then of the one after it; and how
+/// many entries there are after each.
+fn two_steps(alloc: Global, scenario: &Scenario) -> Result<[(Stepped, usize); 2], Fail> {
+    if scenario.players() == 0 {
+        return Err(Fail::from("no player"));
+    }
+    let work = first_work(alloc, scenario)?;
+    let mut services = Plain::new(work, Clock::new(alloc));
+    let mut player = Player::new(alloc, scenario, 0)?;
+    let first = player.step(scenario, &mut services)?;
+    let entries = services.work().len();
+    let second = player.step(scenario, &mut services)?;
+    Ok([(first, entries), (second, services.work().len())])
+}
+
 /// A thread makes its step and is through, while the item that it submitted waits.
 #[test]
 fn did_and_ended(rt: HostRuntime) -> Result<(), Fail> {
-    let text = b"zk 1\nthread t0 0 super\nqueue q0 0 on\nitem w0\nscript t0\nsubmit w0 q0\nend\n";
-    let scenario = read_scenario(rt.alloc(), text)?;
-    let work = first_work(rt.alloc(), &scenario)?;
-    let mut services = Plain::new(work, Clock::new(rt.alloc()));
-    assert!(&rt; 0 < scenario.players());
-    let mut thread = Player::new(rt.alloc(), &scenario, 0)?;
-    let first = thread.step(&scenario, &mut services)?;
-    assert_eq!(&rt; first, Stepped::Did);
-    assert_eq!(&rt; services.work().len(), 1);
-    let second = thread.step(&scenario, &mut services)?;
-    assert_eq!(&rt; second, Stepped::Ended);
-    assert_eq!(&rt; services.work().len(), 1);
+    let text = "zk 1\nthread t0 0 super\nqueue q0 0 on\nitem w0\nscript t0\nsubmit w0 q0\nend\n";
+    let scenario = scenario_of(rt.alloc(), text)?;
+    let steps = two_steps(rt.alloc(), &scenario)?;
+    assert_eq!(&rt; steps, [(Stepped::Did, 1), (Stepped::Ended, 1)]);
     Ok(())
 }
 
 /// A worker waits where nothing was submitted.
 #[test]
 fn not_yet(rt: HostRuntime) -> Result<(), Fail> {
-    let text = b"zk 1\nqueue q0 0 on\nitem w0\n";
-    let scenario = read_scenario(rt.alloc(), text)?;
-    let work = first_work(rt.alloc(), &scenario)?;
-    let mut services = Plain::new(work, Clock::new(rt.alloc()));
-    assert!(&rt; 0 < scenario.players());
-    let mut worker = Player::new(rt.alloc(), &scenario, 0)?;
-    let first = worker.step(&scenario, &mut services)?;
-    assert_eq!(&rt; first, Stepped::NotYet);
-    assert_eq!(&rt; services.work().len(), 0);
+    let scenario = scenario_of(rt.alloc(), "zk 1\nqueue q0 0 on\nitem w0\n")?;
+    let steps = two_steps(rt.alloc(), &scenario)?;
+    assert_eq!(&rt; steps, [(Stepped::NotYet, 0), (Stepped::NotYet, 0)]);
     Ok(())
+}
+
+/// How a scenario ends when it is played, with the numbers of entries of the work service and of the clock, and of logs; and
+/// what the first player answered.
+fn played(
+    alloc: Global,
+    scenario: &Scenario,
+) -> Result<(Ending, [usize; 3], [Option<u64>; 4]), Fail> {
+    let trace = replay(alloc, scenario)?;
+    let counts = [
+        trace.work.items().len(),
+        trace.clock.items().len(),
+        trace.logs.items().len(),
+    ];
+    let Some(log) = trace.logs.items().first() else {
+        return Err(Fail::from("no player"));
+    };
+    Ok((trace.ending, counts, numbers_of(log)))
+}
+
+/// The numbers that the first answers of a player are.
+fn numbers_of(log: &Log) -> [Option<u64>; 4] {
+    [
+        number_at(log, 0),
+        number_at(log, 1),
+        number_at(log, 2),
+        number_at(log, 3),
+    ]
 }
 
 /// The number that the player's answer of this place is, if it is one.
@@ -57,17 +93,11 @@ fn number_at(log: &Log, place: usize) -> Option<u64> {
 #[test]
 fn delays_end(rt: HostRuntime) -> Result<(), Fail> {
     let text =
-        b"zk 1\nthread t0 0 super\nqueue q0 0 on\nitem w0\nscript t0\nschedule w0 q0 2\ntick 1\nremaining w0\ntick 2\nend\n";
-    let scenario = read_scenario(rt.alloc(), text)?;
-    let trace = replay(rt.alloc(), &scenario)?;
-    assert_eq!(&rt; trace.ending, Ending::Ended);
-    assert_eq!(&rt; trace.work.items().len(), 6);
-    assert_eq!(&rt; trace.clock.items().len(), 2);
-    let logs = trace.logs.items();
-    assert_eq!(&rt; logs.len(), 2);
-    assert_eq!(&rt; number_at(&logs[0], 0), Some(1));
-    assert_eq!(&rt; number_at(&logs[0], 1), Some(0));
-    assert_eq!(&rt; number_at(&logs[0], 2), Some(1));
-    assert_eq!(&rt; number_at(&logs[0], 3), Some(0));
+        "zk 1\nthread t0 0 super\nqueue q0 0 on\nitem w0\nscript t0\nschedule w0 q0 2\ntick 1\nremaining w0\ntick 2\nend\n";
+    let scenario = scenario_of(rt.alloc(), text)?;
+    let (ending, counts, numbers) = played(rt.alloc(), &scenario)?;
+    assert_eq!(&rt; ending, Ending::Ended);
+    assert_eq!(&rt; counts, [6, 2, 2]);
+    assert_eq!(&rt; numbers, [Some(1), Some(0), Some(1), Some(0)]);
     Ok(())
 }

@@ -2,11 +2,15 @@
 #![tactic(auto)]
 
 mod clock_shared;
+#[cfg(test)]
+mod machine_tests;
 mod often;
 mod taking;
 #[cfg(test)]
 mod tests;
 mod work_shared;
+#[cfg(test)]
+mod work_tests;
 
 pub use clock_shared::ticked_by_two;
 pub use often::{Caller, call_often};
