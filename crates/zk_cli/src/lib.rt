@@ -7,6 +7,8 @@ mod output;
 #[cfg(test)]
 mod player_tests;
 #[cfg(test)]
+mod replay_tests;
+#[cfg(test)]
 mod tests;
 mod top;
 

@@ -1,8 +1,7 @@
-use crate::plain::Plain;
-use crate::replay;
-use crate::run::first_work;
+//! Single steps on plain services, and one run.
 use std::alloc::Global;
 use std::test::Fail;
+use zk_replay::{Plain, first_work, replay};
 use zk_scenario::{Scenario, read_scenario};
 use zk_time::Clock;
 use zk_trace::Ending;
