@@ -6,6 +6,3 @@ mod clock_laws;
 
 pub use clock::{Alarm, ClockOp, ClockReply, ClockState, ClockStore, clock_next};
 pub use clock_laws::{alarms_hold, keeps_clock_laws, time_passes};
-
-#[cfg(test)]
-mod clock_tests;

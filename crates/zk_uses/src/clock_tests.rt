@@ -1,15 +1,16 @@
+//! The clock of one caller, one attempt after another.
 ghost use Rattle.std.specs.Prelude.{◌+◌, ◌<◌, ◌≤◌, length, IfOk};
 ghost use Rattle.zk_time.specs.ClockSeen.{clock_history};
-ghost use Rattle.zk_time.specs.ClockTests.{IsBelow};
+ghost use Rattle.zk_uses.specs.Tried.{IsBelow};
 
-use crate::Clock;
 use std::alloc::Global;
 use std::fmt::Write;
 use std::process::Abort;
-use std::test::*;
+use std::test::Fail;
 use zk_base::{NoMemory, Service, Who};
 use zk_model_wait::ClockOp::{Alarm, AlarmEnd, Announce};
 use zk_model_wait::{ClockOp, ClockReply};
+use zk_time::Clock;
 
 /// One attempt: the player, the operation, and what is answered.
 type Row = (u32, ClockOp, &'static str);

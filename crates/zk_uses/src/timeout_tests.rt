@@ -1,10 +1,11 @@
+//! The items that are armed beside a plain list, over random histories.
 ghost use Rattle.std.specs.Prelude.{◌≡◌, ℕ, ◌<◌, length};
 
-use crate::{Timeout, TimeoutList};
 use std::alloc::Global;
 use std::process::Abort;
-use std::test::*;
+use std::test::Fail;
 use zk_base::NoMemory;
+use zk_time::{Timeout, TimeoutList};
 
 const ITEMS: u32 = 6;
 
