@@ -1,12 +1,15 @@
 //! A player by hand: each step with the reply that it is given, and what the player answers.
+use crate::tests::scenario_of;
 use std::alloc::Global;
 use std::process::Abort;
 use std::test::Fail;
 use zk_base::{Listed, NoMemory};
 use zk_model_wait::ClockReply;
 use zk_model_work::{Submitted, WorkReply};
-use zk_scenario::{Scenario, read_scenario};
+use zk_scenario::Scenario;
 use zk_worker::{Player, PlayerState, StepReply};
+
+const SCRIPT: &str = "zk 1\nthread t0 0 super\nqueue q0 0 on\nitem w0\nscript t0\n";
 
 /// The thread of a scenario, and what it has done.
 #[derive(Drop)]
@@ -15,17 +18,10 @@ struct Thread {
     player: Player,
 }
 
-/// The scenario of one thread that makes these calls.
-fn scenario_of(alloc: Global, calls: &str) -> Result<Scenario, Fail> {
-    let front = "zk 1\nthread t0 0 super\nqueue q0 0 on\nitem w0\nscript t0\n";
-    let text = format!(in alloc; "{front}{calls}")?;
-    let scenario = read_scenario(alloc, text.as_bytes())?;
-    Ok(scenario)
-}
-
 impl Thread {
-    /// The thread before its first step.
-    fn new(alloc: Global, scenario: Scenario) -> Result<Thread, Fail> {
+    /// The thread that makes these calls, before its first step.
+    fn new(alloc: Global, calls: &str) -> Result<Thread, Fail> {
+        let scenario = scenario_of(alloc, &[SCRIPT, calls])?;
         if scenario.players() == 0 {
             return Err(Fail::from("no player"));
         }
@@ -81,7 +77,7 @@ impl Thread {
 fn delays(rt: HostRuntime) -> Result<(), Fail> {
     let alloc = rt.alloc();
     let calls = "schedule w0 q0 5\nschedule w0 q0 5\nreschedule w0 q0 0\nremaining w0\nend\n";
-    let mut thread = Thread::new(alloc, scenario_of(alloc, calls)?)?;
+    let mut thread = Thread::new(alloc, calls)?;
     thread.told(
         &rt,
         alloc,
@@ -118,7 +114,7 @@ fn delays(rt: HostRuntime) -> Result<(), Fail> {
 #[test]
 fn ticks(rt: HostRuntime) -> Result<(), Fail> {
     let alloc = rt.alloc();
-    let mut thread = Thread::new(alloc, scenario_of(alloc, "tick 3\nend\n")?)?;
+    let mut thread = Thread::new(alloc, "tick 3\nend\n")?;
     thread.told(
         &rt,
         alloc,

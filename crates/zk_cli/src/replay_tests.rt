@@ -1,17 +1,12 @@
 //! Single steps on plain services, and one run.
+use crate::tests::scenario_of;
 use std::alloc::Global;
 use std::test::Fail;
 use zk_replay::{Plain, first_work, replay};
-use zk_scenario::{Scenario, read_scenario};
+use zk_scenario::Scenario;
 use zk_time::Clock;
 use zk_trace::Ending;
 use zk_worker::{Answer, Answered, Log, Player, Stepped};
-
-/// The scenario of this text.
-fn scenario_of(alloc: Global, text: &str) -> Result<Scenario, Fail> {
-    let scenario = read_scenario(alloc, text.as_bytes())?;
-    Ok(scenario)
-}
 
 /// What comes of the next step of the first player, on services that nobody used before, then of the one after it; and how
 /// many entries there are after each.
@@ -19,20 +14,22 @@ fn two_steps(alloc: Global, scenario: &Scenario) -> Result<[(Stepped, usize); 2]
     if scenario.players() == 0 {
         return Err(Fail::from("no player"));
     }
-    let work = first_work(alloc, scenario)?;
-    let mut services = Plain::new(work, Clock::new(alloc));
     let mut player = Player::new(alloc, scenario, 0)?;
-    let first = player.step(scenario, &mut services)?;
+    let work = first_work(alloc, scenario)?;
+    let clock = Clock::new(alloc);
+    let mut services = Plain::new(work, clock);
+    let first = player.step(scenario, &mut services);
     let entries = services.work().len();
-    let second = player.step(scenario, &mut services)?;
-    Ok([(first, entries), (second, services.work().len())])
+    let second = player.step(scenario, &mut services);
+    let all = services.into_histories();
+    Ok([(first?, entries), (second?, all.work.len())])
 }
 
 /// A thread makes its step and is through, while the item that it submitted waits.
 #[test]
 fn did_and_ended(rt: HostRuntime) -> Result<(), Fail> {
     let text = "zk 1\nthread t0 0 super\nqueue q0 0 on\nitem w0\nscript t0\nsubmit w0 q0\nend\n";
-    let scenario = scenario_of(rt.alloc(), text)?;
+    let scenario = scenario_of(rt.alloc(), &[text])?;
     let steps = two_steps(rt.alloc(), &scenario)?;
     assert_eq!(&rt; steps, [(Stepped::Did, 1), (Stepped::Ended, 1)]);
     Ok(())
@@ -41,7 +38,7 @@ fn did_and_ended(rt: HostRuntime) -> Result<(), Fail> {
 /// A worker waits where nothing was submitted.
 #[test]
 fn not_yet(rt: HostRuntime) -> Result<(), Fail> {
-    let scenario = scenario_of(rt.alloc(), "zk 1\nqueue q0 0 on\nitem w0\n")?;
+    let scenario = scenario_of(rt.alloc(), &["zk 1\nqueue q0 0 on\nitem w0\n"])?;
     let steps = two_steps(rt.alloc(), &scenario)?;
     assert_eq!(&rt; steps, [(Stepped::NotYet, 0), (Stepped::NotYet, 0)]);
     Ok(())
@@ -93,7 +90,7 @@ fn number_at(log: &Log, place: usize) -> Option<u64> {
 fn delays_end(rt: HostRuntime) -> Result<(), Fail> {
     let text =
         "zk 1\nthread t0 0 super\nqueue q0 0 on\nitem w0\nscript t0\nschedule w0 q0 2\ntick 1\nremaining w0\ntick 2\nend\n";
-    let scenario = scenario_of(rt.alloc(), text)?;
+    let scenario = scenario_of(rt.alloc(), &[text])?;
     let (ending, counts, numbers) = played(rt.alloc(), &scenario)?;
     assert_eq!(&rt; ending, Ending::Ended);
     assert_eq!(&rt; counts, [6, 2, 2]);

@@ -428,9 +428,9 @@ fn a_handler_that_submits_itself_is_spent(rt: HostRuntime) -> Result<(), Fail> {
     Ok(())
 }
 
-/// The scenario of one submission.
-fn one_submission(alloc: Global) -> Result<Scenario, Fail> {
-    let input = joined(alloc, &[FRONT, ONE_SUBMISSION])?;
+/// The scenario of these parts of a text.
+pub fn scenario_of(alloc: Global, parts: &[&str]) -> Result<Scenario, Fail> {
+    let input = joined(alloc, parts)?;
     let scenario = read_scenario(alloc, &input)?;
     Ok(scenario)
 }
@@ -443,7 +443,7 @@ fn printed(alloc: Global, scenario: &Scenario) -> Result<Vec<u8>, NoMemory> {
 
 #[test]
 fn a_trace_is_printed_behind_its_scenario(rt: HostRuntime) -> Result<(), Fail> {
-    let scenario = one_submission(rt.alloc())?;
+    let scenario = scenario_of(rt.alloc(), &[FRONT, ONE_SUBMISSION])?;
     let printed = printed(rt.alloc(), &scenario)?;
     let wanted = joined(rt.alloc(), &[FRONT, ONE_SUBMISSION, ITS_TRACE])?;
     assert!(rt; printed.as_slice() == wanted.as_slice());
@@ -461,7 +461,7 @@ fn first_player(alloc: Global, scenario: &Scenario) -> Result<Player, Fail> {
 
 #[test]
 fn a_player_stands_before_its_first_call(rt: HostRuntime) -> Result<(), Fail> {
-    let scenario = one_submission(rt.alloc())?;
+    let scenario = scenario_of(rt.alloc(), &[FRONT, ONE_SUBMISSION])?;
     let player = first_player(rt.alloc(), &scenario)?;
     assert_eq!(rt; player.who().number, 0);
     assert_eq!(rt; player.state(), PlayerState::Standing);
