@@ -1,48 +1,11 @@
-//! Single steps on plain services, and one run.
+//! One run, and what its first player answered.
 use crate::tests::scenario_of;
 use std::alloc::Global;
 use std::test::Fail;
-use zk_replay::{Plain, first_work, replay};
+use zk_replay::replay;
 use zk_scenario::Scenario;
-use zk_time::Clock;
 use zk_trace::Ending;
-use zk_worker::{Answer, Answered, Log, Player, Stepped};
-
-/// What comes of the next step of the first player, on services that nobody used before, then of the one after it; and how
-/// many entries there are after each.
-fn two_steps(alloc: Global, scenario: &Scenario) -> Result<[(Stepped, usize); 2], Fail> {
-    if scenario.players() == 0 {
-        return Err(Fail::from("no player"));
-    }
-    let mut player = Player::new(alloc, scenario, 0)?;
-    let work = first_work(alloc, scenario)?;
-    let clock = Clock::new(alloc);
-    let mut services = Plain::new(work, clock);
-    let first = player.step(scenario, &mut services);
-    let entries = services.work().len();
-    let second = player.step(scenario, &mut services);
-    let all = services.into_histories();
-    Ok([(first?, entries), (second?, all.work.len())])
-}
-
-/// A thread makes its step and is through, while the item that it submitted waits.
-#[test]
-fn did_and_ended(rt: HostRuntime) -> Result<(), Fail> {
-    let text = "zk 1\nthread t0 0 super\nqueue q0 0 on\nitem w0\nscript t0\nsubmit w0 q0\nend\n";
-    let scenario = scenario_of(rt.alloc(), &[text])?;
-    let steps = two_steps(rt.alloc(), &scenario)?;
-    assert_eq!(&rt; steps, [(Stepped::Did, 1), (Stepped::Ended, 1)]);
-    Ok(())
-}
-
-/// A worker waits where nothing was submitted.
-#[test]
-fn not_yet(rt: HostRuntime) -> Result<(), Fail> {
-    let scenario = scenario_of(rt.alloc(), &["zk 1\nqueue q0 0 on\nitem w0\n"])?;
-    let steps = two_steps(rt.alloc(), &scenario)?;
-    assert_eq!(&rt; steps, [(Stepped::NotYet, 0), (Stepped::NotYet, 0)]);
-    Ok(())
-}
+use zk_worker::{Answer, Answered, Log};
 
 /// How a scenario ends when it is played, with the numbers of entries of the work service and of the clock, and of logs; and
 /// what the first player answered.

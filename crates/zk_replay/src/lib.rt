@@ -4,8 +4,9 @@
 mod laws;
 mod plain;
 mod run;
+#[cfg(test)]
+mod tests;
 mod turns;
 
 pub use laws::{none_goes_on, one_run};
-pub use plain::{Histories, Plain};
-pub use run::{first_work, replay};
+pub use run::replay;
