@@ -5,6 +5,10 @@ mod answer;
 mod input;
 mod output;
 #[cfg(test)]
+mod player_tests;
+#[cfg(test)]
+mod replay_tests;
+#[cfg(test)]
 mod tests;
 mod top;
 

@@ -1,9 +1,11 @@
 //! The worked rows of one queue, through the top call over memory; and each fault of reading and writing in turn.
 use crate::zk_plain;
+use std::alloc::Global;
+use std::process::Abort;
 use std::test::Fail;
-use zk_base::{MemSink, MemSource, Status, SureSink, SureSource};
+use zk_base::{MemSink, MemSource, NoMemory, Sink, Source, Status, SureSink, SureSource};
 use zk_replay::replay;
-use zk_scenario::read_scenario;
+use zk_scenario::{Scenario, read_scenario};
 use zk_trace::print_trace;
 use zk_worker::{Player, PlayerState};
 
@@ -14,13 +16,15 @@ const FRONT: &str =
 /// More room than any output of these tests needs.
 const ROOM: usize = 8192;
 
+/// One submission, and the trace part that is printed behind its scenario.
+const ONE_SUBMISSION: &str = "script t0\nsubmit w0 q0\nend\n";
+
+const ITS_TRACE: &str =
+    "zt 1\nended\nservice work\nt0.0 submit w0 q0 = 1 a0 q0\nq0.0 begin q0 = w0 a0\nq0.1 end q0 = ok\nplayer t0 done\n0 submit = 1\nplayer t1 done\nplayer q0 done\n";
+
 /// What the rows show: the scripts, the trace part that is printed behind the scenario, by name.
 const ROWS: [(&str, &str, &str); 8] = [
-    (
-        "one submission",
-        "script t0\nsubmit w0 q0\nend\n",
-        "zt 1\nended\nservice work\nt0.0 submit w0 q0 = 1 a0 q0\nq0.0 begin q0 = w0 a0\nq0.1 end q0 = ok\nplayer t0 done\n0 submit = 1\nplayer t1 done\nplayer q0 done\n",
-    ),
+    ("one submission", ONE_SUBMISSION, ITS_TRACE),
     (
         "resubmission while running",
         "script t0\nsubmit w0 q0\nsubmit w0 q0\nend\n",
@@ -203,235 +207,262 @@ const DELAYS: [(&str, &str, &str); 5] = [
     ),
 ];
 
-fn words_of(rt: &HostRuntime, words: &[&str]) -> Result<Vec<String>, Fail> {
-    let mut made = Vec::new(rt.alloc());
+fn words_of(alloc: Global, words: &[&str]) -> Result<Vec<String>, NoMemory> {
+    let mut made = Vec::new(alloc);
     for word in words {
-        made.push(String::from_str(rt.alloc(), word)?)?;
+        made.push(String::from_str(alloc, word)?)?;
     }
     Ok(made)
 }
 
-/// The status and the output of one call.
-fn outcome(rt: &HostRuntime, words: &[&str], input: &[u8]) -> Result<(Status, Vec<u8>), Fail> {
-    let words = words_of(rt, words)?;
-    let mut source = SureSource::new(input.to_vec(rt.alloc())?, 5);
-    let mut sink = SureSink::new(Vec::with_capacity(rt.alloc(), ROOM)?, 7);
-    let status = zk_plain(rt.alloc(), &words, &mut source, &mut sink);
-    Ok((status, sink.held().to_vec(rt.alloc())?))
-}
-
-fn joined(rt: &HostRuntime, parts: &[&str]) -> Result<Vec<u8>, Fail> {
-    let mut all = Vec::new(rt.alloc());
+/// The parts, one after another.
+fn joined(alloc: Global, parts: &[&str]) -> Result<Vec<u8>, NoMemory> {
+    let mut all = Vec::new(alloc);
     for part in parts {
         all.extend_from_slice(part.as_bytes())?;
     }
     Ok(all)
 }
 
+/// One call with these words.
+fn status_of<S: Source, K: Sink>(
+    alloc: Global,
+    words: &[&str],
+    source: &mut S,
+    sink: &mut K,
+) -> Result<Status, NoMemory> {
+    let words = words_of(alloc, words)?;
+    Ok(zk_plain(alloc, &words, source, sink))
+}
+
+/// A sink with room for so many bytes.
+fn sink_of(alloc: Global, room: usize, piece: usize) -> Result<SureSink, NoMemory> {
+    let room = Vec::with_capacity(alloc, room)?;
+    Ok(SureSink::new(room, piece.max(1)))
+}
+
+/// The status of one call is this one, and its output; where not, the name is told.
+fn prints<R: Abort + AllocGlobal>(
+    rt: &R,
+    name: &str,
+    words: &[&str],
+    input: Vec<u8>,
+    status: Status,
+    output: &[u8],
+) -> Result<(), Fail> {
+    let mut source = SureSource::new(input, 5);
+    let mut sink = sink_of(rt.alloc(), ROOM, 7)?;
+    let got = status_of(rt.alloc(), words, &mut source, &mut sink)?;
+    assert_eq!(rt; got, status, "{name}");
+    assert!(rt; sink.held() == output, "{name}");
+    Ok(())
+}
+
+/// A scenario of these scripts ends so, and this trace is printed behind it.
+fn row<R: Abort + AllocGlobal>(
+    rt: &R,
+    name: &str,
+    status: Status,
+    scripts: &str,
+    trace: &str,
+) -> Result<(), Fail> {
+    let input = joined(rt.alloc(), &[FRONT, scripts])?;
+    let output = joined(rt.alloc(), &[FRONT, scripts, trace])?;
+    prints(rt, name, &["replay"], input, status, &output)
+}
+
 #[test]
 fn rows_print_their_traces(rt: HostRuntime) -> Result<(), Fail> {
-    for (name, scripts, trace) in ROWS {
-        let input = joined(&rt, &[FRONT, scripts])?;
-        let (status, output) = outcome(&rt, &["replay"], &input)?;
-        assert_eq!(rt; status, Status::Success, "{name}");
-        let wanted = joined(&rt, &[FRONT, scripts, trace])?;
-        assert!(rt; output.as_slice() == wanted.as_slice(), "{name}");
+    for (name, scripts, trace) in ROWS.as_slice() {
+        row(&rt, name, Status::Success, scripts, trace)?;
     }
     Ok(())
 }
 
 #[test]
 fn drains_print_their_traces(rt: HostRuntime) -> Result<(), Fail> {
-    for (name, status, scripts, trace) in DRAINS {
-        let input = joined(&rt, &[FRONT, scripts])?;
-        let (got, output) = outcome(&rt, &["replay"], &input)?;
-        assert_eq!(rt; got, status, "{name}");
-        let wanted = joined(&rt, &[FRONT, scripts, trace])?;
-        assert!(rt; output.as_slice() == wanted.as_slice(), "{name}");
+    for (name, status, scripts, trace) in DRAINS.as_slice() {
+        row(&rt, name, *status, scripts, trace)?;
     }
     Ok(())
 }
 
 #[test]
 fn sync_cancels_and_flushes_print_their_traces(rt: HostRuntime) -> Result<(), Fail> {
-    for (name, status, scripts, trace) in WAITS {
-        let input = joined(&rt, &[FRONT, scripts])?;
-        let (got, output) = outcome(&rt, &["replay"], &input)?;
-        assert_eq!(rt; got, status, "{name}");
-        let wanted = joined(&rt, &[FRONT, scripts, trace])?;
-        assert!(rt; output.as_slice() == wanted.as_slice(), "{name}");
+    for (name, status, scripts, trace) in WAITS.as_slice() {
+        row(&rt, name, *status, scripts, trace)?;
     }
     Ok(())
 }
 
 #[test]
 fn delays_print_their_traces(rt: HostRuntime) -> Result<(), Fail> {
-    for (name, scripts, trace) in DELAYS {
-        let input = joined(&rt, &[FRONT, scripts])?;
-        let (status, output) = outcome(&rt, &["replay"], &input)?;
-        let wanted = joined(&rt, &[FRONT, scripts, trace])?;
-        assert_eq!(rt; status, Status::Success, "{name}");
-        assert!(rt; output.as_slice() == wanted.as_slice(), "{name}");
+    for (name, scripts, trace) in DELAYS.as_slice() {
+        row(&rt, name, Status::Success, scripts, trace)?;
+    }
+    Ok(())
+}
+
+/// An input that isn't a row: its status, and its output.
+fn told<R: Abort + AllocGlobal>(
+    rt: &R,
+    words: &[&str],
+    input: &str,
+    status: Status,
+    output: &str,
+) -> Result<(), Fail> {
+    let input = joined(rt.alloc(), &[input])?;
+    prints(rt, output, words, input, status, output.as_bytes())
+}
+
+#[test]
+fn other_inputs_are_told(rt: HostRuntime) -> Result<(), Fail> {
+    told(
+        &rt,
+        &["replay"],
+        "zk 1\n",
+        Status::Success,
+        "zk 1\nzt 1\nended\n",
+    )?;
+    for (input, output) in [
+        ("", "refused 1 header\n"),
+        (
+            "zk 1\nthread t0 0 super\nsem s0 0 1\n",
+            "refused 3 unbuilt\n",
+        ),
+        ("zk 1\nitem w0\nscript w0\n", "refused 4 order\n"),
+        ("zk 1\nitem w0\nitem w0\n", "refused 3 name\n"),
+    ] {
+        told(&rt, &["replay"], input, Status::Refused, output)?;
     }
     Ok(())
 }
 
 #[test]
-fn other_inputs_and_words_are_told(rt: HostRuntime) -> Result<(), Fail> {
-    for (words, input, status, output) in [
-        (
-            ["replay"].as_slice(),
-            "zk 1\n",
-            Status::Success,
-            "zk 1\nzt 1\nended\n",
-        ),
-        (
-            ["replay"].as_slice(),
-            "",
-            Status::Refused,
-            "refused 1 header\n",
-        ),
-        (
-            ["replay"].as_slice(),
-            "zk 1\nthread t0 0 super\nsem s0 0 1\n",
-            Status::Refused,
-            "refused 3 unbuilt\n",
-        ),
-        (
-            ["replay"].as_slice(),
-            "zk 1\nitem w0\nscript w0\n",
-            Status::Refused,
-            "refused 4 order\n",
-        ),
-        (
-            ["replay"].as_slice(),
-            "zk 1\nitem w0\nitem w0\n",
-            Status::Refused,
-            "refused 3 name\n",
-        ),
-        ([].as_slice(), "zk 1\n", Status::Words, "refused words\n"),
-        (
-            ["check"].as_slice(),
-            "zk 1\n",
-            Status::Words,
-            "refused words\n",
-        ),
-        (
-            ["replay", "replay"].as_slice(),
-            "zk 1\n",
-            Status::Words,
-            "refused words\n",
-        ),
-    ] {
-        let (got, printed) = outcome(&rt, words, input.as_bytes())?;
-        assert_eq!(rt; got, status, "{output}");
-        assert!(rt; printed.as_slice() == output.as_bytes(), "{output}");
-    }
+fn other_words_are_told(rt: HostRuntime) -> Result<(), Fail> {
+    told(&rt, &[], "zk 1\n", Status::Words, "refused words\n")?;
+    told(&rt, &["check"], "zk 1\n", Status::Words, "refused words\n")?;
+    told(
+        &rt,
+        &["replay", "replay"],
+        "zk 1\n",
+        Status::Words,
+        "refused words\n",
+    )
+}
+
+/// An input of so many spaces is refused by this line.
+fn long_input<R: Abort + AllocGlobal>(rt: &R, length: usize, line: &str) -> Result<(), Fail> {
+    let mut source = SureSource::new(vec![in rt.alloc(); b' '; length]?, 100_000);
+    let mut sink = sink_of(rt.alloc(), ROOM, 100)?;
+    let status = status_of(rt.alloc(), &["replay"], &mut source, &mut sink)?;
+    assert_eq!(rt; status, Status::Refused);
+    assert!(rt; sink.held() == line.as_bytes(), "{line}");
     Ok(())
 }
 
 #[test]
 fn a_long_input_is_refused_by_its_length(rt: HostRuntime) -> Result<(), Fail> {
-    for (length, line) in [
-        (1_048_576, "refused 1 header\n"),
-        (1_048_577, "refused 0 length\n"),
-        (1_048_600, "refused 0 length\n"),
-    ] {
-        let words = words_of(&rt, &["replay"])?;
-        let mut source = SureSource::new(vec![in rt.alloc(); b' '; length]?, 100_000);
-        let mut sink = SureSink::new(Vec::with_capacity(rt.alloc(), ROOM)?, 100);
-        assert_eq!(rt;
-            zk_plain(rt.alloc(), &words, &mut source, &mut sink),
-            Status::Refused
-        );
-        assert!(rt; sink.held() == line.as_bytes(), "{line}");
-    }
+    long_input(&rt, 1_048_576, "refused 1 header\n")?;
+    long_input(&rt, 1_048_577, "refused 0 length\n")?;
+    long_input(&rt, 1_048_600, "refused 0 length\n")
+}
+
+/// The call of reading that has this number fails.
+fn read_fault<R: Abort + AllocGlobal>(rt: &R, input: Vec<u8>, call: u64) -> Result<(), Fail> {
+    let mut source = MemSource::new(input, 4, vec![in rt.alloc(); call]?);
+    let mut sink = sink_of(rt.alloc(), ROOM, 9)?;
+    let status = status_of(rt.alloc(), &["replay"], &mut source, &mut sink)?;
+    assert_eq!(rt; status, Status::ReadFault, "{call}");
+    assert!(rt; sink.held().is_empty(), "{call}");
     Ok(())
 }
 
 #[test]
 fn each_fault_of_reading_prints_nothing(rt: HostRuntime) -> Result<(), Fail> {
-    let (_, scripts, _) = ROWS[0];
-    let input = joined(&rt, &[FRONT, scripts])?;
-    let words = words_of(&rt, &["replay"])?;
+    let input = joined(rt.alloc(), &[FRONT, ONE_SUBMISSION])?;
     let calls = input.len() as u64 / 4 + 2;
     for call in 0..calls {
-        let mut source = MemSource::new(input.clone()?, 4, vec![in rt.alloc(); call]?);
-        let mut sink = SureSink::new(Vec::with_capacity(rt.alloc(), ROOM)?, 9);
-        assert_eq!(rt;
-            zk_plain(rt.alloc(), &words, &mut source, &mut sink),
-            Status::ReadFault,
-            "{call}"
-        );
-        assert!(rt; sink.held().is_empty(), "{call}");
+        read_fault(&rt, input.clone()?, call)?;
     }
+    Ok(())
+}
+
+/// The call of writing that has this number fails, and all before it stands.
+fn write_fault<R: Abort + AllocGlobal>(
+    rt: &R,
+    input: Vec<u8>,
+    wanted: &[u8],
+    call: usize,
+) -> Result<(), Fail> {
+    let mut source = SureSource::new(input, 100);
+    let room = Vec::with_capacity(rt.alloc(), ROOM)?;
+    let mut sink = MemSink::new(room, 4, vec![in rt.alloc(); call as u64]?);
+    let status = status_of(rt.alloc(), &["replay"], &mut source, &mut sink)?;
+    assert_eq!(rt; status, Status::WriteFault, "{call}");
+    assert!(rt; wanted.starts_with(sink.held()), "{call}");
+    assert_eq!(rt; sink.held().len(), 4usize.saturating_mul(call), "{call}");
     Ok(())
 }
 
 #[test]
 fn each_fault_of_writing_leaves_a_front(rt: HostRuntime) -> Result<(), Fail> {
-    let (_, scripts, trace) = ROWS[0];
-    let input = joined(&rt, &[FRONT, scripts])?;
-    let wanted = joined(&rt, &[FRONT, scripts, trace])?;
-    let words = words_of(&rt, &["replay"])?;
+    let input = joined(rt.alloc(), &[FRONT, ONE_SUBMISSION])?;
+    let wanted = joined(rt.alloc(), &[FRONT, ONE_SUBMISSION, ITS_TRACE])?;
     let calls = wanted.len().div_ceil(4);
     for call in 0..calls {
-        let mut source = SureSource::new(input.clone()?, 100);
-        let mut sink = MemSink::new(
-            Vec::with_capacity(rt.alloc(), ROOM)?,
-            4,
-            vec![in rt.alloc(); call as u64]?,
-        );
-        assert_eq!(rt;
-            zk_plain(rt.alloc(), &words, &mut source, &mut sink),
-            Status::WriteFault,
-            "{call}"
-        );
-        assert!(rt; wanted.starts_with(sink.held()), "{call}");
-        assert_eq!(rt; sink.held().len(), 4usize.saturating_mul(call), "{call}");
+        write_fault(&rt, input.clone()?, &wanted, call)?;
     }
     Ok(())
 }
 
 #[test]
 fn a_handler_that_submits_itself_is_spent(rt: HostRuntime) -> Result<(), Fail> {
-    let input = joined(
-        &rt,
-        &[
-            FRONT,
-            "script t0\nsubmit w0 q0\nend\nscript w0\nsubmit w0\nend\n",
-        ],
-    )?;
-    let words = words_of(&rt, &["replay"])?;
+    let scripts = "script t0\nsubmit w0 q0\nend\nscript w0\nsubmit w0\nend\n";
+    let input = joined(rt.alloc(), &[FRONT, scripts])?;
     let mut source = SureSource::new(input, 4096);
-    let mut sink = SureSink::new(Vec::with_capacity(rt.alloc(), 2_000_000)?, 4096);
-    assert_eq!(rt;
-        zk_plain(rt.alloc(), &words, &mut source, &mut sink),
-        Status::Spent
-    );
+    let mut sink = sink_of(rt.alloc(), 2_000_000, 4096)?;
+    let status = status_of(rt.alloc(), &["replay"], &mut source, &mut sink)?;
+    assert_eq!(rt; status, Status::Spent);
     assert!(rt; sink.held().ends_with(b"\n19999 submit = 2\n".as_slice()));
     Ok(())
 }
 
+/// The scenario of these parts of a text.
+pub fn scenario_of(alloc: Global, parts: &[&str]) -> Result<Scenario, Fail> {
+    let input = joined(alloc, parts)?;
+    let scenario = read_scenario(alloc, &input)?;
+    Ok(scenario)
+}
+
+/// What is printed of a scenario that is played.
+fn printed(alloc: Global, scenario: &Scenario) -> Result<Vec<u8>, NoMemory> {
+    let played = replay(alloc, scenario)?;
+    print_trace(alloc, scenario, &played)
+}
+
 #[test]
 fn a_trace_is_printed_behind_its_scenario(rt: HostRuntime) -> Result<(), Fail> {
-    let (_, scripts, trace) = ROWS[0];
-    let input = joined(&rt, &[FRONT, scripts])?;
-    let scenario = read_scenario(rt.alloc(), &input)?;
-    let played = replay(rt.alloc(), &scenario)?;
-    let printed = print_trace(rt.alloc(), &scenario, &played)?;
-    let wanted = joined(&rt, &[FRONT, scripts, trace])?;
+    let scenario = scenario_of(rt.alloc(), &[FRONT, ONE_SUBMISSION])?;
+    let printed = printed(rt.alloc(), &scenario)?;
+    let wanted = joined(rt.alloc(), &[FRONT, ONE_SUBMISSION, ITS_TRACE])?;
     assert!(rt; printed.as_slice() == wanted.as_slice());
     Ok(())
 }
 
+/// The first player, before its first step.
+fn first_player(alloc: Global, scenario: &Scenario) -> Result<Player, Fail> {
+    if scenario.players() == 0 {
+        return Err(Fail::from("no player"));
+    }
+    let player = Player::new(alloc, scenario, 0)?;
+    Ok(player)
+}
+
 #[test]
 fn a_player_stands_before_its_first_call(rt: HostRuntime) -> Result<(), Fail> {
-    let (_, scripts, _) = ROWS[0];
-    let input = joined(&rt, &[FRONT, scripts])?;
-    let scenario = read_scenario(rt.alloc(), &input)?;
-    assert!(rt; 0 < scenario.players());
-    let player = Player::new(rt.alloc(), &scenario, 0)?;
+    let scenario = scenario_of(rt.alloc(), &[FRONT, ONE_SUBMISSION])?;
+    let player = first_player(rt.alloc(), &scenario)?;
     assert_eq!(rt; player.who().number, 0);
     assert_eq!(rt; player.state(), PlayerState::Standing);
     assert_eq!(rt; player.steps(), 0);

@@ -1,4 +1,4 @@
-//! The services that players wait at, as plain machines: the clock.
+//! The services that players wait at, as plain machines: the clock, semaphores and message queues; and the laws of their histories.
 #![tactic(auto)]
 
 mod clock;
@@ -16,6 +16,3 @@ pub use msgq_laws::{
 };
 pub use sem::{SemOp, SemReply, SemState, SemStore, sem_next};
 pub use sem_laws::{calls_are_told, gives_add_up, keeps_sem_laws, waits_end};
-
-#[cfg(test)]
-mod clock_tests;

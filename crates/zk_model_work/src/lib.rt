@@ -33,6 +33,3 @@ pub use questions::{
     live_arm, run, running, waiting,
 };
 pub use state::{WorkState, work_next};
-
-#[cfg(test)]
-mod tests;

@@ -12,6 +12,3 @@ mod waiting;
 pub use marks::Marks;
 pub use queues::Queues;
 pub use ticket::Ticket;
-
-#[cfg(test)]
-mod tests;

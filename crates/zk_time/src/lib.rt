@@ -11,8 +11,3 @@ mod timeout_list;
 pub use clock::Clock;
 pub use timeout::Timeout;
 pub use timeout_list::TimeoutList;
-
-#[cfg(test)]
-mod clock_tests;
-#[cfg(test)]
-mod tests;

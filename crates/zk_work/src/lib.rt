@@ -7,6 +7,3 @@ mod waits;
 mod work;
 
 pub use work::Work;
-
-#[cfg(test)]
-mod tests;

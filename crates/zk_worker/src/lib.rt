@@ -11,8 +11,6 @@ mod protocol;
 mod services;
 mod stack;
 mod steps;
-#[cfg(test)]
-mod tests;
 
 pub use answers::{Answer, Answered, Answers};
 pub use frames::{Closing, Frame, Plan, Progress, Role, Stage};

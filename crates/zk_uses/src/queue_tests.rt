@@ -1,16 +1,17 @@
+//! The open admissions beside all admissions, over random histories.
 ghost use Rattle.std.specs.Prelude.{◌≡◌, ℕ, ◌<◌, vec_len};
 ghost use Rattle.zk_queue.specs.Open.{IsAbove};
 
-use crate::Queues;
 use bitflags::Flags;
 use std::alloc::Global;
 use std::process::Abort;
-use std::test::*;
+use std::test::Fail;
 use zk_base::NoMemory;
 use zk_model_work::{
     Admission, BusyFlags, Life, WorkReply, begin, drop_waiting, end_run, flags, is_empty_and_idle,
     item_of, mark, run, taken_up, waiting,
 };
+use zk_queue::Queues;
 
 const ITEMS: u32 = 5;
 

@@ -1,14 +1,15 @@
+//! The work machine, one attempt after another.
 ghost use Rattle.std.specs.Prelude.{◌+◌, ◌<◌, ◌≤◌, length, IfOk};
 
-use crate::WorkOp::{
+use std::alloc::Global;
+use std::process::Abort;
+use std::test::Fail;
+use zk_base::{NoMemory, Who};
+use zk_model_work::WorkOp::{
     Announce, Begin, Cancel, CancelDone, CancelStart, DrainDone, DrainStart, End, FlushDone,
     FlushStart, Remaining, Reschedule, Schedule, Start, Submit, Unplug,
 };
-use crate::{WorkOp, WorkReply, WorkState, work_next};
-use std::alloc::Global;
-use std::process::Abort;
-use std::test::*;
-use zk_base::{NoMemory, Who};
+use zk_model_work::{WorkOp, WorkReply, WorkState, work_next};
 
 /// One attempt: the player, the operation, and what is answered.
 type Row = (u32, WorkOp, &'static str);

@@ -1,7 +1,7 @@
 use Rattle.std.proofs.Common.{sym, ap, subst, ◌∙◌}
 use Rattle.zk_queue.specs.Open.{Open, IsAbove}
 use Rattle.zk_queue.proofs.Numbers.{items-begin, queues-begin, IsAbove-begin}
-use Rattle.zk_queue.proofs.tests.Beside.begin.Goals as goal
+use Rattle.zk_uses.proofs.queue_tests.Beside.begin.Goals as goal
 
 pub invariant_of-self : goal.invariant_of-self
 invariant_of-self g c =

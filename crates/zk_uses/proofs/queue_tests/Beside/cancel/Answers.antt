@@ -1,7 +1,7 @@
 use Rattle.std.proofs.Common.{sym, ap, subst, ◌∙◌}
 use Rattle.zk_queue.specs.Open.{Open, IsAbove}
 use Rattle.zk_queue.proofs.Numbers.{IsAbove-drop}
-use Rattle.zk_queue.proofs.tests.Beside.cancel.Goals as goal
+use Rattle.zk_uses.proofs.queue_tests.Beside.cancel.Goals as goal
 
 pub invariant_of-self-2 : goal.invariant_of-self-2
 invariant_of-self-2 g c =

@@ -1,11 +1,12 @@
+//! The clock machine, one attempt after another.
 ghost use Rattle.std.specs.Prelude.{◌+◌, ◌<◌, ◌≤◌, length, IfOk};
 
-use crate::ClockOp::{Alarm, AlarmEnd, Announce};
-use crate::{ClockOp, ClockReply, ClockStore, clock_next};
 use std::alloc::Global;
 use std::process::Abort;
-use std::test::*;
+use std::test::Fail;
 use zk_base::{NoMemory, Who};
+use zk_model_wait::ClockOp::{Alarm, AlarmEnd, Announce};
+use zk_model_wait::{ClockOp, ClockReply, ClockStore, clock_next};
 
 /// One attempt: the player, the operation, and what is answered.
 type Row = (u32, ClockOp, &'static str);

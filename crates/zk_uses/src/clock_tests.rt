@@ -1,14 +1,16 @@
+//! The clock of one caller, one attempt after another.
 ghost use Rattle.std.specs.Prelude.{◌+◌, ◌<◌, ◌≤◌, length, IfOk};
 ghost use Rattle.zk_time.specs.ClockSeen.{clock_history};
-ghost use Rattle.zk_time.specs.ClockTests.{IsBelow};
+ghost use Rattle.zk_uses.specs.Tried.{IsBelow};
 
-use crate::Clock;
 use std::alloc::Global;
+use std::fmt::Write;
 use std::process::Abort;
-use std::test::*;
+use std::test::Fail;
 use zk_base::{NoMemory, Service, Who};
 use zk_model_wait::ClockOp::{Alarm, AlarmEnd, Announce};
 use zk_model_wait::{ClockOp, ClockReply};
+use zk_time::Clock;
 
 /// One attempt: the player, the operation, and what is answered.
 type Row = (u32, ClockOp, &'static str);
@@ -41,6 +43,21 @@ fn play<R: Abort>(rt: &R, alloc: Global, rows: &[Row]) -> Result<Clock, Fail>
     Ok(clock)
 }
 
+/// What is kept, one entry after another.
+fn kept(alloc: Global, clock: &Clock) -> Result<String, NoMemory> {
+    let mut text = String::new(alloc);
+    for entry in clock.history() {
+        write!(text, "{}.{} ", entry.who.number, entry.step)?;
+        write!(text, "{:?} {:?}; ", entry.op, entry.reply)?;
+    }
+    Ok(text)
+}
+
+/// How many entries are handed out at the end.
+fn last_count(clock: Clock) -> usize {
+    clock.into_history().len()
+}
+
 /// Two players set alarms, of which two are of one moment, and time passes.
 #[test]
 fn alarms(rt: HostRuntime) -> Result<(), Fail> {
@@ -64,19 +81,12 @@ fn alarms(rt: HostRuntime) -> Result<(), Fail> {
             (0, AlarmEnd(5), "None"),
         ],
     )?;
-    let mut text = String::new(rt.alloc());
-    for entry in clock.history() {
-        let line = format!(in rt.alloc();
-            "{}.{} {:?} {:?}; ",
-            entry.who.number, entry.step, entry.op, entry.reply
-        )?;
-        text.push_str(line.as_str())?;
-    }
+    let text = kept(rt.alloc(), &clock)?;
     assert_eq!(&rt;
         text.as_str(),
         "0.1 Alarm(5) At(5); 1.2 Alarm(3) At(3); 2.3 Announce(2) Now(2); 0.4 Alarm(3) At(5); 2.6 Announce(1) Now(3); 1.8 AlarmEnd(3) Due; 2.10 Announce(4294967295) Now(4294967298); 0.11 AlarmEnd(5) Due; 0.12 AlarmEnd(5) Due; "
     );
-    assert_eq!(&rt; clock.into_history().len(), 9);
+    assert_eq!(&rt; last_count(clock), 9);
     Ok(())
 }
 

@@ -1,9 +1,8 @@
+-- A service that is tried by tests.
 use Rattle.std.specs.Prelude.{ℕ, ◌<◌, ◌≤◌, List, length, All}
 use Rattle.zk_base.specs.declared.ids.Entry.{Entry}
-use Rattle.zk_model_wait.specs.declared.clock.ClockOp.{ClockOp}
-use Rattle.zk_model_wait.specs.declared.clock.ClockReply.{ClockReply}
 
 -- all steps of the history are below this one, and it has no more entries than that
-pub record IsBelow (step : ℕ) (h : List (Entry ClockOp ClockReply)) : Type 0 where
+pub record IsBelow {O R : Type 0} (step : ℕ) (h : List (Entry O R)) : Type 0 where
   pub below : All (λ e. e.step < step) h
   pub few : length h ≤ step

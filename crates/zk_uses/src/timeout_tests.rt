@@ -1,10 +1,11 @@
+//! The items that are armed beside a plain list, over random histories.
 ghost use Rattle.std.specs.Prelude.{◌≡◌, ℕ, ◌<◌, length};
 
-use crate::{Timeout, TimeoutList};
 use std::alloc::Global;
 use std::process::Abort;
-use std::test::*;
+use std::test::Fail;
 use zk_base::NoMemory;
+use zk_time::{Timeout, TimeoutList};
 
 const ITEMS: u32 = 6;
 
@@ -136,26 +137,52 @@ fn random_histories(rt: HostRuntime) -> Result<(), Fail> {
     Ok(())
 }
 
-#[test]
-fn each_call(rt: HostRuntime) -> Result<(), Fail> {
-    let mut list = TimeoutList::new(rt.alloc(), 4)?;
+/// Three of four items are armed.
+fn armed(alloc: Global) -> Result<TimeoutList, NoMemory> {
+    let mut list = TimeoutList::new(alloc, 4)?;
     list.arm(2, 7, 30);
     list.arm(0, 8, u64::MAX);
     list.arm(3, 9, 30);
+    Ok(list)
+}
+
+/// What they are asked, while all three are armed.
+fn seen<R: Abort>(rt: &R, list: &TimeoutList) {
     assert_eq!(rt; list.len(), 3);
-    assert_eq!(rt; list.deadline(3), Some(30));
-    assert_eq!(rt; list.deadline(0), Some(u64::MAX));
-    assert_eq!(rt; list.deadline(1), None);
-    assert_eq!(rt; list.count_due(29), 0);
-    assert_eq!(rt; list.count_due(30), 2);
-    assert_eq!(rt; list.due(29), None);
-    assert_eq!(rt; list.due(30), Some((2, 7)));
-    assert_eq!(rt; list.due(30), Some((3, 9)));
-    assert_eq!(rt; list.due(30), None);
-    assert_eq!(rt; list.is_armed(0), true);
-    assert_eq!(rt; list.disarm(0), true);
-    assert_eq!(rt; list.disarm(0), false);
-    assert_eq!(rt; list.is_armed(0), false);
+    for (item, deadline, queue) in [
+        (3, Some(30), Some(9)),
+        (0, Some(u64::MAX), Some(8)),
+        (1, None, None),
+    ] {
+        assert_eq!(rt; list.deadline(item), deadline);
+        assert_eq!(rt; list.queue(item), queue);
+    }
+    for (now, count) in [(29, 0), (30, 2)] {
+        assert_eq!(rt; list.count_due(now), count);
+    }
+}
+
+/// Two expire, and the third is disarmed.
+fn ends<R: Abort>(rt: &R, list: &mut TimeoutList) {
+    for (now, due) in [
+        (29, None),
+        (30, Some((2, 7))),
+        (30, Some((3, 9))),
+        (30, None),
+    ] {
+        assert_eq!(rt; list.due(now), due);
+    }
+    for armed in [true, false] {
+        assert_eq!(rt; list.is_armed(0), armed);
+        assert_eq!(rt; list.disarm(0), armed);
+    }
     assert_eq!(rt; list.len(), 0);
+}
+
+#[test]
+fn each_call(rt: HostRuntime) -> Result<(), Fail> {
+    let mut list = armed(rt.alloc())?;
+    seen(&rt, &list);
+    ends(&rt, &mut list);
     Ok(())
 }

@@ -1,0 +1,185 @@
+//! The work service of one caller, one attempt after another.
+ghost use Rattle.std.specs.Prelude.{◌≡◌, true, false, [], ◌∷◌};
+ghost use Rattle.zk_model_work.specs.Machine.{is_among};
+ghost use Rattle.zk_model_work.specs.State.{start_of};
+ghost use Rattle.zk_work.specs.Seen.{work_start, work_history};
+ghost use Rattle.zk_uses.specs.Tried.{IsBelow};
+
+use std::alloc::Global;
+use std::fmt::Write;
+use std::process::Abort;
+use std::test::Fail;
+use zk_base::{NoMemory, Service, Who};
+use zk_model_work::WorkOp::{
+    Announce, Begin, End, FlushStart, Remaining, Reschedule, Schedule, Start, Submit,
+};
+use zk_model_work::{WorkOp, WorkReply};
+use zk_work::Work;
+
+/// One attempt: the player, the operation, and what is answered.
+type Row = (u32, WorkOp, &'static str);
+
+/// Whether the operation is one of these tests, and its item and its queue are below 2.
+fn names_what_is_there(op: WorkOp) -> bool
+    ensures { result ≡ true → is_among 2 2 op ≡ true }
+{
+    match op {
+        Submit(item, Some(queue)) => item < 2 && queue < 2,
+        Schedule(item, queue, _) | Reschedule(item, queue, _) => item < 2 && queue < 2,
+        FlushStart(item) | Remaining(item) => item < 2,
+        Start(queue) | Begin(queue) | End(queue) => queue < 2,
+        Announce(_) => true,
+        _ => false,
+    }
+}
+
+/// Two items, a started queue and one that is off, whose workers are the players 1 and 2; and the number of the next step.
+#[derive(Drop)]
+struct Tried {
+    work: Work,
+    next: u32,
+    ghost below: { IsBelow next (work_history work) },
+    ghost start: { work_start work ≡ start_of 2 (1 ∷ 2 ∷ []) (true ∷ false ∷ []) },
+}
+
+impl Tried {
+    fn new(alloc: Global) -> Result<Tried, NoMemory> {
+        let work = Work::new(alloc, 2, &[1, 2], &[true, false])?;
+        Ok(Tried { work, next: 0 })
+    }
+
+    fn attempt(&mut self, number: u32, op: WorkOp) -> Result<Option<WorkReply>, NoMemory>
+        requires { is_among 2 2 op ≡ true }
+    {
+        let step = self.next;
+        if step >= 100 {
+            return Ok(None);
+        }
+        self.next = step + 1;
+        self.work.act(Who { number, prio: 0 }, step, op)
+    }
+
+    /// One attempt of the player of this number, and what is answered.
+    fn told<R: Abort>(&mut self, rt: &R, alloc: Global, row: &Row) -> Result<(), Fail> {
+        let (number, op, wanted) = *row;
+        if !names_what_is_there(op) {
+            return Err(Fail::from("an item or a queue that isn't there"));
+        }
+        let reply = self.attempt(number, op)?;
+        let text = format!(in alloc; "{reply:?}")?;
+        assert_eq!(rt; text.as_str(), wanted);
+        Ok(())
+    }
+
+    /// How many entries there are.
+    fn count(&self) -> usize {
+        self.work.history().len()
+    }
+
+    /// How many entries are handed out at the end.
+    fn last_count(self) -> usize {
+        self.work.into_history().len()
+    }
+
+    /// What is kept, one reply after another.
+    fn kept(&self, alloc: Global) -> Result<String, NoMemory> {
+        let mut kept = String::new(alloc);
+        for entry in self.work.history() {
+            write!(kept, "{:?} ", entry.reply)?;
+        }
+        Ok(kept)
+    }
+}
+
+/// Makes the attempts one after another.
+fn play<R: Abort>(rt: &R, alloc: Global, rows: &[Row]) -> Result<Tried, Fail> {
+    let mut tried = Tried::new(alloc)?;
+    for row in rows {
+        tried.told(rt, alloc, row)?;
+    }
+    Ok(tried)
+}
+
+/// One item, and one started queue, whose worker is player 1.
+#[test]
+fn one_run(rt: HostRuntime) -> Result<(), Fail> {
+    let tried = play(
+        &rt,
+        rt.alloc(),
+        &[
+            (0, Submit(0, Some(0)), "Some(Sub(Fresh(0, 0)))"),
+            (1, Begin(0), "Some(Run(0, 0))"),
+            (1, End(0), "Some(Done)"),
+        ],
+    )?;
+    assert_eq!(&rt; tried.count(), 3);
+    assert_eq!(&rt; tried.last_count(), 3);
+    Ok(())
+}
+
+/// After `reserve` three entries fit.
+#[test]
+fn room(rt: HostRuntime) -> Result<(), Fail> {
+    let mut work = Work::new(rt.alloc(), 1, &[1], &[true])?;
+    work.reserve()?;
+    assert!(&rt; work.room() >= 3);
+    Ok(())
+}
+
+/// A queue that isn't started takes nothing.
+#[test]
+fn one_start(rt: HostRuntime) -> Result<(), Fail> {
+    play(
+        &rt,
+        rt.alloc(),
+        &[
+            (0, Submit(0, Some(1)), "Some(Sub(Refused(NoDev)))"),
+            (0, Start(1), "Some(Done)"),
+            (0, Start(1), "Some(Already)"),
+            (0, Submit(0, Some(1)), "Some(Sub(Fresh(0, 1)))"),
+        ],
+    )?;
+    Ok(())
+}
+
+/// Two items whose deadlines come with one announce, of which a queue that is off refuses one. What is kept
+/// is what was answered.
+#[test]
+fn delays(rt: HostRuntime) -> Result<(), Fail> {
+    let tried = play(
+        &rt,
+        rt.alloc(),
+        &[
+            (0, Schedule(0, 1, 5), "Some(Armed)"),
+            (0, Reschedule(1, 0, 4), "Some(Armed)"),
+            (0, Announce(3), "Some(Now(3, Listed { items: [] }))"),
+            (
+                0,
+                Announce(2),
+                "Some(Now(5, Listed { items: [Expiry { item: 1, submitted: Fresh(0, 0) }, Expiry { item: 0, submitted: Refused(NoDev) }] }))",
+            ),
+        ],
+    )?;
+    let kept = tried.kept(rt.alloc())?;
+    assert_eq!(&rt;
+        kept.as_str(),
+        "Armed Armed Now(3, Listed { items: [] }) Now(5, Listed { items: [Expiry { item: 1, submitted: Fresh(0, 0) }, Expiry { item: 0, submitted: Refused(NoDev) }] }) "
+    );
+    Ok(())
+}
+
+/// A flush ends a delay at once, and the item runs.
+#[test]
+fn one_flush(rt: HostRuntime) -> Result<(), Fail> {
+    play(
+        &rt,
+        rt.alloc(),
+        &[
+            (0, Schedule(0, 0, 7), "Some(Armed)"),
+            (0, Remaining(0), "Some(Number(7))"),
+            (0, FlushStart(0), "Some(WaitFor(0))"),
+            (0, Remaining(0), "Some(Number(0))"),
+        ],
+    )?;
+    Ok(())
+}
