@@ -56,7 +56,7 @@ fn put_spot(out: &mut Vec<u8>, scenario: &Scenario, who: Who, step: u32) -> Resu
     ensures kept { OnErr result (StaysInFront out.old.items out.new.items) }
 {
     put(out, player_name(scenario, who.number as usize))?;
-    put(out, b".")?;
+    out.push(b'.')?;
     put_decimal(out, u64::from(step))
 }
 
@@ -65,7 +65,7 @@ impl Lined for Answered {
 
     fn put_line(&self, out: &mut Vec<u8>, scenario: &Scenario) -> Result<(), NoMemory> {
         put_decimal(out, u64::from(self.step))?;
-        put(out, b" ")?;
+        out.push(b' ')?;
         put(out, call_word(self.word))?;
         put(out, b" =")?;
         put_part(out, scenario, b' ', answer_part(self.answer))?;

@@ -161,7 +161,7 @@ pub fn put_said(
         out.old.items ++ each_behind 32 (verb.now ∷ map (part_word scenario.now.decls) parts.now)) }
     ensures kept { OnErr result (StaysInFront out.old.items out.new.items) }
 {
-    put(out, b" ")?;
+    out.push(b' ')?;
     put(out, verb)?;
     put_parts(out, scenario, b' ', parts)
 }
@@ -193,7 +193,7 @@ pub fn put_part(
     ensures text { OnOk result (out.new.items ≡ out.old.items ++ separator ∷ part_word scenario.now.decls part) }
     ensures kept { OnErr result (StaysInFront out.old.items out.new.items) }
 {
-    put(out, &[separator])?;
+    out.push(separator)?;
     put_word(out, scenario, part)
 }
 
