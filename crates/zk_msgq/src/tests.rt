@@ -3,7 +3,6 @@ ghost use Rattle.zk_msgq.specs.Seen.{msgq_history};
 ghost use Rattle.zk_msgq.specs.Tests.{IsBelow};
 
 use crate::Msgq;
-use std::alloc::Global;
 use std::process::Abort;
 use std::test::*;
 use zk_base::{Msg, NewRefused, NoMemory, Service, Who};
@@ -13,7 +12,7 @@ use zk_model_wait::MsgqOp::{
 use zk_model_wait::{MsgqOp, MsgqReply};
 
 /// One attempt: the player and its priority, the operation, and what is answered.
-type Row = (u32, i8, MsgqOp, &'static str);
+type Row = (u32, i8, MsgqOp, (&'static str, u32));
 
 /// A message of one byte.
 fn message(byte: u8) -> Msg {
@@ -23,12 +22,23 @@ fn message(byte: u8) -> Msg {
     }
 }
 
-/// What was answered, in a word and a number.
-fn text(alloc: Global, reply: Option<MsgqReply>) -> Result<String, NoMemory> {
+/// What was answered, in a word and a number: the byte of a message, or how many.
+fn told(reply: &Option<MsgqReply>) -> (&'static str, u32) {
     match reply {
-        Some(MsgqReply::Bytes(message)) => Ok(format!(in alloc; "{:?}", message.bytes())?),
-        Some(reply) => Ok(format!(in alloc; "{reply:?}")?),
-        None => Ok(format!(in alloc; "none")?),
+        None => ("none", 0),
+        Some(MsgqReply::Done) => ("done", 0),
+        Some(MsgqReply::NoMsg) => ("nomsg", 0),
+        Some(MsgqReply::Wait) => ("wait", 0),
+        Some(MsgqReply::Again) => ("again", 0),
+        Some(MsgqReply::Bytes(message)) => ("bytes", first_byte(message.bytes())),
+        Some(MsgqReply::Number(number)) => ("number", *number),
+    }
+}
+
+fn first_byte(bytes: &[u8]) -> u32 {
+    match bytes.first() {
+        Some(byte) => u32::from(*byte),
+        None => 0,
     }
 }
 
@@ -42,15 +52,16 @@ fn attempt(msgq: &mut Msgq, who: Who, step: u32, op: MsgqOp) -> Result<Option<Ms
 }
 
 /// Makes the attempts one after another.
-fn play<R: Abort>(rt: &R, mut msgq: Msgq, alloc: Global, rows: &[Row]) -> Result<usize, Fail>
+fn play<R: Abort>(rt: &R, mut msgq: Msgq, rows: &[Row]) -> Result<usize, Fail>
     requires few { length rows.now < 100 }
     requires fresh { IsBelow 0 (msgq_history msgq) }
 {
     for index in 0..rows.len() {
         let (number, prio, op, wanted) = rows[index];
         let reply = attempt(&mut msgq, Who { number, prio }, index as u32, op)?;
-        let told = text(alloc, reply)?;
-        assert_eq!(rt; told.as_str(), wanted, "at {index}");
+        let (word, number) = told(&reply);
+        assert_eq!(rt; word, wanted.0, "at {index}");
+        assert_eq!(rt; number, wanted.1, "at {index}");
     }
     Ok(msgq.history().len())
 }
@@ -61,27 +72,26 @@ fn puts_wait(rt: HostRuntime) -> Result<(), Fail> {
     let entries = play(
         &rt,
         Msgq::new(rt.alloc(), 1, 2)?,
-        rt.alloc(),
         &[
-            (0, 0, Free, "Number(2)"),
-            (0, 0, Put(message(1), false), "Done"),
-            (0, 0, Put(message(2), true), "Done"),
-            (0, 0, Put(message(3), false), "NoMsg"),
-            (1, 5, Put(message(4), true), "Wait"),
-            (2, 3, Put(message(5), true), "Wait"),
-            (2, 3, PutEnd(5), "none"),
-            (0, 0, Peek, "[1]"),
-            (0, 0, PeekAt(1), "[2]"),
-            (0, 0, PeekAt(2), "NoMsg"),
-            (0, 0, Get(false), "[1]"),
-            (2, 3, PutEnd(5), "Done"),
-            (1, 5, PutEnd(4), "none"),
-            (0, 0, PeekAt(1), "[5]"),
-            (0, 0, Used, "Number(2)"),
-            (0, 0, Purge, "Done"),
-            (1, 5, PutEnd(4), "NoMsg"),
-            (0, 0, Free, "Number(2)"),
-            (0, 0, Get(false), "NoMsg"),
+            (0, 0, Free, ("number", 2)),
+            (0, 0, Put(message(1), false), ("done", 0)),
+            (0, 0, Put(message(2), true), ("done", 0)),
+            (0, 0, Put(message(3), false), ("nomsg", 0)),
+            (1, 5, Put(message(4), true), ("wait", 0)),
+            (2, 3, Put(message(5), true), ("wait", 0)),
+            (2, 3, PutEnd(5), ("none", 0)),
+            (0, 0, Peek, ("bytes", 1)),
+            (0, 0, PeekAt(1), ("bytes", 2)),
+            (0, 0, PeekAt(2), ("nomsg", 0)),
+            (0, 0, Get(false), ("bytes", 1)),
+            (2, 3, PutEnd(5), ("done", 0)),
+            (1, 5, PutEnd(4), ("none", 0)),
+            (0, 0, PeekAt(1), ("bytes", 5)),
+            (0, 0, Used, ("number", 2)),
+            (0, 0, Purge, ("done", 0)),
+            (1, 5, PutEnd(4), ("nomsg", 0)),
+            (0, 0, Free, ("number", 2)),
+            (0, 0, Get(false), ("nomsg", 0)),
         ],
     )?;
     assert_eq!(&rt; entries, 17);
@@ -94,23 +104,22 @@ fn gets_wait(rt: HostRuntime) -> Result<(), Fail> {
     let entries = play(
         &rt,
         Msgq::new(rt.alloc(), 64, 1)?,
-        rt.alloc(),
         &[
-            (1, 0, Get(true), "Wait"),
-            (2, 0, Get(true), "Wait"),
-            (3, 0, Get(true), "Wait"),
-            (0, 0, Put(message(7), false), "Done"),
-            (0, 0, Used, "Number(0)"),
-            (2, 0, GetQuit(1), "Again"),
-            (2, 0, GetQuit(1), "none"),
-            (1, 0, GetQuit(0), "[7]"),
-            (0, 0, Put(message(8), false), "Done"),
-            (3, 0, GetEnd(2), "[8]"),
-            (0, 0, Put(message(9), true), "Done"),
-            (0, 0, Put(message(10), true), "Wait"),
-            (0, 0, PutQuit(10), "Again"),
-            (0, 0, Get(false), "[9]"),
-            (0, 0, Get(false), "NoMsg"),
+            (1, 0, Get(true), ("wait", 0)),
+            (2, 0, Get(true), ("wait", 0)),
+            (3, 0, Get(true), ("wait", 0)),
+            (0, 0, Put(message(7), false), ("done", 0)),
+            (0, 0, Used, ("number", 0)),
+            (2, 0, GetQuit(1), ("again", 0)),
+            (2, 0, GetQuit(1), ("none", 0)),
+            (1, 0, GetQuit(0), ("bytes", 7)),
+            (0, 0, Put(message(8), false), ("done", 0)),
+            (3, 0, GetEnd(2), ("bytes", 8)),
+            (0, 0, Put(message(9), true), ("done", 0)),
+            (0, 0, Put(message(10), true), ("wait", 0)),
+            (0, 0, PutQuit(10), ("again", 0)),
+            (0, 0, Get(false), ("bytes", 9)),
+            (0, 0, Get(false), ("nomsg", 0)),
         ],
     )?;
     assert_eq!(&rt; entries, 14);
@@ -144,8 +153,7 @@ fn room(rt: HostRuntime) -> Result<(), Fail> {
     msgq.reserve()?;
     assert!(&rt; msgq.room() >= 3);
     let reply = msgq.act(Who { number: 0, prio: 0 }, 0, Get(true))?;
-    let told = text(rt.alloc(), reply)?;
-    assert_eq!(&rt; told.as_str(), "Wait");
+    assert_eq!(&rt; told(&reply).0, "wait");
     assert_eq!(&rt; msgq.into_history().len(), 1);
     Ok(())
 }
