@@ -4,11 +4,12 @@
 mod scenario;
 
 use scenario::{Calls, text_of};
-use std::time::Instant;
+use std::alloc::Global;
+use std::time::{Clock, Instant};
 use std::{env, io};
 use zk_replay::replay;
-use zk_scenario::read_scenario;
-use zk_trace::put_trace;
+use zk_scenario::{Scenario, read_scenario};
+use zk_trace::{Trace, put_trace};
 
 fn main(rt: HostRuntime) -> io::Result<()> {
     if env::args(&rt)?.count() < 2 {
@@ -20,34 +21,53 @@ fn main(rt: HostRuntime) -> io::Result<()> {
     times(&rt, Calls::Reschedules)
 }
 
-fn times(rt: &HostRuntime, calls: Calls) -> io::Result<()> {
+fn times<R: Clock + Print + AllocGlobal>(rt: &R, calls: Calls) -> io::Result<()> {
     let text = text_of(rt.alloc(), calls)?;
     let start = Instant::now(rt)?;
-    let Ok(scenario) = read_scenario(rt.alloc(), &text) else {
+    let Some(scenario) = read(rt.alloc(), &text) else {
         return println!(rt; "the scenario was refused");
     };
-    let read = start.elapsed(rt)?;
+    print(rt, "reading", start, text.len(), "bytes")?;
+    play_and_print(rt, text, &scenario)
+}
+
+fn play_and_print<R: Clock + Print + AllocGlobal>(
+    rt: &R,
+    text: Vec<u8>,
+    scenario: &Scenario,
+) -> io::Result<()> {
     let start = Instant::now(rt)?;
-    let Ok(trace) = replay(rt.alloc(), &scenario) else {
+    let Some(trace) = play(rt.alloc(), scenario) else {
         return println!(rt; "out of memory");
     };
-    let played = start.elapsed(rt)?;
+    print(rt, "playing", start, trace.work.items().len(), "entries")?;
     let start = Instant::now(rt)?;
-    let mut output = text;
-    let printing = put_trace(&mut output, &scenario, &trace);
-    let printed = start.elapsed(rt)?;
-    if printing.is_err() {
-        return println!(rt; "out of memory");
-    }
-    println!(rt; "reading  {:>8} us", read.as_micros())?;
-    println!(rt;
-        "playing  {:>8} us, {} entries",
-        played.as_micros(),
-        trace.work.items().len()
-    )?;
-    println!(rt;
-        "printing {:>8} us, {} bytes",
-        printed.as_micros(),
-        output.len()
-    )
+    let length = printed(text, scenario, &trace);
+    print(rt, "printing", start, length, "bytes")
+}
+
+fn read(alloc: Global, text: &[u8]) -> Option<Scenario> {
+    read_scenario(alloc, text).ok()
+}
+
+fn play(alloc: Global, scenario: &Scenario) -> Option<Trace> {
+    replay(alloc, scenario).ok()
+}
+
+/// How many bytes there are once the trace is appended, which memory may cut short.
+fn printed(mut text: Vec<u8>, scenario: &Scenario, trace: &Trace) -> usize {
+    let _result = put_trace(&mut text, scenario, trace);
+    text.len()
+}
+
+/// Prints how long this took, for so many of a unit.
+fn print<R: Clock + Print>(
+    rt: &R,
+    what: &str,
+    start: Instant,
+    count: usize,
+    unit: &str,
+) -> io::Result<()> {
+    let micros = start.elapsed(rt)?.as_micros();
+    println!(rt; "{what:<8} {micros:>8} us, {count} {unit}")
 }

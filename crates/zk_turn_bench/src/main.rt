@@ -125,28 +125,61 @@ fn turns_of_four<R: Threads + Wait + Sync + Clock + Print + AllocGlobal>(rt: &R)
     print(rt, "turns, four threads, one cell", start, 4 * TIMES)
 }
 
-fn locks_of_one<R: Threads + Wait + Sync + Clock + Print + AllocGlobal>(rt: &R) -> io::Result<()> {
-    let Ok(counted) = fresh(rt.alloc()) else {
-        return println!(rt; "out of memory");
+/// One thread on a cell of its own, with no entries before.
+fn alone<R: Wait + AllocGlobal>(rt: &R) {
+    let Ok((cell, mut passes)) = shared(rt.alloc(), &[FIRST]) else {
+        return;
     };
-    let lock = Mutex::new(Some(counted));
-    let start = Instant::now(rt)?;
-    submit_often(rt, &lock, TIMES);
-    print(rt, "a lock, one thread", start, TIMES)
+    let first = last_caller(&cell, FIRST, &mut passes);
+    let _pass = call_often(rt, &cell, first, WorkOp::Submit(0, Some(0)), TIMES);
 }
 
-fn locks_of_two<R: Threads + Wait + Sync + Clock + Print + AllocGlobal>(rt: &R) -> io::Result<()> {
-    let Ok(counted) = fresh(rt.alloc()) else {
-        return println!(rt; "out of memory");
-    };
-    let lock = Mutex::new(Some(counted));
+fn two_alone<R: Threads + Wait + Sync + AllocGlobal>(rt: &R) {
+    thread::join(rt, || alone(rt), || alone(rt));
+}
+
+fn own_cells<R: Threads + Wait + Sync + Clock + Print + AllocGlobal>(rt: &R) -> io::Result<()> {
     let start = Instant::now(rt)?;
+    two_alone(rt);
+    print(rt, "turns, two threads, own cells", start, 2 * TIMES)?;
+    let start = Instant::now(rt)?;
+    thread::join(rt, || two_alone(rt), || two_alone(rt));
+    print(rt, "turns, four threads, own cells", start, 4 * TIMES)
+}
+
+fn two_with_lock<R: Threads + Wait + Sync>(rt: &R, lock: &Mutex<Option<Counted>>) {
     thread::join(
         rt,
-        || submit_often(rt, &lock, TIMES),
-        || submit_often(rt, &lock, TIMES),
+        || submit_often(rt, lock, TIMES),
+        || submit_often(rt, lock, TIMES),
     );
-    print(rt, "a lock, two threads", start, 2 * TIMES)
+}
+
+/// The work service under a lock, without entries.
+fn locked(alloc: Global) -> Option<Mutex<Option<Counted>>> {
+    match fresh(alloc) {
+        Ok(counted) => Some(Mutex::new(Some(counted))),
+        Err(_) => None,
+    }
+}
+
+fn locks<R: Threads + Wait + Sync + Clock + Print + AllocGlobal>(rt: &R) -> io::Result<()> {
+    let (Some(one), Some(two), Some(four)) = (
+        locked(rt.alloc()),
+        locked(rt.alloc()),
+        locked(rt.alloc()),
+    ) else {
+        return println!(rt; "out of memory");
+    };
+    let start = Instant::now(rt)?;
+    submit_often(rt, &one, TIMES);
+    print(rt, "a lock, one thread", start, TIMES)?;
+    let start = Instant::now(rt)?;
+    two_with_lock(rt, &two);
+    print(rt, "a lock, two threads", start, 2 * TIMES)?;
+    let start = Instant::now(rt)?;
+    thread::join(rt, || two_with_lock(rt, &four), || two_with_lock(rt, &four));
+    print(rt, "a lock, four threads", start, 4 * TIMES)
 }
 
 fn main(rt: HostRuntime) -> io::Result<()> {
@@ -156,6 +189,6 @@ fn main(rt: HostRuntime) -> io::Result<()> {
     turns_of_one(&rt)?;
     turns_of_two(&rt)?;
     turns_of_four(&rt)?;
-    locks_of_one(&rt)?;
-    locks_of_two(&rt)
+    own_cells(&rt)?;
+    locks(&rt)
 }
