@@ -19,11 +19,14 @@ ranges q who op = refl
 
 full-adds : (q : Msgq) (who : Who) (message : List ℕ) (waits : Bool) →
     open_calls (put_at_full q who message waits) ≤ open_calls q + 2
-full-adds q who message true = let one = open-joined q.puts (record { place = q.entries; who = who; matter = message }) in omega arith
+full-adds q who message true =
+    let one = open-joined q.puts (record { place = q.entries; who = who; matter = message }) in
+    omega arith
 full-adds q who message false = omega arith
 
 either-adds : (q : Msgq) (who : Who) (message : List ℕ) (waits room : Bool) →
-    open_calls (cond room (record q { messages = q.messages ++ message ∷ [] }) (put_at_full q who message waits)) ≤ open_calls q + 2
+    open_calls (cond room (record q { messages = q.messages ++ message ∷ [] }) (put_at_full q who message waits))
+    ≤ open_calls q + 2
 either-adds q who message waits true = omega arith
 either-adds q who message waits false = full-adds q who message waits
 
