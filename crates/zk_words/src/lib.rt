@@ -9,6 +9,7 @@ mod pieces;
 mod slot;
 mod spelled;
 mod table;
+mod timeout;
 mod unbuilt;
 mod word;
 
@@ -20,4 +21,5 @@ pub use pieces::{Lines, Pieces, Words};
 pub use slot::{Choice, Rest, Slot};
 pub use spelled::{choice_text, same_choice};
 pub use table::{Row, row_of};
+pub use timeout::Timeout;
 pub use word::{Head, Word};
