@@ -1,11 +1,11 @@
 -- A list without its first element that passes, and how many pass.
-use Rattle.std.proofs.Common.{◌≡◌, ℕ, suc, ◌+◌, ◌<◌, ◌≤◌, Bool, true, false, not, cond, ltb, ◌||◌, Some, None, List, [], ◌∷◌, length, slice_get, is_some, refl, ap, sym, ◌∙◌, arith}
+use Rattle.std.proofs.Common.{◌≡◌, ℕ, suc, ◌+◌, ◌<◌, ◌≤◌, Bool, true, false, not, cond, ltb, ◌||◌, Some, None, List, [], ◌∷◌, length, slice_get, is_some, refl, ap, sym, subst, ◌∙◌, arith}
 use Rattle.std.specs.List.{find, position, position_or_len, remove, insert, list_any, count_by}
 use Rattle.std.proofs.lemmas.Bool.Decides.{nat_tests}
 use Rattle.std.proofs.lemmas.Grind.{common_steps}
 use Rattle.std.proofs.lemmas.List.Folds.{find_at}
 use Rattle.std.proofs.lemmas.List.Sums.{sum_by-cons}
-use Rattle.std.proofs.lemmas.Option.{slice_get_past}
+use Rattle.std.proofs.lemmas.Option.{same_Some, slice_get_past}
 use Rattle.zk_base.specs.Lists.{without_first, put_before}
 
 -- a search that finds nothing, and one that finds a place
@@ -143,6 +143,49 @@ module _ {A : Type 0} (p : A → Bool) where
   -- and where one passes, some are counted
   pub counted-any : (xs : List A) → list_any p xs ≡ true → 0 < count_by p xs
   counted-any xs some = let one = count-without xs some in omega arith
+
+  found-at : (x y : A) (xs : List A) (b : Bool) → p x ≡ b → (find p xs ≡ Some y → p y ≡ true) → cond b (Some x) (find p xs) ≡ Some y → p y ≡ true
+  found-at x y xs true is rest found = subst (λ (z : A). p z ≡ true) (same_Some x y found) is
+  found-at x y xs false is rest found = rest found
+
+  -- what is found passes
+  pub found-passes : (xs : List A) (y : A) → find p xs ≡ Some y → p y ≡ true
+  found-passes [] y found = absurd (cc)
+  found-passes (x ∷ xs) y found = found-at x y xs (p x) refl (found-passes xs y) found
+
+  lost-at : (x : A) (xs : List A) (b : Bool) → (find p xs ≡ None → without_first p xs ≡ xs) → cond b (Some x) (find p xs) ≡ None → cond b xs (x ∷ without_first p xs) ≡ x ∷ xs
+  lost-at x xs true rest none = absurd (cc)
+  lost-at x xs false rest none = ap (λ (l : List A). x ∷ l) (rest none)
+
+  -- where nothing is found, nothing is taken out
+  pub without-lost : (xs : List A) → find p xs ≡ None → without_first p xs ≡ xs
+  without-lost [] none = refl
+  without-lost (x ∷ xs) none = lost-at x xs (p x) (without-lost xs) none
+
+module _ {A : Type 0} (p q : A → Bool) where
+  count-found-at : (x y : A) (xs : List A) (b : Bool) → (find p xs ≡ Some y → count_by q xs ≡ one_if (q y) + count_by q (without_first p xs)) →
+      cond b (Some x) (find p xs) ≡ Some y → count_by q (x ∷ xs) ≡ one_if (q y) + count_by q (cond b xs (x ∷ without_first p xs))
+  count-found-at x y xs true rest found =
+      let same : one_if (q x) ≡ one_if (q y) = ap (λ (z : A). one_if (q z)) (same_Some x y found) in
+      omega (arith, sum_by-cons (λ (z : A). one_if (q z)) x xs)
+  count-found-at x y xs false rest found =
+      let further = rest found in
+      omega (arith, sum_by-cons (λ (z : A). one_if (q z)) x xs, sum_by-cons (λ (z : A). one_if (q z)) x (without_first p xs))
+
+  -- what is found is taken out, and counted no more
+  pub count-found : (xs : List A) (y : A) → find p xs ≡ Some y → count_by q xs ≡ one_if (q y) + count_by q (without_first p xs)
+  count-found [] y found = absurd (cc)
+  count-found (x ∷ xs) y found = count-found-at x y xs (p x) (count-found xs y) found
+
+  count-put-at : (x y : A) (ys : List A) (b : Bool) → count_by q (put_before p x ys) ≡ one_if (q x) + count_by q ys →
+      count_by q (cond b (x ∷ y ∷ ys) (y ∷ put_before p x ys)) ≡ one_if (q x) + count_by q (y ∷ ys)
+  count-put-at x y ys true rest = sum_by-cons (λ (z : A). one_if (q z)) x (y ∷ ys)
+  count-put-at x y ys false rest = omega (arith, sum_by-cons (λ (z : A). one_if (q z)) y ys, sum_by-cons (λ (z : A). one_if (q z)) y (put_before p x ys))
+
+  -- what is put in is counted
+  pub count-put_before : (x : A) (xs : List A) → count_by q (put_before p x xs) ≡ one_if (q x) + count_by q xs
+  count-put_before x [] = sum_by-cons (λ (z : A). one_if (q z)) x []
+  count-put_before x (y ∷ ys) = count-put-at x y ys (p y) (count-put_before x ys)
 
 module _ {A : Type 0} (p q : A → Bool) (apart : (x : A) → p x ≡ true → q x ≡ false) where
   count-aside-at : (x : A) (xs : List A) (b : Bool) → p x ≡ b → count_by q (without_first p xs) ≡ count_by q xs → count_by q (cond b xs (x ∷ without_first p xs)) ≡ count_by q (x ∷ xs)

@@ -5,4 +5,6 @@ pub mod Lists
 pub mod Order
 pub mod WaitMoves
 pub mod WaitsHold
+pub mod WaitsKept
+pub mod WaitsOnce
 pub mod WaitOrder

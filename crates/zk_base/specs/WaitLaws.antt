@@ -1,4 +1,4 @@
-use Rattle.std.specs.Prelude.{◌≡◌, ℕ, ◌+◌, Bool, true, not, ◌&&◌, ◌||◌, int_lt, nat_lt, Option, Some, None, List, [], ◌∷◌, ◌++◌, length, All}
+use Rattle.std.specs.Prelude.{◌≡◌, ℕ, zero, suc, ◌+◌, ◌≤◌, Bool, true, false, not, ◌==◌, ◌&&◌, ◌||◌, if◌then◌else◌, int_lt, nat_lt, count_by, Option, Some, None, is_some, List, [], ◌∷◌, ◌++◌, length, All}
 use Rattle.std.specs.List.{Contains}
 use Rattle.zk_base.specs.declared.ids.Who.{Who}
 use Rattle.zk_base.specs.declared.ids.Entry.{Entry}
@@ -54,6 +54,10 @@ pub record HasWaits {S O R M : Type 0} (m : Machine S O R) (k : WaitKind S O R M
       m.reply_of s who op ≡ decision_of (k.waits s) who.number place
   pub quits : (s : S) (who : Who) (op : O) (place : ℕ) → k.quits op ≡ Some place →
       m.reply_of s who op ≡ quit_answer k.gives_up (k.waits s) who.number place
+  -- an entry opens, ends or gives up one at most
+  pub opens_alone : (op : O) (reply : R) (matter : M) → k.opens op reply ≡ Some matter →
+      (k.ends op ≡ None) × (k.quits op ≡ None)
+  pub ends_alone : (op : O) (place : ℕ) → k.ends op ≡ Some place → k.quits op ≡ None
 
 -- a first state: nobody waits, and there is no entry
 pub record IsFirst {S O R M : Type 0} (k : WaitKind S O R M) (s : S) : Type 0 where
@@ -74,7 +78,39 @@ pub record WasOpened {S O R M : Type 0} (k : WaitKind S O R M) (h : List (Entry 
 abbrev pub WasOpenedBy : {S O R M : Type 0} → WaitKind S O R M → List (Entry O R) → Decision R → Type 0
 WasOpenedBy {M = M} k h d = (who : Who) × (matter : M) × (who.number ≡ d.player) × WasOpened k h d.place who matter
 
+-- how many waits of this place go on, and how many are decided
+abbrev pub waiting_at : {M A : Type 0} → ℕ → Waits M A → ℕ
+waiting_at place ws = count_by (λ w. w.place == place) ws.waiting
+
+abbrev pub decided_at : {M A : Type 0} → ℕ → Waits M A → ℕ
+decided_at place ws = count_by (λ d. d.place == place) ws.decided
+
+-- it is this place
+abbrev pub is_at : ℕ → Option ℕ → Bool
+is_at place None = false
+is_at place (Some at) = at == place
+
+-- the entry ends the wait of this place, or gives it up
+abbrev pub finishes : {S O R M : Type 0} → WaitKind S O R M → ℕ → Entry O R → Bool
+finishes k place e = is_at place (k.ends e.op) || is_at place (k.quits e.op)
+
+-- 1 where the entry at this place opened a wait, else 0
+abbrev pub opened_at : {S O R M : Type 0} → WaitKind S O R M → List (Entry O R) → ℕ → ℕ
+opened_at k [] place = 0
+opened_at k (e ∷ es) zero = if is_some (k.opens e.op e.reply) then 1 else 0
+opened_at k (e ∷ es) (suc place) = opened_at k es place
+
 -- Each of what follows is said of one history of a machine, from a first state on.
+
+-- a wait is there once from its opening until its end, waiting or decided, and ends once; and where none was opened none is there, and none ends
+abbrev pub EachWaitOnce : {S O R M : Type 0} → Machine S O R → WaitKind S O R M → S → List (Entry O R) → Type 0
+EachWaitOnce m k s h = (place : ℕ) →
+    waiting_at place (k.waits (state_after m s h)) + decided_at place (k.waits (state_after m s h))
+    + count_by (finishes k place) h ≡ opened_at k h place
+
+-- no wait ends twice
+abbrev pub EachEndsOnce : {S O R M : Type 0} → Machine S O R → WaitKind S O R M → S → List (Entry O R) → Type 0
+EachEndsOnce m k s h = (place : ℕ) → count_by (finishes k place) h ≤ 1
 
 -- who waits, and whose wait is decided, has opened it at its place
 abbrev pub EachWaitHasItsOpening : {S O R M : Type 0} → Machine S O R → WaitKind S O R M → S → List (Entry O R) → Type 0
@@ -118,3 +154,14 @@ NoneOvertakes {O = O} {R = R} {M = M} m k s h = (front : List (Entry O R)) (e : 
     Contains (k.waits (state_after m s front)).waiting w →
     (Contains (k.waits (state_after m s (front ++ e ∷ []))).waiting w → ⊥) →
     Contains (k.waits (state_after m s (front ++ e ∷ []))).waiting v → is_before w v ≡ true
+
+-- the laws of waits
+pub record KeepsWaits {S O R M : Type 0} (m : Machine S O R) (k : WaitKind S O R M) (s : S) (h : List (Entry O R)) : Type 0 where
+  pub opened : EachWaitHasItsOpening m k s h
+  pub once : EachWaitOnce m k s h
+  pub ends_once : EachEndsOnce m k s h
+  pub ends : EndTellsItsDecision m k s h
+  pub quits : QuitTellsItsDecision m k s h
+  pub may_end : MayEndOnceDecided m k s h
+  pub may_quit : MayQuitUntilEnded m k s h
+  pub in_order : NoneOvertakes m k s h

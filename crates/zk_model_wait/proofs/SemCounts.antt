@@ -12,7 +12,7 @@ use Rattle.zk_base.specs.History.{IsEntry}
 use Rattle.zk_base.specs.Legal.{Replays}
 use Rattle.zk_base.specs.Lists.{without_first}
 use Rattle.zk_base.specs.Waits.{is_waiter, is_decision, decide, decides_first, goes_on, given_up}
-use Rattle.zk_base.proofs.Firsts.{one_if}
+use Rattle.zk_base.proofs.Firsts.{one_if, without-lost, count-found}
 use Rattle.zk_base.proofs.Histories.{state_after-snoc, Replays-rest}
 use Rattle.zk_model_wait.specs.declared.sem.SemOp.{SemOp}
 use Rattle.zk_model_wait.specs.declared.sem.SemOp.TheVariants as ops
@@ -101,29 +101,6 @@ served-all s (e ∷ es) served some = served-all (sem_next s e.who e.op) es (nex
 pub none_waits_while_count : OfEachSem NoneWaitsWhileCount
 none_waits_while_count initial limit low h legal some = served-all (new_sem initial limit) h (λ above. refl) some
 
--- what is found is taken out, and counted no more
-module _ {A : Type 0} (p q : A → Bool) where
-  found-at : (x y : A) (xs : List A) (b : Bool) → (find p xs ≡ Some y → count_by q xs ≡ one_if (q y) + count_by q (without_first p xs)) →
-      cond b (Some x) (find p xs) ≡ Some y → count_by q (x ∷ xs) ≡ one_if (q y) + count_by q (cond b xs (x ∷ without_first p xs))
-  found-at x y xs true rest found =
-      let same : one_if (q x) ≡ one_if (q y) = ap (λ (z : A). one_if (q z)) (same_Some x y found) in
-      omega (arith, sum_by-cons (λ (z : A). one_if (q z)) x xs)
-  found-at x y xs false rest found =
-      let further = rest found in
-      omega (arith, sum_by-cons (λ (z : A). one_if (q z)) x xs, sum_by-cons (λ (z : A). one_if (q z)) x (without_first p xs))
-
-  count-found : (xs : List A) (y : A) → find p xs ≡ Some y → count_by q xs ≡ one_if (q y) + count_by q (without_first p xs)
-  count-found [] y found = absurd (cc)
-  count-found (x ∷ xs) y found = found-at x y xs (p x) (count-found xs y) found
-
-  lost-at : (x : A) (xs : List A) (b : Bool) → (find p xs ≡ None → without_first p xs ≡ xs) → cond b (Some x) (find p xs) ≡ None → cond b xs (x ∷ without_first p xs) ≡ x ∷ xs
-  lost-at x xs true rest none = absurd (cc)
-  lost-at x xs false rest none = ap (λ (l : List A). x ∷ l) (rest none)
-
-  without-lost : (xs : List A) → find p xs ≡ None → without_first p xs ≡ xs
-  without-lost [] none = refl
-  without-lost (x ∷ xs) none = lost-at x xs (p x) (without-lost xs) none
-
 -- those who are decided to have taken one
 
 end-by : (p : Decision SemReply → Bool) (xs : List (Decision SemReply)) (o : Option (Decision SemReply)) (reply : SemReply) → find p xs ≡ o → option_map (λ (d : Decision SemReply). d.answer) o ≡ Some reply →
@@ -151,7 +128,7 @@ quit-by : (s : Sem) (who : Who) (place : ℕ) (waits : Bool) (o : Option (Decisi
 quit-by s who place waits (Some d) reply found is = end-by (is_decision who.number place) s.takers.decided (Some d) reply found is
 quit-by s who place true None reply found is =
     let none : one_if (is_got reply) ≡ 0 = ap (λ (r : SemReply). one_if (is_got r)) (sym (same_Some Again reply is)) in
-    let same = ap (λ (ds : List (Decision SemReply)). count_by (λ (d : Decision SemReply). is_got d.answer) ds) (without-lost (is_decision who.number place) (λ (d : Decision SemReply). is_got d.answer) s.takers.decided found) in
+    let same = ap (λ (ds : List (Decision SemReply)). count_by (λ (d : Decision SemReply). is_got d.answer) ds) (without-lost (is_decision who.number place) s.takers.decided found) in
     omega arith
 quit-by s who place false None reply found is = absurd (cc)
 

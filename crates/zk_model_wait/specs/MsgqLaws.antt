@@ -3,7 +3,7 @@ use Rattle.zk_base.specs.declared.ids.Entry.{Entry}
 use Rattle.zk_base.specs.declared.waits.Waiter.{Waiter}
 use Rattle.zk_base.specs.History.{IsEntry}
 use Rattle.zk_base.specs.Legal.{state_after, IsLegal}
-use Rattle.zk_base.specs.WaitLaws.{WaitKind, EachWaitHasItsOpening, EndTellsItsDecision, QuitTellsItsDecision, MayEndOnceDecided, MayQuitUntilEnded, NoneOvertakes}
+use Rattle.zk_base.specs.WaitLaws.{KeepsWaits}
 use Rattle.zk_model_wait.specs.declared.msgq.MsgqOp.{MsgqOp}
 use Rattle.zk_model_wait.specs.declared.msgq.MsgqOp.TheVariants as ops
 use Rattle.zk_model_wait.specs.declared.msgq.MsgqReply.{MsgqReply}
@@ -110,15 +110,6 @@ abbrev pub PurgeEndsEveryPut : Msgq → MsgqHistory → Type 0
 PurgeEndsEveryPut q h = (front : MsgqHistory) (e : Entry MsgqOp MsgqReply) → IsEntry h front e → e.op ≡ ops.Purge →
     ((msgq_after_all q (front ++ e ∷ [])).messages ≡ []) × ((msgq_after_all q (front ++ e ∷ [])).puts.waiting ≡ [])
 
--- the laws of one of the two lists of waits
-pub record KeepsWaits {M : Type 0} (k : WaitKind Msgq MsgqOp MsgqReply M) (q : Msgq) (h : MsgqHistory) : Type 0 where
-  pub opened : EachWaitHasItsOpening msgq_machine k q h
-  pub ends : EndTellsItsDecision msgq_machine k q h
-  pub quits : QuitTellsItsDecision msgq_machine k q h
-  pub may_end : MayEndOnceDecided msgq_machine k q h
-  pub may_quit : MayQuitUntilEnded msgq_machine k q h
-  pub in_order : NoneOvertakes msgq_machine k q h
-
 -- the laws of a message queue
 pub record KeepsMsgqLaws (q : Msgq) (h : MsgqHistory) : Type 0 where
   pub in_order : FirstInFirstOut q h
@@ -129,5 +120,5 @@ pub record KeepsMsgqLaws (q : Msgq) (h : MsgqHistory) : Type 0 where
   pub get : GetWaitsOnlyAtEmpty q h
   pub looks : LooksTellTheRing q h
   pub purge : PurgeEndsEveryPut q h
-  pub put_waits : KeepsWaits putters q h
-  pub get_waits : KeepsWaits getters q h
+  pub put_waits : KeepsWaits msgq_machine putters q h
+  pub get_waits : KeepsWaits msgq_machine getters q h

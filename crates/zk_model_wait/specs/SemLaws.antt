@@ -4,7 +4,7 @@ use Rattle.zk_base.specs.declared.ids.Entry.{Entry}
 use Rattle.zk_base.specs.declared.waits.Waiter.{Waiter}
 use Rattle.zk_base.specs.History.{IsEntry}
 use Rattle.zk_base.specs.Legal.{state_after, IsLegal}
-use Rattle.zk_base.specs.WaitLaws.{EachWaitHasItsOpening, EndTellsItsDecision, QuitTellsItsDecision, MayEndOnceDecided, MayQuitUntilEnded, NoneOvertakes}
+use Rattle.zk_base.specs.WaitLaws.{KeepsWaits}
 use Rattle.zk_model_wait.specs.SemWaits.{takers}
 use Rattle.zk_model_wait.specs.declared.sem.SemOp.{SemOp}
 use Rattle.zk_model_wait.specs.declared.sem.SemOp.TheVariants as ops
@@ -124,9 +124,4 @@ pub record KeepsSemLaws (s : Sem) (h : SemHistory) : Type 0 where
   pub reset : ResetEndsEveryWait s h
   pub always : MayAlways s h
   pub done : GiveIsDone s h
-  pub opened : EachWaitHasItsOpening sem_machine takers s h
-  pub ends : EndTellsItsDecision sem_machine takers s h
-  pub quits : QuitTellsItsDecision sem_machine takers s h
-  pub may_end : MayEndOnceDecided sem_machine takers s h
-  pub may_quit : MayQuitUntilEnded sem_machine takers s h
-  pub in_order : NoneOvertakes sem_machine takers s h
+  pub waits : KeepsWaits sem_machine takers s h

@@ -1,4 +1,4 @@
-ghost use Rattle.zk_base.specs.WaitLaws.{EachWaitHasItsOpening, EndTellsItsDecision, QuitTellsItsDecision, MayEndOnceDecided, MayQuitUntilEnded, NoneOvertakes};
+ghost use Rattle.zk_base.specs.WaitLaws.{KeepsWaits};
 ghost use Rattle.zk_model_wait.specs.Sem.{Sem, sem_machine};
 ghost use Rattle.zk_model_wait.specs.SemWaits.{takers};
 ghost use Rattle.zk_model_wait.specs.SemLaws.{SemHistory, OfEachSem, CountWithinLimit, NoneWaitsWhileCount, GivesAddUp, GotWithinGives, TakeWaitsOnlyAtZero, CountTellsTheCount, ResetEndsEveryWait, MayAlways, GiveIsDone, KeepsSemLaws};
@@ -24,12 +24,7 @@ pub fn calls_are_told()
 /// Of every legal history of a semaphore: who waits has asked for it, the end of a wait is answered its decision, and one who gives
 /// up gets what was decided meanwhile. Who waits is served by priority, and then by longest wait.
 pub fn waits_end()
-    ensures opened { OfEachSem (EachWaitHasItsOpening sem_machine takers) }
-    ensures ends { OfEachSem (EndTellsItsDecision sem_machine takers) }
-    ensures quits { OfEachSem (QuitTellsItsDecision sem_machine takers) }
-    ensures may_end { OfEachSem (MayEndOnceDecided sem_machine takers) }
-    ensures may_quit { OfEachSem (MayQuitUntilEnded sem_machine takers) }
-    ensures in_order { OfEachSem (NoneOvertakes sem_machine takers) }
+    ensures waits { OfEachSem (KeepsWaits sem_machine takers) }
 {}
 
 /// All of it, of every legal history of a semaphore. It does nothing when it runs.
