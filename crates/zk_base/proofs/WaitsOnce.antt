@@ -1,8 +1,7 @@
 -- A wait is there once from its opening until its end.
-use Rattle.std.proofs.Common.{◌≡◌, ℕ, zero, suc, ◌+◌, ◌≤◌, Bool, true, false, cond, eqb, ◌&&◌, ◌||◌, Option, Some, None, is_some, option_map, List, [], ◌∷◌, ◌++◌, map, length, refl, sym, ap, subst, ◌∙◌, append_assoc, append-nil, add-zero, arith}
+use Rattle.std.proofs.Common.{◌≡◌, ℕ, zero, suc, ◌+◌, ◌≤◌, Bool, true, false, cond, eqb, ◌&&◌, ◌||◌, Option, Some, None, is_some, option_map, List, [], ◌∷◌, ◌++◌, map, length, refl, sym, ap, subst, ◌∙◌, add-zero, arith}
 use Rattle.std.specs.List.{find, count_by}
 use Rattle.std.proofs.lemmas.Bool.Decides.{nat_tests}
-use Rattle.std.proofs.lemmas.List.{length-append}
 use Rattle.std.proofs.lemmas.List.Sums.{sum_by-cons, sum_by_push, sum_by-append}
 use Rattle.std.proofs.lemmas.Option.{same_Some}
 use Rattle.zk_base.specs.declared.ids.Entry.{Entry}
@@ -11,16 +10,17 @@ use Rattle.zk_base.specs.declared.waits.Decision.{Decision}
 use Rattle.zk_base.specs.Legal.{Machine, state_after, Replays}
 use Rattle.zk_base.specs.Waits.{Waits, is_served_after, is_waiter, is_decision, decide, decision_of, goes_on, joined, ended, quitted, decides_first, given_up, quit_answer}
 use Rattle.zk_base.specs.WaitLaws.{Decides, nobody, first, all, WaitKind, after_decision, after_entry, HasWaits, IsFirst, waiting_at, decided_at, is_at, finishes, opened_at, EachWaitOnce, EachEndsOnce}
+use Rattle.zk_base.proofs.Histories.{state_after-snoc, entries-after, by_entries}
 use Rattle.zk_base.proofs.Firsts.{one_if, any-find, found-passes, without-lost, count-found, count-put_before}
 
 none_some : {A : Type 0} (x : A) (o : Option A) → o ≡ Some x → o ≡ None → ⊥
 none_some x (Some y) some none = absurd (cc)
 none_some x None some none = absurd (cc)
 
-same-pair : (a b c d : ℕ) → (eqb a b && eqb c d) ≡ true → (a ≡ b) × (c ≡ d)
+pub same-pair : (a b c d : ℕ) → (eqb a b && eqb c d) ≡ true → (a ≡ b) × (c ≡ d)
 same-pair a b c d is = grind (arith, nat_tests)
 
-eqb-same : (a : ℕ) → eqb a a ≡ true
+pub eqb-same : (a : ℕ) → eqb a a ≡ true
 eqb-same a = grind (arith, nat_tests)
 
 apart-zero : (n : ℕ) → eqb 0 (suc n) ≡ false
@@ -189,7 +189,7 @@ module _ {S O R M : Type 0} (m : Machine S O R) (k : WaitKind S O R M) (has : Ha
         by None None None o en q =
             subst (λ (n : ℕ). Steps ws (after_decision (k.decides s e.op e.reply) ws) place n 0) (sym (none_both (eqb (k.entries s) place))) (decision-steps (k.decides s e.op e.reply) ws place)
 
-  opened-last : (h : List (Entry O R)) (e : Entry O R) (place : ℕ) → opened_at k (h ++ e ∷ []) place ≡ opened_at k h place + one_if (eqb (length h) place && is_some (k.opens e.op e.reply))
+  pub opened-last : (h : List (Entry O R)) (e : Entry O R) (place : ℕ) → opened_at k (h ++ e ∷ []) place ≡ opened_at k h place + one_if (eqb (length h) place && is_some (k.opens e.op e.reply))
   opened-last [] e zero = omega arith
   opened-last [] e (suc place) = let none = ap (λ (b : Bool). one_if (b && is_some (k.opens e.op e.reply))) (apart-zero place) in omega arith
   opened-last (f ∷ fs) e zero =
@@ -200,7 +200,7 @@ module _ {S O R M : Type 0} (m : Machine S O R) (k : WaitKind S O R M) (has : Ha
       let rest = opened-last fs e place in
       omega arith
 
-  opened-most : (h : List (Entry O R)) (place : ℕ) → opened_at k h place ≤ 1
+  pub opened-most : (h : List (Entry O R)) (place : ℕ) → opened_at k h place ≤ 1
   opened-most [] place = omega arith
   opened-most (e ∷ es) zero = by (is_some (k.opens e.op e.reply)) where
     by : (b : Bool) → cond b 1 0 ≤ 1
@@ -224,19 +224,16 @@ module _ {S O R M : Type 0} (m : Machine S O R) (k : WaitKind S O R M) (has : Ha
       let ended = sum_by_push (λ (f : Entry O R). one_if (finishes k place f)) h e in
       omega arith
 
-  once-all : (h : List (Entry O R)) (s : S) (es : List (Entry O R)) → Replays m s es → k.entries s ≡ length h → AreOnce h (k.waits s) → AreOnce (h ++ es) (k.waits (state_after m s es))
-  once-all h s [] replays long once = subst (λ (g : List (Entry O R)). AreOnce g (k.waits s)) (sym (append-nil h)) once
-  once-all h s (e ∷ es) replays long once =
-      let next = m.next s e.who e.op in
-      let counted = has.counts s e.who e.op in
-      let longer = length-append h (e ∷ []) in
-      let rest = once-all (h ++ e ∷ []) next es replays.1 (omega arith) (once-next h s e replays.0 long once) in
-      subst (λ (g : List (Entry O R)). AreOnce g (k.waits (state_after m next es))) (append_assoc h (e ∷ []) es) rest
-
   pub each_wait_once : (s : S) (h : List (Entry O R)) → IsFirst k s → Replays m s h → EachWaitOnce m k s h
   each_wait_once s h start replays =
-      let none : AreOnce [] (k.waits s) = subst (AreOnce []) (sym start.none) (λ place. refl) in
-      once-all [] s h replays start.new none
+      let P : List (Entry O R) → Type 0 = λ g. AreOnce g (k.waits (state_after m s g)) in
+      let none : P [] = subst (AreOnce []) (sym start.none) (λ place. refl) in
+      let step : (g : List (Entry O R)) (e : Entry O R) → Replays m s g → m.reply_of (state_after m s g) e.who e.op ≡ Some e.reply → P g → P (g ++ e ∷ []) =
+      λ g e were reply once.
+      let counted = entries-after m k.entries has.counts s g in
+      let new = start.new in
+      subst (λ (t : S). AreOnce (g ++ e ∷ []) (k.waits t)) (sym (state_after-snoc m s g e)) (once-next g (state_after m s g) e reply (omega arith) once) in
+      by_entries m s P step [] h replays none
 
   pub each_ends_once : (s : S) (h : List (Entry O R)) → IsFirst k s → Replays m s h → EachEndsOnce m k s h
   each_ends_once s h start replays place =
