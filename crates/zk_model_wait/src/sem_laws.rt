@@ -1,7 +1,7 @@
 ghost use Rattle.zk_base.specs.WaitLaws.{KeepsWaits};
 ghost use Rattle.zk_model_wait.specs.Sem.{Sem, sem_machine};
 ghost use Rattle.zk_model_wait.specs.SemWaits.{takers};
-ghost use Rattle.zk_model_wait.specs.SemLaws.{SemHistory, OfEachSem, CountWithinLimit, NoneWaitsWhileCount, GivesAddUp, GotWithinGives, TakeWaitsOnlyAtZero, CountTellsTheCount, ResetEndsEveryWait, MayAlways, GiveIsDone, KeepsSemLaws};
+ghost use Rattle.zk_model_wait.specs.SemLaws.{SemHistory, OfEachSem, CountWithinLimit, NoneWaitsWhileCount, GivesAddUp, GotWithinGives, TakeWaitsOnlyAtZero, CountTellsTheCount, ResetEndsEveryWait, DecidedByGiveOrReset, MayAlways, GiveIsDone, KeepsSemLaws};
 
 /// Of every legal history of a semaphore: it loses and invents no count, its count keeps its limit, and nobody waits while the
 /// count is above 0.
@@ -18,6 +18,7 @@ pub fn calls_are_told()
     ensures told { OfEachSem CountTellsTheCount }
     ensures done { OfEachSem GiveIsDone }
     ensures reset { (s : Sem) (h : SemHistory) → ResetEndsEveryWait s h }
+    ensures decided { OfEachSem DecidedByGiveOrReset }
     ensures always { (s : Sem) (h : SemHistory) → MayAlways s h }
 {}
 

@@ -10,6 +10,7 @@ returns c = λ initial limit low h legal. record {
   takes = c.calls_are_told.ensures.takes initial limit low h legal;
   told = c.calls_are_told.ensures.told initial limit low h legal;
   reset = c.calls_are_told.ensures.reset (new_sem initial limit) h;
+  decided = c.calls_are_told.ensures.decided initial limit low h legal;
   always = c.calls_are_told.ensures.always (new_sem initial limit) h;
   done = c.calls_are_told.ensures.done initial limit low h legal;
   waits = c.waits_end.ensures.waits initial limit low h legal;
