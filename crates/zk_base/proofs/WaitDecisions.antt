@@ -76,7 +76,7 @@ module _ {M A : Type 0} where
   waiting-some : (ws : Waits M A) (w : Waiter M) → Contains ws.waiting w → 0 < waiting_at w.place ws
   waiting-some ws w held = count-contains (λ (v : Waiter M). eqb v.place w.place) ws.waiting w held (eqb-same w.place)
 
-  decided-some : (ws : Waits M A) (d : Decision A) → Contains ws.decided d → 0 < decided_at d.place ws
+  pub decided-some : (ws : Waits M A) (d : Decision A) → Contains ws.decided d → 0 < decided_at d.place ws
   decided-some ws d held = count-contains (λ (c : Decision A). eqb c.place d.place) ws.decided d held (eqb-same d.place)
 
   -- a decision that wasn't there before is of one who waited, and says what the entry says
@@ -172,6 +172,12 @@ module _ {S O R M : Type 0} (m : Machine S O R) (k : WaitKind S O R M) (has : Ha
       let most = most-one s h start replays w.place in
       let none : decided_at w.place ws ≡ 0 = omega arith in
       subst (λ (p : ℕ). decided_at p ws ≡ 0) at none
+
+  -- none that goes on is decided
+  pub waits-apart : (s : S) (h : List (Entry O R)) → IsFirst k s → Replays m s h → All (λ (w : Waiter M). decided_at w.place (k.waits (state_after m s h)) ≡ 0) (k.waits (state_after m s h)).waiting
+  waits-apart s h start replays =
+      let ws = k.waits (state_after m s h) in
+      All-weaker (Contains ws.waiting) (λ (w : Waiter M). decided_at w.place ws ≡ 0) (λ w held. waits-undecided s h start replays w w.place held refl) ws.waiting (All-contains_itself ws.waiting)
 
   pub quit_tells_its_decision : (s : S) (h : List (Entry O R)) → IsFirst k s → Replays m s h → QuitTellsItsDecision m k s h
   quit_tells_its_decision s h start replays front e place at quits = by (goes_on ws e.who.number place) (decision_of ws e.who.number place) refl refl told where

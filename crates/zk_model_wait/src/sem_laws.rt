@@ -12,7 +12,8 @@ pub fn gives_add_up()
     ensures none_waits { OfEachSem NoneWaitsWhileCount }
 {}
 
-/// Of every legal history of a semaphore: what each operation is answered, what a reset leaves, and which are possible at any time.
+/// Of every legal history of a semaphore: what each operation is answered, what decides a wait, what a reset leaves, and which
+/// operations are possible at any time.
 pub fn calls_are_told()
     ensures takes { OfEachSem TakeWaitsOnlyAtZero }
     ensures told { OfEachSem CountTellsTheCount }
