@@ -3,10 +3,12 @@
 
 mod clock;
 mod lined;
+mod msgq;
 mod names;
 mod parts;
 mod print;
 mod sections;
+mod sem;
 mod spelled;
 mod trace;
 mod words;

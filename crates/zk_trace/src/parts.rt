@@ -4,9 +4,9 @@ ghost use Rattle.zk_trace.specs.Names.{target_name};
 ghost use Rattle.zk_trace.specs.Parts.{fixed_word, part_word, answer_part, each_behind};
 
 use crate::names::{item_name, queue_name, target_name};
-use crate::words::{errno_word, put_admission, put_flags, truth_word};
+use crate::words::{errno_word, put_admission, put_flags, put_hex, truth_word, wait_word};
 use std::marker::Model;
-use zk_base::{Errno, NoMemory, put, put_decimal};
+use zk_base::{Errno, Msg, NoMemory, put, put_decimal};
 use zk_scenario::Scenario;
 use zk_words::{Choice, choice_text};
 use zk_worker::Answer;
@@ -34,6 +34,10 @@ pub enum Part {
     Flags(u8),
     /// A truth value.
     Truth(bool),
+    /// The bytes of a message, in hexadecimal digits.
+    Bytes(Msg),
+    /// Whether a call waits where it can't be served at once.
+    Waits(bool),
     /// The cause of a refusal.
     Refusal(Errno),
     /// A word that is the same in each line.
@@ -61,6 +65,8 @@ pub enum FixedWord {
     At,
     /// An alarm has ended.
     Due,
+    /// A semaphore was taken.
+    Got,
 }
 
 /// The text of a fixed word.
@@ -77,6 +83,7 @@ fn fixed_word(fixed: FixedWord) -> &'static [u8]
         FixedWord::Now => b"now",
         FixedWord::At => b"at",
         FixedWord::Due => b"due",
+        FixedWord::Got => b"got",
     }
 }
 
@@ -111,13 +118,26 @@ impl Model for PartList {
     ghost invariant = { λ l. l.len ≤ 3 };
 }
 
+/// What stands in a list behind the parts that are meant.
+const FILLER: Part = Part::Fixed(FixedWord::Done);
+
 impl PartList {
+    /// No part.
+    pub fn none() -> PartList
+        ensures { result ≡ [] }
+    {
+        PartList {
+            parts: [FILLER; 3],
+            len: 0,
+        }
+    }
+
     /// One part.
     pub fn one(part: Part) -> PartList
         ensures { result ≡ part ∷ [] }
     {
         PartList {
-            parts: [part; 3],
+            parts: [part, FILLER, FILLER],
             len: 1,
         }
     }
@@ -127,7 +147,7 @@ impl PartList {
         ensures { result ≡ first ∷ second ∷ [] }
     {
         PartList {
-            parts: [first, second, second],
+            parts: [first, second, FILLER],
             len: 2,
         }
     }
@@ -212,6 +232,8 @@ fn put_word(out: &mut Vec<u8>, scenario: &Scenario, part: Part) -> Result<(), No
         Part::Plug(plug) => put(out, choice_text(Choice::Drain, plug)),
         Part::Flags(flags) => put_flags(out, flags),
         Part::Truth(truth) => put(out, truth_word(truth)),
+        Part::Bytes(message) => put_hex(out, message.bytes()),
+        Part::Waits(waits) => put(out, wait_word(waits)),
         Part::Refusal(errno) => put(out, errno_word(errno)),
         Part::Fixed(fixed) => put(out, fixed_word(fixed)),
     }
