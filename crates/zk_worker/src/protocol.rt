@@ -116,6 +116,8 @@ fn place_of(reply: &StepReply) -> u64
     match reply {
         StepReply::Work(_, place) => *place,
         StepReply::Clock(_, place) => *place,
+        StepReply::Sem(_, _, place) => *place,
+        StepReply::Msgq(_, _, place) => *place,
     }
 }
 
@@ -126,5 +128,7 @@ pub fn spot_of(made: Step, reply: &StepReply) -> Spot
     match made {
         Step::Work(_) => Spot::Work(place_of(reply)),
         Step::Clock(_) => Spot::Clock(place_of(reply)),
+        Step::Sem(object, _) => Spot::Sem(object, place_of(reply)),
+        Step::Msgq(object, _) => Spot::Msgq(object, place_of(reply)),
     }
 }
