@@ -13,8 +13,8 @@ use Rattle.zk_model_wait.specs.declared.msgq.MsgqOp.{MsgqOp}
 use Rattle.zk_model_wait.specs.declared.msgq.MsgqReply.{MsgqReply}
 use Rattle.zk_model_wait.specs.declared.sem.SemOp.{SemOp}
 use Rattle.zk_model_wait.specs.declared.sem.SemReply.{SemReply}
-use Rattle.zk_model_wait.specs.Msgq.{Msgq, new_msgq, msgq_machine}
-use Rattle.zk_model_wait.specs.Sem.{Sem, new_sem, sem_machine}
+use Rattle.zk_model_wait.specs.Msgq.{Msgq, msgq_machine}
+use Rattle.zk_model_wait.specs.Sem.{Sem, sem_machine}
 use Rattle.zk_model_work.specs.declared.ops.WorkOp.{WorkOp}
 use Rattle.zk_model_work.specs.declared.ops.WorkReply.{WorkReply}
 use Rattle.zk_model_work.specs.State.{State, start_of}

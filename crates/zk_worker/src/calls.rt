@@ -273,10 +273,10 @@ pub fn plan_progress(
     word: Word,
     plan: Plan,
     stage: Stage,
-    _made: Step,
+    _made: &Step,
     reply: &StepReply,
 ) -> Progress
-    ensures { result ≡ plan_progress word plan stage _made reply.now }
+    ensures { result ≡ plan_progress word plan stage _made.now reply.now }
 {
     match (plan, stage) {
         (Plan::Pair(_, _), Stage::Start) => opening_progress(word, reply),
