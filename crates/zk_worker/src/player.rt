@@ -166,10 +166,10 @@ impl Player {
             IsFollowing scenario.now number old self.old → IsFollowing scenario.now number new self.new }
     {
         let number = self.spots.len() as u32;
-        let progress = frames_progress(scenario, &self.stack, step, reply);
+        let progress = frames_progress(scenario, &self.stack, &step, reply);
+        put_answer(&mut self.answers, number, &progress);
         move_frames(scenario, &mut self.stack, progress);
-        put_answer(&mut self.answers, number, progress);
-        put(&mut self.spots, spot_of(step, reply));
+        put(&mut self.spots, spot_of(&step, reply));
     }
 
     /// Who it is to the services.
