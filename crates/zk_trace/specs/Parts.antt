@@ -1,5 +1,6 @@
 use Rattle.std.specs.Prelude.{ℕ, List, [], ◌∷◌, ◌++◌, codes, decimal}
 use Rattle.zk_words.specs.declared.slot.Choice.TheVariants.{Drain}
+use Rattle.zk_words.specs.Hex.{hex_text}
 use Rattle.zk_words.specs.Spelled.{choice_text}
 use Rattle.zk_line.specs.declared.types.Decl.{Decl}
 use Rattle.zk_worker.specs.declared.answers.Answer.{Answer}
@@ -9,7 +10,7 @@ use Rattle.zk_trace.specs.declared.parts.FixedWord.TheVariants.{Zero, One, Two, 
 use Rattle.zk_trace.specs.declared.parts.Part.{Part}
 use Rattle.zk_trace.specs.declared.parts.Part.TheVariants as parts
 use Rattle.zk_trace.specs.Names.{item_name, queue_name, target_name}
-use Rattle.zk_trace.specs.Words.{errno_word, admission_word, flags_word, truth_word, hex_text, wait_word}
+use Rattle.zk_trace.specs.Words.{errno_word, admission_word, flags_word, truth_word, wait_word}
 
 -- the text of a fixed word
 abbrev pub fixed_word : FixedWord → List ℕ
@@ -47,6 +48,7 @@ answer_part (answers.Number number) = parts.Wide number
 answer_part (answers.Flags flags) = parts.Flags flags
 answer_part (answers.Truth truth) = parts.Truth truth
 answer_part (answers.Refused errno) = parts.Refusal errno
+answer_part (answers.Bytes message) = parts.Bytes message
 
 -- words, each behind this byte
 abbrev pub each_behind : ℕ → List (List ℕ) → List ℕ

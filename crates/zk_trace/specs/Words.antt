@@ -1,5 +1,4 @@
-use Rattle.std.specs.Prelude.{ℕ, ◌+◌, ◌/◌, ◌%◌, nat_lt, Bool, true, false, ◌==◌, if◌then◌else◌, List, [], ◌∷◌, ◌++◌, codes, decimal}
-use Rattle.std.specs.List.{flat_map}
+use Rattle.std.specs.Prelude.{ℕ, Bool, true, false, ◌==◌, if◌then◌else◌, List, [], ◌∷◌, ◌++◌, codes, decimal}
 use Rattle.std.specs.Int.RustNames.{bit_and}
 use Rattle.zk_base.specs.declared.errors.Errno.{Errno}
 use Rattle.zk_base.specs.declared.errors.Errno.TheVariants.{Busy, Again, Inval, NoDev, NoMsg, Already, Fault}
@@ -53,18 +52,6 @@ truth_word false = codes "false"
 abbrev pub wait_word : Bool → List ℕ
 wait_word true = codes "wait"
 wait_word false = codes "no"
-
--- the digit that is worth so much
-abbrev pub digit_of : ℕ → ℕ
-digit_of n = if nat_lt n 10 then n + 48 else n + 87
-
--- the two digits of a byte
-abbrev pub byte_text : ℕ → List ℕ
-byte_text b = digit_of (b / 16) ∷ digit_of (b % 16) ∷ []
-
--- the one spelling of bytes: two digits for each
-abbrev pub hex_text : List ℕ → List ℕ
-hex_text bytes = flat_map byte_text bytes
 
 -- the word of a call, as it stands in the table
 abbrev pub call_word : Word → List ℕ

@@ -15,7 +15,7 @@ mod words;
 mod work;
 
 pub use print::{print_trace, put_trace};
-pub use trace::{Ending, History, Logs, Trace};
+pub use trace::{Ending, Histories, History, Logs, Trace};
 
 #[cfg(test)]
 mod tests;

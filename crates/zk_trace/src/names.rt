@@ -1,9 +1,19 @@
 ghost use Rattle.std.specs.Prelude.{◌≡◌, slice_get, option_copied};
-ghost use Rattle.zk_line.specs.Objects.{places, is_item, is_queue, name_of};
+ghost use Rattle.zk_line.specs.Objects.{places, is_item, is_queue, name_of, name_at};
 ghost use Rattle.zk_scenario.specs.Players.{players};
 ghost use Rattle.zk_trace.specs.Names.{object_name, item_name, queue_name, target_name, player_name};
 
 use zk_scenario::{Decl, Scenario};
+
+/// The name of an object, and no byte where there is none of this number.
+pub fn name_at(scenario: &Scenario, object: usize) -> &[u8]
+    ensures { result.now ≡ name_at scenario.now.decls object }
+{
+    match scenario.decls().get(object) {
+        Some(decl) => name_of(decl),
+        None => &[],
+    }
+}
 
 /// The name of an item, by its number among the items.
 pub fn item_name(scenario: &Scenario, item: u32) -> &[u8]
@@ -71,5 +81,7 @@ fn name_of(decl: &Decl) -> &[u8]
         Decl::Thread(name, _, _) => name.bytes(),
         Decl::Queue(name, _, _) => name.bytes(),
         Decl::Item(name) => name.bytes(),
+        Decl::Sem(name, _, _) => name.bytes(),
+        Decl::Msgq(name, _, _) => name.bytes(),
     }
 }

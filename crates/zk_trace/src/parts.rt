@@ -96,6 +96,7 @@ pub fn answer_part(answer: Answer) -> Part
         Answer::Flags(flags) => Part::Flags(flags),
         Answer::Truth(truth) => Part::Truth(truth),
         Answer::Refused(errno) => Part::Refusal(errno),
+        Answer::Bytes(message) => Part::Bytes(message),
     }
 }
 

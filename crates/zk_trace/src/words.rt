@@ -1,7 +1,8 @@
 ghost use Rattle.std.specs.Prelude.{◌≡◌, ◌++◌, ◌==◌, ◌<◌, decimal, OnOk, OnErr};
 ghost use Rattle.std.specs.Int.RustNames.{bit_and};
 ghost use Rattle.zk_trace.specs.Fronts.{StaysInFront};
-ghost use Rattle.zk_trace.specs.Words.{ending_word, errno_word, admission_word, flag_letter, flag_letters, flags_word, truth_word, wait_word, digit_of, hex_text, call_word, state_word};
+ghost use Rattle.zk_trace.specs.Words.{ending_word, errno_word, admission_word, flag_letter, flag_letters, flags_word, truth_word, wait_word, call_word, state_word};
+ghost use Rattle.zk_words.specs.Hex.{digit_of, hex_text};
 
 use crate::Ending;
 use zk_base::{Errno, NoMemory, put, put_decimal};

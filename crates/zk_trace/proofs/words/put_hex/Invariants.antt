@@ -1,6 +1,6 @@
 use Rattle.std.proofs.Common.{◌≡◌, ◌++◌, take}
 use Rattle.zk_trace.specs.Fronts.{StaysInFront}
-use Rattle.zk_trace.specs.Words.{hex_text}
+use Rattle.zk_words.specs.Hex.{hex_text}
 use Rattle.zk_trace.proofs.words.put_hex.Given as goal
 
 abbrev pub invariant-loop-byte : goal.invariant-loop-byte
