@@ -1,5 +1,7 @@
 ghost use Rattle.std.specs.Prelude.{◌≡◌, slice_get, option_map};
-ghost use Rattle.zk_worker.specs.Calls.{ref_number, plan_of, submission_answer, work_answer, sem_answer, msgq_answer, answer_of, closing_step, open_step, end_step, quit_step, first_step, wait_attempts, plan_attempts, opening_progress, until, wait_progress, plan_progress};
+ghost use Rattle.zk_worker.specs.Calls.{ref_number, plan_of, submission_answer, work_answer, sem_answer, msgq_answer, answer_of};
+ghost use Rattle.zk_worker.specs.Calls.{closing_step, open_step, end_step, quit_step, first_step, wait_attempts, plan_attempts};
+ghost use Rattle.zk_worker.specs.Calls.{opening_progress, until, wait_progress, plan_progress};
 
 use crate::{Answer, Closing, Plan, Progress, Stage, Step, StepReply, Waiting, Word};
 use zk_base::Errno;
