@@ -111,7 +111,7 @@ impl Reader {
         if self.is_misplaced(head, parts.again()) {
             return Ok(Some(Why::Order));
         }
-        match weigh(args, &self.objects, parts)? {
+        match weigh(args, &self.objects, head, parts)? {
             Some(Wrong::OutOfRange) => Ok(Some(Why::Number)),
             Some(Wrong::Misnamed) => Ok(Some(Why::Name)),
             None => {
@@ -308,6 +308,8 @@ fn most(kind: Kind) -> usize
         Kind::Thread => 64,
         Kind::Queue => 8,
         Kind::Item => 256,
+        Kind::Sem => 32,
+        Kind::Msgq => 16,
     }
 }
 

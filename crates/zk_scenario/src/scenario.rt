@@ -131,5 +131,7 @@ fn prio_of(decl: &Decl) -> i8
         Decl::Thread(_, prio, _) => *prio,
         Decl::Queue(_, prio, _) => *prio,
         Decl::Item(_) => 0,
+        Decl::Sem(..) => 0,
+        Decl::Msgq(..) => 0,
     }
 }
