@@ -80,6 +80,8 @@ fn prio_of(decl: &Decl) -> i8
         Decl::Thread(_, prio, _) => *prio,
         Decl::Queue(_, prio, _) => *prio,
         Decl::Item(_) => 0,
+        Decl::Sem(_, _, _) => 0,
+        Decl::Msgq(_, _, _) => 0,
     }
 }
 
