@@ -1,5 +1,5 @@
 -- The attempts of a player name items and queues that are declared.
-use Rattle.std.proofs.Common.{◌≡◌, ℕ, zero, suc, ◌+◌, Bool, true, false, Option, Some, None, List, [], ◌∷◌, length, All, refl, ap, subst, arith, nat_lt, ◌&&◌}
+use Rattle.std.proofs.Common.{◌≡◌, ℕ, zero, suc, ◌+◌, Bool, true, false, Option, Some, None, is_some, List, [], ◌∷◌, length, All, refl, ap, subst, arith, nat_lt, ◌&&◌}
 use Rattle.std.specs.Option.{option_map, option_map_or}
 use Rattle.std.specs.List.{slice_get, list_all}
 use Rattle.std.proofs.lemmas.Bool.{and_parts, and_from, lt-ltb}
@@ -7,11 +7,11 @@ use Rattle.std.proofs.lemmas.List.Elements.{All-nil, All-cons, All-head, All-tai
 use Rattle.std.proofs.lemmas.Option.{option_and_then_some}
 use Rattle.zk_base.proofs.Lists.{slice_get-one, cond_nil-at, list_all-at}
 use Rattle.zk_line.specs.declared.types.Decl.{Decl}
-use Rattle.zk_line.specs.declared.types.Decl.TheVariants.{Thread, Queue, Item}
+use Rattle.zk_line.specs.declared.types.Decl.TheVariants as decl_kinds
 use Rattle.zk_line.specs.declared.types.Ref.TheVariants.{Known}
 use Rattle.zk_line.specs.declared.types.Call.{Call}
-use Rattle.zk_line.specs.declared.types.Call.TheVariants.{Submit, Cancel, CancelSync, Flush, Schedule, Reschedule, Remaining, Start, Drain, Unplug, Tick}
-use Rattle.zk_line.specs.Objects.{places, is_queue, is_item, number_of, is_at}
+use Rattle.zk_line.specs.declared.types.Call.TheVariants as calls
+use Rattle.zk_line.specs.Objects.{places, is_queue, is_item, is_sem, is_msgq, number_of, is_at, size_at}
 use Rattle.zk_scenario.specs.Players.{players, calls_of}
 use Rattle.zk_scenario.specs.Parts.{Parts}
 use Rattle.zk_model_wait.specs.declared.clock.ClockOp.TheVariants as clock_ops
@@ -19,7 +19,8 @@ use Rattle.zk_model_work.specs.declared.ops.WorkOp.TheVariants as ops
 use Rattle.zk_words.specs.Numbers.{is_between}
 use Rattle.zk_words.specs.declared.timeout.Timeout.{Timeout}
 use Rattle.zk_words.specs.declared.timeout.Timeout.TheVariants.{No, Forever, Ticks}
-use Rattle.zk_line.specs.Fits.{call_fits}
+use Rattle.zk_line.specs.Checks.{is_size}
+use Rattle.zk_line.specs.Fits.{wait_fits, call_fits}
 use Rattle.zk_scenario.specs.Valid.{IsValid}
 use Rattle.zk_line.proofs.Tables.{length-places}
 use Rattle.zk_scenario.proofs.Valid.{number_of-item, number_of-queue, call_fits-calls_of}
@@ -94,21 +95,61 @@ delayed-fit decls item queue more fits =
     let second = and_parts (is_at is_queue decls queue) more first.1 in
     both-fit decls item queue (and_from (is_at is_item decls item) (is_at is_queue decls queue) first.0 second.0)
 
+-- what a call names as a semaphore or as a message queue is declared as one
+declared-at : {S : Type 0} (start : Decl → Option S) (test : Decl → Bool) (decls : List Decl) (object : ℕ) → ((decl : Decl) → test decl ≡ true → is_some (start decl) ≡ true) →
+    is_at test decls object ≡ true → is_declared start decls object ≡ true
+declared-at start test decls object each is = by_decl (slice_get decls object) is
+  where
+    by_decl : (decl : Option Decl) → option_map_or test decl false ≡ true → option_map_or (λ decl. is_some (start decl)) decl false ≡ true
+    by_decl None is = absurd (cc)
+    by_decl (Some decl) is = each decl is
+
+sem-declared : (decls : List Decl) (sem : ℕ) (more : Bool) → (is_at is_sem decls sem && more) ≡ true → is_declared sem_start decls sem ≡ true
+sem-declared decls sem more fits = declared-at sem_start is_sem decls sem starts (and_parts (is_at is_sem decls sem) more fits).0
+  where
+    starts : (decl : Decl) → is_sem decl ≡ true → is_some (sem_start decl) ≡ true
+    starts (decl_kinds.Sem name initial limit) is = refl
+    starts (decl_kinds.Thread name prio user) is = absurd (cc)
+    starts (decl_kinds.Queue name prio on) is = absurd (cc)
+    starts (decl_kinds.Item name) is = absurd (cc)
+    starts (decl_kinds.Msgq name size capacity) is = absurd (cc)
+
+msgq-declared : (decls : List Decl) (queue : ℕ) (more : Bool) → (is_at is_msgq decls queue && more) ≡ true → is_declared msgq_start decls queue ≡ true
+msgq-declared decls queue more fits = declared-at msgq_start is_msgq decls queue starts (and_parts (is_at is_msgq decls queue) more fits).0
+  where
+    starts : (decl : Decl) → is_msgq decl ≡ true → is_some (msgq_start decl) ≡ true
+    starts (decl_kinds.Msgq name size capacity) is = refl
+    starts (decl_kinds.Thread name prio user) is = absurd (cc)
+    starts (decl_kinds.Queue name prio on) is = absurd (cc)
+    starts (decl_kinds.Item name) is = absurd (cc)
+    starts (decl_kinds.Sem name initial limit) is = absurd (cc)
+
 plan_of-fits : (decls : List Decl) (call : Call) → call_fits decls call ≡ true → PlanFits decls (plan_of decls call)
 unfolding PlanFits
-plan_of-fits decls (Submit (Known item) None) fits =
+plan_of-fits decls (calls.Submit (Known item) None) fits =
     and_from (nat_lt (number_of decls item) (length (places is_item decls))) true (item-alone decls item fits) refl
-plan_of-fits decls (Submit (Known item) (Some (Known queue))) fits = both-fit decls item queue fits
-plan_of-fits decls (Cancel (Known item)) fits = item-alone decls item fits
-plan_of-fits decls (CancelSync (Known item)) fits = item-alone decls item fits
-plan_of-fits decls (Flush (Known item)) fits = item-alone decls item fits
-plan_of-fits decls (Schedule (Known item) (Known queue) delay) fits = delayed-fit decls item queue (is_between 0 1000000 delay && true) fits
-plan_of-fits decls (Reschedule (Known item) (Known queue) delay) fits = delayed-fit decls item queue (is_between 0 1000000 delay && true) fits
-plan_of-fits decls (Remaining (Known item)) fits = item-alone decls item fits
-plan_of-fits decls (Start (Known queue)) fits = queue-first decls queue true fits
-plan_of-fits decls (Drain (Known queue) plug) fits = queue-first decls queue true fits
-plan_of-fits decls (Unplug (Known queue)) fits = queue-first decls queue true fits
-plan_of-fits decls (Tick ticks) fits = (refl, refl)
+plan_of-fits decls (calls.Submit (Known item) (Some (Known queue))) fits = both-fit decls item queue fits
+plan_of-fits decls (calls.Cancel (Known item)) fits = item-alone decls item fits
+plan_of-fits decls (calls.CancelSync (Known item)) fits = item-alone decls item fits
+plan_of-fits decls (calls.Flush (Known item)) fits = item-alone decls item fits
+plan_of-fits decls (calls.Schedule (Known item) (Known queue) delay) fits = delayed-fit decls item queue (is_between 0 1000000 delay && true) fits
+plan_of-fits decls (calls.Reschedule (Known item) (Known queue) delay) fits = delayed-fit decls item queue (is_between 0 1000000 delay && true) fits
+plan_of-fits decls (calls.Remaining (Known item)) fits = item-alone decls item fits
+plan_of-fits decls (calls.Start (Known queue)) fits = queue-first decls queue true fits
+plan_of-fits decls (calls.Drain (Known queue) plug) fits = queue-first decls queue true fits
+plan_of-fits decls (calls.Unplug (Known queue)) fits = queue-first decls queue true fits
+plan_of-fits decls (calls.Tick ticks) fits = (refl, refl)
+plan_of-fits decls (calls.Take (Known sem) timeout) fits = sem-declared decls sem (wait_fits timeout && true) fits
+plan_of-fits decls (calls.Give (Known sem)) fits = sem-declared decls sem true fits
+plan_of-fits decls (calls.Reset (Known sem)) fits = sem-declared decls sem true fits
+plan_of-fits decls (calls.Count (Known sem)) fits = sem-declared decls sem true fits
+plan_of-fits decls (calls.Put (Known queue) message timeout) fits = msgq-declared decls queue (is_size (size_at decls queue) (length message) && (wait_fits timeout && true)) fits
+plan_of-fits decls (calls.Get (Known queue) timeout) fits = msgq-declared decls queue (wait_fits timeout && true) fits
+plan_of-fits decls (calls.Peek (Known queue)) fits = msgq-declared decls queue true fits
+plan_of-fits decls (calls.PeekAt (Known queue) index) fits = msgq-declared decls queue (is_between 0 255 index && true) fits
+plan_of-fits decls (calls.Purge (Known queue)) fits = msgq-declared decls queue true fits
+plan_of-fits decls (calls.Used (Known queue)) fits = msgq-declared decls queue true fits
+plan_of-fits decls (calls.Free (Known queue)) fits = msgq-declared decls queue true fits
 
 -- the steps of a wait are at its object
 open-fits : (decls : List Decl) (waiting : Waiting) (waits : Bool) → waiting_fits decls waiting ≡ true → step_fits decls (open_step waiting waits) ≡ true
@@ -225,9 +266,9 @@ pub after-fits : (s : Parts) (at : At) (made : Step) (reply : StepReply) → Fra
 after-fits s at made reply fits = frames_after-fit s at.frames (frames_progress s at.frames made reply) fits
 
 role_at-fits : (decls : List Decl) (object : ℕ) (decl : Decl) → slice_get decls object ≡ Some decl → role_fits decls (role_at decl object) ≡ true
-role_at-fits decls object (Thread name prio user) is = refl
-role_at-fits decls object (Queue name prio on) is = ap (λ (o : Option Decl). option_map_or is_queue o false) is
-role_at-fits decls object (Item name) is = refl
+role_at-fits decls object (decl_kinds.Thread name prio user) is = refl
+role_at-fits decls object (decl_kinds.Queue name prio on) is = ap (λ (o : Option Decl). option_map_or is_queue o false) is
+role_at-fits decls object decl is = refl
 
 starting-fits : (s : Parts) (number object : ℕ) (decl : Decl) → slice_get s.decls object ≡ Some decl → FramesFit s.decls (starting s number object decl).frames
 starting-fits s number object decl is =

@@ -39,6 +39,10 @@ use Rattle.zk_worker.specs.declared.frames.Stage.TheVariants.{Start, Waits, Half
 use Rattle.zk_worker.specs.declared.frames.Progress.{Progress}
 use Rattle.zk_worker.specs.declared.frames.Progress.TheVariants.{Goes, Answers}
 
+-- the object number of an object that a call names
+abbrev pub ref_object : Ref → ℕ
+ref_object (Known object) = object
+
 -- an object that a call names, by its number among those of its kind
 abbrev pub ref_number : List Decl → Ref → ℕ
 ref_number decls (Known object) = number_of decls object
@@ -63,6 +67,18 @@ plan_of decls (calls.Drain queue plug) =
 plan_of decls (calls.Unplug queue) = One (steps.Work (ops.Unplug (ref_number decls queue)))
 plan_of decls (calls.Tick ticks) =
     Twice (steps.Work (ops.Announce ticks)) (steps.Clock (clock_ops.Announce ticks))
+plan_of decls (calls.Take sem timeout) = Wait (Take (ref_object sem)) timeout
+plan_of decls (calls.Give sem) = One (steps.Sem (ref_object sem) sem_ops.Give)
+plan_of decls (calls.Reset sem) = One (steps.Sem (ref_object sem) sem_ops.Reset)
+plan_of decls (calls.Count sem) = One (steps.Sem (ref_object sem) sem_ops.Count)
+plan_of decls (calls.Put queue message timeout) = Wait (Put (ref_object queue) message) timeout
+plan_of decls (calls.Get queue timeout) = Wait (Get (ref_object queue)) timeout
+plan_of decls (calls.Peek queue) = One (steps.Msgq (ref_object queue) msgq_ops.Peek)
+plan_of decls (calls.PeekAt queue index) =
+    One (steps.Msgq (ref_object queue) (msgq_ops.PeekAt index))
+plan_of decls (calls.Purge queue) = One (steps.Msgq (ref_object queue) msgq_ops.Purge)
+plan_of decls (calls.Used queue) = One (steps.Msgq (ref_object queue) msgq_ops.Used)
+plan_of decls (calls.Free queue) = One (steps.Msgq (ref_object queue) msgq_ops.Free)
 
 -- what a submission answers
 abbrev pub submission_answer : Submitted → Answer

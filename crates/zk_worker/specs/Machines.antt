@@ -3,7 +3,7 @@ use Rattle.std.specs.List.{range_with_len}
 use Rattle.std.specs.Option.{option_map_or}
 use Rattle.zk_base.specs.Legal.{Machine}
 use Rattle.zk_line.specs.declared.types.Decl.{Decl}
-use Rattle.zk_line.specs.declared.types.Decl.TheVariants.{Queue}
+use Rattle.zk_line.specs.declared.types.Decl.TheVariants as decls
 use Rattle.zk_scenario.specs.Parts.{Parts}
 use Rattle.zk_line.specs.Objects.{places, number_of, is_at, is_thread, is_queue, is_item}
 use Rattle.zk_model_wait.specs.declared.clock.ClockOp.{ClockOp}
@@ -13,8 +13,8 @@ use Rattle.zk_model_wait.specs.declared.msgq.MsgqOp.{MsgqOp}
 use Rattle.zk_model_wait.specs.declared.msgq.MsgqReply.{MsgqReply}
 use Rattle.zk_model_wait.specs.declared.sem.SemOp.{SemOp}
 use Rattle.zk_model_wait.specs.declared.sem.SemReply.{SemReply}
-use Rattle.zk_model_wait.specs.Msgq.{Msgq, msgq_machine}
-use Rattle.zk_model_wait.specs.Sem.{Sem, sem_machine}
+use Rattle.zk_model_wait.specs.Msgq.{Msgq, new_msgq, msgq_machine}
+use Rattle.zk_model_wait.specs.Sem.{Sem, new_sem, sem_machine}
 use Rattle.zk_model_work.specs.declared.ops.WorkOp.{WorkOp}
 use Rattle.zk_model_work.specs.declared.ops.WorkReply.{WorkReply}
 use Rattle.zk_model_work.specs.State.{State, start_of}
@@ -27,7 +27,7 @@ workers decls = range_with_len (length (places is_thread decls)) (length (places
 
 -- whether a declaration is of a queue that is started at first
 abbrev pub is_started : Decl → Bool
-is_started (Queue name prio on) = on
+is_started (decls.Queue name prio on) = on
 is_started decl = false
 
 -- whether an object is a queue that is started at first
@@ -51,10 +51,12 @@ items_of decls = map (item_number decls) (range_with_len 0 (length decls))
 
 -- the state that a declaration starts a semaphore in, if it declares one
 abbrev pub sem_start : Decl → Option Sem
+sem_start (decls.Sem name initial limit) = Some (new_sem initial limit)
 sem_start decl = None
 
 -- the state that a declaration starts a message queue in, if it declares one
 abbrev pub msgq_start : Decl → Option Msgq
+msgq_start (decls.Msgq name size capacity) = Some (new_msgq capacity)
 msgq_start decl = None
 
 -- the machine of each service, and the state that it starts in; and by object number the number of each item at the work service

@@ -1,5 +1,7 @@
 ghost use Rattle.std.specs.Prelude.{◌≡◌, slice_get, option_map};
-ghost use Rattle.zk_worker.specs.Calls.{ref_number, plan_of, submission_answer, work_answer, sem_answer, msgq_answer, answer_of, closing_step, open_step, end_step, quit_step, first_step, wait_attempts, plan_attempts, opening_progress, until, wait_progress, plan_progress};
+ghost use Rattle.zk_worker.specs.Calls.{ref_object, ref_number, plan_of, submission_answer, work_answer, sem_answer, msgq_answer, answer_of};
+ghost use Rattle.zk_worker.specs.Calls.{closing_step, open_step, end_step, quit_step, first_step, wait_attempts, plan_attempts};
+ghost use Rattle.zk_worker.specs.Calls.{opening_progress, until, wait_progress, plan_progress};
 
 use crate::{Answer, Closing, Plan, Progress, Stage, Step, StepReply, Waiting, Word};
 use zk_base::Errno;
@@ -8,11 +10,17 @@ use zk_model_work::{Submitted, WorkOp, WorkReply};
 use zk_scenario::{Call, Ref, Scenario};
 use zk_words::Timeout;
 
+fn ref_object(named: Ref) -> u32
+    ensures { result ≡ ref_object named }
+{
+    let Ref::Known(object) = named;
+    object
+}
+
 fn ref_number(scenario: &Scenario, named: Ref) -> u32
     ensures { result ≡ ref_number scenario.now.decls named }
 {
-    let Ref::Known(object) = named;
-    scenario.number(object)
+    scenario.number(ref_object(named))
 }
 
 fn queue_number(scenario: &Scenario, named: Option<Ref>) -> Option<u32>
@@ -38,6 +46,48 @@ fn pair(opening: WorkOp, closing: Closing) -> Plan
     Plan::Pair(Step::Work(opening), closing)
 }
 
+fn cancel_sync(item: u32) -> Plan
+    ensures { result ≡ Plan.Pair (Step.Work (WorkOp.CancelStart item)) Closing.Cancel }
+{
+    pair(WorkOp::CancelStart(item), Closing::Cancel)
+}
+
+fn flush(item: u32) -> Plan
+    ensures { result ≡ Plan.Pair (Step.Work (WorkOp.FlushStart item)) Closing.Flush }
+{
+    pair(WorkOp::FlushStart(item), Closing::Flush)
+}
+
+fn drain(queue: u32, plug: bool) -> Plan
+    ensures { result ≡ Plan.Pair (Step.Work (WorkOp.DrainStart queue plug)) Closing.Drain }
+{
+    pair(WorkOp::DrainStart(queue, plug), Closing::Drain)
+}
+
+/// Both services that have a time go on by so many ticks.
+fn tick(ticks: u32) -> Plan
+    ensures { result ≡ Plan.Twice (Step.Work (WorkOp.Announce ticks)) (Step.Clock (ClockOp.Announce ticks)) }
+{
+    Plan::Twice(
+        Step::Work(WorkOp::Announce(ticks)),
+        Step::Clock(ClockOp::Announce(ticks)),
+    )
+}
+
+/// One step at a semaphore.
+fn at_sem(sem: Ref, op: SemOp) -> Plan
+    ensures { result ≡ Plan.One (Step.Sem (ref_object sem) op) }
+{
+    Plan::One(Step::Sem(ref_object(sem), op))
+}
+
+/// One step at a message queue.
+fn at_msgq(queue: Ref, op: MsgqOp) -> Plan
+    ensures { result ≡ Plan.One (Step.Msgq (ref_object queue) op) }
+{
+    Plan::One(Step::Msgq(ref_object(queue), op))
+}
+
 /// How a call goes.
 pub fn plan_of(scenario: &Scenario, call: Call) -> Plan
     ensures { result ≡ plan_of scenario.now.decls call }
@@ -48,16 +98,8 @@ pub fn plan_of(scenario: &Scenario, call: Call) -> Plan
             queue_number(scenario, queue),
         )),
         Call::Cancel(item) => one(WorkOp::Cancel(ref_number(scenario, item))),
-        Call::CancelSync(item) => {
-            pair(
-                WorkOp::CancelStart(ref_number(scenario, item)),
-                Closing::Cancel,
-            )
-        }
-        Call::Flush(item) => pair(
-            WorkOp::FlushStart(ref_number(scenario, item)),
-            Closing::Flush,
-        ),
+        Call::CancelSync(item) => cancel_sync(ref_number(scenario, item)),
+        Call::Flush(item) => flush(ref_number(scenario, item)),
         Call::Schedule(item, queue, delay) => one(WorkOp::Schedule(
             ref_number(scenario, item),
             ref_number(scenario, queue),
@@ -70,15 +112,22 @@ pub fn plan_of(scenario: &Scenario, call: Call) -> Plan
         )),
         Call::Remaining(item) => one(WorkOp::Remaining(ref_number(scenario, item))),
         Call::Start(queue) => one(WorkOp::Start(ref_number(scenario, queue))),
-        Call::Drain(queue, plug) => pair(
-            WorkOp::DrainStart(ref_number(scenario, queue), plug),
-            Closing::Drain,
-        ),
+        Call::Drain(queue, plug) => drain(ref_number(scenario, queue), plug),
         Call::Unplug(queue) => one(WorkOp::Unplug(ref_number(scenario, queue))),
-        Call::Tick(ticks) => Plan::Twice(
-            Step::Work(WorkOp::Announce(ticks)),
-            Step::Clock(ClockOp::Announce(ticks)),
-        ),
+        Call::Tick(ticks) => tick(ticks),
+        Call::Take(sem, timeout) => Plan::Wait(Waiting::Take(ref_object(sem)), timeout),
+        Call::Give(sem) => at_sem(sem, SemOp::Give),
+        Call::Reset(sem) => at_sem(sem, SemOp::Reset),
+        Call::Count(sem) => at_sem(sem, SemOp::Count),
+        Call::Put(queue, message, timeout) => {
+            Plan::Wait(Waiting::Put(ref_object(queue), message), timeout)
+        }
+        Call::Get(queue, timeout) => Plan::Wait(Waiting::Get(ref_object(queue)), timeout),
+        Call::Peek(queue) => at_msgq(queue, MsgqOp::Peek),
+        Call::PeekAt(queue, index) => at_msgq(queue, MsgqOp::PeekAt(index)),
+        Call::Purge(queue) => at_msgq(queue, MsgqOp::Purge),
+        Call::Used(queue) => at_msgq(queue, MsgqOp::Used),
+        Call::Free(queue) => at_msgq(queue, MsgqOp::Free),
     }
 }
 
