@@ -11,6 +11,10 @@ use Rattle.zk_base.proofs.Lists.{and_second, cond_nil-at, All-at, list_all-at}
 use Rattle.zk_base.specs.Legal.{state_after}
 use Rattle.zk_model_wait.specs.declared.clock.ClockOp.{ClockOp}
 use Rattle.zk_model_wait.specs.declared.clock.ClockReply.{ClockReply}
+use Rattle.zk_model_wait.specs.declared.sem.SemOp.{SemOp}
+use Rattle.zk_model_wait.specs.declared.sem.SemReply.{SemReply}
+use Rattle.zk_model_wait.specs.declared.msgq.MsgqOp.{MsgqOp}
+use Rattle.zk_model_wait.specs.declared.msgq.MsgqReply.{MsgqReply}
 use Rattle.zk_model_wait.specs.Clock.{new_clock, clock_reply, clock_machine}
 use Rattle.zk_model_work.specs.declared.ops.WorkOp.{WorkOp}
 use Rattle.zk_model_work.specs.declared.ops.WorkOp.TheVariants as ops
@@ -222,23 +226,28 @@ ending-is s w valid run =
     ending-good s w (subst (λ (v : World). IsGood s v) (sym run.1) (good-rounds s run.0 valid)) run.2
 
 -- equal parts make equal traces
-Trace-same : (e e' : Ending) (h h' : List (Entry WorkOp WorkReply)) (c c' : List (Entry ClockOp ClockReply)) (l l' : List Log) → e ≡ e' → h ≡ h' → c ≡ c' → l ≡ l' →
-    ◌≡◌ {A = Trace} (record { ending = e; work = h; clock = c; logs = l }) (record { ending = e'; work = h'; clock = c'; logs = l' })
-Trace-same e e' h h' c c' l l' ee eh ec el =
-    let P : Trace → Type 0 = λ x. ◌≡◌ {A = Trace} (record { ending = e; work = h; clock = c; logs = l }) x in
-    subst (λ (x : List Log). P (record { ending = e'; work = h'; clock = c'; logs = x })) el
-    (subst (λ (x : List (Entry ClockOp ClockReply)). P (record { ending = e'; work = h'; clock = x; logs = l })) ec
-    (subst (λ (x : List (Entry WorkOp WorkReply)). P (record { ending = e'; work = x; clock = c; logs = l })) eh
-    (subst (λ (x : Ending). P (record { ending = x; work = h; clock = c; logs = l })) ee refl)))
+Trace-same : (e e' : Ending) (h h' : List (Entry WorkOp WorkReply)) (c c' : List (Entry ClockOp ClockReply)) (m m' : List (List (Entry SemOp SemReply)))
+    (q q' : List (List (Entry MsgqOp MsgqReply))) (l l' : List Log) → e ≡ e' → h ≡ h' → c ≡ c' → m ≡ m' → q ≡ q' → l ≡ l' →
+    ◌≡◌ {A = Trace} (record { ending = e; work = h; clock = c; sems = m; msgqs = q; logs = l }) (record { ending = e'; work = h'; clock = c'; sems = m'; msgqs = q'; logs = l' })
+Trace-same e e' h h' c c' m m' q q' l l' ee eh ec em eq el =
+    let P : Trace → Type 0 = λ x. ◌≡◌ {A = Trace} (record { ending = e; work = h; clock = c; sems = m; msgqs = q; logs = l }) x in
+    subst (λ (x : List Log). P (record { ending = e'; work = h'; clock = c'; sems = m'; msgqs = q'; logs = x })) el
+    (subst (λ (x : List (List (Entry MsgqOp MsgqReply))). P (record { ending = e'; work = h'; clock = c'; sems = m'; msgqs = x; logs = l })) eq
+    (subst (λ (x : List (List (Entry SemOp SemReply))). P (record { ending = e'; work = h'; clock = c'; sems = x; msgqs = q; logs = l })) em
+    (subst (λ (x : List (Entry ClockOp ClockReply)). P (record { ending = e'; work = h'; clock = x; sems = m; msgqs = q; logs = l })) ec
+    (subst (λ (x : List (Entry WorkOp WorkReply)). P (record { ending = e'; work = x; clock = c; sems = m; msgqs = q; logs = l })) eh
+    (subst (λ (x : Ending). P (record { ending = x; work = h; clock = c; sems = m; msgqs = q; logs = l })) ee refl)))))
 
 -- what the code hands out is the trace of the run
-pub replayed : (s : Parts) (old w : World) (ending : Ending) (work : List (Entry WorkOp WorkReply)) (clock : List (Entry ClockOp ClockReply)) (logs : List Log) → IsValid s →
+pub replayed : (s : Parts) (old w : World) (ending : Ending) (work : List (Entry WorkOp WorkReply)) (clock : List (Entry ClockOp ClockReply)) (sems : List (List (Entry SemOp SemReply)))
+    (msgqs : List (List (Entry MsgqOp MsgqReply))) (logs : List Log) → IsValid s →
     old ≡ first s → (n : ℕ) → w ≡ rounds (machines_of s) s n old → round (machines_of s) s w ≡ w →
-    ending ≡ ending_by w.players → work ≡ w.shown.work → clock ≡ w.shown.clock → logs ≡ map log_of w.players →
-    IsReplay s (record { ending = ending; work = work; clock = clock; logs = logs })
-replayed s old w ending work clock logs valid begins n so_far over end same_work same_clock log =
+    ending ≡ ending_by w.players → work ≡ w.shown.work → clock ≡ w.shown.clock → sems ≡ w.shown.sems → msgqs ≡ w.shown.msgqs → logs ≡ map log_of w.players →
+    IsReplay s (record { ending = ending; work = work; clock = clock; sems = sems; msgqs = msgqs; logs = logs })
+replayed s old w ending work clock sems msgqs logs valid begins n so_far over end same_work same_clock same_sems same_msgqs log =
     let run : IsRun (machines_of s) s w = (n, so_far ∙ ap (rounds (machines_of s) s n) begins, over) in
-    (w, run, Trace-same ending (ending_of s w) work w.shown.work clock w.shown.clock logs (map log_of w.players) (end ∙ ending-is s w valid run) same_work same_clock log)
+    (w, run, Trace-same ending (ending_of s w) work w.shown.work clock w.shown.clock sems w.shown.sems msgqs w.shown.msgqs logs (map log_of w.players)
+    (end ∙ ending-is s w valid run) same_work same_clock same_sems same_msgqs log)
 
 -- what an ending says of the players
 ended-parts : (spent done waits : Bool) → cond spent endings.Spent (cond (done && waits) endings.Ended endings.Stuck) ≡ endings.Ended → (spent ≡ false) × (done ≡ true)
