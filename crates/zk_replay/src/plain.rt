@@ -141,12 +141,16 @@ impl Services for Plain {
                 Ok(reply.map(|reply| StepReply::Clock(reply, place)))
             }
             Step::Sem(object, op) => {
-                let made = act_at(&mut self.sems, object, who, number, op)?;
-                Ok(made.map(|made| StepReply::Sem(object, made.0, made.1)))
+                match act_at(&mut self.sems, object, who, number, op)? {
+                    Some((reply, place)) => Ok(Some(StepReply::Sem(object, reply, place))),
+                    None => Ok(None),
+                }
             }
             Step::Msgq(object, op) => {
-                let made = act_at(&mut self.msgqs, object, who, number, op)?;
-                Ok(made.map(|made| StepReply::Msgq(object, made.0, made.1)))
+                match act_at(&mut self.msgqs, object, who, number, op)? {
+                    Some((reply, place)) => Ok(Some(StepReply::Msgq(object, reply, place))),
+                    None => Ok(None),
+                }
             }
         }
     }
