@@ -5,5 +5,6 @@ pub mod Inverse
 pub mod Joined
 pub mod Lists
 pub mod Makes
+pub mod ReadTo
 pub mod Spelled
 pub mod Tables

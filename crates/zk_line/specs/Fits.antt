@@ -4,10 +4,9 @@ use Rattle.zk_words.specs.declared.slot.Slot.{Slot}
 use Rattle.zk_words.specs.declared.slot.Slot.TheVariants as slot
 use Rattle.zk_words.specs.declared.slot.Rest.{Rest}
 use Rattle.zk_words.specs.declared.slot.Rest.TheVariants.{Maybe}
-use Rattle.zk_words.specs.declared.timeout.Timeout.{Timeout}
-use Rattle.zk_words.specs.declared.timeout.Timeout.TheVariants.{Ticks}
 use Rattle.zk_words.specs.Numbers.{is_between}
 use Rattle.zk_words.specs.Table.{call_row}
+use Rattle.zk_words.specs.Timeouts.{wait_fits}
 use Rattle.zk_line.specs.declared.types.Decl.{Decl}
 use Rattle.zk_line.specs.declared.types.Decl.TheVariants.{Sem, Msgq}
 use Rattle.zk_line.specs.declared.types.Ref.{Ref}
@@ -22,11 +21,6 @@ use Rattle.zk_line.specs.Objects.{is_at, is_met}
 -- whether an object is declared and meets a need
 abbrev pub ref_fits : List Decl → Need → Ref → Bool
 ref_fits decls need (Known object) = is_at (is_met need) decls object
-
--- whether a call that waits so long waits for a number of ticks that is in range, if for any
-abbrev pub wait_fits : Timeout → Bool
-wait_fits (Ticks ticks) = is_between 1 1000000 ticks
-wait_fits wait = true
 
 -- whether what stands in a slot fits it: an object that meets the need, a number in the range, a message of the size
 abbrev pub fits_in : List Decl → Option ℕ → Slot → Arg → Bool

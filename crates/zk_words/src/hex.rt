@@ -1,5 +1,6 @@
 ghost use Rattle.std.specs.Prelude.{◌≡◌, ◌++◌, true, ◌<◌, OnOk};
-ghost use Rattle.zk_words.specs.Hex.{is_digit, digit_value, digit_of, is_hex, msg_of, hex_text};
+ghost use Rattle.std.specs.List.{list_all};
+ghost use Rattle.zk_words.specs.Hex.{is_digit, digit_value, digit_of, is_hex, msg_of, byte_text, hex_text};
 
 use zk_base::{LONGEST_MESSAGE, Msg, NoMemory};
 
@@ -7,7 +8,13 @@ use zk_base::{LONGEST_MESSAGE, Msg, NoMemory};
 pub fn is_hex(word: &[u8]) -> bool
     ensures { result ≡ is_hex word.now }
 {
-    word.iter().all(|b| is_digit(*b)) && word.len() % 2 == 0 && !word.is_empty()
+    are_digits(word) && word.len() % 2 == 0 && !word.is_empty()
+}
+
+fn are_digits(word: &[u8]) -> bool
+    ensures { result ≡ list_all is_digit word.now }
+{
+    word.iter().all(|b| is_digit(*b))
 }
 
 fn is_digit(byte: u8) -> bool
@@ -52,9 +59,16 @@ pub fn put_hex(out: &mut Vec<u8>, bytes: &[u8]) -> Result<(), NoMemory>
     ensures { OnOk result (out.new.items ≡ out.old.items ++ hex_text bytes.now) }
 {
     for byte in bytes {
-        out.push(digit_of(*byte / 16))?;
-        out.push(digit_of(*byte % 16))?;
+        put_byte(out, *byte)?;
     }
+    Ok(())
+}
+
+fn put_byte(out: &mut Vec<u8>, byte: u8) -> Result<(), NoMemory>
+    ensures { OnOk result (out.new.items ≡ out.old.items ++ byte_text byte) }
+{
+    out.push(digit_of(byte / 16))?;
+    out.push(digit_of(byte % 16))?;
     Ok(())
 }
 
