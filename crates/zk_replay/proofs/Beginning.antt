@@ -1,6 +1,6 @@
 -- The world in which nothing was done.
 use Rattle.std.proofs.Common.{◌≡◌, ◌≢◌, ◌⊎◌, ℕ, zero, suc, ◌+◌, ◌≤◌, false, Option, Some, None, option_to_list, List, [], ◌∷◌, ◌++◌, length, map, All, AllPairs, inl, inr, refl, sym, ap, ◌∙◌, arith, length-append}
-use Rattle.std.specs.List.{slice_get, range_with_len}
+use Rattle.std.specs.List.{sum_by, slice_get, range_with_len}
 use Rattle.std.proofs.lemmas.Bool.Decides.{nat_tests}
 use Rattle.std.proofs.lemmas.List.{map-append}
 use Rattle.std.proofs.lemmas.List.Elements.{All-nil, All-cons, All-append, All-weaker}
@@ -128,6 +128,11 @@ first-there s p at is = starts-there s (length (players s.decls)) (omega arith) 
 pub first-players : (s : Parts) → length (first s).players ≡ length (players s.decls)
 first-players s = length-starts s (length (players s.decls)) (omega arith)
 
+-- nothing that was done counts nothing
+none-counted : {A : Type 0} (O R : Type 0) (objects : List A) → sum_by (length {A = Entry O R}) (no_entries objects) ≡ 0
+none-counted O R [] = refl
+none-counted O R (o ∷ os) = none-counted O R os
+
 -- the first world of a valid scenario is ready
 pub ready-first : (s : Parts) → IsValid s → IsReady s (first s)
 ready-first s valid =
@@ -144,7 +149,7 @@ ready-first s valid =
       shows = λ p at is. log-none s.decls at.who.number at.spots (start_at-fresh s p at (first-there s p at is)).none_made;
       looks = λ p at is. looks-fresh (machines_of s) (nothing_shown s.decls) at.spots (start_at-fresh s p at (first-there s p at is)).none_made;
       short = All-weaker None_made Short (λ at le. omega arith) (starts s n) none;
-      counted = omega arith;
+      counted = omega (arith, none-counted SemOp SemReply s.decls, none-counted MsgqOp MsgqReply s.decls);
       whole = refl;
       unlooked = refl;
       follow = λ p at is. following-fresh s p (nothing_shown s.decls) at (first-there s p at is);

@@ -53,6 +53,7 @@ use Rattle.zk_replay.proofs.StillRounds.{first_possible-is, rounds-keep}
 use Rattle.zk_replay.proofs.Readiness.{ready-stepped}
 use Rattle.zk_replay.proofs.Beginning.{ready-first, first-players}
 use Rattle.zk_replay.proofs.Endings.{there-is}
+use Rattle.zk_replay.proofs.Legality.{run-legal}
 use Rattle.zk_replay.proofs.OneRun.{none_goes_on}
 
 -- each entry is of a player that is there
@@ -192,8 +193,14 @@ module _ (s : Parts) (w : World) (valid : IsValid s) (run : IsRun (machines_of s
         ap (option_and_then (λ (log : Log). slice_get log.steps step)) (slice_get-map log_of w.players number ∙ ap (option_map log_of) found.1) ∙ recorded;
   }
 
-  lawful-run : AreLegal s (trace_of s w) → IsLawful s (trace_of s w)
-  lawful-run legal = record {
+  -- its histories are those of the services
+  legal : AreLegal s (trace_of s w)
+  legal =
+      let shown = run-legal s w valid run in
+      record { work = shown.work; clock = shown.clock; sems = shown.sems; msgqs = shown.msgqs }
+
+  lawful-run : IsLawful s (trace_of s w)
+  lawful-run = record {
     place = placed;
     history = legal;
     log = record { logged = length-map w.players log_of ∙ run-players s w run; follow = follows };
@@ -206,8 +213,6 @@ module _ (s : Parts) (w : World) (valid : IsValid s) (run : IsRun (machines_of s
     };
   }
 
--- the trace of a run whose histories are legal is lawful
-pub lawful : (s : Parts) (t : Trace) → IsValid s → IsReplay s t → AreLegal s t → IsLawful s t
-lawful s t valid run legal =
-    subst (λ (x : Trace). IsLawful s x) (sym run.2)
-    (lawful-run s run.0 valid run.1 (subst (λ (x : Trace). AreLegal s x) run.2 legal))
+-- the trace of a run of a valid scenario is lawful
+pub lawful : (s : Parts) (t : Trace) → IsValid s → IsReplay s t → IsLawful s t
+lawful s t valid run = subst (λ (x : Trace). IsLawful s x) (sym run.2) (lawful-run s run.0 valid run.1)

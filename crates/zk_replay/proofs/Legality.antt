@@ -1,7 +1,7 @@
 -- The histories of a run are legal.
 use Rattle.std.proofs.Common.{◌≡◌, ℕ, zero, suc, true, false, Option, Some, None, List, [], ◌∷◌, ◌++◌, length, map, refl, sym, ap, subst, ◌∙◌}
 use Rattle.std.specs.List.{slice_get, AllZip}
-use Rattle.std.specs.Option.{option_map, option_and_then, option_map_or}
+use Rattle.std.specs.Option.{option_and_then, option_map_or}
 use Rattle.std.proofs.lemmas.Option.{option_and_then_some}
 use Rattle.zk_base.specs.declared.ids.Who.{Who}
 use Rattle.zk_base.specs.declared.ids.Entry.{Entry}
@@ -14,7 +14,6 @@ use Rattle.zk_worker.specs.declared.steps.Step.{Step}
 use Rattle.zk_worker.specs.declared.steps.Step.TheVariants as steps
 use Rattle.zk_worker.specs.declared.steps.StepReply.{StepReply}
 use Rattle.zk_worker.specs.declared.steps.StepReply.TheVariants as step_replies
-use Rattle.zk_worker.specs.Places.{At}
 use Rattle.zk_worker.specs.Protocol.{attempts}
 use Rattle.zk_line.specs.declared.types.Decl.{Decl}
 use Rattle.zk_model_wait.specs.Msgq.{msgq_machine}
@@ -24,16 +23,15 @@ use Rattle.zk_base.proofs.Lists.{All-at}
 use Rattle.zk_worker.specs.Machines.{Machines, machines_of, sem_start, msgq_start}
 use Rattle.zk_worker.specs.Single.{answer_in}
 use Rattle.zk_worker.specs.Families.{Family, start_of, no_entries, with_entry, answer_at, takes_at}
-use Rattle.zk_worker.specs.Shown.{Shown, shown_after, nothing_shown, IsLater}
+use Rattle.zk_worker.specs.Shown.{Shown, shown_after, IsLater}
 use Rattle.zk_worker.specs.Attempt.{reply_in, takes}
-use Rattle.zk_worker.specs.Choosing.{chosen}
 use Rattle.zk_worker.proofs.Between.{above-work, above-clock, above-sems, above-msgqs, log-later}
 use Rattle.zk_worker.proofs.Ranges.{ahead-takes}
 use Rattle.zk_worker.proofs.ShownSteps.{made-of}
 use Rattle.zk_worker.proofs.Lists.{none-passes}
 use Rattle.zk_worker.specs.Follows.{is_spent_at}
 use Rattle.zk_trace.specs.History.{IsLegalAt, EachLegal}
-use Rattle.zk_replay.specs.RoundRobin.{World, IsRun, first, stepped, rounds}
+use Rattle.zk_replay.specs.RoundRobin.{World, IsRun, first}
 use Rattle.zk_replay.specs.Ready.{IsReady}
 use Rattle.zk_replay.proofs.StillRounds.{first_possible-is, rounds-keep}
 use Rattle.zk_replay.proofs.Readiness.{ready-stepped}
