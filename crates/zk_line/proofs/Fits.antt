@@ -60,7 +60,7 @@ arg_fits decls size slot.Wait w a ranged named said =
 arg_fits decls size slot.Raw w a ranged named said = refl
 
 -- a line's words and what they say, side by side
-args_fit-read : (decls : List Decl) (size : Option ℕ) (slots : List Slot) (rest : Rest) (ws : List (List ℕ)) (args : List Arg) → each_in_range size (parts_of slots rest ws) ≡ true → are_well_named decls (parts_of slots rest ws) ≡ true
+pub args_fit-read : (decls : List Decl) (size : Option ℕ) (slots : List Slot) (rest : Rest) (ws : List (List ℕ)) (args : List Arg) → each_in_range size (parts_of slots rest ws) ≡ true → are_well_named decls (parts_of slots rest ws) ≡ true
     → args_of decls (parts_of slots rest ws) ≡ Some args → args_fit decls size slots rest args ≡ true
 args_fit-read decls size [] Nothing ws args ranged named said = refl
 args_fit-read decls size [] (Maybe s) [] args ranged named said = ap (rest_fit decls size (Maybe s)) (sym (same_Some [] args said))

@@ -1,6 +1,7 @@
 pub mod ByName
 pub mod Choices
 pub mod Fits
+pub mod InRange
 pub mod Inverse
 pub mod Joined
 pub mod Lists

@@ -1,5 +1,5 @@
 -- The tables of the declarations, with one declaration more.
-use Rattle.std.proofs.Common.{◌≡◌, ℕ, ◌+◌, ◌<◌, ◌≤◌, ◌^◌, Bool, true, false, cond, Option, None, Some, List, [], ◌∷◌, ◌++◌, length, take, slice_get, count_by, is_some, unwrap_or, refl, sym, ap, subst, ◌∙◌, ⊎_elim, arith, length-append}
+use Rattle.std.proofs.Common.{◌≡◌, ℕ, ◌+◌, ◌<◌, ◌≤◌, ◌^◌, Bool, true, false, cond, Option, None, Some, List, [], ◌∷◌, ◌++◌, length, take, slice_get, count_by, is_some, unwrap_or, refl, sym, ap, ◌∙◌, ⊎_elim, arith, length-append}
 use Rattle.std.specs.Option.{option_map_or}
 use Rattle.std.specs.Str.{bytes_eq}
 use Rattle.std.specs.Cmp.Lexicographic.{bytes_decides}
@@ -96,7 +96,7 @@ pub IsTabled-push : (ds : List Decl) (d : Decl) (threads queues items sems msgqs
     → length ds + 1 < 2 ^ 32 → object_of ds (name_of d) ≡ None → n ≡ length (own_list d threads queues items sems msgqs)
     → ((other : List ℕ) → by_name after other ≡ cond (bytes_eq (name_of d) other) (Some (length ds)) (by_name names other))
     → IsTabled (ds ++ d ∷ []) (grown is_thread d (length ds) threads) (grown is_queue d (length ds) queues) (grown is_item d (length ds) items) (grown is_sem d (length ds) sems) (grown is_msgq d (length ds) msgqs)
-      (numbers ++ n ∷ []) after
+    (numbers ++ n ∷ []) after
 IsTabled-push ds d threads queues items sems msgqs numbers n names after held few fresh number put =
     record {
       few = omega (arith, length-append ds (d ∷ []));
