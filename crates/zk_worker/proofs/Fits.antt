@@ -126,7 +126,7 @@ msgq-declared decls queue more fits = declared-at msgq_start is_msgq decls queue
     starts (decl_kinds.Sem name initial limit) is = absurd (cc)
 
 plan_of-fits : (decls : List Decl) (call : Call) → call_fits decls call ≡ true → PlanFits decls (plan_of decls call)
-unfolding PlanFits
+unfolding PlanFits waiting_fits
 plan_of-fits decls (calls.Submit (Known item) None) fits =
     and_from (nat_lt (number_of decls item) (length (places is_item decls))) true (item-alone decls item fits) refl
 plan_of-fits decls (calls.Submit (Known item) (Some (Known queue))) fits = both-fit decls item queue fits
