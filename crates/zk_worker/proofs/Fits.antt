@@ -19,8 +19,8 @@ use Rattle.zk_model_work.specs.declared.ops.WorkOp.TheVariants as ops
 use Rattle.zk_words.specs.Numbers.{is_between}
 use Rattle.zk_words.specs.declared.timeout.Timeout.{Timeout}
 use Rattle.zk_words.specs.declared.timeout.Timeout.TheVariants.{No, Forever, Ticks}
-use Rattle.zk_line.specs.Checks.{is_size}
 use Rattle.zk_words.specs.Timeouts.{wait_fits}
+use Rattle.zk_line.specs.Checks.{is_size}
 use Rattle.zk_line.specs.Fits.{call_fits}
 use Rattle.zk_scenario.specs.Valid.{IsValid}
 use Rattle.zk_line.proofs.Tables.{length-places}
