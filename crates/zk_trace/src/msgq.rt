@@ -1,7 +1,7 @@
 ghost use Rattle.std.specs.Prelude.{◌≡◌};
 ghost use Rattle.zk_trace.specs.Msgq.{verb_word, said_of, op_words, reply_parts, reply_words};
 
-use crate::parts::{FixedWord, Part, PartList, put_parts, put_said};
+use crate::parts::{FixedWord, Lent, Part, PartList, put_parts, put_said};
 use crate::spelled::Spelled;
 use zk_base::{Errno, NoMemory};
 use zk_model_wait::{MsgqOp, MsgqReply};
@@ -54,21 +54,21 @@ fn verb_word(verb: Verb) -> &'static [u8]
 }
 
 /// An operation as it is written: its verb, and what stands behind that.
-fn said_of(op: MsgqOp) -> (Verb, PartList)
-    ensures { result ≡ said_of op }
+fn said_of(op: &MsgqOp) -> (Verb, PartList<'_>)
+    ensures { result ≡ said_of op.now }
 {
     match op {
         MsgqOp::Put(message, waits) => (
             Verb::Put,
-            PartList::two(Part::Bytes(message), Part::Waits(waits)),
+            PartList::two(Part::Bytes(Lent::of(message)), Part::Waits(*waits)),
         ),
-        MsgqOp::PutEnd(place) => (Verb::PutEnd, PartList::one(Part::Place(place))),
-        MsgqOp::PutQuit(place) => (Verb::PutQuit, PartList::one(Part::Place(place))),
-        MsgqOp::Get(waits) => (Verb::Get, PartList::one(Part::Waits(waits))),
-        MsgqOp::GetEnd(place) => (Verb::GetEnd, PartList::one(Part::Place(place))),
-        MsgqOp::GetQuit(place) => (Verb::GetQuit, PartList::one(Part::Place(place))),
+        MsgqOp::PutEnd(place) => (Verb::PutEnd, PartList::one(Part::Place(*place))),
+        MsgqOp::PutQuit(place) => (Verb::PutQuit, PartList::one(Part::Place(*place))),
+        MsgqOp::Get(waits) => (Verb::Get, PartList::one(Part::Waits(*waits))),
+        MsgqOp::GetEnd(place) => (Verb::GetEnd, PartList::one(Part::Place(*place))),
+        MsgqOp::GetQuit(place) => (Verb::GetQuit, PartList::one(Part::Place(*place))),
         MsgqOp::Peek => (Verb::Peek, PartList::none()),
-        MsgqOp::PeekAt(index) => (Verb::PeekAt, PartList::one(Part::Narrow(index))),
+        MsgqOp::PeekAt(index) => (Verb::PeekAt, PartList::one(Part::Narrow(*index))),
         MsgqOp::Purge => (Verb::Purge, PartList::none()),
         MsgqOp::Used => (Verb::Used, PartList::none()),
         MsgqOp::Free => (Verb::Free, PartList::none()),
@@ -76,16 +76,16 @@ fn said_of(op: MsgqOp) -> (Verb, PartList)
 }
 
 /// The parts of a reply.
-fn reply_parts(reply: MsgqReply) -> PartList
-    ensures { result ≡ reply_parts reply }
+fn reply_parts(reply: &MsgqReply) -> PartList<'_>
+    ensures { result ≡ reply_parts reply.now }
 {
     match reply {
         MsgqReply::Done => PartList::one(Part::Fixed(FixedWord::Done)),
         MsgqReply::NoMsg => PartList::one(Part::Refusal(Errno::NoMsg)),
         MsgqReply::Wait => PartList::one(Part::Fixed(FixedWord::Wait)),
         MsgqReply::Again => PartList::one(Part::Refusal(Errno::Again)),
-        MsgqReply::Bytes(message) => PartList::one(Part::Bytes(message)),
-        MsgqReply::Number(number) => PartList::one(Part::Narrow(number)),
+        MsgqReply::Bytes(message) => PartList::one(Part::Bytes(Lent::of(message))),
+        MsgqReply::Number(number) => PartList::one(Part::Narrow(*number)),
     }
 }
 
@@ -93,8 +93,8 @@ impl Spelled for MsgqOp {
     ghost words = { op_words };
 
     fn put_words(&self, out: &mut Vec<u8>, scenario: &Scenario) -> Result<(), NoMemory> {
-        let (verb, parts) = said_of(*self);
-        put_said(out, scenario, verb_word(verb), parts.items())
+        let (verb, parts) = said_of(self);
+        put_said(out, scenario, verb_word(verb), &parts)
     }
 }
 
@@ -102,6 +102,6 @@ impl Spelled for MsgqReply {
     ghost words = { reply_words };
 
     fn put_words(&self, out: &mut Vec<u8>, scenario: &Scenario) -> Result<(), NoMemory> {
-        put_parts(out, scenario, b' ', reply_parts(*self).items())
+        put_parts(out, scenario, b' ', &reply_parts(self))
     }
 }

@@ -55,7 +55,12 @@ fn put_object<O: Spelled, R: Spelled>(
         out.old.items ++ object_section O.words R.words scenario.now.decls object history.now) }
     ensures kept { OnErr result (StaysInFront out.old.items out.new.items) }
 {
-    put_service(out, scenario, name_at(scenario, object), history.items())
+    put_service(
+        out,
+        scenario,
+        name_at(scenario.decls(), object),
+        history.items(),
+    )
 }
 
 fn put_service_head(out: &mut Vec<u8>, name: &[u8]) -> Result<(), NoMemory>

@@ -78,7 +78,8 @@ fn announced(alloc: Global) -> Result<WorkReply, Fail> {
 fn history<O: Copy, R: Copy>(alloc: Global, done: &[(O, R)]) -> Result<History<O, R>, Fail> {
     let mut entries = Listed::new(alloc);
     for (step, (op, reply)) in done.iter().enumerate() {
-        entries.push(entry(0, step as u32, *op, *reply))?;
+        let step = u32::try_from(step).map_err(|_| "a step")?;
+        entries.push(entry(0, step, *op, *reply))?;
     }
     Ok(entries)
 }
