@@ -6,5 +6,6 @@ pub mod Endings
 pub mod WorkerRuns
 pub mod StillRounds
 pub mod OneRun
+pub mod Legality
 pub mod Lawful
 pub mod Among

@@ -12,5 +12,5 @@ mod tests;
 mod turns;
 
 pub use laws::{none_goes_on, one_run};
-pub use objects::act_at;
+pub use objects::{act_at, histories_of};
 pub use run::replay;

@@ -111,7 +111,7 @@ impl Reader {
         if self.is_misplaced(head, parts.again()) {
             return Ok(Some(Why::Order));
         }
-        match weigh(args, &self.objects, parts)? {
+        match weigh(args, &self.objects, head, parts)? {
             Some(Wrong::OutOfRange) => Ok(Some(Why::Number)),
             Some(Wrong::Misnamed) => Ok(Some(Why::Name)),
             None => {
@@ -208,6 +208,7 @@ impl Reader {
         parts: Parts<'_>,
         args: &[Arg],
     ) -> Result<bool, NoMemory>
+        requires form { IsForm (Head.Declare kind) parts }
         requires passes { verdict self.old (Head.Declare kind) parts ≡ None }
         requires said { args_of self.old.decls parts ≡ Some args.now }
         ensures { IfOk result (λ done. after self.old (Head.Declare kind) parts.entry ≡ accepted done self.new) }
@@ -308,6 +309,8 @@ fn most(kind: Kind) -> usize
         Kind::Thread => 64,
         Kind::Queue => 8,
         Kind::Item => 256,
+        Kind::Sem => 32,
+        Kind::Msgq => 16,
     }
 }
 
