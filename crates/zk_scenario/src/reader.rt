@@ -124,32 +124,39 @@ impl Reader {
         }
     }
 
-    /// Reads a line without its line feed. The answer is the reason why it is refused, if it is.
-    pub fn read_line(&mut self, alloc: Global, line: &[u8]) -> Result<Option<Why>, NoMemory>
+    /// Reads a line without its line feed. The answer is the reason why it is refused, if it is. The arguments
+    /// are room for what its words say: what stood there is lost.
+    pub fn read_line(
+        &mut self,
+        alloc: Global,
+        args: &mut Args,
+        line: &[u8],
+    ) -> Result<Option<Why>, NoMemory>
         ensures { IfOk result (λ refusal. read_line self.old line.now ≡ answered refusal self.new) }
     {
         match line_of(line) {
             Line::Unbuilt => Ok(Some(Why::Unbuilt)),
             Line::Misspelled => Ok(Some(Why::Line)),
-            Line::Formed(head, parts) => self.read_form(alloc, head, parts),
+            Line::Formed(head, parts) => self.read_form(alloc, args, head, &parts),
         }
     }
 
     fn read_form(
         &mut self,
         alloc: Global,
+        args: &mut Args,
         head: Head,
-        parts: Parts<'_>,
+        parts: &Parts<'_>,
     ) -> Result<Option<Why>, NoMemory>
-        requires { IsForm head parts }
+        requires { IsForm head parts.now }
         ensures { IfOk result (λ refusal.
-            told (verdict self.old head parts.entry) (after self.old head parts.entry) ≡ answered refusal self.new) }
+            told (verdict self.old head parts.now) (after self.old head parts.now) ≡ answered refusal self.new) }
     {
-        let mut args = Args::new(alloc);
-        if let Some(reason) = self.judge(&mut args, head, &parts)? {
+        args.clear();
+        if let Some(reason) = self.judge(args, head, parts)? {
             return Ok(Some(reason));
         }
-        if self.accept(alloc, head, &parts, args.items())? {
+        if self.accept(alloc, head, parts, args.items())? {
             Ok(None)
         } else {
             Ok(Some(Why::Line))
