@@ -1,4 +1,4 @@
-use Rattle.std.specs.Prelude.{ℕ, Bool, true, nat_le, ◌&&◌, Option, None, List, [], ◌∷◌, length}
+use Rattle.std.specs.Prelude.{ℕ, Bool, true, nat_le, ◌&&◌, Option, List, [], ◌∷◌, length}
 use Rattle.zk_words.specs.declared.kind.Need.{Need}
 use Rattle.zk_words.specs.declared.slot.Slot.{Slot}
 use Rattle.zk_words.specs.declared.slot.Slot.TheVariants as slot

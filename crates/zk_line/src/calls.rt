@@ -2,8 +2,8 @@ ghost use Rattle.std.specs.Prelude.{◌≡◌, [], ◌∷◌};
 ghost use Rattle.zk_line.specs.Calls.{saying, call_of, said_of, word_of};
 
 use crate::shapes::{
-    object_bytes_wait, object_maybe, object_number, object_truth, object_wait, one_number, one_object,
-    two_objects_number,
+    object_bytes_wait, object_maybe, object_number, object_truth, object_wait, one_number,
+    one_object, two_objects_number,
 };
 use crate::types::{Arg, Call, Ref};
 use std::marker::Model;

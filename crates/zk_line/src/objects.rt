@@ -35,7 +35,7 @@ impl Model for Objects {
 
     ghost invariant = { λ a.
         IsTabled a.decls.items a.threads.items a.queues.items a.items.items a.sems.items a.msgqs.items
-            a.numbers.items a.names };
+        a.numbers.items a.names };
 }
 
 impl Objects {

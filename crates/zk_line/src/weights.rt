@@ -30,6 +30,7 @@ pub enum Wrong {
 
 /// What speaks against the words of a line; where nothing does, the arguments are what they say. Each
 /// name is looked up once.
+#[tactic(auto, using(crate::proofs::ReadTo::in_range_next))]
 pub fn weigh(
     args: &mut Args,
     objects: &Objects,

@@ -208,6 +208,7 @@ impl Reader {
         parts: Parts<'_>,
         args: &[Arg],
     ) -> Result<bool, NoMemory>
+        requires form { IsForm (Head.Declare kind) parts }
         requires passes { verdict self.old (Head.Declare kind) parts ≡ None }
         requires said { args_of self.old.decls parts ≡ Some args.now }
         ensures { IfOk result (λ done. after self.old (Head.Declare kind) parts.entry ≡ accepted done self.new) }

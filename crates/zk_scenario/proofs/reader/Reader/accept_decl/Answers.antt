@@ -11,4 +11,4 @@ declare-requires-clause-fresh c =
 
 pub declare-requires-clause-valid : goal.declare-requires-clause-valid
 declare-requires-clause-valid c =
-    IsValid-declared-is _ _ c.args.kind c.args.parts _ c.self.view_is c.self.invariant.valid c.requires.passes (search rules)
+    IsValid-declared-is _ _ c.args.kind c.args.parts _ c.self.view_is c.self.invariant.valid c.requires.form c.requires.passes (search rules)
