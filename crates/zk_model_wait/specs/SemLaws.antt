@@ -48,7 +48,7 @@ takes_one e = is_got e.reply
 abbrev pub held : Sem → ℕ
 held s = count_by (λ d. is_got d.answer) s.takers.decided
 
--- what is thrown away by an operation: a reset throws the count away, and a give its one where nobody waits and the count is at the limit
+-- what is thrown away by an operation: by a reset the count, by a give its one where nobody waits and the count is at the limit
 abbrev pub wasted_at : List (Waiter Unit) → ℕ → ℕ → ℕ
 wasted_at [] limit count = if nat_lt count limit then 0 else 1
 wasted_at (w ∷ ws) limit count = 0
@@ -79,7 +79,8 @@ CountWithinLimit s h = (sem_after_all s h).count ≤ s.limit
 abbrev pub NoneWaitsWhileCount : Sem → SemHistory → Type 0
 NoneWaitsWhileCount s h = 0 < (sem_after_all s h).count → (sem_after_all s h).takers.waiting ≡ []
 
--- gives add up: the first count and all that was given are what was taken, what is taken and not told yet, the count, and what was thrown away
+-- gives add up: the first count and all that was given are what was taken, what is taken and not told yet,
+-- the count, and what was thrown away
 abbrev pub GivesAddUp : Sem → SemHistory → Type 0
 GivesAddUp s h =
     s.count + count_by is_give h
