@@ -58,7 +58,11 @@ fn play(alloc: Global, scenario: &Scenario) -> Option<Trace> {
 
 /// How many entries the histories have together.
 fn entries(trace: &Trace) -> usize {
-    let mut count = trace.work.items().len().saturating_add(trace.clock.items().len());
+    let mut count = trace
+        .work
+        .items()
+        .len()
+        .saturating_add(trace.clock.items().len());
     for history in trace.sems.items() {
         count = count.saturating_add(history.items().len());
     }

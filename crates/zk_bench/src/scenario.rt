@@ -49,12 +49,13 @@ fn script(text: &mut String, thread: u32, calls: Calls) -> Result<(), AllocError
     text.push_str("end\n")
 }
 
-/// The call of a thread that hands on, or of one that takes: what it gets, and what it is given, in turn.
+/// The call of a thread of the first half, which waits, or of one of the second, which serves it: messages, and a
+/// semaphore, in turn.
 fn hand_on(thread: u32, call: u32) -> &'static str {
-    match (thread % 2, call % 2) {
-        (0, 0) => "put m0 01020304 forever\n",
-        (0, _) => "give s0\n",
-        (_, 0) => "get m0 forever\n",
-        _ => "take s0 forever\n",
+    match (thread < THREADS / 2, call % 2) {
+        (true, 0) => "get m0 forever\n",
+        (true, _) => "take s0 forever\n",
+        (false, 0) => "put m0 01020304 forever\n",
+        (false, _) => "give s0\n",
     }
 }

@@ -245,9 +245,12 @@ pub replayed : (s : Parts) (old w : World) (ending : Ending) (work : List (Entry
     ending ≡ ending_by w.players → work ≡ w.shown.work → clock ≡ w.shown.clock → sems ≡ w.shown.sems → msgqs ≡ w.shown.msgqs → logs ≡ map log_of w.players →
     IsReplay s (record { ending = ending; work = work; clock = clock; sems = sems; msgqs = msgqs; logs = logs })
 replayed s old w ending work clock sems msgqs logs valid begins n so_far over end same_work same_clock same_sems same_msgqs log =
-    let run : IsRun (machines_of s) s w = (n, so_far ∙ ap (rounds (machines_of s) s n) begins, over) in
-    (w, run, Trace-same ending (ending_of s w) work w.shown.work clock w.shown.clock sems w.shown.sems msgqs w.shown.msgqs logs (map log_of w.players)
-    (end ∙ ending-is s w valid run) same_work same_clock same_sems same_msgqs log)
+    let run : IsRun (machines_of s) s w = (n, so_far ∙ ap (rounds (machines_of s) s n) begins, over) in (
+      w,
+      run,
+      Trace-same ending (ending_of s w) work w.shown.work clock w.shown.clock sems w.shown.sems msgqs w.shown.msgqs logs (map log_of w.players)
+          (end ∙ ending-is s w valid run) same_work same_clock same_sems same_msgqs log,
+    )
 
 -- what an ending says of the players
 ended-parts : (spent done waits : Bool) → cond spent endings.Spent (cond (done && waits) endings.Ended endings.Stuck) ≡ endings.Ended → (spent ≡ false) × (done ≡ true)

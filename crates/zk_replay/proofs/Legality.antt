@@ -76,8 +76,8 @@ module _ {S O R : Type 0} where
       option_and_then_some {P = Q} (λ start. option_and_then (λ h. answer_in family.machine start h (step_reply object) who op) (slice_get hs object)) (start_of family object) told is
       (λ start started after. option_and_then_some {P = Q} (λ h. answer_in family.machine start h (step_reply object) who op) (slice_get hs object) told after
       (λ h there answered.
-          let one = one-answer family.machine start h (step_reply object) who op told answered in
-          record { start = start; history = h; reply = one.0; starts = started; there = there; replies = one.1; tells = one.2 }))
+      let one = one-answer family.machine start h (step_reply object) who op told answered in
+      record { start = start; history = h; reply = one.0; starts = started; there = there; replies = one.1; tells = one.2 }))
 
   -- the history of an object is legal by itself
   pub legal-one : (m : Machine S O R) (starts : List (Option S)) (hs : List (List (Entry O R))) (object : ℕ) (start : S) (h : List (Entry O R)) → AllZip (IsLegalAt m) starts hs →
@@ -169,10 +169,9 @@ run-legal s w valid run =
     let P : World → Type 0 = λ v. IsReady s v × IsLegalShown m v.shown in
     (subst P (sym run.1)
     (rounds-keep m s P (λ v p at made both unspent there choice.
-        let found = first_possible-is m v.shown at.who (attempts s at) made choice in
-        (
-          ready-stepped m s v p at made refl both.0 there (none-passes is_spent_at v.players p at unspent there) found,
-          legal-after m v.shown at.who (length at.spots) made.0 made.1 both.1 found.answered
+    let found = first_possible-is m v.shown at.who (attempts s at) made choice in (
+      ready-stepped m s v p at made refl both.0 there (none-passes is_spent_at v.players p at unspent there) found,
+      legal-after m v.shown at.who (length at.spots) made.0 made.1 both.1 found.answered
           (ahead-takes s m at valid refl (All-at (λ a. FramesFit s.decls a.frames) v.players p at both.0.fits there) made.0 (found.place, found.is_there))
           (log-later at.who.number at.spots v.shown (both.0.shows p at there)),
-        )) run.0 (first s) (ready-first s valid, legal-first s))).1
+    )) run.0 (first s) (ready-first s valid, legal-first s))).1

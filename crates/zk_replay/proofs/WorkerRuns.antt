@@ -46,7 +46,6 @@ use Rattle.zk_worker.proofs.Lists.{slice_get-set}
 use Rattle.zk_replay.specs.RoundRobin.{World, starts, first, stepped}
 use Rattle.zk_replay.specs.Tending.{IsIdle, IsWorkers, IsScript, Tends, IsTended}
 use Rattle.zk_model_work.proofs.Runs.{IsCalled, idle-called, idle-ended, idle-next, begin-told, homes-next, workers-next}
-
 use Rattle.zk_model_work.specs.declared.ops.WorkReply.TheVariants as replies
 use Rattle.zk_model_wait.specs.declared.clock.ClockReply.TheVariants as clock_replies
 use Rattle.zk_model_wait.specs.declared.sem.SemReply.TheVariants as sem_replies
