@@ -43,6 +43,6 @@ module _ (r : Reading) (decls : List Decl) (h : Head) (parts : List Placed) (wro
   verdict_right past is limit =
       let right = subst (λ w. Weighs (are_in_range decls h parts) (are_well_named decls parts) (args_of decls parts) (or_wrong w args)) is weighed in (
         first_limit (is_misplaced r h parts) (are_in_range r.decls h parts) (are_well_named r.decls parts) (is_past_limit r h) placed
-        (ap (λ ds. are_in_range ds h parts) (sym same) ∙ right.0) (ap (λ ds. are_well_named ds parts) (sym same) ∙ right.1) ∙ ap (λ b. cond b (Some Limit) None) limit,
+            (ap (λ ds. are_in_range ds h parts) (sym same) ∙ right.0) (ap (λ ds. are_well_named ds parts) (sym same) ∙ right.1) ∙ ap (λ b. cond b (Some Limit) None) limit,
         ap (λ ds. args_of ds parts) (sym same) ∙ right.2,
       )
