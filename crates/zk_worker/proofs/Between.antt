@@ -168,8 +168,10 @@ short-still false number old new short others is = absurd (cc)
 shown-longer : (number : ℕ) (old new : Shown) (spot : Spot) (b : ℕ × ℕ) → AllGrew number old new → shown_at old spot ≡ Some b → shown_at new spot ≡ Some b
 shown-longer number old new (spots.Work place) b grew is = entry-longer number step_of old.work new.work place b grew.work is
 shown-longer number old new (spots.Clock place) b grew is = entry-longer number step_of old.clock new.clock place b grew.clock is
-shown-longer number old new (spots.Sem object place) b grew is = entry-longer_each number step_of old.sems new.sems object place b grew.sems is
-shown-longer number old new (spots.Msgq object place) b grew is = entry-longer_each number step_of old.msgqs new.msgqs object place b grew.msgqs is
+shown-longer number old new (spots.Sem object place) b grew is =
+    entry-longer_each number step_of old.sems new.sems object place b grew.sems is
+shown-longer number old new (spots.Msgq object place) b grew is =
+    entry-longer_each number step_of old.msgqs new.msgqs object place b grew.msgqs is
 
 -- and so does the step that it stands for
 pub stands-longer : (number : ℕ) (old new : Shown) → AllGrew number old new → (spot : Spot) (made : Step × StepReply) →
@@ -179,16 +181,20 @@ stands-longer number old new grew (spots.Work place) made is =
 stands-longer number old new grew (spots.Clock place) made is =
     entry-longer number (λ e. (steps.Clock e.op, step_replies.Clock e.reply place)) old.clock new.clock place made grew.clock is
 stands-longer number old new grew (spots.Sem object place) made is =
-    entry-longer_each number (λ e. (steps.Sem object e.op, step_replies.Sem object e.reply place)) old.sems new.sems object place made grew.sems is
+    entry-longer_each number
+    (λ e. (steps.Sem object e.op, step_replies.Sem object e.reply place)) old.sems new.sems object place made grew.sems is
 stands-longer number old new grew (spots.Msgq object place) made is =
-    entry-longer_each number (λ e. (steps.Msgq object e.op, step_replies.Msgq object e.reply place)) old.msgqs new.msgqs object place made grew.msgqs is
+    entry-longer_each number
+    (λ e. (steps.Msgq object e.op, step_replies.Msgq object e.reply place)) old.msgqs new.msgqs object place made grew.msgqs is
 
 -- and of this player nothing else is
 shown-back : (number step : ℕ) (old new : Shown) (spot : Spot) → AllGrew number old new → shown_at new spot ≡ Some (number, step) → shown_at old spot ≡ Some (number, step)
 shown-back number step old new (spots.Work place) grew is = entry-back number step old.work new.work place grew.work is
 shown-back number step old new (spots.Clock place) grew is = entry-back number step old.clock new.clock place grew.clock is
-shown-back number step old new (spots.Sem object place) grew is = entry-back_each number step old.sems new.sems object place grew.sems is
-shown-back number step old new (spots.Msgq object place) grew is = entry-back_each number step old.msgqs new.msgqs object place grew.msgqs is
+shown-back number step old new (spots.Sem object place) grew is =
+    entry-back_each number step old.sems new.sems object place grew.sems is
+shown-back number step old new (spots.Msgq object place) grew is =
+    entry-back_each number step old.msgqs new.msgqs object place grew.msgqs is
 
 -- a log is shown as before
 pub log-still : (alone : Bool) (number : ℕ) (log : List Spot) (old new : Shown) → ShowsLog old number log → Between alone number old new → ShowsLog new number log
@@ -235,8 +241,12 @@ above-work shown number next later = above-all number shown.work next (λ place 
 pub above-clock : (shown : Shown) (number next : ℕ) → IsLater shown number next → IsAbove shown.clock number next
 above-clock shown number next later = above-all number shown.clock next (λ place step is. later.entries step (spots.Clock place) is)
 
-pub above-sems : (shown : Shown) (number next object : ℕ) (h : List (Entry SemOp SemReply)) → slice_get shown.sems object ≡ Some h → IsLater shown number next → IsAbove h number next
-above-sems shown number next object h there later = above-each number shown.sems object next h there (λ place step is. later.entries step (spots.Sem object place) is)
+pub above-sems : (shown : Shown) (number next object : ℕ) (h : List (Entry SemOp SemReply)) →
+    slice_get shown.sems object ≡ Some h → IsLater shown number next → IsAbove h number next
+above-sems shown number next object h there later =
+    above-each number shown.sems object next h there (λ place step is. later.entries step (spots.Sem object place) is)
 
-pub above-msgqs : (shown : Shown) (number next object : ℕ) (h : List (Entry MsgqOp MsgqReply)) → slice_get shown.msgqs object ≡ Some h → IsLater shown number next → IsAbove h number next
-above-msgqs shown number next object h there later = above-each number shown.msgqs object next h there (λ place step is. later.entries step (spots.Msgq object place) is)
+pub above-msgqs : (shown : Shown) (number next object : ℕ) (h : List (Entry MsgqOp MsgqReply)) →
+    slice_get shown.msgqs object ≡ Some h → IsLater shown number next → IsAbove h number next
+above-msgqs shown number next object h there later =
+    above-each number shown.msgqs object next h there (λ place step is. later.entries step (spots.Msgq object place) is)

@@ -1,4 +1,4 @@
--- The attempts of a player name items and queues that are declared.
+-- The attempts of a player name items, queues, semaphores and message queues that are declared.
 use Rattle.std.proofs.Common.{◌≡◌, ℕ, zero, suc, ◌+◌, Bool, true, false, Option, Some, None, is_some, List, [], ◌∷◌, length, All, refl, ap, subst, arith, nat_lt, ◌&&◌}
 use Rattle.std.specs.Option.{option_map, option_map_or}
 use Rattle.std.specs.List.{slice_get, list_all}
@@ -19,8 +19,9 @@ use Rattle.zk_model_work.specs.declared.ops.WorkOp.TheVariants as ops
 use Rattle.zk_words.specs.Numbers.{is_between}
 use Rattle.zk_words.specs.declared.timeout.Timeout.{Timeout}
 use Rattle.zk_words.specs.declared.timeout.Timeout.TheVariants.{No, Forever, Ticks}
+use Rattle.zk_words.specs.Timeouts.{wait_fits}
 use Rattle.zk_line.specs.Checks.{is_size}
-use Rattle.zk_line.specs.Fits.{wait_fits, call_fits}
+use Rattle.zk_line.specs.Fits.{call_fits}
 use Rattle.zk_scenario.specs.Valid.{IsValid}
 use Rattle.zk_line.proofs.Tables.{length-places}
 use Rattle.zk_scenario.proofs.Valid.{number_of-item, number_of-queue, call_fits-calls_of}
@@ -96,44 +97,45 @@ delayed-fit decls item queue more fits =
     both-fit decls item queue (and_from (is_at is_item decls item) (is_at is_queue decls queue) first.0 second.0)
 
 -- what a call names as a semaphore or as a message queue is declared as one
-declared-at : {S : Type 0} (start : Decl → Option S) (test : Decl → Bool) (decls : List Decl) (object : ℕ) → ((decl : Decl) → test decl ≡ true → is_some (start decl) ≡ true) →
+declared-at : {S : Type 0} (start : Decl → Option S) (test : Decl → Bool) (decls : List Decl) (object : ℕ) →
+    ((decl : Decl) → test decl ≡ true → is_some (start decl) ≡ true) →
     is_at test decls object ≡ true → is_declared start decls object ≡ true
 declared-at start test decls object each is = by_decl (slice_get decls object) is
   where
-    by_decl : (decl : Option Decl) → option_map_or test decl false ≡ true → option_map_or (λ decl. is_some (start decl)) decl false ≡ true
+    by_decl : (decl : Option Decl) → option_map_or test decl false ≡ true →
+        option_map_or (λ decl. is_some (start decl)) decl false ≡ true
     by_decl None is = absurd (cc)
     by_decl (Some decl) is = each decl is
 
-sem-declared : (decls : List Decl) (sem : ℕ) (more : Bool) → (is_at is_sem decls sem && more) ≡ true → is_declared sem_start decls sem ≡ true
+sem-declared : (decls : List Decl) (sem : ℕ) (more : Bool) → (is_at is_sem decls sem && more) ≡ true →
+    is_declared sem_start decls sem ≡ true
 sem-declared decls sem more fits = declared-at sem_start is_sem decls sem starts (and_parts (is_at is_sem decls sem) more fits).0
   where
     starts : (decl : Decl) → is_sem decl ≡ true → is_some (sem_start decl) ≡ true
     starts (decl_kinds.Sem name initial limit) is = refl
-    starts (decl_kinds.Thread name prio user) is = absurd (cc)
-    starts (decl_kinds.Queue name prio on) is = absurd (cc)
-    starts (decl_kinds.Item name) is = absurd (cc)
-    starts (decl_kinds.Msgq name size capacity) is = absurd (cc)
+    starts decl is = absurd (cc)
 
-msgq-declared : (decls : List Decl) (queue : ℕ) (more : Bool) → (is_at is_msgq decls queue && more) ≡ true → is_declared msgq_start decls queue ≡ true
-msgq-declared decls queue more fits = declared-at msgq_start is_msgq decls queue starts (and_parts (is_at is_msgq decls queue) more fits).0
+msgq-declared : (decls : List Decl) (queue : ℕ) (more : Bool) → (is_at is_msgq decls queue && more) ≡ true →
+    is_declared msgq_start decls queue ≡ true
+msgq-declared decls queue more fits =
+    declared-at msgq_start is_msgq decls queue starts (and_parts (is_at is_msgq decls queue) more fits).0
   where
     starts : (decl : Decl) → is_msgq decl ≡ true → is_some (msgq_start decl) ≡ true
     starts (decl_kinds.Msgq name size capacity) is = refl
-    starts (decl_kinds.Thread name prio user) is = absurd (cc)
-    starts (decl_kinds.Queue name prio on) is = absurd (cc)
-    starts (decl_kinds.Item name) is = absurd (cc)
-    starts (decl_kinds.Sem name initial limit) is = absurd (cc)
+    starts decl is = absurd (cc)
 
 plan_of-fits : (decls : List Decl) (call : Call) → call_fits decls call ≡ true → PlanFits decls (plan_of decls call)
-unfolding PlanFits
+unfolding PlanFits waiting_fits
 plan_of-fits decls (calls.Submit (Known item) None) fits =
     and_from (nat_lt (number_of decls item) (length (places is_item decls))) true (item-alone decls item fits) refl
 plan_of-fits decls (calls.Submit (Known item) (Some (Known queue))) fits = both-fit decls item queue fits
 plan_of-fits decls (calls.Cancel (Known item)) fits = item-alone decls item fits
 plan_of-fits decls (calls.CancelSync (Known item)) fits = item-alone decls item fits
 plan_of-fits decls (calls.Flush (Known item)) fits = item-alone decls item fits
-plan_of-fits decls (calls.Schedule (Known item) (Known queue) delay) fits = delayed-fit decls item queue (is_between 0 1000000 delay && true) fits
-plan_of-fits decls (calls.Reschedule (Known item) (Known queue) delay) fits = delayed-fit decls item queue (is_between 0 1000000 delay && true) fits
+plan_of-fits decls (calls.Schedule (Known item) (Known queue) delay) fits =
+    delayed-fit decls item queue (is_between 0 1000000 delay && true) fits
+plan_of-fits decls (calls.Reschedule (Known item) (Known queue) delay) fits =
+    delayed-fit decls item queue (is_between 0 1000000 delay && true) fits
 plan_of-fits decls (calls.Remaining (Known item)) fits = item-alone decls item fits
 plan_of-fits decls (calls.Start (Known queue)) fits = queue-first decls queue true fits
 plan_of-fits decls (calls.Drain (Known queue) plug) fits = queue-first decls queue true fits
@@ -143,7 +145,8 @@ plan_of-fits decls (calls.Take (Known sem) timeout) fits = sem-declared decls se
 plan_of-fits decls (calls.Give (Known sem)) fits = sem-declared decls sem true fits
 plan_of-fits decls (calls.Reset (Known sem)) fits = sem-declared decls sem true fits
 plan_of-fits decls (calls.Count (Known sem)) fits = sem-declared decls sem true fits
-plan_of-fits decls (calls.Put (Known queue) message timeout) fits = msgq-declared decls queue (is_size (size_at decls queue) (length message) && (wait_fits timeout && true)) fits
+plan_of-fits decls (calls.Put (Known queue) message timeout) fits =
+    msgq-declared decls queue (is_size (size_at decls queue) (length message) && (wait_fits timeout && true)) fits
 plan_of-fits decls (calls.Get (Known queue) timeout) fits = msgq-declared decls queue (wait_fits timeout && true) fits
 plan_of-fits decls (calls.Peek (Known queue)) fits = msgq-declared decls queue true fits
 plan_of-fits decls (calls.PeekAt (Known queue) index) fits = msgq-declared decls queue (is_between 0 255 index && true) fits
@@ -152,25 +155,29 @@ plan_of-fits decls (calls.Used (Known queue)) fits = msgq-declared decls queue t
 plan_of-fits decls (calls.Free (Known queue)) fits = msgq-declared decls queue true fits
 
 -- the steps of a wait are at its object
-open-fits : (decls : List Decl) (waiting : Waiting) (waits : Bool) → waiting_fits decls waiting ≡ true → step_fits decls (open_step waiting waits) ≡ true
+open-fits : (decls : List Decl) (waiting : Waiting) (waits : Bool) → waiting_fits decls waiting ≡ true →
+    step_fits decls (open_step waiting waits) ≡ true
 unfolding waiting_fits
 open-fits decls (Take object) waits fits = fits
 open-fits decls (Put object message) waits fits = fits
 open-fits decls (Get object) waits fits = fits
 
-end-fits : (decls : List Decl) (waiting : Waiting) (place : ℕ) → waiting_fits decls waiting ≡ true → step_fits decls (end_step waiting place) ≡ true
+end-fits : (decls : List Decl) (waiting : Waiting) (place : ℕ) → waiting_fits decls waiting ≡ true →
+    step_fits decls (end_step waiting place) ≡ true
 unfolding waiting_fits
 end-fits decls (Take object) place fits = fits
 end-fits decls (Put object message) place fits = fits
 end-fits decls (Get object) place fits = fits
 
-quit-fits : (decls : List Decl) (waiting : Waiting) (place : ℕ) → waiting_fits decls waiting ≡ true → step_fits decls (quit_step waiting place) ≡ true
+quit-fits : (decls : List Decl) (waiting : Waiting) (place : ℕ) → waiting_fits decls waiting ≡ true →
+    step_fits decls (quit_step waiting place) ≡ true
 unfolding waiting_fits
 quit-fits decls (Take object) place fits = fits
 quit-fits decls (Put object message) place fits = fits
 quit-fits decls (Get object) place fits = fits
 
-first-fits : (decls : List Decl) (waiting : Waiting) (timeout : Timeout) → waiting_fits decls waiting ≡ true → step_fits decls (first_step waiting timeout) ≡ true
+first-fits : (decls : List Decl) (waiting : Waiting) (timeout : Timeout) → waiting_fits decls waiting ≡ true →
+    step_fits decls (first_step waiting timeout) ≡ true
 first-fits decls waiting No fits = open-fits decls waiting false fits
 first-fits decls waiting Forever fits = open-fits decls waiting true fits
 first-fits decls waiting (Ticks ticks) fits = refl
@@ -181,17 +188,25 @@ closing-fits decls closings.Flush place = refl
 closing-fits decls closings.Drain place = refl
 
 -- what holds of one attempt holds of each that there is, where it is the only one
-one-fits : (decls : List Decl) (only : Step) (k : ℕ) (step : Step) → step_fits decls only ≡ true → slice_get (only ∷ []) k ≡ Some step → step_fits decls step ≡ true
+one-fits : (decls : List Decl) (only : Step) (k : ℕ) (step : Step) → step_fits decls only ≡ true →
+    slice_get (only ∷ []) k ≡ Some step → step_fits decls step ≡ true
 one-fits decls only k step fits is = subst (λ s. step_fits decls s ≡ true) (slice_get-one only step k is) fits
 
 wait_attempts-fit : (decls : List Decl) (waiting : Waiting) (timeout : Timeout) (stage : Stage) (k : ℕ) (step : Step) →
-    waiting_fits decls waiting ≡ true → slice_get (wait_attempts waiting timeout stage) k ≡ Some step → step_fits decls step ≡ true
-wait_attempts-fit decls waiting timeout stages.Start k step fits is = one-fits decls (first_step waiting timeout) k step (first-fits decls waiting timeout fits) is
-wait_attempts-fit decls waiting timeout (stages.Alarmed moment) k step fits is = one-fits decls (open_step waiting true) k step (open-fits decls waiting true fits) is
-wait_attempts-fit decls waiting timeout (stages.Waits place) k step fits is = one-fits decls (end_step waiting place) k step (end-fits decls waiting place fits) is
-wait_attempts-fit decls waiting timeout (stages.WaitsUntil place moment) zero step fits is = one-fits decls (end_step waiting place) zero step (end-fits decls waiting place fits) is
-wait_attempts-fit decls waiting timeout (stages.WaitsUntil place moment) (suc k) step fits is = one-fits decls (steps.Clock (clock_ops.AlarmEnd moment)) k step refl is
-wait_attempts-fit decls waiting timeout (stages.Quits place) k step fits is = one-fits decls (quit_step waiting place) k step (quit-fits decls waiting place fits) is
+    waiting_fits decls waiting ≡ true → slice_get (wait_attempts waiting timeout stage) k ≡ Some step →
+    step_fits decls step ≡ true
+wait_attempts-fit decls waiting timeout stages.Start k step fits is =
+    one-fits decls (first_step waiting timeout) k step (first-fits decls waiting timeout fits) is
+wait_attempts-fit decls waiting timeout (stages.Alarmed moment) k step fits is =
+    one-fits decls (open_step waiting true) k step (open-fits decls waiting true fits) is
+wait_attempts-fit decls waiting timeout (stages.Waits place) k step fits is =
+    one-fits decls (end_step waiting place) k step (end-fits decls waiting place fits) is
+wait_attempts-fit decls waiting timeout (stages.WaitsUntil place moment) zero step fits is =
+    one-fits decls (end_step waiting place) zero step (end-fits decls waiting place fits) is
+wait_attempts-fit decls waiting timeout (stages.WaitsUntil place moment) (suc k) step fits is =
+    one-fits decls (steps.Clock (clock_ops.AlarmEnd moment)) k step refl is
+wait_attempts-fit decls waiting timeout (stages.Quits place) k step fits is =
+    one-fits decls (quit_step waiting place) k step (quit-fits decls waiting place fits) is
 wait_attempts-fit decls waiting timeout stage k step fits is = absurd (cc)
 
 -- all that a plan tries fits
@@ -201,7 +216,8 @@ unfolding PlanFits
 plan_attempts-fit decls (One first) stages.Start k step fits is = one-fits decls first k step fits is
 plan_attempts-fit decls (One first) stage k step fits is = absurd (cc)
 plan_attempts-fit decls (Pair opening closing) stages.Start k step fits is = one-fits decls opening k step fits is
-plan_attempts-fit decls (Pair opening closing) (stages.Waits place) k step fits is = one-fits decls (closing_step closing place) k step (closing-fits decls closing place) is
+plan_attempts-fit decls (Pair opening closing) (stages.Waits place) k step fits is =
+    one-fits decls (closing_step closing place) k step (closing-fits decls closing place) is
 plan_attempts-fit decls (Pair opening closing) stage k step fits is = absurd (cc)
 plan_attempts-fit decls (Twice first second) stages.Start k step fits is = one-fits decls first k step fits.0 is
 plan_attempts-fit decls (Twice first second) stages.Halfway k step fits is = one-fits decls second k step fits.1 is

@@ -172,11 +172,13 @@ clock-elsewhere shown h (spots.Clock p) = inl (p, refl)
 clock-elsewhere shown h at = inr (refl, refl)
 
 -- the spot of an object of a kind is one of an object and a place
-sems-elsewhere : (shown : Shown) (hs : List (List (Entry SemOp SemReply))) (at : Spot) → Elsewhere {P = ℕ × ℕ} (λ p. spots.Sem p.0 p.1) shown (record shown { sems = hs }) at
+sems-elsewhere : (shown : Shown) (hs : List (List (Entry SemOp SemReply))) (at : Spot) →
+    Elsewhere {P = ℕ × ℕ} (λ p. spots.Sem p.0 p.1) shown (record shown { sems = hs }) at
 sems-elsewhere shown hs (spots.Sem object place) = inl ((object, place), refl)
 sems-elsewhere shown hs at = inr (refl, refl)
 
-msgqs-elsewhere : (shown : Shown) (hs : List (List (Entry MsgqOp MsgqReply))) (at : Spot) → Elsewhere {P = ℕ × ℕ} (λ p. spots.Msgq p.0 p.1) shown (record shown { msgqs = hs }) at
+msgqs-elsewhere : (shown : Shown) (hs : List (List (Entry MsgqOp MsgqReply))) (at : Spot) →
+    Elsewhere {P = ℕ × ℕ} (λ p. spots.Msgq p.0 p.1) shown (record shown { msgqs = hs }) at
 msgqs-elsewhere shown hs (spots.Msgq object place) = inl ((object, place), refl)
 msgqs-elsewhere shown hs at = inr (refl, refl)
 
@@ -198,17 +200,23 @@ made-more m shown who number (steps.Clock op) reply answered =
 made-more m shown who number (steps.Sem object op) reply answered =
     at-more shown who number (steps.Sem object op) step_replies.Sem m.sems shown.sems object op reply answered (λ h r there.
     let e = entry who number op r in
-    object-more {P = ℕ × ℕ} (λ p. spots.Sem p.0 p.1) (λ p. steps.Sem p.0) (λ p r. step_replies.Sem p.0 r p.1) shown (record shown { sems = with_entry shown.sems object e })
+    object-more {P = ℕ × ℕ} (λ p. spots.Sem p.0 p.1) (λ p. steps.Sem p.0) (λ p r. step_replies.Sem p.0 r p.1) shown
+    (record shown { sems = with_entry shown.sems object e })
     (λ p. entry_at shown.sems p.0 p.1) (λ p. entry_at (with_entry shown.sems object e) p.0 p.1)
-    (record { seen = λ p. refl; made = λ p. refl }) (record { seen = λ p. refl; made = λ p. refl }) (sems-elsewhere shown (with_entry shown.sems object e))
-    (object, length h) who number op r (histories-with shown.sems object h e there) (omega (arith, with-count shown.sems object e h there)))
+    (record { seen = λ p. refl; made = λ p. refl }) (record { seen = λ p. refl; made = λ p. refl })
+    (sems-elsewhere shown (with_entry shown.sems object e))
+    (object, length h) who number op r (histories-with shown.sems object h e there)
+    (omega (arith, with-count shown.sems object e h there)))
 made-more m shown who number (steps.Msgq object op) reply answered =
     at-more shown who number (steps.Msgq object op) step_replies.Msgq m.msgqs shown.msgqs object op reply answered (λ h r there.
     let e = entry who number op r in
-    object-more {P = ℕ × ℕ} (λ p. spots.Msgq p.0 p.1) (λ p. steps.Msgq p.0) (λ p r. step_replies.Msgq p.0 r p.1) shown (record shown { msgqs = with_entry shown.msgqs object e })
+    object-more {P = ℕ × ℕ} (λ p. spots.Msgq p.0 p.1) (λ p. steps.Msgq p.0) (λ p r. step_replies.Msgq p.0 r p.1) shown
+    (record shown { msgqs = with_entry shown.msgqs object e })
     (λ p. entry_at shown.msgqs p.0 p.1) (λ p. entry_at (with_entry shown.msgqs object e) p.0 p.1)
-    (record { seen = λ p. refl; made = λ p. refl }) (record { seen = λ p. refl; made = λ p. refl }) (msgqs-elsewhere shown (with_entry shown.msgqs object e))
-    (object, length h) who number op r (histories-with shown.msgqs object h e there) (omega (arith, with-count shown.msgqs object e h there)))
+    (record { seen = λ p. refl; made = λ p. refl }) (record { seen = λ p. refl; made = λ p. refl })
+    (msgqs-elsewhere shown (with_entry shown.msgqs object e))
+    (object, length h) who number op r (histories-with shown.msgqs object h e there)
+    (omega (arith, with-count shown.msgqs object e h there)))
 
 -- where no looks are shown, a step shows none
 pub unlooked-after : (shown : Shown) (who : Who) (number : ℕ) (step : Step) (reply : StepReply) → shown.looked ≡ None → (shown_after shown who number step reply).looked ≡ None

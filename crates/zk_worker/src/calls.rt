@@ -1,5 +1,6 @@
 ghost use Rattle.std.specs.Prelude.{◌≡◌, slice_get, option_map};
-ghost use Rattle.zk_worker.specs.Calls.{ref_object, ref_number, plan_of, submission_answer, work_answer, sem_answer, msgq_answer, answer_of};
+ghost use Rattle.zk_worker.specs.Calls.{ref_object, ref_number, plan_of};
+ghost use Rattle.zk_worker.specs.Calls.{submission_answer, work_answer, sem_answer, msgq_answer, answer_of};
 ghost use Rattle.zk_worker.specs.Calls.{closing_step, open_step, end_step, quit_step, first_step, wait_attempts, plan_attempts};
 ghost use Rattle.zk_worker.specs.Calls.{opening_progress, until, wait_progress, plan_progress};
 
@@ -66,7 +67,8 @@ fn drain(queue: u32, plug: bool) -> Plan
 
 /// Both services that have a time go on by so many ticks.
 fn tick(ticks: u32) -> Plan
-    ensures { result ≡ Plan.Twice (Step.Work (WorkOp.Announce ticks)) (Step.Clock (ClockOp.Announce ticks)) }
+    ensures { result ≡ Plan.Twice
+        (Step.Work (WorkOp.Announce ticks)) (Step.Clock (ClockOp.Announce ticks)) }
 {
     Plan::Twice(
         Step::Work(WorkOp::Announce(ticks)),

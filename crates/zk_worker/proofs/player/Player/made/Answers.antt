@@ -40,4 +40,5 @@ returns-clause-follows c =
 
 pub returns-clause-looks : goal.returns-clause-looks
 returns-clause-looks c = λ alone m old new shows made right.
-    looks-stepped alone m m c.args.scenario.now c.args.self.now _ c.args.step c.args.reply.now old new refl shows right made (returns-clause-next c)
+    looks-stepped alone m m c.args.scenario.now c.args.self.now _ c.args.step c.args.reply.now old new refl shows right made
+    (returns-clause-next c)

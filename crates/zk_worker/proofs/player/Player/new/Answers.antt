@@ -44,4 +44,5 @@ pub returns-clause-follows : goal.returns-clause-follows
 returns-clause-follows c = λ shown. following-fresh c.args.scenario.now c.args.number shown _ (returns-clause-start c)
 
 pub returns-clause-looks : goal.returns-clause-looks
-returns-clause-looks c = λ m shown. looks-fresh m shown _ (start_at-fresh c.args.scenario.now c.args.number _ (returns-clause-start c)).none_made
+returns-clause-looks c =
+    λ m shown. looks-fresh m shown _ (start_at-fresh c.args.scenario.now c.args.number _ (returns-clause-start c)).none_made
