@@ -10,10 +10,10 @@ use zk_base::LONGEST_MESSAGE;
 use zk_words::{Head, Kind, Parts, Slot, number_in, priority_of, wait_of};
 
 /// The object that the first word behind a head names.
-pub fn first_object(objects: &Objects, parts: Parts<'_>) -> Option<u32>
-    ensures { result ≡ first_object objects.now parts.entry }
+pub fn first_object(objects: &Objects, parts: &Parts<'_>) -> Option<u32>
+    ensures { result ≡ first_object objects.now parts.now }
 {
-    let mut parts = parts;
+    let mut parts = parts.again();
     match parts.next() {
         Some(part) => objects.find(part.text),
         None => None,
@@ -21,10 +21,10 @@ pub fn first_object(objects: &Objects, parts: Parts<'_>) -> Option<u32>
 }
 
 /// Whether no number of a line is out of its range, and no message of the wrong size.
-pub fn are_in_range(objects: &Objects, head: Head, parts: Parts<'_>) -> bool
-    ensures { result ≡ are_in_range objects.now head parts.entry }
+pub fn are_in_range(objects: &Objects, head: Head, parts: &Parts<'_>) -> bool
+    ensures { result ≡ are_in_range objects.now head parts.now }
 {
-    each_in_range(message_size(objects, parts.again()), parts.again()) && go_together(head, parts)
+    each_in_range(message_size(objects, parts), parts) && go_together(head, parts)
 }
 
 /// How many bytes each message of what an argument names has, if it names something that has messages.
@@ -37,10 +37,10 @@ pub fn size_named(objects: &Objects, arg: &Arg) -> Option<u32>
     }
 }
 
-fn message_size(objects: &Objects, parts: Parts<'_>) -> Option<u32>
-    ensures { result ≡ message_size objects.now parts.entry }
+fn message_size(objects: &Objects, parts: &Parts<'_>) -> Option<u32>
+    ensures { result ≡ message_size objects.now parts.now }
 {
-    let mut parts = parts;
+    let mut parts = parts.again();
     let part = parts.next()?;
     match part.slot {
         Slot::Owner => size_at(objects.decls(), objects.find(part.text)?),
@@ -49,10 +49,10 @@ fn message_size(objects: &Objects, parts: Parts<'_>) -> Option<u32>
     }
 }
 
-fn each_in_range(size: Option<u32>, parts: Parts<'_>) -> bool
-    ensures { result ≡ each_in_range size parts.entry }
+fn each_in_range(size: Option<u32>, parts: &Parts<'_>) -> bool
+    ensures { result ≡ each_in_range size parts.now }
 {
-    let mut parts = parts;
+    let mut parts = parts.again();
     while let Some(part) = parts.next() {
         if !is_in_range(size, part.slot, part.text) {
             return false;
@@ -99,8 +99,8 @@ fn is_size(size: Option<u32>, bytes: usize) -> bool
 }
 
 /// Whether the numbers of a line go together.
-pub fn go_together(head: Head, parts: Parts<'_>) -> bool
-    ensures { result ≡ go_together head parts.entry }
+pub fn go_together(head: Head, parts: &Parts<'_>) -> bool
+    ensures { result ≡ go_together head parts.now }
 {
     match head {
         Head::Declare(Kind::Sem) => counts_go_together(parts),
@@ -109,10 +109,10 @@ pub fn go_together(head: Head, parts: Parts<'_>) -> bool
 }
 
 /// Whether the count that a semaphore begins with isn't above its limit.
-fn counts_go_together(parts: Parts<'_>) -> bool
-    ensures { result ≡ go_together (Head.Declare Kind.Sem) parts.entry }
+fn counts_go_together(parts: &Parts<'_>) -> bool
+    ensures { result ≡ go_together (Head.Declare Kind.Sem) parts.now }
 {
-    let mut parts = parts;
+    let mut parts = parts.again();
     match (parts.next(), parts.next(), parts.next()) {
         (Some(_), Some(initial), Some(limit)) => is_up_to(initial.text, limit.text),
         _ => true,

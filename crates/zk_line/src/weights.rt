@@ -35,24 +35,23 @@ pub fn weigh(
     args: &mut Args,
     objects: &Objects,
     head: Head,
-    parts: Parts<'_>,
+    parts: &Parts<'_>,
 ) -> Result<Option<Wrong>, NoMemory>
     requires empty { args.old ≡ [] }
-    requires spelled { list_all part_is_spelled parts ≡ true }
+    requires spelled { list_all part_is_spelled parts.now ≡ true }
     ensures { IfOk result (λ wrong. Weighs
-        (are_in_range objects.now head parts.entry) (are_well_named objects.now parts.entry) (args_of objects.now parts.entry)
+        (are_in_range objects.now head parts.now) (are_well_named objects.now parts.now) (args_of objects.now parts.now)
         (or_wrong wrong args.new)) }
 {
-    if !go_together(head, parts.again()) {
+    if !go_together(head, parts) {
         return Ok(Some(Wrong::OutOfRange));
     }
-    let whole = parts.again();
-    let mut parts = parts;
-    while let Some(part) = parts.next() {
+    let mut left = parts.again();
+    while let Some(part) = left.next() {
         match worth_of(objects, args.items(), part.slot, part.text) {
             Ok(arg) => args.push(arg)?,
             Err(Wrong::OutOfRange) => return Ok(Some(Wrong::OutOfRange)),
-            Err(Wrong::Misnamed) => return Ok(Some(misnamed(are_in_range(objects, head, whole)))),
+            Err(Wrong::Misnamed) => return Ok(Some(misnamed(are_in_range(objects, head, parts)))),
         }
     }
     Ok(None)

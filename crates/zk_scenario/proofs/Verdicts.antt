@@ -1,8 +1,14 @@
 -- Which reason applies first, where the tests before it say nothing.
-use Rattle.std.proofs.Common.{◌≡◌, Bool, true, false, cond, not, Option, Some, None, List, refl, ap, ◌∙◌}
+use Rattle.std.proofs.Common.{◌≡◌, Bool, true, false, cond, not, Option, Some, None, List, refl, sym, ap, subst, ◌∙◌}
 use Rattle.zk_words.specs.declared.word.Head.{Head}
 use Rattle.zk_words.specs.Parts.{Placed}
+use Rattle.zk_line.specs.declared.types.Decl.{Decl}
+use Rattle.zk_line.specs.declared.types.Arg.{Arg}
+use Rattle.zk_line.specs.declared.weights.Wrong.{Wrong}
+use Rattle.zk_line.specs.declared.weights.Wrong.TheVariants.{OutOfRange}
+use Rattle.zk_line.specs.Args.{args_of}
 use Rattle.zk_line.specs.Checks.{are_in_range, are_well_named}
+use Rattle.zk_line.specs.Weights.{Weighs, or_wrong}
 use Rattle.zk_scenario.specs.declared.refused.Why.{Why}
 use Rattle.zk_scenario.specs.declared.refused.Why.TheVariants.{Order, Number, Name, Limit}
 use Rattle.zk_scenario.specs.Reading.{Reading}
@@ -23,12 +29,20 @@ first_limit true in_range named past e f g = absurd (cc)
 first_limit false false named past e f g = absurd (cc)
 first_limit false true false past e f g = absurd (cc)
 
--- a line that stands in its place, with a number out of its range
-pub verdict_number : (r : Reading) (h : Head) (parts : List Placed) → is_misplaced r h parts ≡ false → are_in_range r.decls h parts ≡ false → verdict r h parts ≡ Some Number
-verdict_number r h parts = first_number (is_misplaced r h parts) (are_in_range r.decls h parts) (are_well_named r.decls parts) (is_past_limit r h)
+-- what is weighed of a line that stands in its place, by declarations that are those which were read
+module _ (r : Reading) (decls : List Decl) (h : Head) (parts : List Placed) (wrong : Option Wrong) (args : List Arg) (same : decls ≡ r.decls)
+    (weighed : Weighs (are_in_range decls h parts) (are_well_named decls parts) (args_of decls parts) (or_wrong wrong args)) (placed : is_misplaced r h parts ≡ false) where
+  -- a number is out of its range
+  pub verdict_number : wrong ≡ Some OutOfRange → verdict r h parts ≡ Some Number
+  verdict_number is =
+      let out : are_in_range decls h parts ≡ false = subst (λ w. Weighs (are_in_range decls h parts) (are_well_named decls parts) (args_of decls parts) (or_wrong w args)) is weighed in
+      first_number (is_misplaced r h parts) (are_in_range r.decls h parts) (are_well_named r.decls parts) (is_past_limit r h) placed (ap (λ ds. are_in_range ds h parts) (sym same) ∙ out)
 
--- one with right words, past a limit or not
-pub verdict_limit : (r : Reading) (h : Head) (parts : List Placed) (past : Bool) → is_misplaced r h parts ≡ false → are_in_range r.decls h parts ≡ true → are_well_named r.decls parts ≡ true → is_past_limit r h ≡ past
-    → verdict r h parts ≡ cond past (Some Limit) None
-verdict_limit r h parts past placed in_range named is =
-    first_limit (is_misplaced r h parts) (are_in_range r.decls h parts) (are_well_named r.decls parts) (is_past_limit r h) placed in_range named ∙ ap (λ b. cond b (Some Limit) None) is
+  -- its words are right, and say these
+  pub verdict_right : (past : Bool) → wrong ≡ None → is_past_limit r h ≡ past → (verdict r h parts ≡ cond past (Some Limit) None) × (args_of r.decls parts ≡ Some args)
+  verdict_right past is limit =
+      let right = subst (λ w. Weighs (are_in_range decls h parts) (are_well_named decls parts) (args_of decls parts) (or_wrong w args)) is weighed in (
+        first_limit (is_misplaced r h parts) (are_in_range r.decls h parts) (are_well_named r.decls parts) (is_past_limit r h) placed
+            (ap (λ ds. are_in_range ds h parts) (sym same) ∙ right.0) (ap (λ ds. are_well_named ds parts) (sym same) ∙ right.1) ∙ ap (λ b. cond b (Some Limit) None) limit,
+        ap (λ ds. args_of ds parts) (sym same) ∙ right.2,
+      )
