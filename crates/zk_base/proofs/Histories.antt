@@ -1,5 +1,5 @@
 -- Lemmas on histories: one entry more, a front, and two parts.
-use Rattle.std.proofs.Common.{◌≡◌, ℕ, ◌+◌, ◌-◌, ◌<◌, ◌≤◌, Bool, true, false, Some, List, [], ◌∷◌, ◌++◌, length, refl, sym, subst, ◌∙◌, min, arith, add-zero}
+use Rattle.std.proofs.Common.{◌≡◌, ℕ, ◌+◌, ◌-◌, ◌<◌, ◌≤◌, Bool, true, false, Some, List, [], ◌∷◌, ◌++◌, length, refl, sym, subst, ◌∙◌, min, append_assoc, append-nil, arith, add-zero}
 use Rattle.std.proofs.lemmas.List.Elements.{All-nil, All-cons, All-head, All-tail, All-append}
 use Rattle.zk_base.specs.declared.ids.Who.{Who}
 use Rattle.zk_base.specs.declared.ids.Entry.{Entry}
@@ -74,6 +74,17 @@ entries-after m entries counts s (e ∷ es) =
     let here = counts s e.who e.op in
     let rest = entries-after m entries counts (m.next s e.who e.op) es in
     omega arith
+
+-- what each entry keeps, every history keeps
+pub by_entries : {S O R : Type 0} (m : Machine S O R) (s : S) (P : List (Entry O R) → Type 0) →
+    ((h : List (Entry O R)) (e : Entry O R) → Replays m s h → m.reply_of (state_after m s h) e.who e.op ≡ Some e.reply → P h → P (h ++ e ∷ [])) →
+    (h es : List (Entry O R)) → Replays m s (h ++ es) → P h → P (h ++ es)
+by_entries m s P step h [] replays is = subst P (sym (append-nil h)) is
+by_entries m s P step h (e ∷ es) replays is =
+    let reply = (Replays-rest m s h (e ∷ es) replays).0 in
+    let here = step h e (Replays-front m s h (e ∷ es) replays) reply is in
+    let same = append_assoc h (e ∷ []) es in
+    subst P same (by_entries m s P step (h ++ e ∷ []) es (subst (Replays m s) (sym same) replays) here)
 
 -- the room for a history with one entry more, where the operation closes or room for three was made
 pub room-step : (closes : Bool) (owed owed' long capacity capacity' : ℕ) → long + owed ≤ capacity → capacity ≤ capacity' →

@@ -3,6 +3,9 @@ pub mod Firsts
 pub mod Histories
 pub mod Lists
 pub mod Order
+pub mod WaitDecisions
 pub mod WaitMoves
 pub mod WaitsHold
+pub mod WaitsKept
+pub mod WaitsOnce
 pub mod WaitOrder

@@ -6,12 +6,10 @@ use Rattle.zk_base.specs.declared.ids.Who.{Who}
 use Rattle.zk_base.specs.declared.ids.Entry.{Entry}
 use Rattle.zk_base.specs.declared.waits.Waiter.{Waiter}
 use Rattle.zk_base.specs.declared.waits.Decision.{Decision}
-use Rattle.zk_base.specs.History.{IsEntry}
 use Rattle.zk_base.specs.Legal.{Machine, state_after, Replays}
 use Rattle.zk_base.specs.Lists.{put_before, without_first}
 use Rattle.zk_base.specs.Waits.{Waits, is_served_after, is_waiter, is_decision, decide, decides_first}
-use Rattle.zk_base.specs.WaitLaws.{Decides, nobody, first, all, WaitKind, after_decision, after_entry, HasWaits, IsFirst, WasOpened, WasOpenedBy, EachWaitHasItsOpening, EndTellsItsDecision, QuitTellsItsDecision, MayEndOnceDecided, MayQuitUntilEnded}
-use Rattle.zk_base.proofs.Histories.{Replays-rest}
+use Rattle.zk_base.specs.WaitLaws.{Decides, nobody, first, all, WaitKind, after_decision, after_entry, HasWaits, IsFirst, WasOpened, WasOpenedBy, EachWaitHasItsOpening}
 
 module _ {A : Type 0} (P : A → Type 0) (p : A → Bool) where
   All-either : (x : A) (xs ys zs : List A) (b : Bool) → All P ys → All P zs → All P (cond b ys zs)
@@ -32,24 +30,6 @@ module _ {A : Type 0} (P : A → Type 0) (p : A → Bool) where
       (All-cons P x (without_first p xs) (All-head P x xs held) (All-without xs (All-tail P x xs held)))
 
 module _ {S O R M : Type 0} (m : Machine S O R) (k : WaitKind S O R M) (has : HasWaits m k) where
-  -- what an entry of a history is answered
-  replied : (s : S) (h front : List (Entry O R)) (e : Entry O R) → Replays m s h → IsEntry h front e → m.reply_of (state_after m s front) e.who e.op ≡ Some e.reply
-  replied s h front e replays at = (Replays-rest m s front (e ∷ at.rest) (subst (Replays m s) at.whole replays)).0
-
-  pub end_tells_its_decision : (s : S) (h : List (Entry O R)) → Replays m s h → EndTellsItsDecision m k s h
-  end_tells_its_decision s h replays front e place at ends =
-      sym (has.ends (state_after m s front) e.who e.op place ends) ∙ replied s h front e replays at
-
-  pub quit_tells_its_decision : (s : S) (h : List (Entry O R)) → Replays m s h → QuitTellsItsDecision m k s h
-  quit_tells_its_decision s h replays front e place at quits =
-      sym (has.quits (state_after m s front) e.who e.op place quits) ∙ replied s h front e replays at
-
-  pub may_end_once_decided : (s : S) (h : List (Entry O R)) → MayEndOnceDecided m k s h
-  may_end_once_decided s h who op place answer ends decided = has.ends (state_after m s h) who op place ends ∙ decided
-
-  pub may_quit_until_ended : (s : S) (h : List (Entry O R)) → MayQuitUntilEnded m k s h
-  may_quit_until_ended s h who op place answer quits there = has.quits (state_after m s h) who op place quits ∙ there
-
   -- what was opened stays opened in a longer history
   opened-longer : (h : List (Entry O R)) (l : Entry O R) (place : ℕ) (who : Who) (matter : M) → WasOpened k h place who matter → WasOpened k (h ++ l ∷ []) place who matter
   opened-longer h l place who matter was = record {
@@ -65,7 +45,7 @@ module _ {S O R M : Type 0} (m : Machine S O R) (k : WaitKind S O R M) (has : Ha
   opened_by-longer h l d was = (was.0, was.1, was.2, opened-longer h l d.place was.0 was.1 was.3)
 
   -- all of some waits were opened
-  abbrev AreOpened : List (Entry O R) → Waits M R → Type 0
+  abbrev pub AreOpened : List (Entry O R) → Waits M R → Type 0
   AreOpened h ws = All (λ (w : Waiter M). WasOpened k h w.place w.who w.matter) ws.waiting × All (WasOpenedBy k h) ws.decided
 
   are-longer : (h : List (Entry O R)) (l : Entry O R) (ws : Waits M R) → AreOpened h ws → AreOpened (h ++ l ∷ []) ws

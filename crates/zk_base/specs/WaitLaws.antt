@@ -1,5 +1,5 @@
-use Rattle.std.specs.Prelude.{◌≡◌, ℕ, ◌+◌, Bool, true, not, ◌&&◌, ◌||◌, int_lt, nat_lt, Option, Some, None, List, [], ◌∷◌, ◌++◌, length, All}
-use Rattle.std.specs.List.{Contains}
+use Rattle.std.specs.Prelude.{◌≡◌, ℕ, zero, suc, ◌+◌, ◌≤◌, Bool, true, false, not, ◌==◌, ◌&&◌, ◌||◌, ◌⊎◌, if◌then◌else◌, int_lt, nat_lt, count_by, Option, Some, None, is_some, List, [], ◌∷◌, ◌++◌, length, All}
+use Rattle.std.specs.List.{Contains, list_any}
 use Rattle.zk_base.specs.declared.ids.Who.{Who}
 use Rattle.zk_base.specs.declared.ids.Entry.{Entry}
 use Rattle.zk_base.specs.declared.waits.Waiter.{Waiter}
@@ -54,6 +54,10 @@ pub record HasWaits {S O R M : Type 0} (m : Machine S O R) (k : WaitKind S O R M
       m.reply_of s who op ≡ decision_of (k.waits s) who.number place
   pub quits : (s : S) (who : Who) (op : O) (place : ℕ) → k.quits op ≡ Some place →
       m.reply_of s who op ≡ quit_answer k.gives_up (k.waits s) who.number place
+  -- an entry opens, ends or gives up one at most
+  pub opens_alone : (op : O) (reply : R) (matter : M) → k.opens op reply ≡ Some matter →
+      (k.ends op ≡ None) × (k.quits op ≡ None)
+  pub ends_alone : (op : O) (place : ℕ) → k.ends op ≡ Some place → k.quits op ≡ None
 
 -- a first state: nobody waits, and there is no entry
 pub record IsFirst {S O R M : Type 0} (k : WaitKind S O R M) (s : S) : Type 0 where
@@ -74,7 +78,74 @@ pub record WasOpened {S O R M : Type 0} (k : WaitKind S O R M) (h : List (Entry 
 abbrev pub WasOpenedBy : {S O R M : Type 0} → WaitKind S O R M → List (Entry O R) → Decision R → Type 0
 WasOpenedBy {M = M} k h d = (who : Who) × (matter : M) × (who.number ≡ d.player) × WasOpened k h d.place who matter
 
+-- how many waits of this place go on, and how many are decided
+abbrev pub waiting_at : {M A : Type 0} → ℕ → Waits M A → ℕ
+waiting_at place ws = count_by (λ w. w.place == place) ws.waiting
+
+abbrev pub decided_at : {M A : Type 0} → ℕ → Waits M A → ℕ
+decided_at place ws = count_by (λ d. d.place == place) ws.decided
+
+-- it is this place
+abbrev pub is_at : ℕ → Option ℕ → Bool
+is_at place None = false
+is_at place (Some at) = at == place
+
+-- the entry ends the wait of this place, or gives it up
+abbrev pub finishes : {S O R M : Type 0} → WaitKind S O R M → ℕ → Entry O R → Bool
+finishes k place e = is_at place (k.ends e.op) || is_at place (k.quits e.op)
+
+-- 1 where the entry at this place opened a wait, else 0
+abbrev pub opened_at : {S O R M : Type 0} → WaitKind S O R M → List (Entry O R) → ℕ → ℕ
+opened_at k [] place = 0
+opened_at k (e ∷ es) zero = if is_some (k.opens e.op e.reply) then 1 else 0
+opened_at k (e ∷ es) (suc place) = opened_at k es place
+
+-- the decision of the wait of a place and a player
+abbrev pub decision : {A : Type 0} → ℕ → ℕ → A → Decision A
+decision place player answer = record { place = place; player = player; answer = answer }
+
+-- the wait is decided so
+abbrev pub IsDecided : {S O R M : Type 0} → WaitKind S O R M → S → Decision R → Type 0
+IsDecided k s d = Contains (k.waits s).decided d
+
+-- the wait of this place and player goes on
+abbrev pub WaitsAt : {S O R M : Type 0} → WaitKind S O R M → S → ℕ → ℕ → Type 0
+WaitsAt {M = M} k s place player =
+    (w : Waiter M) × Contains (k.waits s).waiting w × (w.place ≡ place) × (w.who.number ≡ player)
+
+-- the entry behind this front decides the wait so: it isn't decided before
+pub record IsDecidedBy {S O R M : Type 0} (m : Machine S O R) (k : WaitKind S O R M) (s : S) (front : List (Entry O R))
+    (e : Entry O R) (d : Decision R) : Type 0 where
+  pub before : decided_at d.place (k.waits (state_after m s front)) ≡ 0
+  pub after : IsDecided k (state_after m s (front ++ e ∷ [])) d
+
+-- an entry of the history decides the wait so
+pub record WasDecided {S O R M : Type 0} (m : Machine S O R) (k : WaitKind S O R M) (s : S) (h : List (Entry O R))
+    (d : Decision R) : Type 0 where
+  pub front : List (Entry O R)
+  pub e : Entry O R
+  pub at : IsEntry h front e
+  pub here : IsDecidedBy m k s front e d
+
+-- how many entries decide the wait of this place
+abbrev pub decisions : {S O R M : Type 0} → Machine S O R → WaitKind S O R M → ℕ → S → List (Entry O R) → ℕ
+decisions m k place s [] = 0
+decisions m k place s (e ∷ es) =
+    (if decided_at place (k.waits s) == 0 && nat_lt 0 (decided_at place (k.waits (m.next s e.who e.op))) then 1 else 0)
+    + decisions m k place (m.next s e.who e.op) es
+
 -- Each of what follows is said of one history of a machine, from a first state on.
+
+-- a wait is there once from its opening until its end, waiting or decided, and ends once.
+-- Where none was opened none is there, and none ends
+abbrev pub EachWaitOnce : {S O R M : Type 0} → Machine S O R → WaitKind S O R M → S → List (Entry O R) → Type 0
+EachWaitOnce m k s h = (place : ℕ) →
+    waiting_at place (k.waits (state_after m s h)) + decided_at place (k.waits (state_after m s h))
+    + count_by (finishes k place) h ≡ opened_at k h place
+
+-- no wait ends twice
+abbrev pub EachEndsOnce : {S O R M : Type 0} → Machine S O R → WaitKind S O R M → S → List (Entry O R) → Type 0
+EachEndsOnce m k s h = (place : ℕ) → count_by (finishes k place) h ≤ 1
 
 -- who waits, and whose wait is decided, has opened it at its place
 abbrev pub EachWaitHasItsOpening : {S O R M : Type 0} → Machine S O R → WaitKind S O R M → S → List (Entry O R) → Type 0
@@ -85,26 +156,47 @@ EachWaitHasItsOpening m k s h =
 -- the end of a wait is answered its decision
 abbrev pub EndTellsItsDecision : {S O R M : Type 0} → Machine S O R → WaitKind S O R M → S → List (Entry O R) → Type 0
 EndTellsItsDecision {O = O} {R = R} m k s h = (front : List (Entry O R)) (e : Entry O R) (place : ℕ) → IsEntry h front e →
-    k.ends e.op ≡ Some place →
-    decision_of (k.waits (state_after m s front)) e.who.number place ≡ Some e.reply
+    k.ends e.op ≡ Some place → IsDecided k (state_after m s front) (decision place e.who.number e.reply)
 
 -- a wait that is given up is answered its decision, if it has one, else that it was given up
 abbrev pub QuitTellsItsDecision : {S O R M : Type 0} → Machine S O R → WaitKind S O R M → S → List (Entry O R) → Type 0
 QuitTellsItsDecision {O = O} {R = R} m k s h = (front : List (Entry O R)) (e : Entry O R) (place : ℕ) → IsEntry h front e →
     k.quits e.op ≡ Some place →
-    quit_answer k.gives_up (k.waits (state_after m s front)) e.who.number place ≡ Some e.reply
+    IsDecided k (state_after m s front) (decision place e.who.number e.reply)
+    ⊎ ((e.reply ≡ k.gives_up) × (decided_at place (k.waits (state_after m s front)) ≡ 0)
+    × WaitsAt k (state_after m s front) place e.who.number)
+
+-- who ends a wait, or gives it up, is the player who opened it before
+abbrev pub EndedByItsOwnPlayer : {S O R M : Type 0} → Machine S O R → WaitKind S O R M → S → List (Entry O R) → Type 0
+EndedByItsOwnPlayer {O = O} {R = R} {M = M} m k s h = (front : List (Entry O R)) (e : Entry O R) (place : ℕ) →
+    IsEntry h front e → finishes k place e ≡ true →
+    (who : Who) × (matter : M) × (who.number ≡ e.who.number) × WasOpened k front place who matter
 
 -- a wait that is decided may end, with its decision
 abbrev pub MayEndOnceDecided : {S O R M : Type 0} → Machine S O R → WaitKind S O R M → S → List (Entry O R) → Type 0
-MayEndOnceDecided {O = O} {R = R} m k s h = (who : Who) (op : O) (place : ℕ) (answer : R) → k.ends op ≡ Some place →
-    decision_of (k.waits (state_after m s h)) who.number place ≡ Some answer →
-    m.reply_of (state_after m s h) who op ≡ Some answer
+MayEndOnceDecided {O = O} {R = R} m k s h = (who : Who) (op : O) (d : Decision R) → k.ends op ≡ Some d.place →
+    who.number ≡ d.player → IsDecided k (state_after m s h) d → m.reply_of (state_after m s h) who op ≡ Some d.answer
 
 -- a wait that goes on, or is decided, may be given up
-abbrev pub MayQuitUntilEnded : {S O R M : Type 0} → Machine S O R → WaitKind S O R M → S → List (Entry O R) → Type 0
-MayQuitUntilEnded {O = O} {R = R} m k s h = (who : Who) (op : O) (place : ℕ) (answer : R) → k.quits op ≡ Some place →
-    quit_answer k.gives_up (k.waits (state_after m s h)) who.number place ≡ Some answer →
-    m.reply_of (state_after m s h) who op ≡ Some answer
+pub record MayQuitUntilEnded {S O R M : Type 0} (m : Machine S O R) (k : WaitKind S O R M) (s : S)
+    (h : List (Entry O R)) : Type 0 where
+  pub decided : (who : Who) (op : O) (d : Decision R) → k.quits op ≡ Some d.place → who.number ≡ d.player →
+      IsDecided k (state_after m s h) d → m.reply_of (state_after m s h) who op ≡ Some d.answer
+  pub waiting : (who : Who) (op : O) (place : ℕ) → k.quits op ≡ Some place →
+      WaitsAt k (state_after m s h) place who.number → m.reply_of (state_after m s h) who op ≡ Some k.gives_up
+
+-- a decision stays as it is until its wait ends or is given up
+abbrev pub DecisionStays : {S O R M : Type 0} → Machine S O R → WaitKind S O R M → S → List (Entry O R) → Type 0
+DecisionStays {O = O} {R = R} m k s h = (front rest : List (Entry O R)) (d : Decision R) → h ≡ front ++ rest →
+    IsDecided k (state_after m s front) d →
+    IsDecided k (state_after m s h) d ⊎ (list_any (finishes k d.place) rest ≡ true)
+
+-- of the entries before the end of a wait just one decides it, with its reply. Or none does, and it is given up
+abbrev pub AnswersItsOneDecision : {S O R M : Type 0} → Machine S O R → WaitKind S O R M → S → List (Entry O R) → Type 0
+AnswersItsOneDecision {O = O} {R = R} m k s h = (front : List (Entry O R)) (e : Entry O R) (place : ℕ) → IsEntry h front e →
+    finishes k place e ≡ true →
+    ((decisions m k place s front ≡ 1) × WasDecided m k s front (decision place e.who.number e.reply))
+    ⊎ ((decisions m k place s front ≡ 0) × (k.quits e.op ≡ Some place) × (e.reply ≡ k.gives_up))
 
 -- the first is served before the second: its priority number is lower, or it is the same and it has waited longer
 abbrev pub is_before : {M : Type 0} → Waiter M → Waiter M → Bool
@@ -118,3 +210,17 @@ NoneOvertakes {O = O} {R = R} {M = M} m k s h = (front : List (Entry O R)) (e : 
     Contains (k.waits (state_after m s front)).waiting w →
     (Contains (k.waits (state_after m s (front ++ e ∷ []))).waiting w → ⊥) →
     Contains (k.waits (state_after m s (front ++ e ∷ []))).waiting v → is_before w v ≡ true
+
+-- the laws of waits
+pub record KeepsWaits {S O R M : Type 0} (m : Machine S O R) (k : WaitKind S O R M) (s : S) (h : List (Entry O R)) : Type 0 where
+  pub opened : EachWaitHasItsOpening m k s h
+  pub once : EachWaitOnce m k s h
+  pub ends_once : EachEndsOnce m k s h
+  pub ends : EndTellsItsDecision m k s h
+  pub quits : QuitTellsItsDecision m k s h
+  pub own : EndedByItsOwnPlayer m k s h
+  pub stays : DecisionStays m k s h
+  pub answers : AnswersItsOneDecision m k s h
+  pub may_end : MayEndOnceDecided m k s h
+  pub may_quit : MayQuitUntilEnded m k s h
+  pub in_order : NoneOvertakes m k s h

@@ -8,15 +8,15 @@ use std::fmt;
 /// The refusals that a call can answer, by Zephyr's names and without its numbers.
 #[derive(Clone, Copy, Debug, PartialEq, Eq)]
 pub enum Errno {
-    /// The item is being cancelled, or its queue takes no submission now.
+    /// The item is being cancelled, or its queue takes no submission now; or a semaphore's count is 0, and the caller doesn't wait.
     Busy,
-    /// A wait was given up.
+    /// A wait was given up, or its semaphore was reset meanwhile.
     Again,
     /// An argument that the object doesn't take.
     Inval,
     /// The queue isn't started.
     NoDev,
-    /// There is no message, or no room for one.
+    /// There is no message, or no room for one; or the message queue was purged while a put waited.
     NoMsg,
     /// What is asked for is so already.
     Already,

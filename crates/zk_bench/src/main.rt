@@ -18,7 +18,9 @@ fn main(rt: HostRuntime) -> io::Result<()> {
     println!(rt; "submissions")?;
     times(&rt, Calls::Submissions)?;
     println!(rt; "reschedules of 256 items")?;
-    times(&rt, Calls::Reschedules)
+    times(&rt, Calls::Reschedules)?;
+    println!(rt; "messages and a semaphore, with waits")?;
+    times(&rt, Calls::Waits)
 }
 
 fn times<R: Clock + Print + AllocGlobal>(rt: &R, calls: Calls) -> io::Result<()> {
@@ -40,7 +42,7 @@ fn play_and_print<R: Clock + Print + AllocGlobal>(
     let Some(trace) = play(rt.alloc(), scenario) else {
         return println!(rt; "out of memory");
     };
-    print(rt, "playing", start, trace.work.items().len(), "entries")?;
+    print(rt, "playing", start, entries(&trace), "entries")?;
     let start = Instant::now(rt)?;
     let length = printed(text, scenario, &trace);
     print(rt, "printing", start, length, "bytes")
@@ -52,6 +54,22 @@ fn read(alloc: Global, text: &[u8]) -> Option<Scenario> {
 
 fn play(alloc: Global, scenario: &Scenario) -> Option<Trace> {
     replay(alloc, scenario).ok()
+}
+
+/// How many entries the histories have together.
+fn entries(trace: &Trace) -> usize {
+    let mut count = trace
+        .work
+        .items()
+        .len()
+        .saturating_add(trace.clock.items().len());
+    for history in trace.sems.items() {
+        count = count.saturating_add(history.items().len());
+    }
+    for history in trace.msgqs.items() {
+        count = count.saturating_add(history.items().len());
+    }
+    count
 }
 
 /// How many bytes there are once the trace is appended, which memory may cut short.

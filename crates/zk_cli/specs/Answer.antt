@@ -2,13 +2,15 @@ use Rattle.std.specs.Prelude.{◌≡◌, ℕ, Result, Ok, Err, List, ◌++◌}
 use Rattle.zk_base.specs.declared.errors.Status.{Status}
 use Rattle.zk_base.specs.declared.errors.Status.TheVariants as statuses
 use Rattle.zk_model_wait.specs.ClockLaws.{KeepsClockLaws}
+use Rattle.zk_model_wait.specs.MsgqLaws.{KeepsMsgqLaws}
+use Rattle.zk_model_wait.specs.SemLaws.{KeepsSemLaws}
 use Rattle.zk_model_work.specs.Laws.{KeepsLaws}
 use Rattle.zk_scenario.specs.Parts.{Parts}
 use Rattle.zk_scenario.specs.declared.refused.ScenarioRefused.{ScenarioRefused}
 use Rattle.zk_scenario.specs.declared.refused.ScenarioRefused.TheVariants as refusals
 use Rattle.zk_scenario.specs.Grammar.{scenario_of}
 use Rattle.zk_scenario.specs.Spelling.{text_of}
-use Rattle.zk_worker.specs.Machines.{work_start_of}
+use Rattle.zk_worker.specs.Machines.{work_start_of, machines_of}
 use Rattle.zk_trace.specs.declared.trace.Trace.{Trace}
 use Rattle.zk_trace.specs.declared.trace.Ending.{Ending}
 use Rattle.zk_trace.specs.declared.trace.Ending.TheVariants as endings
@@ -16,7 +18,7 @@ use Rattle.zk_trace.specs.Text.{trace_text}
 use Rattle.zk_trace.specs.Lawful.{IsLawful}
 use Rattle.zk_replay.specs.Replay.{IsReplay}
 use Rattle.zk_replay.specs.Over.{IsOver}
-use Rattle.zk_cli.specs.Moments.{AtEachMoment}
+use Rattle.zk_cli.specs.Moments.{AtEachMoment, AtEachObject}
 use Rattle.zk_cli.specs.Refusal.{refusal_text}
 
 -- the input is the text of a scenario, and the output is that text and the trace of its round robin run, which ends so; the trace is lawful for the scenario, its histories keep the laws at each moment, and where the run has ended each admission has ended or was dropped
@@ -29,6 +31,8 @@ pub record IsRun (ending : Ending) (input output : List ℕ) : Type 0 where
   pub lawful : IsLawful scenario trace
   pub laws : AtEachMoment (KeepsLaws (work_start_of scenario)) trace.work
   pub clock_laws : AtEachMoment KeepsClockLaws trace.clock
+  pub sem_laws : AtEachObject KeepsSemLaws (machines_of scenario).sems trace.sems
+  pub msgq_laws : AtEachObject KeepsMsgqLaws (machines_of scenario).msgqs trace.msgqs
   pub over : IsOver scenario trace
   pub ends : trace.ending ≡ ending
   pub printed : output ≡ text_of scenario ++ trace_text scenario trace

@@ -3,6 +3,8 @@
 
 mod answer;
 mod input;
+#[cfg(test)]
+mod object_tests;
 mod output;
 #[cfg(test)]
 mod player_tests;

@@ -259,7 +259,7 @@ fn prints<R: Abort + AllocGlobal>(
 }
 
 /// A scenario of these scripts ends so, and this trace is printed behind it.
-fn row<R: Abort + AllocGlobal>(
+pub fn row<R: Abort + AllocGlobal>(
     rt: &R,
     name: &str,
     status: Status,
@@ -327,7 +327,7 @@ fn other_inputs_are_told(rt: HostRuntime) -> Result<(), Fail> {
     for (input, output) in [
         ("", "refused 1 header\n"),
         (
-            "zk 1\nthread t0 0 super\nsem s0 0 1\n",
+            "zk 1\nthread t0 0 super\nsignal g0\n",
             "refused 3 unbuilt\n",
         ),
         ("zk 1\nitem w0\nscript w0\n", "refused 4 order\n"),

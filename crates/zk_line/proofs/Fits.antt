@@ -1,5 +1,5 @@
 -- A call that is made of well named words fits, and a declaration that is made of them has a new name.
-use Rattle.std.proofs.Common.{◌≡◌, ℕ, true, false, not, List, [], ◌∷◌, Option, Some, None, is_some, refl, sym, ap, ◌∙◌}
+use Rattle.std.proofs.Common.{◌≡◌, ℕ, ◌*◌, ◌/◌, nat_le, length, arith, true, false, not, List, [], ◌∷◌, Option, Some, None, is_some, refl, sym, ap, ◌∙◌}
 use Rattle.std.specs.Prelude.{option_and_then}
 use Rattle.std.specs.Option.{option_map_or, option_flatten}
 use Rattle.std.proofs.lemmas.Bool.{and_parts, and_from}
@@ -11,10 +11,14 @@ use Rattle.zk_words.specs.declared.slot.Slot.TheVariants as slot
 use Rattle.zk_words.specs.declared.slot.Rest.{Rest}
 use Rattle.zk_words.specs.declared.slot.Rest.TheVariants.{Nothing, Maybe}
 use Rattle.zk_words.specs.declared.word.Word.{Word}
+use Rattle.zk_words.specs.Hex.{msg_of}
 use Rattle.zk_words.specs.Numbers.{number_in, priority_of}
 use Rattle.zk_words.specs.Parts.{Placed, parts_of}
 use Rattle.zk_words.specs.Table.{call_row}
+use Rattle.zk_words.specs.Timeouts.{wait_of}
+use Rattle.zk_words.proofs.HexText.{msg_spelled}
 use Rattle.zk_words.proofs.Numerals.{number_in_spelled}
+use Rattle.zk_words.proofs.Waits.{wait_spelled}
 use Rattle.zk_line.specs.declared.types.Decl.{Decl}
 use Rattle.zk_line.specs.declared.types.Decl.TheVariants as decl
 use Rattle.zk_line.specs.declared.types.Ref.TheVariants.{Known}
@@ -23,51 +27,79 @@ use Rattle.zk_line.specs.declared.types.Arg.TheVariants as arg
 use Rattle.zk_line.specs.declared.types.Call.{Call}
 use Rattle.zk_line.specs.Args.{truth_of, ref_of, arg_of, args_of}
 use Rattle.zk_line.specs.Calls.{call_of}
-use Rattle.zk_line.specs.Checks.{is_well_named, are_well_named}
+use Rattle.zk_line.specs.Checks.{size_named, size_said, message_size, is_size, is_in_range, each_in_range, is_well_named, are_well_named}
 use Rattle.zk_line.specs.Decls.{decl_of, decl_args}
 use Rattle.zk_line.specs.Fits.{fits_in, rest_fit, args_fit, call_fits}
 use Rattle.zk_line.specs.Objects.{object_of, kind_of, name_of, is_at, is_met}
 use Rattle.zk_line.proofs.Inverse.{said_of-call_of, written_of-decl_of}
 use Rattle.zk_line.proofs.Spelled.{one_part}
 
-arg_fits : (decls : List Decl) (s : Slot) (w : List ℕ) (a : Arg) → is_well_named decls s w ≡ true → arg_of decls s w ≡ Some a → fits_in decls s a ≡ true
-arg_fits decls (slot.Object need) w a named said =
+-- half as many bytes as digits
+half : (n m : ℕ) → n ≡ 2 * m → n / 2 ≡ m
+half n m is = omega (arith, is)
+
+arg_fits : (decls : List Decl) (size : Option ℕ) (s : Slot) (w : List ℕ) (a : Arg) → is_in_range size s w ≡ true → is_well_named decls s w ≡ true → arg_of decls s w ≡ Some a → fits_in decls size s a ≡ true
+arg_fits decls size (slot.Object need) w a ranged named said =
     let object = one_part arg.Object (ref_of decls w) a said in
     let known = one_part Known (object_of decls w) object.0 object.1 in
-    ap (fits_in decls (slot.Object need)) (sym object.2 ∙ ap arg.Object (sym known.2)) ∙ sym (ap (λ o. option_map_or (is_at (is_met need) decls) o false) known.1) ∙ named
-arg_fits decls (slot.Number least most) w a named said =
+    ap (fits_in decls size (slot.Object need)) (sym object.2 ∙ ap arg.Object (sym known.2)) ∙ sym (ap (λ o. option_map_or (is_at (is_met need) decls) o false) known.1) ∙ named
+arg_fits decls size (slot.Number least most) w a ranged named said =
     let number = one_part arg.Number (number_in least most w) a said in
-    ap (fits_in decls (slot.Number least most)) (sym number.2) ∙ (number_in_spelled least most w number.0 number.1).1
-arg_fits decls slot.New w a named said = refl
-arg_fits decls slot.Owner w a named said = refl
-arg_fits decls slot.Priority w a named said = refl
-arg_fits decls (slot.Either choice) w a named said = refl
+    ap (fits_in decls size (slot.Number least most)) (sym number.2) ∙ (number_in_spelled least most w number.0 number.1).1
+arg_fits decls size slot.New w a ranged named said = refl
+arg_fits decls size slot.Owner w a ranged named said = refl
+arg_fits decls size slot.Priority w a ranged named said = refl
+arg_fits decls size (slot.Either choice) w a ranged named said = refl
+arg_fits decls size slot.Hex w a ranged named said =
+    let bytes = one_part arg.Bytes (msg_of w) a said in
+    let long = half (length w) (length bytes.0) (msg_spelled w bytes.0 bytes.1).1 in
+    ap (fits_in decls size slot.Hex) (sym bytes.2) ∙ ap (is_size size) (sym long) ∙ (and_parts (nat_le (length w) 128) (is_size size (length w / 2)) ranged).1
+arg_fits decls size slot.Wait w a ranged named said =
+    let wait = one_part arg.Wait (wait_of w) a said in
+    ap (fits_in decls size slot.Wait) (sym wait.2) ∙ (wait_spelled w wait.0 wait.1).1
+arg_fits decls size slot.Raw w a ranged named said = refl
 
 -- a line's words and what they say, side by side
-args_fit-read : (decls : List Decl) (slots : List Slot) (rest : Rest) (ws : List (List ℕ)) (args : List Arg) → are_well_named decls (parts_of slots rest ws) ≡ true
-    → args_of decls (parts_of slots rest ws) ≡ Some args → args_fit decls slots rest args ≡ true
-args_fit-read decls [] Nothing ws args named said = refl
-args_fit-read decls [] (Maybe s) [] args named said = ap (rest_fit decls (Maybe s)) (sym (same_Some [] args said))
-args_fit-read decls [] (Maybe s) (w ∷ ws) args named said =
+pub args_fit-read : (decls : List Decl) (size : Option ℕ) (slots : List Slot) (rest : Rest) (ws : List (List ℕ)) (args : List Arg) → each_in_range size (parts_of slots rest ws) ≡ true → are_well_named decls (parts_of slots rest ws) ≡ true
+    → args_of decls (parts_of slots rest ws) ≡ Some args → args_fit decls size slots rest args ≡ true
+args_fit-read decls size [] Nothing ws args ranged named said = refl
+args_fit-read decls size [] (Maybe s) [] args ranged named said = ap (rest_fit decls size (Maybe s)) (sym (same_Some [] args said))
+args_fit-read decls size [] (Maybe s) (w ∷ ws) args ranged named said =
     option_and_then_some _ (arg_of decls s w) args said
-    (λ a is_a given. ap (rest_fit decls (Maybe s)) (sym (same_Some _ _ given)) ∙ arg_fits decls s w a (and_parts (is_well_named decls s w) true named).0 is_a)
-args_fit-read decls (s ∷ slots) rest [] args named said = ap (args_fit decls (s ∷ slots) rest) (sym (same_Some [] args said))
-args_fit-read decls (s ∷ slots) rest (w ∷ ws) args named said =
+    (λ a is_a given.
+    ap (rest_fit decls size (Maybe s)) (sym (same_Some _ _ given))
+    ∙ arg_fits decls size s w a (and_parts (is_in_range size s w) true ranged).0 (and_parts (is_well_named decls s w) true named).0 is_a)
+args_fit-read decls size (s ∷ slots) rest [] args ranged named said = ap (args_fit decls size (s ∷ slots) rest) (sym (same_Some [] args said))
+args_fit-read decls size (s ∷ slots) rest (w ∷ ws) args ranged named said =
+    let first = and_parts (is_in_range size s w) (each_in_range size (parts_of slots rest ws)) ranged in
     let both = and_parts (is_well_named decls s w) (are_well_named decls (parts_of slots rest ws)) named in
     option_and_then_some _ (arg_of decls s w) args said
     (λ a is_a given.
     let more = one_part (λ xs. a ∷ xs) (args_of decls (parts_of slots rest ws)) args given in
-    ap (args_fit decls (s ∷ slots) rest) (sym more.2)
-    ∙ and_from (fits_in decls s a) (args_fit decls slots rest more.0) (arg_fits decls s w a both.0 is_a) (args_fit-read decls slots rest ws more.0 both.1 more.1))
+    ap (args_fit decls size (s ∷ slots) rest) (sym more.2)
+    ∙ and_from (fits_in decls size s a) (args_fit decls size slots rest more.0) (arg_fits decls size s w a first.0 both.0 is_a) (args_fit-read decls size slots rest ws more.0 first.1 both.1 more.1))
 
--- the call of a line whose words are well named fits
-pub call_fits-read : (decls : List Decl) (w : Word) (ws : List (List ℕ)) (c : Call) → are_well_named decls (parts_of (call_row w).slots (call_row w).rest ws) ≡ true
+-- the size of a line's messages, by what its words say
+size_said-read : (decls : List Decl) (ps : List Placed) (args : List Arg) → args_of decls ps ≡ Some args → size_said decls args ≡ message_size decls ps
+size_said-read decls [] args said = ap (size_said decls) (sym (same_Some [] args said))
+size_said-read decls (p ∷ ps) args said =
+    option_and_then_some _ (arg_of decls p.slot p.text) args said
+    (λ a is_a given.
+    let more = one_part (λ xs. a ∷ xs) (args_of decls ps) args given in
+    ap (size_said decls) (sym more.2) ∙ sym (ap (option_and_then (size_named decls)) is_a))
+
+-- the call of a line whose words are in range and well named fits
+pub call_fits-read : (decls : List Decl) (w : Word) (ws : List (List ℕ)) (c : Call) → each_in_range (message_size decls (parts_of (call_row w).slots (call_row w).rest ws)) (parts_of (call_row w).slots (call_row w).rest ws) ≡ true
+    → are_well_named decls (parts_of (call_row w).slots (call_row w).rest ws) ≡ true
     → option_and_then (call_of w) (args_of decls (parts_of (call_row w).slots (call_row w).rest ws)) ≡ Some c → call_fits decls c ≡ true
-call_fits-read decls w ws c named made =
-    option_and_then_some (call_of w) (args_of decls (parts_of (call_row w).slots (call_row w).rest ws)) c made
+call_fits-read decls w ws c ranged named made =
+    let form = call_row w in
+    let ps = parts_of form.slots form.rest ws in
+    option_and_then_some (call_of w) (args_of decls ps) c made
     (λ args is_args given.
-    ap (λ said. args_fit decls (call_row said.word).slots (call_row said.word).rest said.args) (said_of-call_of w args c given)
-    ∙ args_fit-read decls (call_row w).slots (call_row w).rest ws args named is_args)
+    ap (λ said. args_fit decls (size_said decls said.args) (call_row said.word).slots (call_row said.word).rest said.args) (said_of-call_of w args c given)
+    ∙ ap (λ size. args_fit decls size form.slots form.rest args) (size_said-read decls ps args is_args)
+    ∙ args_fit-read decls (message_size decls ps) form.slots form.rest ws args ranged named is_args)
 
 -- the kind of what a line declares
 pub kind_of-read : (decls : List Decl) (k : Kind) (parts : List Placed) (d : Decl) → option_and_then (decl_of k) (args_of decls parts) ≡ Some d → kind_of d ≡ k
@@ -87,12 +119,17 @@ fresh decls (slot.Object need) w name named said = let part = one_part arg.Objec
 fresh decls (slot.Number least most) w name named said = let part = one_part arg.Number (number_in least most w) (arg.Name name) said in absurd (cc part.2)
 fresh decls slot.Priority w name named said = let part = one_part arg.Priority (option_flatten (priority_of w)) (arg.Name name) said in absurd (cc part.2)
 fresh decls (slot.Either choice) w name named said = let part = one_part (arg.Truth choice) (truth_of choice w) (arg.Name name) said in absurd (cc part.2)
+fresh decls slot.Hex w name named said = let part = one_part arg.Bytes (msg_of w) (arg.Name name) said in absurd (cc part.2)
+fresh decls slot.Wait w name named said = let part = one_part arg.Wait (wait_of w) (arg.Name name) said in absurd (cc part.2)
+fresh decls slot.Raw w name named said = absurd (cc)
 
 -- the first that is written of a declaration is its name
 first_name : (d : Decl) → (more : List Arg) × (decl_args d ≡ arg.Name (name_of d) ∷ more)
 first_name (decl.Thread name prio user) = (_, refl)
 first_name (decl.Queue name prio on) = (_, refl)
 first_name (decl.Item name) = (_, refl)
+first_name (decl.Sem name initial limit) = (_, refl)
+first_name (decl.Msgq name size capacity) = (_, refl)
 
 -- the name of what a line declares is no other's
 pub fresh-read : (decls : List Decl) (k : Kind) (parts : List Placed) (d : Decl) → are_well_named decls parts ≡ true → option_and_then (decl_of k) (args_of decls parts) ≡ Some d → object_of decls (name_of d) ≡ None

@@ -6,12 +6,13 @@ use Rattle.zk_words.specs.declared.slot.Choice.{Choice}
 use Rattle.zk_words.specs.declared.slot.Choice.TheVariants.{Mode, State, Drain}
 use Rattle.zk_words.specs.declared.kind.Kind.{Kind}
 use Rattle.zk_words.specs.declared.kind.Kind.TheVariants as kind
+use Rattle.zk_words.specs.declared.timeout.Timeout.{Timeout}
 use Rattle.zk_words.specs.declared.word.Word.{Word}
 use Rattle.zk_words.specs.declared.word.Word.TheVariants as word
 use Rattle.zk_words.specs.Spelled.{same_choice}
 use Rattle.zk_line.specs.declared.types.Ref.{Ref}
 use Rattle.zk_line.specs.declared.types.Arg.{Arg}
-use Rattle.zk_line.specs.declared.types.Arg.TheVariants.{Name, Object, Number, Priority, Truth}
+use Rattle.zk_line.specs.declared.types.Arg.TheVariants.{Name, Object, Number, Priority, Truth, Bytes, Wait}
 use Rattle.zk_line.specs.declared.types.Call.{Call}
 use Rattle.zk_line.specs.declared.types.Call.TheVariants as call
 use Rattle.zk_line.specs.declared.types.Decl.{Decl}
@@ -19,7 +20,7 @@ use Rattle.zk_line.specs.declared.types.Decl.TheVariants as decl
 use Rattle.zk_line.specs.Calls.{saying, call_of, said_of}
 use Rattle.zk_line.specs.Decls.{decl_of, decl_args}
 use Rattle.zk_line.specs.Objects.{kind_of}
-use Rattle.zk_line.specs.Shapes.{as_name, as_object, as_number, as_priority, as_truth, both, all_three, one, two, three, one_or_two}
+use Rattle.zk_line.specs.Shapes.{as_name, as_object, as_number, as_priority, as_truth, as_bytes, as_wait, both, all_three, one, two, three, one_or_two}
 
 -- an argument is read from just the one that is written of it
 abbrev pub IsPart : {A : Type 0} → (Arg → Option A) → (A → Arg) → Type 0
@@ -57,6 +58,14 @@ truth-is choice (Truth c t) x e = by_same (same_choice choice c) refl e where
   by_same true same here = ap (λ d. Truth d t) (same_choice_is choice c same) ∙ ap (Truth choice) (same_Some t x here)
   by_same false same here = absurd (cc)
 truth-is choice a x e = absurd (cc)
+
+bytes-is : IsPart as_bytes Bytes
+bytes-is (Bytes m) x e = ap Bytes (same_Some m x e)
+bytes-is a x e = absurd (cc)
+
+wait-is : IsPart as_wait Wait
+wait-is (Wait t) x e = ap Wait (same_Some t x e)
+wait-is a x e = absurd (cc)
 
 both_is : {A B : Type 0} (a : Option A) (b : Option B) (p : A × B) → both a b ≡ Some p → (a ≡ Some p.0) × (b ≡ Some p.1)
 both_is (Some a) (Some b) p e = let is = same_Some _ _ e in (ap (λ q. Some q.0) is, ap (λ q. Some q.1) is)
@@ -111,6 +120,10 @@ delayed : (w : Word) (f : Ref × Ref × ℕ → Call) → ((x : Ref × Ref × �
     → option_map f (three as_object as_object as_number args) ≡ Some c → said_of c ≡ saying w args
 delayed w f says = by_shape (three as_object as_object as_number) _ f said_of (saying w) (three-is as_object Object as_object Object as_number Number object-is object-is number-is) says
 
+-- the words of an object and of how long is waited for it
+waiting : (w : Word) (f : Ref × Timeout → Call) → ((x : Ref × Timeout) → said_of (f x) ≡ saying w (Object x.0 ∷ Wait x.1 ∷ [])) → (args : List Arg) (c : Call) → option_map f (two as_object as_wait args) ≡ Some c → said_of c ≡ saying w args
+waiting w f says = by_shape (two as_object as_wait) _ f said_of (saying w) (two-is as_object Object as_wait Wait object-is wait-is) says
+
 -- what is made a call is written so
 pub said_of-call_of : (w : Word) (args : List Arg) (c : Call) → call_of w args ≡ Some c → said_of c ≡ saying w args
 said_of-call_of word.Submit = by_shape (one_or_two as_object as_object) _ (λ p. call.Submit p.0 p.1) said_of (saying word.Submit) (one_or_two-is as_object Object as_object Object object-is object-is) (λ x. refl)
@@ -124,6 +137,17 @@ said_of-call_of word.Start = one_object word.Start call.Start (λ x. refl)
 said_of-call_of word.Drain = by_shape (two as_object (as_truth Drain)) _ (λ p. call.Drain p.0 p.1) said_of (saying word.Drain) (two-is as_object Object (as_truth Drain) (Truth Drain) object-is (truth-is Drain)) (λ x. refl)
 said_of-call_of word.Unplug = one_object word.Unplug call.Unplug (λ x. refl)
 said_of-call_of word.Tick = by_shape (one as_number) _ call.Tick said_of (saying word.Tick) (one-is as_number Number number-is) (λ x. refl)
+said_of-call_of word.Take = waiting word.Take (λ p. call.Take p.0 p.1) (λ x. refl)
+said_of-call_of word.Give = one_object word.Give call.Give (λ x. refl)
+said_of-call_of word.Reset = one_object word.Reset call.Reset (λ x. refl)
+said_of-call_of word.Count = one_object word.Count call.Count (λ x. refl)
+said_of-call_of word.Put = by_shape (three as_object as_bytes as_wait) _ (λ p. call.Put p.0 p.1 p.2) said_of (saying word.Put) (three-is as_object Object as_bytes Bytes as_wait Wait object-is bytes-is wait-is) (λ x. refl)
+said_of-call_of word.Get = waiting word.Get (λ p. call.Get p.0 p.1) (λ x. refl)
+said_of-call_of word.Peek = one_object word.Peek call.Peek (λ x. refl)
+said_of-call_of word.PeekAt = by_shape (two as_object as_number) _ (λ p. call.PeekAt p.0 p.1) said_of (saying word.PeekAt) (two-is as_object Object as_number Number object-is number-is) (λ x. refl)
+said_of-call_of word.Purge = one_object word.Purge call.Purge (λ x. refl)
+said_of-call_of word.Used = one_object word.Used call.Used (λ x. refl)
+said_of-call_of word.Free = one_object word.Free call.Free (λ x. refl)
 
 -- what is written of a call makes that call
 pub call_of-said_of : (c : Call) → call_of (said_of c).word (said_of c).args ≡ Some c
@@ -139,6 +163,17 @@ call_of-said_of (call.Start queue) = refl
 call_of-said_of (call.Drain queue plug) = refl
 call_of-said_of (call.Unplug queue) = refl
 call_of-said_of (call.Tick ticks) = refl
+call_of-said_of (call.Take sem wait) = refl
+call_of-said_of (call.Give sem) = refl
+call_of-said_of (call.Reset sem) = refl
+call_of-said_of (call.Count sem) = refl
+call_of-said_of (call.Put msgq message wait) = refl
+call_of-said_of (call.Get msgq wait) = refl
+call_of-said_of (call.Peek msgq) = refl
+call_of-said_of (call.PeekAt msgq index) = refl
+call_of-said_of (call.Purge msgq) = refl
+call_of-said_of (call.Used msgq) = refl
+call_of-said_of (call.Free msgq) = refl
 
 -- a declaration as it is written: its kind, and what stands behind that
 pub record Written : Type 0 where
@@ -159,14 +194,23 @@ playing : (k : Kind) (choice : Choice) (f : List ℕ × ℤ × Bool → Decl) �
 playing k choice f says =
     by_shape (three as_name as_priority (as_truth choice)) _ f written_of (written k) (three-is as_name Name as_priority Priority (as_truth choice) (Truth choice) name-is priority-is (truth-is choice)) says
 
+-- the kinds of a name and two numbers
+numbered : (k : Kind) (f : List ℕ × ℕ × ℕ → Decl) → ((x : List ℕ × ℕ × ℕ) → written_of (f x) ≡ written k (Name x.0 ∷ Number x.1 ∷ Number x.2 ∷ [])) → (args : List Arg) (d : Decl)
+    → option_map f (three as_name as_number as_number args) ≡ Some d → written_of d ≡ written k args
+numbered k f says = by_shape (three as_name as_number as_number) _ f written_of (written k) (three-is as_name Name as_number Number as_number Number name-is number-is number-is) says
+
 -- what is made a declaration is written so
 pub written_of-decl_of : (k : Kind) (args : List Arg) (d : Decl) → decl_of k args ≡ Some d → written_of d ≡ written k args
 written_of-decl_of kind.Thread = playing kind.Thread Mode (λ p. decl.Thread p.0 p.1 p.2) (λ x. refl)
 written_of-decl_of kind.Queue = playing kind.Queue State (λ p. decl.Queue p.0 p.1 p.2) (λ x. refl)
 written_of-decl_of kind.Item = by_shape (one as_name) _ decl.Item written_of (written kind.Item) (one-is as_name Name name-is) (λ x. refl)
+written_of-decl_of kind.Sem = numbered kind.Sem (λ p. decl.Sem p.0 p.1 p.2) (λ x. refl)
+written_of-decl_of kind.Msgq = numbered kind.Msgq (λ p. decl.Msgq p.0 p.1 p.2) (λ x. refl)
 
 -- what is written of a declaration makes that declaration
 pub decl_of-decl_args : (d : Decl) → decl_of (kind_of d) (decl_args d) ≡ Some d
 decl_of-decl_args (decl.Thread name prio user) = refl
 decl_of-decl_args (decl.Queue name prio on) = refl
 decl_of-decl_args (decl.Item name) = refl
+decl_of-decl_args (decl.Sem name initial limit) = refl
+decl_of-decl_args (decl.Msgq name size capacity) = refl

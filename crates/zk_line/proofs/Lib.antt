@@ -1,9 +1,11 @@
 pub mod ByName
 pub mod Choices
 pub mod Fits
+pub mod InRange
 pub mod Inverse
 pub mod Joined
 pub mod Lists
 pub mod Makes
+pub mod ReadTo
 pub mod Spelled
 pub mod Tables

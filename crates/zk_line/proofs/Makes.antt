@@ -1,9 +1,9 @@
 -- A line of right words makes its call or its declaration.
-use Rattle.std.proofs.Common.{◌≡◌, ℕ, Bool, true, false, cond, ◌||◌, List, [], ◌∷◌, Option, Some, None, is_some, refl, sym, ap, subst, ◌∙◌}
+use Rattle.std.proofs.Common.{◌≡◌, ℕ, ◌/◌, Bool, true, false, cond, nat_le, ◌&&◌, ◌||◌, List, [], ◌∷◌, length, Option, Some, None, is_some, refl, sym, ap, subst, ◌∙◌}
 use Rattle.std.specs.Prelude.{option_map, option_and_then, IsSome, bytes_eq}
 use Rattle.std.specs.List.{list_all}
 use Rattle.std.specs.Option.{option_map_or, option_flatten}
-use Rattle.std.proofs.lemmas.Bool.{and_parts, cond-true}
+use Rattle.std.proofs.lemmas.Bool.{and_parts, and_from, cond-true}
 use Rattle.zk_base.specs.Names.{is_name}
 use Rattle.zk_words.specs.declared.kind.Kind.{Kind}
 use Rattle.zk_words.specs.declared.kind.Kind.TheVariants as kind
@@ -17,44 +17,47 @@ use Rattle.zk_words.specs.declared.slot.Rest.{Rest}
 use Rattle.zk_words.specs.declared.slot.Rest.TheVariants.{Nothing, Maybe}
 use Rattle.zk_words.specs.declared.word.Word.{Word}
 use Rattle.zk_words.specs.declared.word.Word.TheVariants as word
+use Rattle.zk_words.specs.declared.timeout.Timeout.{Timeout}
+use Rattle.zk_words.specs.Hex.{is_hex, bytes_of}
 use Rattle.zk_words.specs.Numbers.{number_in, priority_of}
 use Rattle.zk_words.specs.Parts.{Placed, placed, parts_of, fits}
 use Rattle.zk_words.specs.Spelled.{choice_text, is_spelled_in, part_is_spelled}
-use Rattle.zk_words.specs.Table.{call_row, kind_row, item, queue, delay, ticks}
+use Rattle.zk_words.specs.Table.{call_row, kind_row, item, queue, sem, msgq, delay, ticks, index, initial, limit, size, capacity}
+use Rattle.zk_words.specs.Timeouts.{wait_of}
 use Rattle.zk_line.specs.declared.types.Decl.{Decl}
 use Rattle.zk_line.specs.declared.types.Decl.TheVariants as decl
 use Rattle.zk_line.specs.declared.types.Ref.{Ref}
 use Rattle.zk_line.specs.declared.types.Ref.TheVariants.{Known}
 use Rattle.zk_line.specs.declared.types.Arg.{Arg}
-use Rattle.zk_line.specs.declared.types.Arg.TheVariants.{Name, Object, Number, Priority, Truth}
+use Rattle.zk_line.specs.declared.types.Arg.TheVariants.{Name, Object, Number, Priority, Truth, Bytes, Wait}
 use Rattle.zk_line.specs.declared.types.Call.{Call}
 use Rattle.zk_line.specs.declared.types.Call.TheVariants as call
 use Rattle.zk_line.specs.Args.{truth_of, arg_of, args_of}
 use Rattle.zk_line.specs.Calls.{call_of}
-use Rattle.zk_line.specs.Checks.{is_in_range, are_in_range, is_well_named, are_well_named}
+use Rattle.zk_line.specs.Checks.{is_size, is_in_range, each_in_range, is_well_named, are_well_named}
 use Rattle.zk_line.specs.Decls.{decl_of}
 use Rattle.zk_line.specs.Objects.{object_of, is_at, is_met}
-use Rattle.zk_line.specs.Shapes.{as_name, as_object, as_number, as_priority, as_truth, both, all_three, one, two, three, one_or_two}
+use Rattle.zk_line.specs.Shapes.{as_name, as_object, as_number, as_priority, as_truth, as_bytes, as_wait, both, all_three, one, two, three, one_or_two}
 
--- a word is spelled, in range and well named
-pub record IsRight (decls : List Decl) (s : Slot) (w : List ℕ) : Type 0 where
+-- a word is spelled, in range and well named, in a line whose messages have so many bytes
+pub record IsRight (decls : List Decl) (bytes : Option ℕ) (s : Slot) (w : List ℕ) : Type 0 where
   pub spelled : is_spelled_in s w ≡ true
-  pub in_range : is_in_range s w ≡ true
+  pub in_range : is_in_range bytes s w ≡ true
   pub named : is_well_named decls s w ≡ true
 
 -- each word of a line is
-abbrev pub AreRight : List Decl → List Placed → Type 0
-AreRight decls [] = Unit {0}
-AreRight decls (p ∷ ps) = IsRight decls p.slot p.text × AreRight decls ps
+abbrev pub AreRight : List Decl → Option ℕ → List Placed → Type 0
+AreRight decls bytes [] = Unit {0}
+AreRight decls bytes (p ∷ ps) = IsRight decls bytes p.slot p.text × AreRight decls bytes ps
 
 -- the three tests of a line's words, side by side
-pub are_right : (decls : List Decl) (ps : List Placed) → list_all part_is_spelled ps ≡ true → are_in_range ps ≡ true → are_well_named decls ps ≡ true → AreRight decls ps
-are_right decls [] s r n = tt
-are_right decls (p ∷ ps) s r n =
+pub are_right : (decls : List Decl) (bytes : Option ℕ) (ps : List Placed) → list_all part_is_spelled ps ≡ true → each_in_range bytes ps ≡ true → are_well_named decls ps ≡ true → AreRight decls bytes ps
+are_right decls bytes [] s r n = tt
+are_right decls bytes (p ∷ ps) s r n =
     let ss = and_parts (part_is_spelled p) (list_all part_is_spelled ps) s in
-    let rs = and_parts (is_in_range p.slot p.text) (are_in_range ps) r in
+    let rs = and_parts (is_in_range bytes p.slot p.text) (each_in_range bytes ps) r in
     let ns = and_parts (is_well_named decls p.slot p.text) (are_well_named decls ps) n in
-    (record { spelled = ss.0; in_range = rs.0; named = ns.0 }, are_right decls ps ss.1 rs.1 ns.1)
+    (record { spelled = ss.0; in_range = rs.0; named = ns.0 }, are_right decls bytes ps ss.1 rs.1 ns.1)
 
 -- what is there is something
 pub is_some-some : {X : Type 0} (o : Option X) → is_some o ≡ true → (x : X) × (o ≡ Some x)
@@ -63,22 +66,22 @@ is_some-some (Some x) e = (x, refl)
 
 -- a right word says something of the kind that is asked for
 abbrev IsMade : {A : Type 0} → Slot → (Arg → Option A) → Type 0
-IsMade s f = (decls : List Decl) (w : List ℕ) → IsRight decls s w → (arg : Arg) × (arg_of decls s w ≡ Some arg) × IsSome (f arg)
+IsMade s f = (decls : List Decl) (bytes : Option ℕ) (w : List ℕ) → IsRight decls bytes s w → (arg : Arg) × (arg_of decls s w ≡ Some arg) × IsSome (f arg)
 
 name-made : IsMade slot.New as_name
-name-made decls w right = (Name w, cond-true (is_name w) (Some (Name w)) None (and_parts (is_name w) _ right.named).0, refl)
+name-made decls bytes w right = (Name w, cond-true (is_name w) (Some (Name w)) None (and_parts (is_name w) _ right.named).0, refl)
 
 object-made : (n : Need) → IsMade (slot.Object n) as_object
-object-made n decls w right = by_place (object_of decls w) refl where
+object-made n decls bytes w right = by_place (object_of decls w) refl where
   by_place : (o : Option ℕ) → object_of decls w ≡ o → (arg : Arg) × (arg_of decls (slot.Object n) w ≡ Some arg) × IsSome (as_object arg)
   by_place (Some k) same = (Object (Known k), ap (λ o. option_map Object (option_map Known o)) same, refl)
   by_place None same = let none : false ≡ true = sym (ap (λ o. option_map_or (is_at (is_met n) decls) o false) same) ∙ right.named in absurd (cc)
 
 number-made : (least most : ℕ) → IsMade (slot.Number least most) as_number
-number-made least most decls w right = let n = is_some-some (number_in least most w) right.in_range in (Number n.0, ap (option_map Number) n.1, refl)
+number-made least most decls bytes w right = let n = is_some-some (number_in least most w) right.in_range in (Number n.0, ap (option_map Number) n.1, refl)
 
 priority-made : IsMade slot.Priority as_priority
-priority-made decls w right = let p = is_some-some (option_flatten (priority_of w)) right.in_range in (Priority p.0, ap (option_map Priority) p.1, refl)
+priority-made decls bytes w right = let p = is_some-some (option_flatten (priority_of w)) right.in_range in (Priority p.0, ap (option_map Priority) p.1, refl)
 
 truth_same : (choice : Choice) (t : Bool) → IsSome (as_truth choice (Truth choice t))
 truth_same Mode t = refl
@@ -86,7 +89,7 @@ truth_same State t = refl
 truth_same Drain t = refl
 
 truth-made : (choice : Choice) → IsMade (slot.Either choice) (as_truth choice)
-truth-made choice decls w right = by_first (bytes_eq w (choice_text choice true)) (bytes_eq w (choice_text choice false)) refl refl right.spelled where
+truth-made choice decls bytes w right = by_first (bytes_eq w (choice_text choice true)) (bytes_eq w (choice_text choice false)) refl refl right.spelled where
   by_first : (p q : Bool) → bytes_eq w (choice_text choice true) ≡ p → bytes_eq w (choice_text choice false) ≡ q → (p || q) ≡ true
       → (arg : Arg) × (option_map (Truth choice) (truth_of choice w) ≡ Some arg) × IsSome (as_truth choice arg)
   by_first true q is_first is_second e =
@@ -95,9 +98,19 @@ truth-made choice decls w right = by_first (bytes_eq w (choice_text choice true)
       (Truth choice false, ap (λ b. option_map (Truth choice) (cond b (Some true) (cond (bytes_eq w (choice_text choice false)) (Some false) None))) is_first ∙ ap (λ b. option_map (Truth choice) (cond b (Some false) None)) is_second, truth_same choice false)
   by_first false false is_first is_second e = absurd (cc)
 
+-- digits of the size that is asked for, and so of at most 64 bytes, spell a message
+bytes-made : IsMade slot.Hex as_bytes
+bytes-made decls bytes w right =
+    let short = (and_parts (nat_le (length w) 128) (is_size bytes (length w / 2)) right.in_range).0 in
+    let hex : (is_hex w && nat_le (length w) 128) ≡ true = and_from (is_hex w) (nat_le (length w) 128) right.spelled short in
+    (Bytes (bytes_of w), ap (option_map Bytes) (cond-true (is_hex w && nat_le (length w) 128) (Some (bytes_of w)) None hex), refl)
+
+wait-made : IsMade slot.Wait as_wait
+wait-made decls bytes w right = let t = is_some-some (wait_of w) right.in_range in (Wait t.0, ap (option_map Wait) t.1, refl)
+
 -- a right line says something throughout, of the shape that is asked for
 abbrev IsLine : {X : Type 0} → List Slot → Rest → (List Arg → Option X) → Type 0
-IsLine slots rest shape = (decls : List Decl) (ws : List (List ℕ)) → fits slots rest ws ≡ true → AreRight decls (parts_of slots rest ws)
+IsLine slots rest shape = (decls : List Decl) (bytes : Option ℕ) (ws : List (List ℕ)) → fits slots rest ws ≡ true → AreRight decls bytes (parts_of slots rest ws)
     → (args : List Arg) × (args_of decls (parts_of slots rest ws) ≡ Some args) × IsSome (shape args)
 
 args-cons : (decls : List Decl) (s : Slot) (w : List ℕ) (ps : List Placed) (arg : Arg) (args : List Arg) → arg_of decls s w ≡ Some arg → args_of decls ps ≡ Some args → args_of decls (placed s w ∷ ps) ≡ Some (arg ∷ args)
@@ -116,60 +129,79 @@ three-some (Some a) None z e h k = absurd (cc)
 three-some (Some a) (Some b) None e h k = absurd (cc)
 
 one-line : {A : Type 0} (s : Slot) (f : Arg → Option A) → IsMade s f → IsLine (s ∷ []) Nothing (one f)
-one-line s f made decls [] fit right = absurd (cc)
-one-line s f made decls (w ∷ []) fit right = let m = made decls w right.0 in (m.0 ∷ [], args-cons decls s w [] m.0 [] m.1 refl, m.2)
-one-line s f made decls (w ∷ v ∷ ws) fit right = absurd (cc)
+one-line s f made decls bytes [] fit right = absurd (cc)
+one-line s f made decls bytes (w ∷ []) fit right = let m = made decls bytes w right.0 in (m.0 ∷ [], args-cons decls s w [] m.0 [] m.1 refl, m.2)
+one-line s f made decls bytes (w ∷ v ∷ ws) fit right = absurd (cc)
 
 two-line : {A B : Type 0} (s : Slot) (f : Arg → Option A) (t : Slot) (g : Arg → Option B) → IsMade s f → IsMade t g → IsLine (s ∷ t ∷ []) Nothing (two f g)
-two-line s f t g made also decls [] fit right = absurd (cc)
-two-line s f t g made also decls (w ∷ []) fit right = absurd (cc)
-two-line s f t g made also decls (w ∷ v ∷ []) fit right =
-    let m = made decls w right.0 in let n = also decls v right.1.0 in
+two-line s f t g made also decls bytes [] fit right = absurd (cc)
+two-line s f t g made also decls bytes (w ∷ []) fit right = absurd (cc)
+two-line s f t g made also decls bytes (w ∷ v ∷ []) fit right =
+    let m = made decls bytes w right.0 in let n = also decls bytes v right.1.0 in
     (m.0 ∷ n.0 ∷ [], args-cons decls s w (placed t v ∷ []) m.0 (n.0 ∷ []) m.1 (args-cons decls t v [] n.0 [] n.1 refl), both-some (f m.0) (g n.0) m.2 n.2)
-two-line s f t g made also decls (w ∷ v ∷ u ∷ ws) fit right = absurd (cc)
+two-line s f t g made also decls bytes (w ∷ v ∷ u ∷ ws) fit right = absurd (cc)
 
 three-line : {A B C : Type 0} (s : Slot) (f : Arg → Option A) (t : Slot) (g : Arg → Option B) (r : Slot) (h : Arg → Option C) → IsMade s f → IsMade t g → IsMade r h → IsLine (s ∷ t ∷ r ∷ []) Nothing (three f g h)
-three-line s f t g r h made also third decls [] fit right = absurd (cc)
-three-line s f t g r h made also third decls (w ∷ []) fit right = absurd (cc)
-three-line s f t g r h made also third decls (w ∷ v ∷ []) fit right = absurd (cc)
-three-line s f t g r h made also third decls (w ∷ v ∷ u ∷ []) fit right =
-    let m = made decls w right.0 in let n = also decls v right.1.0 in let o = third decls u right.1.1.0 in (
+three-line s f t g r h made also third decls bytes [] fit right = absurd (cc)
+three-line s f t g r h made also third decls bytes (w ∷ []) fit right = absurd (cc)
+three-line s f t g r h made also third decls bytes (w ∷ v ∷ []) fit right = absurd (cc)
+three-line s f t g r h made also third decls bytes (w ∷ v ∷ u ∷ []) fit right =
+    let m = made decls bytes w right.0 in let n = also decls bytes v right.1.0 in let o = third decls bytes u right.1.1.0 in (
       m.0 ∷ n.0 ∷ o.0 ∷ [],
       args-cons decls s w (placed t v ∷ placed r u ∷ []) m.0 (n.0 ∷ o.0 ∷ []) m.1 (args-cons decls t v (placed r u ∷ []) n.0 (o.0 ∷ []) n.1 (args-cons decls r u [] o.0 [] o.1 refl)),
       three-some (f m.0) (g n.0) (h o.0) m.2 n.2 o.2,
     )
-three-line s f t g r h made also third decls (w ∷ v ∷ u ∷ x ∷ ws) fit right = absurd (cc)
+three-line s f t g r h made also third decls bytes (w ∷ v ∷ u ∷ x ∷ ws) fit right = absurd (cc)
+
+-- the same, where `raw` may stand behind: no right line has it
+three_maybe_raw-line : {A B C : Type 0} (s : Slot) (f : Arg → Option A) (t : Slot) (g : Arg → Option B) (r : Slot) (h : Arg → Option C) → IsMade s f → IsMade t g → IsMade r h → IsLine (s ∷ t ∷ r ∷ []) (Maybe slot.Raw) (three f g h)
+three_maybe_raw-line s f t g r h made also third decls bytes [] fit right = absurd (cc)
+three_maybe_raw-line s f t g r h made also third decls bytes (w ∷ []) fit right = absurd (cc)
+three_maybe_raw-line s f t g r h made also third decls bytes (w ∷ v ∷ []) fit right = absurd (cc)
+three_maybe_raw-line s f t g r h made also third decls bytes (w ∷ v ∷ u ∷ []) fit right = three-line s f t g r h made also third decls bytes (w ∷ v ∷ u ∷ []) refl right
+three_maybe_raw-line s f t g r h made also third decls bytes (w ∷ v ∷ u ∷ x ∷ ws) fit right = let none : false ≡ true = right.1.1.1.0.named in absurd (cc)
 
 one_or_two-line : {A B : Type 0} (s : Slot) (f : Arg → Option A) (t : Slot) (g : Arg → Option B) → IsMade s f → IsMade t g → IsLine (s ∷ []) (Maybe t) (one_or_two f g)
-one_or_two-line s f t g made also decls [] fit right = absurd (cc)
-one_or_two-line {B = B} s f t g made also decls (w ∷ []) fit right =
-    let m = made decls w right.0 in (m.0 ∷ [], args-cons decls s w [] m.0 [] m.1 refl, both-some (f m.0) (Some None) m.2 refl)
-one_or_two-line s f t g made also decls (w ∷ v ∷ []) fit right =
-    let m = made decls w right.0 in let n = also decls v right.1.0 in
+one_or_two-line s f t g made also decls bytes [] fit right = absurd (cc)
+one_or_two-line {B = B} s f t g made also decls bytes (w ∷ []) fit right =
+    let m = made decls bytes w right.0 in (m.0 ∷ [], args-cons decls s w [] m.0 [] m.1 refl, both-some (f m.0) (Some None) m.2 refl)
+one_or_two-line s f t g made also decls bytes (w ∷ v ∷ []) fit right =
+    let m = made decls bytes w right.0 in let n = also decls bytes v right.1.0 in
     (m.0 ∷ n.0 ∷ [], args-cons decls s w (placed t v ∷ []) m.0 (n.0 ∷ []) m.1 (args-cons decls t v [] n.0 [] n.1 refl), both-some (f m.0) (option_map Some (g n.0)) m.2 (some-map (g n.0) n.2)) where
       some-map : {Y : Type 0} (o : Option Y) → IsSome o → IsSome (option_map Some o)
       some-map (Some y) e = refl
       some-map None e = absurd (cc)
-one_or_two-line s f t g made also decls (w ∷ v ∷ u ∷ ws) fit right = absurd (cc)
+one_or_two-line s f t g made also decls bytes (w ∷ v ∷ u ∷ ws) fit right = absurd (cc)
 
 -- a right line of these slots makes something
 abbrev Makes : {C : Type 0} → List Slot → Rest → (List Arg → Option C) → Type 0
-Makes slots rest make = (decls : List Decl) (ws : List (List ℕ)) → fits slots rest ws ≡ true → AreRight decls (parts_of slots rest ws) → IsSome (option_and_then make (args_of decls (parts_of slots rest ws)))
+Makes slots rest make = (decls : List Decl) (bytes : Option ℕ) (ws : List (List ℕ)) → fits slots rest ws ≡ true → AreRight decls bytes (parts_of slots rest ws) → IsSome (option_and_then make (args_of decls (parts_of slots rest ws)))
 
 by_line : {X C : Type 0} (slots : List Slot) (rest : Rest) (shape : List Arg → Option X) (f : X → C) → IsLine slots rest shape → Makes slots rest (λ args. option_map f (shape args))
-by_line {X} {C} slots rest shape f is decls ws fit right = let m = is decls ws fit right in
+by_line {X} {C} slots rest shape f is decls bytes ws fit right = let m = is decls bytes ws fit right in
     subst (λ o. IsSome (option_and_then (λ args. option_map f (shape args)) o)) (sym m.1) (some-map (shape m.0) m.2) where
       some-map : (o : Option X) → IsSome o → IsSome (option_map f o)
       some-map (Some y) e = refl
       some-map None e = absurd (cc)
 
--- the lines of one item or one queue, and those of an item, a queue and a delay
+-- the lines of one object
 one_item : (f : Ref → Call) → Makes (item ∷ []) Nothing (λ args. option_map f (one as_object args))
 one_item f = by_line (item ∷ []) Nothing (one as_object) f (one-line item as_object (object-made need.Item))
 
 one_queue : (f : Ref → Call) → Makes (queue ∷ []) Nothing (λ args. option_map f (one as_object args))
 one_queue f = by_line (queue ∷ []) Nothing (one as_object) f (one-line queue as_object (object-made need.Queue))
 
+one_sem : (f : Ref → Call) → Makes (sem ∷ []) Nothing (λ args. option_map f (one as_object args))
+one_sem f = by_line (sem ∷ []) Nothing (one as_object) f (one-line sem as_object (object-made need.Sem))
+
+one_msgq : (f : Ref → Call) → Makes (msgq ∷ []) Nothing (λ args. option_map f (one as_object args))
+one_msgq f = by_line (msgq ∷ []) Nothing (one as_object) f (one-line msgq as_object (object-made need.Msgq))
+
+-- the lines of an object and of how long is waited for it
+waiting : (n : Need) (f : Ref × Timeout → Call) → Makes (slot.Object n ∷ slot.Wait ∷ []) Nothing (λ args. option_map f (two as_object as_wait args))
+waiting n f = by_line (slot.Object n ∷ slot.Wait ∷ []) Nothing (two as_object as_wait) f (two-line (slot.Object n) as_object slot.Wait as_wait (object-made n) wait-made)
+
+-- the lines of an item, a queue and a delay
 delayed : IsLine (item ∷ queue ∷ delay ∷ []) Nothing (three as_object as_object as_number)
 delayed = three-line item as_object queue as_object delay as_number (object-made need.Item) (object-made need.Queue) (number-made 0 1000000)
 
@@ -186,13 +218,31 @@ makes_call word.Start = one_queue call.Start
 makes_call word.Drain = by_line (queue ∷ slot.Either Drain ∷ []) Nothing (two as_object (as_truth Drain)) (λ p. call.Drain p.0 p.1) (two-line queue as_object (slot.Either Drain) (as_truth Drain) (object-made need.Queue) (truth-made Drain))
 makes_call word.Unplug = one_queue call.Unplug
 makes_call word.Tick = by_line (ticks ∷ []) Nothing (one as_number) call.Tick (one-line ticks as_number (number-made 1 1000000))
+makes_call word.Take = waiting need.Sem (λ p. call.Take p.0 p.1)
+makes_call word.Give = one_sem call.Give
+makes_call word.Reset = one_sem call.Reset
+makes_call word.Count = one_sem call.Count
+makes_call word.Put = by_line (msgq ∷ slot.Hex ∷ slot.Wait ∷ []) Nothing (three as_object as_bytes as_wait) (λ p. call.Put p.0 p.1 p.2) (three-line msgq as_object slot.Hex as_bytes slot.Wait as_wait (object-made need.Msgq) bytes-made wait-made)
+makes_call word.Get = waiting need.Msgq (λ p. call.Get p.0 p.1)
+makes_call word.Peek = one_msgq call.Peek
+makes_call word.PeekAt = by_line (msgq ∷ index ∷ []) Nothing (two as_object as_number) (λ p. call.PeekAt p.0 p.1) (two-line msgq as_object index as_number (object-made need.Msgq) (number-made 0 255))
+makes_call word.Purge = one_msgq call.Purge
+makes_call word.Used = one_msgq call.Used
+makes_call word.Free = one_msgq call.Free
 
 -- the lines of a name, a priority and one of the two words of a choice
 playing : (choice : Choice) → IsLine (slot.New ∷ slot.Priority ∷ slot.Either choice ∷ []) Nothing (three as_name as_priority (as_truth choice))
 playing choice = three-line slot.New as_name slot.Priority as_priority (slot.Either choice) (as_truth choice) name-made priority-made (truth-made choice)
+
+-- the lines of a name and two numbers, behind which `raw` may stand
+numbered : (least most low high : ℕ) → IsLine (slot.New ∷ slot.Number least most ∷ slot.Number low high ∷ []) (Maybe slot.Raw) (three as_name as_number as_number)
+numbered least most low high =
+    three_maybe_raw-line slot.New as_name (slot.Number least most) as_number (slot.Number low high) as_number name-made (number-made least most) (number-made low high)
 
 -- a right line of a kind makes its declaration
 pub makes_decl : (k : Kind) → Makes (kind_row k).slots (kind_row k).rest (decl_of k)
 makes_decl kind.Thread = by_line (slot.New ∷ slot.Priority ∷ slot.Either Mode ∷ []) Nothing (three as_name as_priority (as_truth Mode)) (λ p. decl.Thread p.0 p.1 p.2) (playing Mode)
 makes_decl kind.Queue = by_line (slot.New ∷ slot.Priority ∷ slot.Either State ∷ []) Nothing (three as_name as_priority (as_truth State)) (λ p. decl.Queue p.0 p.1 p.2) (playing State)
 makes_decl kind.Item = by_line (slot.New ∷ []) Nothing (one as_name) decl.Item (one-line slot.New as_name name-made)
+makes_decl kind.Sem = by_line (slot.New ∷ initial ∷ limit ∷ []) (Maybe slot.Raw) (three as_name as_number as_number) (λ p. decl.Sem p.0 p.1 p.2) (numbered 0 1000000 1 1000000)
+makes_decl kind.Msgq = by_line (slot.New ∷ size ∷ capacity ∷ []) (Maybe slot.Raw) (three as_name as_number as_number) (λ p. decl.Msgq p.0 p.1 p.2) (numbered 1 64 1 256)

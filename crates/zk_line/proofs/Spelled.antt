@@ -15,18 +15,22 @@ use Rattle.zk_words.specs.declared.kind.Kind.{Kind}
 use Rattle.zk_words.specs.declared.word.Word.{Word}
 use Rattle.zk_words.specs.declared.word.Head.TheVariants as head
 use Rattle.zk_words.specs.Lines.{form_words}
+use Rattle.zk_words.specs.Hex.{msg_of}
 use Rattle.zk_words.specs.Numbers.{number_in, priority_of}
 use Rattle.zk_words.specs.Parts.{Placed}
 use Rattle.zk_words.specs.Spelled.{choice_text}
 use Rattle.zk_words.specs.Table.{row_of}
 use Rattle.zk_words.specs.Text.{line_text}
+use Rattle.zk_words.specs.Timeouts.{wait_of}
+use Rattle.zk_words.proofs.HexText.{msg_spelled}
 use Rattle.zk_words.proofs.Numerals.{number_in_spelled, priority_spelled}
+use Rattle.zk_words.proofs.Waits.{wait_spelled}
 use Rattle.zk_line.specs.declared.types.Decl.{Decl}
 use Rattle.zk_line.specs.declared.types.Decl.TheVariants as decl
 use Rattle.zk_line.specs.declared.types.Ref.{Ref}
 use Rattle.zk_line.specs.declared.types.Ref.TheVariants.{Known}
 use Rattle.zk_line.specs.declared.types.Arg.{Arg}
-use Rattle.zk_line.specs.declared.types.Arg.TheVariants.{Name, Object, Number, Priority, Truth}
+use Rattle.zk_line.specs.declared.types.Arg.TheVariants.{Name, Object, Number, Priority, Truth, Bytes, Wait}
 use Rattle.zk_line.specs.declared.types.Call.{Call}
 use Rattle.zk_line.specs.Args.{truth_of, ref_of, arg_of, args_of, ref_name, arg_text}
 use Rattle.zk_line.specs.Calls.{call_of}
@@ -79,6 +83,11 @@ arg_spelled decls slot.Priority word arg said =
     let part = one_part Priority (option_flatten (priority_of word)) arg said in flat_priority word part.0 (priority_of word) refl part.1 ∙ ap (arg_text decls) part.2
 arg_spelled decls (slot.Either choice) word arg said =
     let part = one_part (Truth choice) (truth_of choice word) arg said in truth_spelled choice word part.0 part.1 ∙ ap (arg_text decls) part.2
+arg_spelled decls slot.Hex word arg said =
+    let part = one_part Bytes (msg_of word) arg said in (msg_spelled word part.0 part.1).0 ∙ ap (arg_text decls) part.2
+arg_spelled decls slot.Wait word arg said =
+    let part = one_part Wait (wait_of word) arg said in (wait_spelled word part.0 part.1).0 ∙ ap (arg_text decls) part.2
+arg_spelled decls slot.Raw word arg said = absurd (cc)
 
 -- the words of a line that says something throughout are the texts of that
 args_spelled : (decls : List Decl) (parts : List Placed) (args : List Arg) → args_of decls parts ≡ Some args → map (λ p. p.text) parts ≡ map (arg_text decls) args
@@ -95,6 +104,8 @@ decl_text : (decls : List Decl) (d : Decl) → map (arg_text decls) (decl_args d
 decl_text decls (decl.Thread name prio user) = refl
 decl_text decls (decl.Queue name prio on) = refl
 decl_text decls (decl.Item name) = refl
+decl_text decls (decl.Sem name initial limit) = refl
+decl_text decls (decl.Msgq name size capacity) = refl
 
 -- a line that makes a declaration is the declaration's line
 pub decl_is_line : (decls : List Decl) (k : Kind) (parts : List Placed) (d : Decl) → option_and_then (decl_of k) (args_of decls parts) ≡ Some d → decl_line d ≡ line_text (form_words (head.Declare k) parts)

@@ -1,5 +1,5 @@
 -- The tables of the declarations, with one declaration more.
-use Rattle.std.proofs.Common.{◌≡◌, ℕ, ◌+◌, ◌<◌, ◌≤◌, ◌^◌, Bool, true, false, cond, Option, None, Some, List, [], ◌∷◌, ◌++◌, length, take, slice_get, count_by, is_some, unwrap_or, refl, sym, ap, subst, ◌∙◌, ⊎_elim, arith, length-append}
+use Rattle.std.proofs.Common.{◌≡◌, ℕ, ◌+◌, ◌<◌, ◌≤◌, ◌^◌, Bool, true, false, cond, Option, None, Some, List, [], ◌∷◌, ◌++◌, length, take, slice_get, count_by, is_some, unwrap_or, refl, sym, ap, ◌∙◌, ⊎_elim, arith, length-append}
 use Rattle.std.specs.Option.{option_map_or}
 use Rattle.std.specs.Str.{bytes_eq}
 use Rattle.std.specs.Cmp.Lexicographic.{bytes_decides}
@@ -11,9 +11,9 @@ use Rattle.std.proofs.lemmas.Option.{slice_get_past}
 use Rattle.std.proofs.Math.Seq.{take-append_seam}
 use Rattle.zk_line.specs.declared.names.Names.{Names}
 use Rattle.zk_line.specs.declared.types.Decl.{Decl}
-use Rattle.zk_line.specs.declared.types.Decl.TheVariants.{Thread, Queue, Item}
+use Rattle.zk_line.specs.declared.types.Decl.TheVariants.{Thread, Queue, Item, Sem, Msgq}
 use Rattle.zk_line.specs.ByName.{by_name}
-use Rattle.zk_line.specs.Objects.{object_of, own_list, grown, IsTabled, is_thread, is_queue, is_item, name_of, same_kind, places, places_from, number_of}
+use Rattle.zk_line.specs.Objects.{object_of, own_list, grown, IsTabled, is_thread, is_queue, is_item, is_sem, is_msgq, name_of, same_kind, places, places_from, number_of}
 use Rattle.zk_line.proofs.Lists.{slice_get-append_left, slice_get-push, position-push}
 
 -- the places of what passes, with one declaration more
@@ -84,27 +84,32 @@ object_of-push ds d name fresh =
       kept (Some k) = refl
 
 -- the number of a new object: how many of its kind there are
-pub length-own_list : (ds : List Decl) (d : Decl) → length (own_list d (places is_thread ds) (places is_queue ds) (places is_item ds)) ≡ count_by (same_kind d) ds
+pub length-own_list : (ds : List Decl) (d : Decl) → length (own_list d (places is_thread ds) (places is_queue ds) (places is_item ds) (places is_sem ds) (places is_msgq ds)) ≡ count_by (same_kind d) ds
 length-own_list ds (Thread name prio user) = length-places is_thread ds
 length-own_list ds (Queue name prio on) = length-places is_queue ds
 length-own_list ds (Item name) = length-places is_item ds
+length-own_list ds (Sem name initial limit) = length-places is_sem ds
+length-own_list ds (Msgq name size capacity) = length-places is_msgq ds
 
 -- the tables, with one declaration more of a new name
-pub IsTabled-push : (ds : List Decl) (d : Decl) (threads queues items numbers : List ℕ) (n : ℕ) (names after : Names) → IsTabled ds threads queues items numbers names
-    → length ds + 1 < 2 ^ 32 → object_of ds (name_of d) ≡ None → n ≡ length (own_list d threads queues items)
+pub IsTabled-push : (ds : List Decl) (d : Decl) (threads queues items sems msgqs numbers : List ℕ) (n : ℕ) (names after : Names) → IsTabled ds threads queues items sems msgqs numbers names
+    → length ds + 1 < 2 ^ 32 → object_of ds (name_of d) ≡ None → n ≡ length (own_list d threads queues items sems msgqs)
     → ((other : List ℕ) → by_name after other ≡ cond (bytes_eq (name_of d) other) (Some (length ds)) (by_name names other))
-    → IsTabled (ds ++ d ∷ []) (grown is_thread d (length ds) threads) (grown is_queue d (length ds) queues) (grown is_item d (length ds) items) (numbers ++ n ∷ []) after
-IsTabled-push ds d threads queues items numbers n names after held few fresh number put =
+    → IsTabled (ds ++ d ∷ []) (grown is_thread d (length ds) threads) (grown is_queue d (length ds) queues) (grown is_item d (length ds) items) (grown is_sem d (length ds) sems) (grown is_msgq d (length ds) msgqs)
+    (numbers ++ n ∷ []) after
+IsTabled-push ds d threads queues items sems msgqs numbers n names after held few fresh number put =
     record {
       few = omega (arith, length-append ds (d ∷ []));
       each_thread = ap (grown is_thread d (length ds)) held.each_thread ∙ sym (places-push is_thread ds d);
       each_queue = ap (grown is_queue d (length ds)) held.each_queue ∙ sym (places-push is_queue ds d);
       each_item = ap (grown is_item d (length ds)) held.each_item ∙ sym (places-push is_item ds d);
+      each_sem = ap (grown is_sem d (length ds)) held.each_sem ∙ sym (places-push is_sem ds d);
+      each_msgq = ap (grown is_msgq d (length ds)) held.each_msgq ∙ sym (places-push is_msgq ds d);
       long = length-append numbers (n ∷ []) ∙ ap (λ k. k + 1) held.long ∙ sym (length-append ds (d ∷ []));
       each_number = numbers-push ds d numbers n held.long held.each_number (number ∙ own ∙ length-own_list ds d);
       each_name = λ name. put name ∙ ap (λ o. cond (bytes_eq (name_of d) name) (Some (length ds)) o) (held.each_name name) ∙ sym (object_of-push ds d name fresh);
     } where
-      own : length (own_list d threads queues items) ≡ length (own_list d (places is_thread ds) (places is_queue ds) (places is_item ds))
+      own : length (own_list d threads queues items sems msgqs) ≡ length (own_list d (places is_thread ds) (places is_queue ds) (places is_item ds) (places is_sem ds) (places is_msgq ds))
       own = cc
 
 -- a list of objects is no longer than the declarations
@@ -112,15 +117,22 @@ pub length-kind : (test : Decl → Bool) (ds : List Decl) (list after : List ℕ
 length-kind test ds list after few are same = omega (arith, ap length same, ap length are, length-places test ds, count_by-le-length test ds)
 
 -- the same, where the tables after are given by equations
-pub IsTabled-after : (ds : List Decl) (d : Decl) (threads queues items numbers : List ℕ) (n : ℕ) (names after : Names) → IsTabled ds threads queues items numbers names
-    → length ds + 1 < 2 ^ 32 → object_of ds (name_of d) ≡ None → n ≡ length (own_list d threads queues items)
+pub IsTabled-after : (ds : List Decl) (d : Decl) (threads queues items sems msgqs numbers : List ℕ) (n : ℕ) (names after : Names) → IsTabled ds threads queues items sems msgqs numbers names
+    → length ds + 1 < 2 ^ 32 → object_of ds (name_of d) ≡ None → n ≡ length (own_list d threads queues items sems msgqs)
     → ((other : List ℕ) → by_name after other ≡ cond (bytes_eq (name_of d) other) (Some (length ds)) (by_name names other))
-    → (ds' : List Decl) (threads' queues' items' numbers' : List ℕ) → ds' ≡ ds ++ d ∷ [] → threads' ≡ grown is_thread d (length ds) threads → queues' ≡ grown is_queue d (length ds) queues → items' ≡ grown is_item d (length ds) items
-    → numbers' ≡ numbers ++ n ∷ [] → IsTabled ds' threads' queues' items' numbers' after
-IsTabled-after ds d threads queues items numbers n names after held few fresh number put ds' threads' queues' items' numbers' e e1 e2 e3 e4 =
-    let made = IsTabled-push ds d threads queues items numbers n names after held few fresh number put in
-    subst (λ x. IsTabled x threads' queues' items' numbers' after) (sym e)
-    (subst (λ x. IsTabled (ds ++ d ∷ []) x queues' items' numbers' after) (sym e1)
-    (subst (λ x. IsTabled (ds ++ d ∷ []) (grown is_thread d (length ds) threads) x items' numbers' after) (sym e2)
-    (subst (λ x. IsTabled (ds ++ d ∷ []) (grown is_thread d (length ds) threads) (grown is_queue d (length ds) queues) x numbers' after) (sym e3)
-    (subst (λ x. IsTabled (ds ++ d ∷ []) (grown is_thread d (length ds) threads) (grown is_queue d (length ds) queues) (grown is_item d (length ds) items) x after) (sym e4) made))))
+    → (ds' : List Decl) (threads' queues' items' sems' msgqs' numbers' : List ℕ) → ds' ≡ ds ++ d ∷ [] → threads' ≡ grown is_thread d (length ds) threads → queues' ≡ grown is_queue d (length ds) queues
+    → items' ≡ grown is_item d (length ds) items → sems' ≡ grown is_sem d (length ds) sems → msgqs' ≡ grown is_msgq d (length ds) msgqs
+    → numbers' ≡ numbers ++ n ∷ [] → IsTabled ds' threads' queues' items' sems' msgqs' numbers' after
+IsTabled-after ds d threads queues items sems msgqs numbers n names after held few fresh number put ds' threads' queues' items' sems' msgqs' numbers' all are_threads are_queues are_items are_sems are_msgqs are_numbers =
+    let made = IsTabled-push ds d threads queues items sems msgqs numbers n names after held few fresh number put in
+    record {
+      few = omega (arith, made.few, ap length all);
+      each_thread = are_threads ∙ made.each_thread ∙ ap (places is_thread) (sym all);
+      each_queue = are_queues ∙ made.each_queue ∙ ap (places is_queue) (sym all);
+      each_item = are_items ∙ made.each_item ∙ ap (places is_item) (sym all);
+      each_sem = are_sems ∙ made.each_sem ∙ ap (places is_sem) (sym all);
+      each_msgq = are_msgqs ∙ made.each_msgq ∙ ap (places is_msgq) (sym all);
+      long = ap length are_numbers ∙ made.long ∙ ap length (sym all);
+      each_number = λ object. ap (λ l. unwrap_or (slice_get l object) 0) are_numbers ∙ made.each_number object ∙ ap (λ l. number_of l object) (sym all);
+      each_name = λ name. made.each_name name ∙ ap (λ l. object_of l name) (sym all);
+    }

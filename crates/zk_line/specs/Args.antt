@@ -6,14 +6,16 @@ use Rattle.zk_base.specs.Names.{is_name}
 use Rattle.zk_words.specs.declared.slot.Choice.{Choice}
 use Rattle.zk_words.specs.declared.slot.Slot.{Slot}
 use Rattle.zk_words.specs.declared.slot.Slot.TheVariants as slot
+use Rattle.zk_words.specs.Hex.{msg_of, hex_text}
 use Rattle.zk_words.specs.Numbers.{number_in, priority_of}
 use Rattle.zk_words.specs.Parts.{Placed}
 use Rattle.zk_words.specs.Spelled.{choice_text}
+use Rattle.zk_words.specs.Timeouts.{wait_of, wait_text}
 use Rattle.zk_line.specs.declared.types.Decl.{Decl}
 use Rattle.zk_line.specs.declared.types.Ref.{Ref}
 use Rattle.zk_line.specs.declared.types.Ref.TheVariants.{Known}
 use Rattle.zk_line.specs.declared.types.Arg.{Arg}
-use Rattle.zk_line.specs.declared.types.Arg.TheVariants.{Name, Object, Number, Priority, Truth}
+use Rattle.zk_line.specs.declared.types.Arg.TheVariants.{Name, Object, Number, Priority, Truth, Bytes, Wait}
 use Rattle.zk_line.specs.Objects.{object_of, name_at}
 
 -- which of the two words of a choice it is
@@ -34,6 +36,9 @@ arg_of decls (slot.Object need) word = option_map Object (ref_of decls word)
 arg_of decls (slot.Number least most) word = option_map Number (number_in least most word)
 arg_of decls slot.Priority word = option_map Priority (option_flatten (priority_of word))
 arg_of decls (slot.Either choice) word = option_map (Truth choice) (truth_of choice word)
+arg_of decls slot.Hex word = option_map Bytes (msg_of word)
+arg_of decls slot.Wait word = option_map Wait (wait_of word)
+arg_of decls slot.Raw word = None
 
 -- what all words of a line say, where each says something
 abbrev pub args_of : List Decl → List Placed → Option (List Arg)
@@ -52,3 +57,5 @@ arg_text decls (Object object) = ref_name decls object
 arg_text decls (Number number) = decimal number
 arg_text decls (Priority prio) = signed_decimal prio
 arg_text decls (Truth choice truth) = choice_text choice truth
+arg_text decls (Bytes message) = hex_text message
+arg_text decls (Wait wait) = wait_text wait

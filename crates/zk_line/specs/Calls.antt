@@ -3,10 +3,10 @@ use Rattle.zk_words.specs.declared.slot.Choice.TheVariants.{Drain}
 use Rattle.zk_words.specs.declared.word.Word.{Word}
 use Rattle.zk_words.specs.declared.word.Word.TheVariants as word
 use Rattle.zk_line.specs.declared.types.Arg.{Arg}
-use Rattle.zk_line.specs.declared.types.Arg.TheVariants.{Object, Number, Truth}
+use Rattle.zk_line.specs.declared.types.Arg.TheVariants.{Object, Number, Truth, Bytes, Wait}
 use Rattle.zk_line.specs.declared.types.Call.{Call}
 use Rattle.zk_line.specs.declared.types.Call.TheVariants as call
-use Rattle.zk_line.specs.Shapes.{as_object, as_number, as_truth, one, two, three, one_or_two}
+use Rattle.zk_line.specs.Shapes.{as_object, as_number, as_truth, as_bytes, as_wait, one, two, three, one_or_two}
 
 -- a call as it is written: its word, and what stands behind that
 pub record Saying : Type 0 where
@@ -30,6 +30,17 @@ call_of word.Start args = option_map call.Start (one as_object args)
 call_of word.Drain args = option_map (λ p. call.Drain p.0 p.1) (two as_object (as_truth Drain) args)
 call_of word.Unplug args = option_map call.Unplug (one as_object args)
 call_of word.Tick args = option_map call.Tick (one as_number args)
+call_of word.Take args = option_map (λ p. call.Take p.0 p.1) (two as_object as_wait args)
+call_of word.Give args = option_map call.Give (one as_object args)
+call_of word.Reset args = option_map call.Reset (one as_object args)
+call_of word.Count args = option_map call.Count (one as_object args)
+call_of word.Put args = option_map (λ p. call.Put p.0 p.1 p.2) (three as_object as_bytes as_wait args)
+call_of word.Get args = option_map (λ p. call.Get p.0 p.1) (two as_object as_wait args)
+call_of word.Peek args = option_map call.Peek (one as_object args)
+call_of word.PeekAt args = option_map (λ p. call.PeekAt p.0 p.1) (two as_object as_number args)
+call_of word.Purge args = option_map call.Purge (one as_object args)
+call_of word.Used args = option_map call.Used (one as_object args)
+call_of word.Free args = option_map call.Free (one as_object args)
 
 -- how a call is written
 abbrev pub said_of : Call → Saying
@@ -44,6 +55,17 @@ said_of (call.Start queue) = saying word.Start (Object queue ∷ [])
 said_of (call.Drain queue plug) = saying word.Drain (Object queue ∷ Truth Drain plug ∷ [])
 said_of (call.Unplug queue) = saying word.Unplug (Object queue ∷ [])
 said_of (call.Tick ticks) = saying word.Tick (Number ticks ∷ [])
+said_of (call.Take sem wait) = saying word.Take (Object sem ∷ Wait wait ∷ [])
+said_of (call.Give sem) = saying word.Give (Object sem ∷ [])
+said_of (call.Reset sem) = saying word.Reset (Object sem ∷ [])
+said_of (call.Count sem) = saying word.Count (Object sem ∷ [])
+said_of (call.Put msgq message wait) = saying word.Put (Object msgq ∷ Bytes message ∷ Wait wait ∷ [])
+said_of (call.Get msgq wait) = saying word.Get (Object msgq ∷ Wait wait ∷ [])
+said_of (call.Peek msgq) = saying word.Peek (Object msgq ∷ [])
+said_of (call.PeekAt msgq index) = saying word.PeekAt (Object msgq ∷ Number index ∷ [])
+said_of (call.Purge msgq) = saying word.Purge (Object msgq ∷ [])
+said_of (call.Used msgq) = saying word.Used (Object msgq ∷ [])
+said_of (call.Free msgq) = saying word.Free (Object msgq ∷ [])
 
 -- the word of a call
 abbrev pub word_of : Call → Word

@@ -1,34 +1,83 @@
-use Rattle.std.specs.Prelude.{ℕ, Bool, true, not, ◌&&◌, Option, None, List, [], ◌∷◌, is_some}
+use Rattle.std.specs.Prelude.{ℕ, Bool, true, false, not, ◌==◌, ◌/◌, nat_le, ◌&&◌, Option, Some, None, List, [], ◌∷◌, length, is_some, option_and_then}
 use Rattle.std.specs.List.{list_all}
-use Rattle.std.specs.Option.{option_flatten}
+use Rattle.std.specs.Option.{option_flatten, option_map_or}
 use Rattle.zk_base.specs.Names.{is_name}
+use Rattle.zk_words.specs.declared.kind.Kind.TheVariants as kind
 use Rattle.zk_words.specs.declared.slot.Slot.{Slot}
-use Rattle.zk_words.specs.declared.slot.Slot.TheVariants.{New, Owner, Object, Number, Priority}
+use Rattle.zk_words.specs.declared.slot.Slot.TheVariants.{New, Owner, Object, Number, Priority, Hex, Wait, Raw}
+use Rattle.zk_words.specs.declared.word.Head.{Head}
+use Rattle.zk_words.specs.declared.word.Head.TheVariants.{Declare}
 use Rattle.zk_words.specs.Numbers.{number_in, priority_of}
 use Rattle.zk_words.specs.Parts.{Placed}
+use Rattle.zk_words.specs.Timeouts.{wait_of}
+use Rattle.zk_line.specs.declared.types.Arg.{Arg}
+use Rattle.zk_line.specs.declared.types.Arg.TheVariants as arg
 use Rattle.zk_line.specs.declared.types.Decl.{Decl}
-use Rattle.zk_line.specs.Objects.{object_of, names, plays_script, is_met}
+use Rattle.zk_line.specs.declared.types.Ref.TheVariants.{Known}
+use Rattle.zk_line.specs.Args.{arg_of}
+use Rattle.zk_line.specs.Objects.{object_of, names, plays_script, is_met, size_at}
 
 -- the object that the first word behind a head names, if it names one
 abbrev pub first_object : List Decl → List Placed → Option ℕ
 first_object decls [] = None
 first_object decls (part ∷ parts) = object_of decls part.text
 
--- whether a word is in the range of its slot
-abbrev pub is_in_range : Slot → List ℕ → Bool
-is_in_range (Number least most) word = is_some (number_in least most word)
-is_in_range Priority word = is_some (option_flatten (priority_of word))
-is_in_range slot word = true
+-- how many bytes each message of what an argument names has, if it names something that has messages
+abbrev pub size_named : List Decl → Arg → Option ℕ
+size_named decls (arg.Object (Known object)) = size_at decls object
+size_named decls arg = None
+
+-- how many bytes a message has behind words that say these
+abbrev pub size_said : List Decl → List Arg → Option ℕ
+size_said decls [] = None
+size_said decls (arg ∷ args) = size_named decls arg
+
+-- how many bytes a message in a line has: as many as each of the object that the line's first word names
+abbrev pub message_size : List Decl → List Placed → Option ℕ
+message_size decls [] = None
+message_size decls (part ∷ parts) = option_and_then (size_named decls) (arg_of decls part.slot part.text)
+
+-- whether so many bytes are as many as are asked for, where any are
+abbrev pub is_size : Option ℕ → ℕ → Bool
+is_size None bytes = true
+is_size (Some size) bytes = bytes == size
+
+-- whether hexadecimal digits are those of 64 bytes at most, and of the size that is asked for
+abbrev pub hex_in_range : Option ℕ → List ℕ → Bool
+hex_in_range size word = nat_le (length word) 128 && is_size size (length word / 2)
+
+-- whether a word is in the range of its slot, in a line whose messages have so many bytes
+abbrev pub is_in_range : Option ℕ → Slot → List ℕ → Bool
+is_in_range size (Number least most) word = is_some (number_in least most word)
+is_in_range size Priority word = is_some (option_flatten (priority_of word))
+is_in_range size Hex word = hex_in_range size word
+is_in_range size Wait word = is_some (wait_of word)
+is_in_range size slot word = true
 
 -- whether each word of a line is
-abbrev pub are_in_range : List Placed → Bool
-are_in_range parts = list_all (λ part. is_in_range part.slot part.text) parts
+abbrev pub each_in_range : Option ℕ → List Placed → Bool
+each_in_range size parts = list_all (λ part. is_in_range size part.slot part.text) parts
 
--- whether a word is a name that may stand in its slot: a new one, or that of an object of the right kind
+-- whether the count that a semaphore begins with isn't above its limit
+abbrev pub is_up_to : List ℕ → List ℕ → Bool
+is_up_to initial limit = option_map_or (λ most. is_some (number_in 0 most initial)) (number_in 1 1000000 limit) false
+
+-- whether the numbers of a line go together: those of a semaphore
+abbrev pub go_together : Head → List Placed → Bool
+go_together (Declare kind.Sem) (name ∷ initial ∷ limit ∷ parts) = is_up_to initial.text limit.text
+go_together head parts = true
+
+-- whether no number of a line is out of its range, and no message of the wrong size
+abbrev pub are_in_range : List Decl → Head → List Placed → Bool
+are_in_range decls head parts = each_in_range (message_size decls parts) parts && go_together head parts
+
+-- whether a word is a name that may stand in its slot: a new one, or that of an object of the right kind;
+-- nothing that isn't initialised is built yet
 abbrev pub is_well_named : List Decl → Slot → List ℕ → Bool
 is_well_named decls New word = is_name word && not (is_some (object_of decls word))
 is_well_named decls Owner word = names plays_script decls word
 is_well_named decls (Object need) word = names (is_met need) decls word
+is_well_named decls Raw word = false
 is_well_named decls slot word = true
 
 -- whether each word of a line is

@@ -1,4 +1,4 @@
-use Rattle.std.specs.Prelude.{Bool, true, ◌&&◌, List, [], ◌∷◌}
+use Rattle.std.specs.Prelude.{ℕ, Bool, true, nat_le, ◌&&◌, Option, List, [], ◌∷◌, length}
 use Rattle.zk_words.specs.declared.kind.Need.{Need}
 use Rattle.zk_words.specs.declared.slot.Slot.{Slot}
 use Rattle.zk_words.specs.declared.slot.Slot.TheVariants as slot
@@ -6,38 +6,50 @@ use Rattle.zk_words.specs.declared.slot.Rest.{Rest}
 use Rattle.zk_words.specs.declared.slot.Rest.TheVariants.{Maybe}
 use Rattle.zk_words.specs.Numbers.{is_between}
 use Rattle.zk_words.specs.Table.{call_row}
+use Rattle.zk_words.specs.Timeouts.{wait_fits}
 use Rattle.zk_line.specs.declared.types.Decl.{Decl}
+use Rattle.zk_line.specs.declared.types.Decl.TheVariants.{Sem, Msgq}
 use Rattle.zk_line.specs.declared.types.Ref.{Ref}
 use Rattle.zk_line.specs.declared.types.Ref.TheVariants.{Known}
 use Rattle.zk_line.specs.declared.types.Arg.{Arg}
 use Rattle.zk_line.specs.declared.types.Arg.TheVariants as arg
 use Rattle.zk_line.specs.declared.types.Call.{Call}
 use Rattle.zk_line.specs.Calls.{said_of}
+use Rattle.zk_line.specs.Checks.{size_said, is_size}
 use Rattle.zk_line.specs.Objects.{is_at, is_met}
 
 -- whether an object is declared and meets a need
 abbrev pub ref_fits : List Decl → Need → Ref → Bool
 ref_fits decls need (Known object) = is_at (is_met need) decls object
 
--- whether what stands in a slot fits it: an object that meets the need, a number in the range
-abbrev pub fits_in : List Decl → Slot → Arg → Bool
-fits_in decls (slot.Object need) (arg.Object object) = ref_fits decls need object
-fits_in decls (slot.Number least most) (arg.Number number) = is_between least most number
-fits_in decls slot arg = true
+-- whether what stands in a slot fits it: an object that meets the need, a number in the range, a message of the size
+abbrev pub fits_in : List Decl → Option ℕ → Slot → Arg → Bool
+fits_in decls size (slot.Object need) (arg.Object object) = ref_fits decls need object
+fits_in decls size (slot.Number least most) (arg.Number number) = is_between least most number
+fits_in decls size slot.Hex (arg.Bytes message) = is_size size (length message)
+fits_in decls size slot.Wait (arg.Wait wait) = wait_fits wait
+fits_in decls size slot arg = true
 
 -- whether what stands behind the slots fits
-abbrev pub rest_fit : List Decl → Rest → List Arg → Bool
-rest_fit decls (Maybe slot) (arg ∷ args) = fits_in decls slot arg
-rest_fit decls rest args = true
+abbrev pub rest_fit : List Decl → Option ℕ → Rest → List Arg → Bool
+rest_fit decls size (Maybe slot) (arg ∷ args) = fits_in decls size slot arg
+rest_fit decls size rest args = true
 
 -- whether what a line says fits its slots
-abbrev pub args_fit : List Decl → List Slot → Rest → List Arg → Bool
-args_fit decls [] rest args = rest_fit decls rest args
-args_fit decls (slot ∷ slots) rest [] = true
-args_fit decls (slot ∷ slots) rest (arg ∷ args) = fits_in decls slot arg && args_fit decls slots rest args
+abbrev pub args_fit : List Decl → Option ℕ → List Slot → Rest → List Arg → Bool
+args_fit decls size [] rest args = rest_fit decls size rest args
+args_fit decls size (slot ∷ slots) rest [] = true
+args_fit decls size (slot ∷ slots) rest (arg ∷ args) = fits_in decls size slot arg && args_fit decls size slots rest args
 
--- whether each object of a call is declared and of the kind that the call asks for, and its number is in range
+-- whether each object of a call is declared and of the kind that the call asks for, each number is in range, and a
+-- message has the size of its message queue
 abbrev pub call_fits : List Decl → Call → Bool
 call_fits decls call =
     let said = said_of call in
-    let form = call_row said.word in args_fit decls form.slots form.rest said.args
+    let form = call_row said.word in args_fit decls (size_said decls said.args) form.slots form.rest said.args
+
+-- whether what is declared is in range: a semaphore's first count and limit, a message queue's size and room
+abbrev pub decl_fits : Decl → Bool
+decl_fits (Sem name initial limit) = is_between 1 1000000 limit && nat_le initial limit
+decl_fits (Msgq name size capacity) = is_between 1 64 size && is_between 1 256 capacity
+decl_fits decl = true

@@ -1,4 +1,4 @@
-use Rattle.std.specs.Prelude.{◌≡◌, ℕ, ◌^◌, ◌+◌, ◌<◌, Bool, false, if◌then◌else◌, Option, List, [], ◌∷◌, ◌++◌, take, length, count_by, slice_get, unwrap_or}
+use Rattle.std.specs.Prelude.{◌≡◌, ℕ, ◌^◌, ◌+◌, ◌<◌, Bool, false, if◌then◌else◌, Option, Some, None, List, [], ◌∷◌, ◌++◌, take, length, count_by, slice_get, unwrap_or, option_and_then}
 use Rattle.std.specs.List.{position}
 use Rattle.std.specs.Option.{option_map_or}
 use Rattle.std.specs.Str.{bytes_eq}
@@ -8,7 +8,7 @@ use Rattle.zk_words.specs.declared.kind.Need.{Need}
 use Rattle.zk_words.specs.Kinds as kinds
 use Rattle.zk_line.specs.declared.names.Names.{Names}
 use Rattle.zk_line.specs.declared.types.Decl.{Decl}
-use Rattle.zk_line.specs.declared.types.Decl.TheVariants.{Thread, Queue, Item}
+use Rattle.zk_line.specs.declared.types.Decl.TheVariants.{Thread, Queue, Item, Sem, Msgq}
 use Rattle.zk_line.specs.ByName.{by_name}
 
 -- the kind of what is declared
@@ -16,12 +16,16 @@ abbrev pub kind_of : Decl → Kind
 kind_of (Thread name prio user) = kind.Thread
 kind_of (Queue name prio on) = kind.Queue
 kind_of (Item name) = kind.Item
+kind_of (Sem name initial limit) = kind.Sem
+kind_of (Msgq name size capacity) = kind.Msgq
 
 -- the name that a declaration gives
 abbrev pub name_of : Decl → List ℕ
 name_of (Thread name prio user) = name
 name_of (Queue name prio on) = name
 name_of (Item name) = name
+name_of (Sem name initial limit) = name
+name_of (Msgq name size capacity) = name
 
 -- whether a declaration is of a kind
 abbrev pub is_of : Kind → Decl → Bool
@@ -38,6 +42,14 @@ is_queue decl = is_of kind.Queue decl
 -- whether a declaration is of a work item
 abbrev pub is_item : Decl → Bool
 is_item decl = is_of kind.Item decl
+
+-- whether a declaration is of a semaphore
+abbrev pub is_sem : Decl → Bool
+is_sem decl = is_of kind.Sem decl
+
+-- whether a declaration is of a message queue
+abbrev pub is_msgq : Decl → Bool
+is_msgq decl = is_of kind.Msgq decl
 
 -- the test for declarations of the same kind
 abbrev pub same_kind : Decl → Decl → Bool
@@ -84,11 +96,22 @@ is_at test decls object = option_map_or test (slice_get decls object) false
 abbrev pub names : (Decl → Bool) → List Decl → List ℕ → Bool
 names test decls name = option_map_or (is_at test decls) (object_of decls name) false
 
--- the list of a declaration's kind, among those of the threads, the queues and the items
-abbrev pub own_list : Decl → List ℕ → List ℕ → List ℕ → List ℕ
-own_list (Thread name prio user) threads queues items = threads
-own_list (Queue name prio on) threads queues items = queues
-own_list (Item name) threads queues items = items
+-- how many bytes each message of what is declared has, if it has messages
+abbrev pub size_of : Decl → Option ℕ
+size_of (Msgq name size capacity) = Some size
+size_of decl = None
+
+-- how many bytes each message of an object has, if it is declared and has messages
+abbrev pub size_at : List Decl → ℕ → Option ℕ
+size_at decls object = option_and_then size_of (slice_get decls object)
+
+-- the list of a declaration's kind, among those of all kinds
+abbrev pub own_list : Decl → List ℕ → List ℕ → List ℕ → List ℕ → List ℕ → List ℕ
+own_list (Thread name prio user) threads queues items sems msgqs = threads
+own_list (Queue name prio on) threads queues items sems msgqs = queues
+own_list (Item name) threads queues items sems msgqs = items
+own_list (Sem name initial limit) threads queues items sems msgqs = sems
+own_list (Msgq name size capacity) threads queues items sems msgqs = msgqs
 
 -- a list of objects after one more declaration, which stands in it where it passes the list's test
 abbrev pub grown : (Decl → Bool) → Decl → ℕ → List ℕ → List ℕ
@@ -99,11 +122,13 @@ abbrev pub HasRoom : ℕ → ℕ → Type 0
 HasRoom len capacity = (len < capacity) × (len < 2 ^ 32)
 
 -- the tables say what the declarations say
-pub record IsTabled (decls : List Decl) (threads queues items numbers : List ℕ) (names : Names) : Type 0 where
+pub record IsTabled (decls : List Decl) (threads queues items sems msgqs numbers : List ℕ) (names : Names) : Type 0 where
   pub few : length decls < 2 ^ 32
   pub each_thread : threads ≡ places is_thread decls
   pub each_queue : queues ≡ places is_queue decls
   pub each_item : items ≡ places is_item decls
+  pub each_sem : sems ≡ places is_sem decls
+  pub each_msgq : msgqs ≡ places is_msgq decls
   pub long : length numbers ≡ length decls
   pub each_number : (object : ℕ) → unwrap_or (slice_get numbers object) 0 ≡ number_of decls object
   pub each_name : (name : List ℕ) → by_name names name ≡ object_of decls name

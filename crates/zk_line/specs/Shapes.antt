@@ -1,9 +1,10 @@
 use Rattle.std.specs.Prelude.{ℕ, ℤ, Bool, List, [], ◌∷◌, Option, Some, None, option_map, if◌then◌else◌}
 use Rattle.zk_words.specs.declared.slot.Choice.{Choice}
+use Rattle.zk_words.specs.declared.timeout.Timeout.{Timeout}
 use Rattle.zk_words.specs.Spelled.{same_choice}
 use Rattle.zk_line.specs.declared.types.Ref.{Ref}
 use Rattle.zk_line.specs.declared.types.Arg.{Arg}
-use Rattle.zk_line.specs.declared.types.Arg.TheVariants.{Name, Object, Number, Priority, Truth}
+use Rattle.zk_line.specs.declared.types.Arg.TheVariants.{Name, Object, Number, Priority, Truth, Bytes, Wait}
 
 -- the name that an argument is, if it is one
 abbrev pub as_name : Arg → Option (List ℕ)
@@ -29,6 +30,16 @@ as_priority arg = None
 abbrev pub as_truth : Choice → Arg → Option Bool
 as_truth choice (Truth other truth) = (if same_choice choice other then Some truth else None)
 as_truth choice arg = None
+
+-- the message that it is
+abbrev pub as_bytes : Arg → Option (List ℕ)
+as_bytes (Bytes message) = Some message
+as_bytes arg = None
+
+-- how long is waited
+abbrev pub as_wait : Arg → Option Timeout
+as_wait (Wait wait) = Some wait
+as_wait arg = None
 
 -- two parts, where each is one
 abbrev pub both : {A B : Type 0} → Option A → Option B → Option (A × B)

@@ -34,6 +34,13 @@ impl Args {
         }
     }
 
+    /// Drops them all, and keeps what memory they took.
+    pub fn clear(&mut self)
+        ensures { self.new ≡ [] }
+    {
+        self.args.clear();
+    }
+
     /// What they say, in order.
     pub fn items(&self) -> &[Arg]
         ensures { result.now ≡ self.now }

@@ -1,10 +1,14 @@
 ghost use Rattle.std.specs.Prelude.{◌≡◌, [], ◌∷◌};
 ghost use Rattle.zk_line.specs.Calls.{saying, call_of, said_of, word_of};
 
-use crate::shapes::{object_maybe, object_truth, one_number, one_object, two_objects_number};
+use crate::shapes::{
+    object_bytes_wait, object_maybe, object_number, object_truth, object_wait, one_number,
+    one_object, two_objects_number,
+};
 use crate::types::{Arg, Call, Ref};
 use std::marker::Model;
-use zk_words::{Choice, Word};
+use zk_base::Msg;
+use zk_words::{Choice, Timeout, Word};
 
 /// A call as it is written: its word, and what stands behind that.
 #[derive(Drop)]
@@ -38,6 +42,17 @@ pub fn call_of(word: Word, args: &[Arg]) -> Option<Call>
         Word::Drain => object_truth(Choice::Drain, args).map(|p| Call::Drain(p.0, p.1)),
         Word::Unplug => one_object(args).map(Call::Unplug),
         Word::Tick => one_number(args).map(Call::Tick),
+        Word::Take => object_wait(args).map(|p| Call::Take(p.0, p.1)),
+        Word::Give => one_object(args).map(Call::Give),
+        Word::Reset => one_object(args).map(Call::Reset),
+        Word::Count => one_object(args).map(Call::Count),
+        Word::Put => object_bytes_wait(args).map(|p| Call::Put(p.0, p.1, p.2)),
+        Word::Get => object_wait(args).map(|p| Call::Get(p.0, p.1)),
+        Word::Peek => one_object(args).map(Call::Peek),
+        Word::PeekAt => object_number(args).map(|p| Call::PeekAt(p.0, p.1)),
+        Word::Purge => one_object(args).map(Call::Purge),
+        Word::Used => one_object(args).map(Call::Used),
+        Word::Free => one_object(args).map(Call::Free),
     }
 }
 
@@ -60,6 +75,17 @@ pub fn said_of(call: &Call) -> Said
         }
         Call::Unplug(queue) => of_one(Word::Unplug, object(queue)),
         Call::Tick(ticks) => of_one(Word::Tick, Arg::Number(*ticks)),
+        Call::Take(sem, wait) => of_two(Word::Take, object(sem), Arg::Wait(*wait)),
+        Call::Give(sem) => of_one(Word::Give, object(sem)),
+        Call::Reset(sem) => of_one(Word::Reset, object(sem)),
+        Call::Count(sem) => of_one(Word::Count, object(sem)),
+        Call::Put(msgq, message, wait) => sent(Word::Put, msgq, message, *wait),
+        Call::Get(msgq, wait) => of_two(Word::Get, object(msgq), Arg::Wait(*wait)),
+        Call::Peek(msgq) => of_one(Word::Peek, object(msgq)),
+        Call::PeekAt(msgq, index) => of_two(Word::PeekAt, object(msgq), Arg::Number(*index)),
+        Call::Purge(msgq) => of_one(Word::Purge, object(msgq)),
+        Call::Used(msgq) => of_one(Word::Used, object(msgq)),
+        Call::Free(msgq) => of_one(Word::Free, object(msgq)),
     }
 }
 
@@ -103,6 +129,19 @@ fn delayed(word: Word, item: &Ref, queue: &Ref, delay: u32) -> Said
             Some(object(item)),
             Some(object(queue)),
             Some(Arg::Number(delay)),
+        ],
+    }
+}
+
+fn sent(word: Word, to: &Ref, message: &Msg, wait: Timeout) -> Said
+    ensures { result ≡ saying word (Arg.Object to.now ∷ Arg.Bytes message.now ∷ Arg.Wait wait ∷ []) }
+{
+    Said {
+        word,
+        args: [
+            Some(object(to)),
+            Some(Arg::Bytes(*message)),
+            Some(Arg::Wait(wait)),
         ],
     }
 }

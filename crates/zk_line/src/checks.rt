@@ -1,41 +1,74 @@
 ghost use Rattle.std.specs.Prelude.{◌≡◌, is_some};
 ghost use Rattle.std.specs.Option.{option_flatten};
 ghost use Rattle.zk_words.specs.Numbers.{priority_of};
-ghost use Rattle.zk_line.specs.Checks.{first_object, is_in_range, are_in_range};
+ghost use Rattle.zk_line.specs.Checks.{first_object, size_named, message_size, is_in_range, each_in_range, is_up_to, go_together, are_in_range, is_size, hex_in_range};
 
+use crate::kinds::size_at;
 use crate::objects::Objects;
-use zk_words::{Parts, Slot, number_in, priority_of};
+use crate::types::{Arg, Ref};
+use zk_base::LONGEST_MESSAGE;
+use zk_words::{Head, Kind, Parts, Slot, number_in, priority_of, wait_of};
 
 /// The object that the first word behind a head names.
-pub fn first_object(objects: &Objects, parts: Parts<'_>) -> Option<u32>
-    ensures { result ≡ first_object objects.now parts.entry }
+pub fn first_object(objects: &Objects, parts: &Parts<'_>) -> Option<u32>
+    ensures { result ≡ first_object objects.now parts.now }
 {
-    let mut parts = parts;
+    let mut parts = parts.again();
     match parts.next() {
         Some(part) => objects.find(part.text),
         None => None,
     }
 }
 
-/// Whether each word of a line is in the range of its slot.
-pub fn are_in_range(parts: Parts<'_>) -> bool
-    ensures { result ≡ are_in_range parts.entry }
+/// Whether no number of a line is out of its range, and no message of the wrong size.
+pub fn are_in_range(objects: &Objects, head: Head, parts: &Parts<'_>) -> bool
+    ensures { result ≡ are_in_range objects.now head parts.now }
 {
-    let mut parts = parts;
+    each_in_range(message_size(objects, parts), parts) && go_together(head, parts)
+}
+
+/// How many bytes each message of what an argument names has, if it names something that has messages.
+pub fn size_named(objects: &Objects, arg: &Arg) -> Option<u32>
+    ensures { result ≡ size_named objects.now arg.now }
+{
+    match arg {
+        Arg::Object(Ref::Known(object)) => size_at(objects.decls(), *object),
+        _ => None,
+    }
+}
+
+fn message_size(objects: &Objects, parts: &Parts<'_>) -> Option<u32>
+    ensures { result ≡ message_size objects.now parts.now }
+{
+    let mut parts = parts.again();
+    let part = parts.next()?;
+    match part.slot {
+        Slot::Owner => size_at(objects.decls(), objects.find(part.text)?),
+        Slot::Object(_) => size_at(objects.decls(), objects.find(part.text)?),
+        _ => None,
+    }
+}
+
+fn each_in_range(size: Option<u32>, parts: &Parts<'_>) -> bool
+    ensures { result ≡ each_in_range size parts.now }
+{
+    let mut parts = parts.again();
     while let Some(part) = parts.next() {
-        if !is_in_range(part.slot, part.text) {
+        if !is_in_range(size, part.slot, part.text) {
             return false;
         }
     }
     true
 }
 
-fn is_in_range(slot: Slot, word: &[u8]) -> bool
-    ensures { result ≡ is_in_range slot word.now }
+fn is_in_range(size: Option<u32>, slot: Slot, word: &[u8]) -> bool
+    ensures { result ≡ is_in_range size slot word.now }
 {
     match slot {
         Slot::Number(least, most) => number_in(least, most, word).is_some(),
         Slot::Priority => is_priority(word),
+        Slot::Hex => hex_in_range(size, word),
+        Slot::Wait => wait_of(word).is_some(),
         _ => true,
     }
 }
@@ -45,6 +78,52 @@ fn is_priority(word: &[u8]) -> bool
 {
     match priority_of(word) {
         Some(prio) => prio.is_some(),
+        None => false,
+    }
+}
+
+/// Whether hexadecimal digits spell a message of the size that is asked for, if one is.
+pub fn hex_in_range(size: Option<u32>, word: &[u8]) -> bool
+    ensures { result ≡ hex_in_range size word.now }
+{
+    word.len() <= 2 * LONGEST_MESSAGE && is_size(size, word.len() / 2)
+}
+
+fn is_size(size: Option<u32>, bytes: usize) -> bool
+    ensures { result ≡ is_size size bytes }
+{
+    match size {
+        Some(size) => bytes == size as usize,
+        None => true,
+    }
+}
+
+/// Whether the numbers of a line go together.
+pub fn go_together(head: Head, parts: &Parts<'_>) -> bool
+    ensures { result ≡ go_together head parts.now }
+{
+    match head {
+        Head::Declare(Kind::Sem) => counts_go_together(parts),
+        _ => true,
+    }
+}
+
+/// Whether the count that a semaphore begins with isn't above its limit.
+fn counts_go_together(parts: &Parts<'_>) -> bool
+    ensures { result ≡ go_together (Head.Declare Kind.Sem) parts.now }
+{
+    let mut parts = parts.again();
+    match (parts.next(), parts.next(), parts.next()) {
+        (Some(_), Some(initial), Some(limit)) => is_up_to(initial.text, limit.text),
+        _ => true,
+    }
+}
+
+fn is_up_to(initial: &[u8], limit: &[u8]) -> bool
+    ensures { result ≡ is_up_to initial.now limit.now }
+{
+    match number_in(1, 1_000_000, limit) {
+        Some(most) => number_in(0, most, initial).is_some(),
         None => false,
     }
 }

@@ -1,9 +1,10 @@
-ghost use Rattle.std.specs.Prelude.{◌≡◌};
+ghost use Rattle.std.specs.Prelude.{◌≡◌, [], ◌∷◌};
 ghost use Rattle.zk_line.specs.Calls.{standing};
 ghost use Rattle.zk_line.specs.Decls.{decl_of, decl_args};
 
-use crate::shapes::{name_priority_truth, one_name};
+use crate::shapes::{name_priority_truth, name_two_numbers, one_name};
 use crate::types::{Arg, Decl};
+use zk_base::Name;
 use zk_words::{Choice, Kind};
 
 /// The declaration of a kind and what stands behind it.
@@ -16,6 +17,8 @@ pub fn decl_of(kind: Kind, args: &[Arg]) -> Option<Decl>
         }
         Kind::Queue => name_priority_truth(Choice::State, args).map(|p| Decl::Queue(p.0, p.1, p.2)),
         Kind::Item => one_name(args).map(Decl::Item),
+        Kind::Sem => name_two_numbers(args).map(|p| Decl::Sem(p.0, p.1, p.2)),
+        Kind::Msgq => name_two_numbers(args).map(|p| Decl::Msgq(p.0, p.1, p.2)),
     }
 }
 
@@ -35,5 +38,17 @@ pub fn decl_args(decl: &Decl) -> [Option<Arg>; 3]
             Some(Arg::Truth(Choice::State, *on)),
         ],
         Decl::Item(name) => [Some(Arg::Name(*name)), None, None],
+        Decl::Sem(name, initial, limit) => numbered(name, *initial, *limit),
+        Decl::Msgq(name, size, capacity) => numbered(name, *size, *capacity),
     }
+}
+
+fn numbered(name: &Name, first: u32, second: u32) -> [Option<Arg>; 3]
+    ensures { standing result ≡ Arg.Name name.now ∷ Arg.Number first ∷ Arg.Number second ∷ [] }
+{
+    [
+        Some(Arg::Name(*name)),
+        Some(Arg::Number(first)),
+        Some(Arg::Number(second)),
+    ]
 }

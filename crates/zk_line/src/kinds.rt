@@ -1,5 +1,5 @@
 ghost use Rattle.std.specs.Prelude.{◌≡◌};
-ghost use Rattle.zk_line.specs.Objects.{kind_of, name_of, is_at, is_met, name_at, plays_script};
+ghost use Rattle.zk_line.specs.Objects.{kind_of, name_of, is_at, is_met, name_at, plays_script, size_at};
 
 use crate::types::Decl;
 use zk_words::{Kind, Need, meets, plays_script};
@@ -12,6 +12,8 @@ pub fn kind_of(decl: &Decl) -> Kind
         Decl::Thread(..) => Kind::Thread,
         Decl::Queue(..) => Kind::Queue,
         Decl::Item(_) => Kind::Item,
+        Decl::Sem(..) => Kind::Sem,
+        Decl::Msgq(..) => Kind::Msgq,
     }
 }
 
@@ -23,6 +25,8 @@ pub fn name_of(decl: &Decl) -> &[u8]
         Decl::Thread(name, _, _) => name.bytes(),
         Decl::Queue(name, _, _) => name.bytes(),
         Decl::Item(name) => name.bytes(),
+        Decl::Sem(name, _, _) => name.bytes(),
+        Decl::Msgq(name, _, _) => name.bytes(),
     }
 }
 
@@ -53,5 +57,15 @@ pub fn meets_at(need: Need, decls: &[Decl], object: u32) -> bool
     match decls.get(object as usize) {
         Some(decl) => meets(need, kind_of(decl)),
         None => false,
+    }
+}
+
+/// How many bytes each message of an object has, if it is one that has messages.
+pub fn size_at(decls: &[Decl], object: u32) -> Option<u32>
+    ensures { result ≡ size_at decls.now object }
+{
+    match decls.get(object as usize) {
+        Some(Decl::Msgq(_, size, _)) => Some(*size),
+        _ => None,
     }
 }

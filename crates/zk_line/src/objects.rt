@@ -1,5 +1,5 @@
 ghost use Rattle.std.specs.Prelude.{◌≡◌, ◌+◌, ◌-◌, ◌^◌, ◌<◌, None, [], ◌∷◌, ◌++◌, OnOk, OnErr, length, count_by, vec_len, vec_capacity};
-ghost use Rattle.zk_line.specs.Objects.{is_of, object_of, own_list, grown, HasRoom, is_thread, is_queue, is_item, name_of, places, number_of, player_count};
+ghost use Rattle.zk_line.specs.Objects.{is_of, object_of, own_list, grown, HasRoom, is_thread, is_queue, is_item, is_sem, is_msgq, name_of, places, number_of, player_count};
 
 use crate::kinds::name_of;
 use crate::names::Names;
@@ -18,6 +18,8 @@ pub struct Objects {
     threads: Vec<u32>,
     queues: Vec<u32>,
     items: Vec<u32>,
+    sems: Vec<u32>,
+    msgqs: Vec<u32>,
     numbers: Vec<u32>,
     names: Names,
 }
@@ -32,7 +34,8 @@ impl Model for Objects {
     ghost view = { λ a. a.decls.items };
 
     ghost invariant = { λ a.
-        IsTabled a.decls.items a.threads.items a.queues.items a.items.items a.numbers.items a.names };
+        IsTabled a.decls.items a.threads.items a.queues.items a.items.items a.sems.items a.msgqs.items
+        a.numbers.items a.names };
 }
 
 impl Objects {
@@ -45,6 +48,8 @@ impl Objects {
             threads: Vec::new(alloc),
             queues: Vec::new(alloc),
             items: Vec::new(alloc),
+            sems: Vec::new(alloc),
+            msgqs: Vec::new(alloc),
             numbers: Vec::new(alloc),
             names: Names::new(alloc),
         }
@@ -79,6 +84,20 @@ impl Objects {
         &self.items
     }
 
+    /// The object numbers of the semaphores, in order.
+    pub fn sems(&self) -> &[u32]
+        ensures all { result.now ≡ places is_sem self.now }
+    {
+        &self.sems
+    }
+
+    /// The object numbers of the message queues, in order.
+    pub fn msgqs(&self) -> &[u32]
+        ensures all { result.now ≡ places is_msgq self.now }
+    {
+        &self.msgqs
+    }
+
     /// How many players there are: the threads, and a worker for each queue.
     pub fn player_count(&self) -> usize
         ensures { result ≡ player_count self.now }
@@ -94,6 +113,8 @@ impl Objects {
             Kind::Thread => self.thread_count(),
             Kind::Queue => self.queue_count(),
             Kind::Item => self.item_count(),
+            Kind::Sem => self.sem_count(),
+            Kind::Msgq => self.msgq_count(),
         }
     }
 
@@ -113,6 +134,18 @@ impl Objects {
         ensures { result ≡ count_by is_item self.now }
     {
         self.items.len()
+    }
+
+    fn sem_count(&self) -> usize
+        ensures { result ≡ count_by is_sem self.now }
+    {
+        self.sems.len()
+    }
+
+    fn msgq_count(&self) -> usize
+        ensures { result ≡ count_by is_msgq self.now }
+    {
+        self.msgqs.len()
     }
 
     /// The number of an object among those of its kind.
@@ -141,6 +174,8 @@ impl Objects {
         make_room(&mut self.threads)?;
         make_room(&mut self.queues)?;
         make_room(&mut self.items)?;
+        make_room(&mut self.sems)?;
+        make_room(&mut self.msgqs)?;
         let object = self.decls.len() as u32;
         self.names.insert(alloc, name_of(&decl), object)?;
         let number = enlist(
@@ -149,6 +184,8 @@ impl Objects {
             &mut self.threads,
             &mut self.queues,
             &mut self.items,
+            &mut self.sems,
+            &mut self.msgqs,
         );
         put(&mut self.numbers, number);
         put(&mut self.decls, decl);
@@ -163,19 +200,28 @@ fn enlist(
     threads: &mut Vec<u32>,
     queues: &mut Vec<u32>,
     items: &mut Vec<u32>,
+    sems: &mut Vec<u32>,
+    msgqs: &mut Vec<u32>,
 ) -> u32
     requires thread_room { HasRoom (vec_len threads.old) (vec_capacity threads.old) }
     requires queue_room { HasRoom (vec_len queues.old) (vec_capacity queues.old) }
     requires item_room { HasRoom (vec_len items.old) (vec_capacity items.old) }
-    ensures number { result ≡ length (own_list decl.now threads.old.items queues.old.items items.old.items) }
+    requires sem_room { HasRoom (vec_len sems.old) (vec_capacity sems.old) }
+    requires msgq_room { HasRoom (vec_len msgqs.old) (vec_capacity msgqs.old) }
+    ensures number { result ≡ length
+        (own_list decl.now threads.old.items queues.old.items items.old.items sems.old.items msgqs.old.items) }
     ensures threads { threads.new.items ≡ grown is_thread decl.now object threads.old.items }
     ensures queues { queues.new.items ≡ grown is_queue decl.now object queues.old.items }
     ensures items { items.new.items ≡ grown is_item decl.now object items.old.items }
+    ensures sems { sems.new.items ≡ grown is_sem decl.now object sems.old.items }
+    ensures msgqs { msgqs.new.items ≡ grown is_msgq decl.now object msgqs.old.items }
 {
     match decl {
         Decl::Thread(..) => put_counted(threads, object),
         Decl::Queue(..) => put_counted(queues, object),
         Decl::Item(_) => put_counted(items, object),
+        Decl::Sem(..) => put_counted(sems, object),
+        Decl::Msgq(..) => put_counted(msgqs, object),
     }
 }
 

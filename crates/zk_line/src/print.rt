@@ -4,6 +4,7 @@ ghost use Rattle.zk_line.specs.Args.{arg_text, ref_name};
 ghost use Rattle.zk_line.specs.Calls.{standing};
 ghost use Rattle.zk_line.specs.Text.{said_line, decl_line, call_line, behind};
 ghost use Rattle.zk_words.specs.Table.{row_of};
+ghost use Rattle.zk_words.specs.Timeouts.{wait_text};
 
 use crate::calls::said_of;
 use crate::decls::decl_args;
@@ -11,7 +12,7 @@ use crate::kinds::{kind_of, name_at};
 use crate::types::{Arg, Call, Decl, Ref};
 use itoa::Buffer;
 use zk_base::{NoMemory, put, put_decimal};
-use zk_words::{Head, choice_text, row_of};
+use zk_words::{Head, Timeout, choice_text, put_hex, row_of};
 
 /// Appends the line of a declaration. As below, no line feed is written, and after an error a part of
 /// the line may stand there.
@@ -83,6 +84,8 @@ fn put_arg(out: &mut Vec<u8>, decls: &[Decl], arg: &Arg) -> Result<(), NoMemory>
         Arg::Number(number) => put_decimal(out, u64::from(*number)),
         Arg::Priority(prio) => put_priority(out, *prio),
         Arg::Truth(choice, truth) => put(out, choice_text(*choice, *truth)),
+        Arg::Bytes(message) => put_hex(out, message.bytes()),
+        Arg::Wait(wait) => put_wait(out, *wait),
     }
 }
 
@@ -91,6 +94,16 @@ fn put_priority(out: &mut Vec<u8>, prio: i8) -> Result<(), NoMemory>
 {
     let mut digits = Buffer::new();
     put(out, digits.format(prio).as_bytes())
+}
+
+fn put_wait(out: &mut Vec<u8>, wait: Timeout) -> Result<(), NoMemory>
+    ensures { OnOk result (out.new.items ≡ out.old.items ++ wait_text wait) }
+{
+    match wait {
+        Timeout::No => put(out, b"no"),
+        Timeout::Forever => put(out, b"forever"),
+        Timeout::Ticks(ticks) => put_decimal(out, u64::from(ticks)),
+    }
 }
 
 /// The name of an object that a call names.

@@ -1,9 +1,9 @@
 ghost use Rattle.std.specs.Prelude.{◌≡◌};
-ghost use Rattle.zk_line.specs.Shapes.{as_name, as_object, as_number, as_priority, as_truth, one, two, three, one_or_two};
+ghost use Rattle.zk_line.specs.Shapes.{as_name, as_object, as_number, as_priority, as_truth, as_bytes, as_wait, one, two, three, one_or_two};
 
 use crate::types::{Arg, Ref};
-use zk_base::Name;
-use zk_words::{Choice, same_choice};
+use zk_base::{Msg, Name};
+use zk_words::{Choice, Timeout, same_choice};
 
 /// One object.
 pub fn one_object(args: &[Arg]) -> Option<Ref>
@@ -64,6 +64,38 @@ pub fn object_truth(choice: Choice, args: &[Arg]) -> Option<(Ref, bool)>
     }
 }
 
+/// An object and a number.
+pub fn object_number(args: &[Arg]) -> Option<(Ref, u32)>
+    ensures { result ≡ two as_object as_number args.now }
+{
+    match args {
+        [Arg::Object(object), Arg::Number(number)] => Some((*object, *number)),
+        _ => None,
+    }
+}
+
+/// An object and how long is waited for it.
+pub fn object_wait(args: &[Arg]) -> Option<(Ref, Timeout)>
+    ensures { result ≡ two as_object as_wait args.now }
+{
+    match args {
+        [Arg::Object(object), Arg::Wait(wait)] => Some((*object, *wait)),
+        _ => None,
+    }
+}
+
+/// An object, a message for it, and how long is waited for it.
+pub fn object_bytes_wait(args: &[Arg]) -> Option<(Ref, Msg, Timeout)>
+    ensures { result ≡ three as_object as_bytes as_wait args.now }
+{
+    match args {
+        [Arg::Object(object), Arg::Bytes(message), Arg::Wait(wait)] => Some((
+            *object, *message, *wait,
+        )),
+        _ => None,
+    }
+}
+
 /// One name.
 pub fn one_name(args: &[Arg]) -> Option<Name>
     ensures { result ≡ one as_name args.now }
@@ -90,6 +122,18 @@ pub fn name_priority_truth(choice: Choice, args: &[Arg]) -> Option<(Name, i8, bo
                 None
             }
         }
+        _ => None,
+    }
+}
+
+/// A name and two numbers.
+pub fn name_two_numbers(args: &[Arg]) -> Option<(Name, u32, u32)>
+    ensures { result ≡ three as_name as_number as_number args.now }
+{
+    match args {
+        [Arg::Name(name), Arg::Number(first), Arg::Number(second)] => Some((
+            *name, *first, *second,
+        )),
         _ => None,
     }
 }

@@ -1,5 +1,5 @@
-use zk_base::Name;
-use zk_words::Choice;
+use zk_base::{Msg, Name};
+use zk_words::{Choice, Timeout};
 
 /// One declaration. Objects are numbered from 0 in declared order.
 #[derive(Clone, Copy, Debug)]
@@ -10,6 +10,10 @@ pub enum Decl {
     Queue(Name, i8, bool),
     /// A work item.
     Item(Name),
+    /// A semaphore, the count that it begins with (up to its limit), and its limit, 1 to 1,000,000.
+    Sem(Name, u32, u32),
+    /// A message queue, the size of each message in bytes (1 to 64), and how many it has room for (1 to 256).
+    Msgq(Name, u32, u32),
 }
 
 /// An object as a call names it.
@@ -28,6 +32,8 @@ pub enum Arg {
     Priority(i8),
     /// Which of the two words of a choice: true for the first.
     Truth(Choice, bool),
+    Bytes(Msg),
+    Wait(Timeout),
 }
 
 /// What stands in a list's places that nothing fills.
@@ -62,4 +68,26 @@ pub enum Call {
     Unplug(Ref),
     /// The clock goes on by 1 to 1,000,000 ticks. Zephyr's `sys_clock_announce`.
     Tick(u32),
+    /// A semaphore. Zephyr's `k_sem_take`.
+    Take(Ref, Timeout),
+    /// A semaphore. Zephyr's `k_sem_give`.
+    Give(Ref),
+    /// A semaphore. Zephyr's `k_sem_reset`.
+    Reset(Ref),
+    /// A semaphore. Zephyr's `k_sem_count_get`.
+    Count(Ref),
+    /// A message queue, and a message of its size. Zephyr's `k_msgq_put`.
+    Put(Ref, Msg, Timeout),
+    /// A message queue. Zephyr's `k_msgq_get`.
+    Get(Ref, Timeout),
+    /// A message queue. Zephyr's `k_msgq_peek`.
+    Peek(Ref),
+    /// A message queue, and a place among its messages, 0 to 255, the oldest first. Zephyr's `k_msgq_peek_at`.
+    PeekAt(Ref, u32),
+    /// A message queue. Zephyr's `k_msgq_purge`.
+    Purge(Ref),
+    /// A message queue. Zephyr's `k_msgq_num_used_get`.
+    Used(Ref),
+    /// A message queue. Zephyr's `k_msgq_num_free_get`.
+    Free(Ref),
 }

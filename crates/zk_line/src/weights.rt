@@ -1,19 +1,23 @@
-ghost use Rattle.std.specs.Prelude.{◌≡◌, true, [], Some, option_map, if◌then◌else◌, IfOk};
+ghost use Rattle.std.specs.Prelude.{◌≡◌, true, is_some, [], None, Some, option_map, if◌then◌else◌, IfOk};
 ghost use Rattle.std.specs.List.{list_all};
 ghost use Rattle.std.specs.Option.{option_flatten};
+ghost use Rattle.zk_words.specs.Hex.{is_hex, msg_of};
 ghost use Rattle.zk_words.specs.Numbers.{number_in, priority_of};
 ghost use Rattle.zk_words.specs.Spelled.{is_spelled_in, part_is_spelled};
 ghost use Rattle.zk_line.specs.Args.{truth_of, arg_of, args_of};
-ghost use Rattle.zk_line.specs.Checks.{is_in_range, are_in_range, is_well_named, are_well_named};
+ghost use Rattle.zk_words.specs.Timeouts.{wait_of};
+ghost use Rattle.zk_line.specs.Checks.{size_said, is_in_range, hex_in_range, are_in_range, is_well_named, are_well_named};
 ghost use Rattle.zk_line.specs.Weights.{Weighs, or_wrong};
 
 use crate::arg_list::Args;
-use crate::checks::are_in_range;
+use crate::checks::{are_in_range, go_together, hex_in_range, size_named};
 use crate::kinds::{meets_at, plays_at};
 use crate::objects::Objects;
 use crate::types::{Arg, Ref};
 use zk_base::{Name, NoMemory};
-use zk_words::{Choice, Need, Parts, Slot, choice_text, number_in, priority_of};
+use zk_words::{
+    Choice, Head, Need, Parts, Slot, choice_text, msg_of, number_in, priority_of, wait_of,
+};
 
 /// What speaks against a word in its slot, or against a line's words in theirs.
 #[derive(Clone, Copy, Debug)]
@@ -26,29 +30,34 @@ pub enum Wrong {
 
 /// What speaks against the words of a line; where nothing does, the arguments are what they say. Each
 /// name is looked up once.
+#[tactic(auto, using(crate::proofs::ReadTo::in_range_next))]
 pub fn weigh(
     args: &mut Args,
     objects: &Objects,
-    parts: Parts<'_>,
+    head: Head,
+    parts: &Parts<'_>,
 ) -> Result<Option<Wrong>, NoMemory>
     requires empty { args.old ≡ [] }
-    requires spelled { list_all part_is_spelled parts ≡ true }
+    requires spelled { list_all part_is_spelled parts.now ≡ true }
     ensures { IfOk result (λ wrong. Weighs
-        (are_in_range parts.entry) (are_well_named objects.now parts.entry) (args_of objects.now parts.entry)
+        (are_in_range objects.now head parts.now) (are_well_named objects.now parts.now) (args_of objects.now parts.now)
         (or_wrong wrong args.new)) }
 {
-    let mut parts = parts;
-    while let Some(part) = parts.next() {
-        match worth_of(objects, part.slot, part.text) {
+    if !go_together(head, parts) {
+        return Ok(Some(Wrong::OutOfRange));
+    }
+    let mut left = parts.again();
+    while let Some(part) = left.next() {
+        match worth_of(objects, args.items(), part.slot, part.text) {
             Ok(arg) => args.push(arg)?,
             Err(Wrong::OutOfRange) => return Ok(Some(Wrong::OutOfRange)),
-            Err(Wrong::Misnamed) => return Ok(Some(misnamed(are_in_range(parts)))),
+            Err(Wrong::Misnamed) => return Ok(Some(misnamed(are_in_range(objects, head, parts)))),
         }
     }
     Ok(None)
 }
 
-/// What speaks against a line in which a name is wrong, and the numbers behind it are in range or not.
+/// What speaks against a line in which a name is wrong, and the numbers are in range or not.
 fn misnamed(in_range: bool) -> Wrong
     ensures { result ≡ (if in_range then Wrong.Misnamed else Wrong.OutOfRange) }
 {
@@ -59,11 +68,11 @@ fn misnamed(in_range: bool) -> Wrong
     }
 }
 
-/// What a word is worth in its slot.
-fn worth_of(objects: &Objects, slot: Slot, word: &[u8]) -> Result<Arg, Wrong>
+/// What a word is worth in its slot, behind those that say these.
+fn worth_of(objects: &Objects, said: &[Arg], slot: Slot, word: &[u8]) -> Result<Arg, Wrong>
     requires { is_spelled_in slot word.now ≡ true }
-    ensures { Weighs
-        (is_in_range slot word.now) (is_well_named objects.now slot word.now) (arg_of objects.now slot word.now) result }
+    ensures { Weighs (is_in_range (size_said objects.now said.now) slot word.now)
+        (is_well_named objects.now slot word.now) (arg_of objects.now slot word.now) result }
 {
     match slot {
         Slot::New => new_name(objects, word),
@@ -72,6 +81,9 @@ fn worth_of(objects: &Objects, slot: Slot, word: &[u8]) -> Result<Arg, Wrong>
         Slot::Number(least, most) => number(least, most, word),
         Slot::Priority => priority(word),
         Slot::Either(choice) => Ok(Arg::Truth(choice, truth(choice, word))),
+        Slot::Hex => message(size_said(objects, said), word),
+        Slot::Wait => wait(word),
+        Slot::Raw => Err(Wrong::Misnamed),
     }
 }
 
@@ -118,7 +130,7 @@ fn object(objects: &Objects, need: Need, word: &[u8]) -> Result<Arg, Wrong>
 }
 
 fn number(least: u32, most: u32, word: &[u8]) -> Result<Arg, Wrong>
-    ensures { Weighs (is_in_range (Slot.Number least most) word.now) true
+    ensures { Weighs (is_in_range None (Slot.Number least most) word.now) true
         (option_map Arg.Number (number_in least most word.now)) result }
 {
     match number_in(least, most, word) {
@@ -128,12 +140,44 @@ fn number(least: u32, most: u32, word: &[u8]) -> Result<Arg, Wrong>
 }
 
 fn priority(word: &[u8]) -> Result<Arg, Wrong>
-    ensures { Weighs (is_in_range Slot.Priority word.now) true
+    ensures { Weighs (is_in_range None Slot.Priority word.now) true
         (option_map Arg.Priority (option_flatten (priority_of word.now))) result }
 {
     match priority_of(word) {
         Some(Some(prio)) => Ok(Arg::Priority(prio)),
         _ => Err(Wrong::OutOfRange),
+    }
+}
+
+/// How many bytes a message has behind words that say these.
+fn size_said(objects: &Objects, said: &[Arg]) -> Option<u32>
+    ensures { result ≡ size_said objects.now said.now }
+{
+    match said {
+        [first, ..] => size_named(objects, first),
+        [] => None,
+    }
+}
+
+fn message(size: Option<u32>, word: &[u8]) -> Result<Arg, Wrong>
+    requires { is_hex word.now ≡ true }
+    ensures { Weighs (hex_in_range size word.now) true (option_map Arg.Bytes (msg_of word.now)) result }
+{
+    if !hex_in_range(size, word) {
+        return Err(Wrong::OutOfRange);
+    }
+    match msg_of(word) {
+        Some(message) => Ok(Arg::Bytes(message)),
+        None => Err(Wrong::OutOfRange),
+    }
+}
+
+fn wait(word: &[u8]) -> Result<Arg, Wrong>
+    ensures { Weighs (is_some (wait_of word.now)) true (option_map Arg.Wait (wait_of word.now)) result }
+{
+    match wait_of(word) {
+        Some(wait) => Ok(Arg::Wait(wait)),
+        None => Err(Wrong::OutOfRange),
     }
 }
 

@@ -4,10 +4,9 @@ use Rattle.std.proofs.lemmas.Option.{same_Some}
 use Rattle.zk_base.specs.declared.ids.Who.{Who}
 use Rattle.zk_base.specs.declared.waits.Waiter.{Waiter}
 use Rattle.zk_base.specs.Waits.{Waits, decides_first}
-use Rattle.zk_base.specs.WaitLaws.{WaitKind, nobody, first, after_decision, after_entry, HasWaits, IsFirst}
-use Rattle.zk_base.proofs.WaitOrder.{none_overtakes}
-use Rattle.zk_base.proofs.WaitsHold.{each_wait_has_its_opening, end_tells_its_decision, quit_tells_its_decision, may_end_once_decided, may_quit_until_ended}
-use Rattle.zk_model_wait.specs.MsgqLaws.{OfEachMsgq, KeepsWaits}
+use Rattle.zk_base.specs.WaitLaws.{nobody, first, after_decision, after_entry, HasWaits, IsFirst, KeepsWaits}
+use Rattle.zk_base.proofs.WaitsKept.{keeps_waits}
+use Rattle.zk_model_wait.specs.MsgqLaws.{OfEachMsgq}
 use Rattle.zk_model_wait.specs.declared.msgq.MsgqOp.{MsgqOp}
 use Rattle.zk_model_wait.specs.declared.msgq.MsgqOp.TheVariants as ops
 use Rattle.zk_model_wait.specs.declared.msgq.MsgqReply.{MsgqReply}
@@ -124,11 +123,41 @@ get-quits : (q : Msgq) (who : Who) (op : MsgqOp) (place : ℕ) → getters.quits
 get-quits q who (ops.GetQuit at) place is = ap (λ (p : ℕ). msgq_reply q who (ops.GetQuit p)) (same_Some at place is)
 get-quits q who op place is = absurd (cc)
 
+put-opens_alone : (op : MsgqOp) (reply : MsgqReply) (matter : List ℕ) → putters.opens op reply ≡ Some matter → (putters.ends op ≡ None) × (putters.quits op ≡ None)
+put-opens_alone (ops.Put message waits) reply matter is = (refl, refl)
+put-opens_alone op reply matter is = absurd (cc)
+
+put-ends_alone : (op : MsgqOp) (place : ℕ) → putters.ends op ≡ Some place → putters.quits op ≡ None
+put-ends_alone (ops.PutEnd at) place is = refl
+put-ends_alone op place is = absurd (cc)
+
+get-opens_alone : (op : MsgqOp) (reply : MsgqReply) (matter : Unit) → getters.opens op reply ≡ Some matter → (getters.ends op ≡ None) × (getters.quits op ≡ None)
+get-opens_alone (ops.Get waits) reply matter is = (refl, refl)
+get-opens_alone op reply matter is = absurd (cc)
+
+get-ends_alone : (op : MsgqOp) (place : ℕ) → getters.ends op ≡ Some place → getters.quits op ≡ None
+get-ends_alone (ops.GetEnd at) place is = refl
+get-ends_alone op place is = absurd (cc)
+
 pub has_putters : HasWaits msgq_machine putters
-has_putters = record { counts = λ q who op. refl; moves = put-moves; ends = put-ends; quits = put-quits }
+has_putters = record {
+  counts = λ q who op. refl;
+  moves = put-moves;
+  ends = put-ends;
+  quits = put-quits;
+  opens_alone = put-opens_alone;
+  ends_alone = put-ends_alone;
+}
 
 pub has_getters : HasWaits msgq_machine getters
-has_getters = record { counts = λ q who op. refl; moves = get-moves; ends = get-ends; quits = get-quits }
+has_getters = record {
+  counts = λ q who op. refl;
+  moves = get-moves;
+  ends = get-ends;
+  quits = get-quits;
+  opens_alone = get-opens_alone;
+  ends_alone = get-ends_alone;
+}
 
 pub first_putters : (most : ℕ) → IsFirst putters (new_msgq most)
 first_putters most = record { none = refl; new = refl }
@@ -136,19 +165,8 @@ first_putters most = record { none = refl; new = refl }
 pub first_getters : (most : ℕ) → IsFirst getters (new_msgq most)
 first_getters most = record { none = refl; new = refl }
 
-module _ {M : Type 0} (k : WaitKind Msgq MsgqOp MsgqReply M) (has : HasWaits msgq_machine k) (start : (most : ℕ) → IsFirst k (new_msgq most)) where
-  waits-hold : OfEachMsgq (KeepsWaits k)
-  waits-hold most h legal = record {
-    opened = each_wait_has_its_opening msgq_machine k has (new_msgq most) h (start most) legal.0;
-    ends = end_tells_its_decision msgq_machine k has (new_msgq most) h legal.0;
-    quits = quit_tells_its_decision msgq_machine k has (new_msgq most) h legal.0;
-    may_end = may_end_once_decided msgq_machine k has (new_msgq most) h;
-    may_quit = may_quit_until_ended msgq_machine k has (new_msgq most) h;
-    in_order = none_overtakes msgq_machine k has (new_msgq most) h (start most) legal.0;
-  }
+pub puts_hold : OfEachMsgq (KeepsWaits msgq_machine putters)
+puts_hold most h legal = keeps_waits msgq_machine putters has_putters (new_msgq most) h (first_putters most) legal.0
 
-pub puts_hold : OfEachMsgq (KeepsWaits putters)
-puts_hold = waits-hold putters has_putters first_putters
-
-pub gets_hold : OfEachMsgq (KeepsWaits getters)
-gets_hold = waits-hold getters has_getters first_getters
+pub gets_hold : OfEachMsgq (KeepsWaits msgq_machine getters)
+gets_hold most h legal = keeps_waits msgq_machine getters has_getters (new_msgq most) h (first_getters most) legal.0

@@ -1,5 +1,5 @@
 -- What a semaphore counts, along a history.
-use Rattle.std.proofs.Common.{◌≡◌, ℕ, zero, suc, ◌+◌, ◌<◌, ◌≤◌, Bool, true, false, inl, inr, ltb, cond, Option, Some, None, option_map, List, [], ◌∷◌, map, refl, sym, ap, subst, ◌∙◌, arith}
+use Rattle.std.proofs.Common.{◌≡◌, ℕ, zero, suc, ◌+◌, ◌<◌, ◌≤◌, Bool, true, false, ◌⊎◌, inl, inr, ltb, cond, Option, Some, None, option_map, List, [], ◌∷◌, map, refl, sym, ap, subst, ◌∙◌, arith}
 use Rattle.std.specs.List.{find, count_by}
 use Rattle.std.proofs.lemmas.Bool.{ltb-true}
 use Rattle.std.proofs.lemmas.List.Sums.{sum_by-cons, sum_by_push, sum_by-append}
@@ -12,14 +12,17 @@ use Rattle.zk_base.specs.History.{IsEntry}
 use Rattle.zk_base.specs.Legal.{Replays}
 use Rattle.zk_base.specs.Lists.{without_first}
 use Rattle.zk_base.specs.Waits.{is_waiter, is_decision, decide, decides_first, goes_on, given_up}
-use Rattle.zk_base.proofs.Firsts.{one_if}
+use Rattle.zk_base.proofs.Firsts.{one_if, without-lost, count-found}
 use Rattle.zk_base.proofs.Histories.{state_after-snoc, Replays-rest}
 use Rattle.zk_model_wait.specs.declared.sem.SemOp.{SemOp}
 use Rattle.zk_model_wait.specs.declared.sem.SemOp.TheVariants as ops
 use Rattle.zk_model_wait.specs.declared.sem.SemReply.{SemReply}
 use Rattle.zk_model_wait.specs.declared.sem.SemReply.TheVariants.{Got, Again, Done, Number}
 use Rattle.zk_model_wait.specs.Sem.{Sem, new_sem, take_reply, take_at, give_to, sem_reply, sem_next, sem_machine}
-use Rattle.zk_model_wait.specs.SemLaws.{SemHistory, OfEachSem, sem_after_all, is_got, gives_one, is_give, takes_one, held, wasted_at, thrown_away, all_thrown_away, CountWithinLimit, NoneWaitsWhileCount, GivesAddUp, GotWithinGives, TakeWaitsOnlyAtZero, CountTellsTheCount, ResetEndsEveryWait, MayAlways, GiveIsDone}
+use Rattle.zk_model_wait.specs.SemWaits.{take_decides, takers}
+use Rattle.zk_model_wait.proofs.SemWaits.{has_takers}
+use Rattle.zk_base.proofs.WaitDecisions.{said, decides-said}
+use Rattle.zk_model_wait.specs.SemLaws.{SemHistory, OfEachSem, sem_after_all, is_got, gives_one, is_give, takes_one, held, wasted_at, thrown_away, all_thrown_away, TakeIsTold, DecidedByGiveOrReset, CountWithinLimit, NoneWaitsWhileCount, GivesAddUp, GotWithinGives, TakeWaitsOnlyAtZero, CountTellsTheCount, ResetEndsEveryWait, MayAlways, GiveIsDone}
 
 -- the limit stays
 take-limit : (n : ℕ) (s : Sem) (who : Who) (waits : Bool) → (take_at n s who waits).limit ≡ s.limit
@@ -101,29 +104,6 @@ served-all s (e ∷ es) served some = served-all (sem_next s e.who e.op) es (nex
 pub none_waits_while_count : OfEachSem NoneWaitsWhileCount
 none_waits_while_count initial limit low h legal some = served-all (new_sem initial limit) h (λ above. refl) some
 
--- what is found is taken out, and counted no more
-module _ {A : Type 0} (p q : A → Bool) where
-  found-at : (x y : A) (xs : List A) (b : Bool) → (find p xs ≡ Some y → count_by q xs ≡ one_if (q y) + count_by q (without_first p xs)) →
-      cond b (Some x) (find p xs) ≡ Some y → count_by q (x ∷ xs) ≡ one_if (q y) + count_by q (cond b xs (x ∷ without_first p xs))
-  found-at x y xs true rest found =
-      let same : one_if (q x) ≡ one_if (q y) = ap (λ (z : A). one_if (q z)) (same_Some x y found) in
-      omega (arith, sum_by-cons (λ (z : A). one_if (q z)) x xs)
-  found-at x y xs false rest found =
-      let further = rest found in
-      omega (arith, sum_by-cons (λ (z : A). one_if (q z)) x xs, sum_by-cons (λ (z : A). one_if (q z)) x (without_first p xs))
-
-  count-found : (xs : List A) (y : A) → find p xs ≡ Some y → count_by q xs ≡ one_if (q y) + count_by q (without_first p xs)
-  count-found [] y found = absurd (cc)
-  count-found (x ∷ xs) y found = found-at x y xs (p x) (count-found xs y) found
-
-  lost-at : (x : A) (xs : List A) (b : Bool) → (find p xs ≡ None → without_first p xs ≡ xs) → cond b (Some x) (find p xs) ≡ None → cond b xs (x ∷ without_first p xs) ≡ x ∷ xs
-  lost-at x xs true rest none = absurd (cc)
-  lost-at x xs false rest none = ap (λ (l : List A). x ∷ l) (rest none)
-
-  without-lost : (xs : List A) → find p xs ≡ None → without_first p xs ≡ xs
-  without-lost [] none = refl
-  without-lost (x ∷ xs) none = lost-at x xs (p x) (without-lost xs) none
-
 -- those who are decided to have taken one
 
 end-by : (p : Decision SemReply → Bool) (xs : List (Decision SemReply)) (o : Option (Decision SemReply)) (reply : SemReply) → find p xs ≡ o → option_map (λ (d : Decision SemReply). d.answer) o ≡ Some reply →
@@ -151,7 +131,7 @@ quit-by : (s : Sem) (who : Who) (place : ℕ) (waits : Bool) (o : Option (Decisi
 quit-by s who place waits (Some d) reply found is = end-by (is_decision who.number place) s.takers.decided (Some d) reply found is
 quit-by s who place true None reply found is =
     let none : one_if (is_got reply) ≡ 0 = ap (λ (r : SemReply). one_if (is_got r)) (sym (same_Some Again reply is)) in
-    let same = ap (λ (ds : List (Decision SemReply)). count_by (λ (d : Decision SemReply). is_got d.answer) ds) (without-lost (is_decision who.number place) (λ (d : Decision SemReply). is_got d.answer) s.takers.decided found) in
+    let same = ap (λ (ds : List (Decision SemReply)). count_by (λ (d : Decision SemReply). is_got d.answer) ds) (without-lost (is_decision who.number place) s.takers.decided found) in
     omega arith
 quit-by s who place false None reply found is = absurd (cc)
 
@@ -159,7 +139,7 @@ raised-adds : (s : Sem) (b : Bool) → s.count + 1 ≡ cond b (s.count + 1) s.co
 raised-adds s true = omega arith
 raised-adds s false = refl
 
-give-adds : (waiting : List (Waiter Unit)) (s : Sem) → s.takers.waiting ≡ waiting → s.count + held s + 1 ≡ held (give_to waiting s) + (give_to waiting s).count + wasted_at waiting s
+give-adds : (waiting : List (Waiter Unit)) (s : Sem) → s.takers.waiting ≡ waiting → s.count + held s + 1 ≡ held (give_to waiting s) + (give_to waiting s).count + wasted_at waiting s.limit s.count
 give-adds [] s is = let here = raised-adds s (ltb s.count s.limit) in omega arith
 give-adds (w ∷ ws) s is =
     let P : List (Waiter Unit) → Type 0 = λ l. s.count + held s + 1 ≡ count_by (λ (d : Decision SemReply). is_got d.answer) (decides_first Got l s.takers.decided).decided + s.count + 0 in
@@ -168,7 +148,7 @@ give-adds (w ∷ ws) s is =
     subst P (sym is) here
 
 next-adds : (s : Sem) (who : Who) (op : SemOp) (reply : SemReply) → sem_reply s who op ≡ Some reply →
-    s.count + held s + one_if (gives_one op) ≡ one_if (is_got reply) + held (sem_next s who op) + (sem_next s who op).count + thrown_away s op
+    s.count + held s + one_if (gives_one op) ≡ one_if (is_got reply) + held (sem_next s who op) + (sem_next s who op).count + thrown_away s.limit s op
 next-adds s who (ops.Take waits) reply is = let here = take-adds s.count s who waits reply refl (same_Some (take_reply s.count waits) reply is) in omega arith
 next-adds s who (ops.TakeEnd place) reply is =
     let here = end-by (is_decision who.number place) s.takers.decided (find (is_decision who.number place) s.takers.decided) reply refl is in
@@ -190,11 +170,13 @@ next-adds s who ops.Count reply is =
     omega arith
 
 adds-all : (s : Sem) (h : SemHistory) → Replays sem_machine s h →
-    s.count + held s + count_by is_give h ≡ count_by takes_one h + held (sem_after_all s h) + (sem_after_all s h).count + all_thrown_away s h
+    s.count + held s + count_by is_give h ≡ count_by takes_one h + held (sem_after_all s h) + (sem_after_all s h).count + all_thrown_away s.limit s h
 adds-all s [] replays = omega arith
 adds-all s (e ∷ es) replays =
+    let next = sem_next s e.who e.op in
     let here = next-adds s e.who e.op e.reply replays.0 in
-    let rest = adds-all (sem_next s e.who e.op) es replays.1 in
+    let rest = adds-all next es replays.1 in
+    let same = ap (λ (limit : ℕ). all_thrown_away limit next es) (next-limit s e.who e.op) in
     omega (arith, sum_by-cons (λ (f : Entry SemOp SemReply). one_if (is_give f)) e es, sum_by-cons (λ (f : Entry SemOp SemReply). one_if (takes_one f)) e es)
 
 pub gives_add_up : OfEachSem GivesAddUp
@@ -208,10 +190,15 @@ got_within_gives initial limit low h legal = let all = adds-all (new_sem initial
 replied : (s : Sem) (h front : SemHistory) (e : Entry SemOp SemReply) → Replays sem_machine s h → IsEntry h front e → sem_reply (sem_after_all s front) e.who e.op ≡ Some e.reply
 replied s h front e replays at = (Replays-rest sem_machine s front (e ∷ at.rest) (subst (Replays sem_machine s) at.whole replays)).0
 
+take-told : (count : ℕ) (waits : Bool) → TakeIsTold count waits (take_reply count waits)
+take-told zero true = record { got = λ some. absurd (omega arith); wait = λ none is. refl; busy = λ none is. absurd (cc) }
+take-told zero false = record { got = λ some. absurd (omega arith); wait = λ none is. absurd (cc); busy = λ none is. refl }
+take-told (suc n) waits = record { got = λ some. refl; wait = λ none is. absurd (omega arith); busy = λ none is. absurd (omega arith) }
+
 pub take_waits_only_at_zero : OfEachSem TakeWaitsOnlyAtZero
 take_waits_only_at_zero initial limit low h legal front e waits at op =
     let s = sem_after_all (new_sem initial limit) front in
-    sym (same_Some (take_reply s.count waits) e.reply (ap (sem_reply s e.who) (sym op) ∙ replied (new_sem initial limit) h front e legal.0 at))
+    subst (TakeIsTold s.count waits) (same_Some (take_reply s.count waits) e.reply (ap (sem_reply s e.who) (sym op) ∙ replied (new_sem initial limit) h front e legal.0 at)) (take-told s.count waits)
 
 pub count_tells_the_count : OfEachSem CountTellsTheCount
 count_tells_the_count initial limit low h legal front e at op =
@@ -222,6 +209,16 @@ pub reset_ends_every_wait : (s : Sem) (h : SemHistory) → ResetEndsEveryWait s 
 reset_ends_every_wait s h front e at op =
     let after = state_after-snoc sem_machine s front e ∙ ap (sem_next (sem_after_all s front) e.who) op in
     (ap (λ (t : Sem). t.count) after, ap (λ (t : Sem). t.takers.waiting) after)
+
+decided-so : (s : Sem) (op own : SemOp) (reply answer : SemReply) → op ≡ own → said (take_decides s own reply) ≡ Some answer → ((op ≡ ops.Give) × (answer ≡ Got)) ⊎ ((op ≡ ops.Reset) × (answer ≡ Again))
+decided-so s op ops.Give reply answer same is = inl (same, sym (same_Some Got answer is))
+decided-so s op ops.Reset reply answer same is = inr (same, sym (same_Some Again answer is))
+decided-so s op own reply answer same is = absurd (cc)
+
+pub decided_by_give_or_reset : OfEachSem DecidedByGiveOrReset
+decided_by_give_or_reset initial limit low h legal front e d at decides =
+    let s = new_sem initial limit in
+    decided-so (sem_after_all s front) e.op e.op e.reply d.answer refl (decides-said sem_machine takers has_takers s h legal.0 front e d at decides)
 
 pub may_always : (s : Sem) (h : SemHistory) → MayAlways s h
 may_always s h who (ops.Take waits) never = (_, refl)

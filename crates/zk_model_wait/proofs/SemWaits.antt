@@ -4,13 +4,15 @@ use Rattle.std.proofs.lemmas.Option.{same_Some}
 use Rattle.zk_base.specs.declared.ids.Who.{Who}
 use Rattle.zk_base.specs.declared.waits.Waiter.{Waiter}
 use Rattle.zk_base.specs.Waits.{Waits, decides_first}
-use Rattle.zk_base.specs.WaitLaws.{nobody, first, after_decision, after_entry, HasWaits, IsFirst}
+use Rattle.zk_base.specs.WaitLaws.{nobody, first, after_decision, after_entry, HasWaits, IsFirst, KeepsWaits}
+use Rattle.zk_base.proofs.WaitsKept.{keeps_waits}
 use Rattle.zk_model_wait.specs.declared.sem.SemOp.{SemOp}
 use Rattle.zk_model_wait.specs.declared.sem.SemOp.TheVariants as ops
 use Rattle.zk_model_wait.specs.declared.sem.SemReply.{SemReply}
 use Rattle.zk_model_wait.specs.declared.sem.SemReply.TheVariants.{Got}
 use Rattle.zk_model_wait.specs.Sem.{Sem, new_sem, take_reply, take_at, give_to, sem_reply, sem_next, sem_machine}
 use Rattle.zk_model_wait.specs.SemWaits.{take_opens, takers}
+use Rattle.zk_model_wait.specs.SemLaws.{OfEachSem}
 
 take-moves : (n : ℕ) (s : Sem) (who : Who) (waits : Bool) (reply : SemReply) → take_reply n waits ≡ reply →
     (take_at n s who waits).takers ≡ after_entry s.takers s.entries who nobody (take_opens (ops.Take waits) reply) None None
@@ -55,9 +57,27 @@ sem-quits s who ops.Give place is = absurd (cc)
 sem-quits s who ops.Reset place is = absurd (cc)
 sem-quits s who ops.Count place is = absurd (cc)
 
+sem-opens_alone : (op : SemOp) (reply : SemReply) (matter : Unit) → takers.opens op reply ≡ Some matter → (takers.ends op ≡ None) × (takers.quits op ≡ None)
+sem-opens_alone (ops.Take waits) reply matter is = (refl, refl)
+sem-opens_alone op reply matter is = absurd (cc)
+
+sem-ends_alone : (op : SemOp) (place : ℕ) → takers.ends op ≡ Some place → takers.quits op ≡ None
+sem-ends_alone (ops.TakeEnd at) place is = refl
+sem-ends_alone op place is = absurd (cc)
+
 -- a semaphore has waits: those who take
 pub has_takers : HasWaits sem_machine takers
-has_takers = record { counts = λ s who op. refl; moves = sem-moves; ends = sem-ends; quits = sem-quits }
+has_takers = record {
+  counts = λ s who op. refl;
+  moves = sem-moves;
+  ends = sem-ends;
+  quits = sem-quits;
+  opens_alone = sem-opens_alone;
+  ends_alone = sem-ends_alone;
+}
 
-pub first_takers : (initial limit : ℕ) → IsFirst takers (new_sem initial limit)
+first_takers : (initial limit : ℕ) → IsFirst takers (new_sem initial limit)
 first_takers initial limit = record { none = refl; new = refl }
+
+pub takers_hold : OfEachSem (KeepsWaits sem_machine takers)
+takers_hold initial limit low h legal = keeps_waits sem_machine takers has_takers (new_sem initial limit) h (first_takers initial limit) legal.0

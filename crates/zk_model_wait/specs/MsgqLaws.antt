@@ -1,14 +1,18 @@
-use Rattle.std.specs.Prelude.{◌≡◌, ℕ, ◌-◌, ◌<◌, ◌≤◌, Bool, List, [], ◌∷◌, ◌++◌, length}
+use Rattle.std.specs.Prelude.{◌≡◌, ℕ, ◌-◌, ◌<◌, ◌≤◌, Bool, true, false, ◌==◌, ◌&&◌, ◌⊎◌, if◌then◌else◌, Some, List, [], ◌∷◌, ◌++◌, length, slice_get}
+use Rattle.std.specs.List.{list_any}
+use Rattle.zk_base.specs.declared.ids.Who.{Who}
 use Rattle.zk_base.specs.declared.ids.Entry.{Entry}
 use Rattle.zk_base.specs.declared.waits.Waiter.{Waiter}
+use Rattle.zk_base.specs.declared.waits.Decision.{Decision}
 use Rattle.zk_base.specs.History.{IsEntry}
 use Rattle.zk_base.specs.Legal.{state_after, IsLegal}
-use Rattle.zk_base.specs.WaitLaws.{WaitKind, EachWaitHasItsOpening, EndTellsItsDecision, QuitTellsItsDecision, MayEndOnceDecided, MayQuitUntilEnded, NoneOvertakes}
+use Rattle.zk_base.specs.Waits.{Waits}
+use Rattle.zk_base.specs.WaitLaws.{decided_at, IsDecidedBy, KeepsWaits}
 use Rattle.zk_model_wait.specs.declared.msgq.MsgqOp.{MsgqOp}
 use Rattle.zk_model_wait.specs.declared.msgq.MsgqOp.TheVariants as ops
 use Rattle.zk_model_wait.specs.declared.msgq.MsgqReply.{MsgqReply}
-use Rattle.zk_model_wait.specs.declared.msgq.MsgqReply.TheVariants.{Done, Bytes, Number}
-use Rattle.zk_model_wait.specs.Msgq.{Msgq, new_msgq, put_reply, get_reply, peek_reply, msgq_next, msgq_machine}
+use Rattle.zk_model_wait.specs.declared.msgq.MsgqReply.TheVariants.{Done, NoMsg, Wait, Bytes, Number}
+use Rattle.zk_model_wait.specs.Msgq.{Msgq, new_msgq, msgq_reply, msgq_next, msgq_machine}
 use Rattle.zk_model_wait.specs.MsgqWaits.{putters, getters}
 
 -- a history of a message queue
@@ -23,43 +27,72 @@ msgq_after_all q h = state_after msgq_machine q h
 abbrev pub OfEachMsgq : (Msgq → MsgqHistory → Type 0) → Type 0
 OfEachMsgq P = (most : ℕ) (h : MsgqHistory) → IsLegal msgq_machine (new_msgq most) h → P (new_msgq most) h
 
--- the message of the first put that waits, if one does
-abbrev pub first_matter : List (Waiter (List ℕ)) → List (List ℕ)
-first_matter [] = []
-first_matter (w ∷ ws) = w.matter ∷ []
+-- the message of a reply, if it has one
+abbrev pub message_of : MsgqReply → List (List ℕ)
+message_of (Bytes message) = message ∷ []
+message_of reply = []
 
--- the message that moves in from a put that waits, where a get takes one out
-abbrev pub moving_in : List (List ℕ) → Msgq → List (List ℕ)
-moving_in [] q = []
-moving_in (m ∷ ms) q = first_matter q.puts.waiting
+-- the messages that gets are handed: of these decisions, those whose wait wasn't decided before
+abbrev pub handed_by : Waits Unit MsgqReply → List (Decision MsgqReply) → List (List ℕ)
+handed_by before [] = []
+handed_by before (d ∷ ds) = (if decided_at d.place before == 0 then message_of d.answer else []) ++ handed_by before ds
 
--- the messages that an entry accepts: that of a put that is done, and the one that a get moves in
-abbrev pub accepted : Msgq → MsgqOp → MsgqReply → List (List ℕ)
-accepted q (ops.Put message waits) Done = message ∷ []
-accepted q (ops.Get waits) reply = moving_in q.messages q
-accepted q op reply = []
+-- the reply says that it is done
+abbrev pub is_done : MsgqReply → Bool
+is_done Done = true
+is_done reply = false
 
--- the message that a put hands to a get that waits
-abbrev pub handed : List (Waiter Unit) → List ℕ → List (List ℕ)
-handed [] message = []
-handed (w ∷ ws) message = message ∷ []
+-- the put of this place is decided to be done
+abbrev pub is_done_at : ℕ → Waits (List ℕ) MsgqReply → Bool
+is_done_at place ws = list_any (λ d. d.place == place && is_done d.answer) ws.decided
 
--- the messages that leave by an entry: the one that is got, the one that is handed to a get, and all that are discarded
-abbrev pub leaving : Msgq → MsgqOp → MsgqReply → List (List ℕ)
-leaving q (ops.Get waits) (Bytes message) = message ∷ []
-leaving q (ops.Put message waits) Done = handed q.gets.waiting message
-leaving q ops.Purge reply = q.messages
-leaving q op reply = []
+-- the messages that move in: of these waiting puts, those that are done after
+abbrev pub moved_by : Waits (List ℕ) MsgqReply → List (Waiter (List ℕ)) → List (List ℕ)
+moved_by after [] = []
+moved_by after (w ∷ ws) = (if is_done_at w.place after then w.matter ∷ [] else []) ++ moved_by after ws
+
+-- the messages that an entry accepts: that of a put that is done, and those of the waiting puts that a get lets be done
+abbrev pub accepted : Msgq → Msgq → MsgqOp → MsgqReply → List (List ℕ)
+accepted before after (ops.Put message waits) Done = message ∷ []
+accepted before after (ops.Get waits) reply = moved_by after.puts before.puts.waiting
+accepted before after op reply = []
+
+-- the messages that leave by an entry: the one that is got, those that gets are handed by a put, and all that are discarded
+abbrev pub leaving : Msgq → Msgq → MsgqOp → MsgqReply → List (List ℕ)
+leaving before after (ops.Get waits) reply = message_of reply
+leaving before after (ops.Put message waits) reply = handed_by before.gets after.gets.decided
+leaving before after ops.Purge reply = before.messages
+leaving before after op reply = []
 
 -- all that is accepted along a history, in order
 abbrev pub all_accepted : Msgq → MsgqHistory → List (List ℕ)
 all_accepted q [] = []
-all_accepted q (e ∷ es) = accepted q e.op e.reply ++ all_accepted (msgq_next q e.who e.op) es
+all_accepted q (e ∷ es) =
+    accepted q (msgq_next q e.who e.op) e.op e.reply ++ all_accepted (msgq_next q e.who e.op) es
 
 -- all that leaves along a history, in order
 abbrev pub all_leaving : Msgq → MsgqHistory → List (List ℕ)
 all_leaving q [] = []
-all_leaving q (e ∷ es) = leaving q e.op e.reply ++ all_leaving (msgq_next q e.who e.op) es
+all_leaving q (e ∷ es) =
+    leaving q (msgq_next q e.who e.op) e.op e.reply ++ all_leaving (msgq_next q e.who e.op) es
+
+-- what a put is told: it is done where a get waits or there is room
+pub record PutIsTold (most : ℕ) (q : Msgq) (waits : Bool) (reply : MsgqReply) : Type 0 where
+  pub handed : (q.gets.waiting ≡ [] → ⊥) → reply ≡ Done
+  pub room : length q.messages < most → reply ≡ Done
+  pub wait : q.gets.waiting ≡ [] → most ≤ length q.messages → waits ≡ true → reply ≡ Wait
+  pub full : q.gets.waiting ≡ [] → most ≤ length q.messages → waits ≡ false → reply ≡ NoMsg
+
+-- what a get is told: the oldest message
+pub record GetIsTold (q : Msgq) (waits : Bool) (reply : MsgqReply) : Type 0 where
+  pub got : (m : List ℕ) (ms : List (List ℕ)) → q.messages ≡ m ∷ ms → reply ≡ Bytes m
+  pub wait : q.messages ≡ [] → waits ≡ true → reply ≡ Wait
+  pub empty : q.messages ≡ [] → waits ≡ false → reply ≡ NoMsg
+
+-- what a look at the message at an index is told
+pub record PeekIsTold (q : Msgq) (index : ℕ) (reply : MsgqReply) : Type 0 where
+  pub there : (m : List ℕ) → slice_get q.messages index ≡ Some m → reply ≡ Bytes m
+  pub past : length q.messages ≤ index → reply ≡ NoMsg
 
 -- Each of what follows is said of one history, from its first state on.
 
@@ -86,38 +119,58 @@ NoneWaitsToPutWhileRoom q h =
 -- a put is done where a get waits or there is room. Else it waits, or is told so
 abbrev pub PutWaitsOnlyAtFull : Msgq → MsgqHistory → Type 0
 PutWaitsOnlyAtFull q h = (front : MsgqHistory) (e : Entry MsgqOp MsgqReply) (message : List ℕ) (waits : Bool) →
-    IsEntry h front e → e.op ≡ ops.Put message waits →
-    e.reply ≡ put_reply (msgq_after_all q front).gets.waiting (msgq_after_all q front) waits
+    IsEntry h front e → e.op ≡ ops.Put message waits → PutIsTold q.most (msgq_after_all q front) waits e.reply
 
 -- a get is answered the oldest message. Where there is none it waits, or is told so
 abbrev pub GetWaitsOnlyAtEmpty : Msgq → MsgqHistory → Type 0
 GetWaitsOnlyAtEmpty q h = (front : MsgqHistory) (e : Entry MsgqOp MsgqReply) (waits : Bool) → IsEntry h front e →
-    e.op ≡ ops.Get waits → e.reply ≡ get_reply (msgq_after_all q front).messages waits
+    e.op ≡ ops.Get waits → GetIsTold (msgq_after_all q front) waits e.reply
+
+-- an entry that decides the wait of a put is a get of a message, and the put is done, or a purge, and it isn't
+abbrev pub PutDecidedByGetOrPurge : Msgq → MsgqHistory → Type 0
+PutDecidedByGetOrPurge q h = (front : MsgqHistory) (e : Entry MsgqOp MsgqReply) (d : Decision MsgqReply) → IsEntry h front e →
+    IsDecidedBy msgq_machine putters q front e d →
+    ((waits : Bool) × (e.op ≡ ops.Get waits) × (d.answer ≡ Done)) ⊎ ((e.op ≡ ops.Purge) × (d.answer ≡ NoMsg))
+
+-- an entry that decides the wait of a get is a put that is done, and the get is answered its message
+abbrev pub GetDecidedByItsPut : Msgq → MsgqHistory → Type 0
+GetDecidedByItsPut q h = (front : MsgqHistory) (e : Entry MsgqOp MsgqReply) (d : Decision MsgqReply) → IsEntry h front e →
+    IsDecidedBy msgq_machine getters q front e d →
+    (message : List ℕ) × (waits : Bool) × (e.op ≡ ops.Put message waits) × (e.reply ≡ Done) × (d.answer ≡ Bytes message)
 
 -- what is told of the messages is so
 pub record LooksTellTheRing (q : Msgq) (h : MsgqHistory) : Type 0 where
   pub peek : (front : MsgqHistory) (e : Entry MsgqOp MsgqReply) → IsEntry h front e → e.op ≡ ops.Peek →
-      e.reply ≡ peek_reply (msgq_after_all q front) 0
+      PeekIsTold (msgq_after_all q front) 0 e.reply
   pub peek_at : (front : MsgqHistory) (e : Entry MsgqOp MsgqReply) (index : ℕ) → IsEntry h front e →
-      e.op ≡ ops.PeekAt index → e.reply ≡ peek_reply (msgq_after_all q front) index
+      e.op ≡ ops.PeekAt index → PeekIsTold (msgq_after_all q front) index e.reply
   pub used : (front : MsgqHistory) (e : Entry MsgqOp MsgqReply) → IsEntry h front e → e.op ≡ ops.Used →
       e.reply ≡ Number (length (msgq_after_all q front).messages)
   pub free : (front : MsgqHistory) (e : Entry MsgqOp MsgqReply) → IsEntry h front e → e.op ≡ ops.Free →
-      e.reply ≡ Number ((msgq_after_all q front).most - length (msgq_after_all q front).messages)
+      e.reply ≡ Number (q.most - length (msgq_after_all q front).messages)
+
+-- the operation ends a wait, or gives one up
+abbrev pub ends_wait : MsgqOp → Bool
+ends_wait (ops.PutEnd place) = true
+ends_wait (ops.PutQuit place) = true
+ends_wait (ops.GetEnd place) = true
+ends_wait (ops.GetQuit place) = true
+ends_wait _ = false
+
+-- all but the end of a wait is possible at any time
+abbrev pub MayAlways : Msgq → MsgqHistory → Type 0
+MayAlways q h = (who : Who) (op : MsgqOp) → ends_wait op ≡ false →
+    (reply : MsgqReply) × (msgq_reply (msgq_after_all q h) who op ≡ Some reply)
+
+-- a purge is told that it is done
+abbrev pub PurgeIsDone : Msgq → MsgqHistory → Type 0
+PurgeIsDone q h = (front : MsgqHistory) (e : Entry MsgqOp MsgqReply) → IsEntry h front e → e.op ≡ ops.Purge →
+    e.reply ≡ Done
 
 -- after a purge there is no message and no put waits
 abbrev pub PurgeEndsEveryPut : Msgq → MsgqHistory → Type 0
 PurgeEndsEveryPut q h = (front : MsgqHistory) (e : Entry MsgqOp MsgqReply) → IsEntry h front e → e.op ≡ ops.Purge →
     ((msgq_after_all q (front ++ e ∷ [])).messages ≡ []) × ((msgq_after_all q (front ++ e ∷ [])).puts.waiting ≡ [])
-
--- the laws of one of the two lists of waits
-pub record KeepsWaits {M : Type 0} (k : WaitKind Msgq MsgqOp MsgqReply M) (q : Msgq) (h : MsgqHistory) : Type 0 where
-  pub opened : EachWaitHasItsOpening msgq_machine k q h
-  pub ends : EndTellsItsDecision msgq_machine k q h
-  pub quits : QuitTellsItsDecision msgq_machine k q h
-  pub may_end : MayEndOnceDecided msgq_machine k q h
-  pub may_quit : MayQuitUntilEnded msgq_machine k q h
-  pub in_order : NoneOvertakes msgq_machine k q h
 
 -- the laws of a message queue
 pub record KeepsMsgqLaws (q : Msgq) (h : MsgqHistory) : Type 0 where
@@ -129,5 +182,9 @@ pub record KeepsMsgqLaws (q : Msgq) (h : MsgqHistory) : Type 0 where
   pub get : GetWaitsOnlyAtEmpty q h
   pub looks : LooksTellTheRing q h
   pub purge : PurgeEndsEveryPut q h
-  pub put_waits : KeepsWaits putters q h
-  pub get_waits : KeepsWaits getters q h
+  pub put_decided : PutDecidedByGetOrPurge q h
+  pub get_decided : GetDecidedByItsPut q h
+  pub always : MayAlways q h
+  pub done : PurgeIsDone q h
+  pub put_waits : KeepsWaits msgq_machine putters q h
+  pub get_waits : KeepsWaits msgq_machine getters q h

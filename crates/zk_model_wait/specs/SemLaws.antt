@@ -2,15 +2,16 @@ use Rattle.std.specs.Prelude.{◌≡◌, ℕ, ◌+◌, ◌<◌, ◌≤◌, Bool,
 use Rattle.zk_base.specs.declared.ids.Who.{Who}
 use Rattle.zk_base.specs.declared.ids.Entry.{Entry}
 use Rattle.zk_base.specs.declared.waits.Waiter.{Waiter}
+use Rattle.zk_base.specs.declared.waits.Decision.{Decision}
 use Rattle.zk_base.specs.History.{IsEntry}
 use Rattle.zk_base.specs.Legal.{state_after, IsLegal}
-use Rattle.zk_base.specs.WaitLaws.{EachWaitHasItsOpening, EndTellsItsDecision, QuitTellsItsDecision, MayEndOnceDecided, MayQuitUntilEnded, NoneOvertakes}
+use Rattle.zk_base.specs.WaitLaws.{IsDecidedBy, KeepsWaits}
 use Rattle.zk_model_wait.specs.SemWaits.{takers}
 use Rattle.zk_model_wait.specs.declared.sem.SemOp.{SemOp}
 use Rattle.zk_model_wait.specs.declared.sem.SemOp.TheVariants as ops
 use Rattle.zk_model_wait.specs.declared.sem.SemReply.{SemReply}
-use Rattle.zk_model_wait.specs.declared.sem.SemReply.TheVariants.{Got, Done, Number}
-use Rattle.zk_model_wait.specs.Sem.{Sem, new_sem, take_reply, sem_reply, sem_next, sem_machine}
+use Rattle.zk_model_wait.specs.declared.sem.SemReply.TheVariants.{Got, Busy, Wait, Again, Done, Number}
+use Rattle.zk_model_wait.specs.Sem.{Sem, new_sem, sem_reply, sem_next, sem_machine}
 
 -- a history of a semaphore
 abbrev pub SemHistory : Type 0
@@ -47,20 +48,26 @@ takes_one e = is_got e.reply
 abbrev pub held : Sem → ℕ
 held s = count_by (λ d. is_got d.answer) s.takers.decided
 
--- what is thrown away by an operation: a reset throws the count away, and a give its one where nobody waits and the count is at its limit
-abbrev pub wasted_at : List (Waiter Unit) → Sem → ℕ
-wasted_at [] s = if nat_lt s.count s.limit then 0 else 1
-wasted_at (w ∷ ws) s = 0
+-- what is thrown away by an operation: by a reset the count, by a give its one where nobody waits and the count is at the limit
+abbrev pub wasted_at : List (Waiter Unit) → ℕ → ℕ → ℕ
+wasted_at [] limit count = if nat_lt count limit then 0 else 1
+wasted_at (w ∷ ws) limit count = 0
 
-abbrev pub thrown_away : Sem → SemOp → ℕ
-thrown_away s ops.Reset = s.count
-thrown_away s ops.Give = wasted_at s.takers.waiting s
-thrown_away s op = 0
+abbrev pub thrown_away : ℕ → Sem → SemOp → ℕ
+thrown_away limit s ops.Reset = s.count
+thrown_away limit s ops.Give = wasted_at s.takers.waiting limit s.count
+thrown_away limit s op = 0
 
 -- all that is thrown away along a history
-abbrev pub all_thrown_away : Sem → SemHistory → ℕ
-all_thrown_away s [] = 0
-all_thrown_away s (e ∷ es) = thrown_away s e.op + all_thrown_away (sem_next s e.who e.op) es
+abbrev pub all_thrown_away : ℕ → Sem → SemHistory → ℕ
+all_thrown_away limit s [] = 0
+all_thrown_away limit s (e ∷ es) = thrown_away limit s e.op + all_thrown_away limit (sem_next s e.who e.op) es
+
+-- what a take is told at this count
+pub record TakeIsTold (count : ℕ) (waits : Bool) (reply : SemReply) : Type 0 where
+  pub got : 0 < count → reply ≡ Got
+  pub wait : count ≡ 0 → waits ≡ true → reply ≡ Wait
+  pub busy : count ≡ 0 → waits ≡ false → reply ≡ Busy
 
 -- Each of what follows is said of one history, from its first state on.
 
@@ -72,11 +79,12 @@ CountWithinLimit s h = (sem_after_all s h).count ≤ s.limit
 abbrev pub NoneWaitsWhileCount : Sem → SemHistory → Type 0
 NoneWaitsWhileCount s h = 0 < (sem_after_all s h).count → (sem_after_all s h).takers.waiting ≡ []
 
--- gives add up: the first count and all that was given are what was taken, what is taken and not told yet, the count, and what was thrown away
+-- gives add up: the first count and all that was given are what was taken, what is taken and not told yet,
+-- the count, and what was thrown away
 abbrev pub GivesAddUp : Sem → SemHistory → Type 0
 GivesAddUp s h =
     s.count + count_by is_give h
-    ≡ count_by takes_one h + held (sem_after_all s h) + (sem_after_all s h).count + all_thrown_away s h
+    ≡ count_by takes_one h + held (sem_after_all s h) + (sem_after_all s h).count + all_thrown_away s.limit s h
 
 -- no more is taken than there was at first and was given
 abbrev pub GotWithinGives : Sem → SemHistory → Type 0
@@ -85,7 +93,7 @@ GotWithinGives s h = count_by takes_one h ≤ s.count + count_by is_give h
 -- a take is answered at once where the count is above 0. Else it waits, or is told so
 abbrev pub TakeWaitsOnlyAtZero : Sem → SemHistory → Type 0
 TakeWaitsOnlyAtZero s h = (front : SemHistory) (e : Entry SemOp SemReply) (waits : Bool) → IsEntry h front e →
-    e.op ≡ ops.Take waits → e.reply ≡ take_reply (sem_after_all s front).count waits
+    e.op ≡ ops.Take waits → TakeIsTold (sem_after_all s front).count waits e.reply
 
 -- a count is told as it is
 abbrev pub CountTellsTheCount : Sem → SemHistory → Type 0
@@ -96,6 +104,12 @@ CountTellsTheCount s h = (front : SemHistory) (e : Entry SemOp SemReply) → IsE
 abbrev pub ResetEndsEveryWait : Sem → SemHistory → Type 0
 ResetEndsEveryWait s h = (front : SemHistory) (e : Entry SemOp SemReply) → IsEntry h front e → e.op ≡ ops.Reset →
     ((sem_after_all s (front ++ e ∷ [])).count ≡ 0) × ((sem_after_all s (front ++ e ∷ [])).takers.waiting ≡ [])
+
+-- an entry that decides a wait is a give, and lets it have one, or a reset, which ends it without
+abbrev pub DecidedByGiveOrReset : Sem → SemHistory → Type 0
+DecidedByGiveOrReset s h = (front : SemHistory) (e : Entry SemOp SemReply) (d : Decision SemReply) → IsEntry h front e →
+    IsDecidedBy sem_machine takers s front e d →
+    ((e.op ≡ ops.Give) × (d.answer ≡ Got)) ⊎ ((e.op ≡ ops.Reset) × (d.answer ≡ Again))
 
 -- the operation ends a wait, or gives one up
 abbrev pub ends_wait : SemOp → Bool
@@ -122,11 +136,7 @@ pub record KeepsSemLaws (s : Sem) (h : SemHistory) : Type 0 where
   pub takes : TakeWaitsOnlyAtZero s h
   pub told : CountTellsTheCount s h
   pub reset : ResetEndsEveryWait s h
+  pub decided : DecidedByGiveOrReset s h
   pub always : MayAlways s h
   pub done : GiveIsDone s h
-  pub opened : EachWaitHasItsOpening sem_machine takers s h
-  pub ends : EndTellsItsDecision sem_machine takers s h
-  pub quits : QuitTellsItsDecision sem_machine takers s h
-  pub may_end : MayEndOnceDecided sem_machine takers s h
-  pub may_quit : MayQuitUntilEnded sem_machine takers s h
-  pub in_order : NoneOvertakes sem_machine takers s h
+  pub waits : KeepsWaits sem_machine takers s h

@@ -1,6 +1,7 @@
-ghost use Rattle.zk_model_wait.specs.Msgq.{Msgq};
+ghost use Rattle.zk_base.specs.WaitLaws.{KeepsWaits};
+ghost use Rattle.zk_model_wait.specs.Msgq.{Msgq, msgq_machine};
 ghost use Rattle.zk_model_wait.specs.MsgqWaits.{putters, getters};
-ghost use Rattle.zk_model_wait.specs.MsgqLaws.{MsgqHistory, OfEachMsgq, FirstInFirstOut, RingWithinMax, NoneWaitsToGetWhileMessages, NoneWaitsToPutWhileRoom, PutWaitsOnlyAtFull, GetWaitsOnlyAtEmpty, LooksTellTheRing, PurgeEndsEveryPut, KeepsWaits, KeepsMsgqLaws};
+ghost use Rattle.zk_model_wait.specs.MsgqLaws.{MsgqHistory, OfEachMsgq, FirstInFirstOut, RingWithinMax, NoneWaitsToGetWhileMessages, NoneWaitsToPutWhileRoom, PutWaitsOnlyAtFull, GetWaitsOnlyAtEmpty, LooksTellTheRing, PurgeEndsEveryPut, PutDecidedByGetOrPurge, GetDecidedByItsPut, MayAlways, PurgeIsDone, KeepsMsgqLaws};
 
 /// Of every legal history of a message queue: each message that it accepted leaves it once, in the order in which they were accepted, be
 /// it got, handed to a get or discarded.
@@ -15,19 +16,24 @@ pub fn ring_holds()
     ensures puts { OfEachMsgq NoneWaitsToPutWhileRoom }
 {}
 
-/// Of every legal history of a message queue: what each operation is answered, and what a purge leaves.
+/// Of every legal history of a message queue: what each operation is answered, what decides a wait, what a purge leaves, and
+/// which operations are possible at any time.
 pub fn queue_calls_are_told()
     ensures put { OfEachMsgq PutWaitsOnlyAtFull }
     ensures get { OfEachMsgq GetWaitsOnlyAtEmpty }
     ensures looks { OfEachMsgq LooksTellTheRing }
     ensures purge { (q : Msgq) (h : MsgqHistory) → PurgeEndsEveryPut q h }
+    ensures put_decided { OfEachMsgq PutDecidedByGetOrPurge }
+    ensures get_decided { OfEachMsgq GetDecidedByItsPut }
+    ensures always { (q : Msgq) (h : MsgqHistory) → MayAlways q h }
+    ensures done { OfEachMsgq PurgeIsDone }
 {}
 
 /// Of every legal history of a message queue: who waits has asked for it and is served by priority, and then by longest wait; the end of
 /// a wait is answered its decision, and one who gives up gets what was decided meanwhile.
 pub fn queue_waits_end()
-    ensures put_waits { OfEachMsgq (KeepsWaits putters) }
-    ensures get_waits { OfEachMsgq (KeepsWaits getters) }
+    ensures put_waits { OfEachMsgq (KeepsWaits msgq_machine putters) }
+    ensures get_waits { OfEachMsgq (KeepsWaits msgq_machine getters) }
 {}
 
 /// All of it, of every legal history of a message queue. It does nothing when it runs.

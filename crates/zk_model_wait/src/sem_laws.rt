@@ -1,7 +1,7 @@
-ghost use Rattle.zk_base.specs.WaitLaws.{EachWaitHasItsOpening, EndTellsItsDecision, QuitTellsItsDecision, MayEndOnceDecided, MayQuitUntilEnded, NoneOvertakes};
+ghost use Rattle.zk_base.specs.WaitLaws.{KeepsWaits};
 ghost use Rattle.zk_model_wait.specs.Sem.{Sem, sem_machine};
 ghost use Rattle.zk_model_wait.specs.SemWaits.{takers};
-ghost use Rattle.zk_model_wait.specs.SemLaws.{SemHistory, OfEachSem, CountWithinLimit, NoneWaitsWhileCount, GivesAddUp, GotWithinGives, TakeWaitsOnlyAtZero, CountTellsTheCount, ResetEndsEveryWait, MayAlways, GiveIsDone, KeepsSemLaws};
+ghost use Rattle.zk_model_wait.specs.SemLaws.{SemHistory, OfEachSem, CountWithinLimit, NoneWaitsWhileCount, GivesAddUp, GotWithinGives, TakeWaitsOnlyAtZero, CountTellsTheCount, ResetEndsEveryWait, DecidedByGiveOrReset, MayAlways, GiveIsDone, KeepsSemLaws};
 
 /// Of every legal history of a semaphore: it loses and invents no count, its count keeps its limit, and nobody waits while the
 /// count is above 0.
@@ -12,24 +12,21 @@ pub fn gives_add_up()
     ensures none_waits { OfEachSem NoneWaitsWhileCount }
 {}
 
-/// Of every legal history of a semaphore: what each operation is answered, what a reset leaves, and which are possible at any time.
+/// Of every legal history of a semaphore: what each operation is answered, what decides a wait, what a reset leaves, and which
+/// operations are possible at any time.
 pub fn calls_are_told()
     ensures takes { OfEachSem TakeWaitsOnlyAtZero }
     ensures told { OfEachSem CountTellsTheCount }
     ensures done { OfEachSem GiveIsDone }
     ensures reset { (s : Sem) (h : SemHistory) → ResetEndsEveryWait s h }
+    ensures decided { OfEachSem DecidedByGiveOrReset }
     ensures always { (s : Sem) (h : SemHistory) → MayAlways s h }
 {}
 
 /// Of every legal history of a semaphore: who waits has asked for it, the end of a wait is answered its decision, and one who gives
 /// up gets what was decided meanwhile. Who waits is served by priority, and then by longest wait.
 pub fn waits_end()
-    ensures opened { OfEachSem (EachWaitHasItsOpening sem_machine takers) }
-    ensures ends { OfEachSem (EndTellsItsDecision sem_machine takers) }
-    ensures quits { OfEachSem (QuitTellsItsDecision sem_machine takers) }
-    ensures may_end { OfEachSem (MayEndOnceDecided sem_machine takers) }
-    ensures may_quit { OfEachSem (MayQuitUntilEnded sem_machine takers) }
-    ensures in_order { OfEachSem (NoneOvertakes sem_machine takers) }
+    ensures waits { OfEachSem (KeepsWaits sem_machine takers) }
 {}
 
 /// All of it, of every legal history of a semaphore. It does nothing when it runs.

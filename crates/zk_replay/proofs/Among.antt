@@ -104,15 +104,22 @@ module _ {V S O R : Type 0} (m : Machine S O R) (start : V → S) (history : V �
 module _ {O R : Type 0} (m : Machines) (who : Who) (number object : ℕ) (op : O) (step : Step) (tell : R → ℕ → StepReply) (old : Shown) (write : List (List (Entry O R)) → Shown)
     (hs : List (List (Entry O R))) (stays : write hs ≡ old) (whole : old.looks ≡ None)
     (adds : (r : R) (place : ℕ) → shown_after old who number step (tell r place) ≡ write (with_entry hs object (entry who number op r))) where
-  pub attempted-at : (hs' : List (List (Entry O R))) (made : Option (R × ℕ)) → option_map (λ (made : R × ℕ). tell made.0 made.1) made ≡ reply_in m old who step →
+  made-at : (hs' : List (List (Entry O R))) (made : Option (R × ℕ)) → option_map (λ (made : R × ℕ). tell made.0 made.1) made ≡ reply_in m old who step →
       hs' ≡ histories_after hs object who number op made → Attempted true m who number step old (write hs') (Ok (option_map (λ (made : R × ℕ). tell made.0 made.1) made))
-  attempted-at hs' None said is =
+  made-at hs' None said is =
       let nothing = ap write is ∙ stays in
       (nothing, subst (λ (x : Shown). reply_in m x who step ≡ None) (sym nothing) (sym said))
-  attempted-at hs' (Some made) said is = record {
+  made-at hs' (Some made) said is = record {
     found = old;
     since = refl;
     replied = sym said;
     read_at = reads-whole m old who step (tell made.0 made.1) whole (sym said);
     shown = ap write is ∙ sym (adds made.0 made.1);
   }
+
+  -- the same, of the step and of what is told in the code
+  pub attempted-at : (hs' : List (List (Entry O R))) (made : Option (R × ℕ)) (step' : Step) (told : Option StepReply) → option_map (λ (made : R × ℕ). tell made.0 made.1) made ≡ reply_in m old who step →
+      hs' ≡ histories_after hs object who number op made → step' ≡ step → option_map (λ (made : R × ℕ). tell made.0 made.1) made ≡ told → Attempted true m who number step' old (write hs') (Ok told)
+  attempted-at hs' made step' told said is asked tells =
+      subst (λ (s : Step). Attempted true m who number s old (write hs') (Ok told)) (sym asked)
+      (subst (λ (o : Option StepReply). Attempted true m who number step old (write hs') (Ok o)) tells (made-at hs' made said is))

@@ -1,6 +1,6 @@
 -- The world in which nothing was done.
 use Rattle.std.proofs.Common.{◌≡◌, ◌≢◌, ◌⊎◌, ℕ, zero, suc, ◌+◌, ◌≤◌, false, Option, Some, None, option_to_list, List, [], ◌∷◌, ◌++◌, length, map, All, AllPairs, inl, inr, refl, sym, ap, ◌∙◌, arith, length-append}
-use Rattle.std.specs.List.{slice_get, range_with_len}
+use Rattle.std.specs.List.{sum_by, slice_get, range_with_len}
 use Rattle.std.proofs.lemmas.Bool.Decides.{nat_tests}
 use Rattle.std.proofs.lemmas.List.{map-append}
 use Rattle.std.proofs.lemmas.List.Elements.{All-nil, All-cons, All-append, All-weaker}
@@ -16,6 +16,13 @@ use Rattle.zk_scenario.proofs.Valid.{length-players}
 use Rattle.zk_base.specs.declared.ids.Entry.{Entry}
 use Rattle.zk_model_wait.specs.declared.clock.ClockOp.{ClockOp}
 use Rattle.zk_model_wait.specs.declared.clock.ClockReply.{ClockReply}
+use Rattle.zk_model_wait.specs.declared.sem.SemOp.{SemOp}
+use Rattle.zk_model_wait.specs.declared.sem.SemReply.{SemReply}
+use Rattle.zk_model_wait.specs.declared.msgq.MsgqOp.{MsgqOp}
+use Rattle.zk_model_wait.specs.declared.msgq.MsgqReply.{MsgqReply}
+use Rattle.zk_model_wait.specs.Sem.{Sem}
+use Rattle.zk_model_wait.specs.Msgq.{Msgq}
+use Rattle.zk_worker.specs.Families.{no_entries}
 use Rattle.zk_model_wait.specs.Clock.{Clock, new_clock}
 use Rattle.zk_model_work.specs.declared.ops.WorkOp.{WorkOp}
 use Rattle.zk_model_work.specs.declared.ops.WorkReply.{WorkReply}
@@ -26,7 +33,7 @@ use Rattle.zk_worker.specs.Places.{At}
 use Rattle.zk_worker.specs.Protocol.{start_at}
 use Rattle.zk_worker.specs.Follows.{is_spent_at}
 use Rattle.zk_worker.specs.Ranges.{FramesFit}
-use Rattle.zk_worker.specs.Machines.{machines_of, workers, work_start_of, item_number, items_of}
+use Rattle.zk_worker.specs.Machines.{machines_of, workers, work_start_of, item_number, items_of, sem_start, msgq_start}
 use Rattle.zk_worker.specs.Shown.{Shown, nothing_shown}
 use Rattle.zk_worker.proofs.Fits.{start_at-fits}
 use Rattle.zk_worker.proofs.Following.{following-fresh}
@@ -121,6 +128,11 @@ first-there s p at is = starts-there s (length (players s.decls)) (omega arith) 
 pub first-players : (s : Parts) → length (first s).players ≡ length (players s.decls)
 first-players s = length-starts s (length (players s.decls)) (omega arith)
 
+-- nothing that was done counts nothing
+none-counted : {A : Type 0} (O R : Type 0) (objects : List A) → sum_by (length {A = Entry O R}) (no_entries objects) ≡ 0
+none-counted O R [] = refl
+none-counted O R (o ∷ os) = none-counted O R os
+
 -- the first world of a valid scenario is ready
 pub ready-first : (s : Parts) → IsValid s → IsReady s (first s)
 ready-first s valid =
@@ -137,7 +149,7 @@ ready-first s valid =
       shows = λ p at is. log-none s.decls at.who.number at.spots (start_at-fresh s p at (first-there s p at is)).none_made;
       looks = λ p at is. looks-fresh (machines_of s) (nothing_shown s.decls) at.spots (start_at-fresh s p at (first-there s p at is)).none_made;
       short = All-weaker None_made Short (λ at le. omega arith) (starts s n) none;
-      counted = omega arith;
+      counted = omega (arith, none-counted SemOp SemReply s.decls, none-counted MsgqOp MsgqReply s.decls);
       whole = refl;
       unlooked = refl;
       follow = λ p at is. following-fresh s p (nothing_shown s.decls) at (first-there s p at is);
@@ -164,15 +176,25 @@ pub world-first : (s : Parts) (shown : Shown) (made : List At) → shown ≡ not
 world-first s shown made nothing all = ap (λ (x : Shown). world x made) nothing ∙ ap (world (nothing_shown s.decls)) all
 
 -- services that start as those of a scenario do have its machines
-pub machines-first : (s : Parts) (work : State) (items : List (Option ℕ)) (clock : Clock) → work ≡ work_start_of s → items ≡ items_of s.decls → clock ≡ new_clock →
-    machines_from work items clock ≡ machines_of s
-machines-first s work items clock same_work same_items same_clock =
-    ap (λ (x : State). machines_from x items clock) same_work ∙ ap (λ (x : List (Option ℕ)). machines_from (work_start_of s) x clock) same_items
-    ∙ ap (machines_from (work_start_of s) (items_of s.decls)) same_clock
+pub machines-first : (s : Parts) (work : State) (items : List (Option ℕ)) (clock : Clock) (sems : List (Option Sem)) (msgqs : List (Option Msgq)) →
+    work ≡ work_start_of s → items ≡ items_of s.decls → clock ≡ new_clock → sems ≡ map sem_start s.decls → msgqs ≡ map msgq_start s.decls →
+    machines_from work items clock sems msgqs ≡ machines_of s
+machines-first s work items clock sems msgqs same_work same_items same_clock same_sems same_msgqs =
+    ap (λ (x : State). machines_from x items clock sems msgqs) same_work
+    ∙ ap (λ (x : List (Option ℕ)). machines_from (work_start_of s) x clock sems msgqs) same_items
+    ∙ ap (λ (x : Clock). machines_from (work_start_of s) (items_of s.decls) x sems msgqs) same_clock
+    ∙ ap (λ (x : List (Option Sem)). machines_from (work_start_of s) (items_of s.decls) new_clock x msgqs) same_sems
+    ∙ ap (machines_from (work_start_of s) (items_of s.decls) new_clock (map sem_start s.decls)) same_msgqs
 
 -- and show nothing
-pub shown-first : (s : Parts) (work : List (Entry WorkOp WorkReply)) (clock : List (Entry ClockOp ClockReply)) → work ≡ [] → clock ≡ [] → whole_shown work clock ≡ nothing_shown s.decls
-shown-first s work clock no_work no_clock = ap (λ (h : List (Entry WorkOp WorkReply)). whole_shown h clock) no_work ∙ ap (whole_shown []) no_clock
+pub shown-first : (s : Parts) (work : List (Entry WorkOp WorkReply)) (clock : List (Entry ClockOp ClockReply)) (sems : List (List (Entry SemOp SemReply)))
+    (msgqs : List (List (Entry MsgqOp MsgqReply))) → work ≡ [] → clock ≡ [] → sems ≡ no_entries s.decls → msgqs ≡ no_entries s.decls →
+    whole_shown work clock sems msgqs ≡ nothing_shown s.decls
+shown-first s work clock sems msgqs no_work no_clock no_sems no_msgqs =
+    ap (λ (h : List (Entry WorkOp WorkReply)). whole_shown h clock sems msgqs) no_work
+    ∙ ap (λ (h : List (Entry ClockOp ClockReply)). whole_shown [] h sems msgqs) no_clock
+    ∙ ap (λ (h : List (List (Entry SemOp SemReply))). whole_shown [] [] h msgqs) no_sems
+    ∙ ap (whole_shown [] [] (no_entries s.decls)) no_msgqs
 
 -- one number more
 pub items_more : (decls : List Decl) (n : ℕ) → map (item_number decls) (range_with_len 0 n) ++ item_number decls n ∷ [] ≡ map (item_number decls) (range_with_len 0 (n + 1))

@@ -11,7 +11,10 @@ use Rattle.zk_base.proofs.Lists.{and_second, cond_nil-at, All-at, list_all-at}
 use Rattle.zk_base.specs.Legal.{state_after}
 use Rattle.zk_model_wait.specs.declared.clock.ClockOp.{ClockOp}
 use Rattle.zk_model_wait.specs.declared.clock.ClockReply.{ClockReply}
-use Rattle.zk_model_wait.specs.Clock.{new_clock, clock_reply, clock_machine}
+use Rattle.zk_model_wait.specs.declared.sem.SemOp.{SemOp}
+use Rattle.zk_model_wait.specs.declared.sem.SemReply.{SemReply}
+use Rattle.zk_model_wait.specs.declared.msgq.MsgqOp.{MsgqOp}
+use Rattle.zk_model_wait.specs.declared.msgq.MsgqReply.{MsgqReply}
 use Rattle.zk_model_work.specs.declared.ops.WorkOp.{WorkOp}
 use Rattle.zk_model_work.specs.declared.ops.WorkOp.TheVariants as ops
 use Rattle.zk_model_work.specs.declared.ops.WorkReply.{WorkReply}
@@ -31,9 +34,9 @@ use Rattle.zk_worker.specs.declared.steps.StepReply.{StepReply}
 use Rattle.zk_worker.specs.declared.steps.StepReply.TheVariants as step_replies
 use Rattle.zk_worker.specs.declared.frames.Frame.{Frame}
 use Rattle.zk_worker.specs.declared.frames.Role.{Role}
-use Rattle.zk_worker.specs.declared.frames.Role.TheVariants.{Script, Worker}
+use Rattle.zk_worker.specs.declared.frames.Role.TheVariants.{Worker}
 use Rattle.zk_worker.specs.declared.frames.Stage.{Stage}
-use Rattle.zk_worker.specs.declared.frames.Stage.TheVariants.{Start, Runs, Waits, Halfway}
+use Rattle.zk_worker.specs.declared.frames.Stage.TheVariants.{Start, Runs}
 use Rattle.zk_worker.specs.declared.log.Log.{Log}
 use Rattle.zk_worker.specs.Places.{At}
 use Rattle.zk_worker.specs.Protocol.{attempts, frames_attempts, role_attempts, after}
@@ -57,7 +60,7 @@ use Rattle.zk_replay.specs.Tending.{IsIdle, IsWorkers, Tends, IsTended}
 use Rattle.zk_replay.proofs.Readiness.{ready-stepped}
 use Rattle.zk_replay.proofs.Beginning.{ready-first, first-there, first-players}
 use Rattle.zk_model_work.proofs.Runs.{none-waits-for}
-use Rattle.zk_replay.proofs.WorkerRuns.{tended-step, tended-clock, tended-first, worker-of}
+use Rattle.zk_replay.proofs.WorkerRuns.{IsElsewhere, tended-step, tended-elsewhere, tended-first, worker-of}
 use Rattle.zk_replay.proofs.StillRounds.{first_possible-is, rounds-keep, round-still}
 
 -- what holds of each world of the run of a valid scenario
@@ -85,6 +88,11 @@ good-step s w p at (step, reply) good unspent is choice =
     let ahead = (cond_nil-at (nat_lt (length at.spots) MOST_STEPS) (frames_attempts s at.frames) made.place step made.is_there).1 in
     by_step step reply made.place choice ahead made.answered
   where
+    elsewhere : (step : Step) (reply : StepReply) (place : ℕ) → IsElsewhere step → chosen (machines_of s) s w.shown at ≡ Some (step, reply) → slice_get (frames_attempts s at.frames) place ≡ Some step →
+        IsGood s (stepped s w p at (Some (step, reply)))
+    elsewhere step reply place other choice ahead =
+        good-from s w p at (step, reply) good.state good unspent is choice (tended-elsewhere s w good.state p at step reply place other good.tended is ahead)
+
     by_step : (step : Step) (reply : StepReply) (place : ℕ) → chosen (machines_of s) s w.shown at ≡ Some (step, reply) → slice_get (frames_attempts s at.frames) place ≡ Some step →
         reply_in (machines_of s) w.shown at.who step ≡ Some reply → IsGood s (stepped s w p at (Some (step, reply)))
     by_step (steps.Work op) reply place choice ahead answered =
@@ -93,11 +101,9 @@ good-step s w p at (step, reply) good unspent is choice =
         let tended = tended-step s w good.state p at op from.0 (length w.shown.work) place good.tended is (good.ready.numbers p at is) ahead possible in
         good-from s w p at (steps.Work op, reply) (work_next good.state at.who op) good unspent is choice
         (subst (λ (r : StepReply). IsTended s (stepped s w p at (Some (steps.Work op, r))) (work_next good.state at.who op)) from.2 tended)
-    by_step (steps.Clock op) reply place choice ahead answered =
-        let from = made-of (λ (r : ClockReply). step_replies.Clock r (length w.shown.clock)) (clock_reply (state_after clock_machine new_clock w.shown.clock) at.who op) reply answered in
-        let tended = tended-clock s w good.state p at op from.0 (length w.shown.clock) place good.tended is ahead in
-        good-from s w p at (steps.Clock op, reply) good.state good unspent is choice
-        (subst (λ (r : StepReply). IsTended s (stepped s w p at (Some (steps.Clock op, r))) good.state) from.2 tended)
+    by_step (steps.Clock op) reply place choice ahead answered = elsewhere (steps.Clock op) reply place tt choice ahead
+    by_step (steps.Sem object op) reply place choice ahead answered = elsewhere (steps.Sem object op) reply place tt choice ahead
+    by_step (steps.Msgq object op) reply place choice ahead answered = elsewhere (steps.Msgq object op) reply place tt choice ahead
 
 good-first : (s : Parts) → IsValid s → IsGood s (first s)
 good-first s valid = record {
@@ -121,9 +127,7 @@ done-ahead s queue (frame ∷ []) admissions tends done = by_role frame.role fra
         (role_attempts s role next stage ≡ steps.Work (ops.Begin queue) ∷ []) × IsIdle queue admissions
     by_role (Worker object) next Start tends done = (ap (λ (q : ℕ). steps.Work (ops.Begin q) ∷ []) tends.0, tends.1)
     by_role (Worker object) next Runs tends done = absurd (cc)
-    by_role (Worker object) next (Waits place) tends done = absurd tends
-    by_role (Worker object) next Halfway tends done = absurd tends
-    by_role (Script owner) next stage tends done = absurd tends
+    by_role role next stage tends done = absurd tends
 
 answer-none : (r : Option WorkReply) (long : ℕ) (step : Step) → or_else step (option_map (λ x. step_replies.Work x long) r) None ≡ None → r ≡ None
 answer-none None long step none = refl
@@ -222,23 +226,31 @@ ending-is s w valid run =
     ending-good s w (subst (λ (v : World). IsGood s v) (sym run.1) (good-rounds s run.0 valid)) run.2
 
 -- equal parts make equal traces
-Trace-same : (e e' : Ending) (h h' : List (Entry WorkOp WorkReply)) (c c' : List (Entry ClockOp ClockReply)) (l l' : List Log) → e ≡ e' → h ≡ h' → c ≡ c' → l ≡ l' →
-    ◌≡◌ {A = Trace} (record { ending = e; work = h; clock = c; logs = l }) (record { ending = e'; work = h'; clock = c'; logs = l' })
-Trace-same e e' h h' c c' l l' ee eh ec el =
-    let P : Trace → Type 0 = λ x. ◌≡◌ {A = Trace} (record { ending = e; work = h; clock = c; logs = l }) x in
-    subst (λ (x : List Log). P (record { ending = e'; work = h'; clock = c'; logs = x })) el
-    (subst (λ (x : List (Entry ClockOp ClockReply)). P (record { ending = e'; work = h'; clock = x; logs = l })) ec
-    (subst (λ (x : List (Entry WorkOp WorkReply)). P (record { ending = e'; work = x; clock = c; logs = l })) eh
-    (subst (λ (x : Ending). P (record { ending = x; work = h; clock = c; logs = l })) ee refl)))
+Trace-same : (e e' : Ending) (h h' : List (Entry WorkOp WorkReply)) (c c' : List (Entry ClockOp ClockReply)) (m m' : List (List (Entry SemOp SemReply)))
+    (q q' : List (List (Entry MsgqOp MsgqReply))) (l l' : List Log) → e ≡ e' → h ≡ h' → c ≡ c' → m ≡ m' → q ≡ q' → l ≡ l' →
+    ◌≡◌ {A = Trace} (record { ending = e; work = h; clock = c; sems = m; msgqs = q; logs = l }) (record { ending = e'; work = h'; clock = c'; sems = m'; msgqs = q'; logs = l' })
+Trace-same e e' h h' c c' m m' q q' l l' ee eh ec em eq el =
+    let P : Trace → Type 0 = λ x. ◌≡◌ {A = Trace} (record { ending = e; work = h; clock = c; sems = m; msgqs = q; logs = l }) x in
+    subst (λ (x : List Log). P (record { ending = e'; work = h'; clock = c'; sems = m'; msgqs = q'; logs = x })) el
+    (subst (λ (x : List (List (Entry MsgqOp MsgqReply))). P (record { ending = e'; work = h'; clock = c'; sems = m'; msgqs = x; logs = l })) eq
+    (subst (λ (x : List (List (Entry SemOp SemReply))). P (record { ending = e'; work = h'; clock = c'; sems = x; msgqs = q; logs = l })) em
+    (subst (λ (x : List (Entry ClockOp ClockReply)). P (record { ending = e'; work = h'; clock = x; sems = m; msgqs = q; logs = l })) ec
+    (subst (λ (x : List (Entry WorkOp WorkReply)). P (record { ending = e'; work = x; clock = c; sems = m; msgqs = q; logs = l })) eh
+    (subst (λ (x : Ending). P (record { ending = x; work = h; clock = c; sems = m; msgqs = q; logs = l })) ee refl)))))
 
 -- what the code hands out is the trace of the run
-pub replayed : (s : Parts) (old w : World) (ending : Ending) (work : List (Entry WorkOp WorkReply)) (clock : List (Entry ClockOp ClockReply)) (logs : List Log) → IsValid s →
+pub replayed : (s : Parts) (old w : World) (ending : Ending) (work : List (Entry WorkOp WorkReply)) (clock : List (Entry ClockOp ClockReply)) (sems : List (List (Entry SemOp SemReply)))
+    (msgqs : List (List (Entry MsgqOp MsgqReply))) (logs : List Log) → IsValid s →
     old ≡ first s → (n : ℕ) → w ≡ rounds (machines_of s) s n old → round (machines_of s) s w ≡ w →
-    ending ≡ ending_by w.players → work ≡ w.shown.work → clock ≡ w.shown.clock → logs ≡ map log_of w.players →
-    IsReplay s (record { ending = ending; work = work; clock = clock; logs = logs })
-replayed s old w ending work clock logs valid begins n so_far over end same_work same_clock log =
-    let run : IsRun (machines_of s) s w = (n, so_far ∙ ap (rounds (machines_of s) s n) begins, over) in
-    (w, run, Trace-same ending (ending_of s w) work w.shown.work clock w.shown.clock logs (map log_of w.players) (end ∙ ending-is s w valid run) same_work same_clock log)
+    ending ≡ ending_by w.players → work ≡ w.shown.work → clock ≡ w.shown.clock → sems ≡ w.shown.sems → msgqs ≡ w.shown.msgqs → logs ≡ map log_of w.players →
+    IsReplay s (record { ending = ending; work = work; clock = clock; sems = sems; msgqs = msgqs; logs = logs })
+replayed s old w ending work clock sems msgqs logs valid begins n so_far over end same_work same_clock same_sems same_msgqs log =
+    let run : IsRun (machines_of s) s w = (n, so_far ∙ ap (rounds (machines_of s) s n) begins, over) in (
+      w,
+      run,
+      Trace-same ending (ending_of s w) work w.shown.work clock w.shown.clock sems w.shown.sems msgqs w.shown.msgqs logs (map log_of w.players)
+          (end ∙ ending-is s w valid run) same_work same_clock same_sems same_msgqs log,
+    )
 
 -- what an ending says of the players
 ended-parts : (spent done waits : Bool) → cond spent endings.Spent (cond (done && waits) endings.Ended endings.Stuck) ≡ endings.Ended → (spent ≡ false) × (done ≡ true)

@@ -11,6 +11,10 @@ use Rattle.zk_base.proofs.Lists.{All-at}
 use Rattle.zk_base.specs.Legal.{state_after}
 use Rattle.zk_model_wait.specs.declared.clock.ClockOp.{ClockOp}
 use Rattle.zk_model_wait.specs.declared.clock.ClockReply.{ClockReply}
+use Rattle.zk_model_wait.specs.declared.sem.SemOp.{SemOp}
+use Rattle.zk_model_wait.specs.declared.sem.SemReply.{SemReply}
+use Rattle.zk_model_wait.specs.declared.msgq.MsgqOp.{MsgqOp}
+use Rattle.zk_model_wait.specs.declared.msgq.MsgqReply.{MsgqReply}
 use Rattle.zk_model_work.specs.declared.ops.WorkOp.{WorkOp}
 use Rattle.zk_model_work.specs.declared.ops.WorkReply.{WorkReply}
 use Rattle.zk_model_work.specs.Machine.{work_machine}
@@ -29,7 +33,10 @@ use Rattle.zk_worker.specs.Protocol.{attempts, after, spot_of}
 use Rattle.zk_worker.specs.Follows.{log_of, is_done, is_spent_at, IsFollowing, Follows}
 use Rattle.zk_worker.specs.Machines.{Machines, work_start_of, machines_of}
 use Rattle.zk_worker.specs.Shown.{Shown, shown_at, shown_after}
+use Rattle.zk_worker.specs.Single.{step_of}
+use Rattle.zk_worker.proofs.Families.{none-there}
 use Rattle.zk_worker.proofs.Lists.{none-passes, there-mapped}
+use Rattle.zk_replay.specs.Alone.{whole_shown}
 use Rattle.zk_worker.proofs.ShownSteps.{IsMore, made-more}
 use Rattle.zk_trace.specs.declared.trace.Ending.TheVariants.{Ended, Stuck, Spent}
 use Rattle.zk_trace.specs.declared.trace.Trace.{Trace}
@@ -46,6 +53,7 @@ use Rattle.zk_replay.proofs.StillRounds.{first_possible-is, rounds-keep}
 use Rattle.zk_replay.proofs.Readiness.{ready-stepped}
 use Rattle.zk_replay.proofs.Beginning.{ready-first, first-players}
 use Rattle.zk_replay.proofs.Endings.{there-is}
+use Rattle.zk_replay.proofs.Legality.{run-legal}
 use Rattle.zk_replay.proofs.OneRun.{none_goes_on}
 
 -- each entry is of a player that is there
@@ -55,6 +63,8 @@ AreKnown w = (spot : Spot) (number step : ℕ) → shown_at w.shown spot ≡ Som
 known-first : (s : Parts) → AreKnown (first s)
 known-first s (spots.Work place) number step is = absurd (cc)
 known-first s (spots.Clock place) number step is = absurd (cc)
+known-first s (spots.Sem object place) number step is = absurd (none-there step_of s.decls object place (number, step) is)
+known-first s (spots.Msgq object place) number step is = absurd (none-there step_of s.decls object place (number, step) is)
 
 known-step : (m : Machines) (s : Parts) (w : World) (p : ℕ) (at : At) (made : Step × StepReply) → IsReady s w → AreKnown w → slice_get w.players p ≡ Some at → chosen m s w.shown at ≡ Some made →
     AreKnown (stepped s w p at (Some made))
@@ -139,11 +149,12 @@ unspent-ending s w never = by_spent (is_spent w) refl
     by_spent false none = none
 
 -- whole histories are all that is shown
-whole-same : (work : List (Entry WorkOp WorkReply)) (clock : List (Entry ClockOp ClockReply)) (looks : Option (List (List Seen))) (looked : Option ℕ) → looks ≡ None → looked ≡ None →
-    ◌≡◌ {A = Shown} (record { work = work; clock = clock; looks = None; looked = None }) (record { work = work; clock = clock; looks = looks; looked = looked })
-whole-same work clock None None whole unlooked = refl
-whole-same work clock (Some looks) looked whole unlooked = absurd (cc)
-whole-same work clock None (Some looked) whole unlooked = absurd (cc)
+whole-same : (work : List (Entry WorkOp WorkReply)) (clock : List (Entry ClockOp ClockReply)) (sems : List (List (Entry SemOp SemReply))) (msgqs : List (List (Entry MsgqOp MsgqReply)))
+    (looks : Option (List (List Seen))) (looked : Option ℕ) → looks ≡ None → looked ≡ None →
+    whole_shown work clock sems msgqs ≡ (record { work = work; clock = clock; sems = sems; msgqs = msgqs; looks = looks; looked = looked })
+whole-same work clock sems msgqs None None whole unlooked = refl
+whole-same work clock sems msgqs (Some looks) looked whole unlooked = absurd (cc)
+whole-same work clock sems msgqs None (Some looked) whole unlooked = absurd (cc)
 
 module _ (s : Parts) (w : World) (valid : IsValid s) (run : IsRun (machines_of s) s w) where
   known : IsReady s w × AreKnown w
@@ -151,7 +162,7 @@ module _ (s : Parts) (w : World) (valid : IsValid s) (run : IsRun (machines_of s
 
   -- the trace shows what was shown
   shown-same : trace_shown (trace_of s w) ≡ w.shown
-  shown-same = whole-same w.shown.work w.shown.clock w.shown.looks w.shown.looked known.0.whole known.0.unlooked
+  shown-same = whole-same w.shown.work w.shown.clock w.shown.sems w.shown.msgqs w.shown.looks w.shown.looked known.0.whole known.0.unlooked
 
   abbrev follows : (number : ℕ) (log : Log) → slice_get (map log_of w.players) number ≡ Some log → Follows s number (trace_shown (trace_of s w)) log
   follows number log is =
@@ -182,8 +193,14 @@ module _ (s : Parts) (w : World) (valid : IsValid s) (run : IsRun (machines_of s
         ap (option_and_then (λ (log : Log). slice_get log.steps step)) (slice_get-map log_of w.players number ∙ ap (option_map log_of) found.1) ∙ recorded;
   }
 
-  lawful-run : AreLegal s (trace_of s w) → IsLawful s (trace_of s w)
-  lawful-run legal = record {
+  -- its histories are those of the services
+  legal : AreLegal s (trace_of s w)
+  legal =
+      let shown = run-legal s w valid run in
+      record { work = shown.work; clock = shown.clock; sems = shown.sems; msgqs = shown.msgqs }
+
+  lawful-run : IsLawful s (trace_of s w)
+  lawful-run = record {
     place = placed;
     history = legal;
     log = record { logged = length-map w.players log_of ∙ run-players s w run; follow = follows };
@@ -196,8 +213,6 @@ module _ (s : Parts) (w : World) (valid : IsValid s) (run : IsRun (machines_of s
     };
   }
 
--- the trace of a run whose histories are legal is lawful
-pub lawful : (s : Parts) (t : Trace) → IsValid s → IsReplay s t → AreLegal s t → IsLawful s t
-lawful s t valid run legal =
-    subst (λ (x : Trace). IsLawful s x) (sym run.2)
-    (lawful-run s run.0 valid run.1 (subst (λ (x : Trace). AreLegal s x) run.2 legal))
+-- the trace of a run of a valid scenario is lawful
+pub lawful : (s : Parts) (t : Trace) → IsValid s → IsReplay s t → IsLawful s t
+lawful s t valid run = subst (λ (x : Trace). IsLawful s x) (sym run.2) (lawful-run s run.0 valid run.1)

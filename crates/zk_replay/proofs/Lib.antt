@@ -6,5 +6,7 @@ pub mod Endings
 pub mod WorkerRuns
 pub mod StillRounds
 pub mod OneRun
+pub mod Unserved
+pub mod Legality
 pub mod Lawful
 pub mod Among

@@ -1,5 +1,5 @@
 -- What a run keeps in each turn.
-use Rattle.std.proofs.Common.{◌≡◌, ◌≢◌, ◌⊎◌, ℕ, ◌+◌, ◌*◌, ◌<◌, ◌≤◌, true, false, Option, Some, [], ◌∷◌, length, set, inl, inr, refl, sym, ap, subst, ◌∙◌, arith, length-append}
+use Rattle.std.proofs.Common.{◌≡◌, ◌≢◌, ◌⊎◌, ℕ, ◌+◌, ◌*◌, ◌-◌, ◌^◌, ◌<◌, ◌≤◌, true, false, Option, Some, [], ◌∷◌, length, set, inl, inr, refl, sym, ap, subst, ◌∙◌, arith, length-append}
 use Rattle.std.specs.List.{slice_get, sum_by}
 use Rattle.std.proofs.lemmas.Bool.Decides.{nat_tests}
 use Rattle.std.proofs.lemmas.List.{length-set}
@@ -19,6 +19,7 @@ use Rattle.zk_worker.specs.Attempt.{reply_in, IsMade}
 use Rattle.zk_worker.specs.Looks.{LookedBelow}
 use Rattle.zk_worker.specs.Right.{LooksRight}
 use Rattle.zk_worker.specs.Shown.{Shown, shown_after, ShowsLog, AreShort}
+use Rattle.zk_worker.proofs.Families.{each-short}
 use Rattle.zk_worker.proofs.Fits.{after-fits}
 use Rattle.zk_worker.proofs.ShownSteps.{made-more, log-answered, log-others, unlooked-after, whole-after}
 use Rattle.zk_worker.proofs.Looking.{looks-stepped, looks-others, reads-whole}
@@ -33,7 +34,12 @@ pub short-shown : (s : Parts) (w : World) → IsReady s w → AreShort w.shown
 short-shown s w ready =
     let count : At → ℕ = λ at. length at.spots in
     let most : sum_by count w.players ≤ length w.players * MOST_STEPS = sum_by-le count MOST_STEPS w.players ready.short in
-    record { work = omega (arith, ready.few, ready.counted, most); clock = omega (arith, ready.few, ready.counted, most) }
+    record {
+      work = omega (arith, ready.few, ready.counted, most);
+      clock = omega (arith, ready.few, ready.counted, most);
+      sems = each-short w.shown.sems (2 ^ 32 - 1) (omega (arith, ready.few, ready.counted, most));
+      msgqs = each-short w.shown.msgqs (2 ^ 32 - 1) (omega (arith, ready.few, ready.counted, most));
+    }
 
 unspent-short : (at : At) → is_spent_at at ≡ false → length at.spots < MOST_STEPS
 unspent-short at is = grind (arith, nat_tests)

@@ -1,9 +1,9 @@
 -- Each worker tends its queue in every world of a run.
-use Rattle.std.proofs.Common.{◌≡◌, ◌≢◌, ◌⊎◌, ℕ, zero, suc, ◌+◌, ◌<◌, Bool, true, false, cond, Option, Some, None, List, [], ◌∷◌, ◌++◌, length, map, take, count_by, inl, inr, refl, sym, ap, subst, ◌∙◌, arith, nat_lt}
+use Rattle.std.proofs.Common.{◌≡◌, ◌≢◌, ◌⊎◌, ℕ, zero, suc, ◌+◌, ◌<◌, Bool, true, false, cond, Option, Some, None, List, [], ◌∷◌, ◌++◌, length, map, take, count_by, inl, inr, refl, sym, ap, subst, ◌∙◌, arith, nat_lt, All}
 use Rattle.std.specs.List.{slice_get, range_with_len}
 use Rattle.std.specs.Option.{option_map, option_map_or}
 use Rattle.std.proofs.lemmas.List.{length-map}
-use Rattle.std.proofs.lemmas.List.Elements.{All-nil}
+use Rattle.std.proofs.lemmas.List.Elements.{All-nil, All-cons}
 use Rattle.std.proofs.lemmas.List.FromFn.{length-range_with_len, get_or-range_with_len}
 use Rattle.std.proofs.lemmas.Option.{slice_get-get_or, option_and_then_some}
 use Rattle.zk_base.specs.declared.ids.Who.{Who}
@@ -18,13 +18,10 @@ use Rattle.zk_scenario.specs.Parts.{Parts}
 use Rattle.zk_line.specs.Objects.{places_from, places, is_thread, is_queue, is_item, same_kind, number_of}
 use Rattle.zk_scenario.specs.Players.{players, calls_of}
 use Rattle.zk_scenario.proofs.Valid.{count_by-cons}
-use Rattle.zk_model_wait.specs.declared.clock.ClockOp.{ClockOp}
 use Rattle.zk_model_wait.specs.declared.clock.ClockOp.TheVariants as clock_ops
-use Rattle.zk_model_wait.specs.declared.clock.ClockReply.{ClockReply}
 use Rattle.zk_model_work.specs.declared.ops.WorkOp.{WorkOp}
 use Rattle.zk_model_work.specs.declared.ops.WorkOp.TheVariants as ops
 use Rattle.zk_model_work.specs.declared.ops.WorkReply.{WorkReply}
-use Rattle.zk_model_work.specs.declared.ops.WorkReply.TheVariants.{Sub, Armed, Flags, Truth, Wait, WaitFor, Number, Done, Already, Now, Run}
 use Rattle.zk_model_work.specs.declared.parts.Admission.{Admission}
 use Rattle.zk_model_work.specs.declared.parts.Queue.{Queue}
 use Rattle.zk_model_work.specs.Questions.{runs_on}
@@ -39,13 +36,9 @@ use Rattle.zk_worker.specs.declared.frames.TheConstants.{MOST_FRAMES}
 use Rattle.zk_worker.specs.declared.frames.Role.{Role}
 use Rattle.zk_worker.specs.declared.frames.Role.TheVariants.{Script, Worker}
 use Rattle.zk_worker.specs.declared.frames.Stage.{Stage}
-use Rattle.zk_worker.specs.declared.frames.Stage.TheVariants.{Start, Runs, Waits, Halfway}
 use Rattle.zk_worker.specs.declared.frames.Closing.{Closing}
 use Rattle.zk_worker.specs.declared.frames.Closing.TheVariants as closings
-use Rattle.zk_worker.specs.declared.frames.Plan.TheVariants.{One, Pair, Twice}
 use Rattle.zk_words.specs.declared.word.Word.{Word}
-use Rattle.zk_words.specs.declared.word.Word.TheVariants as words
-use Rattle.zk_worker.specs.Calls.{closing_step, plan_attempts, opening_progress, plan_progress}
 use Rattle.zk_worker.specs.Places.{At}
 use Rattle.zk_worker.specs.Protocol.{call_attempts, frames_attempts, frames_progress, frames_after, call_progress, run_progress, is_over, settled, entered, first_frame, starting, start_at, after}
 use Rattle.zk_worker.specs.Machines.{workers, work_start_of, is_on}
@@ -53,14 +46,30 @@ use Rattle.zk_worker.proofs.Lists.{slice_get-set}
 use Rattle.zk_replay.specs.RoundRobin.{World, starts, first, stepped}
 use Rattle.zk_replay.specs.Tending.{IsIdle, IsWorkers, IsScript, Tends, IsTended}
 use Rattle.zk_model_work.proofs.Runs.{IsCalled, idle-called, idle-ended, idle-next, begin-told, homes-next, workers-next}
+use Rattle.zk_model_work.specs.declared.ops.WorkReply.TheVariants as replies
+use Rattle.zk_model_wait.specs.declared.clock.ClockReply.TheVariants as clock_replies
+use Rattle.zk_model_wait.specs.declared.sem.SemReply.TheVariants as sem_replies
+use Rattle.zk_model_wait.specs.declared.msgq.MsgqReply.TheVariants as msgq_replies
+use Rattle.zk_words.specs.declared.timeout.Timeout.{Timeout}
+use Rattle.zk_words.specs.declared.timeout.Timeout.TheVariants.{No, Forever, Ticks}
+use Rattle.zk_worker.specs.declared.frames.Waiting.{Waiting}
+use Rattle.zk_worker.specs.declared.frames.Waiting.TheVariants.{Take, Put, Get}
+use Rattle.zk_worker.specs.declared.frames.Plan.{Plan}
+use Rattle.zk_worker.specs.declared.frames.Plan.TheVariants.{One, Pair, Twice, Wait}
+use Rattle.zk_worker.specs.declared.frames.Stage.TheVariants.{Start, Runs, Waits, Halfway, Alarmed, WaitsUntil, Quits}
+use Rattle.zk_worker.specs.declared.frames.Progress.{Progress}
+use Rattle.zk_worker.specs.declared.frames.Progress.TheVariants.{Goes, Answers, Enters}
+use Rattle.zk_worker.specs.Calls.{plan_of, closing_step, open_step, end_step, quit_step, first_step, wait_attempts, plan_attempts, opening_progress, until, wait_progress, plan_progress}
+use Rattle.zk_line.specs.Calls.{word_of}
+use Rattle.zk_worker.specs.Shown.{Shown, shown_after}
+use Rattle.zk_base.specs.Legal.{state_after}
+use Rattle.zk_base.proofs.Lists.{All-at}
 
 workers-keep : (ds : List Decl) (queue : ℕ) (role : Role) (stage : Stage) (old new : List Admission) → (IsIdle queue old → IsIdle queue new) →
     IsWorkers ds queue role stage old → IsWorkers ds queue role stage new
 workers-keep ds queue (Worker object) Start old new keeps tends = (tends.0, keeps tends.1)
 workers-keep ds queue (Worker object) Runs old new keeps tends = tends
-workers-keep ds queue (Worker object) (Waits place) old new keeps tends = absurd tends
-workers-keep ds queue (Worker object) Halfway old new keeps tends = absurd tends
-workers-keep ds queue (Script owner) stage old new keeps tends = absurd tends
+workers-keep ds queue role stage old new keeps tends = absurd tends
 
 -- what leaves a queue idle leaves it tended
 tends-keep : (ds : List Decl) (queue : ℕ) (frames : List Frame) (old new : List Admission) → (IsIdle queue old → IsIdle queue new) →
@@ -115,98 +124,135 @@ own-run s st who queue (Worker object) next Runs op reply place k tends is made 
     let idle : IsIdle queue (work_next st who (ops.End (number_of s.decls object))).admissions =
     subst (λ (q : ℕ). IsIdle q (work_next st who (ops.End (number_of s.decls object))).admissions) tends (idle-ended (number_of s.decls object) st.admissions) in
     (tends, subst (λ (o : WorkOp). IsIdle queue (work_next st who o).admissions) ends idle)
-own-run s st who queue (Worker object) next (Waits since) op reply place k tends is made = absurd tends
-own-run s st who queue (Worker object) next Halfway op reply place k tends is made = absurd tends
+own-run s st who queue (Worker object) next stage op reply place k tends is made = absurd tends
 
--- a worker asks nothing of the clock by itself
-no-clock : (s : Parts) (queue : ℕ) (role : Role) (next : ℕ) (stage : Stage) (admissions : List Admission) (op : ClockOp) (k : ℕ) →
-    IsWorkers s.decls queue role stage admissions → slice_get (frames_attempts s (record { role = role; next = next; stage = stage } ∷ [])) k ≡ Some (steps.Clock op) → ⊥
-no-clock s queue (Script owner) next stage admissions op k tends is = tends
-no-clock s queue (Worker object) next Start admissions op k tends is = let step = slice_get-one (steps.Work (ops.Begin (number_of s.decls object))) (steps.Clock op) k is in cc
-no-clock s queue (Worker object) next Runs admissions op k tends is = let step = slice_get-one (steps.Work (ops.End (number_of s.decls object))) (steps.Clock op) k is in cc
-no-clock s queue (Worker object) next (Waits since) admissions op k tends is = tends
-no-clock s queue (Worker object) next Halfway admissions op k tends is = tends
+-- a step at another service than the work service
+abbrev pub IsElsewhere : Step → Type 0
+IsElsewhere (steps.Work op) = ⊥
+IsElsewhere step = Unit {0}
+
+-- a worker asks nothing of another service by itself
+none-elsewhere : (s : Parts) (queue : ℕ) (role : Role) (next : ℕ) (stage : Stage) (admissions : List Admission) (step : Step) (k : ℕ) → IsElsewhere step →
+    IsWorkers s.decls queue role stage admissions → slice_get (frames_attempts s (record { role = role; next = next; stage = stage } ∷ [])) k ≡ Some step → ⊥
+none-elsewhere s queue (Worker object) next Start admissions step k elsewhere tends is =
+    subst IsElsewhere (sym (slice_get-one (steps.Work (ops.Begin (number_of s.decls object))) step k is)) elsewhere
+none-elsewhere s queue (Worker object) next Runs admissions step k elsewhere tends is =
+    subst IsElsewhere (sym (slice_get-one (steps.Work (ops.End (number_of s.decls object))) step k is)) elsewhere
+none-elsewhere s queue role next stage admissions step k elsewhere tends is = tends
 
 -- what a call of a script asks of a service
 abbrev IsCalledStep : Step → Type 0
 IsCalledStep (steps.Work op) = IsCalled op
-IsCalledStep (steps.Clock op) = Unit {0}
+IsCalledStep step = Unit {0}
+
+-- the steps that a call names are such
+abbrev IsCalledPlan : Plan → Type 0
+IsCalledPlan (One step) = IsCalledStep step
+IsCalledPlan (Pair opening closing) = IsCalledStep opening
+IsCalledPlan (Twice first second) = IsCalledStep first × IsCalledStep second
+IsCalledPlan (Wait waiting timeout) = Unit {0}
+
+plan_of-called : (decls : List Decl) (call : Call) → IsCalledPlan (plan_of decls call)
+plan_of-called decls (calls.Tick ticks) = (tt, tt)
+plan_of-called decls call = tt
+
+one-called : (step : Step) → IsCalledStep step → All IsCalledStep (step ∷ [])
+one-called step called = All-cons IsCalledStep step [] called (All-nil IsCalledStep)
+
+open-called : (waiting : Waiting) (waits : Bool) → IsCalledStep (open_step waiting waits)
+open-called (Take object) waits = tt
+open-called (Put object message) waits = tt
+open-called (Get object) waits = tt
+
+end-called : (waiting : Waiting) (place : ℕ) → IsCalledStep (end_step waiting place)
+end-called (Take object) place = tt
+end-called (Put object message) place = tt
+end-called (Get object) place = tt
+
+quit-called : (waiting : Waiting) (place : ℕ) → IsCalledStep (quit_step waiting place)
+quit-called (Take object) place = tt
+quit-called (Put object message) place = tt
+quit-called (Get object) place = tt
+
+first-called : (waiting : Waiting) (timeout : Timeout) → IsCalledStep (first_step waiting timeout)
+first-called waiting No = open-called waiting false
+first-called waiting Forever = open-called waiting true
+first-called waiting (Ticks ticks) = tt
+
+wait-called : (waiting : Waiting) (timeout : Timeout) (stage : Stage) → All IsCalledStep (wait_attempts waiting timeout stage)
+wait-called waiting timeout Start = one-called (first_step waiting timeout) (first-called waiting timeout)
+wait-called waiting timeout (Alarmed moment) = one-called (open_step waiting true) (open-called waiting true)
+wait-called waiting timeout (Waits place) = one-called (end_step waiting place) (end-called waiting place)
+wait-called waiting timeout (WaitsUntil place moment) =
+    All-cons IsCalledStep (end_step waiting place) (steps.Clock (clock_ops.AlarmEnd moment) ∷ []) (end-called waiting place) (one-called (steps.Clock (clock_ops.AlarmEnd moment)) tt)
+wait-called waiting timeout (Quits place) = one-called (quit_step waiting place) (quit-called waiting place)
+wait-called waiting timeout stage = All-nil IsCalledStep
+
+closing-called : (closing : Closing) (since : ℕ) → IsCalledStep (closing_step closing since)
+closing-called closings.Cancel since = tt
+closing-called closings.Flush since = tt
+closing-called closings.Drain since = tt
+
+-- and so are all that it attempts
+attempts-called : (plan : Plan) (stage : Stage) → IsCalledPlan plan → All IsCalledStep (plan_attempts plan stage)
+attempts-called (One step) Start called = one-called step called
+attempts-called (Pair opening closing) Start called = one-called opening called
+attempts-called (Pair opening closing) (Waits place) called = one-called (closing_step closing place) (closing-called closing place)
+attempts-called (Twice first second) Start called = one-called first called.0
+attempts-called (Twice first second) Halfway called = one-called second called.1
+attempts-called (Wait waiting timeout) stage called = wait-called waiting timeout stage
+attempts-called plan stage called = All-nil IsCalledStep
+
+-- a call goes on or is answered, and enters no script
+abbrev StaysOut : Progress → Type 0
+StaysOut (Goes stage) = Unit {0}
+StaysOut (Answers word answer) = Unit {0}
+StaysOut (Enters owner stage) = ⊥
+
+opening-out : (word : Word) (reply : StepReply) → StaysOut (opening_progress word reply)
+opening-out word (step_replies.Work replies.Wait place) = tt
+opening-out word (step_replies.Work (replies.WaitFor admission) place) = tt
+opening-out word (step_replies.Sem object sem_replies.Wait place) = tt
+opening-out word (step_replies.Msgq object msgq_replies.Wait place) = tt
+opening-out word reply = tt
+
+until-out : (moment : ℕ) (progress : Progress) → StaysOut progress → StaysOut (until moment progress)
+until-out moment (Goes (Waits place)) out = tt
+until-out moment progress out = out
+
+wait-out : (word : Word) (stage : Stage) (reply : StepReply) → StaysOut (wait_progress word stage reply)
+wait-out word Start (step_replies.Clock (clock_replies.At moment) place) = tt
+wait-out word Start reply = opening-out word reply
+wait-out word (Alarmed moment) reply = until-out moment (opening_progress word reply) (opening-out word reply)
+wait-out word (WaitsUntil place moment) (step_replies.Clock reply at) = tt
+wait-out word stage reply = tt
+
+plan-out : (word : Word) (plan : Plan) (stage : Stage) (step : Step) (reply : StepReply) → StaysOut (plan_progress word plan stage step reply)
+plan-out word (One made) stage step reply = tt
+plan-out word (Pair opening closing) Start step reply = opening-out word reply
+plan-out word (Twice first second) Start step reply = tt
+plan-out word (Wait waiting timeout) stage step reply = wait-out word stage reply
+plan-out word plan stage step reply = tt
 
 -- the scripts of a worker after a step of the innermost one, which leaves the queue idle where a call asks for it
 own-script : (s : Parts) (queue : ℕ) (frame next : Frame) (below : List Frame) (step : Step) (reply : StepReply) (k : ℕ) (call : Option Call) (old new : List Admission) →
     (IsCalledStep step → IsIdle queue old → IsIdle queue new) → IsScript frame.role → Tends s.decls queue (next ∷ below) old →
     slice_get (call_attempts s.decls call frame.stage) k ≡ Some step →
     Tends s.decls queue (frames_after s (frame ∷ next ∷ below) (call_progress s.decls call frame.stage step reply)) new
-own-script s queue frame next below step reply k call old new keeps script tends is = by_call call is
+own-script s queue frame next below step reply k None old new keeps script tends is = absurd (cc)
+own-script s queue frame next below step reply k (Some call) old new keeps script tends is =
+    by_progress (plan_progress (word_of call) (plan_of s.decls call) frame.stage step reply) (plan-out (word_of call) (plan_of s.decls call) frame.stage step reply)
   where
-    over : IsCalledStep step → Tends s.decls queue (settled s (record frame { next = frame.next + 1; stage = Start } ∷ next ∷ below)) new
-    over called =
-        tends-settled s queue (record frame { next = frame.next + 1; stage = Start } ∷ next ∷ below) new
-        (script, tends-keep s.decls queue (next ∷ below) old new (keeps called) tends)
+    called : IsCalledStep step
+    called = All-at IsCalledStep (plan_attempts (plan_of s.decls call) frame.stage) k step (attempts-called (plan_of s.decls call) frame.stage (plan_of-called s.decls call)) is
 
-    goes : IsCalledStep step → (stage : Stage) → Tends s.decls queue (record frame { stage = stage } ∷ next ∷ below) new
-    goes called stage = (script, tends-keep s.decls queue (next ∷ below) old new (keeps called) tends)
+    kept : Tends s.decls queue (next ∷ below) new
+    kept = tends-keep s.decls queue (next ∷ below) old new (keeps called) tends
 
-    same_step : (made : Step) → IsCalledStep made → slice_get (made ∷ []) k ≡ Some step → IsCalledStep step
-    same_step made called is = subst (λ (x : Step). IsCalledStep x) (slice_get-one made step k is) called
-
-    one : (made : Step) (stage : Stage) → IsCalledStep made → slice_get (plan_attempts (One made) stage) k ≡ Some step → IsCalledStep step
-    one made Start called is = same_step made called is
-    one made Runs called is = absurd (cc)
-    one made (Waits since) called is = absurd (cc)
-    one made Halfway called is = absurd (cc)
-
-    -- a call that may wait, by what its first step was answered
-    opened_work : (word : Word) (reply : WorkReply) (place : ℕ) → IsCalledStep step → Tends s.decls queue (frames_after s (frame ∷ next ∷ below) (opening_progress word (step_replies.Work reply place))) new
-    opened_work word (Sub submitted) place called = over called
-    opened_work word Armed place called = over called
-    opened_work word (Flags flags) place called = over called
-    opened_work word (Truth so) place called = over called
-    opened_work word Wait place called = goes called (Waits place)
-    opened_work word (WaitFor number) place called = goes called (Waits place)
-    opened_work word (Number number) place called = over called
-    opened_work word Done place called = over called
-    opened_work word Already place called = over called
-    opened_work word (Now time expiries) place called = over called
-    opened_work word (Run item number) place called = over called
-
-    opened : (word : Word) (reply : StepReply) → IsCalledStep step → Tends s.decls queue (frames_after s (frame ∷ next ∷ below) (opening_progress word reply)) new
-    opened word (step_replies.Work reply place) called = opened_work word reply place called
-    opened word (step_replies.Clock reply place) called = over called
-
-    closed : (closing : Closing) (since : ℕ) → IsCalledStep (closing_step closing since)
-    closed closings.Cancel since = tt
-    closed closings.Flush since = tt
-    closed closings.Drain since = tt
-
-    pair : (word : Word) (first : Step) (closing : Closing) (stage : Stage) → IsCalledStep first → slice_get (plan_attempts (Pair first closing) stage) k ≡ Some step →
-        Tends s.decls queue (frames_after s (frame ∷ next ∷ below) (plan_progress word (Pair first closing) stage step reply)) new
-    pair word first closing Start called is = opened word reply (same_step first called is)
-    pair word first closing Runs called is = absurd (cc)
-    pair word first closing (Waits since) called is = over (same_step (closing_step closing since) (closed closing since) is)
-    pair word first closing Halfway called is = absurd (cc)
-
-    twice : (word : Word) (first second : Step) (stage : Stage) → IsCalledStep first → IsCalledStep second → slice_get (plan_attempts (Twice first second) stage) k ≡ Some step →
-        Tends s.decls queue (frames_after s (frame ∷ next ∷ below) (plan_progress word (Twice first second) stage step reply)) new
-    twice word first second Start called called' is = goes (same_step first called is) Halfway
-    twice word first second Runs called called' is = absurd (cc)
-    twice word first second (Waits since) called called' is = absurd (cc)
-    twice word first second Halfway called called' is = over (same_step second called' is)
-
-    by_call : (call : Option Call) → slice_get (call_attempts s.decls call frame.stage) k ≡ Some step →
-        Tends s.decls queue (frames_after s (frame ∷ next ∷ below) (call_progress s.decls call frame.stage step reply)) new
-    by_call None is = absurd (cc)
-    by_call (Some (calls.Submit item named)) is = over (one (steps.Work (ops.Submit _ _)) frame.stage tt is)
-    by_call (Some (calls.Cancel item)) is = over (one (steps.Work (ops.Cancel _)) frame.stage tt is)
-    by_call (Some (calls.CancelSync item)) is = pair words.CancelSync (steps.Work (ops.CancelStart _)) closings.Cancel frame.stage tt is
-    by_call (Some (calls.Flush item)) is = pair words.Flush (steps.Work (ops.FlushStart _)) closings.Flush frame.stage tt is
-    by_call (Some (calls.Schedule item named delay)) is = over (one (steps.Work (ops.Schedule _ _ delay)) frame.stage tt is)
-    by_call (Some (calls.Reschedule item named delay)) is = over (one (steps.Work (ops.Reschedule _ _ delay)) frame.stage tt is)
-    by_call (Some (calls.Remaining item)) is = over (one (steps.Work (ops.Remaining _)) frame.stage tt is)
-    by_call (Some (calls.Start named)) is = over (one (steps.Work (ops.Start _)) frame.stage tt is)
-    by_call (Some (calls.Drain named plug)) is = pair words.Drain (steps.Work (ops.DrainStart _ plug)) closings.Drain frame.stage tt is
-    by_call (Some (calls.Unplug named)) is = over (one (steps.Work (ops.Unplug _)) frame.stage tt is)
-    by_call (Some (calls.Tick ticks)) is = twice words.Tick (steps.Work (ops.Announce ticks)) (steps.Clock (clock_ops.Announce ticks)) frame.stage tt tt is
+    by_progress : (progress : Progress) → StaysOut progress → Tends s.decls queue (frames_after s (frame ∷ next ∷ below) progress) new
+    by_progress (Goes stage) out = (script, kept)
+    by_progress (Answers word answer) out = tends-settled s queue (record frame { next = frame.next + 1; stage = Start } ∷ next ∷ below) new (script, kept)
+    by_progress (Enters owner stage) out = absurd out
 
 -- the same of the open scripts and the run below
 own-scripts : (s : Parts) (queue : ℕ) (frame next : Frame) (below : List Frame) (step : Step) (reply : StepReply) (k : ℕ) (old new : List Admission) →
@@ -231,14 +277,15 @@ tends-own s st who queue (frame ∷ next ∷ below) op reply place k tends is ma
     own-scripts s queue frame next below (steps.Work op) (step_replies.Work reply place) k st.admissions (work_next st who op).admissions
     (λ called. idle-called st who op queue called) tends is
 
--- and after each at the clock
-tends-own-clock : (s : Parts) (queue : ℕ) (frames : List Frame) (admissions : List Admission) (op : ClockOp) (reply : StepReply) (k : ℕ) →
-    Tends s.decls queue frames admissions → slice_get (frames_attempts s frames) k ≡ Some (steps.Clock op) →
-    Tends s.decls queue (frames_after s frames (frames_progress s frames (steps.Clock op) reply)) admissions
-tends-own-clock s queue [] admissions op reply k tends is = absurd tends
-tends-own-clock s queue (frame ∷ []) admissions op reply k tends is = absurd (no-clock s queue frame.role frame.next frame.stage admissions op k tends is)
-tends-own-clock s queue (frame ∷ next ∷ below) admissions op reply k tends is =
-    own-scripts s queue frame next below (steps.Clock op) reply k admissions admissions (λ called idle. idle) tends is
+-- and after each at another service
+tends-elsewhere : (s : Parts) (queue : ℕ) (frames : List Frame) (admissions : List Admission) (step : Step) (reply : StepReply) (k : ℕ) → IsElsewhere step →
+    Tends s.decls queue frames admissions → slice_get (frames_attempts s frames) k ≡ Some step →
+    Tends s.decls queue (frames_after s frames (frames_progress s frames step reply)) admissions
+tends-elsewhere s queue [] admissions step reply k elsewhere tends is = absurd tends
+tends-elsewhere s queue (frame ∷ []) admissions step reply k elsewhere tends is =
+    absurd (none-elsewhere s queue frame.role frame.next frame.stage admissions step k elsewhere tends is)
+tends-elsewhere s queue (frame ∷ next ∷ below) admissions step reply k elsewhere tends is =
+    own-scripts s queue frame next below step reply k admissions admissions (λ called idle. idle) tends is
 
 -- a number of a row
 row-at : (a n i : ℕ) → i < n → slice_get (range_with_len a n) i ≡ Some (a + i)
@@ -281,24 +328,32 @@ tended-step s w st p at op reply place k tended is number ahead made = record {
         (idle-next st at.who op reply queue (length (places is_thread s.decls) + queue) (worker-of s w st queue tended within) (λ same. apart.0 (sym same ∙ number)) made)
         (tended.tended queue other apart.1 within)
 
--- and after a step at the clock, which leaves the work service as it is
-pub tended-clock : (s : Parts) (w : World) (st : State) (p : ℕ) (at : At) (op : ClockOp) (reply : ClockReply) (place k : ℕ) → IsTended s w st → slice_get w.players p ≡ Some at →
-    slice_get (frames_attempts s at.frames) k ≡ Some (steps.Clock op) → IsTended s (stepped s w p at (Some (steps.Clock op, step_replies.Clock reply place))) st
-tended-clock s w st p at op reply place k tended is ahead = record {
-  after = tended.after;
+-- a step at another service leaves the work service as it is
+work-stays : (shown : Shown) (who : Who) (number : ℕ) (step : Step) (reply : StepReply) → IsElsewhere step → (shown_after shown who number step reply).work ≡ shown.work
+work-stays shown who number (steps.Work op) reply elsewhere = absurd elsewhere
+work-stays shown who number (steps.Clock op) (step_replies.Clock reply place) elsewhere = refl
+work-stays shown who number (steps.Sem object op) (step_replies.Sem at reply place) elsewhere = refl
+work-stays shown who number (steps.Msgq object op) (step_replies.Msgq at reply place) elsewhere = refl
+work-stays shown who number step reply elsewhere = refl
+
+-- and after a step at another service
+pub tended-elsewhere : (s : Parts) (w : World) (st : State) (p : ℕ) (at : At) (step : Step) (reply : StepReply) (k : ℕ) → IsElsewhere step → IsTended s w st → slice_get w.players p ≡ Some at →
+    slice_get (frames_attempts s at.frames) k ≡ Some step → IsTended s (stepped s w p at (Some (step, reply))) st
+tended-elsewhere s w st p at step reply k elsewhere tended is ahead = record {
+  after = tended.after ∙ ap (state_after work_machine (work_start_of s)) (sym (work-stays w.shown at.who (length at.spots) step reply elsewhere));
   homes = tended.homes;
   has_workers = tended.has_workers;
-  tended = λ queue other there within. by_place queue other within (slice_get-set w.players p (length (places is_thread s.decls) + queue) (after s at (steps.Clock op) (step_replies.Clock reply place)) other there);
+  tended = λ queue other there within. by_place queue other within (slice_get-set w.players p (length (places is_thread s.decls) + queue) (after s at step reply) other there);
 }
   where
     by_place : (queue : ℕ) (other : At) → queue < length (places is_queue s.decls) →
-        ((length (places is_thread s.decls) + queue ≡ p) × (other ≡ after s at (steps.Clock op) (step_replies.Clock reply place)))
+        ((length (places is_thread s.decls) + queue ≡ p) × (other ≡ after s at step reply))
         ⊎ ((length (places is_thread s.decls) + queue ≢ p) × (slice_get w.players (length (places is_thread s.decls) + queue) ≡ Some other)) →
         Tends s.decls queue other.frames st.admissions
     by_place queue other within (inl same) =
         let mine = tended.tended queue at (ap (λ (n : ℕ). slice_get w.players n) same.0 ∙ is) within in
         subst (λ (o : At). Tends s.decls queue o.frames st.admissions) (sym same.1)
-        (tends-own-clock s queue at.frames st.admissions op (step_replies.Clock reply place) k mine ahead)
+        (tends-elsewhere s queue at.frames st.admissions step reply k elsewhere mine ahead)
     by_place queue other within (inr apart) = tended.tended queue other apart.1 within
 
 -- the object of the n-th place of a kind has n before it
@@ -325,12 +380,11 @@ behind-first (x ∷ xs) ys q = let same : length (x ∷ xs) + q ≡ suc (length 
 -- the worker of a queue starts between two runs
 starting-tends : (s : Parts) (number queue object : ℕ) (decl : Decl) → is_queue decl ≡ true → slice_get s.decls object ≡ Some decl → count_by is_queue (take object s.decls) ≡ queue →
     Tends s.decls queue (starting s number object decl).frames []
-starting-tends s number queue object (decls.Thread name prio user) kind is count = absurd (cc)
 starting-tends s number queue object (decls.Queue name prio on) kind is count =
     let here : number_of s.decls object ≡ queue = ap (λ (o : Option Decl). option_map_or (λ d. count_by (same_kind d) (take object s.decls)) o 0) is ∙ count in
     let P : Admission → Type 0 = λ a. runs_on queue a ≡ false in
     (here, All-nil P)
-starting-tends s number queue object (decls.Item name) kind is count = absurd (cc)
+starting-tends s number queue object decl kind is count = absurd (cc)
 
 start-tends : (s : Parts) (queue : ℕ) (at : At) → start_at s (length (places is_thread s.decls) + queue) ≡ Some at → Tends s.decls queue at.frames []
 start-tends s queue at is =

@@ -25,8 +25,14 @@ ending_of s w =
 
 -- the trace of a run that came to this world
 abbrev pub trace_of : Parts → World → Trace
-trace_of s w =
-    record { ending = ending_of s w; work = w.shown.work; clock = w.shown.clock; logs = map log_of w.players }
+trace_of s w = record {
+  ending = ending_of s w;
+  work = w.shown.work;
+  clock = w.shown.clock;
+  sems = w.shown.sems;
+  msgqs = w.shown.msgqs;
+  logs = map log_of w.players;
+}
 
 -- the trace of the round robin run of a scenario
 abbrev pub IsReplay : Parts → Trace → Type 0

@@ -11,7 +11,7 @@ use Rattle.zk_worker.specs.declared.frames.Frame.{Frame}
 use Rattle.zk_worker.specs.declared.frames.Role.{Role}
 use Rattle.zk_worker.specs.declared.frames.Role.TheVariants.{Script, Worker}
 use Rattle.zk_worker.specs.declared.frames.Stage.{Stage}
-use Rattle.zk_worker.specs.declared.frames.Stage.TheVariants.{Start, Runs, Waits, Halfway}
+use Rattle.zk_worker.specs.declared.frames.Stage.TheVariants.{Start, Runs}
 use Rattle.zk_worker.specs.Places.{At}
 use Rattle.zk_worker.specs.Machines.{workers, work_start_of}
 use Rattle.zk_replay.specs.RoundRobin.{World}
@@ -25,9 +25,7 @@ abbrev pub IsWorkers : List Decl → ℕ → Role → Stage → List Admission �
 IsWorkers decls queue (Worker object) Start admissions =
     (number_of decls object ≡ queue) × IsIdle queue admissions
 IsWorkers decls queue (Worker object) Runs admissions = number_of decls object ≡ queue
-IsWorkers decls queue (Worker object) (Waits place) admissions = ⊥
-IsWorkers decls queue (Worker object) Halfway admissions = ⊥
-IsWorkers decls queue (Script owner) stage admissions = ⊥
+IsWorkers decls queue role stage admissions = ⊥
 
 -- it is a script that is open
 abbrev pub IsScript : Role → Type 0

@@ -1,4 +1,4 @@
-ghost use Rattle.zk_replay.specs.Laws.{HasOneRun, NoneGoesOn};
+ghost use Rattle.zk_replay.specs.Laws.{HasOneRun, NoneGoesOn, NoneIsServed};
 
 /// What `replay` gives is the only trace of the scenario's round robin run.
 pub fn one_run()
@@ -8,4 +8,10 @@ pub fn one_run()
 /// Where a run ends and no player is spent, none can go on: each waits for what doesn't come, or is done.
 pub fn none_goes_on()
     ensures { NoneGoesOn }
+{}
+
+/// Where a run ends and no player is spent, whoever waits for a semaphore or a message queue does so since nobody has served it,
+/// and whoever does so with ticks since its moment hasn't come. So each wait of a stuck run is one that the histories show.
+pub fn none_is_served()
+    ensures { NoneIsServed }
 {}

@@ -11,6 +11,6 @@ mod run;
 mod tests;
 mod turns;
 
-pub use laws::{none_goes_on, one_run};
-pub use objects::act_at;
+pub use laws::{none_goes_on, none_is_served, one_run};
+pub use objects::{act_at, histories_of};
 pub use run::replay;

@@ -5,7 +5,8 @@ ghost use Rattle.zk_worker.specs.declared.steps.StepReply.{StepReply};
 ghost use Rattle.zk_worker.specs.Families.{answer_at, takes_at};
 ghost use Rattle.zk_replay.specs.Objects.{starts_of, history_of, histories_of, is_taken, made_of, histories_after};
 
-use zk_base::{NoMemory, Service, Who};
+use std::alloc::Global;
+use zk_base::{Entry, Listed, NoMemory, Service, Who};
 
 /// One attempt at an object: the reply, and the place of its entry.
 fn act_one<S: Service>(
@@ -58,4 +59,31 @@ pub fn act_at<S: Service>(
     ensures start { starts_of S.start objects.new.items ≡ starts_of S.start objects.old.items }
 {
     act_one(&mut objects[object as usize], who, step, op)
+}
+
+/// All entries of an object, oldest first; one of another kind has none.
+fn history_of<S: Service>(alloc: Global, object: Option<S>) -> Listed<Entry<S::Op, S::Reply>>
+    ensures { result ≡ history_of S.history object }
+{
+    match object {
+        Some(service) => Listed::from_vec(service.into_history()),
+        None => Listed::new(alloc),
+    }
+}
+
+/// All entries of each object, by object number.
+pub fn histories_of<S: Service>(
+    alloc: Global,
+    objects: Vec<Option<S>>,
+) -> Result<Listed<Listed<Entry<S::Op, S::Reply>>>, NoMemory>
+where
+    S::Op: Drop,
+    S::Reply: Drop,
+    ensures { IfOk result (λ all. all ≡ histories_of S.history objects.items) }
+{
+    let all: Vec<Listed<Entry<S::Op, S::Reply>>> = objects
+        .into_iter()
+        .map(|object| history_of(alloc, object))
+        .collect(alloc)?;
+    Ok(Listed::from_vec(all))
 }

@@ -1,5 +1,11 @@
-ghost use Rattle.std.specs.Prelude.{◌≡◌, ℕ, ◌+◌, ◌-◌, ◌^◌, ◌<◌, ◌≤◌, [], length, map, IfOk};
-ghost use Rattle.std.specs.List.{list_any};
+ghost use Rattle.std.specs.Prelude.{◌≡◌, ℕ, ◌+◌, ◌-◌, ◌^◌, ◌<◌, ◌≤◌, true, [], length, map, option_map, IfOk};
+ghost use Rattle.std.specs.List.{list_any, list_all};
+ghost use Rattle.zk_line.specs.Fits.{decl_fits};
+ghost use Rattle.zk_msgq.specs.Seen.{msgq_start, msgq_history};
+ghost use Rattle.zk_sem.specs.Seen.{sem_start, sem_history};
+ghost use Rattle.zk_worker.specs.Families.{no_entries};
+ghost use Rattle.zk_worker.specs.Machines as machines;
+ghost use Rattle.zk_replay.specs.Objects.{starts_of, history_of, histories_of};
 ghost use Rattle.zk_line.specs.Objects.{places, is_queue};
 ghost use Rattle.zk_scenario.specs.Players.{players};
 ghost use Rattle.zk_scenario.specs.Valid.{IsValid};
@@ -17,10 +23,12 @@ ghost use Rattle.zk_replay.specs.Over.{IsOver};
 use crate::plain::{Histories, Plain};
 use crate::turns::play_rounds;
 use std::alloc::Global;
-use zk_base::NoMemory;
+use zk_base::{NewRefused, NoMemory};
+use zk_msgq::Msgq;
 use zk_scenario::{Decl, Scenario};
+use zk_sem::Sem;
 use zk_time::Clock;
-use zk_trace::{Ending, History, Logs, Trace};
+use zk_trace::{Ending, Logs, Trace};
 use zk_work::Work;
 use zk_worker::{Log, Player};
 
@@ -92,6 +100,67 @@ fn item_numbers(alloc: Global, scenario: &Scenario) -> Result<Vec<Option<u32>>, 
     Ok(numbers)
 }
 
+/// The semaphore that a declaration is of, if it is of one, at which nothing was done.
+fn first_sem(alloc: Global, decl: &Decl) -> Option<Sem>
+    requires { decl_fits decl.now ≡ true }
+    ensures start { option_map sem_start result ≡ machines.sem_start decl.now }
+    ensures none { history_of sem_history result ≡ [] }
+{
+    match decl {
+        Decl::Sem(_, initial, limit) => match Sem::new(alloc, *initial, *limit) {
+            Ok(sem) => Some(sem),
+            Err(_) => unreachable!(),
+        },
+        _ => None,
+    }
+}
+
+/// The semaphores of a scenario, by object number.
+fn first_sems(alloc: Global, decls: &[Decl]) -> Result<Vec<Option<Sem>>, NoMemory>
+    requires { list_all decl_fits decls.now ≡ true }
+    ensures starts { IfOk result (λ sems. starts_of sem_start sems.items ≡ map machines.sem_start decls.now) }
+    ensures none { IfOk result (λ sems. histories_of sem_history sems.items ≡ no_entries decls.now) }
+{
+    let mut sems = Vec::new(alloc);
+    let mut decls = decls;
+    while let [decl, rest @ ..] = decls {
+        sems.push(first_sem(alloc, decl))?;
+        decls = rest;
+    }
+    Ok(sems)
+}
+
+/// The message queue that a declaration is of, if it is of one, at which nothing was done.
+fn first_msgq(alloc: Global, decl: &Decl) -> Result<Option<Msgq>, NoMemory>
+    requires { decl_fits decl.now ≡ true }
+    ensures start { IfOk result (λ msgq. option_map msgq_start msgq ≡ machines.msgq_start decl.now) }
+    ensures none { IfOk result (λ msgq. history_of msgq_history msgq ≡ []) }
+{
+    match decl {
+        Decl::Msgq(_, size, most) => match Msgq::new(alloc, *size, *most) {
+            Ok(msgq) => Ok(Some(msgq)),
+            Err(NewRefused::NoMemory) => Err(NoMemory),
+            Err(NewRefused::Inval) => unreachable!(),
+        },
+        _ => Ok(None),
+    }
+}
+
+/// The message queues of a scenario, by object number.
+fn first_msgqs(alloc: Global, decls: &[Decl]) -> Result<Vec<Option<Msgq>>, NoMemory>
+    requires { list_all decl_fits decls.now ≡ true }
+    ensures starts { IfOk result (λ msgqs. starts_of msgq_start msgqs.items ≡ map machines.msgq_start decls.now) }
+    ensures none { IfOk result (λ msgqs. histories_of msgq_history msgqs.items ≡ no_entries decls.now) }
+{
+    let mut msgqs = Vec::new(alloc);
+    let mut decls = decls;
+    while let [decl, rest @ ..] = decls {
+        msgqs.push(first_msgq(alloc, decl)?)?;
+        decls = rest;
+    }
+    Ok(msgqs)
+}
+
 /// The services of a scenario, at which nothing was done.
 pub fn first_services(alloc: Global, scenario: &Scenario) -> Result<Plain, NoMemory>
     ensures machines { IfOk result (λ services. plain_machines services ≡ machines_of scenario.now) }
@@ -100,8 +169,10 @@ pub fn first_services(alloc: Global, scenario: &Scenario) -> Result<Plain, NoMem
 {
     let work = first_work(alloc, scenario)?;
     let items = item_numbers(alloc, scenario)?;
+    let sems = first_sems(alloc, scenario.decls())?;
+    let msgqs = first_msgqs(alloc, scenario.decls())?;
     let clock = Clock::new(alloc);
-    Ok(Plain::new(work, items, clock))
+    Ok(Plain::new(work, items, clock, sems, msgqs))
 }
 
 /// The players of a scenario, none of which has made a step.
@@ -159,17 +230,25 @@ pub fn replay(alloc: Global, scenario: &Scenario) -> Result<Trace, NoMemory>
     ensures replay { IfOk result (λ trace. IsReplay scenario.now trace) }
     ensures lawful { IfOk result (λ trace. IsLawful scenario.now trace) }
     ensures over { IfOk result (λ trace. IsOver scenario.now trace) }
+    ensures valid { IsValid scenario.now }
 {
     let mut services = first_services(alloc, scenario)?;
     let mut players = first_players(alloc, scenario)?;
     play_rounds(&mut services, scenario, &mut players)?;
     let ending = ending_of(&players);
     let logs = logs_of(alloc, players)?;
-    let Histories { work, clock } = services.into_histories();
+    let Histories {
+        work,
+        clock,
+        sems,
+        msgqs,
+    } = services.into_histories(alloc)?;
     Ok(Trace {
         ending,
-        work: History::from_vec(work),
-        clock: History::from_vec(clock),
+        work,
+        clock,
+        sems,
+        msgqs,
         logs,
     })
 }

@@ -23,17 +23,19 @@ use Rattle.zk_line.specs.declared.types.Decl.TheVariants as decl
 use Rattle.zk_line.specs.declared.types.Call.{Call}
 use Rattle.zk_line.specs.Args.{args_of}
 use Rattle.zk_line.specs.Calls.{call_of}
-use Rattle.zk_line.specs.Checks.{first_object, are_in_range, are_well_named}
+use Rattle.zk_line.specs.Checks.{first_object, message_size, each_in_range, go_together, are_in_range, are_well_named}
 use Rattle.zk_line.specs.Decls.{decl_of}
-use Rattle.zk_line.specs.Fits.{call_fits}
-use Rattle.zk_line.specs.Objects.{object_of, kind_of, is_at, names, plays_script, is_thread, is_queue, is_item, player_count}
+use Rattle.zk_line.specs.Fits.{call_fits, decl_fits}
+use Rattle.zk_line.specs.Objects.{object_of, kind_of, is_at, names, plays_script, is_thread, is_queue, is_item, is_sem, is_msgq, player_count}
 use Rattle.zk_line.proofs.Fits.{call_fits-read, kind_of-read}
+use Rattle.zk_line.proofs.InRange.{decl_fits-read}
 use Rattle.zk_line.proofs.Lists.{slice_get-append_left, slice_get-push, count_by-push, position-push}
 use Rattle.zk_line.proofs.Makes.{is_some-some}
 use Rattle.zk_line.proofs.Spelled.{one_part}
 use Rattle.zk_scenario.specs.declared.types.Script.{Script}
 use Rattle.zk_scenario.specs.declared.refused.Why.{Why}
 use Rattle.zk_scenario.specs.declared.refused.Why.TheVariants as why
+use Rattle.zk_scenario.specs.Parts.{Parts}
 use Rattle.zk_scenario.specs.Reading.{Reading, all_scripts, declared, begun, with_call, called, parts_of}
 use Rattle.zk_scenario.specs.Scripts.{script_of}
 use Rattle.zk_scenario.specs.Valid.{IsValid, OneEach, script_fits, call_count}
@@ -43,7 +45,7 @@ use Rattle.zk_scenario.proofs.ScriptTables.{script_of-push}
 -- no reason applies: none of the tests says so
 pub record Passes (r : Reading) (h : Head) (parts : List Placed) : Type 0 where
   pub placed : is_misplaced r h parts ≡ false
-  pub in_range : are_in_range parts ≡ true
+  pub in_range : are_in_range r.decls h parts ≡ true
   pub well_named : are_well_named r.decls parts ≡ true
   pub within : is_past_limit r h ≡ false
 
@@ -54,7 +56,7 @@ drop_test false reason rest e = (refl, e)
 pub Passes-verdict : (r : Reading) (h : Head) (parts : List Placed) → verdict r h parts ≡ None → Passes r h parts
 Passes-verdict r h parts e =
     let one = drop_test (is_misplaced r h parts) why.Order _ e in
-    let two = drop_test (not (are_in_range parts)) why.Number _ one.1 in
+    let two = drop_test (not (are_in_range r.decls h parts)) why.Number _ one.1 in
     let three = drop_test (not (are_well_named r.decls parts)) why.Name _ two.1 in
     let four = drop_test (is_past_limit r h) why.Limit _ three.1 in
     record { placed = one.0; in_range = not-false _ two.0; well_named = not-false _ three.0; within = four.0 }
@@ -102,13 +104,40 @@ nothing_begun r first =
       empty [] h = refl
       empty (x ∷ xs) h = absurd (omega arith)
 
+-- a test of all, with one more
+all-push : {X : Type 0} (test : X → Bool) (xs : List X) (x : X) → list_all test (xs ++ x ∷ []) ≡ (list_all test xs && test x)
+all-push test xs x = list_all-append test xs (x ∷ []) ∙ ap (λ b. list_all test xs && b) (and-true (test x)) where
+  and-true : (b : Bool) → (b && true) ≡ b
+  and-true true = refl
+  and-true false = refl
+
+-- there are no more declarations of a kind than there may be
+pub record HasRoom (decls : List Decl) : Type 0 where
+  pub players : player_count decls ≤ 64
+  pub queues : count_by is_queue decls ≤ 8
+  pub items : count_by is_item decls ≤ 256
+  pub sems : count_by is_sem decls ≤ 32
+  pub msgqs : count_by is_msgq decls ≤ 16
+
+room-valid : (p : Parts) → IsValid p → HasRoom p.decls
+room-valid p valid = record { players = valid.players; queues = valid.queues; items = valid.items; sems = valid.sems; msgqs = valid.msgqs }
+
 -- no script stands yet, so a declaration says nothing of one
-valid-declared : (r : Reading) (d : Decl) → IsValid (parts_of r) → has_begun r ≡ false → player_count (r.decls ++ d ∷ []) ≤ 64 → count_by is_queue (r.decls ++ d ∷ []) ≤ 8 → count_by is_item (r.decls ++ d ∷ []) ≤ 256
-    → IsValid (parts_of (declared r d))
-valid-declared r d valid first players queues items =
+valid-declared : (r : Reading) (d : Decl) → IsValid (parts_of r) → has_begun r ≡ false → HasRoom (r.decls ++ d ∷ []) → decl_fits d ≡ true → IsValid (parts_of (declared r d))
+valid-declared r d valid first room fits =
     let nothing = nothing_begun r first in
     let none : all_scripts r ≡ [] = ap (λ o. r.scripts ++ option_to_list o) nothing.1 ∙ append-nil r.scripts ∙ nothing.0 in
-    record { players = players; queues = queues; items = items; calls = valid.calls; fit = ap (list_all (script_fits (r.decls ++ d ∷ []))) none; one_each = valid.one_each }
+    record {
+      players = room.players;
+      queues = room.queues;
+      items = room.items;
+      sems = room.sems;
+      msgqs = room.msgqs;
+      calls = valid.calls;
+      in_range = all-push decl_fits r.decls d ∙ and_from (list_all decl_fits r.decls) (decl_fits d) valid.in_range fits;
+      fit = ap (list_all (script_fits (r.decls ++ d ∷ []))) none;
+      one_each = valid.one_each;
+    }
 
 -- where no script is open, all scripts are those that have ended
 pub all_scripts-none : (r : Reading) → r.current ≡ None → all_scripts r ≡ r.scripts
@@ -118,10 +147,7 @@ call_count-push : (ss : List Script) (s : Script) → call_count (ss ++ s ∷ []
 call_count-push ss s = sum_by-append (λ x. length x.calls) ss (s ∷ []) ∙ ap (λ n. call_count ss + n) (omega arith)
 
 fit-push : (decls : List Decl) (ss : List Script) (s : Script) → list_all (script_fits decls) (ss ++ s ∷ []) ≡ (list_all (script_fits decls) ss && script_fits decls s)
-fit-push decls ss s = list_all-append (script_fits decls) ss (s ∷ []) ∙ ap (λ b. list_all (script_fits decls) ss && b) (and-true (script_fits decls s)) where
-  and-true : (b : Bool) → (b && true) ≡ b
-  and-true true = refl
-  and-true false = refl
+fit-push decls ss s = all-push (script_fits decls) ss s
 
 valid-begun : (r : Reading) (owner : ℕ) → IsValid (parts_of r) → r.current ≡ None → is_at plays_script r.decls owner ≡ true → script_of r.scripts owner ≡ None → IsValid (parts_of (begun r (record { owner = owner; calls = [] })))
 valid-begun r owner valid none thread fresh =
@@ -131,6 +157,9 @@ valid-begun r owner valid none thread fresh =
       players = valid.players;
       queues = valid.queues;
       items = valid.items;
+      sems = valid.sems;
+      msgqs = valid.msgqs;
+      in_range = valid.in_range;
       calls = omega (arith, call_count-push r.scripts s, ap call_count same, valid.calls);
       fit = fit-push r.decls r.scripts s ∙ and_from (list_all (script_fits r.decls) r.scripts) (script_fits r.decls s) (ap (list_all (script_fits r.decls)) (sym same) ∙ valid.fit) (and_from (is_at plays_script r.decls owner) true thread refl);
       one_each = one_each-push r.scripts s (subst OneEach same valid.one_each) fresh;
@@ -146,6 +175,9 @@ valid-called decls ss s c valid fits few =
       players = valid.players;
       queues = valid.queues;
       items = valid.items;
+      sems = valid.sems;
+      msgqs = valid.msgqs;
+      in_range = valid.in_range;
       calls = omega (arith, call_count-push ss s, call_count-push ss (with_call c s), length-append s.calls (c ∷ []));
       fit = fit-push decls ss (with_call c s) ∙ and_from (list_all (script_fits decls) ss) (script_fits decls (with_call c s)) both.0 (and_from (is_at plays_script decls s.owner) (list_all (call_fits decls) (s.calls ++ c ∷ [])) own.0 calls);
       one_each = one_each-push ss (with_call c s) (one_each-left ss s valid.one_each) (one_each-fresh ss s valid.one_each);
@@ -163,38 +195,68 @@ called_fits r c valid placed fits few =
     (subst (λ o. call_count (r.scripts ++ option_to_list o) < 4096) s.1 (leb-false 4096 (call_count (all_scripts r)) few)))
 
 -- where a kind isn't full, there may be one more of it
-room : (decls : List Decl) (d : Decl) → is_full decls (kind_of d) ≡ false → player_count decls ≤ 64 → count_by is_queue decls ≤ 8 → count_by is_item decls ≤ 256
-    → (player_count (decls ++ d ∷ []) ≤ 64) × (count_by is_queue (decls ++ d ∷ []) ≤ 8) × (count_by is_item (decls ++ d ∷ []) ≤ 256)
-room decls (decl.Thread name prio user) free players queues items =
+room-push : (decls : List Decl) (d : Decl) → is_full decls (kind_of d) ≡ false → HasRoom decls → HasRoom (decls ++ d ∷ [])
+room-push decls (decl.Thread name prio user) free room =
     let d = decl.Thread name prio user in
-    let more = leb-false 64 (player_count decls) (or_none (nat_le 64 (count_by is_thread decls)) (nat_le 64 (player_count decls)) free).1 in (
-      omega (arith, more, count_by-push is_thread decls d, count_by-push is_queue decls d),
-      omega (arith, queues, count_by-push is_queue decls d),
-      omega (arith, items, count_by-push is_item decls d),
-    )
-room decls (decl.Queue name prio on) free players queues items =
+    let more = leb-false 64 (player_count decls) (or_none (nat_le 64 (count_by is_thread decls)) (nat_le 64 (player_count decls)) free).1 in
+    record {
+      players = omega (arith, more, count_by-push is_thread decls d, count_by-push is_queue decls d);
+      queues = omega (arith, room.queues, count_by-push is_queue decls d);
+      items = omega (arith, room.items, count_by-push is_item decls d);
+      sems = omega (arith, room.sems, count_by-push is_sem decls d);
+      msgqs = omega (arith, room.msgqs, count_by-push is_msgq decls d);
+    }
+room-push decls (decl.Queue name prio on) free room =
     let d = decl.Queue name prio on in
     let both = or_none (nat_le 8 (count_by is_queue decls)) (nat_le 64 (player_count decls)) free in
     let one = leb-false 8 (count_by is_queue decls) both.0 in
-    let more = leb-false 64 (player_count decls) both.1 in (
-      omega (arith, more, count_by-push is_thread decls d, count_by-push is_queue decls d),
-      omega (arith, one, count_by-push is_queue decls d),
-      omega (arith, items, count_by-push is_item decls d),
-    )
-room decls (decl.Item name) free players queues items =
+    let more = leb-false 64 (player_count decls) both.1 in
+    record {
+      players = omega (arith, more, count_by-push is_thread decls d, count_by-push is_queue decls d);
+      queues = omega (arith, one, count_by-push is_queue decls d);
+      items = omega (arith, room.items, count_by-push is_item decls d);
+      sems = omega (arith, room.sems, count_by-push is_sem decls d);
+      msgqs = omega (arith, room.msgqs, count_by-push is_msgq decls d);
+    }
+room-push decls (decl.Item name) free room =
     let d = decl.Item name in
-    let one = leb-false 256 (count_by is_item decls) (or_none (nat_le 256 (count_by is_item decls)) false free).0 in (
-      omega (arith, players, count_by-push is_thread decls d, count_by-push is_queue decls d),
-      omega (arith, queues, count_by-push is_queue decls d),
-      omega (arith, one, count_by-push is_item decls d),
-    )
+    let one = leb-false 256 (count_by is_item decls) (or_none (nat_le 256 (count_by is_item decls)) false free).0 in
+    record {
+      players = omega (arith, room.players, count_by-push is_thread decls d, count_by-push is_queue decls d);
+      queues = omega (arith, room.queues, count_by-push is_queue decls d);
+      items = omega (arith, one, count_by-push is_item decls d);
+      sems = omega (arith, room.sems, count_by-push is_sem decls d);
+      msgqs = omega (arith, room.msgqs, count_by-push is_msgq decls d);
+    }
+room-push decls (decl.Sem name initial limit) free room =
+    let d = decl.Sem name initial limit in
+    let one = leb-false 32 (count_by is_sem decls) (or_none (nat_le 32 (count_by is_sem decls)) false free).0 in
+    record {
+      players = omega (arith, room.players, count_by-push is_thread decls d, count_by-push is_queue decls d);
+      queues = omega (arith, room.queues, count_by-push is_queue decls d);
+      items = omega (arith, room.items, count_by-push is_item decls d);
+      sems = omega (arith, one, count_by-push is_sem decls d);
+      msgqs = omega (arith, room.msgqs, count_by-push is_msgq decls d);
+    }
+room-push decls (decl.Msgq name size capacity) free room =
+    let d = decl.Msgq name size capacity in
+    let one = leb-false 16 (count_by is_msgq decls) (or_none (nat_le 16 (count_by is_msgq decls)) false free).0 in
+    record {
+      players = omega (arith, room.players, count_by-push is_thread decls d, count_by-push is_queue decls d);
+      queues = omega (arith, room.queues, count_by-push is_queue decls d);
+      items = omega (arith, room.items, count_by-push is_item decls d);
+      sems = omega (arith, room.sems, count_by-push is_sem decls d);
+      msgqs = omega (arith, one, count_by-push is_msgq decls d);
+    }
 
 -- a declaration to which no reason applies keeps what was read valid
-pub IsValid-declared : (r : Reading) (k : Kind) (parts : List Placed) (d : Decl) → Passes r (head.Declare k) parts → option_and_then (decl_of k) (args_of r.decls parts) ≡ Some d → IsValid (parts_of r)
+pub IsValid-declared : (r : Reading) (k : Kind) (parts : List Placed) (d : Decl) → IsForm (head.Declare k) parts → Passes r (head.Declare k) parts → option_and_then (decl_of k) (args_of r.decls parts) ≡ Some d → IsValid (parts_of r)
     → IsValid (parts_of (declared r d))
-IsValid-declared r k parts d p made valid =
-    let is = room r.decls d (ap (is_full r.decls) (kind_of-read r.decls k parts d made) ∙ p.within) valid.players valid.queues valid.items in
-    valid-declared r d valid p.placed is.0 is.1 is.2
+IsValid-declared r k parts d form p made valid =
+    let room = room-push r.decls d (ap (is_full r.decls) (kind_of-read r.decls k parts d made) ∙ p.within) (room-valid (parts_of r) valid) in
+    let fits = decl_fits-read r.decls k form.words d (sym (ap (are_in_range r.decls (head.Declare k)) form.placed) ∙ p.in_range) (sym (ap (are_well_named r.decls) form.placed) ∙ p.well_named)
+    (sym (ap (λ ps. option_and_then (decl_of k) (args_of r.decls ps)) form.placed) ∙ made) in
+    valid-declared r d valid p.placed room fits
 
 -- the one word of a script's head names its owner
 owner_of : (r : Reading) (parts : List Placed) (ws : List (List ℕ)) (owner : ℕ) → fits (slot.Owner ∷ []) Nothing ws ≡ true → parts ≡ placed_of (slot.Owner ∷ []) Nothing ws
@@ -218,14 +280,15 @@ IsValid-opened r parts owner form p found valid =
 pub IsValid-called : (r : Reading) (w : Word) (parts : List Placed) (c : Call) → IsForm (head.Call w) parts → Passes r (head.Call w) parts → option_and_then (call_of w) (args_of r.decls parts) ≡ Some c → IsValid (parts_of r)
     → IsValid (parts_of (called r c))
 IsValid-called r w parts c form p made valid =
-    let fitting = call_fits-read r.decls w form.words c (sym (ap (are_well_named r.decls) form.placed) ∙ p.well_named) (sym (ap (λ ps. option_and_then (call_of w) (args_of r.decls ps)) form.placed) ∙ made) in
+    let ranged = (and_parts (each_in_range (message_size r.decls parts) parts) (go_together (head.Call w) parts) p.in_range).0 in
+    let fitting = call_fits-read r.decls w form.words c (sym (ap (λ ps. each_in_range (message_size r.decls ps) ps) form.placed) ∙ ranged) (sym (ap (are_well_named r.decls) form.placed) ∙ p.well_named) (sym (ap (λ ps. option_and_then (call_of w) (args_of r.decls ps)) form.placed) ∙ made) in
     called_fits r c valid p.placed fitting p.within
 
 -- a line to which no reason applies keeps what was read valid
 pub IsValid-after : (r s : Reading) (h : Head) (parts : List Placed) → IsForm h parts → verdict r h parts ≡ None → after r h parts ≡ Some s → IsValid (parts_of r) → IsValid (parts_of s)
 IsValid-after r s (head.Declare k) parts form e made valid =
     let d = one_part (declared r) (option_and_then (decl_of k) (args_of r.decls parts)) s made in
-    subst (λ x. IsValid (parts_of x)) d.2 (IsValid-declared r k parts d.0 (Passes-verdict r (head.Declare k) parts e) d.1 valid)
+    subst (λ x. IsValid (parts_of x)) d.2 (IsValid-declared r k parts d.0 form (Passes-verdict r (head.Declare k) parts e) d.1 valid)
 IsValid-after r s head.Script parts form e made valid =
     let o = one_part (opened r) (first_object r.decls parts) s made in
     subst (λ x. IsValid (parts_of x)) o.2 (IsValid-opened r parts o.0 form (Passes-verdict r head.Script parts e) o.1 valid)
@@ -236,10 +299,10 @@ IsValid-after r s (head.Call w) parts form e made valid =
     subst (λ x. IsValid (parts_of x)) c.2 (IsValid-called r w parts c.0 form (Passes-verdict r (head.Call w) parts e) c.1 valid)
 
 -- the same three, where what was read is given by an equation
-pub IsValid-declared-is : (before now : Reading) (k : Kind) (parts : List Placed) (d : Decl) → before ≡ now → IsValid (parts_of before) → verdict now (head.Declare k) parts ≡ None
+pub IsValid-declared-is : (before now : Reading) (k : Kind) (parts : List Placed) (d : Decl) → before ≡ now → IsValid (parts_of before) → IsForm (head.Declare k) parts → verdict now (head.Declare k) parts ≡ None
     → option_and_then (decl_of k) (args_of now.decls parts) ≡ Some d → IsValid (parts_of (declared now d))
-IsValid-declared-is before now k parts d view valid e made =
-    IsValid-declared now k parts d (Passes-verdict now (head.Declare k) parts e) made (subst (λ r. IsValid (parts_of r)) view valid)
+IsValid-declared-is before now k parts d view valid form e made =
+    IsValid-declared now k parts d form (Passes-verdict now (head.Declare k) parts e) made (subst (λ r. IsValid (parts_of r)) view valid)
 
 pub IsValid-opened-is : (before now : Reading) (parts : List Placed) (owner : ℕ) → before ≡ now → IsValid (parts_of before) → IsForm head.Script parts → verdict now head.Script parts ≡ None
     → first_object now.decls parts ≡ Some owner → IsValid (parts_of (opened now owner))

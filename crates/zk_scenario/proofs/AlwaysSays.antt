@@ -9,15 +9,16 @@ use Rattle.zk_words.specs.declared.word.Head.{Head}
 use Rattle.zk_words.specs.declared.word.Head.TheVariants as head
 use Rattle.zk_words.specs.Lines.{IsForm}
 use Rattle.zk_words.specs.Parts.{Placed, fits, parts_of as placed_of}
+use Rattle.zk_words.specs.Table.{row_of}
 use Rattle.zk_line.specs.Args.{args_of}
 use Rattle.zk_line.specs.Calls.{call_of}
-use Rattle.zk_line.specs.Checks.{first_object, are_well_named}
+use Rattle.zk_line.specs.Checks.{first_object, message_size, each_in_range, go_together, are_well_named}
 use Rattle.zk_line.specs.Decls.{decl_of}
 use Rattle.zk_line.specs.Objects.{object_of, is_at, names, plays_script}
 use Rattle.zk_line.proofs.Makes.{AreRight, are_right, makes_call, makes_decl}
 use Rattle.zk_scenario.specs.Reading.{Reading, declared, called}
 use Rattle.zk_scenario.specs.Verdict.{verdict, opened, after}
-use Rattle.zk_scenario.proofs.AcceptedLines.{Passes-verdict}
+use Rattle.zk_scenario.proofs.AcceptedLines.{Passes, Passes-verdict}
 
 some-map : {X Y : Type 0} (f : X → Y) (o : Option X) → IsSome o → IsSome (option_map f o)
 some-map f (Some x) e = refl
@@ -34,18 +35,24 @@ owner-some r parts (w ∷ []) fit is named =
       by_place None e = absurd (cc)
 owner-some r parts (w ∷ v ∷ ws) fit is named = absurd (cc)
 
+-- the words of a line to which no reason applies are right
+right_words : (r : Reading) (h : Head) (parts : List Placed) (form : IsForm h parts) → Passes r h parts → AreRight r.decls (message_size r.decls parts) (placed_of (row_of h).slots (row_of h).rest form.words)
+right_words r h parts form p =
+    let size = message_size r.decls parts in
+    subst (AreRight r.decls size) form.placed (are_right r.decls size parts form.spelled (and_parts (each_in_range size parts) (go_together h parts) p.in_range).0 p.well_named)
+
 pub after-some : (r : Reading) (h : Head) (parts : List Placed) → IsForm h parts → verdict r h parts ≡ None → IsSome (after r h parts)
 after-some r (head.Declare k) parts form e =
     let p = Passes-verdict r (head.Declare k) parts e in
-    let right = subst (AreRight r.decls) form.placed (are_right r.decls parts form.spelled p.in_range p.well_named) in
+    let right = right_words r (head.Declare k) parts form p in
     some-map (declared r) (option_and_then (decl_of k) (args_of r.decls parts))
-    (subst (λ ps. IsSome (option_and_then (decl_of k) (args_of r.decls ps))) (sym form.placed) (makes_decl k r.decls form.words form.fitting right))
+    (subst (λ ps. IsSome (option_and_then (decl_of k) (args_of r.decls ps))) (sym form.placed) (makes_decl k r.decls (message_size r.decls parts) form.words form.fitting right))
 after-some r head.Script parts form e =
     let p = Passes-verdict r head.Script parts e in
     some-map (opened r) (first_object r.decls parts) (owner-some r parts form.words form.fitting form.placed p.well_named)
 after-some r head.End parts form e = refl
 after-some r (head.Call w) parts form e =
     let p = Passes-verdict r (head.Call w) parts e in
-    let right = subst (AreRight r.decls) form.placed (are_right r.decls parts form.spelled p.in_range p.well_named) in
+    let right = right_words r (head.Call w) parts form p in
     some-map (called r) (option_and_then (call_of w) (args_of r.decls parts))
-    (subst (λ ps. IsSome (option_and_then (call_of w) (args_of r.decls ps))) (sym form.placed) (makes_call w r.decls form.words form.fitting right))
+    (subst (λ ps. IsSome (option_and_then (call_of w) (args_of r.decls ps))) (sym form.placed) (makes_call w r.decls (message_size r.decls parts) form.words form.fitting right))

@@ -5,3 +5,4 @@ pub mod ReadText
 pub mod ScenarioLines
 pub mod ScriptTables
 pub mod Valid
+pub mod Verdicts

@@ -8,9 +8,9 @@ use Rattle.std.proofs.lemmas.List.Sums.{sum_by-append}
 use Rattle.std.proofs.lemmas.Option.{slice_get-get_or}
 use Rattle.zk_base.proofs.Lists.{list_all-at}
 use Rattle.zk_line.specs.declared.types.Decl.{Decl}
-use Rattle.zk_line.specs.declared.types.Decl.TheVariants.{Thread, Queue, Item}
+use Rattle.zk_line.specs.declared.types.Decl.TheVariants.{Thread, Queue, Item, Sem, Msgq}
 use Rattle.zk_scenario.specs.declared.types.Script.{Script}
-use Rattle.zk_line.specs.Objects.{is_at, plays_script, is_thread, is_queue, is_item, same_kind, places, number_of, player_count}
+use Rattle.zk_line.specs.Objects.{is_at, plays_script, is_thread, is_queue, is_item, is_sem, is_msgq, same_kind, places, number_of, player_count}
 use Rattle.zk_scenario.specs.Parts.{Parts}
 use Rattle.zk_scenario.specs.Players.{players, calls_of}
 use Rattle.zk_scenario.specs.Scripts.{script_of}
@@ -28,18 +28,22 @@ pub count_by-cons : {X : Type 0} (p : X → Bool) (x : X) (xs : List X) → coun
 count_by-cons p x xs = sum_by-append (λ y. cond (p y) 1 0) (x ∷ []) xs ∙ ap (λ n. n + count_by p xs) (omega arith)
 
 -- each declaration is of one kind
-length-kinds : (ds : List Decl) → length ds ≡ player_count ds + count_by is_item ds
+length-kinds : (ds : List Decl) → length ds ≡ player_count ds + count_by is_item ds + count_by is_sem ds + count_by is_msgq ds
 length-kinds [] = refl
 length-kinds (Thread name prio user ∷ ds) =
-    let d = Thread name prio user in omega (arith, length-kinds ds, count_by-cons is_thread d ds, count_by-cons is_queue d ds, count_by-cons is_item d ds)
+    let d = Thread name prio user in omega (arith, length-kinds ds, count_by-cons is_thread d ds, count_by-cons is_queue d ds, count_by-cons is_item d ds, count_by-cons is_sem d ds, count_by-cons is_msgq d ds)
 length-kinds (Queue name prio on ∷ ds) =
-    let d = Queue name prio on in omega (arith, length-kinds ds, count_by-cons is_thread d ds, count_by-cons is_queue d ds, count_by-cons is_item d ds)
+    let d = Queue name prio on in omega (arith, length-kinds ds, count_by-cons is_thread d ds, count_by-cons is_queue d ds, count_by-cons is_item d ds, count_by-cons is_sem d ds, count_by-cons is_msgq d ds)
 length-kinds (Item name ∷ ds) =
-    let d = Item name in omega (arith, length-kinds ds, count_by-cons is_thread d ds, count_by-cons is_queue d ds, count_by-cons is_item d ds)
+    let d = Item name in omega (arith, length-kinds ds, count_by-cons is_thread d ds, count_by-cons is_queue d ds, count_by-cons is_item d ds, count_by-cons is_sem d ds, count_by-cons is_msgq d ds)
+length-kinds (Sem name initial limit ∷ ds) =
+    let d = Sem name initial limit in omega (arith, length-kinds ds, count_by-cons is_thread d ds, count_by-cons is_queue d ds, count_by-cons is_item d ds, count_by-cons is_sem d ds, count_by-cons is_msgq d ds)
+length-kinds (Msgq name size capacity ∷ ds) =
+    let d = Msgq name size capacity in omega (arith, length-kinds ds, count_by-cons is_thread d ds, count_by-cons is_queue d ds, count_by-cons is_item d ds, count_by-cons is_sem d ds, count_by-cons is_msgq d ds)
 
--- a valid scenario has at most 320 declarations
-pub length-decls : (p : Parts) → IsValid p → length p.decls ≤ 320
-length-decls p valid = omega (arith, length-kinds p.decls, valid.players, valid.items)
+-- a valid scenario has at most 368 declarations
+pub length-decls : (p : Parts) → IsValid p → length p.decls ≤ 368
+length-decls p valid = omega (arith, length-kinds p.decls, valid.players, valid.items, valid.sems, valid.msgqs)
 
 -- an element that passes counts behind those before it
 count_by-take-lt : {X : Type 0} (p : X → Bool) (xs : List X) (k : ℕ) (x : X) → slice_get xs k ≡ Some x → p x ≡ true → count_by p (take k xs) < count_by p xs
@@ -59,25 +63,36 @@ below test decls object kind at = at_some (slice_get decls object) refl at where
 pub number_of-item : (decls : List Decl) (object : ℕ) → is_at is_item decls object ≡ true → number_of decls object < count_by is_item decls
 number_of-item decls object at = below is_item decls object kind at where
   kind : (d : Decl) → is_item d ≡ true → same_kind d ≡ is_item
-  kind (Thread name prio user) e = absurd (cc)
-  kind (Queue name prio on) e = absurd (cc)
   kind (Item name) e = refl
+  kind d e = absurd (cc)
 
 -- the number of a queue is below the count of the queues
 pub number_of-queue : (decls : List Decl) (object : ℕ) → is_at is_queue decls object ≡ true → number_of decls object < count_by is_queue decls
 number_of-queue decls object at = below is_queue decls object kind at where
   kind : (d : Decl) → is_queue d ≡ true → same_kind d ≡ is_queue
-  kind (Thread name prio user) e = absurd (cc)
   kind (Queue name prio on) e = refl
-  kind (Item name) e = absurd (cc)
+  kind d e = absurd (cc)
 
 -- the number of a thread is below the count of the threads
 pub number_of-thread : (decls : List Decl) (object : ℕ) → is_at is_thread decls object ≡ true → number_of decls object < count_by is_thread decls
 number_of-thread decls object at = below is_thread decls object kind at where
   kind : (d : Decl) → is_thread d ≡ true → same_kind d ≡ is_thread
   kind (Thread name prio user) e = refl
-  kind (Queue name prio on) e = absurd (cc)
-  kind (Item name) e = absurd (cc)
+  kind d e = absurd (cc)
+
+-- the number of a semaphore is below the count of the semaphores
+pub number_of-sem : (decls : List Decl) (object : ℕ) → is_at is_sem decls object ≡ true → number_of decls object < count_by is_sem decls
+number_of-sem decls object at = below is_sem decls object kind at where
+  kind : (d : Decl) → is_sem d ≡ true → same_kind d ≡ is_sem
+  kind (Sem name initial limit) e = refl
+  kind d e = absurd (cc)
+
+-- the number of a message queue is below the count of the message queues
+pub number_of-msgq : (decls : List Decl) (object : ℕ) → is_at is_msgq decls object ≡ true → number_of decls object < count_by is_msgq decls
+number_of-msgq decls object at = below is_msgq decls object kind at where
+  kind : (d : Decl) → is_msgq d ≡ true → same_kind d ≡ is_msgq
+  kind (Msgq name size capacity) e = refl
+  kind d e = absurd (cc)
 
 -- each call of an object's script fits
 pub call_fits-calls_of : (p : Parts) (owner : ℕ) → IsValid p → list_all (call_fits p.decls) (calls_of p.scripts owner) ≡ true

@@ -40,6 +40,8 @@ abbrev pub most : Kind → ℕ
 most kind.Thread = 64
 most kind.Queue = 8
 most kind.Item = 256
+most kind.Sem = 32
+most kind.Msgq = 16
 
 -- whether there may be no further object of a kind
 abbrev pub is_full : List Decl → Kind → Bool
@@ -56,7 +58,7 @@ is_past_limit r (Call word) = nat_le 4096 (call_count (all_scripts r))
 abbrev pub verdict : Reading → Head → List Placed → Option Why
 verdict r head parts =
     if is_misplaced r head parts then Some why.Order else
-    if not (are_in_range parts) then Some why.Number else
+    if not (are_in_range r.decls head parts) then Some why.Number else
     if not (are_well_named r.decls parts) then Some why.Name else
     if is_past_limit r head then Some why.Limit else None
 

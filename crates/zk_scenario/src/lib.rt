@@ -13,6 +13,8 @@ mod scripts;
 mod tests;
 mod text;
 mod types;
+#[cfg(test)]
+mod waiting_tests;
 
 pub use laws::tells_them_apart;
 pub use read::{LONGEST_SCENARIO, read_scenario};

@@ -16,7 +16,7 @@ fn told(line: &str) -> &'static str {
 
 #[test]
 fn reads_each_line_by_its_row(rt: HostRuntime) -> Result<(), Fail> {
-    let table: [(&str, &str); 12] = [
+    let table: [(&str, &str); 16] = [
         ("thread t -3 super", "declaration"),
         ("thread t -3 user", "unbuilt"),
         ("thread t -03 user", "misspelled"),
@@ -28,6 +28,10 @@ fn reads_each_line_by_its_row(rt: HostRuntime) -> Result<(), Fail> {
         ("schedule i q 99999999999999999999999", "call"),
         ("end", "bracket"),
         ("chan c", "unbuilt"),
+        ("sem s 0 1 raw", "unbuilt"),
+        ("sem s 0 1", "declaration"),
+        ("put m 0g no", "misspelled"),
+        ("put m 0102 99999999999999999999999", "call"),
         ("frob", "misspelled"),
     ];
     for (line, said) in table {

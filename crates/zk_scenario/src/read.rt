@@ -7,6 +7,7 @@ use crate::reader::{Reader, unfed};
 use crate::refused::{ScenarioRefused, Why};
 use crate::scenario::Scenario;
 use std::alloc::Global;
+use zk_line::Args;
 use zk_words::Lines;
 
 /// The longest text of a scenario, in bytes.
@@ -57,10 +58,11 @@ fn read_lines<'a>(
     ensures { AnswersReading result (read_lines 2 start first.now lines.old) }
 {
     let mut reader = Reader::new(alloc);
+    let mut args = Args::new(alloc);
     let mut number = 2;
     let mut piece = first;
     while let Some(next) = lines.next() {
-        if let Some(reason) = reader.read_line(alloc, piece)? {
+        if let Some(reason) = reader.read_line(alloc, &mut args, piece)? {
             return Err(ScenarioRefused::At(number, reason));
         }
         piece = next;

@@ -73,8 +73,8 @@ impl Reader {
     }
 
     /// Whether the line may not stand there.
-    fn is_misplaced(&self, head: Head, parts: Parts<'_>) -> bool
-        ensures { result ≡ is_misplaced self.now head parts.entry }
+    fn is_misplaced(&self, head: Head, parts: &Parts<'_>) -> bool
+        ensures { result ≡ is_misplaced self.now head parts.now }
     {
         match head {
             Head::Declare(_) => self.has_begun(),
@@ -103,15 +103,15 @@ impl Reader {
 
     /// The first reason that applies to a line behind those read. Where none does, the arguments are what
     /// the line's words say.
-    fn judge(&self, args: &mut Args, head: Head, parts: Parts<'_>) -> Result<Option<Why>, NoMemory>
+    fn judge(&self, args: &mut Args, head: Head, parts: &Parts<'_>) -> Result<Option<Why>, NoMemory>
         requires empty { args.old ≡ [] }
-        requires form { IsForm head parts }
-        ensures { IfOk result (λ reason. Judges self.now head parts.entry (or_wrong reason args.new)) }
+        requires form { IsForm head parts.now }
+        ensures { IfOk result (λ reason. Judges self.now head parts.now (or_wrong reason args.new)) }
     {
-        if self.is_misplaced(head, parts.again()) {
+        if self.is_misplaced(head, parts) {
             return Ok(Some(Why::Order));
         }
-        match weigh(args, &self.objects, parts)? {
+        match weigh(args, &self.objects, head, parts)? {
             Some(Wrong::OutOfRange) => Ok(Some(Why::Number)),
             Some(Wrong::Misnamed) => Ok(Some(Why::Name)),
             None => {
@@ -124,29 +124,36 @@ impl Reader {
         }
     }
 
-    /// Reads a line without its line feed. The answer is the reason why it is refused, if it is.
-    pub fn read_line(&mut self, alloc: Global, line: &[u8]) -> Result<Option<Why>, NoMemory>
+    /// Reads a line without its line feed. The answer is the reason why it is refused, if it is. The arguments
+    /// are room for what its words say: what stood there is lost.
+    pub fn read_line(
+        &mut self,
+        alloc: Global,
+        args: &mut Args,
+        line: &[u8],
+    ) -> Result<Option<Why>, NoMemory>
         ensures { IfOk result (λ refusal. read_line self.old line.now ≡ answered refusal self.new) }
     {
         match line_of(line) {
             Line::Unbuilt => Ok(Some(Why::Unbuilt)),
             Line::Misspelled => Ok(Some(Why::Line)),
-            Line::Formed(head, parts) => self.read_form(alloc, head, parts),
+            Line::Formed(head, parts) => self.read_form(alloc, args, head, &parts),
         }
     }
 
     fn read_form(
         &mut self,
         alloc: Global,
+        args: &mut Args,
         head: Head,
-        parts: Parts<'_>,
+        parts: &Parts<'_>,
     ) -> Result<Option<Why>, NoMemory>
-        requires { IsForm head parts }
+        requires { IsForm head parts.now }
         ensures { IfOk result (λ refusal.
-            told (verdict self.old head parts.entry) (after self.old head parts.entry) ≡ answered refusal self.new) }
+            told (verdict self.old head parts.now) (after self.old head parts.now) ≡ answered refusal self.new) }
     {
-        let mut args = Args::new(alloc);
-        if let Some(reason) = self.judge(&mut args, head, parts.again())? {
+        args.clear();
+        if let Some(reason) = self.judge(args, head, parts)? {
             return Ok(Some(reason));
         }
         if self.accept(alloc, head, parts, args.items())? {
@@ -182,13 +189,13 @@ impl Reader {
         &mut self,
         alloc: Global,
         head: Head,
-        parts: Parts<'_>,
+        parts: &Parts<'_>,
         args: &[Arg],
     ) -> Result<bool, NoMemory>
-        requires form { IsForm head parts }
-        requires passes { verdict self.old head parts ≡ None }
-        requires said { args_of self.old.decls parts ≡ Some args.now }
-        ensures { IfOk result (λ done. after self.old head parts.entry ≡ accepted done self.new) }
+        requires form { IsForm head parts.now }
+        requires passes { verdict self.old head parts.now ≡ None }
+        requires said { args_of self.old.decls parts.now ≡ Some args.now }
+        ensures { IfOk result (λ done. after self.old head parts.now ≡ accepted done self.new) }
     {
         match head {
             Head::Declare(kind) => self.accept_decl(alloc, kind, parts, args),
@@ -205,12 +212,13 @@ impl Reader {
         &mut self,
         alloc: Global,
         kind: Kind,
-        parts: Parts<'_>,
+        parts: &Parts<'_>,
         args: &[Arg],
     ) -> Result<bool, NoMemory>
-        requires passes { verdict self.old (Head.Declare kind) parts ≡ None }
-        requires said { args_of self.old.decls parts ≡ Some args.now }
-        ensures { IfOk result (λ done. after self.old (Head.Declare kind) parts.entry ≡ accepted done self.new) }
+        requires form { IsForm (Head.Declare kind) parts.now }
+        requires passes { verdict self.old (Head.Declare kind) parts.now ≡ None }
+        requires said { args_of self.old.decls parts.now ≡ Some args.now }
+        ensures { IfOk result (λ done. after self.old (Head.Declare kind) parts.now ≡ accepted done self.new) }
     {
         let _valid = &self.calls;
         let Some(decl) = decl_of(kind, args) else {
@@ -220,10 +228,10 @@ impl Reader {
         Ok(true)
     }
 
-    fn accept_script(&mut self, alloc: Global, parts: Parts<'_>) -> bool
-        requires form { IsForm Head.Script parts }
-        requires passes { verdict self.old Head.Script parts ≡ None }
-        ensures { after self.old Head.Script parts.entry ≡ accepted result self.new }
+    fn accept_script(&mut self, alloc: Global, parts: &Parts<'_>) -> bool
+        requires form { IsForm Head.Script parts.now }
+        requires passes { verdict self.old Head.Script parts.now ≡ None }
+        ensures { after self.old Head.Script parts.now ≡ accepted result self.new }
     {
         let _valid = &self.calls;
         let Some(owner) = first_object(&self.objects, parts) else {
@@ -233,11 +241,11 @@ impl Reader {
         true
     }
 
-    fn accept_call(&mut self, word: Word, parts: Parts<'_>, args: &[Arg]) -> Result<bool, NoMemory>
-        requires form { IsForm (Head.Call word) parts }
-        requires passes { verdict self.old (Head.Call word) parts ≡ None }
-        requires said { args_of self.old.decls parts ≡ Some args.now }
-        ensures { IfOk result (λ done. after self.old (Head.Call word) parts.entry ≡ accepted done self.new) }
+    fn accept_call(&mut self, word: Word, parts: &Parts<'_>, args: &[Arg]) -> Result<bool, NoMemory>
+        requires form { IsForm (Head.Call word) parts.now }
+        requires passes { verdict self.old (Head.Call word) parts.now ≡ None }
+        requires said { args_of self.old.decls parts.now ≡ Some args.now }
+        ensures { IfOk result (λ done. after self.old (Head.Call word) parts.now ≡ accepted done self.new) }
     {
         let _valid = &self.calls;
         let Some(call) = call_of(word, args) else {
@@ -308,6 +316,8 @@ fn most(kind: Kind) -> usize
         Kind::Thread => 64,
         Kind::Queue => 8,
         Kind::Item => 256,
+        Kind::Sem => 32,
+        Kind::Msgq => 16,
     }
 }
 

@@ -15,7 +15,7 @@ pub enum Why {
     Line,
     /// The line may not stand there.
     Order,
-    /// A number out of its range.
+    /// A number out of its range, or a message that is too long or not of the size of its message queue.
     Number,
     /// A name that is declared twice, reserved, not declared, or of the wrong kind.
     Name,

@@ -1,7 +1,7 @@
 ghost use Rattle.std.specs.Prelude.{◌≡◌, ℕ, ◌++◌, length, slice_get};
 ghost use Rattle.zk_scenario.specs.Grammar.{IsReadable};
 ghost use Rattle.zk_scenario.specs.Parts.{Parts};
-ghost use Rattle.zk_line.specs.Objects.{is_thread, is_queue, is_item, places, number_of};
+ghost use Rattle.zk_line.specs.Objects.{is_thread, is_queue, is_item, is_sem, is_msgq, places, number_of};
 ghost use Rattle.zk_scenario.specs.Players.{prio_of, players, who_of, calls_of};
 ghost use Rattle.zk_scenario.specs.Valid.{IsValid};
 
@@ -78,6 +78,20 @@ impl Scenario {
         self.objects.items()
     }
 
+    /// The objects of the semaphores, in declared order.
+    pub fn sems(&self) -> &[u32]
+        ensures { result.now ≡ places is_sem self.now.decls }
+    {
+        self.objects.sems()
+    }
+
+    /// The objects of the message queues, in declared order.
+    pub fn msgqs(&self) -> &[u32]
+        ensures { result.now ≡ places is_msgq self.now.decls }
+    {
+        self.objects.msgqs()
+    }
+
     /// The number of an object among those of its kind, from 0 in declared order.
     pub fn number(&self, object: u32) -> u32
         ensures { result ≡ number_of self.now.decls object }
@@ -131,5 +145,7 @@ fn prio_of(decl: &Decl) -> i8
         Decl::Thread(_, prio, _) => *prio,
         Decl::Queue(_, prio, _) => *prio,
         Decl::Item(_) => 0,
+        Decl::Sem(..) => 0,
+        Decl::Msgq(..) => 0,
     }
 }

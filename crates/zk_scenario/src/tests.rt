@@ -5,7 +5,7 @@ use std::process::Abort;
 use std::test::Fail;
 use zk_base::{put, put_decimal};
 
-const HEADER: &str = "zk 1\n";
+pub const HEADER: &str = "zk 1\n";
 
 const FRONT: &str = "zk 1\nthread main 0 super\nqueue q0 -1 on\nitem i0\n";
 
@@ -17,7 +17,7 @@ const WHOLE: &str =
     "zk 1\nthread main -3 super\nqueue q0 -1 on\nitem i0\nscript main\nsubmit i0 q0\nend\n";
 
 // The reading of a text in a word or two: `read` where it is printed again as it stood, else the refusal.
-fn reading(alloc: Global, text: &[u8]) -> Result<Vec<u8>, Fail> {
+pub fn reading(alloc: Global, text: &[u8]) -> Result<Vec<u8>, Fail> {
     let mut said = Vec::new(alloc);
     match read_scenario(alloc, text) {
         Ok(scenario) => {
@@ -52,7 +52,7 @@ fn told(alloc: Global, before: &str, lines: &str, said: &str) -> Result<bool, Fa
 }
 
 // Fails at the first of the rows of which not each line is read as it says.
-fn reads_so(rt: &impl Abort, alloc: Global, rows: &[(&str, &str, &str)]) -> Result<(), Fail> {
+pub fn reads_so(rt: &impl Abort, alloc: Global, rows: &[(&str, &str, &str)]) -> Result<(), Fail> {
     for (before, lines, said) in rows {
         let so = told(alloc, before, lines, said)?;
         assert!(rt; so, "at {lines}");
@@ -84,7 +84,7 @@ fn refuses_what_is_misspelled(rt: HostRuntime) -> Result<(), Fail> {
 
 #[test]
 fn refuses_what_stands_in_the_wrong_place(rt: HostRuntime) -> Result<(), Fail> {
-    let early = "thread t 0 user\n|sem s 0 1\n|give\n|thread t 0 user|sem";
+    let early = "thread t 0 user\n|signal s\n|raise\n|thread t 0 user|signal";
     let late =
         "thread t 16 super\n|queue q0 16 on\n|submit nosuch\n|script main\n|end\n|start q0\n";
     let numbers = "thread t 16 super\n|thread t -17 super\n|queue q 99999999999999999999999 on\n";
@@ -408,7 +408,7 @@ fn tells_what_a_single_line_is(rt: HostRuntime) -> Result<(), Fail> {
             ),
             (
                 INSIDE,
-                "thread a_1 -16 user\n|sem\n|poll  no\n|user and more\n|busy i q 1\n",
+                "thread a_1 -16 user\n|signal\n|poll  no\n|user and more\n|busy i q 1\n",
                 "6 unbuilt",
             ),
             (FRONT, "script main\nend\n", "read"),
@@ -465,7 +465,7 @@ fn tells_what_a_single_line_is(rt: HostRuntime) -> Result<(), Fail> {
 }
 
 // Lines that differ by a number alone.
-fn numbered(text: &mut Vec<u8>, before: &[u8], count: u32, after: &[u8]) -> Result<(), Fail> {
+pub fn numbered(text: &mut Vec<u8>, before: &[u8], count: u32, after: &[u8]) -> Result<(), Fail> {
     for n in 0..count {
         put(text, before)?;
         put_decimal(text, u64::from(n))?;

@@ -3,6 +3,8 @@ pub mod Words
 pub mod Parts
 pub mod Work
 pub mod Clock
+pub mod Sem
+pub mod Msgq
 pub mod Text
 pub mod Fronts
 pub mod Shown

@@ -1,15 +1,16 @@
 use Rattle.std.specs.Prelude.{ℕ, List, [], ◌∷◌, ◌++◌, codes, decimal}
 use Rattle.zk_words.specs.declared.slot.Choice.TheVariants.{Drain}
+use Rattle.zk_words.specs.Hex.{hex_text}
 use Rattle.zk_words.specs.Spelled.{choice_text}
 use Rattle.zk_line.specs.declared.types.Decl.{Decl}
 use Rattle.zk_worker.specs.declared.answers.Answer.{Answer}
 use Rattle.zk_worker.specs.declared.answers.Answer.TheVariants as answers
 use Rattle.zk_trace.specs.declared.parts.FixedWord.{FixedWord}
-use Rattle.zk_trace.specs.declared.parts.FixedWord.TheVariants.{Zero, One, Two, Wait, Done, Already, Now, At, Due}
+use Rattle.zk_trace.specs.declared.parts.FixedWord.TheVariants.{Zero, One, Two, Wait, Done, Already, Now, At, Due, Got}
 use Rattle.zk_trace.specs.declared.parts.Part.{Part}
 use Rattle.zk_trace.specs.declared.parts.Part.TheVariants as parts
 use Rattle.zk_trace.specs.Names.{item_name, queue_name, target_name}
-use Rattle.zk_trace.specs.Words.{errno_word, admission_word, flags_word, truth_word}
+use Rattle.zk_trace.specs.Words.{errno_word, admission_word, flags_word, truth_word, wait_word}
 
 -- the text of a fixed word
 abbrev pub fixed_word : FixedWord → List ℕ
@@ -22,6 +23,7 @@ fixed_word Already = codes "already"
 fixed_word Now = codes "now"
 fixed_word At = codes "at"
 fixed_word Due = codes "due"
+fixed_word Got = codes "got"
 
 -- the text of a part
 abbrev pub part_word : List Decl → Part → List ℕ
@@ -35,6 +37,8 @@ part_word decls (parts.Admission number) = admission_word number
 part_word decls (parts.Plug plug) = choice_text Drain plug
 part_word decls (parts.Flags flags) = flags_word flags
 part_word decls (parts.Truth truth) = truth_word truth
+part_word decls (parts.Bytes message) = hex_text message
+part_word decls (parts.Waits waits) = wait_word waits
 part_word decls (parts.Refusal errno) = errno_word errno
 part_word decls (parts.Fixed fixed) = fixed_word fixed
 
@@ -44,6 +48,7 @@ answer_part (answers.Number number) = parts.Wide number
 answer_part (answers.Flags flags) = parts.Flags flags
 answer_part (answers.Truth truth) = parts.Truth truth
 answer_part (answers.Refused errno) = parts.Refusal errno
+answer_part (answers.Bytes message) = parts.Bytes message
 
 -- words, each behind this byte
 abbrev pub each_behind : ℕ → List (List ℕ) → List ℕ

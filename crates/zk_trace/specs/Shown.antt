@@ -4,4 +4,11 @@ use Rattle.zk_trace.specs.declared.trace.Trace.{Trace}
 
 -- what a trace shows: the whole history of each service
 abbrev pub trace_shown : Trace → Shown
-trace_shown t = record { work = t.work; clock = t.clock; looks = None; looked = None }
+trace_shown t = record {
+  work = t.work;
+  clock = t.clock;
+  sems = t.sems;
+  msgqs = t.msgqs;
+  looks = None;
+  looked = None;
+}

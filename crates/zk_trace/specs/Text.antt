@@ -3,6 +3,7 @@ use Rattle.std.specs.List.{flat_map}
 use Rattle.zk_base.specs.declared.ids.Entry.{Entry}
 use Rattle.zk_words.specs.Text.{line_text}
 use Rattle.zk_line.specs.declared.types.Decl.{Decl}
+use Rattle.zk_line.specs.Objects.{name_at}
 use Rattle.zk_scenario.specs.Parts.{Parts}
 use Rattle.zk_worker.specs.declared.answers.Answered.{Answered}
 use Rattle.zk_worker.specs.declared.log.Log.{Log}
@@ -13,6 +14,8 @@ use Rattle.zk_trace.specs.Words.{ending_word, call_word, state_word}
 use Rattle.zk_trace.specs.Parts.{part_word, answer_part}
 use Rattle.zk_trace.specs.Work as work
 use Rattle.zk_trace.specs.Clock as clock
+use Rattle.zk_trace.specs.Sem as sem
+use Rattle.zk_trace.specs.Msgq as msgq
 
 -- one line: its words and a line feed
 abbrev pub line : List (List ℕ) → List ℕ
@@ -40,6 +43,15 @@ module _ {O R : Type 0} (op_words : List Decl → O → List (List ℕ))
   service_section name [] = []
   service_section name (e ∷ es) = section_head name ++ flat_map entry_line (e ∷ es)
 
+  -- the section of an object, under its name, where it did anything
+  abbrev pub object_section : ℕ → List (Entry O R) → List ℕ
+  object_section object h = service_section (name_at decls object) h
+
+  -- the sections of the objects of a kind from one number on
+  abbrev pub object_sections : ℕ → List (List (Entry O R)) → List ℕ
+  object_sections object [] = []
+  object_sections object (h ∷ hs) = object_section object h ++ object_sections (object + 1) hs
+
 -- an answered call: the number of its last step, its word and its answer
 abbrev pub answer_line : List Decl → Answered → List ℕ
 answer_line decls a =
@@ -61,10 +73,16 @@ player_sections decls player [] = []
 player_sections decls player (log ∷ logs) =
     player_section decls player log ++ player_sections decls (player + 1) logs
 
+-- the sections of the services: of those of which there is one, of the semaphores and of the message queues
+abbrev pub service_sections : Parts → Trace → List ℕ
+service_sections s t =
+    service_section work.op_words work.reply_words s.decls (codes "work") t.work
+    ++ service_section clock.op_words clock.reply_words s.decls (codes "clock") t.clock
+    ++ object_sections sem.op_words sem.reply_words s.decls 0 t.sems
+    ++ object_sections msgq.op_words msgq.reply_words s.decls 0 t.msgqs
+
 -- the trace part of the output: its head, the ending, the services and the players
 abbrev pub trace_text : Parts → Trace → List ℕ
 trace_text s t =
     line (codes "zt" ∷ codes "1" ∷ []) ++ line (ending_word t.ending ∷ [])
-    ++ service_section work.op_words work.reply_words s.decls (codes "work") t.work
-    ++ service_section clock.op_words clock.reply_words s.decls (codes "clock") t.clock
-    ++ player_sections s.decls 0 t.logs
+    ++ service_sections s t ++ player_sections s.decls 0 t.logs

@@ -48,6 +48,11 @@ abbrev pub truth_word : Bool → List ℕ
 truth_word true = codes "true"
 truth_word false = codes "false"
 
+-- whether a call waits
+abbrev pub wait_word : Bool → List ℕ
+wait_word true = codes "wait"
+wait_word false = codes "no"
+
 -- the word of a call, as it stands in the table
 abbrev pub call_word : Word → List ℕ
 call_word word = (call_row word).first

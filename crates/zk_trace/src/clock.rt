@@ -30,7 +30,7 @@ fn verb_word(verb: Verb) -> &'static [u8]
 }
 
 /// An operation as it is written: its verb, and what stands behind that.
-fn said_of(op: ClockOp) -> (Verb, PartList)
+fn said_of(op: ClockOp) -> (Verb, PartList<'static>)
     ensures { result ≡ said_of op }
 {
     match op {
@@ -41,7 +41,7 @@ fn said_of(op: ClockOp) -> (Verb, PartList)
 }
 
 /// The parts of a reply.
-fn reply_parts(reply: ClockReply) -> PartList
+fn reply_parts(reply: ClockReply) -> PartList<'static>
     ensures { result ≡ reply_parts reply }
 {
     match reply {
@@ -56,7 +56,7 @@ impl Spelled for ClockOp {
 
     fn put_words(&self, out: &mut Vec<u8>, scenario: &Scenario) -> Result<(), NoMemory> {
         let (verb, parts) = said_of(*self);
-        put_said(out, scenario, verb_word(verb), parts.items())
+        put_said(out, scenario, verb_word(verb), &parts)
     }
 }
 
@@ -64,6 +64,6 @@ impl Spelled for ClockReply {
     ghost words = { reply_words };
 
     fn put_words(&self, out: &mut Vec<u8>, scenario: &Scenario) -> Result<(), NoMemory> {
-        put_parts(out, scenario, b' ', reply_parts(*self).items())
+        put_parts(out, scenario, b' ', &reply_parts(*self))
     }
 }

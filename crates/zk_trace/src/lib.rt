@@ -3,17 +3,19 @@
 
 mod clock;
 mod lined;
+mod msgq;
 mod names;
 mod parts;
 mod print;
 mod sections;
+mod sem;
 mod spelled;
 mod trace;
 mod words;
 mod work;
 
 pub use print::{print_trace, put_trace};
-pub use trace::{Ending, History, Logs, Trace};
+pub use trace::{Ending, Histories, History, Logs, Trace};
 
 #[cfg(test)]
 mod tests;

@@ -68,7 +68,7 @@ impl Lined for Answered {
         out.push(b' ')?;
         put(out, call_word(self.word))?;
         put(out, b" =")?;
-        put_part(out, scenario, b' ', answer_part(self.answer))?;
+        put_part(out, scenario, b' ', &answer_part(&self.answer))?;
         put(out, b"\n")
     }
 }

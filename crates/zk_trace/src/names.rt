@@ -1,8 +1,9 @@
 ghost use Rattle.std.specs.Prelude.{◌≡◌, slice_get, option_copied};
-ghost use Rattle.zk_line.specs.Objects.{places, is_item, is_queue, name_of};
+ghost use Rattle.zk_line.specs.Objects.{places, is_item, is_queue, name_at};
 ghost use Rattle.zk_scenario.specs.Players.{players};
 ghost use Rattle.zk_trace.specs.Names.{object_name, item_name, queue_name, target_name, player_name};
 
+use zk_line::name_of;
 use zk_scenario::{Decl, Scenario};
 
 /// The name of an item, by its number among the items.
@@ -56,20 +57,17 @@ fn object_name(decls: &[Decl], object: Option<u32>) -> &[u8]
     ensures { result.now ≡ object_name decls.now object }
 {
     match object {
-        Some(object) => match decls.get(object as usize) {
-            Some(decl) => name_of(decl),
-            None => &[],
-        },
+        Some(object) => name_at(decls, object as usize),
         None => &[],
     }
 }
 
-fn name_of(decl: &Decl) -> &[u8]
-    ensures { result.now ≡ name_of decl.now }
+/// The name of an object, and no byte where there is none of this number.
+pub fn name_at(decls: &[Decl], object: usize) -> &[u8]
+    ensures { result.now ≡ name_at decls.now object }
 {
-    match decl {
-        Decl::Thread(name, _, _) => name.bytes(),
-        Decl::Queue(name, _, _) => name.bytes(),
-        Decl::Item(name) => name.bytes(),
+    match decls.get(object) {
+        Some(decl) => name_of(decl),
+        None => &[],
     }
 }

@@ -1,19 +1,20 @@
-ghost use Rattle.std.specs.Prelude.{◌≡◌, [], ◌∷◌, ◌++◌, map, drop, OnOk, OnErr};
+ghost use Rattle.std.specs.Prelude.{◌≡◌, [], ◌∷◌, ◌++◌, map, OnOk, OnErr};
+ghost use Rattle.std.specs.List.{cons_option};
 ghost use Rattle.zk_trace.specs.Fronts.{StaysInFront};
 ghost use Rattle.zk_trace.specs.Names.{target_name};
 ghost use Rattle.zk_trace.specs.Parts.{fixed_word, part_word, answer_part, each_behind};
 
 use crate::names::{item_name, queue_name, target_name};
-use crate::words::{errno_word, put_admission, put_flags, truth_word};
+use crate::words::{errno_word, put_admission, put_flags, put_hex, truth_word, wait_word};
 use std::marker::Model;
-use zk_base::{Errno, NoMemory, put, put_decimal};
+use zk_base::{Errno, Msg, NoMemory, put, put_decimal};
 use zk_scenario::Scenario;
 use zk_words::{Choice, choice_text};
 use zk_worker::Answer;
 
 /// A word of an operation behind its verb, or a word of a reply.
-#[derive(Clone, Copy)]
-pub enum Part {
+#[derive(Drop)]
+pub enum Part<'a> {
     /// An item, by its number among the items: its name.
     Item(u32),
     /// A queue, by its number among the queues: its name.
@@ -34,6 +35,10 @@ pub enum Part {
     Flags(u8),
     /// A truth value.
     Truth(bool),
+    /// The bytes of a message, in hexadecimal digits.
+    Bytes(Lent<'a>),
+    /// Whether a call waits where it can't be served at once.
+    Waits(bool),
     /// The cause of a refusal.
     Refusal(Errno),
     /// A word that is the same in each line.
@@ -61,6 +66,8 @@ pub enum FixedWord {
     At,
     /// An alarm has ended.
     Due,
+    /// A semaphore was taken.
+    Got,
 }
 
 /// The text of a fixed word.
@@ -77,76 +84,113 @@ fn fixed_word(fixed: FixedWord) -> &'static [u8]
         FixedWord::Now => b"now",
         FixedWord::At => b"at",
         FixedWord::Due => b"due",
+        FixedWord::Got => b"got",
     }
 }
 
 /// The answer of a call.
-pub fn answer_part(answer: Answer) -> Part
-    ensures { result ≡ answer_part answer }
+pub fn answer_part(answer: &Answer) -> Part<'_>
+    ensures { result ≡ answer_part answer.now }
 {
     match answer {
-        Answer::Number(number) => Part::Wide(number),
-        Answer::Flags(flags) => Part::Flags(flags),
-        Answer::Truth(truth) => Part::Truth(truth),
-        Answer::Refused(errno) => Part::Refusal(errno),
+        Answer::Number(number) => Part::Wide(*number),
+        Answer::Flags(flags) => Part::Flags(*flags),
+        Answer::Truth(truth) => Part::Truth(*truth),
+        Answer::Refused(errno) => Part::Refusal(*errno),
+        Answer::Bytes(message) => Part::Bytes(Lent::of(message)),
+    }
+}
+
+/// A message where it stands: parts are moved about, and a message is long.
+#[derive(Drop)]
+pub struct Lent<'a> {
+    message: &'a Msg,
+}
+
+impl<'a> Model for Lent<'a> {
+    ghost use Rattle.std.specs.Prelude.{ℕ, List};
+
+    ghost Value = { List ℕ };
+
+    ghost view = { λ l. l.message.now };
+}
+
+impl<'a> Lent<'a> {
+    /// The message that stands there.
+    pub fn of(message: &'a Msg) -> Lent<'a>
+        ensures { result ≡ message.now }
+    {
+        Lent { message }
+    }
+
+    fn bytes(&self) -> &[u8]
+        ensures { result.now ≡ self.now }
+    {
+        self.message.bytes()
     }
 }
 
 /// At most three parts, in order.
 #[derive(Drop)]
-pub struct PartList {
-    // The first so many of them are meant.
-    parts: [Part; 3],
-    len: usize,
+pub struct PartList<'a> {
+    first: Option<Part<'a>>,
+    second: Option<Part<'a>>,
+    third: Option<Part<'a>>,
 }
 
-impl Model for PartList {
-    ghost use Rattle.std.specs.Prelude.{◌≤◌, List, take};
+impl<'a> Model for PartList<'a> {
+    ghost use Rattle.std.specs.Prelude.{List, []};
+    ghost use Rattle.std.specs.List.{cons_option};
     ghost use Rattle.zk_trace.specs.declared.parts.Part.{Part};
 
     ghost Value = { List Part };
 
-    ghost view = { λ l. take l.len l.parts };
-
-    ghost invariant = { λ l. l.len ≤ 3 };
+    ghost view = { λ l. cons_option l.first (cons_option l.second (cons_option l.third [])) };
 }
 
-impl PartList {
-    /// One part.
-    pub fn one(part: Part) -> PartList
-        ensures { result ≡ part ∷ [] }
+impl<'a> PartList<'a> {
+    /// No part.
+    pub fn none() -> PartList<'a>
+        ensures { result ≡ [] }
     {
         PartList {
-            parts: [part; 3],
-            len: 1,
+            first: None,
+            second: None,
+            third: None,
+        }
+    }
+
+    /// One part.
+    pub fn one(part: Part<'a>) -> PartList<'a>
+        ensures { result ≡ part.entry ∷ [] }
+    {
+        PartList {
+            first: Some(part),
+            second: None,
+            third: None,
         }
     }
 
     /// Two parts.
-    pub fn two(first: Part, second: Part) -> PartList
-        ensures { result ≡ first ∷ second ∷ [] }
+    pub fn two(first: Part<'a>, second: Part<'a>) -> PartList<'a>
+        ensures { result ≡ first.entry ∷ second.entry ∷ [] }
     {
         PartList {
-            parts: [first, second, second],
-            len: 2,
+            first: Some(first),
+            second: Some(second),
+            third: None,
         }
     }
 
     /// Three parts.
-    pub fn three(first: Part, second: Part, third: Part) -> PartList
-        ensures { result ≡ first ∷ second ∷ third ∷ [] }
+    pub fn three(first: Part<'a>, second: Part<'a>, third: Part<'a>) -> PartList<'a>
+        ensures { result ≡ first.entry ∷ second.entry ∷ third.entry ∷ [] }
     {
         PartList {
-            parts: [first, second, third],
-            len: 3,
+            first: Some(first),
+            second: Some(second),
+            third: Some(third),
         }
-    }
-
-    /// The parts, in order.
-    pub fn items(&self) -> &[Part]
-        ensures { result.now ≡ self.now }
-    {
-        &self.parts[..self.len]
     }
 }
 
@@ -155,7 +199,7 @@ pub fn put_said(
     out: &mut Vec<u8>,
     scenario: &Scenario,
     verb: &[u8],
-    parts: &[Part],
+    parts: &PartList<'_>,
 ) -> Result<(), NoMemory>
     ensures text { OnOk result (out.new.items ≡
         out.old.items ++ each_behind 32 (verb.now ∷ map (part_word scenario.now.decls) parts.now)) }
@@ -171,16 +215,32 @@ pub fn put_parts(
     out: &mut Vec<u8>,
     scenario: &Scenario,
     separator: u8,
-    parts: &[Part],
+    parts: &PartList<'_>,
 ) -> Result<(), NoMemory>
     ensures text { OnOk result (out.new.items ≡
         out.old.items ++ each_behind separator (map (part_word scenario.now.decls) parts.now)) }
     ensures kept { OnErr result (StaysInFront out.old.items out.new.items) }
 {
-    for part in parts {
-        put_part(out, scenario, separator, *part)?;
+    put_any(out, scenario, separator, &parts.first)?;
+    put_any(out, scenario, separator, &parts.second)?;
+    put_any(out, scenario, separator, &parts.third)
+}
+
+/// Appends a part behind its separator, where there is one.
+fn put_any(
+    out: &mut Vec<u8>,
+    scenario: &Scenario,
+    separator: u8,
+    part: &Option<Part<'_>>,
+) -> Result<(), NoMemory>
+    ensures text { OnOk result (out.new.items ≡
+        out.old.items ++ each_behind separator (map (part_word scenario.now.decls) (cons_option part.now []))) }
+    ensures kept { OnErr result (StaysInFront out.old.items out.new.items) }
+{
+    match part {
+        Some(part) => put_part(out, scenario, separator, part),
+        None => Ok(()),
     }
-    Ok(())
 }
 
 /// Appends a separator and then a part.
@@ -188,31 +248,33 @@ pub fn put_part(
     out: &mut Vec<u8>,
     scenario: &Scenario,
     separator: u8,
-    part: Part,
+    part: &Part<'_>,
 ) -> Result<(), NoMemory>
-    ensures text { OnOk result (out.new.items ≡ out.old.items ++ separator ∷ part_word scenario.now.decls part) }
+    ensures text { OnOk result (out.new.items ≡ out.old.items ++ separator ∷ part_word scenario.now.decls part.now) }
     ensures kept { OnErr result (StaysInFront out.old.items out.new.items) }
 {
     out.push(separator)?;
     put_word(out, scenario, part)
 }
 
-fn put_word(out: &mut Vec<u8>, scenario: &Scenario, part: Part) -> Result<(), NoMemory>
-    ensures text { OnOk result (out.new.items ≡ out.old.items ++ part_word scenario.now.decls part) }
+fn put_word(out: &mut Vec<u8>, scenario: &Scenario, part: &Part<'_>) -> Result<(), NoMemory>
+    ensures text { OnOk result (out.new.items ≡ out.old.items ++ part_word scenario.now.decls part.now) }
     ensures kept { OnErr result (StaysInFront out.old.items out.new.items) }
 {
     match part {
-        Part::Item(item) => put(out, item_name(scenario, item)),
-        Part::Queue(queue) => put(out, queue_name(scenario, queue)),
-        Part::Target(queue) => put(out, target_name(scenario, queue)),
-        Part::Narrow(number) => put_decimal(out, u64::from(number)),
-        Part::Wide(number) => put_decimal(out, number),
-        Part::Place(place) => put_decimal(out, place),
-        Part::Admission(number) => put_admission(out, number),
-        Part::Plug(plug) => put(out, choice_text(Choice::Drain, plug)),
-        Part::Flags(flags) => put_flags(out, flags),
-        Part::Truth(truth) => put(out, truth_word(truth)),
-        Part::Refusal(errno) => put(out, errno_word(errno)),
-        Part::Fixed(fixed) => put(out, fixed_word(fixed)),
+        Part::Item(item) => put(out, item_name(scenario, *item)),
+        Part::Queue(queue) => put(out, queue_name(scenario, *queue)),
+        Part::Target(queue) => put(out, target_name(scenario, *queue)),
+        Part::Narrow(number) => put_decimal(out, u64::from(*number)),
+        Part::Wide(number) => put_decimal(out, *number),
+        Part::Place(place) => put_decimal(out, *place),
+        Part::Admission(number) => put_admission(out, *number),
+        Part::Plug(plug) => put(out, choice_text(Choice::Drain, *plug)),
+        Part::Flags(flags) => put_flags(out, *flags),
+        Part::Truth(truth) => put(out, truth_word(*truth)),
+        Part::Bytes(message) => put_hex(out, message.bytes()),
+        Part::Waits(waits) => put(out, wait_word(*waits)),
+        Part::Refusal(errno) => put(out, errno_word(*errno)),
+        Part::Fixed(fixed) => put(out, fixed_word(*fixed)),
     }
 }

@@ -1,10 +1,10 @@
 ghost use Rattle.std.specs.Prelude.{◌≡◌, ◌++◌, OnOk, OnErr, IfOk};
 ghost use Rattle.zk_scenario.specs.Spelling.{text_of};
 ghost use Rattle.zk_trace.specs.Fronts.{StaysInFront};
-ghost use Rattle.zk_trace.specs.Text.{trace_text};
+ghost use Rattle.zk_trace.specs.Text.{service_sections, trace_text};
 
 use crate::Trace;
-use crate::sections::{put_players, put_service};
+use crate::sections::{put_objects, put_players, put_service};
 use crate::words::ending_word;
 use std::alloc::Global;
 use zk_base::{NoMemory, put};
@@ -30,9 +30,18 @@ fn put_all(out: &mut Vec<u8>, scenario: &Scenario, trace: &Trace) -> Result<(), 
     put(out, b"zt 1\n")?;
     put(out, ending_word(trace.ending))?;
     put(out, b"\n")?;
+    put_services(out, scenario, trace)?;
+    put_players(out, scenario, trace.logs.items())
+}
+
+fn put_services(out: &mut Vec<u8>, scenario: &Scenario, trace: &Trace) -> Result<(), NoMemory>
+    ensures text { OnOk result (out.new.items ≡ out.old.items ++ service_sections scenario.now trace.now) }
+    ensures kept { OnErr result (StaysInFront out.old.items out.new.items) }
+{
     put_service(out, scenario, b"work", trace.work.items())?;
     put_service(out, scenario, b"clock", trace.clock.items())?;
-    put_players(out, scenario, trace.logs.items())
+    put_objects(out, scenario, trace.sems.items())?;
+    put_objects(out, scenario, trace.msgqs.items())
 }
 
 /// The scenario's text and then the trace part.

@@ -1,9 +1,10 @@
 ghost use Rattle.std.specs.Prelude.{◌≡◌, ◌++◌, OnOk, OnErr, drop};
 ghost use Rattle.zk_trace.specs.Fronts.{StaysInFront};
-ghost use Rattle.zk_trace.specs.Text.{section_head, service_section, player_head, player_section, player_sections};
+ghost use Rattle.zk_trace.specs.Text.{section_head, service_section, object_section, object_sections, player_head, player_section, player_sections};
 
+use crate::History;
 use crate::lined::put_lines;
-use crate::names::player_name;
+use crate::names::{name_at, player_name};
 use crate::spelled::Spelled;
 use crate::words::state_word;
 use zk_base::{Entry, NoMemory, put};
@@ -26,6 +27,40 @@ pub fn put_service<O: Spelled, R: Spelled>(
     }
     put_service_head(out, name)?;
     put_lines(out, scenario, entries)
+}
+
+/// Appends the sections of the objects of a kind, each under the name of its object.
+pub fn put_objects<O: Spelled, R: Spelled>(
+    out: &mut Vec<u8>,
+    scenario: &Scenario,
+    histories: &[History<O, R>],
+) -> Result<(), NoMemory>
+    ensures text { OnOk result (out.new.items ≡
+        out.old.items ++ object_sections O.words R.words scenario.now.decls 0 histories.now) }
+    ensures kept { OnErr result (StaysInFront out.old.items out.new.items) }
+{
+    for (object, history) in histories.iter().enumerate() {
+        put_object(out, scenario, object, history)?;
+    }
+    Ok(())
+}
+
+fn put_object<O: Spelled, R: Spelled>(
+    out: &mut Vec<u8>,
+    scenario: &Scenario,
+    object: usize,
+    history: &History<O, R>,
+) -> Result<(), NoMemory>
+    ensures text { OnOk result (out.new.items ≡
+        out.old.items ++ object_section O.words R.words scenario.now.decls object history.now) }
+    ensures kept { OnErr result (StaysInFront out.old.items out.new.items) }
+{
+    put_service(
+        out,
+        scenario,
+        name_at(scenario.decls(), object),
+        history.items(),
+    )
 }
 
 fn put_service_head(out: &mut Vec<u8>, name: &[u8]) -> Result<(), NoMemory>

@@ -1,16 +1,19 @@
 //! A trace that is put together here, and its text.
-use crate::{Ending, Trace, print_trace};
+use crate::{Ending, Histories, History, Trace, print_trace};
 use std::alloc::Global;
 use std::test::Fail;
-use zk_base::{Entry, Errno, Listed, Who};
-use zk_model_wait::{ClockOp, ClockReply};
+use zk_base::{Entry, Errno, Listed, Msg, Who};
+use zk_model_wait::{ClockOp, ClockReply, MsgqOp, MsgqReply, SemOp, SemReply};
 use zk_model_work::{Expiry, Submitted, WorkOp, WorkReply};
 use zk_scenario::read_scenario;
 use zk_worker::{Answer, Answered, Log, PlayerState, Word};
 
-/// One thread, two queues and three items: the thread is player 0, the workers are 1 and 2.
+/// One thread, two queues, three items, a semaphore and a message queue: the thread is player 0, the workers are 1 and 2.
 const SCENARIO: &str =
-    "zk 1\nthread t0 0 super\nqueue q0 0 on\nqueue q1 0 on\nitem w0\nitem w1\nitem w2\n";
+    "zk 1\nthread t0 0 super\nqueue q0 0 on\nqueue q1 0 on\nitem w0\nitem w1\nitem w2\nsem s0 0 10\nmsgq m0 2 1\n";
+
+/// The object number of the semaphore, and then that of the message queue.
+const OBJECTS: (u32, u32) = (6, 7);
 
 const TRACE: &str = "zt 1
 ended
@@ -19,8 +22,32 @@ t0.1 reschedule w2 q1 1000000 = 1
 q1.1 announce 5 = now 5 w1:1:a0:q0 w0:2:a1:q0 w2:busy w1:0
 service clock
 q0.0 alarm 2 = at 7
+service s0
+t0.0 take no = busy
+t0.1 take no = got
+t0.2 take wait = wait
+t0.3 takeend 2 = got
+t0.4 takequit 2 = again
+t0.5 give = ok
+t0.6 reset = ok
+t0.7 count = 3
+service m0
+t0.0 put 01ff no = ok
+t0.1 put 01ff wait = wait
+t0.2 putend 1 = nomsg
+t0.3 putquit 1 = again
+t0.4 get no = 01ff
+t0.5 get wait = wait
+t0.6 getend 5 = 01ff
+t0.7 getquit 5 = again
+t0.8 peek = 01ff
+t0.9 peekat 1 = nomsg
+t0.10 purge = ok
+t0.11 used = 0
+t0.12 free = 1
 player t0 done
 1 reschedule = 1
+7 get = 01ff
 ";
 
 fn entry<O, R>(number: u32, step: u32, op: O, reply: R) -> Entry<O, R> {
@@ -47,16 +74,76 @@ fn announced(alloc: Global) -> Result<WorkReply, Fail> {
     Ok(WorkReply::Now(5, Listed::from_vec(expiries)))
 }
 
-fn log(alloc: Global) -> Result<Log, Fail> {
-    let answered = Answered {
-        step: 1,
-        word: Word::Reschedule,
-        answer: Answer::Number(1),
-    };
+/// The history of one player that did this at an object.
+fn history<O: Copy, R: Copy>(alloc: Global, done: &[(O, R)]) -> Result<History<O, R>, Fail> {
+    let mut entries = Listed::new(alloc);
+    for (step, (op, reply)) in done.iter().enumerate() {
+        let step = u32::try_from(step).map_err(|_| "a step")?;
+        entries.push(entry(0, step, *op, *reply))?;
+    }
+    Ok(entries)
+}
+
+/// The histories of a kind where one object of it did anything.
+fn alone<O: Copy, R: Copy>(
+    alloc: Global,
+    object: u32,
+    history: History<O, R>,
+) -> Result<Histories<O, R>, Fail> {
+    let mut histories = Listed::new(alloc);
+    for _ in 0..object {
+        histories.push(Listed::new(alloc))?;
+    }
+    histories.push(history)?;
+    Ok(histories)
+}
+
+fn sems(alloc: Global) -> Result<Histories<SemOp, SemReply>, Fail> {
+    let done = [
+        (SemOp::Take(false), SemReply::Busy),
+        (SemOp::Take(false), SemReply::Got),
+        (SemOp::Take(true), SemReply::Wait),
+        (SemOp::TakeEnd(2), SemReply::Got),
+        (SemOp::TakeQuit(2), SemReply::Again),
+        (SemOp::Give, SemReply::Done),
+        (SemOp::Reset, SemReply::Done),
+        (SemOp::Count, SemReply::Number(3)),
+    ];
+    alone(alloc, OBJECTS.0, history(alloc, &done)?)
+}
+
+fn msgqs(alloc: Global, message: Msg) -> Result<Histories<MsgqOp, MsgqReply>, Fail> {
+    let done = [
+        (MsgqOp::Put(message, false), MsgqReply::Done),
+        (MsgqOp::Put(message, true), MsgqReply::Wait),
+        (MsgqOp::PutEnd(1), MsgqReply::NoMsg),
+        (MsgqOp::PutQuit(1), MsgqReply::Again),
+        (MsgqOp::Get(false), MsgqReply::Bytes(message)),
+        (MsgqOp::Get(true), MsgqReply::Wait),
+        (MsgqOp::GetEnd(5), MsgqReply::Bytes(message)),
+        (MsgqOp::GetQuit(5), MsgqReply::Again),
+        (MsgqOp::Peek, MsgqReply::Bytes(message)),
+        (MsgqOp::PeekAt(1), MsgqReply::NoMsg),
+        (MsgqOp::Purge, MsgqReply::Done),
+        (MsgqOp::Used, MsgqReply::Number(0)),
+        (MsgqOp::Free, MsgqReply::Number(1)),
+    ];
+    alone(alloc, OBJECTS.1, history(alloc, &done)?)
+}
+
+fn answered(step: u32, word: Word, answer: Answer) -> Answered {
+    Answered { step, word, answer }
+}
+
+fn log(alloc: Global, message: Msg) -> Result<Log, Fail> {
+    let answers = vec![in alloc;
+        answered(1, Word::Reschedule, Answer::Number(1)),
+        answered(7, Word::Get, Answer::Bytes(message)),
+    ]?;
     Ok(Log {
         state: PlayerState::Done,
         steps: Listed::new(alloc),
-        answers: Listed::from_vec(vec![in alloc; answered]?),
+        answers: Listed::from_vec(answers),
     })
 }
 
@@ -64,11 +151,14 @@ fn trace(alloc: Global) -> Result<Trace, Fail> {
     let armed = entry(0, 1, WorkOp::Reschedule(2, 1, 1_000_000), WorkReply::Armed);
     let announce = entry(2, 1, WorkOp::Announce(5), announced(alloc)?);
     let alarm = entry(1, 0, ClockOp::Alarm(2), ClockReply::At(7));
+    let message = Msg::new(&[1, 255]).ok_or("a message")?;
     Ok(Trace {
         ending: Ending::Ended,
         work: Listed::from_vec(vec![in alloc; armed, announce]?),
         clock: Listed::from_vec(vec![in alloc; alarm]?),
-        logs: Listed::from_vec(vec![in alloc; log(alloc)?]?),
+        sems: sems(alloc)?,
+        msgqs: msgqs(alloc, message)?,
+        logs: Listed::from_vec(vec![in alloc; log(alloc, message)?]?),
     })
 }
 

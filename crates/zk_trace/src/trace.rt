@@ -1,5 +1,5 @@
 use zk_base::{Entry, Listed};
-use zk_model_wait::{ClockOp, ClockReply};
+use zk_model_wait::{ClockOp, ClockReply, MsgqOp, MsgqReply, SemOp, SemReply};
 use zk_model_work::{WorkOp, WorkReply};
 use zk_worker::Log;
 
@@ -17,6 +17,9 @@ pub enum Ending {
 /// What a service did, oldest first.
 pub type History<O, R> = Listed<Entry<O, R>>;
 
+/// What the objects of a kind did, by object number; an object of another kind did nothing.
+pub type Histories<O, R> = Listed<History<O, R>>;
+
 /// What each player did, in player order.
 pub type Logs = Listed<Log>;
 
@@ -29,6 +32,10 @@ pub struct Trace {
     pub work: History<WorkOp, WorkReply>,
     /// The history of the clock.
     pub clock: History<ClockOp, ClockReply>,
+    /// The histories of the semaphores.
+    pub sems: Histories<SemOp, SemReply>,
+    /// The histories of the message queues.
+    pub msgqs: Histories<MsgqOp, MsgqReply>,
     /// The log of each player.
     pub logs: Logs,
 }

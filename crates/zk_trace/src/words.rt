@@ -1,7 +1,8 @@
-ghost use Rattle.std.specs.Prelude.{◌≡◌, ◌++◌, ◌==◌, decimal, OnOk, OnErr};
+ghost use Rattle.std.specs.Prelude.{◌≡◌, ◌++◌, ◌==◌, ◌<◌, decimal, OnOk, OnErr};
 ghost use Rattle.std.specs.Int.RustNames.{bit_and};
 ghost use Rattle.zk_trace.specs.Fronts.{StaysInFront};
-ghost use Rattle.zk_trace.specs.Words.{ending_word, errno_word, admission_word, flag_letter, flag_letters, flags_word, truth_word, call_word, state_word};
+ghost use Rattle.zk_trace.specs.Words.{ending_word, errno_word, admission_word, flag_letter, flag_letters, flags_word, truth_word, wait_word, call_word, state_word};
+ghost use Rattle.zk_words.specs.Hex.{digit_of, hex_text};
 
 use crate::Ending;
 use zk_base::{Errno, NoMemory, put, put_decimal};
@@ -80,6 +81,35 @@ pub fn truth_word(truth: bool) -> &'static [u8]
     ensures { result.now ≡ truth_word truth }
 {
     if truth { b"true" } else { b"false" }
+}
+
+/// Whether a call waits where it can't be served at once.
+pub fn wait_word(waits: bool) -> &'static [u8]
+    ensures { result.now ≡ wait_word waits }
+{
+    if waits { b"wait" } else { b"no" }
+}
+
+/// Appends bytes in lower-case hexadecimal digits, two for each.
+pub fn put_hex(out: &mut Vec<u8>, bytes: &[u8]) -> Result<(), NoMemory>
+    ensures text { OnOk result (out.new.items ≡ out.old.items ++ hex_text bytes.now) }
+    ensures kept { OnErr result (StaysInFront out.old.items out.new.items) }
+{
+    for byte in bytes {
+        put(out, &[digit_of(*byte / 16), digit_of(*byte % 16)])?;
+    }
+    Ok(())
+}
+
+fn digit_of(value: u8) -> u8
+    requires { value < 16 }
+    ensures { result ≡ digit_of value }
+{
+    if value < 10 {
+        value + b'0'
+    } else {
+        value - 10 + b'a'
+    }
 }
 
 /// A call, as it is spelled in a scenario.

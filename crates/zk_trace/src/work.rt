@@ -71,7 +71,7 @@ fn verb_word(verb: Verb) -> &'static [u8]
 }
 
 /// An operation as it is written: its verb, and what stands behind that.
-fn said_of(op: WorkOp) -> (Verb, PartList)
+fn said_of(op: WorkOp) -> (Verb, PartList<'static>)
     ensures { result ≡ said_of op }
 {
     match op {
@@ -107,7 +107,7 @@ fn said_of(op: WorkOp) -> (Verb, PartList)
 }
 
 /// The parts of what became of a submission.
-fn submitted_parts(submitted: Submitted) -> PartList
+fn submitted_parts(submitted: Submitted) -> PartList<'static>
     ensures { result ≡ submitted_parts submitted }
 {
     match submitted {
@@ -118,7 +118,7 @@ fn submitted_parts(submitted: Submitted) -> PartList
     }
 }
 
-fn admitted(answer: FixedWord, admission: u64, queue: u32) -> PartList
+fn admitted(answer: FixedWord, admission: u64, queue: u32) -> PartList<'static>
     ensures { result ≡ admitted answer admission queue }
 {
     PartList::three(
@@ -129,7 +129,7 @@ fn admitted(answer: FixedWord, admission: u64, queue: u32) -> PartList
 }
 
 /// The parts of a reply.
-fn reply_parts(reply: &WorkReply) -> PartList
+fn reply_parts(reply: &WorkReply) -> PartList<'static>
     ensures { result ≡ reply_parts reply.now }
 {
     match reply {
@@ -168,7 +168,7 @@ impl Spelled for WorkOp {
 
     fn put_words(&self, out: &mut Vec<u8>, scenario: &Scenario) -> Result<(), NoMemory> {
         let (verb, parts) = said_of(*self);
-        put_said(out, scenario, verb_word(verb), parts.items())
+        put_said(out, scenario, verb_word(verb), &parts)
     }
 }
 
@@ -176,7 +176,7 @@ impl Spelled for WorkReply {
     ghost words = { reply_words };
 
     fn put_words(&self, out: &mut Vec<u8>, scenario: &Scenario) -> Result<(), NoMemory> {
-        put_parts(out, scenario, b' ', reply_parts(self).items())?;
+        put_parts(out, scenario, b' ', &reply_parts(self))?;
         put_expiries(out, scenario, expiries_of(self))
     }
 }
@@ -196,11 +196,6 @@ fn put_expiry(out: &mut Vec<u8>, scenario: &Scenario, expiry: Expiry) -> Result<
     ensures text { OnOk result (out.new.items ≡ out.old.items ++ 32 ∷ expiry_word scenario.now.decls expiry) }
     ensures kept { OnErr result (StaysInFront out.old.items out.new.items) }
 {
-    put_part(out, scenario, b' ', Part::Item(expiry.item))?;
-    put_parts(
-        out,
-        scenario,
-        b':',
-        submitted_parts(expiry.submitted).items(),
-    )
+    put_part(out, scenario, b' ', &Part::Item(expiry.item))?;
+    put_parts(out, scenario, b':', &submitted_parts(expiry.submitted))
 }

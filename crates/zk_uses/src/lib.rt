@@ -8,10 +8,16 @@ mod clock_shared;
 #[cfg(test)]
 mod clock_tests;
 #[cfg(test)]
+mod draws;
+#[cfg(test)]
 mod machine_tests;
+#[cfg(test)]
+mod msgq_tests;
 mod often;
 #[cfg(test)]
 mod queue_tests;
+#[cfg(test)]
+mod sem_tests;
 mod taking;
 #[cfg(test)]
 mod tests;

@@ -2,6 +2,7 @@
 ghost use Rattle.std.specs.Prelude.{◌≡◌, ℕ, ◌<◌, vec_len};
 ghost use Rattle.zk_queue.specs.Open.{IsAbove};
 
+use crate::draws::draw;
 use bitflags::Flags;
 use std::alloc::Global;
 use std::process::Abort;
@@ -26,15 +27,6 @@ struct Beside {
     ghost all_items: { queues.items ≡ 5 },
     ghost all_queues: { queues.queues ≡ 3 },
     ghost rising: { IsAbove (vec_len admissions) queues },
-}
-
-/// The next of the pseudo-random numbers, below the bound.
-fn draw(seed: &mut u32, bound: u32) -> u32
-    requires { 0 < bound }
-    ensures { result < bound }
-{
-    *seed = seed.wrapping_mul(1_664_525).wrapping_add(1_013_904_223);
-    (*seed >> 16) % bound
 }
 
 /// The queue begins what it may, by the plain list.

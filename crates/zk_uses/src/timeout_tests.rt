@@ -1,6 +1,7 @@
 //! The items that are armed beside a plain list, over random histories.
 ghost use Rattle.std.specs.Prelude.{◌≡◌, ℕ, ◌<◌, length};
 
+use crate::draws::draw;
 use std::alloc::Global;
 use std::process::Abort;
 use std::test::Fail;
@@ -15,15 +16,6 @@ struct Beside {
     list: TimeoutList,
     plain: Vec<Timeout>,
     ghost all_items: { list.items ≡ 6 },
-}
-
-/// The next of the pseudo-random numbers, below the bound.
-fn draw(seed: &mut u32, bound: u32) -> u32
-    requires { 0 < bound }
-    ensures { result < bound }
-{
-    *seed = seed.wrapping_mul(1_664_525).wrapping_add(1_013_904_223);
-    (*seed >> 16) % bound
 }
 
 /// The deadline of the item, if it is armed.

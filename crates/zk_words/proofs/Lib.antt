@@ -1,5 +1,8 @@
+pub mod Behind
 pub mod FirstPiece
 pub mod Formed
+pub mod HexText
 pub mod Numerals
 pub mod Placed
 pub mod Spellings
+pub mod Waits

@@ -1,3 +1,4 @@
+pub mod Hex
 pub mod Kinds
 pub mod Lines
 pub mod Numbers
@@ -7,4 +8,5 @@ pub mod Rows
 pub mod Spelled
 pub mod Table
 pub mod Text
+pub mod Timeouts
 pub mod Unbuilt

@@ -8,7 +8,7 @@ use Rattle.zk_words.specs.declared.word.Head.{Head}
 use Rattle.zk_words.specs.declared.word.Head.TheVariants.{Declare, Script, End, Call}
 use Rattle.zk_words.specs.declared.slot.Choice.TheVariants.{Mode, State, Drain}
 use Rattle.zk_words.specs.declared.slot.Slot.{Slot}
-use Rattle.zk_words.specs.declared.slot.Slot.TheVariants.{New, Owner, Object, Number, Priority, Either}
+use Rattle.zk_words.specs.declared.slot.Slot.TheVariants.{New, Owner, Object, Number, Priority, Either, Hex, Wait, Raw}
 use Rattle.zk_words.specs.declared.slot.Rest.TheVariants.{Nothing, Maybe}
 use Rattle.zk_words.specs.Rows.{Form}
 
@@ -20,6 +20,14 @@ item = Object need.Item
 abbrev pub queue : Slot
 queue = Object need.Queue
 
+-- a semaphore
+abbrev pub sem : Slot
+sem = Object need.Sem
+
+-- a message queue
+abbrev pub msgq : Slot
+msgq = Object need.Msgq
+
 -- a delay in ticks
 abbrev pub delay : Slot
 delay = Number 0 1000000
@@ -27,6 +35,26 @@ delay = Number 0 1000000
 -- the ticks by which the clock goes on at once
 abbrev pub ticks : Slot
 ticks = Number 1 1000000
+
+-- a place in a message queue, the oldest message's first
+abbrev pub index : Slot
+index = Number 0 255
+
+-- the count that a semaphore begins with
+abbrev pub initial : Slot
+initial = Number 0 1000000
+
+-- the most that a semaphore counts to
+abbrev pub limit : Slot
+limit = Number 1 1000000
+
+-- how many bytes each message of a message queue has
+abbrev pub size : Slot
+size = Number 1 64
+
+-- how many messages a message queue has room for
+abbrev pub capacity : Slot
+capacity = Number 1 256
 
 -- a line of just these slots
 abbrev pub exactly : List ℕ → List Slot → Form
@@ -41,6 +69,8 @@ abbrev pub kind_row : Kind → Form
 kind_row kind.Thread = exactly (codes "thread") (New ∷ Priority ∷ Either Mode ∷ [])
 kind_row kind.Queue = exactly (codes "queue") (New ∷ Priority ∷ Either State ∷ [])
 kind_row kind.Item = exactly (codes "item") (New ∷ [])
+kind_row kind.Sem = perhaps (codes "sem") (New ∷ initial ∷ limit ∷ []) Raw
+kind_row kind.Msgq = perhaps (codes "msgq") (New ∷ size ∷ capacity ∷ []) Raw
 
 -- the calls
 abbrev pub call_row : Word → Form
@@ -55,6 +85,17 @@ call_row word.Start = exactly (codes "start") (queue ∷ [])
 call_row word.Drain = exactly (codes "drain") (queue ∷ Either Drain ∷ [])
 call_row word.Unplug = exactly (codes "unplug") (queue ∷ [])
 call_row word.Tick = exactly (codes "tick") (ticks ∷ [])
+call_row word.Take = exactly (codes "take") (sem ∷ Wait ∷ [])
+call_row word.Give = exactly (codes "give") (sem ∷ [])
+call_row word.Reset = exactly (codes "reset") (sem ∷ [])
+call_row word.Count = exactly (codes "count") (sem ∷ [])
+call_row word.Put = exactly (codes "put") (msgq ∷ Hex ∷ Wait ∷ [])
+call_row word.Get = exactly (codes "get") (msgq ∷ Wait ∷ [])
+call_row word.Peek = exactly (codes "peek") (msgq ∷ [])
+call_row word.PeekAt = exactly (codes "peekat") (msgq ∷ index ∷ [])
+call_row word.Purge = exactly (codes "purge") (msgq ∷ [])
+call_row word.Used = exactly (codes "used") (msgq ∷ [])
+call_row word.Free = exactly (codes "free") (msgq ∷ [])
 
 -- the table: the form of each line behind the first
 abbrev pub row_of : Head → Form
@@ -66,7 +107,10 @@ row_of (Call word) = call_row word
 -- the heads of the lines that are built
 abbrev pub heads : List Head
 heads =
-    Declare kind.Thread ∷ Declare kind.Queue ∷ Declare kind.Item ∷ Script ∷ End
+    Declare kind.Thread ∷ Declare kind.Queue ∷ Declare kind.Item
+    ∷ Declare kind.Sem ∷ Declare kind.Msgq ∷ Script ∷ End
     ∷ Call word.Submit ∷ Call word.Cancel ∷ Call word.CancelSync ∷ Call word.Flush
     ∷ Call word.Schedule ∷ Call word.Reschedule ∷ Call word.Remaining
-    ∷ Call word.Start ∷ Call word.Drain ∷ Call word.Unplug ∷ Call word.Tick ∷ []
+    ∷ Call word.Start ∷ Call word.Drain ∷ Call word.Unplug ∷ Call word.Tick
+    ∷ Call word.Take ∷ Call word.Give ∷ Call word.Reset ∷ Call word.Count
+    ∷ Call word.Put ∷ Call word.Get ∷ Call word.Peek ∷ Call word.PeekAt ∷ Call word.Purge ∷ Call word.Used ∷ Call word.Free ∷ []

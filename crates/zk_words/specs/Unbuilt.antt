@@ -5,10 +5,8 @@ use Rattle.std.specs.Str.{bytes_eq}
 -- the first words of the grammar that have no row yet: declarations, then calls, service by service
 abbrev pub unbuilt : List (List ℕ)
 unbuilt =
-    codes "sem" ∷ codes "msgq" ∷ codes "signal" ∷ codes "listener" ∷ codes "sub" ∷ codes "chan" ∷ codes "allow"
+    codes "signal" ∷ codes "listener" ∷ codes "sub" ∷ codes "chan" ∷ codes "allow"
     ∷ codes "busy"
-    ∷ codes "take" ∷ codes "give" ∷ codes "reset" ∷ codes "count"
-    ∷ codes "put" ∷ codes "get" ∷ codes "peek" ∷ codes "peekat" ∷ codes "purge" ∷ codes "used" ∷ codes "free"
     ∷ codes "raise" ∷ codes "clear" ∷ codes "check" ∷ codes "poll"
     ∷ codes "claim" ∷ codes "finish" ∷ codes "publish" ∷ codes "notify" ∷ codes "read" ∷ codes "mask" ∷ codes "enable"
     ∷ codes "subwait"

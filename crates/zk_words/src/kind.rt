@@ -7,6 +7,8 @@ pub enum Kind {
     Thread,
     Queue,
     Item,
+    Sem,
+    Msgq,
 }
 
 /// What a call asks of an object.
@@ -14,6 +16,8 @@ pub enum Kind {
 pub enum Need {
     Queue,
     Item,
+    Sem,
+    Msgq,
 }
 
 /// Whether two kinds are one.
@@ -24,6 +28,8 @@ pub fn same_kind(kind: Kind, other: Kind) -> bool
         (Kind::Thread, Kind::Thread) => true,
         (Kind::Queue, Kind::Queue) => true,
         (Kind::Item, Kind::Item) => true,
+        (Kind::Sem, Kind::Sem) => true,
+        (Kind::Msgq, Kind::Msgq) => true,
         _ => false,
     }
 }
@@ -35,6 +41,8 @@ pub fn meets(need: Need, kind: Kind) -> bool
     match need {
         Need::Queue => same_kind(kind, Kind::Queue),
         Need::Item => same_kind(kind, Kind::Item),
+        Need::Sem => same_kind(kind, Kind::Sem),
+        Need::Msgq => same_kind(kind, Kind::Msgq),
     }
 }
 
@@ -46,6 +54,8 @@ pub fn plays_script(kind: Kind) -> bool
         Kind::Thread => true,
         Kind::Queue => false,
         Kind::Item => true,
+        Kind::Sem => false,
+        Kind::Msgq => false,
     }
 }
 
@@ -57,5 +67,7 @@ pub fn makes_player(kind: Kind) -> bool
         Kind::Thread => true,
         Kind::Queue => true,
         Kind::Item => false,
+        Kind::Sem => false,
+        Kind::Msgq => false,
     }
 }

@@ -1,6 +1,7 @@
 //! The words of a scenario's line: one table says what stands behind each first word, and a line is read by it.
 #![tactic(auto)]
 
+mod hex;
 mod kind;
 mod line;
 mod numbers;
@@ -13,6 +14,7 @@ mod timeout;
 mod unbuilt;
 mod word;
 
+pub use hex::{is_hex, msg_of, put_hex};
 pub use kind::{Kind, Need, makes_player, meets, plays_script, same_kind};
 pub use line::{Line, line_of};
 pub use numbers::{number_in, number_of, priority_of};
@@ -21,5 +23,5 @@ pub use pieces::{Lines, Pieces, Words};
 pub use slot::{Choice, Rest, Slot};
 pub use spelled::{choice_text, same_choice};
 pub use table::{Row, row_of};
-pub use timeout::Timeout;
+pub use timeout::{Timeout, is_wait, wait_of};
 pub use word::{Head, Word};

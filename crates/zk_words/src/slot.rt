@@ -26,6 +26,12 @@ pub enum Slot {
     Priority,
     /// One of two words.
     Either(Choice),
+    /// A message in lower-case hexadecimal digits, two for each byte.
+    Hex,
+    /// How long a call waits: `no`, `forever`, or a number of ticks.
+    Wait,
+    /// The word `raw`, of an object that isn't initialised. The program can't play it yet.
+    Raw,
 }
 
 /// What may stand behind the slots.

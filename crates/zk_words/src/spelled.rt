@@ -1,10 +1,12 @@
 ghost use Rattle.std.specs.Prelude.{◌≡◌, false, []};
 ghost use Rattle.zk_words.specs.Spelled.{choice_text, same_choice, is_spelled_in, is_later_in, right, spelling_of};
 
+use crate::hex::is_hex;
 use crate::numbers::{is_number, priority_of};
 use crate::pieces::Words;
 use crate::slot::{Choice, Rest, Slot};
 use crate::table::Row;
+use crate::timeout::is_wait;
 use zk_base::is_spelled;
 
 /// One of the two words of a choice; the first is true.
@@ -109,6 +111,9 @@ fn is_spelled_in(slot: Slot, word: &[u8]) -> bool
         Slot::Either(choice) => {
             word == choice_text(choice, true) || word == choice_text(choice, false)
         }
+        Slot::Hex => is_hex(word),
+        Slot::Wait => is_wait(word),
+        Slot::Raw => word == b"raw".as_slice(),
     }
 }
 
@@ -117,6 +122,7 @@ fn is_later_in(slot: Slot, word: &[u8]) -> bool
 {
     match slot {
         Slot::Either(Choice::Mode) => word == choice_text(Choice::Mode, true),
+        Slot::Raw => true,
         _ => false,
     }
 }

@@ -28,9 +28,23 @@ const ITEM: Slot = Slot::Object(Need::Item);
 
 const QUEUE: Slot = Slot::Object(Need::Queue);
 
+const SEM: Slot = Slot::Object(Need::Sem);
+
+const MSGQ: Slot = Slot::Object(Need::Msgq);
+
 const DELAY: Slot = Slot::Number(0, 1_000_000);
 
 const TICKS: Slot = Slot::Number(1, 1_000_000);
+
+const INDEX: Slot = Slot::Number(0, 255);
+
+const INITIAL: Slot = Slot::Number(0, 1_000_000);
+
+const LIMIT: Slot = Slot::Number(1, 1_000_000);
+
+const SIZE: Slot = Slot::Number(1, 64);
+
+const CAPACITY: Slot = Slot::Number(1, 256);
 
 /// The form of a line.
 pub fn row_of(head: Head) -> Row
@@ -77,6 +91,8 @@ fn kind_row(kind: Kind) -> Row
             &[Slot::New, Slot::Priority, Slot::Either(Choice::State)],
         ),
         Kind::Item => exactly(b"item", &[Slot::New]),
+        Kind::Sem => perhaps(b"sem", &[Slot::New, INITIAL, LIMIT], Slot::Raw),
+        Kind::Msgq => perhaps(b"msgq", &[Slot::New, SIZE, CAPACITY], Slot::Raw),
     }
 }
 
@@ -95,6 +111,17 @@ fn call_row(word: Word) -> Row
         Word::Drain => exactly(b"drain", &[QUEUE, Slot::Either(Choice::Drain)]),
         Word::Unplug => exactly(b"unplug", &[QUEUE]),
         Word::Tick => exactly(b"tick", &[TICKS]),
+        Word::Take => exactly(b"take", &[SEM, Slot::Wait]),
+        Word::Give => exactly(b"give", &[SEM]),
+        Word::Reset => exactly(b"reset", &[SEM]),
+        Word::Count => exactly(b"count", &[SEM]),
+        Word::Put => exactly(b"put", &[MSGQ, Slot::Hex, Slot::Wait]),
+        Word::Get => exactly(b"get", &[MSGQ, Slot::Wait]),
+        Word::Peek => exactly(b"peek", &[MSGQ]),
+        Word::PeekAt => exactly(b"peekat", &[MSGQ, INDEX]),
+        Word::Purge => exactly(b"purge", &[MSGQ]),
+        Word::Used => exactly(b"used", &[MSGQ]),
+        Word::Free => exactly(b"free", &[MSGQ]),
     }
 }
 
@@ -119,6 +146,8 @@ pub fn head_of(first: &[u8]) -> Option<Head>
         Head::Declare(Kind::Thread),
         Head::Declare(Kind::Queue),
         Head::Declare(Kind::Item),
+        Head::Declare(Kind::Sem),
+        Head::Declare(Kind::Msgq),
         Head::Script,
         Head::End,
         Head::Call(Word::Submit),
@@ -132,6 +161,17 @@ pub fn head_of(first: &[u8]) -> Option<Head>
         Head::Call(Word::Drain),
         Head::Call(Word::Unplug),
         Head::Call(Word::Tick),
+        Head::Call(Word::Take),
+        Head::Call(Word::Give),
+        Head::Call(Word::Reset),
+        Head::Call(Word::Count),
+        Head::Call(Word::Put),
+        Head::Call(Word::Get),
+        Head::Call(Word::Peek),
+        Head::Call(Word::PeekAt),
+        Head::Call(Word::Purge),
+        Head::Call(Word::Used),
+        Head::Call(Word::Free),
     );
     None
 }

@@ -1,3 +1,8 @@
+ghost use Rattle.std.specs.Prelude.{◌≡◌};
+ghost use Rattle.zk_words.specs.Timeouts.{is_wait, wait_of};
+
+use crate::numbers::{is_number, number_in};
+
 /// How long a call waits.
 #[derive(Clone, Copy, Debug)]
 pub enum Timeout {
@@ -7,4 +12,24 @@ pub enum Timeout {
     Forever,
     /// So many ticks at most, 1 to 1,000,000. Zephyr's `K_TICKS`.
     Ticks(u32),
+}
+
+/// Whether a word says how long a call waits, be its number of ticks in range or not.
+pub fn is_wait(word: &[u8]) -> bool
+    ensures { result ≡ is_wait word.now }
+{
+    word == b"no".as_slice() || word == b"forever".as_slice() || is_number(word)
+}
+
+/// How long a word says that a call waits.
+pub fn wait_of(word: &[u8]) -> Option<Timeout>
+    ensures { result ≡ wait_of word.now }
+{
+    if word == b"no".as_slice() {
+        Some(Timeout::No)
+    } else if word == b"forever".as_slice() {
+        Some(Timeout::Forever)
+    } else {
+        number_in(1, 1_000_000, word).map(Timeout::Ticks)
+    }
 }

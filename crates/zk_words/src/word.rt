@@ -14,6 +14,17 @@ pub enum Word {
     Drain,
     Unplug,
     Tick,
+    Take,
+    Give,
+    Reset,
+    Count,
+    Put,
+    Get,
+    Peek,
+    PeekAt,
+    Purge,
+    Used,
+    Free,
 }
 
 /// What a line's first word says that the line is.

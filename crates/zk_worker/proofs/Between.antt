@@ -10,6 +10,10 @@ use Rattle.zk_base.specs.declared.seen.Seen.{Seen}
 use Rattle.zk_base.specs.History.{IsAbove}
 use Rattle.zk_base.proofs.Lists.{All-at}
 use Rattle.zk_line.specs.declared.types.Decl.{Decl}
+use Rattle.zk_model_wait.specs.declared.msgq.MsgqOp.{MsgqOp}
+use Rattle.zk_model_wait.specs.declared.msgq.MsgqReply.{MsgqReply}
+use Rattle.zk_model_wait.specs.declared.sem.SemOp.{SemOp}
+use Rattle.zk_model_wait.specs.declared.sem.SemReply.{SemReply}
 use Rattle.zk_worker.specs.declared.steps.Step.{Step}
 use Rattle.zk_worker.specs.declared.steps.Step.TheVariants as steps
 use Rattle.zk_worker.specs.declared.steps.StepReply.{StepReply}
@@ -22,7 +26,7 @@ use Rattle.zk_worker.specs.Families.{entry_at, EachGrew}
 use Rattle.zk_worker.specs.Looks.{Longer, LooksGrew, LookedBelow}
 use Rattle.zk_worker.specs.Shown.{Shown, nothing_shown, shown_at, ShowsLog, IsLater, AreShort, AllGrew, Between}
 use Rattle.zk_worker.proofs.Lists.{known-longer, known-back, known-there}
-use Rattle.zk_worker.proofs.Families.{of-object}
+use Rattle.zk_worker.proofs.Families.{of-object, none-there}
 
 -- the history of one object
 module _ {O R : Type 0} (number : ℕ) where
@@ -137,6 +141,8 @@ between-none true number shown = refl
 between-none false number shown = record {
   work = grew-none number shown.work;
   clock = grew-none number shown.clock;
+  sems = grew-none_each number shown.sems;
+  msgqs = grew-none_each number shown.msgqs;
   looks = looks-none shown.looks;
   looked = refl;
 }
@@ -147,6 +153,8 @@ between-both true number old mid new first then_ = then_ ∙ first
 between-both false number old mid new first then_ = record {
   work = grew-both number old.work mid.work new.work first.work then_.work;
   clock = grew-both number old.clock mid.clock new.clock first.clock then_.clock;
+  sems = grew-both_each number old.sems mid.sems new.sems first.sems then_.sems;
+  msgqs = grew-both_each number old.msgqs mid.msgqs new.msgqs first.msgqs then_.msgqs;
   looks = looks-both old.looks mid.looks new.looks first.looks then_.looks;
   looked = then_.looked ∙ first.looked;
 }
@@ -160,6 +168,10 @@ short-still false number old new short others is = absurd (cc)
 shown-longer : (number : ℕ) (old new : Shown) (spot : Spot) (b : ℕ × ℕ) → AllGrew number old new → shown_at old spot ≡ Some b → shown_at new spot ≡ Some b
 shown-longer number old new (spots.Work place) b grew is = entry-longer number step_of old.work new.work place b grew.work is
 shown-longer number old new (spots.Clock place) b grew is = entry-longer number step_of old.clock new.clock place b grew.clock is
+shown-longer number old new (spots.Sem object place) b grew is =
+    entry-longer_each number step_of old.sems new.sems object place b grew.sems is
+shown-longer number old new (spots.Msgq object place) b grew is =
+    entry-longer_each number step_of old.msgqs new.msgqs object place b grew.msgqs is
 
 -- and so does the step that it stands for
 pub stands-longer : (number : ℕ) (old new : Shown) → AllGrew number old new → (spot : Spot) (made : Step × StepReply) →
@@ -168,11 +180,21 @@ stands-longer number old new grew (spots.Work place) made is =
     entry-longer number (λ e. (steps.Work e.op, step_replies.Work e.reply place)) old.work new.work place made grew.work is
 stands-longer number old new grew (spots.Clock place) made is =
     entry-longer number (λ e. (steps.Clock e.op, step_replies.Clock e.reply place)) old.clock new.clock place made grew.clock is
+stands-longer number old new grew (spots.Sem object place) made is =
+    entry-longer_each number
+    (λ e. (steps.Sem object e.op, step_replies.Sem object e.reply place)) old.sems new.sems object place made grew.sems is
+stands-longer number old new grew (spots.Msgq object place) made is =
+    entry-longer_each number
+    (λ e. (steps.Msgq object e.op, step_replies.Msgq object e.reply place)) old.msgqs new.msgqs object place made grew.msgqs is
 
 -- and of this player nothing else is
 shown-back : (number step : ℕ) (old new : Shown) (spot : Spot) → AllGrew number old new → shown_at new spot ≡ Some (number, step) → shown_at old spot ≡ Some (number, step)
 shown-back number step old new (spots.Work place) grew is = entry-back number step old.work new.work place grew.work is
 shown-back number step old new (spots.Clock place) grew is = entry-back number step old.clock new.clock place grew.clock is
+shown-back number step old new (spots.Sem object place) grew is =
+    entry-back_each number step old.sems new.sems object place grew.sems is
+shown-back number step old new (spots.Msgq object place) grew is =
+    entry-back_each number step old.msgqs new.msgqs object place grew.msgqs is
 
 -- a log is shown as before
 pub log-still : (alone : Bool) (number : ℕ) (log : List Spot) (old new : Shown) → ShowsLog old number log → Between alone number old new → ShowsLog new number log
@@ -208,6 +230,8 @@ log-none decls number [] none = record {
     nothing_there : (step : ℕ) (spot : Spot) → shown_at (nothing_shown decls) spot ≡ Some (number, step) → ⊥
     nothing_there step (spots.Work place) is = cc
     nothing_there step (spots.Clock place) is = cc
+    nothing_there step (spots.Sem object place) is = none-there step_of decls object place (number, step) is
+    nothing_there step (spots.Msgq object place) is = none-there step_of decls object place (number, step) is
 log-none decls number (spot ∷ log) none = absurd (cc)
 
 -- a step above all that are shown of its player is above those of its entries at each service
@@ -216,3 +240,13 @@ above-work shown number next later = above-all number shown.work next (λ place 
 
 pub above-clock : (shown : Shown) (number next : ℕ) → IsLater shown number next → IsAbove shown.clock number next
 above-clock shown number next later = above-all number shown.clock next (λ place step is. later.entries step (spots.Clock place) is)
+
+pub above-sems : (shown : Shown) (number next object : ℕ) (h : List (Entry SemOp SemReply)) →
+    slice_get shown.sems object ≡ Some h → IsLater shown number next → IsAbove h number next
+above-sems shown number next object h there later =
+    above-each number shown.sems object next h there (λ place step is. later.entries step (spots.Sem object place) is)
+
+pub above-msgqs : (shown : Shown) (number next object : ℕ) (h : List (Entry MsgqOp MsgqReply)) →
+    slice_get shown.msgqs object ≡ Some h → IsLater shown number next → IsAbove h number next
+above-msgqs shown number next object h there later =
+    above-each number shown.msgqs object next h there (λ place step is. later.entries step (spots.Msgq object place) is)

@@ -1,5 +1,5 @@
--- The attempts of a player name items and queues that are declared.
-use Rattle.std.proofs.Common.{◌≡◌, ℕ, ◌+◌, Bool, true, false, Option, Some, None, List, [], ◌∷◌, length, All, refl, ap, subst, arith, nat_lt, ◌&&◌}
+-- The attempts of a player name items, queues, semaphores and message queues that are declared.
+use Rattle.std.proofs.Common.{◌≡◌, ℕ, zero, suc, ◌+◌, Bool, true, false, Option, Some, None, is_some, List, [], ◌∷◌, length, All, refl, ap, subst, arith, nat_lt, ◌&&◌}
 use Rattle.std.specs.Option.{option_map, option_map_or}
 use Rattle.std.specs.List.{slice_get, list_all}
 use Rattle.std.proofs.lemmas.Bool.{and_parts, and_from, lt-ltb}
@@ -7,35 +7,46 @@ use Rattle.std.proofs.lemmas.List.Elements.{All-nil, All-cons, All-head, All-tai
 use Rattle.std.proofs.lemmas.Option.{option_and_then_some}
 use Rattle.zk_base.proofs.Lists.{slice_get-one, cond_nil-at, list_all-at}
 use Rattle.zk_line.specs.declared.types.Decl.{Decl}
-use Rattle.zk_line.specs.declared.types.Decl.TheVariants.{Thread, Queue, Item}
+use Rattle.zk_line.specs.declared.types.Decl.TheVariants as decl_kinds
 use Rattle.zk_line.specs.declared.types.Ref.TheVariants.{Known}
 use Rattle.zk_line.specs.declared.types.Call.{Call}
-use Rattle.zk_line.specs.declared.types.Call.TheVariants.{Submit, Cancel, CancelSync, Flush, Schedule, Reschedule, Remaining, Start, Drain, Unplug, Tick}
-use Rattle.zk_line.specs.Objects.{places, is_queue, is_item, number_of, is_at}
+use Rattle.zk_line.specs.declared.types.Call.TheVariants as calls
+use Rattle.zk_line.specs.Objects.{places, is_queue, is_item, is_sem, is_msgq, number_of, is_at, size_at}
 use Rattle.zk_scenario.specs.Players.{players, calls_of}
 use Rattle.zk_scenario.specs.Parts.{Parts}
+use Rattle.zk_model_wait.specs.declared.clock.ClockOp.TheVariants as clock_ops
+use Rattle.zk_model_work.specs.declared.ops.WorkOp.TheVariants as ops
 use Rattle.zk_words.specs.Numbers.{is_between}
+use Rattle.zk_words.specs.declared.timeout.Timeout.{Timeout}
+use Rattle.zk_words.specs.declared.timeout.Timeout.TheVariants.{No, Forever, Ticks}
+use Rattle.zk_words.specs.Timeouts.{wait_fits}
+use Rattle.zk_line.specs.Checks.{is_size}
 use Rattle.zk_line.specs.Fits.{call_fits}
 use Rattle.zk_scenario.specs.Valid.{IsValid}
 use Rattle.zk_line.proofs.Tables.{length-places}
 use Rattle.zk_scenario.proofs.Valid.{number_of-item, number_of-queue, call_fits-calls_of}
 use Rattle.zk_worker.specs.declared.steps.TheConstants.{MOST_STEPS}
 use Rattle.zk_worker.specs.declared.steps.Step.{Step}
+use Rattle.zk_worker.specs.declared.steps.Step.TheVariants as steps
 use Rattle.zk_worker.specs.declared.steps.StepReply.{StepReply}
 use Rattle.zk_worker.specs.declared.frames.Frame.{Frame}
 use Rattle.zk_worker.specs.declared.frames.Closing.{Closing}
 use Rattle.zk_worker.specs.declared.frames.Closing.TheVariants as closings
 use Rattle.zk_worker.specs.declared.frames.Plan.{Plan}
-use Rattle.zk_worker.specs.declared.frames.Plan.TheVariants.{One, Pair, Twice}
+use Rattle.zk_worker.specs.declared.frames.Plan.TheVariants.{One, Pair, Twice, Wait}
+use Rattle.zk_worker.specs.declared.frames.Waiting.{Waiting}
+use Rattle.zk_worker.specs.declared.frames.Waiting.TheVariants.{Take, Put, Get}
 use Rattle.zk_worker.specs.declared.frames.Stage.{Stage}
 use Rattle.zk_worker.specs.declared.frames.Stage.TheVariants as stages
 use Rattle.zk_worker.specs.declared.frames.Role.{Role}
 use Rattle.zk_worker.specs.declared.frames.Role.TheVariants as roles
 use Rattle.zk_worker.specs.declared.frames.Progress.{Progress}
 use Rattle.zk_worker.specs.declared.frames.Progress.TheVariants.{Goes, Answers, Enters}
-use Rattle.zk_worker.specs.Calls.{plan_of, closing_step, plan_attempts}
+use Rattle.zk_worker.specs.Calls.{plan_of, closing_step, open_step, end_step, quit_step, first_step, wait_attempts, plan_attempts}
 use Rattle.zk_worker.specs.Places.{At}
 use Rattle.zk_worker.specs.Protocol.{worker_attempts, call_attempts, role_attempts, frames_attempts, IsAhead, after, frames_after, frames_progress, entered, first_frame, role_at, starting, start_at}
+use Rattle.zk_worker.specs.Families.{is_declared}
+use Rattle.zk_worker.specs.Machines.{sem_start, msgq_start}
 use Rattle.zk_worker.specs.Ranges.{step_fits, role_fits, FramesFit}
 use Rattle.zk_worker.proofs.Limits.{settled-all, entered-all}
 
@@ -57,11 +68,18 @@ both-fit decls item queue fits =
     and_from (nat_lt (number_of decls item) (length (places is_item decls))) (nat_lt (number_of decls queue) (length (places is_queue decls)))
     (item-fits decls item both.0) (queue-fits decls queue both.1)
 
+-- what a call waits at is declared
+waiting_fits : List Decl → Waiting → Bool
+waiting_fits decls (Take object) = is_declared sem_start decls object
+waiting_fits decls (Put object message) = is_declared msgq_start decls object
+waiting_fits decls (Get object) = is_declared msgq_start decls object
+
 -- the steps that a fitting call makes fit
 PlanFits : List Decl → Plan → Type 0
 PlanFits decls (One step) = step_fits decls step ≡ true
 PlanFits decls (Pair opening closing) = step_fits decls opening ≡ true
 PlanFits decls (Twice first second) = (step_fits decls first ≡ true) × (step_fits decls second ≡ true)
+PlanFits decls (Wait waiting timeout) = waiting_fits decls waiting ≡ true
 
 -- a call of one object, an item or a queue
 item-alone : (decls : List Decl) (item : ℕ) → (is_at is_item decls item && true) ≡ true → nat_lt (number_of decls item) (length (places is_item decls)) ≡ true
@@ -78,43 +96,133 @@ delayed-fit decls item queue more fits =
     let second = and_parts (is_at is_queue decls queue) more first.1 in
     both-fit decls item queue (and_from (is_at is_item decls item) (is_at is_queue decls queue) first.0 second.0)
 
+-- what a call names as a semaphore or as a message queue is declared as one
+declared-at : {S : Type 0} (start : Decl → Option S) (test : Decl → Bool) (decls : List Decl) (object : ℕ) →
+    ((decl : Decl) → test decl ≡ true → is_some (start decl) ≡ true) →
+    is_at test decls object ≡ true → is_declared start decls object ≡ true
+declared-at start test decls object each is = by_decl (slice_get decls object) is
+  where
+    by_decl : (decl : Option Decl) → option_map_or test decl false ≡ true →
+        option_map_or (λ decl. is_some (start decl)) decl false ≡ true
+    by_decl None is = absurd (cc)
+    by_decl (Some decl) is = each decl is
+
+sem-declared : (decls : List Decl) (sem : ℕ) (more : Bool) → (is_at is_sem decls sem && more) ≡ true →
+    is_declared sem_start decls sem ≡ true
+sem-declared decls sem more fits = declared-at sem_start is_sem decls sem starts (and_parts (is_at is_sem decls sem) more fits).0
+  where
+    starts : (decl : Decl) → is_sem decl ≡ true → is_some (sem_start decl) ≡ true
+    starts (decl_kinds.Sem name initial limit) is = refl
+    starts decl is = absurd (cc)
+
+msgq-declared : (decls : List Decl) (queue : ℕ) (more : Bool) → (is_at is_msgq decls queue && more) ≡ true →
+    is_declared msgq_start decls queue ≡ true
+msgq-declared decls queue more fits =
+    declared-at msgq_start is_msgq decls queue starts (and_parts (is_at is_msgq decls queue) more fits).0
+  where
+    starts : (decl : Decl) → is_msgq decl ≡ true → is_some (msgq_start decl) ≡ true
+    starts (decl_kinds.Msgq name size capacity) is = refl
+    starts decl is = absurd (cc)
+
 plan_of-fits : (decls : List Decl) (call : Call) → call_fits decls call ≡ true → PlanFits decls (plan_of decls call)
-unfolding PlanFits
-plan_of-fits decls (Submit (Known item) None) fits =
+unfolding PlanFits waiting_fits
+plan_of-fits decls (calls.Submit (Known item) None) fits =
     and_from (nat_lt (number_of decls item) (length (places is_item decls))) true (item-alone decls item fits) refl
-plan_of-fits decls (Submit (Known item) (Some (Known queue))) fits = both-fit decls item queue fits
-plan_of-fits decls (Cancel (Known item)) fits = item-alone decls item fits
-plan_of-fits decls (CancelSync (Known item)) fits = item-alone decls item fits
-plan_of-fits decls (Flush (Known item)) fits = item-alone decls item fits
-plan_of-fits decls (Schedule (Known item) (Known queue) delay) fits = delayed-fit decls item queue (is_between 0 1000000 delay && true) fits
-plan_of-fits decls (Reschedule (Known item) (Known queue) delay) fits = delayed-fit decls item queue (is_between 0 1000000 delay && true) fits
-plan_of-fits decls (Remaining (Known item)) fits = item-alone decls item fits
-plan_of-fits decls (Start (Known queue)) fits = queue-first decls queue true fits
-plan_of-fits decls (Drain (Known queue) plug) fits = queue-first decls queue true fits
-plan_of-fits decls (Unplug (Known queue)) fits = queue-first decls queue true fits
-plan_of-fits decls (Tick ticks) fits = (refl, refl)
+plan_of-fits decls (calls.Submit (Known item) (Some (Known queue))) fits = both-fit decls item queue fits
+plan_of-fits decls (calls.Cancel (Known item)) fits = item-alone decls item fits
+plan_of-fits decls (calls.CancelSync (Known item)) fits = item-alone decls item fits
+plan_of-fits decls (calls.Flush (Known item)) fits = item-alone decls item fits
+plan_of-fits decls (calls.Schedule (Known item) (Known queue) delay) fits =
+    delayed-fit decls item queue (is_between 0 1000000 delay && true) fits
+plan_of-fits decls (calls.Reschedule (Known item) (Known queue) delay) fits =
+    delayed-fit decls item queue (is_between 0 1000000 delay && true) fits
+plan_of-fits decls (calls.Remaining (Known item)) fits = item-alone decls item fits
+plan_of-fits decls (calls.Start (Known queue)) fits = queue-first decls queue true fits
+plan_of-fits decls (calls.Drain (Known queue) plug) fits = queue-first decls queue true fits
+plan_of-fits decls (calls.Unplug (Known queue)) fits = queue-first decls queue true fits
+plan_of-fits decls (calls.Tick ticks) fits = (refl, refl)
+plan_of-fits decls (calls.Take (Known sem) timeout) fits = sem-declared decls sem (wait_fits timeout && true) fits
+plan_of-fits decls (calls.Give (Known sem)) fits = sem-declared decls sem true fits
+plan_of-fits decls (calls.Reset (Known sem)) fits = sem-declared decls sem true fits
+plan_of-fits decls (calls.Count (Known sem)) fits = sem-declared decls sem true fits
+plan_of-fits decls (calls.Put (Known queue) message timeout) fits =
+    msgq-declared decls queue (is_size (size_at decls queue) (length message) && (wait_fits timeout && true)) fits
+plan_of-fits decls (calls.Get (Known queue) timeout) fits = msgq-declared decls queue (wait_fits timeout && true) fits
+plan_of-fits decls (calls.Peek (Known queue)) fits = msgq-declared decls queue true fits
+plan_of-fits decls (calls.PeekAt (Known queue) index) fits = msgq-declared decls queue (is_between 0 255 index && true) fits
+plan_of-fits decls (calls.Purge (Known queue)) fits = msgq-declared decls queue true fits
+plan_of-fits decls (calls.Used (Known queue)) fits = msgq-declared decls queue true fits
+plan_of-fits decls (calls.Free (Known queue)) fits = msgq-declared decls queue true fits
+
+-- the steps of a wait are at its object
+open-fits : (decls : List Decl) (waiting : Waiting) (waits : Bool) → waiting_fits decls waiting ≡ true →
+    step_fits decls (open_step waiting waits) ≡ true
+unfolding waiting_fits
+open-fits decls (Take object) waits fits = fits
+open-fits decls (Put object message) waits fits = fits
+open-fits decls (Get object) waits fits = fits
+
+end-fits : (decls : List Decl) (waiting : Waiting) (place : ℕ) → waiting_fits decls waiting ≡ true →
+    step_fits decls (end_step waiting place) ≡ true
+unfolding waiting_fits
+end-fits decls (Take object) place fits = fits
+end-fits decls (Put object message) place fits = fits
+end-fits decls (Get object) place fits = fits
+
+quit-fits : (decls : List Decl) (waiting : Waiting) (place : ℕ) → waiting_fits decls waiting ≡ true →
+    step_fits decls (quit_step waiting place) ≡ true
+unfolding waiting_fits
+quit-fits decls (Take object) place fits = fits
+quit-fits decls (Put object message) place fits = fits
+quit-fits decls (Get object) place fits = fits
+
+first-fits : (decls : List Decl) (waiting : Waiting) (timeout : Timeout) → waiting_fits decls waiting ≡ true →
+    step_fits decls (first_step waiting timeout) ≡ true
+first-fits decls waiting No fits = open-fits decls waiting false fits
+first-fits decls waiting Forever fits = open-fits decls waiting true fits
+first-fits decls waiting (Ticks ticks) fits = refl
+
+closing-fits : (decls : List Decl) (closing : Closing) (place : ℕ) → step_fits decls (closing_step closing place) ≡ true
+closing-fits decls closings.Cancel place = refl
+closing-fits decls closings.Flush place = refl
+closing-fits decls closings.Drain place = refl
+
+-- what holds of one attempt holds of each that there is, where it is the only one
+one-fits : (decls : List Decl) (only : Step) (k : ℕ) (step : Step) → step_fits decls only ≡ true →
+    slice_get (only ∷ []) k ≡ Some step → step_fits decls step ≡ true
+one-fits decls only k step fits is = subst (λ s. step_fits decls s ≡ true) (slice_get-one only step k is) fits
+
+wait_attempts-fit : (decls : List Decl) (waiting : Waiting) (timeout : Timeout) (stage : Stage) (k : ℕ) (step : Step) →
+    waiting_fits decls waiting ≡ true → slice_get (wait_attempts waiting timeout stage) k ≡ Some step →
+    step_fits decls step ≡ true
+wait_attempts-fit decls waiting timeout stages.Start k step fits is =
+    one-fits decls (first_step waiting timeout) k step (first-fits decls waiting timeout fits) is
+wait_attempts-fit decls waiting timeout (stages.Alarmed moment) k step fits is =
+    one-fits decls (open_step waiting true) k step (open-fits decls waiting true fits) is
+wait_attempts-fit decls waiting timeout (stages.Waits place) k step fits is =
+    one-fits decls (end_step waiting place) k step (end-fits decls waiting place fits) is
+wait_attempts-fit decls waiting timeout (stages.WaitsUntil place moment) zero step fits is =
+    one-fits decls (end_step waiting place) zero step (end-fits decls waiting place fits) is
+wait_attempts-fit decls waiting timeout (stages.WaitsUntil place moment) (suc k) step fits is =
+    one-fits decls (steps.Clock (clock_ops.AlarmEnd moment)) k step refl is
+wait_attempts-fit decls waiting timeout (stages.Quits place) k step fits is =
+    one-fits decls (quit_step waiting place) k step (quit-fits decls waiting place fits) is
+wait_attempts-fit decls waiting timeout stage k step fits is = absurd (cc)
 
 -- all that a plan tries fits
 plan_attempts-fit : (decls : List Decl) (plan : Plan) (stage : Stage) (k : ℕ) (step : Step) →
     PlanFits decls plan → slice_get (plan_attempts plan stage) k ≡ Some step → step_fits decls step ≡ true
 unfolding PlanFits
-plan_attempts-fit decls (One first) stages.Start k step fits is = subst (λ s. step_fits decls s ≡ true) (slice_get-one first step k is) fits
-plan_attempts-fit decls (One first) stages.Runs k step fits is = absurd (cc)
-plan_attempts-fit decls (One first) (stages.Waits place) k step fits is = absurd (cc)
-plan_attempts-fit decls (One first) stages.Halfway k step fits is = absurd (cc)
-plan_attempts-fit decls (Pair opening closing) stages.Start k step fits is = subst (λ s. step_fits decls s ≡ true) (slice_get-one opening step k is) fits
-plan_attempts-fit decls (Pair opening closing) stages.Runs k step fits is = absurd (cc)
-plan_attempts-fit decls (Pair opening closing) stages.Halfway k step fits is = absurd (cc)
+plan_attempts-fit decls (One first) stages.Start k step fits is = one-fits decls first k step fits is
+plan_attempts-fit decls (One first) stage k step fits is = absurd (cc)
+plan_attempts-fit decls (Pair opening closing) stages.Start k step fits is = one-fits decls opening k step fits is
 plan_attempts-fit decls (Pair opening closing) (stages.Waits place) k step fits is =
-    subst (λ s. step_fits decls s ≡ true) (slice_get-one (closing_step closing place) step k is) (closing-fits closing) where
-      closing-fits : (closing : Closing) → step_fits decls (closing_step closing place) ≡ true
-      closing-fits closings.Cancel = refl
-      closing-fits closings.Flush = refl
-      closing-fits closings.Drain = refl
-plan_attempts-fit decls (Twice first second) stages.Start k step fits is = subst (λ s. step_fits decls s ≡ true) (slice_get-one first step k is) fits.0
-plan_attempts-fit decls (Twice first second) stages.Runs k step fits is = absurd (cc)
-plan_attempts-fit decls (Twice first second) (stages.Waits place) k step fits is = absurd (cc)
-plan_attempts-fit decls (Twice first second) stages.Halfway k step fits is = subst (λ s. step_fits decls s ≡ true) (slice_get-one second step k is) fits.1
+    one-fits decls (closing_step closing place) k step (closing-fits decls closing place) is
+plan_attempts-fit decls (Pair opening closing) stage k step fits is = absurd (cc)
+plan_attempts-fit decls (Twice first second) stages.Start k step fits is = one-fits decls first k step fits.0 is
+plan_attempts-fit decls (Twice first second) stages.Halfway k step fits is = one-fits decls second k step fits.1 is
+plan_attempts-fit decls (Twice first second) stage k step fits is = absurd (cc)
+plan_attempts-fit decls (Wait waiting timeout) stage k step fits is = wait_attempts-fit decls waiting timeout stage k step fits is
 
 call_attempts-fit : (decls : List Decl) (call : Option Call) (stage : Stage) (k : ℕ) (step : Step) →
     option_map_or (call_fits decls) call true ≡ true → slice_get (call_attempts decls call stage) k ≡ Some step → step_fits decls step ≡ true
@@ -128,10 +236,9 @@ call-fits decls calls next (Some call) is all = list_all-at (call_fits decls) ca
 
 worker_attempts-fit : (decls : List Decl) (queue : ℕ) (stage : Stage) (k : ℕ) (step : Step) →
     nat_lt queue (length (places is_queue decls)) ≡ true → slice_get (worker_attempts queue stage) k ≡ Some step → step_fits decls step ≡ true
-worker_attempts-fit decls queue stages.Start k step fits is = subst (λ s. step_fits decls s ≡ true) (slice_get-one _ step k is) fits
-worker_attempts-fit decls queue stages.Runs k step fits is = subst (λ s. step_fits decls s ≡ true) (slice_get-one _ step k is) fits
-worker_attempts-fit decls queue (stages.Waits place) k step fits is = absurd (cc)
-worker_attempts-fit decls queue stages.Halfway k step fits is = absurd (cc)
+worker_attempts-fit decls queue stages.Start k step fits is = one-fits decls (steps.Work (ops.Begin queue)) k step fits is
+worker_attempts-fit decls queue stages.Runs k step fits is = one-fits decls (steps.Work (ops.End queue)) k step fits is
+worker_attempts-fit decls queue stage k step fits is = absurd (cc)
 
 role_attempts-fit : (s : Parts) (role : Role) (next : ℕ) (stage : Stage) (k : ℕ) (step : Step) → IsValid s →
     role_fits s.decls role ≡ true → slice_get (role_attempts s role next stage) k ≡ Some step → step_fits s.decls step ≡ true
@@ -175,9 +282,9 @@ pub after-fits : (s : Parts) (at : At) (made : Step) (reply : StepReply) → Fra
 after-fits s at made reply fits = frames_after-fit s at.frames (frames_progress s at.frames made reply) fits
 
 role_at-fits : (decls : List Decl) (object : ℕ) (decl : Decl) → slice_get decls object ≡ Some decl → role_fits decls (role_at decl object) ≡ true
-role_at-fits decls object (Thread name prio user) is = refl
-role_at-fits decls object (Queue name prio on) is = ap (λ (o : Option Decl). option_map_or is_queue o false) is
-role_at-fits decls object (Item name) is = refl
+role_at-fits decls object (decl_kinds.Thread name prio user) is = refl
+role_at-fits decls object (decl_kinds.Queue name prio on) is = ap (λ (o : Option Decl). option_map_or is_queue o false) is
+role_at-fits decls object decl is = refl
 
 starting-fits : (s : Parts) (number object : ℕ) (decl : Decl) → slice_get s.decls object ≡ Some decl → FramesFit s.decls (starting s number object decl).frames
 starting-fits s number object decl is =

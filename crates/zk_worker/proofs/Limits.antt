@@ -6,6 +6,7 @@ use Rattle.std.proofs.lemmas.Bool.{ltb-true}
 use Rattle.std.proofs.lemmas.Bool.Decides.{nat_tests}
 use Rattle.zk_base.proofs.Lists.{cond_nil-at}
 use Rattle.zk_scenario.specs.Parts.{Parts}
+use Rattle.zk_words.specs.declared.timeout.Timeout.{Timeout}
 use Rattle.zk_worker.specs.declared.steps.TheConstants.{MOST_STEPS, MOST_ATTEMPTS}
 use Rattle.zk_worker.specs.declared.steps.Step.{Step}
 use Rattle.zk_worker.specs.declared.steps.Spot.{Spot}
@@ -17,11 +18,12 @@ use Rattle.zk_worker.specs.declared.frames.Progress.TheVariants.{Goes, Answers, 
 use Rattle.zk_worker.specs.declared.frames.Role.{Role}
 use Rattle.zk_worker.specs.declared.frames.Role.TheVariants.{Script, Worker}
 use Rattle.zk_worker.specs.declared.frames.Stage.{Stage}
-use Rattle.zk_worker.specs.declared.frames.Stage.TheVariants.{Start, Runs, Waits, Halfway}
+use Rattle.zk_worker.specs.declared.frames.Stage.TheVariants.{Start, Runs, Waits, Halfway, Alarmed, WaitsUntil, Quits}
 use Rattle.zk_worker.specs.declared.frames.Plan.{Plan}
-use Rattle.zk_worker.specs.declared.frames.Plan.TheVariants.{One, Pair, Twice}
+use Rattle.zk_worker.specs.declared.frames.Plan.TheVariants.{One, Pair, Twice, Wait}
+use Rattle.zk_worker.specs.declared.frames.Waiting.{Waiting}
 use Rattle.zk_worker.specs.Places.{At}
-use Rattle.zk_worker.specs.Calls.{plan_of, plan_attempts}
+use Rattle.zk_worker.specs.Calls.{plan_of, wait_attempts, plan_attempts}
 use Rattle.zk_line.specs.declared.types.Call.{Call}
 use Rattle.zk_scenario.specs.Players.{calls_of}
 use Rattle.zk_worker.specs.Protocol.{attempts, IsAhead, is_over, settled, entered, first_frame, frames_after, answers_after, frames_attempts, role_attempts, call_attempts}
@@ -109,34 +111,39 @@ IsRoomy-moved s frames frames' answers answers' spots spots' spot number progres
     (subst (λ (n : List Answered). IsRoomy (frames_after s frames progress) n spots' a' b' c') (sym answers_are)
     (subst (λ (p : List Spot). IsRoomy (frames_after s frames progress) (answers_after answers number progress) p a' b' c') (sym spots_are) here))
 
-plan_attempts-few : (plan : Plan) (stage : Stage) → length (plan_attempts plan stage) ≤ 1
-plan_attempts-few (One step) Start = omega arith
-plan_attempts-few (One step) Runs = omega arith
-plan_attempts-few (One step) (Waits place) = omega arith
-plan_attempts-few (One step) Halfway = omega arith
-plan_attempts-few (Pair opening closing) Start = omega arith
-plan_attempts-few (Pair opening closing) Runs = omega arith
-plan_attempts-few (Pair opening closing) (Waits place) = omega arith
-plan_attempts-few (Pair opening closing) Halfway = omega arith
-plan_attempts-few (Twice first second) Start = omega arith
-plan_attempts-few (Twice first second) Runs = omega arith
-plan_attempts-few (Twice first second) (Waits place) = omega arith
-plan_attempts-few (Twice first second) Halfway = omega arith
+-- a call has at most two attempts at a time: the end of its wait, and that of its alarm
+wait_attempts-few : (waiting : Waiting) (timeout : Timeout) (stage : Stage) → length (wait_attempts waiting timeout stage) ≤ 2
+wait_attempts-few waiting timeout Start = omega arith
+wait_attempts-few waiting timeout (Alarmed moment) = omega arith
+wait_attempts-few waiting timeout (Waits place) = omega arith
+wait_attempts-few waiting timeout (WaitsUntil place moment) = omega arith
+wait_attempts-few waiting timeout (Quits place) = omega arith
+wait_attempts-few waiting timeout stage = omega arith
 
-frames_attempts-few : (s : Parts) (frames : List Frame) → length (frames_attempts s frames) ≤ 1
+plan_attempts-few : (plan : Plan) (stage : Stage) → length (plan_attempts plan stage) ≤ 2
+plan_attempts-few (One step) Start = omega arith
+plan_attempts-few (One step) stage = omega arith
+plan_attempts-few (Pair opening closing) Start = omega arith
+plan_attempts-few (Pair opening closing) (Waits place) = omega arith
+plan_attempts-few (Pair opening closing) stage = omega arith
+plan_attempts-few (Twice first second) Start = omega arith
+plan_attempts-few (Twice first second) Halfway = omega arith
+plan_attempts-few (Twice first second) stage = omega arith
+plan_attempts-few (Wait waiting timeout) stage = wait_attempts-few waiting timeout stage
+
+frames_attempts-few : (s : Parts) (frames : List Frame) → length (frames_attempts s frames) ≤ 2
 frames_attempts-few s [] = omega arith
 frames_attempts-few s (frame ∷ below) = role_few s frame.role frame.next frame.stage
   where
-    call_few : (s : Parts) (call : Option Call) (stage : Stage) → length (call_attempts s.decls call stage) ≤ 1
+    call_few : (s : Parts) (call : Option Call) (stage : Stage) → length (call_attempts s.decls call stage) ≤ 2
     call_few s None stage = omega arith
     call_few s (Some call) stage = plan_attempts-few (plan_of s.decls call) stage
 
-    role_few : (s : Parts) (role : Role) (next : ℕ) (stage : Stage) → length (role_attempts s role next stage) ≤ 1
+    role_few : (s : Parts) (role : Role) (next : ℕ) (stage : Stage) → length (role_attempts s role next stage) ≤ 2
     role_few s (Script owner) next stage = call_few s (slice_get (calls_of s.scripts owner) next) stage
     role_few s (Worker queue) next Start = omega arith
     role_few s (Worker queue) next Runs = omega arith
-    role_few s (Worker queue) next (Waits place) = omega arith
-    role_few s (Worker queue) next Halfway = omega arith
+    role_few s (Worker queue) next stage = omega arith
 
 -- a player has few attempts at a time
 pub attempts-few : (s : Parts) (at : At) → length (attempts s at) ≤ MOST_ATTEMPTS

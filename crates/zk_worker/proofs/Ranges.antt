@@ -5,6 +5,8 @@ use Rattle.std.proofs.lemmas.List.FromFn.{length-range_with_len}
 use Rattle.zk_scenario.specs.Parts.{Parts}
 use Rattle.zk_scenario.specs.Valid.{IsValid}
 use Rattle.zk_line.specs.Objects.{places, is_thread, is_queue, is_item}
+use Rattle.zk_model_wait.specs.Msgq.{msgq_machine}
+use Rattle.zk_model_wait.specs.Sem.{sem_machine}
 use Rattle.zk_model_work.specs.State.{fresh_queues}
 use Rattle.zk_model_work.specs.Machine.{is_among}
 use Rattle.zk_worker.specs.declared.steps.Step.{Step}
@@ -12,9 +14,10 @@ use Rattle.zk_worker.specs.declared.steps.Step.TheVariants as steps
 use Rattle.zk_worker.specs.Places.{At}
 use Rattle.zk_worker.specs.Protocol.{IsAhead}
 use Rattle.zk_worker.specs.Ranges.{FramesFit, step_fits}
-use Rattle.zk_worker.specs.Machines.{Machines, machines_of, workers, is_on}
+use Rattle.zk_worker.specs.Machines.{Machines, machines_of, workers, is_on, sem_start, msgq_start}
 use Rattle.zk_worker.specs.Attempt.{takes}
 use Rattle.zk_worker.proofs.Fits.{ahead-fits}
+use Rattle.zk_worker.proofs.Families.{takes-declared_one}
 
 length-fresh_queues : (workers : List ℕ) (started : List Bool) → length workers ≡ length started → length (fresh_queues workers started) ≡ length workers
 length-fresh_queues [] started same = refl
@@ -33,6 +36,8 @@ takes-declared s (steps.Work op) fits =
     ∙ length-range_with_len (length (places is_thread s.decls)) (length (places is_queue s.decls)) in
     subst (λ (n : ℕ). is_among (length (places is_item s.decls)) n op ≡ true) (sym long) fits
 takes-declared s (steps.Clock op) fits = refl
+takes-declared s (steps.Sem object op) fits = takes-declared_one sem_machine sem_start s.decls object op (λ start. refl) fits
+takes-declared s (steps.Msgq object op) fits = takes-declared_one msgq_machine msgq_start s.decls object op (λ start. refl) fits
 
 -- and so each attempt of a player of a valid scenario
 pub ahead-takes : (s : Parts) (m : Machines) (at : At) → IsValid s → m ≡ machines_of s → FramesFit s.decls at.frames → (step : Step) → IsAhead s at step → takes m step ≡ true

@@ -9,6 +9,10 @@ use Rattle.zk_base.specs.Legal.{state_after}
 use Rattle.zk_scenario.specs.Parts.{Parts}
 use Rattle.zk_model_wait.specs.declared.clock.ClockOp.{ClockOp}
 use Rattle.zk_model_wait.specs.declared.clock.ClockReply.{ClockReply}
+use Rattle.zk_model_wait.specs.declared.msgq.MsgqOp.{MsgqOp}
+use Rattle.zk_model_wait.specs.declared.msgq.MsgqReply.{MsgqReply}
+use Rattle.zk_model_wait.specs.declared.sem.SemOp.{SemOp}
+use Rattle.zk_model_wait.specs.declared.sem.SemReply.{SemReply}
 use Rattle.zk_model_work.specs.declared.ops.WorkOp.{WorkOp}
 use Rattle.zk_model_work.specs.declared.ops.WorkReply.{WorkReply}
 use Rattle.zk_worker.specs.declared.steps.Step.{Step}
@@ -27,7 +31,7 @@ use Rattle.zk_worker.specs.Looks.{LookedBelow}
 use Rattle.zk_worker.specs.Shown.{Shown, shown_at, shown_after, is_look, entry_count, ShowsLog}
 use Rattle.zk_worker.specs.Attempt.{reply_in, IsMade}
 use Rattle.zk_worker.proofs.Lists.{at-end, there-longer, there-behind}
-use Rattle.zk_worker.proofs.Families.{with-here, with-longer, with-back, answered-at}
+use Rattle.zk_worker.proofs.Families.{with-here, with-longer, with-back, with-count, answered-at}
 use Rattle.zk_worker.proofs.Between.{log-still}
 
 -- what is mapped to something is there
@@ -167,6 +171,17 @@ clock-elsewhere : (shown : Shown) (h : List (Entry ClockOp ClockReply)) (at : Sp
 clock-elsewhere shown h (spots.Clock p) = inl (p, refl)
 clock-elsewhere shown h at = inr (refl, refl)
 
+-- the spot of an object of a kind is one of an object and a place
+sems-elsewhere : (shown : Shown) (hs : List (List (Entry SemOp SemReply))) (at : Spot) →
+    Elsewhere {P = ℕ × ℕ} (λ p. spots.Sem p.0 p.1) shown (record shown { sems = hs }) at
+sems-elsewhere shown hs (spots.Sem object place) = inl ((object, place), refl)
+sems-elsewhere shown hs at = inr (refl, refl)
+
+msgqs-elsewhere : (shown : Shown) (hs : List (List (Entry MsgqOp MsgqReply))) (at : Spot) →
+    Elsewhere {P = ℕ × ℕ} (λ p. spots.Msgq p.0 p.1) shown (record shown { msgqs = hs }) at
+msgqs-elsewhere shown hs (spots.Msgq object place) = inl ((object, place), refl)
+msgqs-elsewhere shown hs at = inr (refl, refl)
+
 -- a step that its machine answers is shown with it
 pub made-more : (m : Machines) (shown : Shown) (who : Who) (number : ℕ) (step : Step) (reply : StepReply) → reply_in m shown who step ≡ Some reply →
     IsMore shown (shown_after shown who number step reply) (spot_of step reply) (who.number, number) (step, reply)
@@ -182,6 +197,26 @@ made-more m shown who number (steps.Clock op) reply answered =
     object-more spots.Clock (λ p. steps.Clock) (λ p r. step_replies.Clock r p) shown (record shown { clock = shown.clock ++ e ∷ [] }) (slice_get shown.clock) (slice_get (shown.clock ++ e ∷ []))
     (record { seen = λ p. refl; made = λ p. refl }) (record { seen = λ p. refl; made = λ p. refl }) (clock-elsewhere shown (shown.clock ++ e ∷ []))
     (length shown.clock) who number op r (history-with shown.clock e) (omega (arith, length-append shown.clock (e ∷ []))))
+made-more m shown who number (steps.Sem object op) reply answered =
+    at-more shown who number (steps.Sem object op) step_replies.Sem m.sems shown.sems object op reply answered (λ h r there.
+    let e = entry who number op r in
+    object-more {P = ℕ × ℕ} (λ p. spots.Sem p.0 p.1) (λ p. steps.Sem p.0) (λ p r. step_replies.Sem p.0 r p.1) shown
+    (record shown { sems = with_entry shown.sems object e })
+    (λ p. entry_at shown.sems p.0 p.1) (λ p. entry_at (with_entry shown.sems object e) p.0 p.1)
+    (record { seen = λ p. refl; made = λ p. refl }) (record { seen = λ p. refl; made = λ p. refl })
+    (sems-elsewhere shown (with_entry shown.sems object e))
+    (object, length h) who number op r (histories-with shown.sems object h e there)
+    (omega (arith, with-count shown.sems object e h there)))
+made-more m shown who number (steps.Msgq object op) reply answered =
+    at-more shown who number (steps.Msgq object op) step_replies.Msgq m.msgqs shown.msgqs object op reply answered (λ h r there.
+    let e = entry who number op r in
+    object-more {P = ℕ × ℕ} (λ p. spots.Msgq p.0 p.1) (λ p. steps.Msgq p.0) (λ p r. step_replies.Msgq p.0 r p.1) shown
+    (record shown { msgqs = with_entry shown.msgqs object e })
+    (λ p. entry_at shown.msgqs p.0 p.1) (λ p. entry_at (with_entry shown.msgqs object e) p.0 p.1)
+    (record { seen = λ p. refl; made = λ p. refl }) (record { seen = λ p. refl; made = λ p. refl })
+    (msgqs-elsewhere shown (with_entry shown.msgqs object e))
+    (object, length h) who number op r (histories-with shown.msgqs object h e there)
+    (omega (arith, with-count shown.msgqs object e h there)))
 
 -- where no looks are shown, a step shows none
 pub unlooked-after : (shown : Shown) (who : Who) (number : ℕ) (step : Step) (reply : StepReply) → shown.looked ≡ None → (shown_after shown who number step reply).looked ≡ None

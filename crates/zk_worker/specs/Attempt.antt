@@ -6,6 +6,7 @@ use Rattle.zk_worker.specs.declared.steps.Step.TheVariants as steps
 use Rattle.zk_worker.specs.declared.steps.StepReply.{StepReply}
 use Rattle.zk_worker.specs.declared.steps.StepReply.TheVariants as step_replies
 use Rattle.zk_worker.specs.Single.{answer_in}
+use Rattle.zk_worker.specs.Families.{answer_at, takes_at}
 use Rattle.zk_worker.specs.Machines.{Machines}
 use Rattle.zk_worker.specs.Shown.{Shown, shown_after, Between}
 
@@ -15,11 +16,17 @@ reply_in m shown who (steps.Work op) =
     answer_in m.work m.work_start shown.work step_replies.Work who op
 reply_in m shown who (steps.Clock op) =
     answer_in m.clock m.clock_start shown.clock step_replies.Clock who op
+reply_in m shown who (steps.Sem object op) =
+    answer_at m.sems shown.sems step_replies.Sem who object op
+reply_in m shown who (steps.Msgq object op) =
+    answer_at m.msgqs shown.msgqs step_replies.Msgq who object op
 
 -- whether the ids in a step are in range at its service
 abbrev pub takes : Machines → Step → Bool
 takes m (steps.Work op) = m.work.in_range m.work_start op
 takes m (steps.Clock op) = m.clock.in_range m.clock_start op
+takes m (steps.Sem object op) = takes_at m.sems object op
+takes m (steps.Msgq object op) = takes_at m.msgqs object op
 
 -- the same players are served
 abbrev pub SamePlayers : (Who → Type 0) → (Who → Type 0) → Type 0
@@ -37,6 +44,8 @@ NoneFell old new = (step : Step) → (old step ≤ new step) × (new step ≤ 2 
 abbrev pub KeepsElsewhere : Step → Shown → Shown → Type 0
 KeepsElsewhere (steps.Work op) old new = new ≡ record old { work = new.work }
 KeepsElsewhere (steps.Clock op) old new = new ≡ record old { clock = new.clock }
+KeepsElsewhere (steps.Sem object op) old new = new ≡ record old { sems = new.sems }
+KeepsElsewhere (steps.Msgq object op) old new = new ≡ record old { msgqs = new.msgqs }
 
 -- a look reads at the end of what is shown; other steps say nothing of it
 abbrev pub ReadsAt : Shown → Step → StepReply → Type 0

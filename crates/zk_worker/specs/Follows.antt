@@ -17,6 +17,7 @@ use Rattle.zk_worker.specs.declared.log.PlayerState.{PlayerState}
 use Rattle.zk_worker.specs.declared.log.PlayerState.TheVariants.{Spent, Done, Standing}
 use Rattle.zk_worker.specs.declared.log.Log.{Log}
 use Rattle.zk_worker.specs.Places.{At}
+use Rattle.zk_worker.specs.Families.{entry_at}
 use Rattle.zk_worker.specs.Shown.{Shown}
 use Rattle.zk_worker.specs.Protocol.{IsAhead, after, start_at}
 
@@ -62,6 +63,12 @@ made_at shown (spots.Work place) =
 made_at shown (spots.Clock place) =
     option_map (λ e. (steps.Clock e.op, step_replies.Clock e.reply place))
     (slice_get shown.clock place)
+made_at shown (spots.Sem object place) =
+    option_map (λ e. (steps.Sem object e.op, step_replies.Sem object e.reply place))
+    (entry_at shown.sems object place)
+made_at shown (spots.Msgq object place) =
+    option_map (λ e. (steps.Msgq object e.op, step_replies.Msgq object e.reply place))
+    (entry_at shown.msgqs object place)
 
 -- a spot stands for a step with its reply
 abbrev pub Stands : Shown → Spot → Step × StepReply → Type 0

@@ -3,16 +3,23 @@ use Rattle.std.specs.List.{range_with_len}
 use Rattle.std.specs.Option.{option_map_or}
 use Rattle.zk_base.specs.Legal.{Machine}
 use Rattle.zk_line.specs.declared.types.Decl.{Decl}
-use Rattle.zk_line.specs.declared.types.Decl.TheVariants.{Queue}
+use Rattle.zk_line.specs.declared.types.Decl.TheVariants as decls
 use Rattle.zk_scenario.specs.Parts.{Parts}
 use Rattle.zk_line.specs.Objects.{places, number_of, is_at, is_thread, is_queue, is_item}
 use Rattle.zk_model_wait.specs.declared.clock.ClockOp.{ClockOp}
 use Rattle.zk_model_wait.specs.declared.clock.ClockReply.{ClockReply}
 use Rattle.zk_model_wait.specs.Clock.{Clock, new_clock, clock_machine}
+use Rattle.zk_model_wait.specs.declared.msgq.MsgqOp.{MsgqOp}
+use Rattle.zk_model_wait.specs.declared.msgq.MsgqReply.{MsgqReply}
+use Rattle.zk_model_wait.specs.declared.sem.SemOp.{SemOp}
+use Rattle.zk_model_wait.specs.declared.sem.SemReply.{SemReply}
+use Rattle.zk_model_wait.specs.Msgq.{Msgq, new_msgq, msgq_machine}
+use Rattle.zk_model_wait.specs.Sem.{Sem, new_sem, sem_machine}
 use Rattle.zk_model_work.specs.declared.ops.WorkOp.{WorkOp}
 use Rattle.zk_model_work.specs.declared.ops.WorkReply.{WorkReply}
 use Rattle.zk_model_work.specs.State.{State, start_of}
 use Rattle.zk_model_work.specs.Machine.{work_machine}
+use Rattle.zk_worker.specs.Families.{Family}
 
 -- the numbers of the workers as players, in the order of their queues
 abbrev pub workers : List Decl → List ℕ
@@ -20,7 +27,7 @@ workers decls = range_with_len (length (places is_thread decls)) (length (places
 
 -- whether a declaration is of a queue that is started at first
 abbrev pub is_started : Decl → Bool
-is_started (Queue name prio on) = on
+is_started (decls.Queue name prio on) = on
 is_started decl = false
 
 -- whether an object is a queue that is started at first
@@ -42,6 +49,16 @@ item_number decls object =
 abbrev pub items_of : List Decl → List (Option ℕ)
 items_of decls = map (item_number decls) (range_with_len 0 (length decls))
 
+-- the state that a declaration starts a semaphore in, if it declares one
+abbrev pub sem_start : Decl → Option Sem
+sem_start (decls.Sem name initial limit) = Some (new_sem initial limit)
+sem_start decl = None
+
+-- the state that a declaration starts a message queue in, if it declares one
+abbrev pub msgq_start : Decl → Option Msgq
+msgq_start (decls.Msgq name size capacity) = Some (new_msgq capacity)
+msgq_start decl = None
+
 -- the machine of each service, and the state that it starts in; and by object number the number of each item at the work service
 pub record Machines : Type 0 where
   pub work : Machine State WorkOp WorkReply
@@ -49,6 +66,8 @@ pub record Machines : Type 0 where
   pub items : List (Option ℕ)
   pub clock : Machine Clock ClockOp ClockReply
   pub clock_start : Clock
+  pub sems : Family Sem SemOp SemReply
+  pub msgqs : Family Msgq MsgqOp MsgqReply
 
 -- the machines of a scenario
 abbrev pub machines_of : Parts → Machines
@@ -58,4 +77,6 @@ machines_of s = record {
   items = items_of s.decls;
   clock = clock_machine;
   clock_start = new_clock;
+  sems = record { machine = sem_machine; starts = map sem_start s.decls };
+  msgqs = record { machine = msgq_machine; starts = map msgq_start s.decls };
 }

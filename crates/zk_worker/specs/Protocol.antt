@@ -125,11 +125,15 @@ answers_after answers number progress = answers
 abbrev pub place_of : StepReply → ℕ
 place_of (step_replies.Work reply place) = place
 place_of (step_replies.Clock reply place) = place
+place_of (step_replies.Sem object reply place) = place
+place_of (step_replies.Msgq object reply place) = place
 
 -- where a step is recorded
 abbrev pub spot_of : Step → StepReply → Spot
 spot_of (steps.Work op) reply = spots.Work (place_of reply)
 spot_of (steps.Clock op) reply = spots.Clock (place_of reply)
+spot_of (steps.Sem object op) reply = spots.Sem object (place_of reply)
+spot_of (steps.Msgq object op) reply = spots.Msgq object (place_of reply)
 
 -- where a player stands after a step that does this, and is recorded there
 abbrev pub moved : Parts → At → Progress → Spot → At

@@ -8,12 +8,16 @@ use Rattle.zk_worker.specs.declared.steps.Step.TheVariants as steps
 use Rattle.zk_worker.specs.declared.frames.Role.{Role}
 use Rattle.zk_worker.specs.declared.frames.Role.TheVariants.{Script, Worker}
 use Rattle.zk_worker.specs.declared.frames.Frame.{Frame}
+use Rattle.zk_worker.specs.Families.{is_declared}
+use Rattle.zk_worker.specs.Machines.{sem_start, msgq_start}
 
 -- whether the objects of a step are declared
 abbrev pub step_fits : List Decl → Step → Bool
 step_fits decls (steps.Work op) =
     is_among (length (places is_item decls)) (length (places is_queue decls)) op
 step_fits decls (steps.Clock op) = true
+step_fits decls (steps.Sem object op) = is_declared sem_start decls object
+step_fits decls (steps.Msgq object op) = is_declared msgq_start decls object
 
 -- whether a worker's queue is declared as one
 abbrev pub role_fits : List Decl → Role → Bool

@@ -1,4 +1,5 @@
-use Rattle.std.specs.Prelude.{◌≡◌, ℕ, ◌+◌, ◌-◌, ◌^◌, ◌<◌, Bool, true, false, Option, Some, None, List, [], ◌∷◌, ◌++◌, length, slice_get, option_map}
+use Rattle.std.specs.Prelude.{◌≡◌, ℕ, ◌+◌, ◌-◌, ◌^◌, ◌<◌, Bool, true, false, Option, Some, None, List, [], ◌∷◌, ◌++◌, length, slice_get, option_map, All}
+use Rattle.std.specs.List.{sum_by}
 use Rattle.zk_base.specs.declared.ids.Who.{Who}
 use Rattle.zk_base.specs.declared.ids.Entry.{Entry}
 use Rattle.zk_base.specs.declared.seen.Seen.{Seen}
@@ -6,6 +7,10 @@ use Rattle.zk_base.specs.History.{entry}
 use Rattle.zk_line.specs.declared.types.Decl.{Decl}
 use Rattle.zk_model_wait.specs.declared.clock.ClockOp.{ClockOp}
 use Rattle.zk_model_wait.specs.declared.clock.ClockReply.{ClockReply}
+use Rattle.zk_model_wait.specs.declared.msgq.MsgqOp.{MsgqOp}
+use Rattle.zk_model_wait.specs.declared.msgq.MsgqReply.{MsgqReply}
+use Rattle.zk_model_wait.specs.declared.sem.SemOp.{SemOp}
+use Rattle.zk_model_wait.specs.declared.sem.SemReply.{SemReply}
 use Rattle.zk_model_work.specs.declared.ops.WorkOp.{WorkOp}
 use Rattle.zk_model_work.specs.declared.ops.WorkReply.{WorkReply}
 use Rattle.zk_worker.specs.declared.steps.Step.{Step}
@@ -15,22 +20,35 @@ use Rattle.zk_worker.specs.declared.steps.StepReply.TheVariants as step_replies
 use Rattle.zk_worker.specs.declared.steps.Spot.{Spot}
 use Rattle.zk_worker.specs.declared.steps.Spot.TheVariants as spots
 use Rattle.zk_worker.specs.Single.{step_of, OthersGrew}
+use Rattle.zk_worker.specs.Families.{no_entries, entry_at, with_entry, EachGrew}
 use Rattle.zk_worker.specs.Looks.{LooksGrew, LookedBelow}
 
--- what the services show: the history of each; the looks of this player at each signal, where signals are shared without a turn; and, where looks at items are shown, the first number above those of this player's
+-- what the services show: the history of each, and by object number that of each semaphore and of each message queue;
+-- the looks of this player at each signal, where signals are shared without a turn;
+-- and, where looks at items are shown, the first number above those of this player's
 pub record Shown : Type 0 where
   pub work : List (Entry WorkOp WorkReply)
   pub clock : List (Entry ClockOp ClockReply)
+  pub sems : List (List (Entry SemOp SemReply))
+  pub msgqs : List (List (Entry MsgqOp MsgqReply))
   pub looks : Option (List (List Seen))
   pub looked : Option ℕ
 
 -- how many entries are shown
 abbrev pub entry_count : Shown → ℕ
-entry_count shown = length shown.work + length shown.clock
+entry_count shown =
+    length shown.work + length shown.clock + sum_by length shown.sems + sum_by length shown.msgqs
 
 -- nothing was shown of the services of these declarations, which show whole histories
 abbrev pub nothing_shown : List Decl → Shown
-nothing_shown decls = record { work = []; clock = []; looks = None; looked = None }
+nothing_shown decls = record {
+  work = [];
+  clock = [];
+  sems = no_entries decls;
+  msgqs = no_entries decls;
+  looks = None;
+  looked = None;
+}
 
 -- what is shown with the entry of a step, in the history of its service
 abbrev pub shown_after : Shown → Who → ℕ → Step → StepReply → Shown
@@ -38,12 +56,18 @@ shown_after shown who number (steps.Work op) (step_replies.Work reply place) =
     record shown { work = shown.work ++ entry who number op reply ∷ [] }
 shown_after shown who number (steps.Clock op) (step_replies.Clock reply place) =
     record shown { clock = shown.clock ++ entry who number op reply ∷ [] }
+shown_after shown who number (steps.Sem object op) (step_replies.Sem at reply place) =
+    record shown { sems = with_entry shown.sems object (entry who number op reply) }
+shown_after shown who number (steps.Msgq object op) (step_replies.Msgq at reply place) =
+    record shown { msgqs = with_entry shown.msgqs object (entry who number op reply) }
 shown_after shown who number step reply = shown
 
 -- whose step is shown at a spot, and the step of which number
 abbrev pub shown_at : Shown → Spot → Option (ℕ × ℕ)
 shown_at shown (spots.Work place) = option_map step_of (slice_get shown.work place)
 shown_at shown (spots.Clock place) = option_map step_of (slice_get shown.clock place)
+shown_at shown (spots.Sem object place) = option_map step_of (entry_at shown.sems object place)
+shown_at shown (spots.Msgq object place) = option_map step_of (entry_at shown.msgqs object place)
 
 -- whether a spot is that of a look, which has no entry
 abbrev pub is_look : Spot → Bool
@@ -66,11 +90,15 @@ pub record IsLater (shown : Shown) (number next : ℕ) : Type 0 where
 pub record AreShort (shown : Shown) : Type 0 where
   pub work : length shown.work < 2 ^ 32 - 1
   pub clock : length shown.clock < 2 ^ 32 - 1
+  pub sems : All (λ h. length h < 2 ^ 32 - 1) shown.sems
+  pub msgqs : All (λ h. length h < 2 ^ 32 - 1) shown.msgqs
 
 -- each history grew by entries of other players than the one of this number, and looks at signals at most were added
 pub record AllGrew (number : ℕ) (old new : Shown) : Type 0 where
   pub work : OthersGrew number old.work new.work
   pub clock : OthersGrew number old.clock new.clock
+  pub sems : EachGrew number old.sems new.sems
+  pub msgqs : EachGrew number old.msgqs new.msgqs
   pub looks : LooksGrew old.looks new.looks
   pub looked : new.looked ≡ old.looked
 

@@ -1,4 +1,4 @@
-use zk_base::{Errno, Listed};
+use zk_base::{Errno, Listed, Msg};
 use zk_words::Word;
 
 /// What a call of a script is answered.
@@ -6,7 +6,8 @@ use zk_words::Word;
 pub enum Answer {
     /// A number. Of a submission 0 where the item was queued already, 1 where it was admitted, and 2 where it was admitted
     /// while it runs. Of a delayed submission the same, and 1 where the item is delayed. Of a drain 0 where it didn't have to
-    /// wait, and 1 where it did. Of a question for the rest of a delay so many ticks.
+    /// wait, and 1 where it did. Of a question for the rest of a delay so many ticks. Of a question for a semaphore's count,
+    /// or for how many messages a queue has or has room for, that number.
     Number(u64),
     /// The busy flags of an item, below 32.
     Flags(u8),
@@ -14,6 +15,8 @@ pub enum Answer {
     Truth(bool),
     /// A refusal, with its name.
     Refused(Errno),
+    /// The message that a queue gave or showed.
+    Bytes(Msg),
 }
 
 /// A call that has its answer.

@@ -1,4 +1,6 @@
 use crate::{Answer, Step, Word};
+use zk_base::Msg;
+use zk_words::Timeout;
 
 /// The most scripts and runs that are open at a time: one for each channel, the run of a worker, and its item's script.
 pub const MOST_FRAMES: usize = 18;
@@ -12,6 +14,20 @@ pub enum Plan {
     Pair(Step, Closing),
     /// One step and then another, whose reply it answers.
     Twice(Step, Step),
+    /// A step that may begin a wait of this length at most, and then the step that ends it or gives it up. With ticks, an
+    /// alarm is set before.
+    Wait(Waiting, Timeout),
+}
+
+/// What a call waits for, at the object of this number.
+#[derive(Clone, Copy, Debug)]
+pub enum Waiting {
+    /// Taking a semaphore.
+    Take(u32),
+    /// Putting a message into a queue.
+    Put(u32, Msg),
+    /// Getting a message out of a queue.
+    Get(u32),
 }
 
 /// The step that ends a wait, by the place of the entry that began it.
@@ -36,6 +52,12 @@ pub enum Stage {
     Waits(u64),
     /// A call has made the first of its two steps.
     Halfway,
+    /// A call has set its alarm, for this moment.
+    Alarmed(u64),
+    /// A call waits since the entry at this place of its object, and until its alarm of this moment ends.
+    WaitsUntil(u64, u64),
+    /// The alarm of a call has ended, which gives up the wait that the entry at this place of its object began.
+    Quits(u64),
 }
 
 /// What is played.

@@ -13,7 +13,7 @@ mod stack;
 mod steps;
 
 pub use answers::{Answer, Answered, Answers};
-pub use frames::{Closing, Frame, Plan, Progress, Role, Stage};
+pub use frames::{Closing, Frame, Plan, Progress, Role, Stage, Waiting};
 pub use log::{Log, PlayerState};
 pub use player::Player;
 pub use playing::Stepped;

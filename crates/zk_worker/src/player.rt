@@ -1,9 +1,12 @@
-ghost use Rattle.std.specs.Prelude.{◌≡◌, ℕ, ◌<◌, ◌≤◌, slice_get, reverse, length, IfOk, OnErr, Some};
+ghost use Rattle.std.specs.Prelude.{◌≡◌, ℕ, ◌<◌, ◌≤◌, Bool, slice_get, reverse, length, IfOk, OnErr, Some};
 ghost use Rattle.zk_scenario.specs.Players.{players, prio_of};
 ghost use Rattle.zk_worker.specs.Protocol.{attempts, after, spot_of, start_at, starting, role_at, IsAhead};
 ghost use Rattle.zk_worker.specs.Follows.{state_at, log_of, is_done, is_through, is_between, is_spent_at, StandsMore, IsFollowing};
 ghost use Rattle.zk_worker.specs.Ranges.{FramesFit};
-ghost use Rattle.zk_worker.specs.Shown.{Shown};
+ghost use Rattle.zk_worker.specs.Machines.{Machines};
+ghost use Rattle.zk_worker.specs.Shown.{Shown, ShowsLog};
+ghost use Rattle.zk_worker.specs.Right.{LooksRight};
+ghost use Rattle.zk_worker.specs.Attempt.{IsMade};
 
 use crate::frames::MOST_FRAMES;
 use crate::protocol::spot_of;
@@ -77,6 +80,8 @@ fn prio_of(decl: &Decl) -> i8
         Decl::Thread(_, prio, _) => *prio,
         Decl::Queue(_, prio, _) => *prio,
         Decl::Item(_) => 0,
+        Decl::Sem(_, _, _) => 0,
+        Decl::Msgq(_, _, _) => 0,
     }
 }
 
@@ -124,6 +129,8 @@ impl Player {
         ensures fits { IfOk result (λ player. FramesFit scenario.now.decls player.frames) }
         ensures follows { IfOk result (λ player.
             (shown : Shown) → IsFollowing scenario.now number shown player) }
+        ensures looks { IfOk result (λ player.
+            (m : Machines) (shown : Shown) → LooksRight m shown player.spots) }
     {
         let Some(object) = object_of(scenario, number) else {
             unreachable!()
@@ -158,18 +165,23 @@ impl Player {
         requires ahead { IsAhead scenario.now self.old step }
         ensures next { self.new ≡ after scenario.now self.old step reply.now }
 
-        // What `step` asks for stays. It follows the scenario still, where this step is shown too.
+        // What `step` asks for stays, where services made this step.
+        // It follows the scenario still, where this step is shown too.
         ensures fits { FramesFit scenario.now.decls self.old.frames →
             FramesFit scenario.now.decls self.new.frames }
+        ensures looks { (alone : Bool) (m : Machines) (old new : Shown) →
+            ShowsLog old self.old.who.number self.old.spots →
+            IsMade alone m self.old.who (length self.old.spots) step reply.now old new →
+            LooksRight m old self.old.spots → LooksRight m new self.new.spots }
         ensures follows { (number : ℕ) (old new : Shown) →
             StandsMore old new (spot_of step reply.now) (step, reply.now) →
             IsFollowing scenario.now number old self.old → IsFollowing scenario.now number new self.new }
     {
         let number = self.spots.len() as u32;
-        let progress = frames_progress(scenario, &self.stack, step, reply);
+        let progress = frames_progress(scenario, &self.stack, &step, reply);
+        put_answer(&mut self.answers, number, &progress);
         move_frames(scenario, &mut self.stack, progress);
-        put_answer(&mut self.answers, number, progress);
-        put(&mut self.spots, spot_of(step, reply));
+        put(&mut self.spots, spot_of(&step, reply));
     }
 
     /// Who it is to the services.

@@ -76,10 +76,10 @@ fn call_progress(
     scenario: &Scenario,
     call: Option<Call>,
     stage: Stage,
-    made: Step,
+    made: &Step,
     reply: &StepReply,
 ) -> Progress
-    ensures { result ≡ call_progress scenario.now.decls call stage made reply.now }
+    ensures { result ≡ call_progress scenario.now.decls call stage made.now reply.now }
 {
     match call {
         Some(call) => plan_progress(word_of(&call), plan_of(scenario, call), stage, made, reply),
@@ -88,8 +88,8 @@ fn call_progress(
 }
 
 /// What the reply to a step does to an open script or run.
-pub fn role_progress(scenario: &Scenario, frame: Frame, made: Step, reply: &StepReply) -> Progress
-    ensures { result ≡ role_progress scenario.now frame.role frame.next frame.stage made reply.now }
+pub fn role_progress(scenario: &Scenario, frame: Frame, made: &Step, reply: &StepReply) -> Progress
+    ensures { result ≡ role_progress scenario.now frame.role frame.next frame.stage made.now reply.now }
 {
     match frame.role {
         Role::Script(owner) => {
@@ -116,15 +116,19 @@ fn place_of(reply: &StepReply) -> u64
     match reply {
         StepReply::Work(_, place) => *place,
         StepReply::Clock(_, place) => *place,
+        StepReply::Sem(_, _, place) => *place,
+        StepReply::Msgq(_, _, place) => *place,
     }
 }
 
 /// Where a step is recorded.
-pub fn spot_of(made: Step, reply: &StepReply) -> Spot
-    ensures { result ≡ spot_of made reply.now }
+pub fn spot_of(made: &Step, reply: &StepReply) -> Spot
+    ensures { result ≡ spot_of made.now reply.now }
 {
     match made {
         Step::Work(_) => Spot::Work(place_of(reply)),
         Step::Clock(_) => Spot::Clock(place_of(reply)),
+        Step::Sem(object, _) => Spot::Sem(*object, place_of(reply)),
+        Step::Msgq(object, _) => Spot::Msgq(*object, place_of(reply)),
     }
 }

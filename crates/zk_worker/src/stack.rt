@@ -58,10 +58,10 @@ pub fn frames_ahead(scenario: &Scenario, stack: &[Frame], index: u32) -> Option<
 pub fn frames_progress(
     scenario: &Scenario,
     stack: &[Frame],
-    made: Step,
+    made: &Step,
     reply: &StepReply,
 ) -> Progress
-    ensures { result ≡ frames_progress scenario.now (reverse stack.now) made reply.now }
+    ensures { result ≡ frames_progress scenario.now (reverse stack.now) made.now reply.now }
 {
     match top_frame(stack) {
         Some(frame) => role_progress(scenario, frame, made, reply),
@@ -143,9 +143,9 @@ pub fn move_frames(scenario: &Scenario, stack: &mut Vec<Frame>, progress: Progre
 }
 
 /// The answers after the step of this number.
-pub fn put_answer(answers: &mut Vec<Answered>, number: u32, progress: Progress)
+pub fn put_answer(answers: &mut Vec<Answered>, number: u32, progress: &Progress)
     requires { vec_len answers.old < vec_capacity answers.old }
-    ensures answers { answers.new.items ≡ answers_after answers.old.items number progress }
+    ensures answers { answers.new.items ≡ answers_after answers.old.items number progress.now }
     ensures capacity { vec_capacity answers.old ≤ vec_capacity answers.new }
 {
     match progress {
@@ -153,8 +153,8 @@ pub fn put_answer(answers: &mut Vec<Answered>, number: u32, progress: Progress)
             answers,
             Answered {
                 step: number,
-                word,
-                answer,
+                word: *word,
+                answer: *answer,
             },
         ),
         _ => {}

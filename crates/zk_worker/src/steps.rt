@@ -1,5 +1,5 @@
 use zk_base::Listed;
-use zk_model_wait::{ClockOp, ClockReply};
+use zk_model_wait::{ClockOp, ClockReply, MsgqOp, MsgqReply, SemOp, SemReply};
 use zk_model_work::{WorkOp, WorkReply};
 
 /// The most steps that a player makes. One that has made them makes no further one.
@@ -15,6 +15,10 @@ pub enum Step {
     Work(WorkOp),
     /// An operation of the clock.
     Clock(ClockOp),
+    /// An operation of the semaphore of this object number.
+    Sem(u32, SemOp),
+    /// An operation of the message queue of this object number.
+    Msgq(u32, MsgqOp),
 }
 
 /// What a step was answered.
@@ -24,6 +28,10 @@ pub enum StepReply {
     Work(WorkReply, u64),
     /// The clock's reply, and the place of the entry in its history, from 0.
     Clock(ClockReply, u64),
+    /// The object number of the semaphore, its reply, and the place of the entry in its history, from 0.
+    Sem(u32, SemReply, u64),
+    /// The object number of the message queue, its reply, and the place of the entry in its history, from 0.
+    Msgq(u32, MsgqReply, u64),
 }
 
 /// Where a step stands in what was recorded.
@@ -33,6 +41,10 @@ pub enum Spot {
     Work(u64),
     /// The place of the entry in the history of the clock.
     Clock(u64),
+    /// The object number of a semaphore, and the place of the entry in its history.
+    Sem(u32, u64),
+    /// The object number of a message queue, and the place of the entry in its history.
+    Msgq(u32, u64),
 }
 
 /// The spots of a player's steps, by the number of the step.

@@ -1,14 +1,20 @@
-use Rattle.std.proofs.Common.{ℕ, List, ◌++◌, refl, sym, ap, ◌∙◌, subst}
+use Rattle.std.proofs.Common.{ℕ, Some, List, ◌++◌, refl, sym, ap, ◌∙◌, subst}
 use Rattle.zk_base.specs.declared.errors.Status.{Status}
 use Rattle.zk_base.specs.Legal.{IsLegal}
 use Rattle.zk_base.proofs.Histories.{IsLegal-front}
 use Rattle.zk_model_wait.specs.Clock.{new_clock, clock_machine}
+use Rattle.zk_model_wait.specs.Sem.{Sem, new_sem, sem_machine}
+use Rattle.zk_model_wait.specs.SemLaws.{KeepsSemLaws}
+use Rattle.zk_model_wait.specs.Msgq.{Msgq, new_msgq, msgq_machine}
+use Rattle.zk_model_wait.specs.MsgqLaws.{KeepsMsgqLaws}
 use Rattle.zk_model_work.specs.Machine.{work_machine}
-use Rattle.zk_worker.specs.Machines.{work_start_of}
+use Rattle.zk_worker.specs.Machines.{work_start_of, machines_of}
 use Rattle.zk_trace.specs.Text.{trace_text}
+use Rattle.zk_replay.proofs.Legality.{legal-one}
 use Rattle.zk_model_work.proofs.Drains.{undrained-fresh}
 use Rattle.zk_cli.specs.Answer.{IsOutput}
 use Rattle.zk_cli.proofs.Outcomes.{output-run}
+use Rattle.zk_cli.proofs.Starts.{sem-starts, msgq-starts}
 use Rattle.zk_cli.proofs.answer.run.Goals as goal
 
 pub returns : goal.returns
@@ -33,6 +39,20 @@ returns c =
       });
       clock_laws = λ front rest parts.
           c.keeps_clock_laws.ensures front (IsLegal-front clock_machine new_clock front rest (subst (IsLegal clock_machine new_clock) parts c.in_ok-trace.ensures.lawful.history.clock));
+      sem_laws = λ object start h starts there front rest parts.
+          let from = sem-starts c.args.scenario.now.decls object start c.replay.ensures.valid.in_range starts in
+          let began = starts ∙ ap Some from.is_new in
+          let legal = legal-one sem_machine (machines_of c.args.scenario.now).sems.starts trace.sems object (new_sem from.initial from.limit) h c.in_ok-trace.ensures.lawful.history.sems began there in
+          subst (λ (s : Sem). KeepsSemLaws s front) (sym from.is_new)
+          (c.keeps_sem_laws.ensures from.initial from.limit from.within front
+          (IsLegal-front sem_machine (new_sem from.initial from.limit) front rest (subst (IsLegal sem_machine (new_sem from.initial from.limit)) parts legal)));
+      msgq_laws = λ object start h starts there front rest parts.
+          let from = msgq-starts c.args.scenario.now.decls object start starts in
+          let began = starts ∙ ap Some from.is_new in
+          let legal = legal-one msgq_machine (machines_of c.args.scenario.now).msgqs.starts trace.msgqs object (new_msgq from.most) h c.in_ok-trace.ensures.lawful.history.msgqs began there in
+          subst (λ (q : Msgq). KeepsMsgqLaws q front) (sym from.is_new)
+          (c.keeps_msgq_laws.ensures from.most front
+          (IsLegal-front msgq_machine (new_msgq from.most) front rest (subst (IsLegal msgq_machine (new_msgq from.most)) parts legal)));
       over = c.in_ok-trace.ensures.over;
       ends = refl;
       printed = c.in_ok-put_trace.ensures.text ∙ ap (λ (text : List ℕ). text ++ trace_text c.args.scenario.now trace) c.requires.spelled;

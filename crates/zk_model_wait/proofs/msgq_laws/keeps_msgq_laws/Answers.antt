@@ -11,6 +11,10 @@ returns c = λ most h legal. record {
   get = c.queue_calls_are_told.ensures.get most h legal;
   looks = c.queue_calls_are_told.ensures.looks most h legal;
   purge = c.queue_calls_are_told.ensures.purge (new_msgq most) h;
+  put_decided = c.queue_calls_are_told.ensures.put_decided most h legal;
+  get_decided = c.queue_calls_are_told.ensures.get_decided most h legal;
+  always = c.queue_calls_are_told.ensures.always (new_msgq most) h;
+  done = c.queue_calls_are_told.ensures.done most h legal;
   put_waits = c.queue_waits_end.ensures.put_waits most h legal;
   get_waits = c.queue_waits_end.ensures.get_waits most h legal;
 }

@@ -10,12 +10,8 @@ returns c = λ initial limit low h legal. record {
   takes = c.calls_are_told.ensures.takes initial limit low h legal;
   told = c.calls_are_told.ensures.told initial limit low h legal;
   reset = c.calls_are_told.ensures.reset (new_sem initial limit) h;
+  decided = c.calls_are_told.ensures.decided initial limit low h legal;
   always = c.calls_are_told.ensures.always (new_sem initial limit) h;
   done = c.calls_are_told.ensures.done initial limit low h legal;
-  opened = c.waits_end.ensures.opened initial limit low h legal;
-  ends = c.waits_end.ensures.ends initial limit low h legal;
-  quits = c.waits_end.ensures.quits initial limit low h legal;
-  may_end = c.waits_end.ensures.may_end initial limit low h legal;
-  may_quit = c.waits_end.ensures.may_quit initial limit low h legal;
-  in_order = c.waits_end.ensures.in_order initial limit low h legal;
+  waits = c.waits_end.ensures.waits initial limit low h legal;
 }

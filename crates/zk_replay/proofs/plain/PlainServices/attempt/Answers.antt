@@ -1,5 +1,19 @@
-use Rattle.zk_worker.proofs.Between.{above-work, above-clock}
-use Rattle.zk_replay.specs.Alone.{plain_shown}
+use Rattle.zk_base.proofs.Lists.{All-at}
+use Rattle.std.proofs.Common.{refl, ap, ◌<◌, ◌-◌, ◌^◌, List, length}
+use Rattle.std.specs.Option.{option_map}
+use Rattle.zk_base.specs.declared.ids.Entry.{Entry}
+use Rattle.zk_model_wait.specs.declared.sem.SemOp.{SemOp}
+use Rattle.zk_model_wait.specs.declared.sem.SemReply.{SemReply}
+use Rattle.zk_model_wait.specs.declared.msgq.MsgqOp.{MsgqOp}
+use Rattle.zk_model_wait.specs.declared.msgq.MsgqReply.{MsgqReply}
+use Rattle.zk_worker.proofs.Between.{above-work, above-clock, above-sems, above-msgqs}
+use Rattle.zk_worker.specs.declared.steps.Step.TheVariants as steps
+use Rattle.zk_worker.specs.declared.steps.StepReply.TheVariants as step_replies
+use Rattle.zk_msgq.specs.Seen.{msgq_history}
+use Rattle.zk_sem.specs.Seen.{sem_history}
+use Rattle.zk_replay.specs.Alone.{plain_machines, plain_shown}
+use Rattle.zk_replay.specs.Objects.{histories_of}
+use Rattle.zk_replay.proofs.Among.{attempted-at}
 use Rattle.zk_replay.proofs.plain.PlainServices.attempt.Goals as goal
 
 pub act-requires-clause-later : goal.act-requires-clause-later
@@ -7,3 +21,61 @@ act-requires-clause-later c = above-work (plain_shown c.args.self.now) c.args.wh
 
 pub act-requires-in-Clock-clause-later : goal.act-requires-in-Clock-clause-later
 act-requires-in-Clock-clause-later c = above-clock (plain_shown c.args.self.now) c.args.who.number c.args.number c.requires.later
+
+pub act_at-requires-clause-later : goal.act_at-requires-clause-later
+act_at-requires-clause-later c = λ h there.
+    above-sems (plain_shown c.args.self.now) c.args.who.number c.args.number c.in-Sem.object h there c.requires.later
+
+pub act_at-requires-clause-short : goal.act_at-requires-clause-short
+act_at-requires-clause-short c = λ h there.
+    let P : List (Entry SemOp SemReply) → Type 0 = λ h. length h < 2 ^ 32 - 1 in
+    All-at P (plain_shown c.args.self.now).sems c.in-Sem.object h (c.requires.short refl).sems there
+
+pub act_at-requires-in-Msgq-clause-later : goal.act_at-requires-in-Msgq-clause-later
+act_at-requires-in-Msgq-clause-later c = λ h there.
+    above-msgqs (plain_shown c.args.self.now) c.args.who.number c.args.number c.in-Msgq.object h there c.requires.later
+
+pub act_at-requires-in-Msgq-clause-short : goal.act_at-requires-in-Msgq-clause-short
+act_at-requires-in-Msgq-clause-short c = λ h there.
+    let P : List (Entry MsgqOp MsgqReply) → Type 0 = λ h. length h < 2 ^ 32 - 1 in
+    All-at P (plain_shown c.args.self.now).msgqs c.in-Msgq.object h (c.requires.short refl).msgqs there
+
+pub returns-in-Some-clause-attempted : goal.returns-in-Some-clause-attempted
+returns-in-Some-clause-attempted c =
+    let old = plain_shown c.args.self.now in
+    let object = c.in-Sem.object in
+    let made = c.in_ok-reply-in-Sem in
+    attempted-at (plain_machines c.args.self.now) c.args.who c.args.number object c.in-Sem.op (steps.Sem object c.in-Sem.op) (step_replies.Sem object) old
+    (λ hs. record old { sems = hs }) old.sems refl refl (λ r place. refl)
+    (histories_of sem_history c.act_at.new.objects.items) made.field-0 _ _ (made.ensures.made step_replies.Sem) made.ensures.entry c.in-Sem.is
+    (ap (option_map (λ made. step_replies.Sem object made.0 made.1)) c.in-Some.is)
+
+pub returns-in-None-clause-attempted : goal.returns-in-None-clause-attempted
+returns-in-None-clause-attempted c =
+    let old = plain_shown c.args.self.now in
+    let object = c.in-Sem.object in
+    let made = c.in_ok-reply-in-Sem in
+    attempted-at (plain_machines c.args.self.now) c.args.who c.args.number object c.in-Sem.op (steps.Sem object c.in-Sem.op) (step_replies.Sem object) old
+    (λ hs. record old { sems = hs }) old.sems refl refl (λ r place. refl)
+    (histories_of sem_history c.act_at.new.objects.items) made.field-0 _ _ (made.ensures.made step_replies.Sem) made.ensures.entry c.in-Sem.is
+    (ap (option_map (λ made. step_replies.Sem object made.0 made.1)) c.in-None.is)
+
+pub returns-in-Some-2-clause-attempted : goal.returns-in-Some-2-clause-attempted
+returns-in-Some-2-clause-attempted c =
+    let old = plain_shown c.args.self.now in
+    let object = c.in-Msgq.object in
+    let made = c.in_ok-reply-in-Msgq in
+    attempted-at (plain_machines c.args.self.now) c.args.who c.args.number object c.in-Msgq.op (steps.Msgq object c.in-Msgq.op) (step_replies.Msgq object) old
+    (λ hs. record old { msgqs = hs }) old.msgqs refl refl (λ r place. refl)
+    (histories_of msgq_history c.act_at-in-Msgq.new.objects.items) made.field-0 _ _ (made.ensures.made step_replies.Msgq) made.ensures.entry c.in-Msgq.is
+    (ap (option_map (λ made. step_replies.Msgq object made.0 made.1)) c.in-Some-2.is)
+
+pub returns-in-None-2-clause-attempted : goal.returns-in-None-2-clause-attempted
+returns-in-None-2-clause-attempted c =
+    let old = plain_shown c.args.self.now in
+    let object = c.in-Msgq.object in
+    let made = c.in_ok-reply-in-Msgq in
+    attempted-at (plain_machines c.args.self.now) c.args.who c.args.number object c.in-Msgq.op (steps.Msgq object c.in-Msgq.op) (step_replies.Msgq object) old
+    (λ hs. record old { msgqs = hs }) old.msgqs refl refl (λ r place. refl)
+    (histories_of msgq_history c.act_at-in-Msgq.new.objects.items) made.field-0 _ _ (made.ensures.made step_replies.Msgq) made.ensures.entry c.in-Msgq.is
+    (ap (option_map (λ made. step_replies.Msgq object made.0 made.1)) c.in-None-2.is)

@@ -6,9 +6,9 @@ use Rattle.zk_scenario.proofs.reader.Reader.accept_decl.Goals as goal
 
 pub declare-requires-clause-fresh : goal.declare-requires-clause-fresh
 declare-requires-clause-fresh c =
-    let passes = Passes-verdict c.args.self.now (head.Declare c.args.kind) c.args.parts c.requires.passes in
-    fresh-read c.args.self.now.decls c.args.kind c.args.parts c.in-Some.decl passes.well_named (search rules)
+    let passes = Passes-verdict c.args.self.now (head.Declare c.args.kind) c.args.parts.now c.requires.passes in
+    fresh-read c.args.self.now.decls c.args.kind c.args.parts.now c.in-Some.decl passes.well_named (search rules)
 
 pub declare-requires-clause-valid : goal.declare-requires-clause-valid
 declare-requires-clause-valid c =
-    IsValid-declared-is _ _ c.args.kind c.args.parts _ c.self.view_is c.self.invariant.valid c.requires.passes (search rules)
+    IsValid-declared-is _ _ c.args.kind c.args.parts.now _ c.self.view_is c.self.invariant.valid c.requires.form c.requires.passes (search rules)

@@ -1,10 +1,11 @@
-use Rattle.std.proofs.Common.{◌<◌, ap, sym, subst, arith, rules, length, reverse, vec_capacity}
+use Rattle.std.proofs.Common.{◌<◌, refl, ap, sym, subst, arith, rules, length, reverse, vec_capacity}
 use Rattle.zk_worker.specs.declared.steps.TheConstants.{MOST_STEPS}
 use Rattle.zk_worker.specs.Places.{At}
 use Rattle.zk_worker.specs.Follows.{IsFollowing}
 use Rattle.zk_worker.specs.Ranges.{FramesFit}
 use Rattle.zk_worker.proofs.Limits.{ahead_short, IsRoomy-moved}
 use Rattle.zk_worker.proofs.Fits.{after-fits}
+use Rattle.zk_worker.proofs.Looking.{looks-stepped}
 use Rattle.zk_worker.proofs.Following.{following-more}
 use Rattle.zk_worker.proofs.player.Player.made.Goals as goal
 
@@ -36,3 +37,8 @@ returns-clause-follows c =
     let at = c.args.self.now in
     λ number old new more is. subst (λ (x : At). IsFollowing s number new x) (sym (returns-clause-next c))
     (following-more s number old new at c.args.step c.args.reply.now more c.requires.ahead is)
+
+pub returns-clause-looks : goal.returns-clause-looks
+returns-clause-looks c = λ alone m old new shows made right.
+    looks-stepped alone m m c.args.scenario.now c.args.self.now _ c.args.step c.args.reply.now old new refl shows right made
+    (returns-clause-next c)

@@ -6,8 +6,9 @@ use Rattle.zk_worker.specs.declared.frames.Frame.{Frame}
 use Rattle.zk_worker.specs.Places.{At}
 use Rattle.zk_worker.specs.Protocol.{settled, first_frame, role_at}
 use Rattle.zk_worker.proofs.DeclaredObjects.{players-below}
-use Rattle.zk_worker.proofs.Starts.{At-same, start_at-found}
+use Rattle.zk_worker.proofs.Starts.{At-same, start_at-found, start_at-fresh}
 use Rattle.zk_worker.proofs.Fits.{start_at-fits}
+use Rattle.zk_worker.proofs.Looking.{looks-fresh}
 use Rattle.zk_worker.proofs.Following.{following-fresh}
 use Rattle.zk_worker.proofs.player.Player.new.Goals as goal
 
@@ -41,3 +42,7 @@ returns-clause-fits c = start_at-fits c.args.scenario.now c.args.number _ (retur
 
 pub returns-clause-follows : goal.returns-clause-follows
 returns-clause-follows c = λ shown. following-fresh c.args.scenario.now c.args.number shown _ (returns-clause-start c)
+
+pub returns-clause-looks : goal.returns-clause-looks
+returns-clause-looks c =
+    λ m shown. looks-fresh m shown _ (start_at-fresh c.args.scenario.now c.args.number _ (returns-clause-start c)).none_made

@@ -1,0 +1,80 @@
+-- Where a run has come to its end, nobody has served whoever waits.
+use Rattle.std.proofs.Common.{◌≡◌, ℕ, zero, suc, Option, Some, None, List, [], ◌∷◌, length, refl, sym, ap, subst, ◌∙◌}
+use Rattle.std.specs.List.{slice_get}
+use Rattle.std.specs.Option.{option_map, option_and_then}
+use Rattle.zk_base.specs.declared.ids.Who.{Who}
+use Rattle.zk_base.specs.declared.ids.Entry.{Entry}
+use Rattle.zk_base.specs.Legal.{Machine, state_after}
+use Rattle.zk_base.specs.Waits.{decision_of}
+use Rattle.zk_base.proofs.Lists.{cond_nil-at}
+use Rattle.zk_model_wait.specs.declared.clock.ClockOp.TheVariants as clock_ops
+use Rattle.zk_model_wait.specs.declared.clock.ClockReply.{ClockReply}
+use Rattle.zk_model_wait.specs.declared.sem.SemOp.TheVariants as sem_ops
+use Rattle.zk_model_wait.specs.declared.msgq.MsgqOp.TheVariants as msgq_ops
+use Rattle.zk_model_wait.specs.Clock.{new_clock, clock_reply, clock_machine}
+use Rattle.zk_model_wait.specs.Sem.{Sem, sem_machine}
+use Rattle.zk_model_wait.specs.Msgq.{Msgq, msgq_machine}
+use Rattle.zk_scenario.specs.Parts.{Parts}
+use Rattle.zk_worker.specs.declared.steps.Step.{Step}
+use Rattle.zk_worker.specs.declared.steps.Step.TheVariants as steps
+use Rattle.zk_worker.specs.declared.steps.StepReply.{StepReply}
+use Rattle.zk_worker.specs.declared.steps.StepReply.TheVariants as step_replies
+use Rattle.zk_worker.specs.Single.{answer_in}
+use Rattle.zk_worker.specs.Families.{Family, start_of, answer_at}
+use Rattle.zk_worker.specs.Places.{At}
+use Rattle.zk_worker.specs.Protocol.{attempts, IsAhead}
+use Rattle.zk_worker.specs.Machines.{Machines, machines_of}
+use Rattle.zk_worker.specs.Shown.{Shown}
+use Rattle.zk_worker.specs.Attempt.{reply_in}
+use Rattle.zk_worker.specs.Choosing.{or_else, first_possible}
+use Rattle.zk_replay.specs.RoundRobin.{World}
+use Rattle.zk_replay.specs.Laws.{IsSemAt, IsMsgqAt, NoneIsServed}
+use Rattle.zk_replay.proofs.OneRun.{none_goes_on}
+
+-- where no attempt is possible, each isn't
+each-impossible : (m : Machines) (shown : Shown) (who : Who) (ahead : List Step) (k : ℕ) (step : Step) → first_possible m shown who ahead ≡ None →
+    slice_get ahead k ≡ Some step → reply_in m shown who step ≡ None
+each-impossible m shown who [] k step none there = absurd (cc)
+each-impossible m shown who (x ∷ xs) k step none there = by_answer (reply_in m shown who x) refl k there none (each-impossible m shown who xs)
+  where
+    by_answer : (answer : Option StepReply) → reply_in m shown who x ≡ answer → (k : ℕ) → slice_get (x ∷ xs) k ≡ Some step → or_else x answer (first_possible m shown who xs) ≡ None →
+        ((k : ℕ) (step : Step) → first_possible m shown who xs ≡ None → slice_get xs k ≡ Some step → reply_in m shown who step ≡ None) → reply_in m shown who step ≡ None
+    by_answer (Some reply) is k there none further = absurd (cc)
+    by_answer None is zero there none further = let same : x ≡ step = cc in subst (λ (y : Step). reply_in m shown who y ≡ None) same is
+    by_answer None is (suc k) there none further = further k step none there
+
+nothing-mapped : {A B : Type 0} (f : A → B) (o : Option A) → option_map f o ≡ None → o ≡ None
+nothing-mapped f None is = refl
+nothing-mapped f (Some a) is = absurd (cc)
+
+-- what an object doesn't answer, its machine doesn't after its history
+object-none : {S O R : Type 0} (family : Family S O R) (hs : List (List (Entry O R))) (tell : ℕ → R → ℕ → StepReply) (who : Who) (object : ℕ) (op : O) (start : S) (h : List (Entry O R)) →
+    start_of family object ≡ Some start → slice_get hs object ≡ Some h → answer_at family hs tell who object op ≡ None →
+    family.machine.reply_of (state_after family.machine start h) who op ≡ None
+object-none family hs tell who object op start h starts there none =
+    let one : answer_at family hs tell who object op ≡ answer_in family.machine start h (tell object) who op =
+    ap (option_and_then (λ start. option_and_then (λ h. answer_in family.machine start h (tell object) who op) (slice_get hs object))) starts
+    ∙ ap (option_and_then (λ h. answer_in family.machine start h (tell object) who op)) there in
+    nothing-mapped (λ reply. tell object reply (length h)) (family.machine.reply_of (state_after family.machine start h) who op) (sym one ∙ none)
+
+pub none_is_served : NoneIsServed
+none_is_served s w run unspent player at is = record {
+  takes = λ object place sem ahead stands.
+      subst (λ (x : Sem). decision_of x.takers at.who.number place ≡ None) (sym stands.4)
+      (object-none (machines_of s).sems w.shown.sems step_replies.Sem at.who object (sem_ops.TakeEnd place) stands.0 stands.1 stands.2 stands.3
+      (impossible (steps.Sem object (sem_ops.TakeEnd place)) ahead));
+  puts = λ object place queue ahead stands.
+      subst (λ (x : Msgq). decision_of x.puts at.who.number place ≡ None) (sym stands.4)
+      (object-none (machines_of s).msgqs w.shown.msgqs step_replies.Msgq at.who object (msgq_ops.PutEnd place) stands.0 stands.1 stands.2 stands.3
+      (impossible (steps.Msgq object (msgq_ops.PutEnd place)) ahead));
+  gets = λ object place queue ahead stands.
+      subst (λ (x : Msgq). decision_of x.gets at.who.number place ≡ None) (sym stands.4)
+      (object-none (machines_of s).msgqs w.shown.msgqs step_replies.Msgq at.who object (msgq_ops.GetEnd place) stands.0 stands.1 stands.2 stands.3
+      (impossible (steps.Msgq object (msgq_ops.GetEnd place)) ahead));
+  alarms = λ moment ahead.
+      nothing-mapped (λ (reply : ClockReply). step_replies.Clock reply (length w.shown.clock)) (clock_reply (state_after clock_machine new_clock w.shown.clock) at.who (clock_ops.AlarmEnd moment))
+      (impossible (steps.Clock (clock_ops.AlarmEnd moment)) ahead);
+}
+  where
+    impossible : (step : Step) → IsAhead s at step → reply_in (machines_of s) w.shown at.who step ≡ None
+    impossible step ahead = each-impossible (machines_of s) w.shown at.who (attempts s at) ahead.0 step (none_goes_on s w run unspent player at is) ahead.1

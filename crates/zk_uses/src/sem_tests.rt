@@ -1,0 +1,174 @@
+//! The semaphore service beside a plain semaphore, which keeps its waits as they came, over random histories.
+ghost use Rattle.zk_sem.specs.Seen.{sem_history};
+ghost use Rattle.zk_uses.specs.Tried.{IsBelow};
+
+use crate::draws::draw;
+use std::alloc::Global;
+use std::process::Abort;
+use std::test::Fail;
+use zk_base::{NoMemory, Service, Who};
+use zk_model_wait::{SemOp, SemReply};
+use zk_sem::Sem;
+
+const PLAYERS: u32 = 4;
+
+const LIMIT: u32 = 2;
+
+/// A wait, and its decision, if it has one.
+#[derive(Clone, Copy)]
+struct Wait {
+    place: u64,
+    who: Who,
+    told: Option<SemReply>,
+}
+
+/// A plain semaphore.
+#[derive(Drop)]
+struct Plain {
+    count: u32,
+    waits: Vec<Wait>,
+}
+
+/// This wait goes on, and is served before the other.
+fn comes_before(wait: &Wait, other: &Wait) -> bool {
+    wait.told.is_none()
+        && (wait.who.prio < other.who.prio
+            || (wait.who.prio == other.who.prio && wait.place < other.place))
+}
+
+/// The wait that a give decides.
+fn first(waits: &[Wait]) -> Option<usize> {
+    waits.iter().position(|wait| {
+        wait.told.is_none() && !waits.iter().any(|other| comes_before(other, wait))
+    })
+}
+
+impl Plain {
+    fn take(&mut self, place: u64, who: Who, waits: bool) -> Result<SemReply, NoMemory> {
+        if self.count > 0 {
+            self.count -= 1;
+            return Ok(SemReply::Got);
+        }
+        if !waits {
+            return Ok(SemReply::Busy);
+        }
+        self.waits.push(Wait {
+            place,
+            who,
+            told: None,
+        })?;
+        Ok(SemReply::Wait)
+    }
+
+    fn give(&mut self) {
+        match first(&self.waits) {
+            Some(at) if at < self.waits.len() => self.waits[at].told = Some(SemReply::Got),
+            _ => self.count = LIMIT.min(self.count.saturating_add(1)),
+        }
+    }
+
+    fn reset(&mut self) {
+        self.count = 0;
+        for wait in &mut self.waits {
+            wait.told = wait.told.or(Some(SemReply::Again));
+        }
+    }
+
+    fn end(&mut self, place: u64, who: Who) -> Option<SemReply> {
+        let at = self.waits.iter().position(|wait| {
+            wait.place == place && wait.who.number == who.number && wait.told.is_some()
+        })?;
+        self.waits.remove(at).told
+    }
+
+    fn quit(&mut self, place: u64, who: Who) -> Option<SemReply> {
+        let at = self.waits.iter().position(|wait| wait.place == place
+            && wait.who.number == who.number)?;
+        Some(self.waits.remove(at).told.unwrap_or(SemReply::Again))
+    }
+
+    /// One operation, where there are so many entries.
+    fn act(&mut self, place: u64, who: Who, op: SemOp) -> Result<Option<SemReply>, NoMemory> {
+        match op {
+            SemOp::Take(waits) => return Ok(Some(self.take(place, who, waits)?)),
+            SemOp::TakeEnd(at) => return Ok(self.end(at, who)),
+            SemOp::TakeQuit(at) => return Ok(self.quit(at, who)),
+            SemOp::Give => self.give(),
+            SemOp::Reset => self.reset(),
+            SemOp::Count => return Ok(Some(SemReply::Number(self.count))),
+        }
+        Ok(Some(SemReply::Done))
+    }
+}
+
+/// A semaphore beside a plain one.
+#[derive(Drop)]
+struct Beside {
+    sem: Sem,
+    plain: Plain,
+    next: u32,
+    ghost below: { IsBelow next (sem_history sem) },
+}
+
+/// The next operation: mostly takes that wait, gives, and ends of the waits of one of the last entries.
+fn drawn(seed: &mut u32, entries: u64) -> SemOp {
+    let place = entries.saturating_sub(u64::from(draw(seed, 9)));
+    match draw(seed, 12) {
+        0..=3 => SemOp::Take(true),
+        4 => SemOp::Take(false),
+        5 | 6 => SemOp::TakeEnd(place),
+        7 => SemOp::TakeQuit(place),
+        8..=9 => SemOp::Give,
+        10 => SemOp::Count,
+        _ if draw(seed, 4) == 0 => SemOp::Reset,
+        _ => SemOp::Give,
+    }
+}
+
+impl Beside {
+    fn new(alloc: Global) -> Result<Beside, Fail> {
+        let sem = Sem::new(alloc, 1, LIMIT)?;
+        let plain = Plain {
+            count: 1,
+            waits: Vec::new(alloc),
+        };
+        Ok(Beside {
+            sem,
+            plain,
+            next: 0,
+        })
+    }
+
+    /// One attempt, which both answer alike.
+    fn attempt<R: Abort>(&mut self, rt: &R, who: Who, op: SemOp) -> Result<(), NoMemory> {
+        let step = self.next;
+        if step >= 1000 {
+            return Ok(());
+        }
+        let place = self.sem.history().len() as u64;
+        self.next = step + 1;
+        let told = self.sem.act(who, step, op)?;
+        let wanted = self.plain.act(place, who, op)?;
+        assert_eq!(rt; told, wanted, "at {place}");
+        Ok(())
+    }
+
+    fn step<R: Abort>(&mut self, rt: &R, seed: &mut u32) -> Result<(), NoMemory> {
+        let number = draw(seed, PLAYERS);
+        let prio = if number < 2 { 0 } else { number as i8 - 3 };
+        let op = drawn(seed, self.sem.history().len() as u64);
+        self.attempt(rt, Who { number, prio }, op)
+    }
+}
+
+#[test]
+fn random_histories(rt: HostRuntime) -> Result<(), Fail> {
+    for history in 0..20 {
+        let mut seed = history;
+        let mut beside = Beside::new(rt.alloc())?;
+        for _ in 0..200 {
+            beside.step(&rt, &mut seed)?;
+        }
+    }
+    Ok(())
+}

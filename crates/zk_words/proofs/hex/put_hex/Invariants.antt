@@ -1,0 +1,6 @@
+use Rattle.std.proofs.Common.{◌≡◌, ◌++◌, take}
+use Rattle.zk_words.specs.Hex.{hex_text}
+use Rattle.zk_words.proofs.hex.put_hex.Given as goal
+
+abbrev pub invariant-loop-byte : goal.invariant-loop-byte
+invariant-loop-byte l = l.out.items ≡ l.initial.out.items ++ hex_text (take l.byte-index l.bytes)
