@@ -35,6 +35,14 @@ pub trait Engine: Drop {
     /// Whether an operation may take memory at any room.
     ghost grows: { Self.Op → Bool };
 
+    /// The word of an index that is published for looks, in a state.
+    ghost word: { Self.State → ℕ → ℕ };
+
+    ghost WORDS: { ℕ };
+
+    /// How many words are published for looks: those of the indices below it.
+    const WORDS: u32;
+
     /// One operation. The reply comes twice, since one of them is kept in the history.
     fn step(
         &mut self,
@@ -56,6 +64,11 @@ pub trait Engine: Drop {
     /// How many entries are owed now.
     fn owed(&self) -> u64
         ensures { (s : Self.State) → stands_for self.now s → result ≡ owed s };
+
+    /// The word of this index, now.
+    fn word(&self, index: u32) -> u32
+        ensures word { (s : Self.State) → stands_for self.now s → result ≡ word s index }
+        ensures small { index < WORDS → result < 65536 };
 
     /// Makes room for three changes.
     fn reserve(&mut self) -> Result<(), NoMemory>

@@ -15,8 +15,6 @@ mod service;
 mod sink;
 mod source;
 mod standard;
-#[cfg(test)]
-mod tests;
 mod text;
 mod waits;
 

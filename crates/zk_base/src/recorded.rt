@@ -104,6 +104,12 @@ impl<C: Engine> Service for Recorded<C> {
 
     ghost grows = { C.grows };
 
+    ghost word = { C.word };
+
+    ghost WORDS = { C.WORDS };
+
+    const WORDS: u32 = C::WORDS;
+
     fn act(&mut self, who: Who, step: u32, op: C::Op) -> Result<Option<C::Reply>, NoMemory> {
         make_room(&self.engine, &mut self.past, who, &op)?;
         match self.engine.step(who, &op)? {
@@ -127,6 +133,10 @@ impl<C: Engine> Service for Recorded<C> {
         let owed = self.engine.owed();
         self.past.reserve(owed as usize + 3)?;
         self.engine.reserve()
+    }
+
+    fn word(&self, index: u32) -> u32 {
+        self.engine.word(index)
     }
 
     fn room(&self) -> u64 {

@@ -35,6 +35,14 @@ pub trait Service: Drop {
     /// Whether an operation may take memory at any room.
     ghost grows: { Self.Op → Bool };
 
+    /// The word of an index that is published for looks, in a state.
+    ghost word: { Self.State → ℕ → ℕ };
+
+    ghost WORDS: { ℕ };
+
+    /// How many words are published for looks: those of the indices below it.
+    const WORDS: u32;
+
     /// Makes one entry, or says that the machine doesn't let it stand.
     ///
     /// The step is the number of this step among all steps of the player, at whatever service.
@@ -64,6 +72,11 @@ pub trait Service: Drop {
         ensures more { room self.old ≤ room self.new }
         ensures history { history self.new ≡ history self.old }
         ensures start { start self.new ≡ start self.old };
+
+    /// The word of this index, which is published for looks: a function of the history, 0 at an index that has none.
+    fn word(&self, index: u32) -> u32
+        ensures word { result ≡ word (state_after machine (start self.now) (history self.now)) index }
+        ensures small { index < WORDS → result < 65536 };
 
     /// How many entries fit beside the owed ones.
     fn room(&self) -> u64

@@ -1,15 +1,16 @@
--- The semaphores and message queues of a scenario start as the laws of their histories ask.
+-- The semaphores, message queues and signals of a scenario start as the laws of their histories ask.
 use Rattle.std.proofs.Common.{◌≡◌, ℕ, zero, suc, ◌≤◌, true, ◌&&◌, nat_le, Option, Some, None, List, [], ◌∷◌, map, refl, sym}
 use Rattle.std.specs.List.{slice_get, list_all}
 use Rattle.std.specs.Option.{option_and_then}
 use Rattle.std.proofs.lemmas.Bool.{and_parts, leb-true}
 use Rattle.zk_model_wait.specs.Sem as sem
 use Rattle.zk_model_wait.specs.Msgq as msgq
+use Rattle.zk_model_wait.specs.Signal as signal
 use Rattle.zk_words.specs.Numbers.{is_between}
 use Rattle.zk_line.specs.declared.types.Decl.{Decl}
-use Rattle.zk_line.specs.declared.types.Decl.TheVariants.{Thread, Queue, Item, Sem, Msgq}
+use Rattle.zk_line.specs.declared.types.Decl.TheVariants.{Thread, Queue, Item, Sem, Msgq, Signal}
 use Rattle.zk_line.specs.Fits.{decl_fits}
-use Rattle.zk_worker.specs.Machines.{sem_start, msgq_start}
+use Rattle.zk_worker.specs.Machines.{sem_start, msgq_start, signal_start}
 
 -- a semaphore that starts at a count within its limit
 pub record StartsAsSem (start : sem.Sem) : Type 0 where
@@ -35,6 +36,7 @@ sem-starts (Sem name initial limit ∷ ds) zero start fit is =
     let counts = and_parts (is_between 1 1000000 limit) (nat_le initial limit) here.0 in
     record { initial = initial; limit = limit; within = leb-true initial limit counts.1; is_new = cc }
 sem-starts (Msgq name size most ∷ ds) zero start fit is = absurd (cc)
+sem-starts (Signal name ∷ ds) zero start fit is = absurd (cc)
 sem-starts (d ∷ ds) (suc object) start fit is = sem-starts ds object start (and_parts (decl_fits d) (list_all decl_fits ds) fit).1 is
 
 -- and each declared message queue
@@ -46,4 +48,17 @@ msgq-starts (Queue name prio on ∷ ds) zero start is = absurd (cc)
 msgq-starts (Item name ∷ ds) zero start is = absurd (cc)
 msgq-starts (Sem name initial limit ∷ ds) zero start is = absurd (cc)
 msgq-starts (Msgq name size most ∷ ds) zero start is = record { most = most; is_new = cc }
+msgq-starts (Signal name ∷ ds) zero start is = absurd (cc)
 msgq-starts (d ∷ ds) (suc object) start is = msgq-starts ds object start is
+
+-- each declared signal starts clear
+pub signal-starts : (decls : List Decl) (object : ℕ) (start : signal.Signal) →
+    option_and_then (λ s. s) (slice_get (map signal_start decls) object) ≡ Some start → start ≡ signal.new_signal
+signal-starts [] object start is = absurd (cc)
+signal-starts (Thread name prio user ∷ ds) zero start is = absurd (cc)
+signal-starts (Queue name prio on ∷ ds) zero start is = absurd (cc)
+signal-starts (Item name ∷ ds) zero start is = absurd (cc)
+signal-starts (Sem name initial limit ∷ ds) zero start is = absurd (cc)
+signal-starts (Msgq name size most ∷ ds) zero start is = absurd (cc)
+signal-starts (Signal name ∷ ds) zero start is = cc
+signal-starts (d ∷ ds) (suc object) start is = signal-starts ds object start is

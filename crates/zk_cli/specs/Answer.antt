@@ -4,6 +4,7 @@ use Rattle.zk_base.specs.declared.errors.Status.TheVariants as statuses
 use Rattle.zk_model_wait.specs.ClockLaws.{KeepsClockLaws}
 use Rattle.zk_model_wait.specs.MsgqLaws.{KeepsMsgqLaws}
 use Rattle.zk_model_wait.specs.SemLaws.{KeepsSemLaws}
+use Rattle.zk_model_wait.specs.SignalLaws.{KeepsSignalLaws}
 use Rattle.zk_model_work.specs.Laws.{KeepsLaws}
 use Rattle.zk_scenario.specs.Parts.{Parts}
 use Rattle.zk_scenario.specs.declared.refused.ScenarioRefused.{ScenarioRefused}
@@ -33,6 +34,7 @@ pub record IsRun (ending : Ending) (input output : List ℕ) : Type 0 where
   pub clock_laws : AtEachMoment KeepsClockLaws trace.clock
   pub sem_laws : AtEachObject KeepsSemLaws (machines_of scenario).sems trace.sems
   pub msgq_laws : AtEachObject KeepsMsgqLaws (machines_of scenario).msgqs trace.msgqs
+  pub signal_laws : AtEachObject (λ start. KeepsSignalLaws) (machines_of scenario).signals trace.signals
   pub over : IsOver scenario trace
   pub ends : trace.ending ≡ ending
   pub printed : output ≡ text_of scenario ++ trace_text scenario trace

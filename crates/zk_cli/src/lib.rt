@@ -13,6 +13,8 @@ mod replay_tests;
 #[cfg(test)]
 mod tests;
 mod top;
+#[cfg(test)]
+mod trace_tests;
 
 pub use input::LIMIT;
 pub use top::zk_plain;

@@ -34,7 +34,7 @@ impl Thread {
         let Some(step) = self.player.ahead(&self.scenario, 0) else {
             return Ok(String::from_str(alloc, "none")?);
         };
-        self.player.made(&self.scenario, step, reply);
+        self.player.made(&self.scenario, &step, reply);
         let spot = self.player.spots().last().copied();
         Ok(format!(in alloc; "{step:?} {spot:?}")?)
     }

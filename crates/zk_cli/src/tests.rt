@@ -326,10 +326,7 @@ fn other_inputs_are_told(rt: HostRuntime) -> Result<(), Fail> {
     )?;
     for (input, output) in [
         ("", "refused 1 header\n"),
-        (
-            "zk 1\nthread t0 0 super\nsignal g0\n",
-            "refused 3 unbuilt\n",
-        ),
+        ("zk 1\nthread t0 0 super\nsub b0 1\n", "refused 3 unbuilt\n"),
         ("zk 1\nitem w0\nscript w0\n", "refused 4 order\n"),
         ("zk 1\nitem w0\nitem w0\n", "refused 3 name\n"),
     ] {

@@ -130,6 +130,7 @@ first_name (decl.Queue name prio on) = (_, refl)
 first_name (decl.Item name) = (_, refl)
 first_name (decl.Sem name initial limit) = (_, refl)
 first_name (decl.Msgq name size capacity) = (_, refl)
+first_name (decl.Signal name) = (_, refl)
 
 -- the name of what a line declares is no other's
 pub fresh-read : (decls : List Decl) (k : Kind) (parts : List Placed) (d : Decl) → are_well_named decls parts ≡ true → option_and_then (decl_of k) (args_of decls parts) ≡ Some d → object_of decls (name_of d) ≡ None

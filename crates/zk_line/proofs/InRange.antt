@@ -85,6 +85,7 @@ by_kind decls size ws (decl.Sem name n most) fit said together =
 by_kind decls size ws (decl.Msgq name bytes capacity) fit said together =
     let numbers = and_parts (is_between 1 64 bytes) (is_between 1 256 capacity && true) fit in
     and_from (is_between 1 64 bytes) (is_between 1 256 capacity) numbers.0 (and_parts (is_between 1 256 capacity) true numbers.1).0
+by_kind decls size ws (decl.Signal name) fit said together = refl
 
 -- what a line declares whose words are in range is in range
 pub decl_fits-read : (decls : List Decl) (k : Kind) (ws : List (List ℕ)) (d : Decl) → are_in_range decls (Declare k) (parts_of (kind_row k).slots (kind_row k).rest ws) ≡ true

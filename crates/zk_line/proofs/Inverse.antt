@@ -1,7 +1,8 @@
 -- A call and how it is written say each other, and so do a declaration and how it is written.
-use Rattle.std.proofs.Common.{◌≡◌, ℕ, Bool, true, false, cond, List, [], ◌∷◌, Option, Some, None, refl, sym, ap, ◌∙◌}
+use Rattle.std.proofs.Common.{◌≡◌, ℕ, ◌<◌, Bool, true, false, cond, nat_lt, List, [], ◌∷◌, Option, Some, None, refl, sym, ap, ◌∙◌}
 use Rattle.std.specs.Prelude.{ℤ, option_map, option_to_list}
-use Rattle.std.proofs.lemmas.Option.{same_Some}
+use Rattle.std.proofs.lemmas.Bool.{cond-true, lt-ltb}
+use Rattle.std.proofs.lemmas.Option.{cond_some, same_Some}
 use Rattle.zk_words.specs.declared.slot.Choice.{Choice}
 use Rattle.zk_words.specs.declared.slot.Choice.TheVariants.{Mode, State, Drain}
 use Rattle.zk_words.specs.declared.kind.Kind.{Kind}
@@ -20,7 +21,7 @@ use Rattle.zk_line.specs.declared.types.Decl.TheVariants as decl
 use Rattle.zk_line.specs.Calls.{saying, call_of, said_of}
 use Rattle.zk_line.specs.Decls.{decl_of, decl_args}
 use Rattle.zk_line.specs.Objects.{kind_of}
-use Rattle.zk_line.specs.Shapes.{as_name, as_object, as_number, as_priority, as_truth, as_bytes, as_wait, both, all_three, one, two, three, one_or_two}
+use Rattle.zk_line.specs.Shapes.{as_name, as_object, as_number, as_result, as_priority, as_truth, as_bytes, as_wait, both, all_three, one, two, three, one_or_two}
 
 -- an argument is read from just the one that is written of it
 abbrev pub IsPart : {A : Type 0} → (Arg → Option A) → (A → Arg) → Type 0
@@ -47,6 +48,10 @@ object-is a x e = absurd (cc)
 number-is : IsPart as_number Number
 number-is (Number n) x e = ap Number (same_Some n x e)
 number-is a x e = absurd (cc)
+
+result-is : IsPart as_result Number
+result-is (Number n) x e = ap Number (cond_some (nat_lt n 65536) n x e).1
+result-is a x e = absurd (cc)
 
 priority-is : IsPart as_priority Priority
 priority-is (Priority p) x e = ap Priority (same_Some p x e)
@@ -133,6 +138,7 @@ said_of-call_of word.Flush = one_object word.Flush call.Flush (λ x. refl)
 said_of-call_of word.Schedule = delayed word.Schedule (λ p. call.Schedule p.0 p.1 p.2) (λ x. refl)
 said_of-call_of word.Reschedule = delayed word.Reschedule (λ p. call.Reschedule p.0 p.1 p.2) (λ x. refl)
 said_of-call_of word.Remaining = one_object word.Remaining call.Remaining (λ x. refl)
+said_of-call_of word.Busy = one_object word.Busy call.Busy (λ x. refl)
 said_of-call_of word.Start = one_object word.Start call.Start (λ x. refl)
 said_of-call_of word.Drain = by_shape (two as_object (as_truth Drain)) _ (λ p. call.Drain p.0 p.1) said_of (saying word.Drain) (two-is as_object Object (as_truth Drain) (Truth Drain) object-is (truth-is Drain)) (λ x. refl)
 said_of-call_of word.Unplug = one_object word.Unplug call.Unplug (λ x. refl)
@@ -148,32 +154,45 @@ said_of-call_of word.PeekAt = by_shape (two as_object as_number) _ (λ p. call.P
 said_of-call_of word.Purge = one_object word.Purge call.Purge (λ x. refl)
 said_of-call_of word.Used = one_object word.Used call.Used (λ x. refl)
 said_of-call_of word.Free = one_object word.Free call.Free (λ x. refl)
+said_of-call_of word.Raise = by_shape (two as_object as_result) _ (λ p. call.Raise p.0 p.1) said_of (saying word.Raise) (two-is as_object Object as_result Number object-is result-is) (λ x. refl)
+said_of-call_of word.Clear = one_object word.Clear call.Clear (λ x. refl)
+said_of-call_of word.Check = one_object word.Check call.Check (λ x. refl)
+
+-- a call can be kept: the result of a signal is a number of 16 bits
+abbrev pub IsKept : Call → Type 0
+IsKept (call.Raise signal result) = result < 65536
+IsKept c = Unit {0}
 
 -- what is written of a call makes that call
-pub call_of-said_of : (c : Call) → call_of (said_of c).word (said_of c).args ≡ Some c
-call_of-said_of (call.Submit item None) = refl
-call_of-said_of (call.Submit item (Some queue)) = refl
-call_of-said_of (call.Cancel item) = refl
-call_of-said_of (call.CancelSync item) = refl
-call_of-said_of (call.Flush item) = refl
-call_of-said_of (call.Schedule item queue delay) = refl
-call_of-said_of (call.Reschedule item queue delay) = refl
-call_of-said_of (call.Remaining item) = refl
-call_of-said_of (call.Start queue) = refl
-call_of-said_of (call.Drain queue plug) = refl
-call_of-said_of (call.Unplug queue) = refl
-call_of-said_of (call.Tick ticks) = refl
-call_of-said_of (call.Take sem wait) = refl
-call_of-said_of (call.Give sem) = refl
-call_of-said_of (call.Reset sem) = refl
-call_of-said_of (call.Count sem) = refl
-call_of-said_of (call.Put msgq message wait) = refl
-call_of-said_of (call.Get msgq wait) = refl
-call_of-said_of (call.Peek msgq) = refl
-call_of-said_of (call.PeekAt msgq index) = refl
-call_of-said_of (call.Purge msgq) = refl
-call_of-said_of (call.Used msgq) = refl
-call_of-said_of (call.Free msgq) = refl
+pub call_of-said_of : (c : Call) → IsKept c → call_of (said_of c).word (said_of c).args ≡ Some c
+call_of-said_of (call.Submit item None) kept = refl
+call_of-said_of (call.Submit item (Some queue)) kept = refl
+call_of-said_of (call.Cancel item) kept = refl
+call_of-said_of (call.CancelSync item) kept = refl
+call_of-said_of (call.Flush item) kept = refl
+call_of-said_of (call.Schedule item queue delay) kept = refl
+call_of-said_of (call.Reschedule item queue delay) kept = refl
+call_of-said_of (call.Remaining item) kept = refl
+call_of-said_of (call.Busy item) kept = refl
+call_of-said_of (call.Start queue) kept = refl
+call_of-said_of (call.Drain queue plug) kept = refl
+call_of-said_of (call.Unplug queue) kept = refl
+call_of-said_of (call.Tick ticks) kept = refl
+call_of-said_of (call.Take sem wait) kept = refl
+call_of-said_of (call.Give sem) kept = refl
+call_of-said_of (call.Reset sem) kept = refl
+call_of-said_of (call.Count sem) kept = refl
+call_of-said_of (call.Put msgq message wait) kept = refl
+call_of-said_of (call.Get msgq wait) kept = refl
+call_of-said_of (call.Peek msgq) kept = refl
+call_of-said_of (call.PeekAt msgq index) kept = refl
+call_of-said_of (call.Purge msgq) kept = refl
+call_of-said_of (call.Used msgq) kept = refl
+call_of-said_of (call.Free msgq) kept = refl
+call_of-said_of (call.Raise signal result) kept =
+    ap (λ o. option_map (λ p. call.Raise p.0 p.1) (both (Some signal) o)) (cond-true (nat_lt result 65536) (Some result) None (lt-ltb result 65536 kept))
+call_of-said_of (call.Clear signal) kept = refl
+call_of-said_of (call.Check signal) kept = refl
 
 -- a declaration as it is written: its kind, and what stands behind that
 pub record Written : Type 0 where
@@ -206,6 +225,7 @@ written_of-decl_of kind.Queue = playing kind.Queue State (λ p. decl.Queue p.0 p
 written_of-decl_of kind.Item = by_shape (one as_name) _ decl.Item written_of (written kind.Item) (one-is as_name Name name-is) (λ x. refl)
 written_of-decl_of kind.Sem = numbered kind.Sem (λ p. decl.Sem p.0 p.1 p.2) (λ x. refl)
 written_of-decl_of kind.Msgq = numbered kind.Msgq (λ p. decl.Msgq p.0 p.1 p.2) (λ x. refl)
+written_of-decl_of kind.Signal = by_shape (one as_name) _ decl.Signal written_of (written kind.Signal) (one-is as_name Name name-is) (λ x. refl)
 
 -- what is written of a declaration makes that declaration
 pub decl_of-decl_args : (d : Decl) → decl_of (kind_of d) (decl_args d) ≡ Some d
@@ -214,3 +234,4 @@ decl_of-decl_args (decl.Queue name prio on) = refl
 decl_of-decl_args (decl.Item name) = refl
 decl_of-decl_args (decl.Sem name initial limit) = refl
 decl_of-decl_args (decl.Msgq name size capacity) = refl
+decl_of-decl_args (decl.Signal name) = refl

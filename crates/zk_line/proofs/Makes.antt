@@ -1,9 +1,9 @@
 -- A line of right words makes its call or its declaration.
-use Rattle.std.proofs.Common.{◌≡◌, ℕ, ◌/◌, Bool, true, false, cond, nat_le, ◌&&◌, ◌||◌, List, [], ◌∷◌, length, Option, Some, None, is_some, refl, sym, ap, subst, ◌∙◌}
+use Rattle.std.proofs.Common.{◌≡◌, ℕ, ◌/◌, Bool, true, false, cond, nat_le, nat_lt, ◌&&◌, ◌||◌, List, [], ◌∷◌, length, Option, Some, None, is_some, arith, refl, sym, ap, subst, ◌∙◌}
 use Rattle.std.specs.Prelude.{option_map, option_and_then, IsSome, bytes_eq}
 use Rattle.std.specs.List.{list_all}
 use Rattle.std.specs.Option.{option_map_or, option_flatten}
-use Rattle.std.proofs.lemmas.Bool.{and_parts, and_from, cond-true}
+use Rattle.std.proofs.lemmas.Bool.{and_parts, and_from, cond-true, lt-ltb, leb-true}
 use Rattle.zk_base.specs.Names.{is_name}
 use Rattle.zk_words.specs.declared.kind.Kind.{Kind}
 use Rattle.zk_words.specs.declared.kind.Kind.TheVariants as kind
@@ -22,8 +22,9 @@ use Rattle.zk_words.specs.Hex.{is_hex, bytes_of}
 use Rattle.zk_words.specs.Numbers.{number_in, priority_of}
 use Rattle.zk_words.specs.Parts.{Placed, placed, parts_of, fits}
 use Rattle.zk_words.specs.Spelled.{choice_text, is_spelled_in, part_is_spelled}
-use Rattle.zk_words.specs.Table.{call_row, kind_row, item, queue, sem, msgq, delay, ticks, index, initial, limit, size, capacity}
+use Rattle.zk_words.specs.Table.{call_row, kind_row, item, queue, sem, msgq, signal, delay, ticks, index, initial, limit, size, capacity, result}
 use Rattle.zk_words.specs.Timeouts.{wait_of}
+use Rattle.zk_words.proofs.Numerals.{number_in_spelled}
 use Rattle.zk_line.specs.declared.types.Decl.{Decl}
 use Rattle.zk_line.specs.declared.types.Decl.TheVariants as decl
 use Rattle.zk_line.specs.declared.types.Ref.{Ref}
@@ -37,7 +38,7 @@ use Rattle.zk_line.specs.Calls.{call_of}
 use Rattle.zk_line.specs.Checks.{is_size, is_in_range, each_in_range, is_well_named, are_well_named}
 use Rattle.zk_line.specs.Decls.{decl_of}
 use Rattle.zk_line.specs.Objects.{object_of, is_at, is_met}
-use Rattle.zk_line.specs.Shapes.{as_name, as_object, as_number, as_priority, as_truth, as_bytes, as_wait, both, all_three, one, two, three, one_or_two}
+use Rattle.zk_line.specs.Shapes.{as_name, as_object, as_number, as_result, as_priority, as_truth, as_bytes, as_wait, both, all_three, one, two, three, one_or_two}
 
 -- a word is spelled, in range and well named, in a line whose messages have so many bytes
 pub record IsRight (decls : List Decl) (bytes : Option ℕ) (s : Slot) (w : List ℕ) : Type 0 where
@@ -79,6 +80,12 @@ object-made n decls bytes w right = by_place (object_of decls w) refl where
 
 number-made : (least most : ℕ) → IsMade (slot.Number least most) as_number
 number-made least most decls bytes w right = let n = is_some-some (number_in least most w) right.in_range in (Number n.0, ap (option_map Number) n.1, refl)
+
+result-made : IsMade result as_result
+result-made decls bytes w right =
+    let n = is_some-some (number_in 0 65535 w) right.in_range in
+    let most = leb-true n.0 65535 (and_parts (nat_le 0 n.0) (nat_le n.0 65535) (number_in_spelled 0 65535 w n.0 n.1).1).1 in
+    (Number n.0, ap (option_map Number) n.1, ap is_some (cond-true (nat_lt n.0 65536) (Some n.0) None (lt-ltb n.0 65536 (omega arith))))
 
 priority-made : IsMade slot.Priority as_priority
 priority-made decls bytes w right = let p = is_some-some (option_flatten (priority_of w)) right.in_range in (Priority p.0, ap (option_map Priority) p.1, refl)
@@ -161,6 +168,11 @@ three_maybe_raw-line s f t g r h made also third decls bytes (w ∷ v ∷ []) fi
 three_maybe_raw-line s f t g r h made also third decls bytes (w ∷ v ∷ u ∷ []) fit right = three-line s f t g r h made also third decls bytes (w ∷ v ∷ u ∷ []) refl right
 three_maybe_raw-line s f t g r h made also third decls bytes (w ∷ v ∷ u ∷ x ∷ ws) fit right = let none : false ≡ true = right.1.1.1.0.named in absurd (cc)
 
+one_maybe_raw-line : {A : Type 0} (s : Slot) (f : Arg → Option A) → IsMade s f → IsLine (s ∷ []) (Maybe slot.Raw) (one f)
+one_maybe_raw-line s f made decls bytes [] fit right = absurd (cc)
+one_maybe_raw-line s f made decls bytes (w ∷ []) fit right = one-line s f made decls bytes (w ∷ []) refl right
+one_maybe_raw-line s f made decls bytes (w ∷ v ∷ ws) fit right = let none : false ≡ true = right.1.0.named in absurd (cc)
+
 one_or_two-line : {A B : Type 0} (s : Slot) (f : Arg → Option A) (t : Slot) (g : Arg → Option B) → IsMade s f → IsMade t g → IsLine (s ∷ []) (Maybe t) (one_or_two f g)
 one_or_two-line s f t g made also decls bytes [] fit right = absurd (cc)
 one_or_two-line {B = B} s f t g made also decls bytes (w ∷ []) fit right =
@@ -197,6 +209,9 @@ one_sem f = by_line (sem ∷ []) Nothing (one as_object) f (one-line sem as_obje
 one_msgq : (f : Ref → Call) → Makes (msgq ∷ []) Nothing (λ args. option_map f (one as_object args))
 one_msgq f = by_line (msgq ∷ []) Nothing (one as_object) f (one-line msgq as_object (object-made need.Msgq))
 
+one_signal : (f : Ref → Call) → Makes (signal ∷ []) Nothing (λ args. option_map f (one as_object args))
+one_signal f = by_line (signal ∷ []) Nothing (one as_object) f (one-line signal as_object (object-made need.Signal))
+
 -- the lines of an object and of how long is waited for it
 waiting : (n : Need) (f : Ref × Timeout → Call) → Makes (slot.Object n ∷ slot.Wait ∷ []) Nothing (λ args. option_map f (two as_object as_wait args))
 waiting n f = by_line (slot.Object n ∷ slot.Wait ∷ []) Nothing (two as_object as_wait) f (two-line (slot.Object n) as_object slot.Wait as_wait (object-made n) wait-made)
@@ -214,6 +229,7 @@ makes_call word.Flush = one_item call.Flush
 makes_call word.Schedule = by_line (item ∷ queue ∷ delay ∷ []) Nothing (three as_object as_object as_number) (λ p. call.Schedule p.0 p.1 p.2) delayed
 makes_call word.Reschedule = by_line (item ∷ queue ∷ delay ∷ []) Nothing (three as_object as_object as_number) (λ p. call.Reschedule p.0 p.1 p.2) delayed
 makes_call word.Remaining = one_item call.Remaining
+makes_call word.Busy = one_item call.Busy
 makes_call word.Start = one_queue call.Start
 makes_call word.Drain = by_line (queue ∷ slot.Either Drain ∷ []) Nothing (two as_object (as_truth Drain)) (λ p. call.Drain p.0 p.1) (two-line queue as_object (slot.Either Drain) (as_truth Drain) (object-made need.Queue) (truth-made Drain))
 makes_call word.Unplug = one_queue call.Unplug
@@ -229,6 +245,9 @@ makes_call word.PeekAt = by_line (msgq ∷ index ∷ []) Nothing (two as_object 
 makes_call word.Purge = one_msgq call.Purge
 makes_call word.Used = one_msgq call.Used
 makes_call word.Free = one_msgq call.Free
+makes_call word.Raise = by_line (signal ∷ result ∷ []) Nothing (two as_object as_result) (λ p. call.Raise p.0 p.1) (two-line signal as_object result as_result (object-made need.Signal) result-made)
+makes_call word.Clear = one_signal call.Clear
+makes_call word.Check = one_signal call.Check
 
 -- the lines of a name, a priority and one of the two words of a choice
 playing : (choice : Choice) → IsLine (slot.New ∷ slot.Priority ∷ slot.Either choice ∷ []) Nothing (three as_name as_priority (as_truth choice))
@@ -246,3 +265,4 @@ makes_decl kind.Queue = by_line (slot.New ∷ slot.Priority ∷ slot.Either Stat
 makes_decl kind.Item = by_line (slot.New ∷ []) Nothing (one as_name) decl.Item (one-line slot.New as_name name-made)
 makes_decl kind.Sem = by_line (slot.New ∷ initial ∷ limit ∷ []) (Maybe slot.Raw) (three as_name as_number as_number) (λ p. decl.Sem p.0 p.1 p.2) (numbered 0 1000000 1 1000000)
 makes_decl kind.Msgq = by_line (slot.New ∷ size ∷ capacity ∷ []) (Maybe slot.Raw) (three as_name as_number as_number) (λ p. decl.Msgq p.0 p.1 p.2) (numbered 1 64 1 256)
+makes_decl kind.Signal = by_line (slot.New ∷ []) (Maybe slot.Raw) (one as_name) decl.Signal (one_maybe_raw-line slot.New as_name name-made)

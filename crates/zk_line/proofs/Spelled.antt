@@ -106,6 +106,7 @@ decl_text decls (decl.Queue name prio on) = refl
 decl_text decls (decl.Item name) = refl
 decl_text decls (decl.Sem name initial limit) = refl
 decl_text decls (decl.Msgq name size capacity) = refl
+decl_text decls (decl.Signal name) = refl
 
 -- a line that makes a declaration is the declaration's line
 pub decl_is_line : (decls : List Decl) (k : Kind) (parts : List Placed) (d : Decl) → option_and_then (decl_of k) (args_of decls parts) ≡ Some d → decl_line d ≡ line_text (form_words (head.Declare k) parts)

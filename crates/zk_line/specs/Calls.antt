@@ -6,7 +6,7 @@ use Rattle.zk_line.specs.declared.types.Arg.{Arg}
 use Rattle.zk_line.specs.declared.types.Arg.TheVariants.{Object, Number, Truth, Bytes, Wait}
 use Rattle.zk_line.specs.declared.types.Call.{Call}
 use Rattle.zk_line.specs.declared.types.Call.TheVariants as call
-use Rattle.zk_line.specs.Shapes.{as_object, as_number, as_truth, as_bytes, as_wait, one, two, three, one_or_two}
+use Rattle.zk_line.specs.Shapes.{as_object, as_number, as_result, as_truth, as_bytes, as_wait, one, two, three, one_or_two}
 
 -- a call as it is written: its word, and what stands behind that
 pub record Saying : Type 0 where
@@ -26,6 +26,7 @@ call_of word.Flush args = option_map call.Flush (one as_object args)
 call_of word.Schedule args = option_map (λ p. call.Schedule p.0 p.1 p.2) (three as_object as_object as_number args)
 call_of word.Reschedule args = option_map (λ p. call.Reschedule p.0 p.1 p.2) (three as_object as_object as_number args)
 call_of word.Remaining args = option_map call.Remaining (one as_object args)
+call_of word.Busy args = option_map call.Busy (one as_object args)
 call_of word.Start args = option_map call.Start (one as_object args)
 call_of word.Drain args = option_map (λ p. call.Drain p.0 p.1) (two as_object (as_truth Drain) args)
 call_of word.Unplug args = option_map call.Unplug (one as_object args)
@@ -41,6 +42,9 @@ call_of word.PeekAt args = option_map (λ p. call.PeekAt p.0 p.1) (two as_object
 call_of word.Purge args = option_map call.Purge (one as_object args)
 call_of word.Used args = option_map call.Used (one as_object args)
 call_of word.Free args = option_map call.Free (one as_object args)
+call_of word.Raise args = option_map (λ p. call.Raise p.0 p.1) (two as_object as_result args)
+call_of word.Clear args = option_map call.Clear (one as_object args)
+call_of word.Check args = option_map call.Check (one as_object args)
 
 -- how a call is written
 abbrev pub said_of : Call → Saying
@@ -51,6 +55,7 @@ said_of (call.Flush item) = saying word.Flush (Object item ∷ [])
 said_of (call.Schedule item queue delay) = saying word.Schedule (Object item ∷ Object queue ∷ Number delay ∷ [])
 said_of (call.Reschedule item queue delay) = saying word.Reschedule (Object item ∷ Object queue ∷ Number delay ∷ [])
 said_of (call.Remaining item) = saying word.Remaining (Object item ∷ [])
+said_of (call.Busy item) = saying word.Busy (Object item ∷ [])
 said_of (call.Start queue) = saying word.Start (Object queue ∷ [])
 said_of (call.Drain queue plug) = saying word.Drain (Object queue ∷ Truth Drain plug ∷ [])
 said_of (call.Unplug queue) = saying word.Unplug (Object queue ∷ [])
@@ -66,6 +71,9 @@ said_of (call.PeekAt msgq index) = saying word.PeekAt (Object msgq ∷ Number in
 said_of (call.Purge msgq) = saying word.Purge (Object msgq ∷ [])
 said_of (call.Used msgq) = saying word.Used (Object msgq ∷ [])
 said_of (call.Free msgq) = saying word.Free (Object msgq ∷ [])
+said_of (call.Raise signal result) = saying word.Raise (Object signal ∷ Number result ∷ [])
+said_of (call.Clear signal) = saying word.Clear (Object signal ∷ [])
+said_of (call.Check signal) = saying word.Check (Object signal ∷ [])
 
 -- the word of a call
 abbrev pub word_of : Call → Word

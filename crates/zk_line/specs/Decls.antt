@@ -15,6 +15,7 @@ decl_of kind.Queue args = option_map (λ p. decl.Queue p.0 p.1 p.2) (three as_na
 decl_of kind.Item args = option_map decl.Item (one as_name args)
 decl_of kind.Sem args = option_map (λ p. decl.Sem p.0 p.1 p.2) (three as_name as_number as_number args)
 decl_of kind.Msgq args = option_map (λ p. decl.Msgq p.0 p.1 p.2) (three as_name as_number as_number args)
+decl_of kind.Signal args = option_map decl.Signal (one as_name args)
 
 -- how a declaration is written, behind its kind
 abbrev pub decl_args : Decl → List Arg
@@ -23,3 +24,4 @@ decl_args (decl.Queue name prio on) = Name name ∷ Priority prio ∷ Truth Stat
 decl_args (decl.Item name) = Name name ∷ []
 decl_args (decl.Sem name initial limit) = Name name ∷ Number initial ∷ Number limit ∷ []
 decl_args (decl.Msgq name size capacity) = Name name ∷ Number size ∷ Number capacity ∷ []
+decl_args (decl.Signal name) = Name name ∷ []

@@ -8,7 +8,7 @@ use Rattle.zk_words.specs.declared.kind.Need.{Need}
 use Rattle.zk_words.specs.Kinds as kinds
 use Rattle.zk_line.specs.declared.names.Names.{Names}
 use Rattle.zk_line.specs.declared.types.Decl.{Decl}
-use Rattle.zk_line.specs.declared.types.Decl.TheVariants.{Thread, Queue, Item, Sem, Msgq}
+use Rattle.zk_line.specs.declared.types.Decl.TheVariants.{Thread, Queue, Item, Sem, Msgq, Signal}
 use Rattle.zk_line.specs.ByName.{by_name}
 
 -- the kind of what is declared
@@ -18,6 +18,7 @@ kind_of (Queue name prio on) = kind.Queue
 kind_of (Item name) = kind.Item
 kind_of (Sem name initial limit) = kind.Sem
 kind_of (Msgq name size capacity) = kind.Msgq
+kind_of (Signal name) = kind.Signal
 
 -- the name that a declaration gives
 abbrev pub name_of : Decl → List ℕ
@@ -26,6 +27,7 @@ name_of (Queue name prio on) = name
 name_of (Item name) = name
 name_of (Sem name initial limit) = name
 name_of (Msgq name size capacity) = name
+name_of (Signal name) = name
 
 -- whether a declaration is of a kind
 abbrev pub is_of : Kind → Decl → Bool
@@ -50,6 +52,10 @@ is_sem decl = is_of kind.Sem decl
 -- whether a declaration is of a message queue
 abbrev pub is_msgq : Decl → Bool
 is_msgq decl = is_of kind.Msgq decl
+
+-- whether a declaration is of a signal
+abbrev pub is_signal : Decl → Bool
+is_signal decl = is_of kind.Signal decl
 
 -- the test for declarations of the same kind
 abbrev pub same_kind : Decl → Decl → Bool
@@ -106,12 +112,13 @@ abbrev pub size_at : List Decl → ℕ → Option ℕ
 size_at decls object = option_and_then size_of (slice_get decls object)
 
 -- the list of a declaration's kind, among those of all kinds
-abbrev pub own_list : Decl → List ℕ → List ℕ → List ℕ → List ℕ → List ℕ → List ℕ
-own_list (Thread name prio user) threads queues items sems msgqs = threads
-own_list (Queue name prio on) threads queues items sems msgqs = queues
-own_list (Item name) threads queues items sems msgqs = items
-own_list (Sem name initial limit) threads queues items sems msgqs = sems
-own_list (Msgq name size capacity) threads queues items sems msgqs = msgqs
+abbrev pub own_list : Decl → List ℕ → List ℕ → List ℕ → List ℕ → List ℕ → List ℕ → List ℕ
+own_list (Thread name prio user) threads queues items sems msgqs signals = threads
+own_list (Queue name prio on) threads queues items sems msgqs signals = queues
+own_list (Item name) threads queues items sems msgqs signals = items
+own_list (Sem name initial limit) threads queues items sems msgqs signals = sems
+own_list (Msgq name size capacity) threads queues items sems msgqs signals = msgqs
+own_list (Signal name) threads queues items sems msgqs signals = signals
 
 -- a list of objects after one more declaration, which stands in it where it passes the list's test
 abbrev pub grown : (Decl → Bool) → Decl → ℕ → List ℕ → List ℕ
@@ -122,13 +129,14 @@ abbrev pub HasRoom : ℕ → ℕ → Type 0
 HasRoom len capacity = (len < capacity) × (len < 2 ^ 32)
 
 -- the tables say what the declarations say
-pub record IsTabled (decls : List Decl) (threads queues items sems msgqs numbers : List ℕ) (names : Names) : Type 0 where
+pub record IsTabled (decls : List Decl) (threads queues items sems msgqs signals numbers : List ℕ) (names : Names) : Type 0 where
   pub few : length decls < 2 ^ 32
   pub each_thread : threads ≡ places is_thread decls
   pub each_queue : queues ≡ places is_queue decls
   pub each_item : items ≡ places is_item decls
   pub each_sem : sems ≡ places is_sem decls
   pub each_msgq : msgqs ≡ places is_msgq decls
+  pub each_signal : signals ≡ places is_signal decls
   pub long : length numbers ≡ length decls
   pub each_number : (object : ℕ) → unwrap_or (slice_get numbers object) 0 ≡ number_of decls object
   pub each_name : (name : List ℕ) → by_name names name ≡ object_of decls name

@@ -1,4 +1,4 @@
-use Rattle.std.specs.Prelude.{ℕ, ℤ, Bool, List, [], ◌∷◌, Option, Some, None, option_map, if◌then◌else◌}
+use Rattle.std.specs.Prelude.{ℕ, ℤ, Bool, nat_lt, List, [], ◌∷◌, Option, Some, None, option_map, if◌then◌else◌}
 use Rattle.zk_words.specs.declared.slot.Choice.{Choice}
 use Rattle.zk_words.specs.declared.timeout.Timeout.{Timeout}
 use Rattle.zk_words.specs.Spelled.{same_choice}
@@ -20,6 +20,11 @@ as_object arg = None
 abbrev pub as_number : Arg → Option ℕ
 as_number (Number number) = Some number
 as_number arg = None
+
+-- the number of 16 bits that it is
+abbrev pub as_result : Arg → Option ℕ
+as_result (Number number) = (if nat_lt number 65536 then Some number else None)
+as_result arg = None
 
 -- the priority that it is
 abbrev pub as_priority : Arg → Option ℤ

@@ -2,8 +2,8 @@ ghost use Rattle.std.specs.Prelude.{◌≡◌, [], ◌∷◌};
 ghost use Rattle.zk_line.specs.Calls.{saying, call_of, said_of, word_of};
 
 use crate::shapes::{
-    object_bytes_wait, object_maybe, object_number, object_truth, object_wait, one_number,
-    one_object, two_objects_number,
+    object_bytes_wait, object_maybe, object_number, object_result, object_truth, object_wait,
+    one_number, one_object, two_objects_number,
 };
 use crate::types::{Arg, Call, Ref};
 use std::marker::Model;
@@ -38,6 +38,7 @@ pub fn call_of(word: Word, args: &[Arg]) -> Option<Call>
         Word::Schedule => two_objects_number(args).map(|p| Call::Schedule(p.0, p.1, p.2)),
         Word::Reschedule => two_objects_number(args).map(|p| Call::Reschedule(p.0, p.1, p.2)),
         Word::Remaining => one_object(args).map(Call::Remaining),
+        Word::Busy => one_object(args).map(Call::Busy),
         Word::Start => one_object(args).map(Call::Start),
         Word::Drain => object_truth(Choice::Drain, args).map(|p| Call::Drain(p.0, p.1)),
         Word::Unplug => one_object(args).map(Call::Unplug),
@@ -53,6 +54,9 @@ pub fn call_of(word: Word, args: &[Arg]) -> Option<Call>
         Word::Purge => one_object(args).map(Call::Purge),
         Word::Used => one_object(args).map(Call::Used),
         Word::Free => one_object(args).map(Call::Free),
+        Word::Raise => object_result(args).map(|p| Call::Raise(p.0, p.1)),
+        Word::Clear => one_object(args).map(Call::Clear),
+        Word::Check => one_object(args).map(Call::Check),
     }
 }
 
@@ -69,6 +73,7 @@ pub fn said_of(call: &Call) -> Said
         Call::Schedule(item, queue, delay) => delayed(Word::Schedule, item, queue, *delay),
         Call::Reschedule(item, queue, delay) => delayed(Word::Reschedule, item, queue, *delay),
         Call::Remaining(item) => of_one(Word::Remaining, object(item)),
+        Call::Busy(item) => of_one(Word::Busy, object(item)),
         Call::Start(queue) => of_one(Word::Start, object(queue)),
         Call::Drain(queue, plug) => {
             of_two(Word::Drain, object(queue), Arg::Truth(Choice::Drain, *plug))
@@ -86,6 +91,11 @@ pub fn said_of(call: &Call) -> Said
         Call::Purge(msgq) => of_one(Word::Purge, object(msgq)),
         Call::Used(msgq) => of_one(Word::Used, object(msgq)),
         Call::Free(msgq) => of_one(Word::Free, object(msgq)),
+        Call::Raise(signal, result) => {
+            of_two(Word::Raise, object(signal), Arg::Number(u32::from(*result)))
+        }
+        Call::Clear(signal) => of_one(Word::Clear, object(signal)),
+        Call::Check(signal) => of_one(Word::Check, object(signal)),
     }
 }
 

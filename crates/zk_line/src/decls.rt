@@ -19,6 +19,7 @@ pub fn decl_of(kind: Kind, args: &[Arg]) -> Option<Decl>
         Kind::Item => one_name(args).map(Decl::Item),
         Kind::Sem => name_two_numbers(args).map(|p| Decl::Sem(p.0, p.1, p.2)),
         Kind::Msgq => name_two_numbers(args).map(|p| Decl::Msgq(p.0, p.1, p.2)),
+        Kind::Signal => one_name(args).map(Decl::Signal),
     }
 }
 
@@ -40,6 +41,7 @@ pub fn decl_args(decl: &Decl) -> [Option<Arg>; 3]
         Decl::Item(name) => [Some(Arg::Name(*name)), None, None],
         Decl::Sem(name, initial, limit) => numbered(name, *initial, *limit),
         Decl::Msgq(name, size, capacity) => numbered(name, *size, *capacity),
+        Decl::Signal(name) => [Some(Arg::Name(*name)), None, None],
     }
 }
 

@@ -14,6 +14,7 @@ pub fn kind_of(decl: &Decl) -> Kind
         Decl::Item(_) => Kind::Item,
         Decl::Sem(..) => Kind::Sem,
         Decl::Msgq(..) => Kind::Msgq,
+        Decl::Signal(_) => Kind::Signal,
     }
 }
 
@@ -27,6 +28,7 @@ pub fn name_of(decl: &Decl) -> &[u8]
         Decl::Item(name) => name.bytes(),
         Decl::Sem(name, _, _) => name.bytes(),
         Decl::Msgq(name, _, _) => name.bytes(),
+        Decl::Signal(name) => name.bytes(),
     }
 }
 

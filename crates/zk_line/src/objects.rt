@@ -1,5 +1,5 @@
 ghost use Rattle.std.specs.Prelude.{◌≡◌, ◌+◌, ◌-◌, ◌^◌, ◌<◌, None, [], ◌∷◌, ◌++◌, OnOk, OnErr, length, count_by, vec_len, vec_capacity};
-ghost use Rattle.zk_line.specs.Objects.{is_of, object_of, own_list, grown, HasRoom, is_thread, is_queue, is_item, is_sem, is_msgq, name_of, places, number_of, player_count};
+ghost use Rattle.zk_line.specs.Objects.{is_of, object_of, own_list, grown, HasRoom, is_thread, is_queue, is_item, is_sem, is_msgq, is_signal, name_of, places, number_of, player_count};
 
 use crate::kinds::name_of;
 use crate::names::Names;
@@ -20,6 +20,7 @@ pub struct Objects {
     items: Vec<u32>,
     sems: Vec<u32>,
     msgqs: Vec<u32>,
+    signals: Vec<u32>,
     numbers: Vec<u32>,
     names: Names,
 }
@@ -35,7 +36,7 @@ impl Model for Objects {
 
     ghost invariant = { λ a.
         IsTabled a.decls.items a.threads.items a.queues.items a.items.items a.sems.items a.msgqs.items
-        a.numbers.items a.names };
+        a.signals.items a.numbers.items a.names };
 }
 
 impl Objects {
@@ -50,6 +51,7 @@ impl Objects {
             items: Vec::new(alloc),
             sems: Vec::new(alloc),
             msgqs: Vec::new(alloc),
+            signals: Vec::new(alloc),
             numbers: Vec::new(alloc),
             names: Names::new(alloc),
         }
@@ -98,6 +100,13 @@ impl Objects {
         &self.msgqs
     }
 
+    /// The object numbers of the signals, in order.
+    pub fn signals(&self) -> &[u32]
+        ensures all { result.now ≡ places is_signal self.now }
+    {
+        &self.signals
+    }
+
     /// How many players there are: the threads, and a worker for each queue.
     pub fn player_count(&self) -> usize
         ensures { result ≡ player_count self.now }
@@ -115,6 +124,7 @@ impl Objects {
             Kind::Item => self.item_count(),
             Kind::Sem => self.sem_count(),
             Kind::Msgq => self.msgq_count(),
+            Kind::Signal => self.signal_count(),
         }
     }
 
@@ -148,6 +158,12 @@ impl Objects {
         self.msgqs.len()
     }
 
+    fn signal_count(&self) -> usize
+        ensures { result ≡ count_by is_signal self.now }
+    {
+        self.signals.len()
+    }
+
     /// The number of an object among those of its kind.
     pub fn number(&self, object: u32) -> u32
         ensures { result ≡ number_of self.now object }
@@ -176,6 +192,7 @@ impl Objects {
         make_room(&mut self.items)?;
         make_room(&mut self.sems)?;
         make_room(&mut self.msgqs)?;
+        make_room(&mut self.signals)?;
         let object = self.decls.len() as u32;
         self.names.insert(alloc, name_of(&decl), object)?;
         let number = enlist(
@@ -186,6 +203,7 @@ impl Objects {
             &mut self.items,
             &mut self.sems,
             &mut self.msgqs,
+            &mut self.signals,
         );
         put(&mut self.numbers, number);
         put(&mut self.decls, decl);
@@ -202,19 +220,23 @@ fn enlist(
     items: &mut Vec<u32>,
     sems: &mut Vec<u32>,
     msgqs: &mut Vec<u32>,
+    signals: &mut Vec<u32>,
 ) -> u32
     requires thread_room { HasRoom (vec_len threads.old) (vec_capacity threads.old) }
     requires queue_room { HasRoom (vec_len queues.old) (vec_capacity queues.old) }
     requires item_room { HasRoom (vec_len items.old) (vec_capacity items.old) }
     requires sem_room { HasRoom (vec_len sems.old) (vec_capacity sems.old) }
     requires msgq_room { HasRoom (vec_len msgqs.old) (vec_capacity msgqs.old) }
+    requires signal_room { HasRoom (vec_len signals.old) (vec_capacity signals.old) }
     ensures number { result ≡ length
-        (own_list decl.now threads.old.items queues.old.items items.old.items sems.old.items msgqs.old.items) }
+        (own_list decl.now threads.old.items queues.old.items items.old.items sems.old.items msgqs.old.items
+        signals.old.items) }
     ensures threads { threads.new.items ≡ grown is_thread decl.now object threads.old.items }
     ensures queues { queues.new.items ≡ grown is_queue decl.now object queues.old.items }
     ensures items { items.new.items ≡ grown is_item decl.now object items.old.items }
     ensures sems { sems.new.items ≡ grown is_sem decl.now object sems.old.items }
     ensures msgqs { msgqs.new.items ≡ grown is_msgq decl.now object msgqs.old.items }
+    ensures signals { signals.new.items ≡ grown is_signal decl.now object signals.old.items }
 {
     match decl {
         Decl::Thread(..) => put_counted(threads, object),
@@ -222,6 +244,7 @@ fn enlist(
         Decl::Item(_) => put_counted(items, object),
         Decl::Sem(..) => put_counted(sems, object),
         Decl::Msgq(..) => put_counted(msgqs, object),
+        Decl::Signal(_) => put_counted(signals, object),
     }
 }
 

@@ -1,5 +1,5 @@
 ghost use Rattle.std.specs.Prelude.{◌≡◌};
-ghost use Rattle.zk_line.specs.Shapes.{as_name, as_object, as_number, as_priority, as_truth, as_bytes, as_wait, one, two, three, one_or_two};
+ghost use Rattle.zk_line.specs.Shapes.{as_name, as_object, as_number, as_result, as_priority, as_truth, as_bytes, as_wait, one, two, three, one_or_two};
 
 use crate::types::{Arg, Ref};
 use zk_base::{Msg, Name};
@@ -70,6 +70,22 @@ pub fn object_number(args: &[Arg]) -> Option<(Ref, u32)>
 {
     match args {
         [Arg::Object(object), Arg::Number(number)] => Some((*object, *number)),
+        _ => None,
+    }
+}
+
+/// An object and a number of 16 bits.
+pub fn object_result(args: &[Arg]) -> Option<(Ref, u16)>
+    ensures { result ≡ two as_object as_result args.now }
+{
+    match args {
+        [Arg::Object(object), Arg::Number(number)] => {
+            if *number < 65_536 {
+                Some((*object, *number as u16))
+            } else {
+                None
+            }
+        }
         _ => None,
     }
 }

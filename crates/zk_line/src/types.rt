@@ -14,6 +14,8 @@ pub enum Decl {
     Sem(Name, u32, u32),
     /// A message queue, the size of each message in bytes (1 to 64), and how many it has room for (1 to 256).
     Msgq(Name, u32, u32),
+    /// A signal.
+    Signal(Name),
 }
 
 /// An object as a call names it.
@@ -60,6 +62,8 @@ pub enum Call {
     Reschedule(Ref, Ref, u32),
     /// Zephyr's `k_work_delayable_remaining_get`.
     Remaining(Ref),
+    /// An item. Zephyr's `k_work_busy_get`.
+    Busy(Ref),
     /// A queue. Zephyr's `k_work_queue_start`.
     Start(Ref),
     /// A queue, and whether it is plugged with the drain. Zephyr's `k_work_queue_drain`.
@@ -90,4 +94,10 @@ pub enum Call {
     Used(Ref),
     /// A message queue. Zephyr's `k_msgq_num_free_get`.
     Free(Ref),
+    /// A signal, and the result that it is raised with. Zephyr's `k_poll_signal_raise`.
+    Raise(Ref, u16),
+    /// A signal. Zephyr's `k_poll_signal_reset`.
+    Clear(Ref),
+    /// A signal. Zephyr's `k_poll_signal_check`.
+    Check(Ref),
 }

@@ -1,6 +1,11 @@
 pub mod Alarms
 pub mod MsgqOrder
+pub mod MsgqPolls
 pub mod MsgqWaits
+pub mod Polls
 pub mod SemCounts
+pub mod SemPolls
 pub mod SemWaits
+pub mod Stamps
 pub mod Ticks
+pub mod Writes

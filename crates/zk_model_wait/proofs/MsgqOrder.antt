@@ -24,7 +24,7 @@ use Rattle.zk_model_wait.specs.declared.msgq.MsgqOp.{MsgqOp}
 use Rattle.zk_model_wait.specs.declared.msgq.MsgqOp.TheVariants as ops
 use Rattle.zk_model_wait.specs.declared.msgq.MsgqReply.{MsgqReply}
 use Rattle.zk_model_wait.specs.declared.msgq.MsgqReply.TheVariants.{Done, NoMsg, Bytes, Number}
-use Rattle.zk_model_wait.specs.Msgq.{Msgq, new_msgq, else_reply, put_reply, get_reply, peek_reply, msgq_reply, msgq_next, msgq_machine, put_at_full, put_to, moved_in, get_from}
+use Rattle.zk_model_wait.specs.Msgq.{Msgq, new_msgq, else_reply, put_reply, get_reply, peek_reply, msgq_reply, msgq_next, msgq_machine, put_at_full, appended, put_to, moved_in, get_from}
 use Rattle.zk_model_wait.specs.MsgqWaits.{get_decides, put_decides, take_decides, putters, getters}
 use Rattle.zk_model_wait.specs.MsgqLaws.{MsgqHistory, OfEachMsgq, msgq_after_all, message_of, handed_by, is_done, moved_by, accepted, leaving, all_accepted, all_leaving, PutIsTold, GetIsTold, PeekIsTold, FirstInFirstOut, RingWithinMax, NoneWaitsToGetWhileMessages, NoneWaitsToPutWhileRoom, PutWaitsOnlyAtFull, GetWaitsOnlyAtEmpty, PutDecidedByGetOrPurge, GetDecidedByItsPut, LooksTellTheRing, PurgeEndsEveryPut, MayAlways, PurgeIsDone}
 use Rattle.zk_model_wait.proofs.MsgqWaits.{has_putters, has_getters, first_putters, first_getters}
@@ -60,7 +60,7 @@ put-served most (w ∷ ws) q who message waits some is = record {
   puts = is.puts;
 }
 put-served most [] q who message waits none is = by (ltb (length q.messages) q.most) refl waits where
-  by : (room : Bool) → ltb (length q.messages) q.most ≡ room → (waits : Bool) → IsServed most (cond room (record q { messages = q.messages ++ message ∷ [] }) (put_at_full q who message waits))
+  by : (room : Bool) → ltb (length q.messages) q.most ≡ room → (waits : Bool) → IsServed most (cond room (appended q message) (put_at_full q who message waits))
   by true below waits =
       let less = ltb-true (length q.messages) q.most below in
       let same = is.holds in
@@ -201,9 +201,9 @@ put-passes most (w ∷ ws) q who message waits some is apart =
     let first : L q.gets.waiting = subst L (sym some) (handed-first q.gets w message none) in
     ap (λ (ms : List (List ℕ)). ms ++ message ∷ []) empty ∙ sym (ap (λ (ms : List (List ℕ)). ms ++ q.messages) first ∙ ap (λ (ms : List (List ℕ)). message ∷ ms) empty)
 put-passes most [] q who message waits none is apart = by (ltb (length q.messages) q.most) waits where
-  by : (room waits : Bool) → q.messages ++ accepted q (cond room (record q { messages = q.messages ++ message ∷ [] }) (put_at_full q who message waits)) (ops.Put message waits) (cond room Done (else_reply waits))
-      ≡ leaving q (cond room (record q { messages = q.messages ++ message ∷ [] }) (put_at_full q who message waits)) (ops.Put message waits) (cond room Done (else_reply waits))
-      ++ (cond room (record q { messages = q.messages ++ message ∷ [] }) (put_at_full q who message waits)).messages
+  by : (room waits : Bool) → q.messages ++ accepted q (cond room (appended q message) (put_at_full q who message waits)) (ops.Put message waits) (cond room Done (else_reply waits))
+      ≡ leaving q (cond room (appended q message) (put_at_full q who message waits)) (ops.Put message waits) (cond room Done (else_reply waits))
+      ++ (cond room (appended q message) (put_at_full q who message waits)).messages
   by true waits = sym (ap (λ (ms : List (List ℕ)). ms ++ (q.messages ++ message ∷ [])) (handed-none q.gets))
   by false true = append-nil q.messages ∙ sym (ap (λ (ms : List (List ℕ)). ms ++ q.messages) (handed-none q.gets))
   by false false = append-nil q.messages ∙ sym (ap (λ (ms : List (List ℕ)). ms ++ q.messages) (handed-none q.gets))
@@ -271,7 +271,7 @@ first_in_first_out most h legal front part parts =
 
 -- What one entry is answered, and what it leaves.
 
-replied : (q : Msgq) (h front : MsgqHistory) (e : Entry MsgqOp MsgqReply) (op : MsgqOp) → Replays msgq_machine q h → IsEntry h front e → e.op ≡ op → msgq_reply (msgq_after_all q front) e.who op ≡ Some e.reply
+pub replied : (q : Msgq) (h front : MsgqHistory) (e : Entry MsgqOp MsgqReply) (op : MsgqOp) → Replays msgq_machine q h → IsEntry h front e → e.op ≡ op → msgq_reply (msgq_after_all q front) e.who op ≡ Some e.reply
 replied q h front e op replays at same =
     subst (λ (o : MsgqOp). msgq_reply (msgq_after_all q front) e.who o ≡ Some e.reply) same ((Replays-rest msgq_machine q front (e ∷ at.rest) (subst (Replays msgq_machine q) at.whole replays)).0)
 
@@ -368,6 +368,7 @@ may_always q h who (ops.PeekAt index) never = (_, refl)
 may_always q h who ops.Purge never = (_, refl)
 may_always q h who ops.Used never = (_, refl)
 may_always q h who ops.Free never = (_, refl)
+may_always q h who (ops.PollArm waits) never = (_, refl)
 may_always q h who op never = absurd (cc)
 
 pub purge_is_done : OfEachMsgq PurgeIsDone

@@ -1,5 +1,5 @@
 -- A message queue has waits: puts, and gets.
-use Rattle.std.proofs.Common.{◌≡◌, ℕ, Bool, true, false, ltb, cond, Some, None, List, [], ◌∷◌, ◌++◌, length, refl, sym, ap, subst}
+use Rattle.std.proofs.Common.{◌≡◌, ℕ, Bool, true, false, ltb, cond, Some, None, List, [], ◌∷◌, length, refl, sym, ap, subst}
 use Rattle.std.proofs.lemmas.Option.{same_Some}
 use Rattle.zk_base.specs.declared.ids.Who.{Who}
 use Rattle.zk_base.specs.declared.waits.Waiter.{Waiter}
@@ -11,7 +11,7 @@ use Rattle.zk_model_wait.specs.declared.msgq.MsgqOp.{MsgqOp}
 use Rattle.zk_model_wait.specs.declared.msgq.MsgqOp.TheVariants as ops
 use Rattle.zk_model_wait.specs.declared.msgq.MsgqReply.{MsgqReply}
 use Rattle.zk_model_wait.specs.declared.msgq.MsgqReply.TheVariants.{Done, Bytes}
-use Rattle.zk_model_wait.specs.Msgq.{Msgq, new_msgq, else_reply, put_reply, get_reply, msgq_reply, msgq_next, msgq_machine, put_at_full, put_to, moved_in, get_from}
+use Rattle.zk_model_wait.specs.Msgq.{Msgq, new_msgq, else_reply, put_reply, get_reply, msgq_reply, msgq_next, msgq_machine, put_at_full, appended, put_to, moved_in, get_from}
 use Rattle.zk_model_wait.specs.MsgqWaits.{put_opens, get_opens, get_decides, take_decides, putters, getters}
 
 -- where nobody waits, the first is nobody
@@ -27,7 +27,7 @@ full-puts q who message true = refl
 full-puts q who message false = refl
 
 room-puts : (q : Msgq) (who : Who) (message : List ℕ) (waits room : Bool) →
-    (cond room (record q { messages = q.messages ++ message ∷ [] }) (put_at_full q who message waits)).puts
+    (cond room (appended q message) (put_at_full q who message waits)).puts
     ≡ after_entry q.puts q.entries who nobody (put_opens (ops.Put message waits) (cond room Done (else_reply waits))) None None
 room-puts q who message waits true = refl
 room-puts q who message waits false = full-puts q who message waits
@@ -61,6 +61,9 @@ put-moves q who (ops.PeekAt index) reply is = refl
 put-moves q who ops.Purge reply is = refl
 put-moves q who ops.Used reply is = refl
 put-moves q who ops.Free reply is = refl
+put-moves q who (ops.PollArm waits) reply is = refl
+put-moves q who (ops.PollEnd place) reply is = refl
+put-moves q who (ops.PollQuit place) reply is = refl
 
 -- what a put does to the gets that wait
 full-gets : (q : Msgq) (who : Who) (message : List ℕ) (waits : Bool) →
@@ -69,7 +72,7 @@ full-gets q who message true = refl
 full-gets q who message false = refl
 
 room-gets : (q : Msgq) (who : Who) (message : List ℕ) (waits room : Bool) → q.gets.waiting ≡ [] →
-    (cond room (record q { messages = q.messages ++ message ∷ [] }) (put_at_full q who message waits)).gets
+    (cond room (appended q message) (put_at_full q who message waits)).gets
     ≡ after_decision (take_decides q (ops.Put message waits) (cond room Done (else_reply waits))) q.gets
 room-gets q who message waits true none = first-none (Bytes message) q.gets none
 room-gets q who message waits false none = full-gets q who message waits
@@ -106,6 +109,9 @@ get-moves q who (ops.PeekAt index) reply is = refl
 get-moves q who ops.Purge reply is = refl
 get-moves q who ops.Used reply is = refl
 get-moves q who ops.Free reply is = refl
+get-moves q who (ops.PollArm waits) reply is = refl
+get-moves q who (ops.PollEnd place) reply is = refl
+get-moves q who (ops.PollQuit place) reply is = refl
 
 put-ends : (q : Msgq) (who : Who) (op : MsgqOp) (place : ℕ) → putters.ends op ≡ Some place → msgq_reply q who op ≡ msgq_reply q who (ops.PutEnd place)
 put-ends q who (ops.PutEnd at) place is = ap (λ (p : ℕ). msgq_reply q who (ops.PutEnd p)) (same_Some at place is)

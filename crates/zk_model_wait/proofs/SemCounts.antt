@@ -11,14 +11,14 @@ use Rattle.zk_base.specs.declared.waits.Decision.{Decision}
 use Rattle.zk_base.specs.History.{IsEntry}
 use Rattle.zk_base.specs.Legal.{Replays}
 use Rattle.zk_base.specs.Lists.{without_first}
-use Rattle.zk_base.specs.Waits.{is_waiter, is_decision, decide, decides_first, goes_on, given_up}
+use Rattle.zk_base.specs.Waits.{Waits, is_waiter, is_decision, decide, decides_first, goes_on, given_up}
 use Rattle.zk_base.proofs.Firsts.{one_if, without-lost, count-found}
 use Rattle.zk_base.proofs.Histories.{state_after-snoc, Replays-rest}
 use Rattle.zk_model_wait.specs.declared.sem.SemOp.{SemOp}
 use Rattle.zk_model_wait.specs.declared.sem.SemOp.TheVariants as ops
 use Rattle.zk_model_wait.specs.declared.sem.SemReply.{SemReply}
-use Rattle.zk_model_wait.specs.declared.sem.SemReply.TheVariants.{Got, Again, Done, Number}
-use Rattle.zk_model_wait.specs.Sem.{Sem, new_sem, take_reply, take_at, give_to, sem_reply, sem_next, sem_machine}
+use Rattle.zk_model_wait.specs.declared.sem.SemReply.TheVariants.{Got, Again, Done, Number, Noted, Plain}
+use Rattle.zk_model_wait.specs.Sem.{Sem, new_sem, take_reply, poll_reply, take_at, arm_at, give_to, sem_reply, sem_next, sem_machine}
 use Rattle.zk_model_wait.specs.SemWaits.{take_decides, takers}
 use Rattle.zk_model_wait.proofs.SemWaits.{has_takers}
 use Rattle.zk_base.proofs.WaitDecisions.{said, decides-said}
@@ -41,6 +41,9 @@ next-limit s who (ops.TakeQuit place) = refl
 next-limit s who ops.Give = give-limit s.takers.waiting s
 next-limit s who ops.Reset = refl
 next-limit s who ops.Count = refl
+next-limit s who (ops.PollArm waits) = refl
+next-limit s who (ops.PollEnd place) = refl
+next-limit s who (ops.PollQuit place) = refl
 
 -- the count stays within it
 take-within : (n : ℕ) (s : Sem) (who : Who) (waits : Bool) → n ≤ s.limit → s.count ≤ s.limit → (take_at n s who waits).count ≤ s.limit
@@ -63,6 +66,9 @@ next-within s who (ops.TakeQuit place) within = within
 next-within s who ops.Give within = give-within s.takers.waiting s within
 next-within s who ops.Reset within = omega arith
 next-within s who ops.Count within = within
+next-within s who (ops.PollArm waits) within = within
+next-within s who (ops.PollEnd place) within = within
+next-within s who (ops.PollQuit place) within = within
 
 within-all : (s : Sem) (h : SemHistory) → s.count ≤ s.limit → (sem_after_all s h).count ≤ s.limit
 within-all s [] within = within
@@ -96,6 +102,9 @@ next-served s who (ops.TakeQuit place) served some = without-nil (is_waiter who.
 next-served s who ops.Give served some = give-served s.takers.waiting s refl served some
 next-served s who ops.Reset served some = refl
 next-served s who ops.Count served some = served some
+next-served s who (ops.PollArm waits) served some = served some
+next-served s who (ops.PollEnd place) served some = served some
+next-served s who (ops.PollQuit place) served some = served some
 
 served-all : (s : Sem) (h : SemHistory) → (0 < s.count → s.takers.waiting ≡ []) → 0 < (sem_after_all s h).count → (sem_after_all s h).takers.waiting ≡ []
 served-all s [] served some = served some
@@ -126,14 +135,15 @@ take-adds zero s who false reply is told = let none : one_if (is_got reply) ≡ 
 take-adds zero s who true reply is told = let none : one_if (is_got reply) ≡ 0 = ap (λ (r : SemReply). one_if (is_got r)) (sym told) in omega arith
 take-adds (suc n) s who waits reply is told = let some : one_if (is_got reply) ≡ 1 = ap (λ (r : SemReply). one_if (is_got r)) (sym told) in omega arith
 
-quit-by : (s : Sem) (who : Who) (place : ℕ) (waits : Bool) (o : Option (Decision SemReply)) (reply : SemReply) → find (is_decision who.number place) s.takers.decided ≡ o →
-    given_up Again waits (option_map (λ (d : Decision SemReply). d.answer) o) ≡ Some reply → held s ≡ one_if (is_got reply) + held (sem_next s who (ops.TakeQuit place))
-quit-by s who place waits (Some d) reply found is = end-by (is_decision who.number place) s.takers.decided (Some d) reply found is
-quit-by s who place true None reply found is =
-    let none : one_if (is_got reply) ≡ 0 = ap (λ (r : SemReply). one_if (is_got r)) (sym (same_Some Again reply is)) in
-    let same = ap (λ (ds : List (Decision SemReply)). count_by (λ (d : Decision SemReply). is_got d.answer) ds) (without-lost (is_decision who.number place) s.takers.decided found) in
+quit-by : (gives_up : SemReply) → is_got gives_up ≡ false → (p : Decision SemReply → Bool) (xs : List (Decision SemReply)) (waits : Bool) (o : Option (Decision SemReply)) (reply : SemReply) → find p xs ≡ o →
+    given_up gives_up waits (option_map (λ (d : Decision SemReply). d.answer) o) ≡ Some reply →
+    count_by (λ (d : Decision SemReply). is_got d.answer) xs ≡ one_if (is_got reply) + count_by (λ (d : Decision SemReply). is_got d.answer) (without_first p xs)
+quit-by gives_up without p xs waits (Some d) reply found is = end-by p xs (Some d) reply found is
+quit-by gives_up without p xs true None reply found is =
+    let none : one_if (is_got reply) ≡ 0 = ap (λ (r : SemReply). one_if (is_got r)) (sym (same_Some gives_up reply is)) ∙ ap one_if without in
+    let same = ap (λ (ds : List (Decision SemReply)). count_by (λ (d : Decision SemReply). is_got d.answer) ds) (without-lost p xs found) in
     omega arith
-quit-by s who place false None reply found is = absurd (cc)
+quit-by gives_up without p xs false None reply found is = absurd (cc)
 
 raised-adds : (s : Sem) (b : Bool) → s.count + 1 ≡ cond b (s.count + 1) s.count + cond b 0 1
 raised-adds s true = omega arith
@@ -147,47 +157,98 @@ give-adds (w ∷ ws) s is =
     let here : P (w ∷ ws) = omega arith in
     subst P (sym is) here
 
-next-adds : (s : Sem) (who : Who) (op : SemOp) (reply : SemReply) → sem_reply s who op ≡ Some reply →
+-- No poll is told that it has taken one.
+
+abbrev polled : Sem → ℕ
+polled s = count_by (λ (d : Decision SemReply). is_got d.answer) s.pollers.decided
+
+pub take-polls : (n : ℕ) (s : Sem) (who : Who) (waits : Bool) → (take_at n s who waits).pollers ≡ s.pollers
+take-polls zero s who false = refl
+take-polls zero s who true = refl
+take-polls (suc n) s who waits = refl
+
+arm-decides : (n : ℕ) (s : Sem) (who : Who) (waits : Bool) → (arm_at n s who waits).decided ≡ s.pollers.decided
+arm-decides zero s who false = refl
+arm-decides zero s who true = refl
+arm-decides (suc n) s who waits = refl
+
+noted-polled : (waiting : List (Waiter Unit)) (ds : List (Decision SemReply)) → count_by (λ (d : Decision SemReply). is_got d.answer) ds ≡ 0 → count_by (λ (d : Decision SemReply). is_got d.answer) (decides_first Noted waiting ds).decided ≡ 0
+noted-polled [] ds none = none
+noted-polled (w ∷ ws) ds none = let pushed = sum_by_push (λ (d : Decision SemReply). one_if (is_got d.answer)) ds (decide Noted w) in omega arith
+
+give-polled : (waiting : List (Waiter Unit)) (s : Sem) → polled s ≡ 0 → polled (give_to waiting s) ≡ 0
+give-polled [] s none = noted-polled s.pollers.waiting s.pollers.decided none
+give-polled (w ∷ ws) s none = none
+
+poll-ends : (s : Sem) (who : Who) (place : ℕ) (reply : SemReply) → sem_reply s who (ops.PollEnd place) ≡ Some reply → polled s ≡ one_if (is_got reply) + polled (sem_next s who (ops.PollEnd place))
+poll-ends s who place reply is = let mine = is_decision who.number place in end-by mine s.pollers.decided (find mine s.pollers.decided) reply refl is
+
+poll-quits : (s : Sem) (who : Who) (place : ℕ) (reply : SemReply) → sem_reply s who (ops.PollQuit place) ≡ Some reply → polled s ≡ one_if (is_got reply) + polled (sem_next s who (ops.PollQuit place))
+poll-quits s who place reply is = let mine = is_decision who.number place in quit-by Plain refl mine s.pollers.decided (goes_on s.pollers who.number place) (find mine s.pollers.decided) reply refl is
+
+next-polled : (s : Sem) (who : Who) (op : SemOp) (reply : SemReply) → sem_reply s who op ≡ Some reply → polled s ≡ 0 → polled (sem_next s who op) ≡ 0
+next-polled s who (ops.Take waits) reply is none = ap (λ (ws : Waits Unit SemReply). count_by (λ (d : Decision SemReply). is_got d.answer) ws.decided) (take-polls s.count s who waits) ∙ none
+next-polled s who (ops.TakeEnd place) reply is none = none
+next-polled s who (ops.TakeQuit place) reply is none = none
+next-polled s who ops.Give reply is none = give-polled s.takers.waiting s none
+next-polled s who ops.Reset reply is none = none
+next-polled s who ops.Count reply is none = none
+next-polled s who (ops.PollArm waits) reply is none = ap (λ (ds : List (Decision SemReply)). count_by (λ (d : Decision SemReply). is_got d.answer) ds) (arm-decides s.count s who waits) ∙ none
+next-polled s who (ops.PollEnd place) reply is none = let here = poll-ends s who place reply is in omega arith
+next-polled s who (ops.PollQuit place) reply is none = let here = poll-quits s who place reply is in omega arith
+
+poll-reply-without : (n : ℕ) (waits : Bool) → is_got (poll_reply n waits) ≡ false
+poll-reply-without zero false = refl
+poll-reply-without zero true = refl
+poll-reply-without (suc n) waits = refl
+
+next-adds : (s : Sem) (who : Who) (op : SemOp) (reply : SemReply) → sem_reply s who op ≡ Some reply → polled s ≡ 0 →
     s.count + held s + one_if (gives_one op) ≡ one_if (is_got reply) + held (sem_next s who op) + (sem_next s who op).count + thrown_away s.limit s op
-next-adds s who (ops.Take waits) reply is = let here = take-adds s.count s who waits reply refl (same_Some (take_reply s.count waits) reply is) in omega arith
-next-adds s who (ops.TakeEnd place) reply is =
+next-adds s who (ops.Take waits) reply is unpolled = let here = take-adds s.count s who waits reply refl (same_Some (take_reply s.count waits) reply is) in omega arith
+next-adds s who (ops.TakeEnd place) reply is unpolled =
     let here = end-by (is_decision who.number place) s.takers.decided (find (is_decision who.number place) s.takers.decided) reply refl is in
     omega arith
-next-adds s who (ops.TakeQuit place) reply is =
-    let here = quit-by s who place (goes_on s.takers who.number place) (find (is_decision who.number place) s.takers.decided) reply refl is in
+next-adds s who (ops.TakeQuit place) reply is unpolled =
+    let mine = is_decision who.number place in
+    let here = quit-by Again refl mine s.takers.decided (goes_on s.takers who.number place) (find mine s.takers.decided) reply refl is in
     omega arith
-next-adds s who ops.Give reply is =
+next-adds s who ops.Give reply is unpolled =
     let none : one_if (is_got reply) ≡ 0 = ap (λ (r : SemReply). one_if (is_got r)) (sym (same_Some Done reply is)) in
     let here = give-adds s.takers.waiting s refl in
     omega arith
-next-adds s who ops.Reset reply is =
+next-adds s who ops.Reset reply is unpolled =
     let none : one_if (is_got reply) ≡ 0 = ap (λ (r : SemReply). one_if (is_got r)) (sym (same_Some Done reply is)) in
     let both = sum_by-append (λ (d : Decision SemReply). one_if (is_got d.answer)) s.takers.decided (map (decide Again) s.takers.waiting) in
     let again = none-got s.takers.waiting in
     omega arith
-next-adds s who ops.Count reply is =
+next-adds s who ops.Count reply is unpolled =
     let none : one_if (is_got reply) ≡ 0 = ap (λ (r : SemReply). one_if (is_got r)) (sym (same_Some (Number s.count) reply is)) in
     omega arith
+next-adds s who (ops.PollArm waits) reply is unpolled =
+    let none : one_if (is_got reply) ≡ 0 = ap (λ (r : SemReply). one_if (is_got r)) (sym (same_Some (poll_reply s.count waits) reply is)) ∙ ap one_if (poll-reply-without s.count waits) in
+    omega arith
+next-adds s who (ops.PollEnd place) reply is unpolled = let here = poll-ends s who place reply is in omega arith
+next-adds s who (ops.PollQuit place) reply is unpolled = let here = poll-quits s who place reply is in omega arith
 
-adds-all : (s : Sem) (h : SemHistory) → Replays sem_machine s h →
+adds-all : (s : Sem) (h : SemHistory) → Replays sem_machine s h → polled s ≡ 0 →
     s.count + held s + count_by is_give h ≡ count_by takes_one h + held (sem_after_all s h) + (sem_after_all s h).count + all_thrown_away s.limit s h
-adds-all s [] replays = omega arith
-adds-all s (e ∷ es) replays =
+adds-all s [] replays unpolled = omega arith
+adds-all s (e ∷ es) replays unpolled =
     let next = sem_next s e.who e.op in
-    let here = next-adds s e.who e.op e.reply replays.0 in
-    let rest = adds-all next es replays.1 in
+    let here = next-adds s e.who e.op e.reply replays.0 unpolled in
+    let rest = adds-all next es replays.1 (next-polled s e.who e.op e.reply replays.0 unpolled) in
     let same = ap (λ (limit : ℕ). all_thrown_away limit next es) (next-limit s e.who e.op) in
     omega (arith, sum_by-cons (λ (f : Entry SemOp SemReply). one_if (is_give f)) e es, sum_by-cons (λ (f : Entry SemOp SemReply). one_if (takes_one f)) e es)
 
 pub gives_add_up : OfEachSem GivesAddUp
-gives_add_up initial limit low h legal = let all = adds-all (new_sem initial limit) h legal.0 in omega arith
+gives_add_up initial limit low h legal = let all = adds-all (new_sem initial limit) h legal.0 refl in omega arith
 
 pub got_within_gives : OfEachSem GotWithinGives
-got_within_gives initial limit low h legal = let all = adds-all (new_sem initial limit) h legal.0 in omega arith
+got_within_gives initial limit low h legal = let all = adds-all (new_sem initial limit) h legal.0 refl in omega arith
 
 -- What one entry is answered, and what it leaves.
 
-replied : (s : Sem) (h front : SemHistory) (e : Entry SemOp SemReply) → Replays sem_machine s h → IsEntry h front e → sem_reply (sem_after_all s front) e.who e.op ≡ Some e.reply
+pub replied : (s : Sem) (h front : SemHistory) (e : Entry SemOp SemReply) → Replays sem_machine s h → IsEntry h front e → sem_reply (sem_after_all s front) e.who e.op ≡ Some e.reply
 replied s h front e replays at = (Replays-rest sem_machine s front (e ∷ at.rest) (subst (Replays sem_machine s) at.whole replays)).0
 
 take-told : (count : ℕ) (waits : Bool) → TakeIsTold count waits (take_reply count waits)
@@ -227,6 +288,9 @@ may_always s h who (ops.TakeQuit place) never = absurd (cc)
 may_always s h who ops.Give never = (_, refl)
 may_always s h who ops.Reset never = (_, refl)
 may_always s h who ops.Count never = (_, refl)
+may_always s h who (ops.PollArm waits) never = (_, refl)
+may_always s h who (ops.PollEnd place) never = absurd (cc)
+may_always s h who (ops.PollQuit place) never = absurd (cc)
 
 pub give_is_done : OfEachSem GiveIsDone
 give_is_done initial limit low h legal front e at (inl op) =

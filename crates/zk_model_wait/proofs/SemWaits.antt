@@ -40,22 +40,17 @@ sem-moves s who (ops.TakeQuit place) reply is = refl
 sem-moves s who ops.Give reply is = give-moves s.takers.waiting s refl
 sem-moves s who ops.Reset reply is = refl
 sem-moves s who ops.Count reply is = refl
+sem-moves s who (ops.PollArm waits) reply is = refl
+sem-moves s who (ops.PollEnd place) reply is = refl
+sem-moves s who (ops.PollQuit place) reply is = refl
 
 sem-ends : (s : Sem) (who : Who) (op : SemOp) (place : ℕ) → takers.ends op ≡ Some place → sem_reply s who op ≡ sem_reply s who (ops.TakeEnd place)
 sem-ends s who (ops.TakeEnd at) place is = ap (λ (p : ℕ). sem_reply s who (ops.TakeEnd p)) (same_Some at place is)
-sem-ends s who (ops.Take waits) place is = absurd (cc)
-sem-ends s who (ops.TakeQuit at) place is = absurd (cc)
-sem-ends s who ops.Give place is = absurd (cc)
-sem-ends s who ops.Reset place is = absurd (cc)
-sem-ends s who ops.Count place is = absurd (cc)
+sem-ends s who op place is = absurd (cc)
 
 sem-quits : (s : Sem) (who : Who) (op : SemOp) (place : ℕ) → takers.quits op ≡ Some place → sem_reply s who op ≡ sem_reply s who (ops.TakeQuit place)
 sem-quits s who (ops.TakeQuit at) place is = ap (λ (p : ℕ). sem_reply s who (ops.TakeQuit p)) (same_Some at place is)
-sem-quits s who (ops.Take waits) place is = absurd (cc)
-sem-quits s who (ops.TakeEnd at) place is = absurd (cc)
-sem-quits s who ops.Give place is = absurd (cc)
-sem-quits s who ops.Reset place is = absurd (cc)
-sem-quits s who ops.Count place is = absurd (cc)
+sem-quits s who op place is = absurd (cc)
 
 sem-opens_alone : (op : SemOp) (reply : SemReply) (matter : Unit) → takers.opens op reply ≡ Some matter → (takers.ends op ≡ None) × (takers.quits op ≡ None)
 sem-opens_alone (ops.Take waits) reply matter is = (refl, refl)

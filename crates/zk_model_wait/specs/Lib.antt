@@ -3,6 +3,9 @@ pub mod ClockLaws
 pub mod Msgq
 pub mod MsgqLaws
 pub mod MsgqWaits
+pub mod Polls
 pub mod Sem
 pub mod SemLaws
 pub mod SemWaits
+pub mod Signal
+pub mod SignalLaws

@@ -7,31 +7,40 @@ use Rattle.zk_base.specs.Waits.{Waits, no_waits, open_waits, joined, ended, quit
 use Rattle.zk_model_wait.specs.declared.msgq.MsgqOp.{MsgqOp}
 use Rattle.zk_model_wait.specs.declared.msgq.MsgqOp.TheVariants as ops
 use Rattle.zk_model_wait.specs.declared.msgq.MsgqReply.{MsgqReply}
-use Rattle.zk_model_wait.specs.declared.msgq.MsgqReply.TheVariants.{Done, NoMsg, Wait, Again, Bytes, Number}
+use Rattle.zk_model_wait.specs.declared.msgq.MsgqReply.TheVariants.{Done, NoMsg, Wait, Again, Bytes, Number, Ready, NotReady, Armed, Noted, Plain}
 
 -- the state of a message queue: the most messages that it holds, the number of entries so far,
--- its messages, the oldest first, and who waits to put one and to get one
+-- its messages, the oldest first, who waits to put one and to get one, and who is registered to be notified when there is one:
+-- who is notified is decided with that
 pub record Msgq : Type 0 where
   pub most : ℕ
   pub entries : ℕ
   pub messages : List (List ℕ)
   pub puts : Waits (List ℕ) MsgqReply
   pub gets : Waits Unit MsgqReply
+  pub pollers : Waits Unit MsgqReply
 
--- what a contract sees of the queue that is kept: its state, and how many waits it takes without memory
+-- what a contract sees of the queue that is kept: its state, and how many waits and polls it takes without memory
 pub record MsgqView : Type 0 where
   pub msgq : Msgq
   pub room : ℕ
 
 -- the state before the first entry
 abbrev pub new_msgq : ℕ → Msgq
-new_msgq most = record { most = most; entries = 0; messages = []; puts = no_waits; gets = no_waits }
+new_msgq most = record {
+  most = most;
+  entries = 0;
+  messages = [];
+  puts = no_waits;
+  gets = no_waits;
+  pollers = no_waits;
+}
 
--- the waits that haven't ended
+-- the waits and the polls that haven't ended
 abbrev pub open_calls : Msgq → ℕ
-open_calls q = open_waits q.puts + open_waits q.gets
+open_calls q = open_waits q.puts + open_waits q.gets + open_waits q.pollers
 
--- a queue that holds no more than it may, and of which no more wait than have called
+-- a queue that holds no more than it may, and at which no more wait or poll than have called
 pub record IsWithin (q : Msgq) : Type 0 where
   pub within : length q.messages ≤ q.most
   pub most : q.most ≤ 256
@@ -57,6 +66,12 @@ get_reply [] waits = else_reply waits
 abbrev pub peek_reply : Msgq → ℕ → MsgqReply
 peek_reply q index = option_map_or Bytes (slice_get q.messages index) NoMsg
 
+-- what a poll answers at these messages, by whether it waits
+abbrev pub poll_reply : List (List ℕ) → Bool → MsgqReply
+poll_reply (m ∷ ms) waits = Ready
+poll_reply [] true = Armed
+poll_reply [] false = NotReady
+
 -- the reply to each operation, where it is possible
 abbrev pub msgq_reply : Msgq → Who → MsgqOp → Option MsgqReply
 msgq_reply q who (ops.Put message waits) = Some (put_reply q.gets.waiting q waits)
@@ -70,6 +85,9 @@ msgq_reply q who (ops.PeekAt index) = Some (peek_reply q index)
 msgq_reply q who ops.Purge = Some Done
 msgq_reply q who ops.Used = Some (Number (length q.messages))
 msgq_reply q who ops.Free = Some (Number (q.most - length q.messages))
+msgq_reply q who (ops.PollArm waits) = Some (poll_reply q.messages waits)
+msgq_reply q who (ops.PollEnd place) = decision_of q.pollers who.number place
+msgq_reply q who (ops.PollQuit place) = quit_answer Plain q.pollers who.number place
 
 -- the wait of a put begins, with its message
 abbrev pub awaits_room : Msgq → Who → List ℕ → Msgq
@@ -85,11 +103,15 @@ abbrev pub put_at_full : Msgq → Who → List ℕ → Bool → Msgq
 put_at_full q who message true = awaits_room q who message
 put_at_full q who message false = q
 
+-- a message goes behind the others, and a poller is notified
+abbrev pub appended : Msgq → List ℕ → Msgq
+appended q message = record q { messages = q.messages ++ message ∷ []; pollers = first_decided Noted q.pollers }
+
 -- a put hands its message to the first get that waits. Where none does it goes behind the others, if there is room
 abbrev pub put_to : List (Waiter Unit) → Msgq → Who → List ℕ → Bool → Msgq
 put_to (w ∷ ws) q who message waits = record q { gets = first_decided (Bytes message) q.gets }
 put_to [] q who message waits =
-    if nat_lt (length q.messages) q.most then record q { messages = q.messages ++ message ∷ [] }
+    if nat_lt (length q.messages) q.most then appended q message
     else put_at_full q who message waits
 
 -- the message of the first put that waits moves in, and that put is done
@@ -103,6 +125,12 @@ get_from (m ∷ ms) q who waits = moved_in q.puts.waiting (record q { messages =
 get_from [] q who true = awaits_message q who
 get_from [] q who false = q
 
+-- a poll where there is no message registers its caller, if it is to wait
+abbrev pub arm_at : List (List ℕ) → Msgq → Who → Bool → Waits Unit MsgqReply
+arm_at (m ∷ ms) q who waits = q.pollers
+arm_at [] q who true = joined q.pollers (record { place = q.entries; who = who; matter = tt })
+arm_at [] q who false = q.pollers
+
 -- what each operation changes, where it is possible
 abbrev pub msgq_changed : Msgq → Who → MsgqOp → Msgq
 msgq_changed q who (ops.Put message waits) = put_to q.gets.waiting q who message waits
@@ -112,6 +140,9 @@ msgq_changed q who (ops.Get waits) = get_from q.messages q who waits
 msgq_changed q who (ops.GetEnd place) = record q { gets = ended q.gets who.number place }
 msgq_changed q who (ops.GetQuit place) = record q { gets = quitted q.gets who.number place }
 msgq_changed q who ops.Purge = record q { messages = []; puts = all_decided NoMsg q.puts }
+msgq_changed q who (ops.PollArm waits) = record q { pollers = arm_at q.messages q who waits }
+msgq_changed q who (ops.PollEnd place) = record q { pollers = ended q.pollers who.number place }
+msgq_changed q who (ops.PollQuit place) = record q { pollers = quitted q.pollers who.number place }
 msgq_changed q who op = q
 
 -- the state after an entry, which is counted
@@ -130,10 +161,11 @@ only_looks ops.Used = true
 only_looks ops.Free = true
 only_looks _ = false
 
--- the operation may begin a wait
+-- the operation may begin a wait or a poll
 abbrev pub may_wait : MsgqOp → Bool
 may_wait (ops.Put message waits) = waits
 may_wait (ops.Get waits) = waits
+may_wait (ops.PollArm waits) = waits
 may_wait _ = false
 
 -- an operation names nothing that could be missing

@@ -11,9 +11,10 @@ use Rattle.zk_base.specs.WaitLaws.{decided_at, IsDecidedBy, KeepsWaits}
 use Rattle.zk_model_wait.specs.declared.msgq.MsgqOp.{MsgqOp}
 use Rattle.zk_model_wait.specs.declared.msgq.MsgqOp.TheVariants as ops
 use Rattle.zk_model_wait.specs.declared.msgq.MsgqReply.{MsgqReply}
-use Rattle.zk_model_wait.specs.declared.msgq.MsgqReply.TheVariants.{Done, NoMsg, Wait, Bytes, Number}
+use Rattle.zk_model_wait.specs.declared.msgq.MsgqReply.TheVariants.{Done, NoMsg, Wait, Bytes, Number, Ready, NotReady, Armed, Noted}
 use Rattle.zk_model_wait.specs.Msgq.{Msgq, new_msgq, msgq_reply, msgq_next, msgq_machine}
-use Rattle.zk_model_wait.specs.MsgqWaits.{putters, getters}
+use Rattle.zk_model_wait.specs.MsgqWaits.{putters, getters, pollers}
+use Rattle.zk_model_wait.specs.Polls.{NotesOne}
 
 -- a history of a message queue
 abbrev pub MsgqHistory : Type 0
@@ -94,6 +95,25 @@ pub record PeekIsTold (q : Msgq) (index : ℕ) (reply : MsgqReply) : Type 0 wher
   pub there : (m : List ℕ) → slice_get q.messages index ≡ Some m → reply ≡ Bytes m
   pub past : length q.messages ≤ index → reply ≡ NoMsg
 
+-- what a poll is told at these messages
+pub record PollIsTold (messages : List (List ℕ)) (waits : Bool) (reply : MsgqReply) : Type 0 where
+  pub ready : 0 < length messages → reply ≡ Ready
+  pub armed : messages ≡ [] → waits ≡ true → reply ≡ Armed
+  pub not_ready : messages ≡ [] → waits ≡ false → reply ≡ NotReady
+
+-- the entry is a chance for who polls: a put that is done where no get waits
+pub record IsChance (q : Msgq) (e : Entry MsgqOp MsgqReply) : Type 0 where
+  pub put : (message : List ℕ) × (waits : Bool) × (e.op ≡ ops.Put message waits)
+  pub done : e.reply ≡ Done
+  pub nobody : q.gets.waiting ≡ []
+
+-- the operation begins a poll, ends one, or gives one up
+abbrev pub polls : MsgqOp → Bool
+polls (ops.PollArm waits) = true
+polls (ops.PollEnd place) = true
+polls (ops.PollQuit place) = true
+polls _ = false
+
 -- Each of what follows is said of one history, from its first state on.
 
 -- first in, first out: what is there and then is accepted is what leaves and then is there, in the same order
@@ -149,15 +169,17 @@ pub record LooksTellTheRing (q : Msgq) (h : MsgqHistory) : Type 0 where
   pub free : (front : MsgqHistory) (e : Entry MsgqOp MsgqReply) → IsEntry h front e → e.op ≡ ops.Free →
       e.reply ≡ Number (q.most - length (msgq_after_all q front).messages)
 
--- the operation ends a wait, or gives one up
+-- the operation ends a wait or a poll, or gives one up
 abbrev pub ends_wait : MsgqOp → Bool
 ends_wait (ops.PutEnd place) = true
 ends_wait (ops.PutQuit place) = true
 ends_wait (ops.GetEnd place) = true
 ends_wait (ops.GetQuit place) = true
+ends_wait (ops.PollEnd place) = true
+ends_wait (ops.PollQuit place) = true
 ends_wait _ = false
 
--- all but the end of a wait is possible at any time
+-- all but the end of a wait or a poll is possible at any time
 abbrev pub MayAlways : Msgq → MsgqHistory → Type 0
 MayAlways q h = (who : Who) (op : MsgqOp) → ends_wait op ≡ false →
     (reply : MsgqReply) × (msgq_reply (msgq_after_all q h) who op ≡ Some reply)
@@ -171,6 +193,27 @@ PurgeIsDone q h = (front : MsgqHistory) (e : Entry MsgqOp MsgqReply) → IsEntry
 abbrev pub PurgeEndsEveryPut : Msgq → MsgqHistory → Type 0
 PurgeEndsEveryPut q h = (front : MsgqHistory) (e : Entry MsgqOp MsgqReply) → IsEntry h front e → e.op ≡ ops.Purge →
     ((msgq_after_all q (front ++ e ∷ [])).messages ≡ []) × ((msgq_after_all q (front ++ e ∷ [])).puts.waiting ≡ [])
+
+-- a poll is told whether there is a message. Where there is none it is registered, or told that it isn't
+abbrev pub PollArmAnswers : Msgq → MsgqHistory → Type 0
+PollArmAnswers q h = (front : MsgqHistory) (e : Entry MsgqOp MsgqReply) (waits : Bool) → IsEntry h front e →
+    e.op ≡ ops.PollArm waits → PollIsTold (msgq_after_all q front).messages waits e.reply
+
+-- an entry that decides a poll is a chance, and notifies it
+abbrev pub NotedAtAChance : Msgq → MsgqHistory → Type 0
+NotedAtAChance q h = (front : MsgqHistory) (e : Entry MsgqOp MsgqReply) (d : Decision MsgqReply) → IsEntry h front e →
+    IsDecidedBy msgq_machine pollers q front e d → IsChance (msgq_after_all q front) e × (d.answer ≡ Noted)
+
+-- each chance notifies one poll, if there is one that isn't notified yet
+abbrev pub EachChanceNotesOne : Msgq → MsgqHistory → Type 0
+EachChanceNotesOne q h = (front : MsgqHistory) (e : Entry MsgqOp MsgqReply) → IsEntry h front e →
+    IsChance (msgq_after_all q front) e →
+    NotesOne (msgq_after_all q front).pollers (msgq_after_all q (front ++ e ∷ [])).pollers
+
+-- polling leaves the messages as they are
+abbrev pub PollingTakesNothing : Msgq → MsgqHistory → Type 0
+PollingTakesNothing q h = (front : MsgqHistory) (e : Entry MsgqOp MsgqReply) → IsEntry h front e → polls e.op ≡ true →
+    (msgq_after_all q (front ++ e ∷ [])).messages ≡ (msgq_after_all q front).messages
 
 -- the laws of a message queue
 pub record KeepsMsgqLaws (q : Msgq) (h : MsgqHistory) : Type 0 where
@@ -188,3 +231,8 @@ pub record KeepsMsgqLaws (q : Msgq) (h : MsgqHistory) : Type 0 where
   pub done : PurgeIsDone q h
   pub put_waits : KeepsWaits msgq_machine putters q h
   pub get_waits : KeepsWaits msgq_machine getters q h
+  pub armed : PollArmAnswers q h
+  pub noted : NotedAtAChance q h
+  pub chances : EachChanceNotesOne q h
+  pub nothing : PollingTakesNothing q h
+  pub polls : KeepsWaits msgq_machine pollers q h

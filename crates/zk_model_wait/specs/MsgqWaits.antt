@@ -1,9 +1,10 @@
 use Rattle.std.specs.Prelude.{ℕ, Option, Some, None, List, [], ◌∷◌}
+use Rattle.zk_base.specs.declared.waits.Waiter.{Waiter}
 use Rattle.zk_base.specs.WaitLaws.{Decides, nobody, first, all, WaitKind}
 use Rattle.zk_model_wait.specs.declared.msgq.MsgqOp.{MsgqOp}
 use Rattle.zk_model_wait.specs.declared.msgq.MsgqOp.TheVariants as ops
 use Rattle.zk_model_wait.specs.declared.msgq.MsgqReply.{MsgqReply}
-use Rattle.zk_model_wait.specs.declared.msgq.MsgqReply.TheVariants.{Done, NoMsg, Wait, Again, Bytes}
+use Rattle.zk_model_wait.specs.declared.msgq.MsgqReply.TheVariants.{Done, NoMsg, Wait, Again, Bytes, Armed, Noted, Plain}
 use Rattle.zk_model_wait.specs.Msgq.{Msgq}
 
 -- a put that is told to wait opens a wait, with its message
@@ -73,4 +74,40 @@ getters = record {
   quits = get_quits;
   gives_up = Again;
   decides = take_decides;
+}
+
+-- a poll that is told that it is registered opens a wait for its note
+abbrev pub poll_opens : MsgqOp → MsgqReply → Option Unit
+poll_opens (ops.PollArm waits) Armed = Some tt
+poll_opens op reply = None
+
+-- the place of the poll that is ended
+abbrev pub poll_ends : MsgqOp → Option ℕ
+poll_ends (ops.PollEnd place) = Some place
+poll_ends op = None
+
+-- and of the one that is given up
+abbrev pub poll_quits : MsgqOp → Option ℕ
+poll_quits (ops.PollQuit place) = Some place
+poll_quits op = None
+
+-- a put that is done notifies the first who polls, where no get waits
+abbrev pub put_notifies : List (Waiter Unit) → MsgqReply → Decides MsgqReply
+put_notifies [] Done = first Noted
+put_notifies waiting reply = nobody
+
+abbrev pub poll_decides : Msgq → MsgqOp → MsgqReply → Decides MsgqReply
+poll_decides q (ops.Put message waits) reply = put_notifies q.gets.waiting reply
+poll_decides q op reply = nobody
+
+-- who polls a message queue: who is notified is decided
+abbrev pub pollers : WaitKind Msgq MsgqOp MsgqReply Unit
+pollers = record {
+  waits = λ q. q.pollers;
+  entries = λ q. q.entries;
+  opens = poll_opens;
+  ends = poll_ends;
+  quits = poll_quits;
+  gives_up = Plain;
+  decides = poll_decides;
 }

@@ -6,11 +6,12 @@ use Rattle.zk_base.specs.declared.waits.Decision.{Decision}
 use Rattle.zk_base.specs.History.{IsEntry}
 use Rattle.zk_base.specs.Legal.{state_after, IsLegal}
 use Rattle.zk_base.specs.WaitLaws.{IsDecidedBy, KeepsWaits}
-use Rattle.zk_model_wait.specs.SemWaits.{takers}
+use Rattle.zk_model_wait.specs.Polls.{NotesOne}
+use Rattle.zk_model_wait.specs.SemWaits.{takers, pollers}
 use Rattle.zk_model_wait.specs.declared.sem.SemOp.{SemOp}
 use Rattle.zk_model_wait.specs.declared.sem.SemOp.TheVariants as ops
 use Rattle.zk_model_wait.specs.declared.sem.SemReply.{SemReply}
-use Rattle.zk_model_wait.specs.declared.sem.SemReply.TheVariants.{Got, Busy, Wait, Again, Done, Number}
+use Rattle.zk_model_wait.specs.declared.sem.SemReply.TheVariants.{Got, Busy, Wait, Again, Done, Number, Ready, NotReady, Armed, Noted}
 use Rattle.zk_model_wait.specs.Sem.{Sem, new_sem, sem_reply, sem_next, sem_machine}
 
 -- a history of a semaphore
@@ -69,6 +70,24 @@ pub record TakeIsTold (count : ℕ) (waits : Bool) (reply : SemReply) : Type 0 w
   pub wait : count ≡ 0 → waits ≡ true → reply ≡ Wait
   pub busy : count ≡ 0 → waits ≡ false → reply ≡ Busy
 
+-- what a poll is told at this count
+pub record PollIsTold (count : ℕ) (waits : Bool) (reply : SemReply) : Type 0 where
+  pub ready : 0 < count → reply ≡ Ready
+  pub armed : count ≡ 0 → waits ≡ true → reply ≡ Armed
+  pub not_ready : count ≡ 0 → waits ≡ false → reply ≡ NotReady
+
+-- the entry is a chance for who polls: a give where nobody waits, be it at the limit
+pub record IsChance (s : Sem) (e : Entry SemOp SemReply) : Type 0 where
+  pub give : e.op ≡ ops.Give
+  pub nobody : s.takers.waiting ≡ []
+
+-- the operation begins a poll, ends one, or gives one up
+abbrev pub polls : SemOp → Bool
+polls (ops.PollArm waits) = true
+polls (ops.PollEnd place) = true
+polls (ops.PollQuit place) = true
+polls _ = false
+
 -- Each of what follows is said of one history, from its first state on.
 
 -- the count is never above the limit
@@ -111,13 +130,15 @@ DecidedByGiveOrReset s h = (front : SemHistory) (e : Entry SemOp SemReply) (d : 
     IsDecidedBy sem_machine takers s front e d →
     ((e.op ≡ ops.Give) × (d.answer ≡ Got)) ⊎ ((e.op ≡ ops.Reset) × (d.answer ≡ Again))
 
--- the operation ends a wait, or gives one up
+-- the operation ends a wait or a poll, or gives one up
 abbrev pub ends_wait : SemOp → Bool
 ends_wait (ops.TakeEnd place) = true
 ends_wait (ops.TakeQuit place) = true
+ends_wait (ops.PollEnd place) = true
+ends_wait (ops.PollQuit place) = true
 ends_wait _ = false
 
--- a take, a give, a reset and a question for the count are possible at any time
+-- a take, a give, a reset, a question for the count and a poll that begins are possible at any time
 abbrev pub MayAlways : Sem → SemHistory → Type 0
 MayAlways s h = (who : Who) (op : SemOp) → ends_wait op ≡ false →
     (reply : SemReply) × (sem_reply (sem_after_all s h) who op ≡ Some reply)
@@ -127,7 +148,28 @@ abbrev pub GiveIsDone : Sem → SemHistory → Type 0
 GiveIsDone s h = (front : SemHistory) (e : Entry SemOp SemReply) → IsEntry h front e →
     (e.op ≡ ops.Give) ⊎ (e.op ≡ ops.Reset) → e.reply ≡ Done
 
--- the laws of a semaphore: its count, what its calls are told, and its waits
+-- a poll is told whether the count is above 0. At 0 it is registered, or told that it isn't
+abbrev pub PollArmAnswers : Sem → SemHistory → Type 0
+PollArmAnswers s h = (front : SemHistory) (e : Entry SemOp SemReply) (waits : Bool) → IsEntry h front e →
+    e.op ≡ ops.PollArm waits → PollIsTold (sem_after_all s front).count waits e.reply
+
+-- an entry that decides a poll is a chance, and notifies it
+abbrev pub NotedAtAChance : Sem → SemHistory → Type 0
+NotedAtAChance s h = (front : SemHistory) (e : Entry SemOp SemReply) (d : Decision SemReply) → IsEntry h front e →
+    IsDecidedBy sem_machine pollers s front e d → IsChance (sem_after_all s front) e × (d.answer ≡ Noted)
+
+-- each chance notifies one poll, if there is one that isn't notified yet
+abbrev pub EachChanceNotesOne : Sem → SemHistory → Type 0
+EachChanceNotesOne s h = (front : SemHistory) (e : Entry SemOp SemReply) → IsEntry h front e →
+    IsChance (sem_after_all s front) e →
+    NotesOne (sem_after_all s front).pollers (sem_after_all s (front ++ e ∷ [])).pollers
+
+-- polling leaves the count as it is
+abbrev pub PollingTakesNothing : Sem → SemHistory → Type 0
+PollingTakesNothing s h = (front : SemHistory) (e : Entry SemOp SemReply) → IsEntry h front e → polls e.op ≡ true →
+    (sem_after_all s (front ++ e ∷ [])).count ≡ (sem_after_all s front).count
+
+-- the laws of a semaphore: its count, what its calls are told, its waits, and its polls
 pub record KeepsSemLaws (s : Sem) (h : SemHistory) : Type 0 where
   pub within : CountWithinLimit s h
   pub none_waits : NoneWaitsWhileCount s h
@@ -140,3 +182,8 @@ pub record KeepsSemLaws (s : Sem) (h : SemHistory) : Type 0 where
   pub always : MayAlways s h
   pub done : GiveIsDone s h
   pub waits : KeepsWaits sem_machine takers s h
+  pub armed : PollArmAnswers s h
+  pub noted : NotedAtAChance s h
+  pub chances : EachChanceNotesOne s h
+  pub nothing : PollingTakesNothing s h
+  pub polls : KeepsWaits sem_machine pollers s h

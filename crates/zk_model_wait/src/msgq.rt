@@ -34,6 +34,13 @@ pub enum MsgqOp {
     Used,
     /// Asks for how many more there is room. Zephyr's `k_msgq_num_free_get`.
     Free,
+    /// Asks whether there is a message. Where there is none the caller is registered, if this is true: a later put notifies it.
+    /// The registration of an event by Zephyr's `k_poll`.
+    PollArm(bool),
+    /// Ends a poll of the caller that is notified: the one that the entry of this place began.
+    PollEnd(u64),
+    /// Gives a poll of the caller up, notified or not: the one that the entry of this place began.
+    PollQuit(u64),
 }
 
 /// What a message queue answers.
@@ -51,6 +58,16 @@ pub enum MsgqReply {
     Bytes(Msg),
     /// How many.
     Number(u32),
+    /// There is a message, and the caller of the poll isn't registered.
+    Ready,
+    /// There is no message, and the caller of the poll isn't registered.
+    NotReady,
+    /// There is no message, and the caller of the poll is registered.
+    Armed,
+    /// The poll ended notified.
+    Noted,
+    /// The poll was given up, and was not notified.
+    Plain,
 }
 
 /// The state of a message queue's machine, with the memory that it has for waits.
@@ -61,6 +78,8 @@ pub struct MsgqStore {
     ring: HeapCircularBuffer<Msg>,
     puts: WaitList<Msg, MsgqReply>,
     gets: WaitList<(), MsgqReply>,
+    // Who is notified is decided.
+    pollers: WaitList<(), MsgqReply>,
 }
 
 impl Model for MsgqStore {
@@ -76,8 +95,9 @@ impl Model for MsgqStore {
         messages = s.ring.items;
         puts = s.puts.waits;
         gets = s.gets.waits;
+        pollers = s.pollers.waits;
       };
-      room = min s.puts.room s.gets.room;
+      room = min (min s.puts.room s.gets.room) s.pollers.room;
     } };
 
     ghost invariant = { λ s. IsWithin (record {
@@ -86,6 +106,7 @@ impl Model for MsgqStore {
       messages = s.ring.items;
       puts = s.puts.waits;
       gets = s.gets.waits;
+      pollers = s.pollers.waits;
     }) };
 }
 
@@ -134,31 +155,36 @@ impl MsgqStore {
             ring: HeapCircularBuffer::with_capacity(alloc, most as usize)?,
             puts: WaitList::new(alloc),
             gets: WaitList::new(alloc),
+            pollers: WaitList::new(alloc),
         })
     }
 
-    /// How many waits there are that haven't ended.
+    /// How many waits and polls there are that haven't ended.
     pub fn open(&self) -> u64
         ensures { result ≡ open_calls self.now.msgq }
     {
-        self.puts.open() + self.gets.open()
+        self.puts.open() + self.gets.open() + self.pollers.open()
     }
 
-    /// Makes room for so many waits.
+    /// Makes room for so many waits of each kind, and so many polls.
     pub fn reserve(&mut self, more: usize) -> Result<(), NoMemory>
         ensures room { IfOk result (λ _. more ≤ self.new.room) }
         ensures more { self.old.room ≤ self.new.room }
         ensures same { self.new.msgq ≡ self.old.msgq }
     {
         self.puts.reserve(more)?;
-        self.gets.reserve(more)
+        self.gets.reserve(more)?;
+        self.pollers.reserve(more)
     }
 
-    /// How many waits it takes without memory.
+    /// How many waits and polls it takes without memory.
     pub fn room(&self) -> u64
         ensures { result ≡ self.now.room }
     {
-        self.puts.room().min(self.gets.room())
+        self.puts
+            .room()
+            .min(self.gets.room())
+            .min(self.pollers.room())
     }
 
     fn put(&mut self, who: Who, message: Msg, waits: bool) -> Result<Option<MsgqReply>, NoMemory>
@@ -178,6 +204,7 @@ impl MsgqStore {
             self.gets.decide_first(MsgqReply::Bytes(message));
         } else if !self.ring.is_full() {
             append(&mut self.ring, message);
+            self.pollers.decide_first(MsgqReply::Noted);
         } else if waits {
             self.puts.join(Waiter {
                 place: self.entries,
@@ -305,6 +332,56 @@ impl MsgqStore {
         MsgqReply::Done
     }
 
+    fn poll_arm(&mut self, who: Who, waits: bool) -> Result<Option<MsgqReply>, NoMemory>
+        requires { self.old.msgq.entries < 2 ^ 32 - 1 }
+        ensures reply { IfOk result (λ reply.
+            reply ≡ msgq_reply self.old.msgq who (MsgqOp.PollArm waits)) }
+        ensures next { IfOk result (λ reply.
+            self.new.msgq ≡ msgq_after self.old.msgq who (MsgqOp.PollArm waits) reply) }
+        ensures unchanged { OnErr result (self.new.msgq ≡ self.old.msgq) }
+        ensures memory { waits ≡ false → IsOk result }
+        ensures roomy { 1 ≤ self.old.room → IsOk result }
+        ensures room { self.old.room ≤ self.new.room + 1 }
+        ensures kept { AddsNone result → self.old.room ≤ self.new.room }
+    {
+        let mut reply = MsgqReply::Ready;
+        if self.ring.is_empty() {
+            reply = MsgqReply::NotReady;
+            if waits {
+                self.pollers.join(Waiter {
+                    place: self.entries,
+                    who,
+                    matter: (),
+                })?;
+                reply = MsgqReply::Armed;
+            }
+        }
+        self.entries += 1;
+        Ok(Some(reply))
+    }
+
+    fn poll_end(&mut self, who: Who, place: u64) -> Option<MsgqReply>
+        requires { self.old.msgq.entries < 2 ^ 32 - 1 }
+        ensures reply { result ≡ msgq_reply self.old.msgq who (MsgqOp.PollEnd place) }
+        ensures next { self.new.msgq ≡ msgq_after self.old.msgq who (MsgqOp.PollEnd place) result }
+        ensures room { self.old.room ≤ self.new.room }
+    {
+        let reply = self.pollers.end(who.number, place)?;
+        self.entries += 1;
+        Some(reply)
+    }
+
+    fn poll_quit(&mut self, who: Who, place: u64) -> Option<MsgqReply>
+        requires { self.old.msgq.entries < 2 ^ 32 - 1 }
+        ensures reply { result ≡ msgq_reply self.old.msgq who (MsgqOp.PollQuit place) }
+        ensures next { self.new.msgq ≡ msgq_after self.old.msgq who (MsgqOp.PollQuit place) result }
+        ensures room { self.old.room ≤ self.new.room }
+    {
+        let reply = self.pollers.quit(who.number, place, MsgqReply::Plain)?;
+        self.entries += 1;
+        Some(reply)
+    }
+
     /// The message of an index, which stays.
     fn peek(&self, index: u32) -> MsgqReply
         ensures { result ≡ peek_reply self.now.msgq index }
@@ -340,7 +417,7 @@ impl MsgqStore {
 
 /// One operation of a message queue's machine: its reply and its next state.
 ///
-/// `None` says that the operation isn't possible now. Only a `Put` and a `Get` that wait take memory.
+/// `None` says that the operation isn't possible now. Only a `Put`, a `Get` and a `PollArm` that wait take memory.
 pub fn msgq_next(
     store: &mut MsgqStore,
     who: Who,
@@ -351,7 +428,7 @@ pub fn msgq_next(
     ensures next { IfOk result (λ reply. store.new.msgq ≡ msgq_after store.old.msgq who op.now reply) }
     ensures unchanged { OnErr result (store.new.msgq ≡ store.old.msgq) }
 
-    // Memory: one place is enough, and is taken only by a wait that begins.
+    // Memory: one place is enough, and is taken only by a wait or a poll that begins.
     ensures memory { may_wait op.now ≡ false → IsOk result }
     ensures roomy { 1 ≤ store.old.room → IsOk result }
     ensures room { store.old.room ≤ store.new.room + 1 }
@@ -365,6 +442,9 @@ pub fn msgq_next(
         MsgqOp::GetEnd(place) => Ok(store.get_end(who, place)),
         MsgqOp::GetQuit(place) => Ok(store.get_quit(who, place)),
         MsgqOp::Purge => Ok(Some(store.purge(who))),
+        MsgqOp::PollArm(waits) => store.poll_arm(who, waits),
+        MsgqOp::PollEnd(place) => Ok(store.poll_end(who, place)),
+        MsgqOp::PollQuit(place) => Ok(store.poll_quit(who, place)),
         MsgqOp::Peek | MsgqOp::PeekAt(_) | MsgqOp::Used | MsgqOp::Free => {
             let reply = store.look(op);
             store.count();

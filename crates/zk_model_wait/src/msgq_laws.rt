@@ -1,7 +1,7 @@
 ghost use Rattle.zk_base.specs.WaitLaws.{KeepsWaits};
 ghost use Rattle.zk_model_wait.specs.Msgq.{Msgq, msgq_machine};
-ghost use Rattle.zk_model_wait.specs.MsgqWaits.{putters, getters};
-ghost use Rattle.zk_model_wait.specs.MsgqLaws.{MsgqHistory, OfEachMsgq, FirstInFirstOut, RingWithinMax, NoneWaitsToGetWhileMessages, NoneWaitsToPutWhileRoom, PutWaitsOnlyAtFull, GetWaitsOnlyAtEmpty, LooksTellTheRing, PurgeEndsEveryPut, PutDecidedByGetOrPurge, GetDecidedByItsPut, MayAlways, PurgeIsDone, KeepsMsgqLaws};
+ghost use Rattle.zk_model_wait.specs.MsgqWaits.{putters, getters, pollers};
+ghost use Rattle.zk_model_wait.specs.MsgqLaws.{MsgqHistory, OfEachMsgq, FirstInFirstOut, RingWithinMax, NoneWaitsToGetWhileMessages, NoneWaitsToPutWhileRoom, PutWaitsOnlyAtFull, GetWaitsOnlyAtEmpty, LooksTellTheRing, PurgeEndsEveryPut, PutDecidedByGetOrPurge, GetDecidedByItsPut, MayAlways, PurgeIsDone, PollArmAnswers, NotedAtAChance, EachChanceNotesOne, PollingTakesNothing, KeepsMsgqLaws};
 
 /// Of every legal history of a message queue: each message that it accepted leaves it once, in the order in which they were accepted, be
 /// it got, handed to a get or discarded.
@@ -36,6 +36,16 @@ pub fn queue_waits_end()
     ensures get_waits { OfEachMsgq (KeepsWaits msgq_machine getters) }
 {}
 
+/// Of every legal history of a message queue: a poll is told whether there is a message, each put behind the others notifies one who
+/// polls and isn't notified yet, by priority, and then by longest poll, and nothing else does; and polling takes nothing.
+pub fn queue_polls_hold()
+    ensures armed { OfEachMsgq PollArmAnswers }
+    ensures noted { OfEachMsgq NotedAtAChance }
+    ensures chances { OfEachMsgq EachChanceNotesOne }
+    ensures nothing { (q : Msgq) (h : MsgqHistory) → PollingTakesNothing q h }
+    ensures polls { OfEachMsgq (KeepsWaits msgq_machine pollers) }
+{}
+
 /// All of it, of every legal history of a message queue. It does nothing when it runs.
 pub fn keeps_msgq_laws()
     ensures { OfEachMsgq KeepsMsgqLaws }
@@ -44,4 +54,5 @@ pub fn keeps_msgq_laws()
     ring_holds();
     queue_calls_are_told();
     queue_waits_end();
+    queue_polls_hold();
 }

@@ -1,6 +1,6 @@
-ghost use Rattle.std.specs.Prelude.{◌≡◌, true, false, ◌+◌, ◌-◌, ◌^◌, ◌<◌, ◌≤◌, Some, IsOk, IfOk, OnOk, OnErr};
+ghost use Rattle.std.specs.Prelude.{◌≡◌, true, false, ◌+◌, ◌-◌, ◌^◌, ◌<◌, ◌≤◌, [], Some, IsOk, IfOk, OnOk, OnErr};
 ghost use Rattle.zk_base.specs.History.{AddsNone};
-ghost use Rattle.zk_model_wait.specs.Sem.{new_sem, sem_reply, sem_after, may_wait, open_takes};
+ghost use Rattle.zk_model_wait.specs.Sem.{new_sem, give_to, sem_reply, sem_after, may_wait, open_takes};
 
 use std::alloc::Global;
 use std::marker::Model;
@@ -21,6 +21,13 @@ pub enum SemOp {
     Reset,
     /// Asks for the count. Zephyr's `k_sem_count_get`.
     Count,
+    /// Asks whether the count is above 0. At 0 the caller is registered, where this is true: a later give notifies it. The
+    /// registration of an event by Zephyr's `k_poll`.
+    PollArm(bool),
+    /// Ends a poll of the caller that is notified: the one that the entry of this place began.
+    PollEnd(u64),
+    /// Gives a poll of the caller up, notified or not: the one that the entry of this place began.
+    PollQuit(u64),
 }
 
 /// What a semaphore answers.
@@ -38,6 +45,16 @@ pub enum SemReply {
     Done,
     /// The count.
     Number(u32),
+    /// The count is above 0, and the caller of the poll isn't registered.
+    Ready,
+    /// The count is 0, and the caller of the poll isn't registered.
+    NotReady,
+    /// The count is 0, and the caller of the poll is registered.
+    Armed,
+    /// The poll ended notified.
+    Noted,
+    /// The poll was given up, and was not notified.
+    Plain,
 }
 
 /// The state of a semaphore's machine, with the memory that it has for waits.
@@ -47,16 +64,25 @@ pub struct SemStore {
     limit: u32,
     entries: u64,
     takers: WaitList<(), SemReply>,
+    // Who is notified is decided.
+    pollers: WaitList<(), SemReply>,
 }
 
 impl Model for SemStore {
+    ghost use Rattle.std.specs.Prelude.{min};
     ghost use Rattle.zk_model_wait.specs.Sem.{SemView, IsCounted};
 
     ghost Value = { SemView };
 
     ghost view = { λ s. record {
-      sem = record { count = s.count; limit = s.limit; entries = s.entries; takers = s.takers.waits };
-      room = s.takers.room;
+      sem = record {
+        count = s.count;
+        limit = s.limit;
+        entries = s.entries;
+        takers = s.takers.waits;
+        pollers = s.pollers.waits;
+      };
+      room = min s.takers.room s.pollers.room;
     } };
 
     ghost invariant = { λ s. IsCounted (record {
@@ -64,6 +90,7 @@ impl Model for SemStore {
       limit = s.limit;
       entries = s.entries;
       takers = s.takers.waits;
+      pollers = s.pollers.waits;
     }) };
 }
 
@@ -104,30 +131,32 @@ impl SemStore {
             limit,
             entries: 0,
             takers: WaitList::new(alloc),
+            pollers: WaitList::new(alloc),
         }
     }
 
-    /// How many waits there are that haven't ended.
+    /// How many waits and polls there are that haven't ended.
     pub fn open(&self) -> u64
         ensures { result ≡ open_takes self.now.sem }
     {
-        self.takers.open()
+        self.takers.open() + self.pollers.open()
     }
 
-    /// Makes room for so many waits.
+    /// Makes room for so many waits and so many polls.
     pub fn reserve(&mut self, more: usize) -> Result<(), NoMemory>
         ensures room { IfOk result (λ _. more ≤ self.new.room) }
         ensures more { self.old.room ≤ self.new.room }
         ensures same { self.new.sem ≡ self.old.sem }
     {
-        self.takers.reserve(more)
+        self.takers.reserve(more)?;
+        self.pollers.reserve(more)
     }
 
-    /// How many waits it takes without memory.
+    /// How many waits and polls it takes without memory.
     pub fn room(&self) -> u64
         ensures { result ≡ self.now.room }
     {
-        self.takers.room()
+        self.takers.room().min(self.pollers.room())
     }
 
     fn take(&mut self, who: Who, waits: bool) -> Result<Option<SemReply>, NoMemory>
@@ -180,6 +209,18 @@ impl SemStore {
         Some(reply)
     }
 
+    /// A give where nobody waits: the count is raised up to the limit, and the first poller that isn't notified yet is.
+    fn raise(&mut self)
+        requires { self.old.sem.entries < 2 ^ 32 - 1 }
+        ensures next { self.new.sem ≡ give_to [] self.old.sem }
+        ensures room { self.old.room ≤ self.new.room }
+    {
+        if self.count < self.limit {
+            self.count += 1;
+        }
+        self.pollers.decide_first(SemReply::Noted);
+    }
+
     fn give(&mut self, who: Who) -> SemReply
         requires { self.old.sem.entries < 2 ^ 32 - 1 }
         ensures reply { Some result ≡ sem_reply self.old.sem who SemOp.Give }
@@ -188,8 +229,9 @@ impl SemStore {
     {
         match self.takers.first() {
             Some(_) => self.takers.decide_first(SemReply::Got),
-            None if self.count < self.limit => self.count += 1,
-            None => {}
+            None => {
+                self.raise();
+            }
         }
         self.entries += 1;
         SemReply::Done
@@ -216,18 +258,68 @@ impl SemStore {
         self.entries += 1;
         SemReply::Number(self.count)
     }
+
+    fn poll_arm(&mut self, who: Who, waits: bool) -> Result<Option<SemReply>, NoMemory>
+        requires { self.old.sem.entries < 2 ^ 32 - 1 }
+        ensures reply { IfOk result (λ reply.
+            reply ≡ sem_reply self.old.sem who (SemOp.PollArm waits)) }
+        ensures next { IfOk result (λ reply.
+            self.new.sem ≡ sem_after self.old.sem who (SemOp.PollArm waits) reply) }
+        ensures unchanged { OnErr result (self.new.sem ≡ self.old.sem) }
+        ensures memory { waits ≡ false → IsOk result }
+        ensures roomy { 1 ≤ self.old.room → IsOk result }
+        ensures room { self.old.room ≤ self.new.room + 1 }
+        ensures kept { AddsNone result → self.old.room ≤ self.new.room }
+    {
+        let mut reply = SemReply::Ready;
+        if self.count == 0 {
+            reply = SemReply::NotReady;
+            if waits {
+                self.pollers.join(Waiter {
+                    place: self.entries,
+                    who,
+                    matter: (),
+                })?;
+                reply = SemReply::Armed;
+            }
+        }
+        self.entries += 1;
+        Ok(Some(reply))
+    }
+
+    fn poll_end(&mut self, who: Who, place: u64) -> Option<SemReply>
+        requires { self.old.sem.entries < 2 ^ 32 - 1 }
+        ensures reply { result ≡ sem_reply self.old.sem who (SemOp.PollEnd place) }
+        ensures next { self.new.sem ≡ sem_after self.old.sem who (SemOp.PollEnd place) result }
+        ensures room { self.old.room ≤ self.new.room }
+    {
+        let reply = self.pollers.end(who.number, place)?;
+        self.entries += 1;
+        Some(reply)
+    }
+
+    fn poll_quit(&mut self, who: Who, place: u64) -> Option<SemReply>
+        requires { self.old.sem.entries < 2 ^ 32 - 1 }
+        ensures reply { result ≡ sem_reply self.old.sem who (SemOp.PollQuit place) }
+        ensures next { self.new.sem ≡ sem_after self.old.sem who (SemOp.PollQuit place) result }
+        ensures room { self.old.room ≤ self.new.room }
+    {
+        let reply = self.pollers.quit(who.number, place, SemReply::Plain)?;
+        self.entries += 1;
+        Some(reply)
+    }
 }
 
 /// One operation of a semaphore's machine: its reply and its next state.
 ///
-/// `None` says that the operation isn't possible now. Only a `Take` that waits takes memory.
+/// `None` says that the operation isn't possible now. Only a `Take` or a `PollArm` that waits takes memory.
 pub fn sem_next(store: &mut SemStore, who: Who, op: &SemOp) -> Result<Option<SemReply>, NoMemory>
     requires { store.old.sem.entries < 2 ^ 32 - 1 }
     ensures reply { IfOk result (λ reply. reply ≡ sem_reply store.old.sem who op.now) }
     ensures next { IfOk result (λ reply. store.new.sem ≡ sem_after store.old.sem who op.now reply) }
     ensures unchanged { OnErr result (store.new.sem ≡ store.old.sem) }
 
-    // Memory: one place is enough, and is taken only by a wait that begins.
+    // Memory: one place is enough, and is taken only by a wait or a poll that begins.
     ensures memory { may_wait op.now ≡ false → IsOk result }
     ensures roomy { 1 ≤ store.old.room → IsOk result }
     ensures room { store.old.room ≤ store.new.room + 1 }
@@ -240,5 +332,8 @@ pub fn sem_next(store: &mut SemStore, who: Who, op: &SemOp) -> Result<Option<Sem
         SemOp::Give => Ok(Some(store.give(who))),
         SemOp::Reset => Ok(Some(store.reset(who))),
         SemOp::Count => Ok(Some(store.count(who))),
+        SemOp::PollArm(waits) => store.poll_arm(who, waits),
+        SemOp::PollEnd(place) => Ok(store.poll_end(who, place)),
+        SemOp::PollQuit(place) => Ok(store.poll_quit(who, place)),
     }
 }

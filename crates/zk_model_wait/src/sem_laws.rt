@@ -1,7 +1,7 @@
 ghost use Rattle.zk_base.specs.WaitLaws.{KeepsWaits};
 ghost use Rattle.zk_model_wait.specs.Sem.{Sem, sem_machine};
-ghost use Rattle.zk_model_wait.specs.SemWaits.{takers};
-ghost use Rattle.zk_model_wait.specs.SemLaws.{SemHistory, OfEachSem, CountWithinLimit, NoneWaitsWhileCount, GivesAddUp, GotWithinGives, TakeWaitsOnlyAtZero, CountTellsTheCount, ResetEndsEveryWait, DecidedByGiveOrReset, MayAlways, GiveIsDone, KeepsSemLaws};
+ghost use Rattle.zk_model_wait.specs.SemWaits.{takers, pollers};
+ghost use Rattle.zk_model_wait.specs.SemLaws.{SemHistory, OfEachSem, CountWithinLimit, NoneWaitsWhileCount, GivesAddUp, GotWithinGives, TakeWaitsOnlyAtZero, CountTellsTheCount, ResetEndsEveryWait, DecidedByGiveOrReset, MayAlways, GiveIsDone, PollArmAnswers, NotedAtAChance, EachChanceNotesOne, PollingTakesNothing, KeepsSemLaws};
 
 /// Of every legal history of a semaphore: it loses and invents no count, its count keeps its limit, and nobody waits while the
 /// count is above 0.
@@ -29,6 +29,16 @@ pub fn waits_end()
     ensures waits { OfEachSem (KeepsWaits sem_machine takers) }
 {}
 
+/// Of every legal history of a semaphore: a poll is told whether the count is above 0, each give where nobody waits notifies one who
+/// polls and isn't notified yet, by priority, and then by longest poll, and nothing else does; and polling takes nothing.
+pub fn polls_hold()
+    ensures armed { OfEachSem PollArmAnswers }
+    ensures noted { OfEachSem NotedAtAChance }
+    ensures chances { OfEachSem EachChanceNotesOne }
+    ensures nothing { (s : Sem) (h : SemHistory) → PollingTakesNothing s h }
+    ensures polls { OfEachSem (KeepsWaits sem_machine pollers) }
+{}
+
 /// All of it, of every legal history of a semaphore. It does nothing when it runs.
 pub fn keeps_sem_laws()
     ensures { OfEachSem KeepsSemLaws }
@@ -36,4 +46,5 @@ pub fn keeps_sem_laws()
     gives_add_up();
     calls_are_told();
     waits_end();
+    polls_hold();
 }

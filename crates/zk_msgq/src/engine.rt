@@ -49,6 +49,13 @@ impl Engine for MsgqEngine {
 
     ghost grows = { λ op. false };
 
+    // Nothing is published for looks.
+    ghost word = { λ s index. 0 };
+
+    ghost WORDS = { 0 };
+
+    const WORDS: u32 = 0;
+
     fn step(&mut self, who: Who, op: &MsgqOp) -> Result<Option<(MsgqReply, MsgqReply)>, NoMemory> {
         match msgq_next(&mut self.store, who, op)? {
             None => Ok(None),
@@ -62,12 +69,21 @@ impl Engine for MsgqEngine {
     fn is_closing(&self, _who: Who, op: &MsgqOp) -> bool {
         matches!(
             op,
-            MsgqOp::PutEnd(_) | MsgqOp::PutQuit(_) | MsgqOp::GetEnd(_) | MsgqOp::GetQuit(_)
+            MsgqOp::PutEnd(_)
+                | MsgqOp::PutQuit(_)
+                | MsgqOp::GetEnd(_)
+                | MsgqOp::GetQuit(_)
+                | MsgqOp::PollEnd(_)
+                | MsgqOp::PollQuit(_)
         )
     }
 
     fn owed(&self) -> u64 {
         self.store.open()
+    }
+
+    fn word(&self, _index: u32) -> u32 {
+        0
     }
 
     fn reserve(&mut self) -> Result<(), NoMemory> {

@@ -7,7 +7,8 @@ use std::process::Abort;
 use std::test::*;
 use zk_base::{Msg, NewRefused, NoMemory, Service, Who};
 use zk_model_wait::MsgqOp::{
-    Free, Get, GetEnd, GetQuit, Peek, PeekAt, Purge, Put, PutEnd, PutQuit, Used,
+    Free, Get, GetEnd, GetQuit, Peek, PeekAt, PollArm, PollEnd, PollQuit, Purge, Put, PutEnd,
+    PutQuit, Used,
 };
 use zk_model_wait::{MsgqOp, MsgqReply};
 
@@ -32,6 +33,11 @@ fn told(reply: &Option<MsgqReply>) -> (&'static str, u32) {
         Some(MsgqReply::Again) => ("again", 0),
         Some(MsgqReply::Bytes(message)) => ("bytes", first_byte(message.bytes())),
         Some(MsgqReply::Number(number)) => ("number", *number),
+        Some(MsgqReply::Ready) => ("ready", 0),
+        Some(MsgqReply::NotReady) => ("notready", 0),
+        Some(MsgqReply::Armed) => ("armed", 0),
+        Some(MsgqReply::Noted) => ("noted", 0),
+        Some(MsgqReply::Plain) => ("plain", 0),
     }
 }
 
@@ -123,6 +129,35 @@ fn gets_wait(rt: HostRuntime) -> Result<(), Fail> {
         ],
     )?;
     assert_eq!(&rt; entries, 14);
+    Ok(())
+}
+
+/// Polls: a put that is handed to a get notifies nobody, nor does one that moves in. A put that goes behind the others notifies one.
+#[test]
+fn polled(rt: HostRuntime) -> Result<(), Fail> {
+    let entries = play(
+        &rt,
+        Msgq::new(rt.alloc(), 1, 1)?,
+        &[
+            (1, 0, PollArm(true), ("armed", 0)),
+            (2, 0, PollArm(true), ("armed", 0)),
+            (0, 0, Get(true), ("wait", 0)),
+            (0, 0, Put(message(7), false), ("done", 0)),
+            (1, 0, PollEnd(0), ("none", 0)),
+            (0, 0, Put(message(8), false), ("done", 0)),
+            (0, 0, Put(message(9), true), ("wait", 0)),
+            (2, 0, PollEnd(1), ("none", 0)),
+            (3, 0, Get(false), ("bytes", 8)),
+            (2, 0, PollEnd(1), ("none", 0)),
+            (1, 0, PollEnd(0), ("noted", 0)),
+            (0, 0, PutEnd(5), ("done", 0)),
+            (3, 0, PollArm(true), ("ready", 0)),
+            (0, 0, Purge, ("done", 0)),
+            (3, 0, PollArm(false), ("notready", 0)),
+            (2, 0, PollQuit(1), ("plain", 0)),
+        ],
+    )?;
+    assert_eq!(&rt; entries, 13);
     Ok(())
 }
 

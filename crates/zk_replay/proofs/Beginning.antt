@@ -20,6 +20,9 @@ use Rattle.zk_model_wait.specs.declared.sem.SemOp.{SemOp}
 use Rattle.zk_model_wait.specs.declared.sem.SemReply.{SemReply}
 use Rattle.zk_model_wait.specs.declared.msgq.MsgqOp.{MsgqOp}
 use Rattle.zk_model_wait.specs.declared.msgq.MsgqReply.{MsgqReply}
+use Rattle.zk_model_wait.specs.declared.signal.SignalOp.{SignalOp}
+use Rattle.zk_model_wait.specs.declared.signal.SignalReply.{SignalReply}
+use Rattle.zk_model_wait.specs.Signal.{Signal}
 use Rattle.zk_model_wait.specs.Sem.{Sem}
 use Rattle.zk_model_wait.specs.Msgq.{Msgq}
 use Rattle.zk_worker.specs.Families.{no_entries}
@@ -33,7 +36,7 @@ use Rattle.zk_worker.specs.Places.{At}
 use Rattle.zk_worker.specs.Protocol.{start_at}
 use Rattle.zk_worker.specs.Follows.{is_spent_at}
 use Rattle.zk_worker.specs.Ranges.{FramesFit}
-use Rattle.zk_worker.specs.Machines.{machines_of, workers, work_start_of, item_number, items_of, sem_start, msgq_start}
+use Rattle.zk_worker.specs.Machines.{machines_of, workers, work_start_of, item_number, items_of, sem_start, msgq_start, signal_start}
 use Rattle.zk_worker.specs.Shown.{Shown, nothing_shown}
 use Rattle.zk_worker.proofs.Fits.{start_at-fits}
 use Rattle.zk_worker.proofs.Following.{following-fresh}
@@ -149,7 +152,7 @@ ready-first s valid =
       shows = λ p at is. log-none s.decls at.who.number at.spots (start_at-fresh s p at (first-there s p at is)).none_made;
       looks = λ p at is. looks-fresh (machines_of s) (nothing_shown s.decls) at.spots (start_at-fresh s p at (first-there s p at is)).none_made;
       short = All-weaker None_made Short (λ at le. omega arith) (starts s n) none;
-      counted = omega (arith, none-counted SemOp SemReply s.decls, none-counted MsgqOp MsgqReply s.decls);
+      counted = omega (arith, none-counted SemOp SemReply s.decls, none-counted MsgqOp MsgqReply s.decls, none-counted SignalOp SignalReply s.decls);
       whole = refl;
       unlooked = refl;
       follow = λ p at is. following-fresh s p (nothing_shown s.decls) at (first-there s p at is);
@@ -176,25 +179,28 @@ pub world-first : (s : Parts) (shown : Shown) (made : List At) → shown ≡ not
 world-first s shown made nothing all = ap (λ (x : Shown). world x made) nothing ∙ ap (world (nothing_shown s.decls)) all
 
 -- services that start as those of a scenario do have its machines
-pub machines-first : (s : Parts) (work : State) (items : List (Option ℕ)) (clock : Clock) (sems : List (Option Sem)) (msgqs : List (Option Msgq)) →
-    work ≡ work_start_of s → items ≡ items_of s.decls → clock ≡ new_clock → sems ≡ map sem_start s.decls → msgqs ≡ map msgq_start s.decls →
-    machines_from work items clock sems msgqs ≡ machines_of s
-machines-first s work items clock sems msgqs same_work same_items same_clock same_sems same_msgqs =
-    ap (λ (x : State). machines_from x items clock sems msgqs) same_work
-    ∙ ap (λ (x : List (Option ℕ)). machines_from (work_start_of s) x clock sems msgqs) same_items
-    ∙ ap (λ (x : Clock). machines_from (work_start_of s) (items_of s.decls) x sems msgqs) same_clock
-    ∙ ap (λ (x : List (Option Sem)). machines_from (work_start_of s) (items_of s.decls) new_clock x msgqs) same_sems
-    ∙ ap (machines_from (work_start_of s) (items_of s.decls) new_clock (map sem_start s.decls)) same_msgqs
+pub machines-first : (s : Parts) (work : State) (items : List (Option ℕ)) (clock : Clock) (sems : List (Option Sem)) (msgqs : List (Option Msgq)) (signals : List (Option Signal)) →
+    work ≡ work_start_of s → items ≡ items_of s.decls → clock ≡ new_clock → sems ≡ map sem_start s.decls → msgqs ≡ map msgq_start s.decls → signals ≡ map signal_start s.decls →
+    machines_from work items clock sems msgqs signals ≡ machines_of s
+machines-first s work items clock sems msgqs signals same_work same_items same_clock same_sems same_msgqs same_signals =
+    ap (λ (x : State). machines_from x items clock sems msgqs signals) same_work
+    ∙ ap (λ (x : List (Option ℕ)). machines_from (work_start_of s) x clock sems msgqs signals) same_items
+    ∙ ap (λ (x : Clock). machines_from (work_start_of s) (items_of s.decls) x sems msgqs signals) same_clock
+    ∙ ap (λ (x : List (Option Sem)). machines_from (work_start_of s) (items_of s.decls) new_clock x msgqs signals) same_sems
+    ∙ ap (λ (x : List (Option Msgq)). machines_from (work_start_of s) (items_of s.decls) new_clock (map sem_start s.decls) x signals) same_msgqs
+    ∙ ap (machines_from (work_start_of s) (items_of s.decls) new_clock (map sem_start s.decls) (map msgq_start s.decls)) same_signals
 
 -- and show nothing
 pub shown-first : (s : Parts) (work : List (Entry WorkOp WorkReply)) (clock : List (Entry ClockOp ClockReply)) (sems : List (List (Entry SemOp SemReply)))
-    (msgqs : List (List (Entry MsgqOp MsgqReply))) → work ≡ [] → clock ≡ [] → sems ≡ no_entries s.decls → msgqs ≡ no_entries s.decls →
-    whole_shown work clock sems msgqs ≡ nothing_shown s.decls
-shown-first s work clock sems msgqs no_work no_clock no_sems no_msgqs =
-    ap (λ (h : List (Entry WorkOp WorkReply)). whole_shown h clock sems msgqs) no_work
-    ∙ ap (λ (h : List (Entry ClockOp ClockReply)). whole_shown [] h sems msgqs) no_clock
-    ∙ ap (λ (h : List (List (Entry SemOp SemReply))). whole_shown [] [] h msgqs) no_sems
-    ∙ ap (whole_shown [] [] (no_entries s.decls)) no_msgqs
+    (msgqs : List (List (Entry MsgqOp MsgqReply))) (signals : List (List (Entry SignalOp SignalReply))) →
+    work ≡ [] → clock ≡ [] → sems ≡ no_entries s.decls → msgqs ≡ no_entries s.decls → signals ≡ no_entries s.decls →
+    whole_shown work clock sems msgqs signals ≡ nothing_shown s.decls
+shown-first s work clock sems msgqs signals no_work no_clock no_sems no_msgqs no_signals =
+    ap (λ (h : List (Entry WorkOp WorkReply)). whole_shown h clock sems msgqs signals) no_work
+    ∙ ap (λ (h : List (Entry ClockOp ClockReply)). whole_shown [] h sems msgqs signals) no_clock
+    ∙ ap (λ (h : List (List (Entry SemOp SemReply))). whole_shown [] [] h msgqs signals) no_sems
+    ∙ ap (λ (h : List (List (Entry MsgqOp MsgqReply))). whole_shown [] [] (no_entries s.decls) h signals) no_msgqs
+    ∙ ap (whole_shown [] [] (no_entries s.decls) (no_entries s.decls)) no_signals
 
 -- one number more
 pub items_more : (decls : List Decl) (n : ℕ) → map (item_number decls) (range_with_len 0 n) ++ item_number decls n ∷ [] ≡ map (item_number decls) (range_with_len 0 (n + 1))

@@ -15,6 +15,11 @@ use Rattle.zk_model_wait.specs.declared.sem.SemOp.{SemOp}
 use Rattle.zk_model_wait.specs.declared.sem.SemReply.{SemReply}
 use Rattle.zk_model_wait.specs.declared.msgq.MsgqOp.{MsgqOp}
 use Rattle.zk_model_wait.specs.declared.msgq.MsgqReply.{MsgqReply}
+use Rattle.zk_model_wait.specs.declared.signal.SignalOp.{SignalOp}
+use Rattle.zk_model_wait.specs.declared.signal.SignalReply.{SignalReply}
+use Rattle.zk_trace.specs.declared.looks.ItemLook.{ItemLook}
+use Rattle.zk_trace.specs.declared.looks.SignalLook.{SignalLook}
+use Rattle.zk_trace.specs.Looked.{item_looks_of, signal_looks_of}
 use Rattle.zk_model_work.specs.declared.ops.WorkOp.{WorkOp}
 use Rattle.zk_model_work.specs.declared.ops.WorkOp.TheVariants as ops
 use Rattle.zk_model_work.specs.declared.ops.WorkReply.{WorkReply}
@@ -104,6 +109,9 @@ good-step s w p at (step, reply) good unspent is choice =
     by_step (steps.Clock op) reply place choice ahead answered = elsewhere (steps.Clock op) reply place tt choice ahead
     by_step (steps.Sem object op) reply place choice ahead answered = elsewhere (steps.Sem object op) reply place tt choice ahead
     by_step (steps.Msgq object op) reply place choice ahead answered = elsewhere (steps.Msgq object op) reply place tt choice ahead
+    by_step (steps.Signal object op) reply place choice ahead answered = elsewhere (steps.Signal object op) reply place tt choice ahead
+    by_step (steps.LookItem object) reply place choice ahead answered = elsewhere (steps.LookItem object) reply place tt choice ahead
+    by_step (steps.LookSignal object must) reply place choice ahead answered = elsewhere (steps.LookSignal object must) reply place tt choice ahead
 
 good-first : (s : Parts) → IsValid s → IsGood s (first s)
 good-first s valid = record {
@@ -227,29 +235,38 @@ ending-is s w valid run =
 
 -- equal parts make equal traces
 Trace-same : (e e' : Ending) (h h' : List (Entry WorkOp WorkReply)) (c c' : List (Entry ClockOp ClockReply)) (m m' : List (List (Entry SemOp SemReply)))
-    (q q' : List (List (Entry MsgqOp MsgqReply))) (l l' : List Log) → e ≡ e' → h ≡ h' → c ≡ c' → m ≡ m' → q ≡ q' → l ≡ l' →
-    ◌≡◌ {A = Trace} (record { ending = e; work = h; clock = c; sems = m; msgqs = q; logs = l }) (record { ending = e'; work = h'; clock = c'; sems = m'; msgqs = q'; logs = l' })
-Trace-same e e' h h' c c' m m' q q' l l' ee eh ec em eq el =
-    let P : Trace → Type 0 = λ x. ◌≡◌ {A = Trace} (record { ending = e; work = h; clock = c; sems = m; msgqs = q; logs = l }) x in
-    subst (λ (x : List Log). P (record { ending = e'; work = h'; clock = c'; sems = m'; msgqs = q'; logs = x })) el
-    (subst (λ (x : List (List (Entry MsgqOp MsgqReply))). P (record { ending = e'; work = h'; clock = c'; sems = m'; msgqs = x; logs = l })) eq
-    (subst (λ (x : List (List (Entry SemOp SemReply))). P (record { ending = e'; work = h'; clock = c'; sems = x; msgqs = q; logs = l })) em
-    (subst (λ (x : List (Entry ClockOp ClockReply)). P (record { ending = e'; work = h'; clock = x; sems = m; msgqs = q; logs = l })) ec
-    (subst (λ (x : List (Entry WorkOp WorkReply)). P (record { ending = e'; work = x; clock = c; sems = m; msgqs = q; logs = l })) eh
-    (subst (λ (x : Ending). P (record { ending = x; work = h; clock = c; sems = m; msgqs = q; logs = l })) ee refl)))))
+    (q q' : List (List (Entry MsgqOp MsgqReply))) (g g' : List (List (Entry SignalOp SignalReply))) (i i' : List ItemLook) (k k' : List (List SignalLook)) (l l' : List Log) →
+    e ≡ e' → h ≡ h' → c ≡ c' → m ≡ m' → q ≡ q' → g ≡ g' → i ≡ i' → k ≡ k' → l ≡ l' →
+    ◌≡◌ {A = Trace} (record { ending = e; work = h; clock = c; sems = m; msgqs = q; signals = g; item_looks = i; signal_looks = k; logs = l })
+    (record { ending = e'; work = h'; clock = c'; sems = m'; msgqs = q'; signals = g'; item_looks = i'; signal_looks = k'; logs = l' })
+Trace-same e e' h h' c c' m m' q q' g g' i i' k k' l l' ee eh ec em eq eg ei ek el =
+    let P : Trace → Type 0 = λ x. ◌≡◌ {A = Trace} (record { ending = e; work = h; clock = c; sems = m; msgqs = q; signals = g; item_looks = i; signal_looks = k; logs = l }) x in
+    subst (λ (x : List Log). P (record { ending = e'; work = h'; clock = c'; sems = m'; msgqs = q'; signals = g'; item_looks = i'; signal_looks = k'; logs = x })) el
+    (subst (λ (x : List (List SignalLook)). P (record { ending = e'; work = h'; clock = c'; sems = m'; msgqs = q'; signals = g'; item_looks = i'; signal_looks = x; logs = l })) ek
+    (subst (λ (x : List ItemLook). P (record { ending = e'; work = h'; clock = c'; sems = m'; msgqs = q'; signals = g'; item_looks = x; signal_looks = k; logs = l })) ei
+    (subst (λ (x : List (List (Entry SignalOp SignalReply))). P (record { ending = e'; work = h'; clock = c'; sems = m'; msgqs = q'; signals = x; item_looks = i; signal_looks = k; logs = l })) eg
+    (subst (λ (x : List (List (Entry MsgqOp MsgqReply))). P (record { ending = e'; work = h'; clock = c'; sems = m'; msgqs = x; signals = g; item_looks = i; signal_looks = k; logs = l })) eq
+    (subst (λ (x : List (List (Entry SemOp SemReply))). P (record { ending = e'; work = h'; clock = c'; sems = x; msgqs = q; signals = g; item_looks = i; signal_looks = k; logs = l })) em
+    (subst (λ (x : List (Entry ClockOp ClockReply)). P (record { ending = e'; work = h'; clock = x; sems = m; msgqs = q; signals = g; item_looks = i; signal_looks = k; logs = l })) ec
+    (subst (λ (x : List (Entry WorkOp WorkReply)). P (record { ending = e'; work = x; clock = c; sems = m; msgqs = q; signals = g; item_looks = i; signal_looks = k; logs = l })) eh
+    (subst (λ (x : Ending). P (record { ending = x; work = h; clock = c; sems = m; msgqs = q; signals = g; item_looks = i; signal_looks = k; logs = l })) ee refl))))))))
 
 -- what the code hands out is the trace of the run
 pub replayed : (s : Parts) (old w : World) (ending : Ending) (work : List (Entry WorkOp WorkReply)) (clock : List (Entry ClockOp ClockReply)) (sems : List (List (Entry SemOp SemReply)))
-    (msgqs : List (List (Entry MsgqOp MsgqReply))) (logs : List Log) → IsValid s →
+    (msgqs : List (List (Entry MsgqOp MsgqReply))) (signals : List (List (Entry SignalOp SignalReply))) (item_looks : List ItemLook) (signal_looks : List (List SignalLook)) (logs : List Log) → IsValid s →
     old ≡ first s → (n : ℕ) → w ≡ rounds (machines_of s) s n old → round (machines_of s) s w ≡ w →
-    ending ≡ ending_by w.players → work ≡ w.shown.work → clock ≡ w.shown.clock → sems ≡ w.shown.sems → msgqs ≡ w.shown.msgqs → logs ≡ map log_of w.players →
-    IsReplay s (record { ending = ending; work = work; clock = clock; sems = sems; msgqs = msgqs; logs = logs })
-replayed s old w ending work clock sems msgqs logs valid begins n so_far over end same_work same_clock same_sems same_msgqs log =
+    ending ≡ ending_by w.players → work ≡ w.shown.work → clock ≡ w.shown.clock → sems ≡ w.shown.sems → msgqs ≡ w.shown.msgqs → signals ≡ w.shown.signals →
+    item_looks ≡ item_looks_of logs → signal_looks ≡ signal_looks_of (length signals) logs → logs ≡ map log_of w.players →
+    IsReplay s (record { ending = ending; work = work; clock = clock; sems = sems; msgqs = msgqs; signals = signals; item_looks = item_looks; signal_looks = signal_looks; logs = logs })
+replayed s old w ending work clock sems msgqs signals item_looks signal_looks logs valid begins n so_far over end same_work same_clock same_sems same_msgqs same_signals same_item_looks same_signal_looks log =
     let run : IsRun (machines_of s) s w = (n, so_far ∙ ap (rounds (machines_of s) s n) begins, over) in (
       w,
       run,
-      Trace-same ending (ending_of s w) work w.shown.work clock w.shown.clock sems w.shown.sems msgqs w.shown.msgqs logs (map log_of w.players)
-          (end ∙ ending-is s w valid run) same_work same_clock same_sems same_msgqs log,
+      Trace-same ending (ending_of s w) work w.shown.work clock w.shown.clock sems w.shown.sems msgqs w.shown.msgqs signals w.shown.signals
+          item_looks (item_looks_of (map log_of w.players)) signal_looks (signal_looks_of (length w.shown.signals) (map log_of w.players)) logs (map log_of w.players)
+          (end ∙ ending-is s w valid run) same_work same_clock same_sems same_msgqs same_signals
+          (same_item_looks ∙ ap item_looks_of log)
+          (same_signal_looks ∙ ap (λ (h : List (List (Entry SignalOp SignalReply))). signal_looks_of (length h) logs) same_signals ∙ ap (signal_looks_of (length w.shown.signals)) log) log,
     )
 
 -- what an ending says of the players

@@ -15,6 +15,10 @@ use Rattle.zk_model_wait.specs.declared.sem.SemOp.{SemOp}
 use Rattle.zk_model_wait.specs.declared.sem.SemReply.{SemReply}
 use Rattle.zk_model_wait.specs.declared.msgq.MsgqOp.{MsgqOp}
 use Rattle.zk_model_wait.specs.declared.msgq.MsgqReply.{MsgqReply}
+use Rattle.zk_model_wait.specs.declared.signal.SignalOp.{SignalOp}
+use Rattle.zk_model_wait.specs.declared.signal.SignalReply.{SignalReply}
+use Rattle.zk_worker.specs.Right.{LooksRight}
+use Rattle.zk_trace.specs.Look.{AreRight}
 use Rattle.zk_model_work.specs.declared.ops.WorkOp.{WorkOp}
 use Rattle.zk_model_work.specs.declared.ops.WorkReply.{WorkReply}
 use Rattle.zk_model_work.specs.Machine.{work_machine}
@@ -65,6 +69,9 @@ known-first s (spots.Work place) number step is = absurd (cc)
 known-first s (spots.Clock place) number step is = absurd (cc)
 known-first s (spots.Sem object place) number step is = absurd (none-there step_of s.decls object place (number, step) is)
 known-first s (spots.Msgq object place) number step is = absurd (none-there step_of s.decls object place (number, step) is)
+known-first s (spots.Signal object place) number step is = absurd (none-there step_of s.decls object place (number, step) is)
+known-first s (spots.LookItem object flags at) number step is = absurd (cc)
+known-first s (spots.LookSignal object seen) number step is = absurd (cc)
 
 known-step : (m : Machines) (s : Parts) (w : World) (p : ℕ) (at : At) (made : Step × StepReply) → IsReady s w → AreKnown w → slice_get w.players p ≡ Some at → chosen m s w.shown at ≡ Some made →
     AreKnown (stepped s w p at (Some made))
@@ -150,11 +157,11 @@ unspent-ending s w never = by_spent (is_spent w) refl
 
 -- whole histories are all that is shown
 whole-same : (work : List (Entry WorkOp WorkReply)) (clock : List (Entry ClockOp ClockReply)) (sems : List (List (Entry SemOp SemReply))) (msgqs : List (List (Entry MsgqOp MsgqReply)))
-    (looks : Option (List (List Seen))) (looked : Option ℕ) → looks ≡ None → looked ≡ None →
-    whole_shown work clock sems msgqs ≡ (record { work = work; clock = clock; sems = sems; msgqs = msgqs; looks = looks; looked = looked })
-whole-same work clock sems msgqs None None whole unlooked = refl
-whole-same work clock sems msgqs (Some looks) looked whole unlooked = absurd (cc)
-whole-same work clock sems msgqs None (Some looked) whole unlooked = absurd (cc)
+    (signals : List (List (Entry SignalOp SignalReply))) (looks : Option (List (List Seen))) (looked : Option ℕ) → looks ≡ None → looked ≡ None →
+    whole_shown work clock sems msgqs signals ≡ (record { work = work; clock = clock; sems = sems; msgqs = msgqs; signals = signals; looks = looks; looked = looked })
+whole-same work clock sems msgqs signals None None whole unlooked = refl
+whole-same work clock sems msgqs signals (Some looks) looked whole unlooked = absurd (cc)
+whole-same work clock sems msgqs signals None (Some looked) whole unlooked = absurd (cc)
 
 module _ (s : Parts) (w : World) (valid : IsValid s) (run : IsRun (machines_of s) s w) where
   known : IsReady s w × AreKnown w
@@ -162,7 +169,7 @@ module _ (s : Parts) (w : World) (valid : IsValid s) (run : IsRun (machines_of s
 
   -- the trace shows what was shown
   shown-same : trace_shown (trace_of s w) ≡ w.shown
-  shown-same = whole-same w.shown.work w.shown.clock w.shown.sems w.shown.msgqs w.shown.looks w.shown.looked known.0.whole known.0.unlooked
+  shown-same = whole-same w.shown.work w.shown.clock w.shown.sems w.shown.msgqs w.shown.signals w.shown.looks w.shown.looked known.0.whole known.0.unlooked
 
   abbrev follows : (number : ℕ) (log : Log) → slice_get (map log_of w.players) number ≡ Some log → Follows s number (trace_shown (trace_of s w)) log
   follows number log is =
@@ -179,11 +186,11 @@ module _ (s : Parts) (w : World) (valid : IsValid s) (run : IsRun (machines_of s
         let found = there-mapped log_of w.players number log is in
         let P : At → Type 0 = λ at. length at.spots ≤ MOST_STEPS in
         subst (λ (l : Log). length l.steps ≤ MOST_STEPS) found.2 (All-at P w.players number found.0 known.0.short found.1);
-    stands = λ number step spot log is recorded.
+    stands = λ number step spot log is recorded no_look.
         let found = there-mapped log_of w.players number log is in
         let shows = known.0.shows number found.0 found.1 in
         ap (λ (x : Shown). shown_at x spot) shown-same
-        ∙ shows.each step spot (ap (λ (l : Log). slice_get l.steps step) found.2 ∙ recorded) refl
+        ∙ shows.each step spot (ap (λ (l : Log). slice_get l.steps step) found.2 ∙ recorded) no_look
         ∙ ap (λ (n : ℕ). Some (n, step)) (known.0.numbers number found.0 found.1);
     each = λ spot number step is.
         let there = ap (λ (x : Shown). shown_at x spot) (sym shown-same) ∙ is in
@@ -191,19 +198,29 @@ module _ (s : Parts) (w : World) (valid : IsValid s) (run : IsRun (machines_of s
         let shows = known.0.shows number found.0 found.1 in
         let recorded = shows.no_other step spot (there ∙ ap (λ (n : ℕ). Some (n, step)) (sym (known.0.numbers number found.0 found.1))) in
         ap (option_and_then (λ (log : Log). slice_get log.steps step)) (slice_get-map log_of w.players number ∙ ap (option_map log_of) found.1) ∙ recorded;
+    item_looks = refl;
+    signal_looks = refl;
   }
+
+  -- the looks of each player are right
+  right : AreRight s (trace_of s w)
+  right number log is =
+      let found = there-mapped log_of w.players number log is in
+      subst (λ (l : Log). LooksRight (machines_of s) (trace_shown (trace_of s w)) l.steps) found.2
+      (subst (λ (x : Shown). LooksRight (machines_of s) x found.0.spots) (sym shown-same) (known.0.looks number found.0 found.1))
 
   -- its histories are those of the services
   legal : AreLegal s (trace_of s w)
   legal =
       let shown = run-legal s w valid run in
-      record { work = shown.work; clock = shown.clock; sems = shown.sems; msgqs = shown.msgqs }
+      record { work = shown.work; clock = shown.clock; sems = shown.sems; msgqs = shown.msgqs; signals = shown.signals }
 
   lawful-run : IsLawful s (trace_of s w)
   lawful-run = record {
     place = placed;
     history = legal;
     log = record { logged = length-map w.players log_of ∙ run-players s w run; follow = follows };
+    look = right;
     ending = record {
       ends = ends-so s w;
       halts = λ never number log is.

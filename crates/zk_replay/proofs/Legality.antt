@@ -18,14 +18,15 @@ use Rattle.zk_worker.specs.Protocol.{attempts}
 use Rattle.zk_line.specs.declared.types.Decl.{Decl}
 use Rattle.zk_model_wait.specs.Msgq.{msgq_machine}
 use Rattle.zk_model_wait.specs.Sem.{sem_machine}
+use Rattle.zk_model_wait.specs.Signal.{signal_machine}
 use Rattle.zk_worker.specs.Ranges.{FramesFit}
 use Rattle.zk_base.proofs.Lists.{All-at}
-use Rattle.zk_worker.specs.Machines.{Machines, machines_of, sem_start, msgq_start}
+use Rattle.zk_worker.specs.Machines.{Machines, machines_of, sem_start, msgq_start, signal_start}
 use Rattle.zk_worker.specs.Single.{answer_in}
 use Rattle.zk_worker.specs.Families.{Family, start_of, no_entries, with_entry, answer_at, takes_at}
 use Rattle.zk_worker.specs.Shown.{Shown, shown_after, IsLater}
 use Rattle.zk_worker.specs.Attempt.{reply_in, takes}
-use Rattle.zk_worker.proofs.Between.{above-work, above-clock, above-sems, above-msgqs, log-later}
+use Rattle.zk_worker.proofs.Between.{above-work, above-clock, above-sems, above-msgqs, above-signals, log-later}
 use Rattle.zk_worker.proofs.Ranges.{ahead-takes}
 use Rattle.zk_worker.proofs.ShownSteps.{made-of}
 use Rattle.zk_worker.proofs.Lists.{none-passes}
@@ -43,6 +44,7 @@ pub record IsLegalShown (m : Machines) (shown : Shown) : Type 0 where
   pub clock : IsLegal m.clock m.clock_start shown.clock
   pub sems : EachLegal m.sems shown.sems
   pub msgqs : EachLegal m.msgqs shown.msgqs
+  pub signals : EachLegal m.signals shown.signals
 
 module _ {S O R : Type 0} where
   -- nothing that was done is legal
@@ -121,6 +123,7 @@ legal-after m shown who number (steps.Work op) (step_replies.Work reply place) l
       clock = legal.clock;
       sems = legal.sems;
       msgqs = legal.msgqs;
+      signals = legal.signals;
     }
 legal-after m shown who number (steps.Clock op) (step_replies.Clock reply place) legal answered taken later =
     let one = one-answer m.clock m.clock_start shown.clock step_replies.Clock who op (step_replies.Clock reply place) answered in
@@ -130,6 +133,7 @@ legal-after m shown who number (steps.Clock op) (step_replies.Clock reply place)
       clock = IsLegal-snoc m.clock m.clock_start shown.clock (entry who number op reply) legal.clock (one.1 ∙ ap Some same) (above-clock shown who.number number later) taken;
       sems = legal.sems;
       msgqs = legal.msgqs;
+      signals = legal.signals;
     }
 legal-after m shown who number (steps.Sem object op) (step_replies.Sem at reply place) legal answered taken later =
     let one = one-of-many m.sems shown.sems step_replies.Sem who object op (step_replies.Sem at reply place) answered in
@@ -140,6 +144,7 @@ legal-after m shown who number (steps.Sem object op) (step_replies.Sem at reply 
       sems = entry-legal m.sems shown.sems (step_replies.Sem object) who number object op (step_replies.Sem at reply place) reply one same legal.sems taken
           (λ h there. above-sems shown who.number number object h there later);
       msgqs = legal.msgqs;
+      signals = legal.signals;
     }
 legal-after m shown who number (steps.Msgq object op) (step_replies.Msgq at reply place) legal answered taken later =
     let one = one-of-many m.msgqs shown.msgqs step_replies.Msgq who object op (step_replies.Msgq at reply place) answered in
@@ -150,7 +155,21 @@ legal-after m shown who number (steps.Msgq object op) (step_replies.Msgq at repl
       sems = legal.sems;
       msgqs = entry-legal m.msgqs shown.msgqs (step_replies.Msgq object) who number object op (step_replies.Msgq at reply place) reply one same legal.msgqs taken
           (λ h there. above-msgqs shown who.number number object h there later);
+      signals = legal.signals;
     }
+legal-after m shown who number (steps.Signal object op) (step_replies.Signal at reply place) legal answered taken later =
+    let one = one-of-many m.signals shown.signals step_replies.Signal who object op (step_replies.Signal at reply place) answered in
+    let same : one.reply ≡ reply = let tells = one.tells in cc in
+    record {
+      work = legal.work;
+      clock = legal.clock;
+      sems = legal.sems;
+      msgqs = legal.msgqs;
+      signals = entry-legal m.signals shown.signals (step_replies.Signal object) who number object op (step_replies.Signal at reply place) reply one same legal.signals taken
+          (λ h there. above-signals shown who.number number object h there later);
+    }
+legal-after m shown who number (steps.LookItem object) (step_replies.Flags flags at) legal answered taken later =
+    record { work = legal.work; clock = legal.clock; sems = legal.sems; msgqs = legal.msgqs; signals = legal.signals }
 legal-after m shown who number step reply legal answered taken later = legal
 
 -- nothing done is legal
@@ -160,6 +179,7 @@ legal-first s = record {
   clock = IsLegal-nil (machines_of s).clock (machines_of s).clock_start;
   sems = none-legal sem_machine sem_start s.decls;
   msgqs = none-legal msgq_machine msgq_start s.decls;
+  signals = none-legal signal_machine signal_start s.decls;
 }
 
 -- all that a run of a valid scenario shows is legal

@@ -10,3 +10,5 @@ pub mod Unserved
 pub mod Legality
 pub mod Lawful
 pub mod Among
+pub mod Gathered
+pub mod LookedAt

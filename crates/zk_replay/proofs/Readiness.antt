@@ -39,6 +39,7 @@ short-shown s w ready =
       clock = omega (arith, ready.few, ready.counted, most);
       sems = each-short w.shown.sems (2 ^ 32 - 1) (omega (arith, ready.few, ready.counted, most));
       msgqs = each-short w.shown.msgqs (2 ^ 32 - 1) (omega (arith, ready.few, ready.counted, most));
+      signals = each-short w.shown.signals (2 ^ 32 - 1) (omega (arith, ready.few, ready.counted, most));
     }
 
 unspent-short : (at : At) → is_spent_at at ≡ false → length at.spots < MOST_STEPS

@@ -4,31 +4,27 @@ use Rattle.std.specs.List.{slice_get}
 use Rattle.std.specs.Option.{option_map, option_and_then}
 use Rattle.zk_base.specs.declared.ids.Who.{Who}
 use Rattle.zk_base.specs.declared.ids.Entry.{Entry}
-use Rattle.zk_base.specs.Legal.{Machine, state_after}
+use Rattle.zk_base.specs.Legal.{state_after}
 use Rattle.zk_base.specs.Waits.{decision_of}
-use Rattle.zk_base.proofs.Lists.{cond_nil-at}
 use Rattle.zk_model_wait.specs.declared.clock.ClockOp.TheVariants as clock_ops
 use Rattle.zk_model_wait.specs.declared.clock.ClockReply.{ClockReply}
 use Rattle.zk_model_wait.specs.declared.sem.SemOp.TheVariants as sem_ops
 use Rattle.zk_model_wait.specs.declared.msgq.MsgqOp.TheVariants as msgq_ops
 use Rattle.zk_model_wait.specs.Clock.{new_clock, clock_reply, clock_machine}
-use Rattle.zk_model_wait.specs.Sem.{Sem, sem_machine}
-use Rattle.zk_model_wait.specs.Msgq.{Msgq, msgq_machine}
-use Rattle.zk_scenario.specs.Parts.{Parts}
+use Rattle.zk_model_wait.specs.Sem.{Sem}
+use Rattle.zk_model_wait.specs.Msgq.{Msgq}
 use Rattle.zk_worker.specs.declared.steps.Step.{Step}
 use Rattle.zk_worker.specs.declared.steps.Step.TheVariants as steps
 use Rattle.zk_worker.specs.declared.steps.StepReply.{StepReply}
 use Rattle.zk_worker.specs.declared.steps.StepReply.TheVariants as step_replies
 use Rattle.zk_worker.specs.Single.{answer_in}
 use Rattle.zk_worker.specs.Families.{Family, start_of, answer_at}
-use Rattle.zk_worker.specs.Places.{At}
 use Rattle.zk_worker.specs.Protocol.{attempts, IsAhead}
 use Rattle.zk_worker.specs.Machines.{Machines, machines_of}
 use Rattle.zk_worker.specs.Shown.{Shown}
 use Rattle.zk_worker.specs.Attempt.{reply_in}
 use Rattle.zk_worker.specs.Choosing.{or_else, first_possible}
-use Rattle.zk_replay.specs.RoundRobin.{World}
-use Rattle.zk_replay.specs.Laws.{IsSemAt, IsMsgqAt, NoneIsServed}
+use Rattle.zk_replay.specs.Laws.{NoneIsServed}
 use Rattle.zk_replay.proofs.OneRun.{none_goes_on}
 
 -- where no attempt is possible, each isn't

@@ -334,6 +334,8 @@ work-stays shown who number (steps.Work op) reply elsewhere = absurd elsewhere
 work-stays shown who number (steps.Clock op) (step_replies.Clock reply place) elsewhere = refl
 work-stays shown who number (steps.Sem object op) (step_replies.Sem at reply place) elsewhere = refl
 work-stays shown who number (steps.Msgq object op) (step_replies.Msgq at reply place) elsewhere = refl
+work-stays shown who number (steps.Signal object op) (step_replies.Signal at reply place) elsewhere = refl
+work-stays shown who number (steps.LookItem object) (step_replies.Flags flags at) elsewhere = refl
 work-stays shown who number step reply elsewhere = refl
 
 -- and after a step at another service

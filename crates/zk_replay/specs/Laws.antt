@@ -13,7 +13,6 @@ use Rattle.zk_model_wait.specs.Clock.{new_clock, clock_reply, clock_machine}
 use Rattle.zk_model_wait.specs.Sem.{Sem, sem_machine}
 use Rattle.zk_model_wait.specs.Msgq.{Msgq, msgq_machine}
 use Rattle.zk_scenario.specs.Parts.{Parts}
-use Rattle.zk_worker.specs.declared.steps.Step.{Step}
 use Rattle.zk_worker.specs.declared.steps.Step.TheVariants as steps
 use Rattle.zk_worker.specs.Families.{start_of}
 use Rattle.zk_worker.specs.Places.{At}

@@ -8,3 +8,4 @@ pub mod Ending
 pub mod Tending
 pub mod Laws
 pub mod Over
+pub mod Looks

@@ -1,4 +1,4 @@
-use Rattle.std.specs.Prelude.{◌≡◌, Bool, ◌&&◌, if◌then◌else◌, List, map}
+use Rattle.std.specs.Prelude.{◌≡◌, Bool, ◌&&◌, if◌then◌else◌, List, length, map}
 use Rattle.std.specs.List.{list_all}
 use Rattle.zk_base.specs.Legal.{state_after}
 use Rattle.zk_scenario.specs.Parts.{Parts}
@@ -10,6 +10,7 @@ use Rattle.zk_trace.specs.declared.trace.Ending.{Ending}
 use Rattle.zk_trace.specs.declared.trace.Ending.TheVariants.{Ended, Stuck, Spent}
 use Rattle.zk_trace.specs.declared.trace.Trace.{Trace}
 use Rattle.zk_trace.specs.Ending.{none_waits}
+use Rattle.zk_trace.specs.Looked.{item_looks_of, signal_looks_of}
 use Rattle.zk_replay.specs.RoundRobin.{World, IsRun, is_spent}
 
 -- each thread is through its script, and each worker is between two runs
@@ -31,6 +32,9 @@ trace_of s w = record {
   clock = w.shown.clock;
   sems = w.shown.sems;
   msgqs = w.shown.msgqs;
+  signals = w.shown.signals;
+  item_looks = item_looks_of (map log_of w.players);
+  signal_looks = signal_looks_of (length w.shown.signals) (map log_of w.players);
   logs = map log_of w.players;
 }
 

@@ -2,6 +2,7 @@
 #![tactic(auto)]
 
 mod laws;
+mod looks;
 #[cfg(test)]
 mod object_tests;
 mod objects;

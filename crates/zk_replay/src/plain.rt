@@ -1,4 +1,8 @@
-ghost use Rattle.std.specs.Prelude.{◌≡◌, IfOk};
+ghost use Rattle.std.specs.Prelude.{◌≡◌, true, Some, IfOk};
+ghost use Rattle.zk_base.specs.declared.ids.Who.{Who};
+ghost use Rattle.zk_poll.specs.Seen.{signal_start, signal_history};
+ghost use Rattle.zk_worker.specs.Attempt.{reply_in, takes};
+ghost use Rattle.zk_worker.specs.Looks.{look};
 ghost use Rattle.zk_msgq.specs.Seen.{msgq_start, msgq_history};
 ghost use Rattle.zk_sem.specs.Seen.{sem_start, sem_history};
 ghost use Rattle.zk_work.specs.Seen.{work_start, work_history};
@@ -8,10 +12,13 @@ ghost use Rattle.zk_replay.specs.Objects.{starts_of, histories_of};
 
 use crate::objects::{act_at, histories_of};
 use std::alloc::Global;
-use zk_base::{Entry, Listed, NoMemory, Service, Who};
-use zk_model_wait::{ClockOp, ClockReply, MsgqOp, MsgqReply, SemOp, SemReply};
+use zk_base::{Entry, Listed, NoMemory, Seen, Service, Who};
+use zk_model_wait::{
+    ClockOp, ClockReply, MsgqOp, MsgqReply, SemOp, SemReply, SignalOp, SignalReply,
+};
 use zk_model_work::{WorkOp, WorkReply};
 use zk_msgq::Msgq;
+use zk_poll::Signal;
 use zk_sem::Sem;
 use zk_time::Clock;
 use zk_trace::History;
@@ -29,6 +36,8 @@ pub struct Histories {
     pub sems: Listed<History<SemOp, SemReply>>,
     /// Those of each message queue, likewise.
     pub msgqs: Listed<History<MsgqOp, MsgqReply>>,
+    /// The writes to each signal, likewise.
+    pub signals: Listed<History<SignalOp, SignalReply>>,
 }
 
 /// The services of one thread, which nobody else uses.
@@ -41,22 +50,25 @@ pub struct Plain {
     // By object number.
     sems: Vec<Option<Sem>>,
     msgqs: Vec<Option<Msgq>>,
+    signals: Vec<Option<Signal>>,
 }
 
 impl Plain {
-    /// These services, as far as they have come. By object number: the work service's numbers of the items, the semaphores and
-    /// the message queues.
+    /// These services, as far as they have come. By object number: the work service's numbers of the items, the semaphores,
+    /// the message queues and the signals.
     pub fn new(
         work: Work,
         items: Vec<Option<u32>>,
         clock: Clock,
         sems: Vec<Option<Sem>>,
         msgqs: Vec<Option<Msgq>>,
+        signals: Vec<Option<Signal>>,
     ) -> Plain
         ensures machines { plain_machines result ≡ machines_from (work_start work) items.items (clock_start clock)
-            (starts_of sem_start sems.items) (starts_of msgq_start msgqs.items) }
+            (starts_of sem_start sems.items) (starts_of msgq_start msgqs.items) (starts_of signal_start signals.items) }
         ensures shown { plain_shown result ≡ whole_shown (work_history work) (clock_history clock)
-            (histories_of sem_history sems.items) (histories_of msgq_history msgqs.items) }
+            (histories_of sem_history sems.items) (histories_of msgq_history msgqs.items)
+            (histories_of signal_history signals.items) }
     {
         Plain {
             work,
@@ -64,6 +76,7 @@ impl Plain {
             clock,
             sems,
             msgqs,
+            signals,
         }
     }
 
@@ -81,18 +94,20 @@ impl Plain {
         self.clock.history()
     }
 
-    /// All entries of each service. Only the two lists of histories take memory.
+    /// All entries of each service. Only the lists of histories take memory.
     pub fn into_histories(self, alloc: Global) -> Result<Histories, NoMemory>
         ensures work { IfOk result (λ all. all.work ≡ (plain_shown self).work) }
         ensures clock { IfOk result (λ all. all.clock ≡ (plain_shown self).clock) }
         ensures sems { IfOk result (λ all. all.sems ≡ (plain_shown self).sems) }
         ensures msgqs { IfOk result (λ all. all.msgqs ≡ (plain_shown self).msgqs) }
+        ensures signals { IfOk result (λ all. all.signals ≡ (plain_shown self).signals) }
     {
         let Plain {
             work,
             clock,
             sems,
             msgqs,
+            signals,
             ..
         } = self;
         Ok(Histories {
@@ -100,8 +115,42 @@ impl Plain {
             clock: History::from_vec(clock.into_history()),
             sems: histories_of(alloc, sems)?,
             msgqs: histories_of(alloc, msgqs)?,
+            signals: histories_of(alloc, signals)?,
         })
     }
+
+    /// The busy flags of the item of this object number, and how many entries the work service has.
+    fn look_at_item(&self, object: u32) -> StepReply
+        requires { takes (plain_machines self.now) (Step.LookItem object) ≡ true }
+        ensures { (who : Who) → reply_in (plain_machines self.now) (plain_shown self.now) who (Step.LookItem object) ≡ Some result }
+    {
+        let Some(Some(item)) = self.items.get(object as usize) else {
+            unreachable!()
+        };
+        let flags = self.work.word(*item) as u8;
+        StepReply::Flags(flags, self.work.history().len() as u64)
+    }
+
+    /// What was last written to the signal of this object number. Nothing comes where it has to be raised and isn't.
+    fn look_at_signal(&self, object: u32, must: bool) -> Option<StepReply>
+        requires { takes (plain_machines self.now) (Step.LookSignal object must) ≡ true }
+        ensures { (who : Who) → reply_in (plain_machines self.now) (plain_shown self.now) who (Step.LookSignal object must) ≡ result }
+    {
+        let Some(Some(signal)) = self.signals.get(object as usize) else {
+            unreachable!()
+        };
+        told(must, signal.seen())
+    }
+}
+
+/// What a look that found this is answered: nothing where it has to find the signal raised and doesn't.
+fn told(must: bool, seen: Seen) -> Option<StepReply>
+    ensures { result ≡ look must seen }
+{
+    if must && !seen.raised {
+        return None;
+    }
+    Some(StepReply::Seen(seen))
 }
 
 impl Services for Plain {
@@ -152,6 +201,14 @@ impl Services for Plain {
                     None => Ok(None),
                 }
             }
+            Step::Signal(object, op) => {
+                match act_at(&mut self.signals, object, who, number, op)? {
+                    Some((reply, place)) => Ok(Some(StepReply::Signal(object, reply, place))),
+                    None => Ok(None),
+                }
+            }
+            Step::LookItem(object) => Ok(Some(self.look_at_item(object))),
+            Step::LookSignal(object, must) => Ok(self.look_at_signal(object, must)),
         }
     }
 }

@@ -2,6 +2,7 @@ ghost use Rattle.std.specs.Prelude.{◌≡◌, ℕ, ◌+◌, ◌-◌, ◌^◌, �
 ghost use Rattle.std.specs.List.{list_any, list_all};
 ghost use Rattle.zk_line.specs.Fits.{decl_fits};
 ghost use Rattle.zk_msgq.specs.Seen.{msgq_start, msgq_history};
+ghost use Rattle.zk_poll.specs.Seen.{signal_start, signal_history};
 ghost use Rattle.zk_sem.specs.Seen.{sem_start, sem_history};
 ghost use Rattle.zk_worker.specs.Families.{no_entries};
 ghost use Rattle.zk_worker.specs.Machines as machines;
@@ -20,11 +21,13 @@ ghost use Rattle.zk_replay.specs.Replay.{all_done, IsReplay};
 ghost use Rattle.zk_replay.specs.Ending.{ending_by};
 ghost use Rattle.zk_replay.specs.Over.{IsOver};
 
+use crate::looks::{item_looks, signal_looks};
 use crate::plain::{Histories, Plain};
 use crate::turns::play_rounds;
 use std::alloc::Global;
 use zk_base::{NewRefused, NoMemory};
 use zk_msgq::Msgq;
+use zk_poll::Signal;
 use zk_scenario::{Decl, Scenario};
 use zk_sem::Sem;
 use zk_time::Clock;
@@ -161,6 +164,31 @@ fn first_msgqs(alloc: Global, decls: &[Decl]) -> Result<Vec<Option<Msgq>>, NoMem
     Ok(msgqs)
 }
 
+/// The signal that a declaration is of, if it is of one, to which nothing was written.
+fn first_signal(alloc: Global, decl: &Decl) -> Option<Signal>
+    ensures start { option_map signal_start result ≡ machines.signal_start decl.now }
+    ensures none { history_of signal_history result ≡ [] }
+{
+    match decl {
+        Decl::Signal(_) => Some(Signal::new(alloc)),
+        _ => None,
+    }
+}
+
+/// The signals of a scenario, by object number.
+fn first_signals(alloc: Global, decls: &[Decl]) -> Result<Vec<Option<Signal>>, NoMemory>
+    ensures starts { IfOk result (λ signals. starts_of signal_start signals.items ≡ map machines.signal_start decls.now) }
+    ensures none { IfOk result (λ signals. histories_of signal_history signals.items ≡ no_entries decls.now) }
+{
+    let mut signals = Vec::new(alloc);
+    let mut decls = decls;
+    while let [decl, rest @ ..] = decls {
+        signals.push(first_signal(alloc, decl))?;
+        decls = rest;
+    }
+    Ok(signals)
+}
+
 /// The services of a scenario, at which nothing was done.
 pub fn first_services(alloc: Global, scenario: &Scenario) -> Result<Plain, NoMemory>
     ensures machines { IfOk result (λ services. plain_machines services ≡ machines_of scenario.now) }
@@ -171,8 +199,9 @@ pub fn first_services(alloc: Global, scenario: &Scenario) -> Result<Plain, NoMem
     let items = item_numbers(alloc, scenario)?;
     let sems = first_sems(alloc, scenario.decls())?;
     let msgqs = first_msgqs(alloc, scenario.decls())?;
+    let signals = first_signals(alloc, scenario.decls())?;
     let clock = Clock::new(alloc);
-    Ok(Plain::new(work, items, clock, sems, msgqs))
+    Ok(Plain::new(work, items, clock, sems, msgqs, signals))
 }
 
 /// The players of a scenario, none of which has made a step.
@@ -242,13 +271,19 @@ pub fn replay(alloc: Global, scenario: &Scenario) -> Result<Trace, NoMemory>
         clock,
         sems,
         msgqs,
+        signals,
     } = services.into_histories(alloc)?;
+    let item_looks = item_looks(alloc, logs.items())?;
+    let signal_looks = signal_looks(alloc, signals.items().len(), logs.items())?;
     Ok(Trace {
         ending,
         work,
         clock,
         sems,
         msgqs,
+        signals,
+        item_looks,
+        signal_looks,
         logs,
     })
 }

@@ -26,7 +26,7 @@ use Rattle.zk_line.specs.Calls.{call_of}
 use Rattle.zk_line.specs.Checks.{first_object, message_size, each_in_range, go_together, are_in_range, are_well_named}
 use Rattle.zk_line.specs.Decls.{decl_of}
 use Rattle.zk_line.specs.Fits.{call_fits, decl_fits}
-use Rattle.zk_line.specs.Objects.{object_of, kind_of, is_at, names, plays_script, is_thread, is_queue, is_item, is_sem, is_msgq, player_count}
+use Rattle.zk_line.specs.Objects.{object_of, kind_of, is_at, names, plays_script, is_thread, is_queue, is_item, is_sem, is_msgq, is_signal, player_count}
 use Rattle.zk_line.proofs.Fits.{call_fits-read, kind_of-read}
 use Rattle.zk_line.proofs.InRange.{decl_fits-read}
 use Rattle.zk_line.proofs.Lists.{slice_get-append_left, slice_get-push, count_by-push, position-push}
@@ -118,9 +118,10 @@ pub record HasRoom (decls : List Decl) : Type 0 where
   pub items : count_by is_item decls ≤ 256
   pub sems : count_by is_sem decls ≤ 32
   pub msgqs : count_by is_msgq decls ≤ 16
+  pub signals : count_by is_signal decls ≤ 32
 
 room-valid : (p : Parts) → IsValid p → HasRoom p.decls
-room-valid p valid = record { players = valid.players; queues = valid.queues; items = valid.items; sems = valid.sems; msgqs = valid.msgqs }
+room-valid p valid = record { players = valid.players; queues = valid.queues; items = valid.items; sems = valid.sems; msgqs = valid.msgqs; signals = valid.signals }
 
 -- no script stands yet, so a declaration says nothing of one
 valid-declared : (r : Reading) (d : Decl) → IsValid (parts_of r) → has_begun r ≡ false → HasRoom (r.decls ++ d ∷ []) → decl_fits d ≡ true → IsValid (parts_of (declared r d))
@@ -133,6 +134,7 @@ valid-declared r d valid first room fits =
       items = room.items;
       sems = room.sems;
       msgqs = room.msgqs;
+      signals = room.signals;
       calls = valid.calls;
       in_range = all-push decl_fits r.decls d ∙ and_from (list_all decl_fits r.decls) (decl_fits d) valid.in_range fits;
       fit = ap (list_all (script_fits (r.decls ++ d ∷ []))) none;
@@ -159,6 +161,7 @@ valid-begun r owner valid none thread fresh =
       items = valid.items;
       sems = valid.sems;
       msgqs = valid.msgqs;
+      signals = valid.signals;
       in_range = valid.in_range;
       calls = omega (arith, call_count-push r.scripts s, ap call_count same, valid.calls);
       fit = fit-push r.decls r.scripts s ∙ and_from (list_all (script_fits r.decls) r.scripts) (script_fits r.decls s) (ap (list_all (script_fits r.decls)) (sym same) ∙ valid.fit) (and_from (is_at plays_script r.decls owner) true thread refl);
@@ -177,6 +180,7 @@ valid-called decls ss s c valid fits few =
       items = valid.items;
       sems = valid.sems;
       msgqs = valid.msgqs;
+      signals = valid.signals;
       in_range = valid.in_range;
       calls = omega (arith, call_count-push ss s, call_count-push ss (with_call c s), length-append s.calls (c ∷ []));
       fit = fit-push decls ss (with_call c s) ∙ and_from (list_all (script_fits decls) ss) (script_fits decls (with_call c s)) both.0 (and_from (is_at plays_script decls s.owner) (list_all (call_fits decls) (s.calls ++ c ∷ [])) own.0 calls);
@@ -205,6 +209,7 @@ room-push decls (decl.Thread name prio user) free room =
       items = omega (arith, room.items, count_by-push is_item decls d);
       sems = omega (arith, room.sems, count_by-push is_sem decls d);
       msgqs = omega (arith, room.msgqs, count_by-push is_msgq decls d);
+      signals = omega (arith, room.signals, count_by-push is_signal decls d);
     }
 room-push decls (decl.Queue name prio on) free room =
     let d = decl.Queue name prio on in
@@ -217,6 +222,7 @@ room-push decls (decl.Queue name prio on) free room =
       items = omega (arith, room.items, count_by-push is_item decls d);
       sems = omega (arith, room.sems, count_by-push is_sem decls d);
       msgqs = omega (arith, room.msgqs, count_by-push is_msgq decls d);
+      signals = omega (arith, room.signals, count_by-push is_signal decls d);
     }
 room-push decls (decl.Item name) free room =
     let d = decl.Item name in
@@ -227,6 +233,7 @@ room-push decls (decl.Item name) free room =
       items = omega (arith, one, count_by-push is_item decls d);
       sems = omega (arith, room.sems, count_by-push is_sem decls d);
       msgqs = omega (arith, room.msgqs, count_by-push is_msgq decls d);
+      signals = omega (arith, room.signals, count_by-push is_signal decls d);
     }
 room-push decls (decl.Sem name initial limit) free room =
     let d = decl.Sem name initial limit in
@@ -237,6 +244,7 @@ room-push decls (decl.Sem name initial limit) free room =
       items = omega (arith, room.items, count_by-push is_item decls d);
       sems = omega (arith, one, count_by-push is_sem decls d);
       msgqs = omega (arith, room.msgqs, count_by-push is_msgq decls d);
+      signals = omega (arith, room.signals, count_by-push is_signal decls d);
     }
 room-push decls (decl.Msgq name size capacity) free room =
     let d = decl.Msgq name size capacity in
@@ -247,6 +255,18 @@ room-push decls (decl.Msgq name size capacity) free room =
       items = omega (arith, room.items, count_by-push is_item decls d);
       sems = omega (arith, room.sems, count_by-push is_sem decls d);
       msgqs = omega (arith, one, count_by-push is_msgq decls d);
+      signals = omega (arith, room.signals, count_by-push is_signal decls d);
+    }
+room-push decls (decl.Signal name) free room =
+    let d = decl.Signal name in
+    let one = leb-false 32 (count_by is_signal decls) (or_none (nat_le 32 (count_by is_signal decls)) false free).0 in
+    record {
+      players = omega (arith, room.players, count_by-push is_thread decls d, count_by-push is_queue decls d);
+      queues = omega (arith, room.queues, count_by-push is_queue decls d);
+      items = omega (arith, room.items, count_by-push is_item decls d);
+      sems = omega (arith, room.sems, count_by-push is_sem decls d);
+      msgqs = omega (arith, room.msgqs, count_by-push is_msgq decls d);
+      signals = omega (arith, one, count_by-push is_signal decls d);
     }
 
 -- a declaration to which no reason applies keeps what was read valid

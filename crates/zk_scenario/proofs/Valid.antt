@@ -8,9 +8,9 @@ use Rattle.std.proofs.lemmas.List.Sums.{sum_by-append}
 use Rattle.std.proofs.lemmas.Option.{slice_get-get_or}
 use Rattle.zk_base.proofs.Lists.{list_all-at}
 use Rattle.zk_line.specs.declared.types.Decl.{Decl}
-use Rattle.zk_line.specs.declared.types.Decl.TheVariants.{Thread, Queue, Item, Sem, Msgq}
+use Rattle.zk_line.specs.declared.types.Decl.TheVariants.{Thread, Queue, Item, Sem, Msgq, Signal}
 use Rattle.zk_scenario.specs.declared.types.Script.{Script}
-use Rattle.zk_line.specs.Objects.{is_at, plays_script, is_thread, is_queue, is_item, is_sem, is_msgq, same_kind, places, number_of, player_count}
+use Rattle.zk_line.specs.Objects.{is_at, plays_script, is_thread, is_queue, is_item, is_sem, is_msgq, is_signal, same_kind, places, number_of, player_count}
 use Rattle.zk_scenario.specs.Parts.{Parts}
 use Rattle.zk_scenario.specs.Players.{players, calls_of}
 use Rattle.zk_scenario.specs.Scripts.{script_of}
@@ -28,22 +28,24 @@ pub count_by-cons : {X : Type 0} (p : X → Bool) (x : X) (xs : List X) → coun
 count_by-cons p x xs = sum_by-append (λ y. cond (p y) 1 0) (x ∷ []) xs ∙ ap (λ n. n + count_by p xs) (omega arith)
 
 -- each declaration is of one kind
-length-kinds : (ds : List Decl) → length ds ≡ player_count ds + count_by is_item ds + count_by is_sem ds + count_by is_msgq ds
+length-kinds : (ds : List Decl) → length ds ≡ player_count ds + count_by is_item ds + count_by is_sem ds + count_by is_msgq ds + count_by is_signal ds
 length-kinds [] = refl
 length-kinds (Thread name prio user ∷ ds) =
-    let d = Thread name prio user in omega (arith, length-kinds ds, count_by-cons is_thread d ds, count_by-cons is_queue d ds, count_by-cons is_item d ds, count_by-cons is_sem d ds, count_by-cons is_msgq d ds)
+    let d = Thread name prio user in omega (arith, length-kinds ds, count_by-cons is_thread d ds, count_by-cons is_queue d ds, count_by-cons is_item d ds, count_by-cons is_sem d ds, count_by-cons is_msgq d ds, count_by-cons is_signal d ds)
 length-kinds (Queue name prio on ∷ ds) =
-    let d = Queue name prio on in omega (arith, length-kinds ds, count_by-cons is_thread d ds, count_by-cons is_queue d ds, count_by-cons is_item d ds, count_by-cons is_sem d ds, count_by-cons is_msgq d ds)
+    let d = Queue name prio on in omega (arith, length-kinds ds, count_by-cons is_thread d ds, count_by-cons is_queue d ds, count_by-cons is_item d ds, count_by-cons is_sem d ds, count_by-cons is_msgq d ds, count_by-cons is_signal d ds)
 length-kinds (Item name ∷ ds) =
-    let d = Item name in omega (arith, length-kinds ds, count_by-cons is_thread d ds, count_by-cons is_queue d ds, count_by-cons is_item d ds, count_by-cons is_sem d ds, count_by-cons is_msgq d ds)
+    let d = Item name in omega (arith, length-kinds ds, count_by-cons is_thread d ds, count_by-cons is_queue d ds, count_by-cons is_item d ds, count_by-cons is_sem d ds, count_by-cons is_msgq d ds, count_by-cons is_signal d ds)
 length-kinds (Sem name initial limit ∷ ds) =
-    let d = Sem name initial limit in omega (arith, length-kinds ds, count_by-cons is_thread d ds, count_by-cons is_queue d ds, count_by-cons is_item d ds, count_by-cons is_sem d ds, count_by-cons is_msgq d ds)
+    let d = Sem name initial limit in omega (arith, length-kinds ds, count_by-cons is_thread d ds, count_by-cons is_queue d ds, count_by-cons is_item d ds, count_by-cons is_sem d ds, count_by-cons is_msgq d ds, count_by-cons is_signal d ds)
 length-kinds (Msgq name size capacity ∷ ds) =
-    let d = Msgq name size capacity in omega (arith, length-kinds ds, count_by-cons is_thread d ds, count_by-cons is_queue d ds, count_by-cons is_item d ds, count_by-cons is_sem d ds, count_by-cons is_msgq d ds)
+    let d = Msgq name size capacity in omega (arith, length-kinds ds, count_by-cons is_thread d ds, count_by-cons is_queue d ds, count_by-cons is_item d ds, count_by-cons is_sem d ds, count_by-cons is_msgq d ds, count_by-cons is_signal d ds)
+length-kinds (Signal name ∷ ds) =
+    let d = Signal name in omega (arith, length-kinds ds, count_by-cons is_thread d ds, count_by-cons is_queue d ds, count_by-cons is_item d ds, count_by-cons is_sem d ds, count_by-cons is_msgq d ds, count_by-cons is_signal d ds)
 
--- a valid scenario has at most 368 declarations
-pub length-decls : (p : Parts) → IsValid p → length p.decls ≤ 368
-length-decls p valid = omega (arith, length-kinds p.decls, valid.players, valid.items, valid.sems, valid.msgqs)
+-- a valid scenario has at most 400 declarations
+pub length-decls : (p : Parts) → IsValid p → length p.decls ≤ 400
+length-decls p valid = omega (arith, length-kinds p.decls, valid.players, valid.items, valid.sems, valid.msgqs, valid.signals)
 
 -- an element that passes counts behind those before it
 count_by-take-lt : {X : Type 0} (p : X → Bool) (xs : List X) (k : ℕ) (x : X) → slice_get xs k ≡ Some x → p x ≡ true → count_by p (take k xs) < count_by p xs
@@ -92,6 +94,13 @@ pub number_of-msgq : (decls : List Decl) (object : ℕ) → is_at is_msgq decls 
 number_of-msgq decls object at = below is_msgq decls object kind at where
   kind : (d : Decl) → is_msgq d ≡ true → same_kind d ≡ is_msgq
   kind (Msgq name size capacity) e = refl
+  kind d e = absurd (cc)
+
+-- the number of a signal is below the count of the signals
+pub number_of-signal : (decls : List Decl) (object : ℕ) → is_at is_signal decls object ≡ true → number_of decls object < count_by is_signal decls
+number_of-signal decls object at = below is_signal decls object kind at where
+  kind : (d : Decl) → is_signal d ≡ true → same_kind d ≡ is_signal
+  kind (Signal name) e = refl
   kind d e = absurd (cc)
 
 -- each call of an object's script fits

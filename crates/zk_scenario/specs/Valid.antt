@@ -2,7 +2,7 @@ use Rattle.std.specs.Prelude.{◌≡◌, ℕ, ◌≤◌, Bool, true, ◌&&◌, S
 use Rattle.std.specs.List.{list_all, sum_by}
 use Rattle.zk_line.specs.declared.types.Decl.{Decl}
 use Rattle.zk_line.specs.Fits.{call_fits, decl_fits}
-use Rattle.zk_line.specs.Objects.{is_at, plays_script, is_queue, is_item, is_sem, is_msgq, player_count}
+use Rattle.zk_line.specs.Objects.{is_at, plays_script, is_queue, is_item, is_sem, is_msgq, is_signal, player_count}
 use Rattle.zk_scenario.specs.declared.types.Script.{Script}
 use Rattle.zk_scenario.specs.Parts.{Parts}
 use Rattle.zk_scenario.specs.Scripts.{script_of}
@@ -26,6 +26,7 @@ pub record IsValid (p : Parts) : Type 0 where
   pub items : count_by is_item p.decls ≤ 256
   pub sems : count_by is_sem p.decls ≤ 32
   pub msgqs : count_by is_msgq p.decls ≤ 16
+  pub signals : count_by is_signal p.decls ≤ 32
   pub calls : call_count p.scripts ≤ 4096
   pub in_range : list_all decl_fits p.decls ≡ true
   pub fit : list_all (script_fits p.decls) p.scripts ≡ true

@@ -42,6 +42,7 @@ most kind.Queue = 8
 most kind.Item = 256
 most kind.Sem = 32
 most kind.Msgq = 16
+most kind.Signal = 32
 
 -- whether there may be no further object of a kind
 abbrev pub is_full : List Decl → Kind → Bool

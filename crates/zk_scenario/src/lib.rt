@@ -10,6 +10,8 @@ mod refused;
 mod scenario;
 mod scripts;
 #[cfg(test)]
+mod signal_tests;
+#[cfg(test)]
 mod tests;
 mod text;
 mod types;

@@ -318,6 +318,7 @@ fn most(kind: Kind) -> usize
         Kind::Item => 256,
         Kind::Sem => 32,
         Kind::Msgq => 16,
+        Kind::Signal => 32,
     }
 }
 

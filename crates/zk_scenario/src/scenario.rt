@@ -1,7 +1,7 @@
 ghost use Rattle.std.specs.Prelude.{◌≡◌, ℕ, ◌++◌, length, slice_get};
 ghost use Rattle.zk_scenario.specs.Grammar.{IsReadable};
 ghost use Rattle.zk_scenario.specs.Parts.{Parts};
-ghost use Rattle.zk_line.specs.Objects.{is_thread, is_queue, is_item, is_sem, is_msgq, places, number_of};
+ghost use Rattle.zk_line.specs.Objects.{is_thread, is_queue, is_item, is_sem, is_msgq, is_signal, places, number_of};
 ghost use Rattle.zk_scenario.specs.Players.{prio_of, players, who_of, calls_of};
 ghost use Rattle.zk_scenario.specs.Valid.{IsValid};
 
@@ -92,6 +92,13 @@ impl Scenario {
         self.objects.msgqs()
     }
 
+    /// The objects of the signals, in declared order.
+    pub fn signals(&self) -> &[u32]
+        ensures { result.now ≡ places is_signal self.now.decls }
+    {
+        self.objects.signals()
+    }
+
     /// The number of an object among those of its kind, from 0 in declared order.
     pub fn number(&self, object: u32) -> u32
         ensures { result ≡ number_of self.now.decls object }
@@ -147,5 +154,6 @@ fn prio_of(decl: &Decl) -> i8
         Decl::Item(_) => 0,
         Decl::Sem(..) => 0,
         Decl::Msgq(..) => 0,
+        Decl::Signal(_) => 0,
     }
 }

@@ -84,7 +84,7 @@ fn refuses_what_is_misspelled(rt: HostRuntime) -> Result<(), Fail> {
 
 #[test]
 fn refuses_what_stands_in_the_wrong_place(rt: HostRuntime) -> Result<(), Fail> {
-    let early = "thread t 0 user\n|signal s\n|raise\n|thread t 0 user|signal";
+    let early = "thread t 0 user\n|signal s raw\n|claim\n|thread t 0 user|chan";
     let late =
         "thread t 16 super\n|queue q0 16 on\n|submit nosuch\n|script main\n|end\n|start q0\n";
     let numbers = "thread t 16 super\n|thread t -17 super\n|queue q 99999999999999999999999 on\n";
@@ -95,10 +95,10 @@ fn refuses_what_stands_in_the_wrong_place(rt: HostRuntime) -> Result<(), Fail> {
             (HEADER, early, "2 unbuilt"),
             (
                 FRONT,
-                "thread t 16 user\n|thread main 0 user\n|busy q0\n",
+                "thread t 16 user\n|thread main 0 user\n|finish q0\n",
                 "5 unbuilt",
             ),
-            (BEHIND, "thread t 0 user\n|busy i0\n", "7 unbuilt"),
+            (BEHIND, "thread t 0 user\n|notify i0\n", "7 unbuilt"),
             (FRONT, "script i0\nend\nscript i0\n", "7 order"),
             (FRONT, "end\n|submit i0\n|cancel nosuch\n", "5 order"),
             (
@@ -408,7 +408,7 @@ fn tells_what_a_single_line_is(rt: HostRuntime) -> Result<(), Fail> {
             ),
             (
                 INSIDE,
-                "thread a_1 -16 user\n|signal\n|poll  no\n|user and more\n|busy i q 1\n",
+                "thread a_1 -16 user\n|chan\n|poll  no\n|user and more\n|grant i q 1\n",
                 "6 unbuilt",
             ),
             (FRONT, "script main\nend\n", "read"),

@@ -49,6 +49,13 @@ impl Engine for SemEngine {
 
     ghost grows = { λ op. false };
 
+    // Nothing is published for looks.
+    ghost word = { λ s index. 0 };
+
+    ghost WORDS = { 0 };
+
+    const WORDS: u32 = 0;
+
     fn step(&mut self, who: Who, op: &SemOp) -> Result<Option<(SemReply, SemReply)>, NoMemory> {
         match sem_next(&mut self.store, who, op)? {
             None => Ok(None),
@@ -57,11 +64,18 @@ impl Engine for SemEngine {
     }
 
     fn is_closing(&self, _who: Who, op: &SemOp) -> bool {
-        matches!(op, SemOp::TakeEnd(_) | SemOp::TakeQuit(_))
+        matches!(
+            op,
+            SemOp::TakeEnd(_) | SemOp::TakeQuit(_) | SemOp::PollEnd(_) | SemOp::PollQuit(_)
+        )
     }
 
     fn owed(&self) -> u64 {
         self.store.open()
+    }
+
+    fn word(&self, _index: u32) -> u32 {
+        0
     }
 
     fn reserve(&mut self) -> Result<(), NoMemory> {

@@ -7,7 +7,9 @@ use std::alloc::Global;
 use std::process::Abort;
 use std::test::*;
 use zk_base::{Errno, NoMemory, Service, Who};
-use zk_model_wait::SemOp::{Count, Give, Reset, Take, TakeEnd, TakeQuit};
+use zk_model_wait::SemOp::{
+    Count, Give, PollArm, PollEnd, PollQuit, Reset, Take, TakeEnd, TakeQuit,
+};
 use zk_model_wait::{SemOp, SemReply};
 
 /// One attempt: the player and its priority, the operation, and what is answered.
@@ -90,6 +92,40 @@ fn given_up(rt: HostRuntime) -> Result<(), Fail> {
         ],
     )?;
     assert_eq!(&rt; entries, 10);
+    Ok(())
+}
+
+/// Polls: a give that serves a taker notifies nobody. Each other give notifies the first by priority that isn't notified yet, at the
+/// limit too.
+#[test]
+fn polled(rt: HostRuntime) -> Result<(), Fail> {
+    let sem = Sem::new(rt.alloc(), 0, 1)?;
+    let entries = play(
+        &rt,
+        sem,
+        rt.alloc(),
+        &[
+            (0, 0, PollArm(false), "Some(NotReady)"),
+            (1, 5, PollArm(true), "Some(Armed)"),
+            (2, 3, PollArm(true), "Some(Armed)"),
+            (3, 0, Take(true), "Some(Wait)"),
+            (0, 0, Give, "Some(Done)"),
+            (2, 3, PollEnd(2), "None"),
+            (0, 0, Give, "Some(Done)"),
+            (1, 5, PollEnd(1), "None"),
+            (0, 0, Give, "Some(Done)"),
+            (1, 5, PollQuit(1), "Some(Noted)"),
+            (2, 3, PollEnd(2), "Some(Noted)"),
+            (2, 3, PollEnd(2), "None"),
+            (0, 0, PollArm(true), "Some(Ready)"),
+            (0, 0, Take(false), "Some(Got)"),
+            (0, 0, PollArm(true), "Some(Armed)"),
+            (0, 0, PollQuit(11), "Some(Plain)"),
+            (0, 0, PollQuit(11), "None"),
+            (0, 0, Reset, "Some(Done)"),
+        ],
+    )?;
+    assert_eq!(&rt; entries, 14);
     Ok(())
 }
 

@@ -51,12 +51,23 @@ impl Service for Clock {
 
     ghost grows = { λ op. false };
 
+    // Nothing is published for looks.
+    ghost word = { λ s index. 0 };
+
+    ghost WORDS = { 0 };
+
+    const WORDS: u32 = 0;
+
     fn act(&mut self, who: Who, step: u32, op: ClockOp) -> Result<Option<ClockReply>, NoMemory> {
         self.inner.act(who, step, op)
     }
 
     fn reserve(&mut self) -> Result<(), NoMemory> {
         self.inner.reserve()
+    }
+
+    fn word(&self, index: u32) -> u32 {
+        self.inner.word(index)
     }
 
     fn room(&self) -> u64 {

@@ -48,6 +48,13 @@ impl Engine for ClockEngine {
 
     ghost grows = { λ op. false };
 
+    // Nothing is published for looks.
+    ghost word = { λ s index. 0 };
+
+    ghost WORDS = { 0 };
+
+    const WORDS: u32 = 0;
+
     fn step(
         &mut self,
         who: Who,
@@ -65,6 +72,10 @@ impl Engine for ClockEngine {
 
     fn owed(&self) -> u64 {
         self.store.alarms()
+    }
+
+    fn word(&self, _index: u32) -> u32 {
+        0
     }
 
     fn reserve(&mut self) -> Result<(), NoMemory> {

@@ -24,3 +24,4 @@ pub record AreLegal (s : Parts) (t : Trace) : Type 0 where
   pub clock : IsLegal clock_machine new_clock t.clock
   pub sems : EachLegal (machines_of s).sems t.sems
   pub msgqs : EachLegal (machines_of s).msgqs t.msgqs
+  pub signals : EachLegal (machines_of s).signals t.signals

@@ -5,11 +5,15 @@ pub mod Work
 pub mod Clock
 pub mod Sem
 pub mod Msgq
+pub mod Signal
+pub mod Looks
+pub mod Looked
 pub mod Text
 pub mod Fronts
 pub mod Shown
 pub mod Place
 pub mod History
 pub mod Log
+pub mod Look
 pub mod Ending
 pub mod Lawful

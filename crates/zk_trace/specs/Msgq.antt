@@ -7,7 +7,7 @@ use Rattle.zk_model_wait.specs.declared.msgq.MsgqReply.{MsgqReply}
 use Rattle.zk_model_wait.specs.declared.msgq.MsgqReply.TheVariants as replies
 use Rattle.zk_trace.specs.declared.msgq.Verb.{Verb}
 use Rattle.zk_trace.specs.declared.msgq.Verb.TheVariants as verbs
-use Rattle.zk_trace.specs.declared.parts.FixedWord.TheVariants.{Wait, Done}
+use Rattle.zk_trace.specs.declared.parts.FixedWord.TheVariants.{Wait, Done, Ready, NotReady, Armed, Noted, Plain}
 use Rattle.zk_trace.specs.declared.parts.Part.{Part}
 use Rattle.zk_trace.specs.declared.parts.Part.TheVariants.{Narrow, Place, Bytes, Waits, Refusal, Fixed}
 use Rattle.zk_trace.specs.Parts.{part_word}
@@ -25,6 +25,9 @@ verb_word verbs.PeekAt = codes "peekat"
 verb_word verbs.Purge = codes "purge"
 verb_word verbs.Used = codes "used"
 verb_word verbs.Free = codes "free"
+verb_word verbs.PollArm = codes "pollarm"
+verb_word verbs.PollEnd = codes "pollend"
+verb_word verbs.PollQuit = codes "pollquit"
 
 -- an operation as it is written: its verb, and what stands behind that
 abbrev pub said_of : MsgqOp → Verb × List Part
@@ -39,6 +42,9 @@ said_of (ops.PeekAt index) = (verbs.PeekAt, Narrow index ∷ [])
 said_of ops.Purge = (verbs.Purge, [])
 said_of ops.Used = (verbs.Used, [])
 said_of ops.Free = (verbs.Free, [])
+said_of (ops.PollArm waits) = (verbs.PollArm, Waits waits ∷ [])
+said_of (ops.PollEnd place) = (verbs.PollEnd, Place place ∷ [])
+said_of (ops.PollQuit place) = (verbs.PollQuit, Place place ∷ [])
 
 -- the words of an operation
 abbrev pub op_words : List Decl → MsgqOp → List (List ℕ)
@@ -52,6 +58,11 @@ reply_parts replies.Wait = Fixed Wait ∷ []
 reply_parts replies.Again = Refusal Again ∷ []
 reply_parts (replies.Bytes message) = Bytes message ∷ []
 reply_parts (replies.Number number) = Narrow number ∷ []
+reply_parts replies.Ready = Fixed Ready ∷ []
+reply_parts replies.NotReady = Fixed NotReady ∷ []
+reply_parts replies.Armed = Fixed Armed ∷ []
+reply_parts replies.Noted = Fixed Noted ∷ []
+reply_parts replies.Plain = Fixed Plain ∷ []
 
 -- the words of a reply
 abbrev pub reply_words : List Decl → MsgqReply → List (List ℕ)

@@ -6,9 +6,10 @@ use Rattle.zk_line.specs.declared.types.Decl.{Decl}
 use Rattle.zk_worker.specs.declared.answers.Answer.{Answer}
 use Rattle.zk_worker.specs.declared.answers.Answer.TheVariants as answers
 use Rattle.zk_trace.specs.declared.parts.FixedWord.{FixedWord}
-use Rattle.zk_trace.specs.declared.parts.FixedWord.TheVariants.{Zero, One, Two, Wait, Done, Already, Now, At, Due, Got}
+use Rattle.zk_trace.specs.declared.parts.FixedWord.TheVariants.{Zero, One, Two, Wait, Done, Already, Now, At, Due, Got, Ready, NotReady, Armed, Noted, Plain}
 use Rattle.zk_trace.specs.declared.parts.Part.{Part}
 use Rattle.zk_trace.specs.declared.parts.Part.TheVariants as parts
+use Rattle.zk_trace.specs.Looks.{seen_word}
 use Rattle.zk_trace.specs.Names.{item_name, queue_name, target_name}
 use Rattle.zk_trace.specs.Words.{errno_word, admission_word, flags_word, truth_word, wait_word}
 
@@ -24,8 +25,13 @@ fixed_word Now = codes "now"
 fixed_word At = codes "at"
 fixed_word Due = codes "due"
 fixed_word Got = codes "got"
+fixed_word Ready = codes "ready"
+fixed_word NotReady = codes "notready"
+fixed_word Armed = codes "armed"
+fixed_word Noted = codes "noted"
+fixed_word Plain = codes "plain"
 
--- the text of a part
+-- the text of a part: one word, or several
 abbrev pub part_word : List Decl → Part → List ℕ
 part_word decls (parts.Item item) = item_name decls item
 part_word decls (parts.Queue queue) = queue_name decls queue
@@ -38,6 +44,7 @@ part_word decls (parts.Plug plug) = choice_text Drain plug
 part_word decls (parts.Flags flags) = flags_word flags
 part_word decls (parts.Truth truth) = truth_word truth
 part_word decls (parts.Bytes message) = hex_text message
+part_word decls (parts.Seen raised value) = seen_word raised value
 part_word decls (parts.Waits waits) = wait_word waits
 part_word decls (parts.Refusal errno) = errno_word errno
 part_word decls (parts.Fixed fixed) = fixed_word fixed
@@ -49,6 +56,7 @@ answer_part (answers.Flags flags) = parts.Flags flags
 answer_part (answers.Truth truth) = parts.Truth truth
 answer_part (answers.Refused errno) = parts.Refusal errno
 answer_part (answers.Bytes message) = parts.Bytes message
+answer_part (answers.Signal raised value) = parts.Seen raised value
 
 -- words, each behind this byte
 abbrev pub each_behind : ℕ → List (List ℕ) → List ℕ

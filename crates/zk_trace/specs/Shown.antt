@@ -9,6 +9,7 @@ trace_shown t = record {
   clock = t.clock;
   sems = t.sems;
   msgqs = t.msgqs;
+  signals = t.signals;
   looks = None;
   looked = None;
 }

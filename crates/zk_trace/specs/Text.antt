@@ -1,5 +1,6 @@
-use Rattle.std.specs.Prelude.{ℕ, ◌+◌, List, [], ◌∷◌, ◌++◌, codes, decimal}
+use Rattle.std.specs.Prelude.{ℕ, ◌+◌, List, [], ◌∷◌, ◌++◌, slice_get, codes, decimal}
 use Rattle.std.specs.List.{flat_map}
+use Rattle.std.specs.Option.{option_map_or}
 use Rattle.zk_base.specs.declared.ids.Entry.{Entry}
 use Rattle.zk_words.specs.Text.{line_text}
 use Rattle.zk_line.specs.declared.types.Decl.{Decl}
@@ -9,6 +10,7 @@ use Rattle.zk_worker.specs.declared.answers.Answered.{Answered}
 use Rattle.zk_worker.specs.declared.log.Log.{Log}
 use Rattle.zk_worker.specs.declared.log.PlayerState.{PlayerState}
 use Rattle.zk_trace.specs.declared.trace.Trace.{Trace}
+use Rattle.zk_trace.specs.Looks.{spot_word, item_look_line, signal_look_line}
 use Rattle.zk_trace.specs.Names.{player_name}
 use Rattle.zk_trace.specs.Words.{ending_word, call_word, state_word}
 use Rattle.zk_trace.specs.Parts.{part_word, answer_part}
@@ -16,14 +18,11 @@ use Rattle.zk_trace.specs.Work as work
 use Rattle.zk_trace.specs.Clock as clock
 use Rattle.zk_trace.specs.Sem as sem
 use Rattle.zk_trace.specs.Msgq as msgq
+use Rattle.zk_trace.specs.Signal as signal
 
 -- one line: its words and a line feed
 abbrev pub line : List (List ℕ) → List ℕ
 line words = line_text words ++ codes "\n"
-
--- a step of a player: its name and the number of the step
-abbrev pub spot_word : List Decl → ℕ → ℕ → List ℕ
-spot_word decls player step = player_name decls player ++ codes "." ++ decimal step
 
 -- the head of a service's section
 abbrev pub section_head : List ℕ → List ℕ
@@ -52,6 +51,33 @@ module _ {O R : Type 0} (op_words : List Decl → O → List (List ℕ))
   object_sections object [] = []
   object_sections object (h ∷ hs) = object_section object h ++ object_sections (object + 1) hs
 
+-- the looks at the object of a number
+abbrev pub looks_at : {L : Type 0} → List (List L) → ℕ → List L
+looks_at all object = option_map_or (λ looks. looks) (slice_get all object) []
+
+-- the lines of a service that is looked at
+module _ {O R L : Type 0} (op_words : List Decl → O → List (List ℕ)) (reply_words : List Decl → R → List (List ℕ))
+    (look_line : List Decl → L → List ℕ) (decls : List Decl) where
+  -- its entries, and then the looks
+  abbrev pub looked_lines : List (Entry O R) → List L → List ℕ
+  looked_lines h looks = flat_map (entry_line op_words reply_words decls) h ++ flat_map (look_line decls) looks
+
+  -- its section, where it did anything or was looked at
+  abbrev pub looked_section : List ℕ → List (Entry O R) → List L → List ℕ
+  looked_section name [] [] = []
+  looked_section name [] (l ∷ ls) = section_head name ++ looked_lines [] (l ∷ ls)
+  looked_section name (e ∷ es) looks = section_head name ++ looked_lines (e ∷ es) looks
+
+  -- the section of an object, under its name
+  abbrev pub looked_object : List (List L) → ℕ → List (Entry O R) → List ℕ
+  looked_object looks object h = looked_section (name_at decls object) h (looks_at looks object)
+
+  -- the sections of the objects of a kind from one number on
+  abbrev pub looked_sections : List (List L) → ℕ → List (List (Entry O R)) → List ℕ
+  looked_sections looks object [] = []
+  looked_sections looks object (h ∷ hs) =
+      looked_object looks object h ++ looked_sections looks (object + 1) hs
+
 -- an answered call: the number of its last step, its word and its answer
 abbrev pub answer_line : List Decl → Answered → List ℕ
 answer_line decls a =
@@ -73,13 +99,14 @@ player_sections decls player [] = []
 player_sections decls player (log ∷ logs) =
     player_section decls player log ++ player_sections decls (player + 1) logs
 
--- the sections of the services: of those of which there is one, of the semaphores and of the message queues
+-- the sections of the services: of those of which there is one, of the semaphores, the message queues and the signals
 abbrev pub service_sections : Parts → Trace → List ℕ
 service_sections s t =
-    service_section work.op_words work.reply_words s.decls (codes "work") t.work
+    looked_section work.op_words work.reply_words item_look_line s.decls (codes "work") t.work t.item_looks
     ++ service_section clock.op_words clock.reply_words s.decls (codes "clock") t.clock
     ++ object_sections sem.op_words sem.reply_words s.decls 0 t.sems
     ++ object_sections msgq.op_words msgq.reply_words s.decls 0 t.msgqs
+    ++ looked_sections signal.op_words signal.reply_words signal_look_line s.decls t.signal_looks 0 t.signals
 
 -- the trace part of the output: its head, the ending, the services and the players
 abbrev pub trace_text : Parts → Trace → List ℕ

@@ -3,19 +3,19 @@
 
 mod clock;
 mod lined;
+mod looks;
 mod msgq;
 mod names;
 mod parts;
 mod print;
 mod sections;
 mod sem;
+mod signal;
 mod spelled;
 mod trace;
 mod words;
 mod work;
 
+pub use looks::{ItemLook, ItemLooks, SignalLook, SignalLooks};
 pub use print::{print_trace, put_trace};
 pub use trace::{Ending, Histories, History, Logs, Trace};
-
-#[cfg(test)]
-mod tests;

@@ -2,13 +2,14 @@ ghost use Rattle.std.specs.Prelude.{◌≡◌, ℕ, List, ◌++◌, OnOk, OnErr,
 ghost use Rattle.std.specs.List.{flat_map};
 ghost use Rattle.zk_line.specs.declared.types.Decl.{Decl};
 ghost use Rattle.zk_trace.specs.Fronts.{StaysInFront};
-ghost use Rattle.zk_trace.specs.Text.{spot_word, entry_line, answer_line};
+ghost use Rattle.zk_trace.specs.Looks.{spot_word};
+ghost use Rattle.zk_trace.specs.Text.{entry_line, answer_line};
 
 use crate::names::player_name;
 use crate::parts::{answer_part, put_part};
 use crate::spelled::Spelled;
 use crate::words::call_word;
-use zk_base::{Entry, NoMemory, Who, put, put_decimal};
+use zk_base::{Entry, NoMemory, put, put_decimal};
 use zk_scenario::Scenario;
 use zk_worker::Answered;
 
@@ -42,7 +43,7 @@ impl<O: Spelled, R: Spelled> Lined for Entry<O, R> {
     ghost text = { entry_line O.words R.words };
 
     fn put_line(&self, out: &mut Vec<u8>, scenario: &Scenario) -> Result<(), NoMemory> {
-        put_spot(out, scenario, self.who, self.step)?;
+        put_spot(out, scenario, self.who.number, self.step)?;
         self.op.put_words(out, scenario)?;
         put(out, b" =")?;
         self.reply.put_words(out, scenario)?;
@@ -51,11 +52,16 @@ impl<O: Spelled, R: Spelled> Lined for Entry<O, R> {
 }
 
 /// Whose step it is, and which.
-fn put_spot(out: &mut Vec<u8>, scenario: &Scenario, who: Who, step: u32) -> Result<(), NoMemory>
-    ensures text { OnOk result (out.new.items ≡ out.old.items ++ spot_word scenario.now.decls who.number step) }
+pub fn put_spot(
+    out: &mut Vec<u8>,
+    scenario: &Scenario,
+    player: u32,
+    step: u32,
+) -> Result<(), NoMemory>
+    ensures text { OnOk result (out.new.items ≡ out.old.items ++ spot_word scenario.now.decls player step) }
     ensures kept { OnErr result (StaysInFront out.old.items out.new.items) }
 {
-    put(out, player_name(scenario, who.number as usize))?;
+    put(out, player_name(scenario, player as usize))?;
     out.push(b'.')?;
     put_decimal(out, u64::from(step))
 }

@@ -32,6 +32,12 @@ pub enum Verb {
     Used,
     /// Of `MsgqOp::Free`.
     Free,
+    /// Of `MsgqOp::PollArm`.
+    PollArm,
+    /// Of `MsgqOp::PollEnd`.
+    PollEnd,
+    /// Of `MsgqOp::PollQuit`.
+    PollQuit,
 }
 
 /// The word of a verb.
@@ -50,6 +56,9 @@ fn verb_word(verb: Verb) -> &'static [u8]
         Verb::Purge => b"purge",
         Verb::Used => b"used",
         Verb::Free => b"free",
+        Verb::PollArm => b"pollarm",
+        Verb::PollEnd => b"pollend",
+        Verb::PollQuit => b"pollquit",
     }
 }
 
@@ -72,6 +81,9 @@ fn said_of(op: &MsgqOp) -> (Verb, PartList<'_>)
         MsgqOp::Purge => (Verb::Purge, PartList::none()),
         MsgqOp::Used => (Verb::Used, PartList::none()),
         MsgqOp::Free => (Verb::Free, PartList::none()),
+        MsgqOp::PollArm(waits) => (Verb::PollArm, PartList::one(Part::Waits(*waits))),
+        MsgqOp::PollEnd(place) => (Verb::PollEnd, PartList::one(Part::Place(*place))),
+        MsgqOp::PollQuit(place) => (Verb::PollQuit, PartList::one(Part::Place(*place))),
     }
 }
 
@@ -86,6 +98,11 @@ fn reply_parts(reply: &MsgqReply) -> PartList<'_>
         MsgqReply::Again => PartList::one(Part::Refusal(Errno::Again)),
         MsgqReply::Bytes(message) => PartList::one(Part::Bytes(Lent::of(message))),
         MsgqReply::Number(number) => PartList::one(Part::Narrow(*number)),
+        MsgqReply::Ready => PartList::one(Part::Fixed(FixedWord::Ready)),
+        MsgqReply::NotReady => PartList::one(Part::Fixed(FixedWord::NotReady)),
+        MsgqReply::Armed => PartList::one(Part::Fixed(FixedWord::Armed)),
+        MsgqReply::Noted => PartList::one(Part::Fixed(FixedWord::Noted)),
+        MsgqReply::Plain => PartList::one(Part::Fixed(FixedWord::Plain)),
     }
 }
 

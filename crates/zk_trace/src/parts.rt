@@ -4,6 +4,7 @@ ghost use Rattle.zk_trace.specs.Fronts.{StaysInFront};
 ghost use Rattle.zk_trace.specs.Names.{target_name};
 ghost use Rattle.zk_trace.specs.Parts.{fixed_word, part_word, answer_part, each_behind};
 
+use crate::looks::put_seen;
 use crate::names::{item_name, queue_name, target_name};
 use crate::words::{errno_word, put_admission, put_flags, put_hex, truth_word, wait_word};
 use std::marker::Model;
@@ -37,6 +38,8 @@ pub enum Part<'a> {
     Truth(bool),
     /// The bytes of a message, in hexadecimal digits.
     Bytes(Lent<'a>),
+    /// Whether a signal is raised, and its result: two words.
+    Seen(bool, u16),
     /// Whether a call waits where it can't be served at once.
     Waits(bool),
     /// The cause of a refusal.
@@ -68,6 +71,16 @@ pub enum FixedWord {
     Due,
     /// A semaphore was taken.
     Got,
+    /// What was asked for an event is ready.
+    Ready,
+    /// It isn't ready, and the caller isn't registered.
+    NotReady,
+    /// It isn't ready, and the caller is registered.
+    Armed,
+    /// A registration was noted.
+    Noted,
+    /// A registration was given up, and wasn't noted.
+    Plain,
 }
 
 /// The text of a fixed word.
@@ -85,6 +98,11 @@ fn fixed_word(fixed: FixedWord) -> &'static [u8]
         FixedWord::At => b"at",
         FixedWord::Due => b"due",
         FixedWord::Got => b"got",
+        FixedWord::Ready => b"ready",
+        FixedWord::NotReady => b"notready",
+        FixedWord::Armed => b"armed",
+        FixedWord::Noted => b"noted",
+        FixedWord::Plain => b"plain",
     }
 }
 
@@ -98,6 +116,7 @@ pub fn answer_part(answer: &Answer) -> Part<'_>
         Answer::Truth(truth) => Part::Truth(*truth),
         Answer::Refused(errno) => Part::Refusal(*errno),
         Answer::Bytes(message) => Part::Bytes(Lent::of(message)),
+        Answer::Signal(raised, value) => Part::Seen(*raised, *value),
     }
 }
 
@@ -273,6 +292,7 @@ fn put_word(out: &mut Vec<u8>, scenario: &Scenario, part: &Part<'_>) -> Result<(
         Part::Flags(flags) => put_flags(out, *flags),
         Part::Truth(truth) => put(out, truth_word(*truth)),
         Part::Bytes(message) => put_hex(out, message.bytes()),
+        Part::Seen(raised, value) => put_seen(out, *raised, *value),
         Part::Waits(waits) => put(out, wait_word(*waits)),
         Part::Refusal(errno) => put(out, errno_word(*errno)),
         Part::Fixed(fixed) => put(out, fixed_word(*fixed)),

@@ -4,7 +4,7 @@ ghost use Rattle.zk_trace.specs.Fronts.{StaysInFront};
 ghost use Rattle.zk_trace.specs.Text.{service_sections, trace_text};
 
 use crate::Trace;
-use crate::sections::{put_objects, put_players, put_service};
+use crate::sections::{put_looked, put_looked_objects, put_objects, put_players, put_service};
 use crate::words::ending_word;
 use std::alloc::Global;
 use zk_base::{NoMemory, put};
@@ -38,10 +38,22 @@ fn put_services(out: &mut Vec<u8>, scenario: &Scenario, trace: &Trace) -> Result
     ensures text { OnOk result (out.new.items ≡ out.old.items ++ service_sections scenario.now trace.now) }
     ensures kept { OnErr result (StaysInFront out.old.items out.new.items) }
 {
-    put_service(out, scenario, b"work", trace.work.items())?;
+    put_looked(
+        out,
+        scenario,
+        b"work",
+        trace.work.items(),
+        trace.item_looks.items(),
+    )?;
     put_service(out, scenario, b"clock", trace.clock.items())?;
     put_objects(out, scenario, trace.sems.items())?;
-    put_objects(out, scenario, trace.msgqs.items())
+    put_objects(out, scenario, trace.msgqs.items())?;
+    put_looked_objects(
+        out,
+        scenario,
+        trace.signals.items(),
+        trace.signal_looks.items(),
+    )
 }
 
 /// The scenario's text and then the trace part.

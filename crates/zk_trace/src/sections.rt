@@ -1,13 +1,13 @@
 ghost use Rattle.std.specs.Prelude.{◌≡◌, ◌++◌, OnOk, OnErr, drop};
 ghost use Rattle.zk_trace.specs.Fronts.{StaysInFront};
-ghost use Rattle.zk_trace.specs.Text.{section_head, service_section, object_section, object_sections, player_head, player_section, player_sections};
+ghost use Rattle.zk_trace.specs.Text.{section_head, service_section, object_section, object_sections, looked_section, looks_at, looked_object, looked_sections, player_head, player_section, player_sections};
 
 use crate::History;
-use crate::lined::put_lines;
+use crate::lined::{Lined, put_lines};
 use crate::names::{name_at, player_name};
 use crate::spelled::Spelled;
 use crate::words::state_word;
-use zk_base::{Entry, NoMemory, put};
+use zk_base::{Entry, Listed, NoMemory, put};
 use zk_scenario::Scenario;
 use zk_worker::{Log, PlayerState};
 
@@ -61,6 +61,73 @@ fn put_object<O: Spelled, R: Spelled>(
         name_at(scenario.decls(), object),
         history.items(),
     )
+}
+
+/// Appends the section of a service that is looked at, where it did anything or was looked at.
+pub fn put_looked<O: Spelled, R: Spelled, L: Lined>(
+    out: &mut Vec<u8>,
+    scenario: &Scenario,
+    name: &[u8],
+    entries: &[Entry<O, R>],
+    looks: &[L],
+) -> Result<(), NoMemory>
+    ensures text { OnOk result (out.new.items ≡ out.old.items
+        ++ looked_section O.words R.words L.text scenario.now.decls name.now entries.now looks.now) }
+    ensures kept { OnErr result (StaysInFront out.old.items out.new.items) }
+{
+    if entries.is_empty() && looks.is_empty() {
+        return Ok(());
+    }
+    put_service_head(out, name)?;
+    put_lines(out, scenario, entries)?;
+    put_lines(out, scenario, looks)
+}
+
+/// Appends the sections of the objects of a kind that is looked at, each under the name of its object.
+pub fn put_looked_objects<O: Spelled, R: Spelled, L: Lined>(
+    out: &mut Vec<u8>,
+    scenario: &Scenario,
+    histories: &[History<O, R>],
+    looks: &[Listed<L>],
+) -> Result<(), NoMemory>
+    ensures text { OnOk result (out.new.items ≡ out.old.items
+        ++ looked_sections O.words R.words L.text scenario.now.decls looks.now 0 histories.now) }
+    ensures kept { OnErr result (StaysInFront out.old.items out.new.items) }
+{
+    for (object, history) in histories.iter().enumerate() {
+        put_looked_object(out, scenario, object, history, looks)?;
+    }
+    Ok(())
+}
+
+fn put_looked_object<O: Spelled, R: Spelled, L: Lined>(
+    out: &mut Vec<u8>,
+    scenario: &Scenario,
+    object: usize,
+    history: &History<O, R>,
+    looks: &[Listed<L>],
+) -> Result<(), NoMemory>
+    ensures text { OnOk result (out.new.items ≡ out.old.items
+        ++ looked_object O.words R.words L.text scenario.now.decls looks.now object history.now) }
+    ensures kept { OnErr result (StaysInFront out.old.items out.new.items) }
+{
+    put_looked(
+        out,
+        scenario,
+        name_at(scenario.decls(), object),
+        history.items(),
+        looks_at(looks, object),
+    )
+}
+
+/// The looks at an object.
+fn looks_at<L>(looks: &[Listed<L>], object: usize) -> &[L]
+    ensures { result.now ≡ looks_at looks.now object }
+{
+    match looks.get(object) {
+        Some(looks) => looks.items(),
+        None => &[],
+    }
 }
 
 fn put_service_head(out: &mut Vec<u8>, name: &[u8]) -> Result<(), NoMemory>

@@ -22,6 +22,12 @@ pub enum Verb {
     Reset,
     /// Of `SemOp::Count`.
     Count,
+    /// Of `SemOp::PollArm`.
+    PollArm,
+    /// Of `SemOp::PollEnd`.
+    PollEnd,
+    /// Of `SemOp::PollQuit`.
+    PollQuit,
 }
 
 /// The word of a verb.
@@ -35,6 +41,9 @@ fn verb_word(verb: Verb) -> &'static [u8]
         Verb::Give => b"give",
         Verb::Reset => b"reset",
         Verb::Count => b"count",
+        Verb::PollArm => b"pollarm",
+        Verb::PollEnd => b"pollend",
+        Verb::PollQuit => b"pollquit",
     }
 }
 
@@ -49,6 +58,9 @@ fn said_of(op: SemOp) -> (Verb, PartList<'static>)
         SemOp::Give => (Verb::Give, PartList::none()),
         SemOp::Reset => (Verb::Reset, PartList::none()),
         SemOp::Count => (Verb::Count, PartList::none()),
+        SemOp::PollArm(waits) => (Verb::PollArm, PartList::one(Part::Waits(waits))),
+        SemOp::PollEnd(place) => (Verb::PollEnd, PartList::one(Part::Place(place))),
+        SemOp::PollQuit(place) => (Verb::PollQuit, PartList::one(Part::Place(place))),
     }
 }
 
@@ -63,6 +75,11 @@ fn reply_parts(reply: SemReply) -> PartList<'static>
         SemReply::Again => PartList::one(Part::Refusal(Errno::Again)),
         SemReply::Done => PartList::one(Part::Fixed(FixedWord::Done)),
         SemReply::Number(number) => PartList::one(Part::Narrow(number)),
+        SemReply::Ready => PartList::one(Part::Fixed(FixedWord::Ready)),
+        SemReply::NotReady => PartList::one(Part::Fixed(FixedWord::NotReady)),
+        SemReply::Armed => PartList::one(Part::Fixed(FixedWord::Armed)),
+        SemReply::Noted => PartList::one(Part::Fixed(FixedWord::Noted)),
+        SemReply::Plain => PartList::one(Part::Fixed(FixedWord::Plain)),
     }
 }
 

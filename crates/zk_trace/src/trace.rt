@@ -1,5 +1,8 @@
+use crate::looks::{ItemLooks, SignalLooks};
 use zk_base::{Entry, Listed};
-use zk_model_wait::{ClockOp, ClockReply, MsgqOp, MsgqReply, SemOp, SemReply};
+use zk_model_wait::{
+    ClockOp, ClockReply, MsgqOp, MsgqReply, SemOp, SemReply, SignalOp, SignalReply,
+};
 use zk_model_work::{WorkOp, WorkReply};
 use zk_worker::Log;
 
@@ -36,6 +39,12 @@ pub struct Trace {
     pub sems: Histories<SemOp, SemReply>,
     /// The histories of the message queues.
     pub msgqs: Histories<MsgqOp, MsgqReply>,
+    /// The writes to the signals.
+    pub signals: Histories<SignalOp, SignalReply>,
+    /// The looks at items.
+    pub item_looks: ItemLooks,
+    /// The looks at signals.
+    pub signal_looks: SignalLooks,
     /// The log of each player.
     pub logs: Logs,
 }

@@ -2,6 +2,5 @@ pub mod Calls
 pub mod Passes
 pub mod Players
 pub mod Steps
-pub mod Tally
 pub mod Turn
 pub mod Views

@@ -8,8 +8,6 @@ mod held;
 mod opening;
 mod pass;
 mod rule;
-#[cfg(test)]
-mod tests;
 mod turns;
 mod views;
 

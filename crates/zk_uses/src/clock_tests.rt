@@ -90,11 +90,12 @@ fn alarms(rt: HostRuntime) -> Result<(), Fail> {
     Ok(())
 }
 
-/// After `reserve` three entries fit.
+/// After `reserve` three entries fit; and it has no words.
 #[test]
 fn room(rt: HostRuntime) -> Result<(), Fail> {
     let mut clock = Clock::new(rt.alloc());
     clock.reserve()?;
     assert!(&rt; clock.room() >= 3);
+    assert_eq!(&rt; clock.word(0), 0, "it publishes nothing");
     Ok(())
 }

@@ -3,6 +3,8 @@
 #![tactic(auto)]
 
 #[cfg(test)]
+mod base_tests;
+#[cfg(test)]
 mod clock_machine_tests;
 mod clock_shared;
 #[cfg(test)]
@@ -23,6 +25,8 @@ mod taking;
 mod tests;
 #[cfg(test)]
 mod timeout_tests;
+#[cfg(test)]
+mod turn_tests;
 mod work_shared;
 #[cfg(test)]
 mod work_tests;

@@ -23,9 +23,9 @@ struct Beside {
     ghost few: { plain.msgq.entries ≤ next },
 }
 
-/// An operation that ends no wait.
+/// An operation that ends no wait and no poll.
 fn drawn(seed: &mut u32, message: Msg) -> MsgqOp {
-    match draw(seed, 12) {
+    match draw(seed, 14) {
         0..=2 => MsgqOp::Put(message, true),
         3 => MsgqOp::Put(message, false),
         4..=6 => MsgqOp::Get(true),
@@ -33,18 +33,22 @@ fn drawn(seed: &mut u32, message: Msg) -> MsgqOp {
         8 => MsgqOp::Peek,
         9 => MsgqOp::PeekAt(draw(seed, 3)),
         10 => MsgqOp::Used,
+        11 => MsgqOp::PollArm(true),
+        12 => MsgqOp::PollArm(false),
         _ if draw(seed, 3) == 0 => MsgqOp::Purge,
         _ => MsgqOp::Free,
     }
 }
 
-/// The end of the wait of this place.
+/// The end of the wait or the poll of this place.
 fn drawn_end(seed: &mut u32, place: u64) -> MsgqOp {
-    match draw(seed, 6) {
+    match draw(seed, 8) {
         0 | 1 => MsgqOp::PutEnd(place),
         2 | 3 => MsgqOp::GetEnd(place),
         4 => MsgqOp::PutQuit(place),
-        _ => MsgqOp::GetQuit(place),
+        5 => MsgqOp::GetQuit(place),
+        6 => MsgqOp::PollEnd(place),
+        _ => MsgqOp::PollQuit(place),
     }
 }
 

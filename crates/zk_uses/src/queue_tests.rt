@@ -2,7 +2,7 @@
 ghost use Rattle.std.specs.Prelude.{◌≡◌, ℕ, ◌<◌, vec_len};
 ghost use Rattle.zk_queue.specs.Open.{IsAbove};
 
-use crate::draws::draw;
+use crate::draws::{Twin, draw, draw_histories};
 use bitflags::Flags;
 use std::alloc::Global;
 use std::process::Abort;
@@ -43,15 +43,6 @@ fn plain_begin(admissions: &mut [Admission], queue: u32) -> Option<(u32, u64)> {
 }
 
 impl Beside {
-    fn new(alloc: Global) -> Result<Beside, NoMemory> {
-        let queues = Queues::new(alloc, ITEMS, QUEUES)?;
-        Ok(Beside {
-            queues,
-            admissions: Vec::new(alloc),
-            marks: Vec::new(alloc),
-        })
-    }
-
     /// The item is submitted to the queue that runs it, or else to this one, where it doesn't wait.
     fn submit(&mut self, item: u32, queue: u32) -> Result<(), NoMemory>
         requires item { item < 5 }
@@ -126,8 +117,18 @@ impl Beside {
             assert_eq!(rt; self.queues.is_idle(queue), wanted, "queue {queue}");
         }
     }
+}
 
-    /// One operation.
+impl Twin for Beside {
+    fn new(alloc: Global) -> Result<Beside, Fail> {
+        let queues = Queues::new(alloc, ITEMS, QUEUES)?;
+        Ok(Beside {
+            queues,
+            admissions: Vec::new(alloc),
+            marks: Vec::new(alloc),
+        })
+    }
+
     fn step<R: Abort>(&mut self, rt: &R, seed: &mut u32) -> Result<(), NoMemory> {
         let item = draw(seed, ITEMS);
         let queue = draw(seed, QUEUES);
@@ -144,12 +145,5 @@ impl Beside {
 
 #[test]
 fn random_histories(rt: HostRuntime) -> Result<(), Fail> {
-    for history in 0..20 {
-        let mut seed = history;
-        let mut beside = Beside::new(rt.alloc())?;
-        for _ in 0..200 {
-            beside.step(&rt, &mut seed)?;
-        }
-    }
-    Ok(())
+    draw_histories::<Beside, HostRuntime>(&rt, rt.alloc())
 }

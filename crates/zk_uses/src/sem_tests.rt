@@ -2,7 +2,7 @@
 ghost use Rattle.zk_sem.specs.Seen.{sem_history};
 ghost use Rattle.zk_uses.specs.Tried.{IsBelow};
 
-use crate::draws::draw;
+use crate::draws::{Twin, draw, draw_histories};
 use std::alloc::Global;
 use std::process::Abort;
 use std::test::Fail;
@@ -14,7 +14,7 @@ const PLAYERS: u32 = 4;
 
 const LIMIT: u32 = 2;
 
-/// A wait, and its decision, if it has one.
+/// A wait or a poll, and its decision, if it has one.
 #[derive(Clone, Copy)]
 struct Wait {
     place: u64,
@@ -27,6 +27,7 @@ struct Wait {
 struct Plain {
     count: u32,
     waits: Vec<Wait>,
+    polls: Vec<Wait>,
 }
 
 /// This wait goes on, and is served before the other.
@@ -41,6 +42,31 @@ fn first(waits: &[Wait]) -> Option<usize> {
     waits.iter().position(|wait| {
         wait.told.is_none() && !waits.iter().any(|other| comes_before(other, wait))
     })
+}
+
+/// The first wait that goes on is decided so. Whether there was one.
+fn decide(waits: &mut [Wait], told: SemReply) -> bool {
+    match first(waits) {
+        Some(at) if at < waits.len() => {
+            waits[at].told = Some(told);
+            true
+        }
+        _ => false,
+    }
+}
+
+/// Ends the player's wait of this place, where it is decided.
+fn end(waits: &mut Vec<Wait>, place: u64, who: Who) -> Option<SemReply> {
+    let at = waits.iter().position(|wait| {
+        wait.place == place && wait.who.number == who.number && wait.told.is_some()
+    })?;
+    waits.remove(at).told
+}
+
+/// Gives the player's wait of this place up, which is answered so where it isn't decided.
+fn quit(waits: &mut Vec<Wait>, place: u64, who: Who, given_up: SemReply) -> Option<SemReply> {
+    let at = waits.iter().position(|wait| wait.place == place && wait.who.number == who.number)?;
+    Some(waits.remove(at).told.unwrap_or(given_up))
 }
 
 impl Plain {
@@ -60,10 +86,25 @@ impl Plain {
         Ok(SemReply::Wait)
     }
 
+    fn arm(&mut self, place: u64, who: Who, waits: bool) -> Result<SemReply, NoMemory> {
+        if self.count > 0 {
+            return Ok(SemReply::Ready);
+        }
+        if !waits {
+            return Ok(SemReply::NotReady);
+        }
+        self.polls.push(Wait {
+            place,
+            who,
+            told: None,
+        })?;
+        Ok(SemReply::Armed)
+    }
+
     fn give(&mut self) {
-        match first(&self.waits) {
-            Some(at) if at < self.waits.len() => self.waits[at].told = Some(SemReply::Got),
-            _ => self.count = LIMIT.min(self.count.saturating_add(1)),
+        if !decide(&mut self.waits, SemReply::Got) {
+            self.count = LIMIT.min(self.count.saturating_add(1));
+            decide(&mut self.polls, SemReply::Noted);
         }
     }
 
@@ -74,28 +115,18 @@ impl Plain {
         }
     }
 
-    fn end(&mut self, place: u64, who: Who) -> Option<SemReply> {
-        let at = self.waits.iter().position(|wait| {
-            wait.place == place && wait.who.number == who.number && wait.told.is_some()
-        })?;
-        self.waits.remove(at).told
-    }
-
-    fn quit(&mut self, place: u64, who: Who) -> Option<SemReply> {
-        let at = self.waits.iter().position(|wait| wait.place == place
-            && wait.who.number == who.number)?;
-        Some(self.waits.remove(at).told.unwrap_or(SemReply::Again))
-    }
-
     /// One operation, where there are so many entries.
     fn act(&mut self, place: u64, who: Who, op: SemOp) -> Result<Option<SemReply>, NoMemory> {
         match op {
             SemOp::Take(waits) => return Ok(Some(self.take(place, who, waits)?)),
-            SemOp::TakeEnd(at) => return Ok(self.end(at, who)),
-            SemOp::TakeQuit(at) => return Ok(self.quit(at, who)),
+            SemOp::TakeEnd(at) => return Ok(end(&mut self.waits, at, who)),
+            SemOp::TakeQuit(at) => return Ok(quit(&mut self.waits, at, who, SemReply::Again)),
             SemOp::Give => self.give(),
             SemOp::Reset => self.reset(),
             SemOp::Count => return Ok(Some(SemReply::Number(self.count))),
+            SemOp::PollArm(waits) => return Ok(Some(self.arm(place, who, waits)?)),
+            SemOp::PollEnd(at) => return Ok(end(&mut self.polls, at, who)),
+            SemOp::PollQuit(at) => return Ok(quit(&mut self.polls, at, who, SemReply::Plain)),
         }
         Ok(Some(SemReply::Done))
     }
@@ -110,35 +141,26 @@ struct Beside {
     ghost below: { IsBelow next (sem_history sem) },
 }
 
-/// The next operation: mostly takes that wait, gives, and ends of the waits of one of the last entries.
+/// The next operation: mostly takes that wait, polls, gives, and ends of the waits of one of the last entries.
 fn drawn(seed: &mut u32, entries: u64) -> SemOp {
     let place = entries.saturating_sub(u64::from(draw(seed, 9)));
-    match draw(seed, 12) {
+    match draw(seed, 16) {
         0..=3 => SemOp::Take(true),
         4 => SemOp::Take(false),
         5 | 6 => SemOp::TakeEnd(place),
         7 => SemOp::TakeQuit(place),
         8..=9 => SemOp::Give,
         10 => SemOp::Count,
+        11 => SemOp::PollArm(true),
+        12 => SemOp::PollArm(draw(seed, 2) == 0),
+        13 => SemOp::PollEnd(place),
+        14 => SemOp::PollQuit(place),
         _ if draw(seed, 4) == 0 => SemOp::Reset,
         _ => SemOp::Give,
     }
 }
 
 impl Beside {
-    fn new(alloc: Global) -> Result<Beside, Fail> {
-        let sem = Sem::new(alloc, 1, LIMIT)?;
-        let plain = Plain {
-            count: 1,
-            waits: Vec::new(alloc),
-        };
-        Ok(Beside {
-            sem,
-            plain,
-            next: 0,
-        })
-    }
-
     /// One attempt, which both answer alike.
     fn attempt<R: Abort>(&mut self, rt: &R, who: Who, op: SemOp) -> Result<(), NoMemory> {
         let step = self.next;
@@ -152,6 +174,22 @@ impl Beside {
         assert_eq!(rt; told, wanted, "at {place}");
         Ok(())
     }
+}
+
+impl Twin for Beside {
+    fn new(alloc: Global) -> Result<Beside, Fail> {
+        let sem = Sem::new(alloc, 1, LIMIT)?;
+        let plain = Plain {
+            count: 1,
+            waits: Vec::new(alloc),
+            polls: Vec::new(alloc),
+        };
+        Ok(Beside {
+            sem,
+            plain,
+            next: 0,
+        })
+    }
 
     fn step<R: Abort>(&mut self, rt: &R, seed: &mut u32) -> Result<(), NoMemory> {
         let number = draw(seed, PLAYERS);
@@ -163,12 +201,5 @@ impl Beside {
 
 #[test]
 fn random_histories(rt: HostRuntime) -> Result<(), Fail> {
-    for history in 0..20 {
-        let mut seed = history;
-        let mut beside = Beside::new(rt.alloc())?;
-        for _ in 0..200 {
-            beside.step(&rt, &mut seed)?;
-        }
-    }
-    Ok(())
+    draw_histories::<Beside, HostRuntime>(&rt, rt.alloc())
 }

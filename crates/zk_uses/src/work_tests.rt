@@ -1,8 +1,10 @@
 //! The work service of one caller, one attempt after another.
 ghost use Rattle.std.specs.Prelude.{◌≡◌, true, false, [], ◌∷◌};
-ghost use Rattle.zk_model_work.specs.Machine.{is_among};
+ghost use Rattle.zk_base.specs.Legal.{state_after};
+ghost use Rattle.zk_model_work.specs.Machine.{is_among, work_machine};
 ghost use Rattle.zk_model_work.specs.State.{start_of};
 ghost use Rattle.zk_work.specs.Seen.{work_start, work_history};
+ghost use Rattle.zk_work.specs.Words.{work_word};
 ghost use Rattle.zk_uses.specs.Tried.{IsBelow};
 
 use std::alloc::Global;
@@ -11,7 +13,7 @@ use std::process::Abort;
 use std::test::Fail;
 use zk_base::{NoMemory, Service, Who};
 use zk_model_work::WorkOp::{
-    Announce, Begin, End, FlushStart, Remaining, Reschedule, Schedule, Start, Submit,
+    Announce, Begin, Cancel, End, FlushStart, Remaining, Reschedule, Schedule, Start, Submit,
 };
 use zk_model_work::{WorkOp, WorkReply};
 use zk_work::Work;
@@ -26,7 +28,7 @@ fn names_what_is_there(op: WorkOp) -> bool
     match op {
         Submit(item, Some(queue)) => item < 2 && queue < 2,
         Schedule(item, queue, _) | Reschedule(item, queue, _) => item < 2 && queue < 2,
-        FlushStart(item) | Remaining(item) => item < 2,
+        Cancel(item) | FlushStart(item) | Remaining(item) => item < 2,
         Start(queue) | Begin(queue) | End(queue) => queue < 2,
         Announce(_) => true,
         _ => false,
@@ -74,6 +76,18 @@ impl Tried {
     /// How many entries there are.
     fn count(&self) -> usize {
         self.work.history().len()
+    }
+
+    /// The word of this index that is published.
+    fn word(&self, index: u32) -> u32
+        ensures { result ≡ work_word (state_after work_machine (work_start self.now.work) (work_history self.now.work)) index }
+    {
+        self.work.word(index)
+    }
+
+    /// The words of both items, and of an item that isn't there.
+    fn words(&self) -> [u32; 3] {
+        [self.word(0), self.word(1), self.word(2)]
     }
 
     /// How many entries are handed out at the end.
@@ -181,5 +195,25 @@ fn one_flush(rt: HostRuntime) -> Result<(), Fail> {
             (0, Remaining(0), "Some(Number(0))"),
         ],
     )?;
+    Ok(())
+}
+
+/// What is published of the items, after each attempt.
+#[test]
+fn busy_flags(rt: HostRuntime) -> Result<(), Fail> {
+    let mut tried = Tried::new(rt.alloc())?;
+    assert_eq!(&rt; tried.words(), [0, 0, 0]);
+    for (row, words) in [
+        ((0, Submit(0, Some(0)), "Some(Sub(Fresh(0, 0)))"), [4, 0, 0]),
+        ((0, Schedule(1, 0, 3), "Some(Armed)"), [4, 8, 0]),
+        ((1, Begin(0), "Some(Run(0, 0))"), [1, 8, 0]),
+        ((0, FlushStart(0), "Some(WaitFor(0))"), [17, 8, 0]),
+        ((0, Cancel(0), "Some(Flags(19))"), [19, 8, 0]),
+        ((0, Cancel(1), "Some(Flags(0))"), [19, 0, 0]),
+        ((1, End(0), "Some(Done)"), [0, 0, 0]),
+    ] {
+        tried.told(&rt, rt.alloc(), &row)?;
+        assert_eq!(&rt; tried.words(), words);
+    }
     Ok(())
 }

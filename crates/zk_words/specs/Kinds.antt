@@ -1,6 +1,6 @@
 use Rattle.std.specs.Prelude.{Bool, true, false}
 use Rattle.zk_words.specs.declared.kind.Kind.{Kind}
-use Rattle.zk_words.specs.declared.kind.Kind.TheVariants.{Thread, Queue, Item, Sem, Msgq}
+use Rattle.zk_words.specs.declared.kind.Kind.TheVariants.{Thread, Queue, Item, Sem, Msgq, Signal}
 use Rattle.zk_words.specs.declared.kind.Need.{Need}
 use Rattle.zk_words.specs.declared.kind.Need.TheVariants as need
 
@@ -11,6 +11,7 @@ same_kind Queue Queue = true
 same_kind Item Item = true
 same_kind Sem Sem = true
 same_kind Msgq Msgq = true
+same_kind Signal Signal = true
 same_kind kind other = false
 
 -- whether an object of a kind meets a need
@@ -19,6 +20,7 @@ meets need.Queue kind = same_kind kind Queue
 meets need.Item kind = same_kind kind Item
 meets need.Sem kind = same_kind kind Sem
 meets need.Msgq kind = same_kind kind Msgq
+meets need.Signal kind = same_kind kind Signal
 
 -- whether an object of a kind can play a script: a thread, or an item by its handler
 abbrev pub plays_script : Kind → Bool
@@ -27,6 +29,7 @@ plays_script Queue = false
 plays_script Item = true
 plays_script Sem = false
 plays_script Msgq = false
+plays_script Signal = false
 
 -- whether a declaration of a kind makes a player: a thread, or the worker of a queue
 abbrev pub makes_player : Kind → Bool
@@ -35,3 +38,4 @@ makes_player Queue = true
 makes_player Item = false
 makes_player Sem = false
 makes_player Msgq = false
+makes_player Signal = false

@@ -28,6 +28,10 @@ sem = Object need.Sem
 abbrev pub msgq : Slot
 msgq = Object need.Msgq
 
+-- a signal
+abbrev pub signal : Slot
+signal = Object need.Signal
+
 -- a delay in ticks
 abbrev pub delay : Slot
 delay = Number 0 1000000
@@ -56,6 +60,10 @@ size = Number 1 64
 abbrev pub capacity : Slot
 capacity = Number 1 256
 
+-- the result that a signal is raised with
+abbrev pub result : Slot
+result = Number 0 65535
+
 -- a line of just these slots
 abbrev pub exactly : List ℕ → List Slot → Form
 exactly first slots = record { first = first; slots = slots; rest = Nothing }
@@ -71,6 +79,7 @@ kind_row kind.Queue = exactly (codes "queue") (New ∷ Priority ∷ Either State
 kind_row kind.Item = exactly (codes "item") (New ∷ [])
 kind_row kind.Sem = perhaps (codes "sem") (New ∷ initial ∷ limit ∷ []) Raw
 kind_row kind.Msgq = perhaps (codes "msgq") (New ∷ size ∷ capacity ∷ []) Raw
+kind_row kind.Signal = perhaps (codes "signal") (New ∷ []) Raw
 
 -- the calls
 abbrev pub call_row : Word → Form
@@ -81,6 +90,7 @@ call_row word.Flush = exactly (codes "flush") (item ∷ [])
 call_row word.Schedule = exactly (codes "schedule") (item ∷ queue ∷ delay ∷ [])
 call_row word.Reschedule = exactly (codes "reschedule") (item ∷ queue ∷ delay ∷ [])
 call_row word.Remaining = exactly (codes "remaining") (item ∷ [])
+call_row word.Busy = exactly (codes "busy") (item ∷ [])
 call_row word.Start = exactly (codes "start") (queue ∷ [])
 call_row word.Drain = exactly (codes "drain") (queue ∷ Either Drain ∷ [])
 call_row word.Unplug = exactly (codes "unplug") (queue ∷ [])
@@ -96,6 +106,9 @@ call_row word.PeekAt = exactly (codes "peekat") (msgq ∷ index ∷ [])
 call_row word.Purge = exactly (codes "purge") (msgq ∷ [])
 call_row word.Used = exactly (codes "used") (msgq ∷ [])
 call_row word.Free = exactly (codes "free") (msgq ∷ [])
+call_row word.Raise = exactly (codes "raise") (signal ∷ result ∷ [])
+call_row word.Clear = exactly (codes "clear") (signal ∷ [])
+call_row word.Check = exactly (codes "check") (signal ∷ [])
 
 -- the table: the form of each line behind the first
 abbrev pub row_of : Head → Form
@@ -108,9 +121,10 @@ row_of (Call word) = call_row word
 abbrev pub heads : List Head
 heads =
     Declare kind.Thread ∷ Declare kind.Queue ∷ Declare kind.Item
-    ∷ Declare kind.Sem ∷ Declare kind.Msgq ∷ Script ∷ End
+    ∷ Declare kind.Sem ∷ Declare kind.Msgq ∷ Declare kind.Signal ∷ Script ∷ End
     ∷ Call word.Submit ∷ Call word.Cancel ∷ Call word.CancelSync ∷ Call word.Flush
-    ∷ Call word.Schedule ∷ Call word.Reschedule ∷ Call word.Remaining
+    ∷ Call word.Schedule ∷ Call word.Reschedule ∷ Call word.Remaining ∷ Call word.Busy
     ∷ Call word.Start ∷ Call word.Drain ∷ Call word.Unplug ∷ Call word.Tick
     ∷ Call word.Take ∷ Call word.Give ∷ Call word.Reset ∷ Call word.Count
-    ∷ Call word.Put ∷ Call word.Get ∷ Call word.Peek ∷ Call word.PeekAt ∷ Call word.Purge ∷ Call word.Used ∷ Call word.Free ∷ []
+    ∷ Call word.Put ∷ Call word.Get ∷ Call word.Peek ∷ Call word.PeekAt ∷ Call word.Purge ∷ Call word.Used ∷ Call word.Free
+    ∷ Call word.Raise ∷ Call word.Clear ∷ Call word.Check ∷ []

@@ -5,9 +5,8 @@ use Rattle.std.specs.Str.{bytes_eq}
 -- the first words of the grammar that have no row yet: declarations, then calls, service by service
 abbrev pub unbuilt : List (List ℕ)
 unbuilt =
-    codes "signal" ∷ codes "listener" ∷ codes "sub" ∷ codes "chan" ∷ codes "allow"
-    ∷ codes "busy"
-    ∷ codes "raise" ∷ codes "clear" ∷ codes "check" ∷ codes "poll"
+    codes "listener" ∷ codes "sub" ∷ codes "chan" ∷ codes "allow"
+    ∷ codes "poll"
     ∷ codes "claim" ∷ codes "finish" ∷ codes "publish" ∷ codes "notify" ∷ codes "read" ∷ codes "mask" ∷ codes "enable"
     ∷ codes "subwait"
     ∷ codes "grant" ∷ codes "release" ∷ codes "revoke" ∷ codes "public" ∷ codes "init" ∷ codes "user" ∷ []

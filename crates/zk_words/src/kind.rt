@@ -9,6 +9,7 @@ pub enum Kind {
     Item,
     Sem,
     Msgq,
+    Signal,
 }
 
 /// What a call asks of an object.
@@ -18,6 +19,7 @@ pub enum Need {
     Item,
     Sem,
     Msgq,
+    Signal,
 }
 
 /// Whether two kinds are one.
@@ -30,6 +32,7 @@ pub fn same_kind(kind: Kind, other: Kind) -> bool
         (Kind::Item, Kind::Item) => true,
         (Kind::Sem, Kind::Sem) => true,
         (Kind::Msgq, Kind::Msgq) => true,
+        (Kind::Signal, Kind::Signal) => true,
         _ => false,
     }
 }
@@ -43,6 +46,7 @@ pub fn meets(need: Need, kind: Kind) -> bool
         Need::Item => same_kind(kind, Kind::Item),
         Need::Sem => same_kind(kind, Kind::Sem),
         Need::Msgq => same_kind(kind, Kind::Msgq),
+        Need::Signal => same_kind(kind, Kind::Signal),
     }
 }
 
@@ -56,6 +60,7 @@ pub fn plays_script(kind: Kind) -> bool
         Kind::Item => true,
         Kind::Sem => false,
         Kind::Msgq => false,
+        Kind::Signal => false,
     }
 }
 
@@ -69,5 +74,6 @@ pub fn makes_player(kind: Kind) -> bool
         Kind::Item => false,
         Kind::Sem => false,
         Kind::Msgq => false,
+        Kind::Signal => false,
     }
 }

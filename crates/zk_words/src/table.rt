@@ -32,6 +32,8 @@ const SEM: Slot = Slot::Object(Need::Sem);
 
 const MSGQ: Slot = Slot::Object(Need::Msgq);
 
+const SIGNAL: Slot = Slot::Object(Need::Signal);
+
 const DELAY: Slot = Slot::Number(0, 1_000_000);
 
 const TICKS: Slot = Slot::Number(1, 1_000_000);
@@ -45,6 +47,8 @@ const LIMIT: Slot = Slot::Number(1, 1_000_000);
 const SIZE: Slot = Slot::Number(1, 64);
 
 const CAPACITY: Slot = Slot::Number(1, 256);
+
+const RESULT: Slot = Slot::Number(0, 65_535);
 
 /// The form of a line.
 pub fn row_of(head: Head) -> Row
@@ -93,6 +97,7 @@ fn kind_row(kind: Kind) -> Row
         Kind::Item => exactly(b"item", &[Slot::New]),
         Kind::Sem => perhaps(b"sem", &[Slot::New, INITIAL, LIMIT], Slot::Raw),
         Kind::Msgq => perhaps(b"msgq", &[Slot::New, SIZE, CAPACITY], Slot::Raw),
+        Kind::Signal => perhaps(b"signal", &[Slot::New], Slot::Raw),
     }
 }
 
@@ -107,6 +112,7 @@ fn call_row(word: Word) -> Row
         Word::Schedule => exactly(b"schedule", &[ITEM, QUEUE, DELAY]),
         Word::Reschedule => exactly(b"reschedule", &[ITEM, QUEUE, DELAY]),
         Word::Remaining => exactly(b"remaining", &[ITEM]),
+        Word::Busy => exactly(b"busy", &[ITEM]),
         Word::Start => exactly(b"start", &[QUEUE]),
         Word::Drain => exactly(b"drain", &[QUEUE, Slot::Either(Choice::Drain)]),
         Word::Unplug => exactly(b"unplug", &[QUEUE]),
@@ -122,6 +128,9 @@ fn call_row(word: Word) -> Row
         Word::Purge => exactly(b"purge", &[MSGQ]),
         Word::Used => exactly(b"used", &[MSGQ]),
         Word::Free => exactly(b"free", &[MSGQ]),
+        Word::Raise => exactly(b"raise", &[SIGNAL, RESULT]),
+        Word::Clear => exactly(b"clear", &[SIGNAL]),
+        Word::Check => exactly(b"check", &[SIGNAL]),
     }
 }
 
@@ -148,6 +157,7 @@ pub fn head_of(first: &[u8]) -> Option<Head>
         Head::Declare(Kind::Item),
         Head::Declare(Kind::Sem),
         Head::Declare(Kind::Msgq),
+        Head::Declare(Kind::Signal),
         Head::Script,
         Head::End,
         Head::Call(Word::Submit),
@@ -157,6 +167,7 @@ pub fn head_of(first: &[u8]) -> Option<Head>
         Head::Call(Word::Schedule),
         Head::Call(Word::Reschedule),
         Head::Call(Word::Remaining),
+        Head::Call(Word::Busy),
         Head::Call(Word::Start),
         Head::Call(Word::Drain),
         Head::Call(Word::Unplug),
@@ -172,6 +183,9 @@ pub fn head_of(first: &[u8]) -> Option<Head>
         Head::Call(Word::Purge),
         Head::Call(Word::Used),
         Head::Call(Word::Free),
+        Head::Call(Word::Raise),
+        Head::Call(Word::Clear),
+        Head::Call(Word::Check),
     );
     None
 }

@@ -21,15 +21,10 @@ fn unbuilt() -> &'static [&'static [u8]]
     ensures { map (λ text. text.now) result.now ≡ unbuilt }
 {
     &[
-        b"signal",
         b"listener",
         b"sub",
         b"chan",
         b"allow",
-        b"busy",
-        b"raise",
-        b"clear",
-        b"check",
         b"poll",
         b"claim",
         b"finish",

@@ -10,6 +10,7 @@ pub enum Word {
     Schedule,
     Reschedule,
     Remaining,
+    Busy,
     Start,
     Drain,
     Unplug,
@@ -25,6 +26,9 @@ pub enum Word {
     Purge,
     Used,
     Free,
+    Raise,
+    Clear,
+    Check,
 }
 
 /// What a line's first word says that the line is.

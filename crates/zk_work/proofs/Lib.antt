@@ -7,6 +7,7 @@ mod Beside
 mod Cancelling
 mod Changes
 mod Delaying
+pub mod Flags
 mod Fresh
 mod Items
 mod LastQueues
@@ -15,3 +16,4 @@ mod Replies
 mod Sound
 mod Steps
 mod Tickets
+mod Words

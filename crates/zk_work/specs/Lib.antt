@@ -3,3 +3,4 @@ pub mod EngineState
 pub mod Laws
 pub mod Seen
 pub mod Tickets
+pub mod Words

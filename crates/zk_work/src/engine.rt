@@ -46,7 +46,7 @@ pub struct WorkEngine {
 }
 
 impl Model for WorkEngine {
-    ghost use Rattle.std.specs.Prelude.{◌-◌, ◌^◌, ◌≤◌, vec_len, vec_capacity};
+    ghost use Rattle.std.specs.Prelude.{◌≡◌, ◌-◌, ◌^◌, ◌≤◌, length, vec_len, vec_capacity};
     ghost use Rattle.zk_work.specs.EngineState.{EngineState, EngineView};
 
     ghost Value = { EngineView };
@@ -66,7 +66,10 @@ impl Model for WorkEngine {
       room = vec_capacity a.waits - vec_len a.waits;
     } };
 
-    ghost invariant = { λ a. a.running ≤ 2 ^ 32 };
+    ghost invariant = { λ a. record {
+      runs : a.running ≤ 2 ^ 32;
+      items : length a.last.items ≡ a.active.items;
+    } };
 }
 
 /// No queue for each item.
@@ -144,7 +147,6 @@ impl WorkEngine {
     /// What the answers ask of an item.
     fn item(&self, item: u32) -> Item
         requires item { item < self.now.state.active.items }
-        requires last { item < length self.now.state.last }
         ensures { result ≡ item_of self.now.state item }
     {
         let busy = busy_with(&self.active, item);
@@ -218,7 +220,6 @@ impl WorkEngine {
     /// The busy flags of the item.
     fn flags(&self, item: u32) -> BusyFlags
         requires item { item < self.now.state.active.items }
-        requires last { item < length self.now.state.last }
         ensures { result.0 ≡ flags_of self.now.state item }
     {
         let armed = self.timeouts.is_armed(item);
@@ -314,7 +315,6 @@ impl WorkEngine {
     /// Whether the item is delayed, queued or being cancelled.
     fn is_pending(&self, item: u32) -> bool
         requires item { item < self.now.state.active.items }
-        requires last { item < length self.now.state.last }
         ensures { result ≡ is_pending_in self.now.state item }
     {
         is_pending(self.item(item), self.timeouts.is_armed(item))
@@ -673,6 +673,7 @@ impl Engine for WorkEngine {
     ghost use Rattle.zk_model_work.specs.Machine.{work_machine};
     ghost use Rattle.zk_work.specs.EngineState.{StandsFor, work_owed, work_closes, work_grows};
     ghost use Rattle.zk_work.specs.Laws.{counts, ranges, adds, gives};
+    ghost use Rattle.zk_work.specs.Words.{work_word};
 
     ghost stands_for = { λ e. StandsFor e.state };
 
@@ -687,6 +688,12 @@ impl Engine for WorkEngine {
     ghost closes = { λ s who op. work_closes op };
 
     ghost grows = { work_grows };
+
+    ghost word = { work_word };
+
+    ghost WORDS = { 256 };
+
+    const WORDS: u32 = 256;
 
     fn step(&mut self, who: Who, op: &WorkOp) -> Result<Option<(WorkReply, WorkReply)>, NoMemory> {
         if let WorkOp::Announce(ticks) = *op {
@@ -710,6 +717,13 @@ impl Engine for WorkEngine {
 
     fn owed(&self) -> u64 {
         self.running + self.waits.len() as u64
+    }
+
+    fn word(&self, index: u32) -> u32 {
+        if index as usize >= self.last.len() {
+            return 0;
+        }
+        u32::from(self.flags(index).bits())
     }
 
     fn reserve(&mut self) -> Result<(), NoMemory> {

@@ -48,6 +48,7 @@ impl Service for Work {
     ghost use Rattle.zk_model_work.specs.Machine.{work_machine};
     ghost use Rattle.zk_work.specs.EngineState.{work_closes, work_grows};
     ghost use Rattle.zk_work.specs.Seen.{work_start, work_history};
+    ghost use Rattle.zk_work.specs.Words.{work_word};
 
     ghost machine = { work_machine };
 
@@ -61,12 +62,22 @@ impl Service for Work {
 
     ghost grows = { work_grows };
 
+    ghost word = { work_word };
+
+    ghost WORDS = { 256 };
+
+    const WORDS: u32 = 256;
+
     fn act(&mut self, who: Who, step: u32, op: WorkOp) -> Result<Option<WorkReply>, NoMemory> {
         self.inner.act(who, step, op)
     }
 
     fn reserve(&mut self) -> Result<(), NoMemory> {
         self.inner.reserve()
+    }
+
+    fn word(&self, index: u32) -> u32 {
+        self.inner.word(index)
     }
 
     fn room(&self) -> u64 {

@@ -14,6 +14,8 @@ use Rattle.zk_model_wait.specs.declared.msgq.MsgqOp.{MsgqOp}
 use Rattle.zk_model_wait.specs.declared.msgq.MsgqReply.{MsgqReply}
 use Rattle.zk_model_wait.specs.declared.sem.SemOp.{SemOp}
 use Rattle.zk_model_wait.specs.declared.sem.SemReply.{SemReply}
+use Rattle.zk_model_wait.specs.declared.signal.SignalOp.{SignalOp}
+use Rattle.zk_model_wait.specs.declared.signal.SignalReply.{SignalReply}
 use Rattle.zk_worker.specs.declared.steps.Step.{Step}
 use Rattle.zk_worker.specs.declared.steps.Step.TheVariants as steps
 use Rattle.zk_worker.specs.declared.steps.StepReply.{StepReply}
@@ -106,14 +108,14 @@ module _ {O R : Type 0} (number : ℕ) where
 
 -- the looks of one signal, and of each
 module _ {A : Type 0} where
-  longer-none : (xs : List A) → Longer xs xs
+  pub longer-none : (xs : List A) → Longer xs xs
   longer-none xs = ([], sym (append-nil xs))
 
   longer-both : (old mid new : List A) → Longer old mid → Longer mid new → Longer old new
   longer-both old mid new first then_ =
       (first.0 ++ then_.0, then_.1 ∙ ap (λ (xs : List A). xs ++ then_.0) first.1 ∙ append_assoc old first.0 then_.0)
 
-  longer-none_each : (xss : List (List A)) → AllZip Longer xss xss
+  pub longer-none_each : (xss : List (List A)) → AllZip Longer xss xss
   longer-none_each [] = tt
   longer-none_each (xs ∷ xss) = (longer-none xs, longer-none_each xss)
 
@@ -124,7 +126,7 @@ module _ {A : Type 0} where
   longer-both_each (o ∷ os) (m ∷ ms) [] first then_ = absurd then_
   longer-both_each (o ∷ os) (m ∷ ms) (n ∷ ns) first then_ = (longer-both o m n first.0 then_.0, longer-both_each os ms ns first.1 then_.1)
 
-looks-none : (looks : Option (List (List Seen))) → LooksGrew looks looks
+pub looks-none : (looks : Option (List (List Seen))) → LooksGrew looks looks
 looks-none None = tt
 looks-none (Some looks) = longer-none_each looks
 
@@ -143,6 +145,7 @@ between-none false number shown = record {
   clock = grew-none number shown.clock;
   sems = grew-none_each number shown.sems;
   msgqs = grew-none_each number shown.msgqs;
+  signals = grew-none_each number shown.signals;
   looks = looks-none shown.looks;
   looked = refl;
 }
@@ -155,6 +158,7 @@ between-both false number old mid new first then_ = record {
   clock = grew-both number old.clock mid.clock new.clock first.clock then_.clock;
   sems = grew-both_each number old.sems mid.sems new.sems first.sems then_.sems;
   msgqs = grew-both_each number old.msgqs mid.msgqs new.msgqs first.msgqs then_.msgqs;
+  signals = grew-both_each number old.signals mid.signals new.signals first.signals then_.signals;
   looks = looks-both old.looks mid.looks new.looks first.looks then_.looks;
   looked = then_.looked ∙ first.looked;
 }
@@ -172,6 +176,10 @@ shown-longer number old new (spots.Sem object place) b grew is =
     entry-longer_each number step_of old.sems new.sems object place b grew.sems is
 shown-longer number old new (spots.Msgq object place) b grew is =
     entry-longer_each number step_of old.msgqs new.msgqs object place b grew.msgqs is
+shown-longer number old new (spots.Signal object place) b grew is =
+    entry-longer_each number step_of old.signals new.signals object place b grew.signals is
+shown-longer number old new (spots.LookItem object flags at) b grew is = is
+shown-longer number old new (spots.LookSignal object seen) b grew is = is
 
 -- and so does the step that it stands for
 pub stands-longer : (number : ℕ) (old new : Shown) → AllGrew number old new → (spot : Spot) (made : Step × StepReply) →
@@ -186,6 +194,11 @@ stands-longer number old new grew (spots.Sem object place) made is =
 stands-longer number old new grew (spots.Msgq object place) made is =
     entry-longer_each number
     (λ e. (steps.Msgq object e.op, step_replies.Msgq object e.reply place)) old.msgqs new.msgqs object place made grew.msgqs is
+stands-longer number old new grew (spots.Signal object place) made is =
+    entry-longer_each number
+    (λ e. (steps.Signal object e.op, step_replies.Signal object e.reply place)) old.signals new.signals object place made grew.signals is
+stands-longer number old new grew (spots.LookItem object flags at) made is = is
+stands-longer number old new grew (spots.LookSignal object seen) made is = is
 
 -- and of this player nothing else is
 shown-back : (number step : ℕ) (old new : Shown) (spot : Spot) → AllGrew number old new → shown_at new spot ≡ Some (number, step) → shown_at old spot ≡ Some (number, step)
@@ -195,6 +208,10 @@ shown-back number step old new (spots.Sem object place) grew is =
     entry-back_each number step old.sems new.sems object place grew.sems is
 shown-back number step old new (spots.Msgq object place) grew is =
     entry-back_each number step old.msgqs new.msgqs object place grew.msgqs is
+shown-back number step old new (spots.Signal object place) grew is =
+    entry-back_each number step old.signals new.signals object place grew.signals is
+shown-back number step old new (spots.LookItem object flags at) grew is = is
+shown-back number step old new (spots.LookSignal object seen) grew is = is
 
 -- a log is shown as before
 pub log-still : (alone : Bool) (number : ℕ) (log : List Spot) (old new : Shown) → ShowsLog old number log → Between alone number old new → ShowsLog new number log
@@ -232,6 +249,9 @@ log-none decls number [] none = record {
     nothing_there step (spots.Clock place) is = cc
     nothing_there step (spots.Sem object place) is = none-there step_of decls object place (number, step) is
     nothing_there step (spots.Msgq object place) is = none-there step_of decls object place (number, step) is
+    nothing_there step (spots.Signal object place) is = none-there step_of decls object place (number, step) is
+    nothing_there step (spots.LookItem object flags at) is = cc
+    nothing_there step (spots.LookSignal object seen) is = cc
 log-none decls number (spot ∷ log) none = absurd (cc)
 
 -- a step above all that are shown of its player is above those of its entries at each service
@@ -250,3 +270,8 @@ pub above-msgqs : (shown : Shown) (number next object : ℕ) (h : List (Entry Ms
     slice_get shown.msgqs object ≡ Some h → IsLater shown number next → IsAbove h number next
 above-msgqs shown number next object h there later =
     above-each number shown.msgqs object next h there (λ place step is. later.entries step (spots.Msgq object place) is)
+
+pub above-signals : (shown : Shown) (number next object : ℕ) (h : List (Entry SignalOp SignalReply)) →
+    slice_get shown.signals object ≡ Some h → IsLater shown number next → IsAbove h number next
+above-signals shown number next object h there later =
+    above-each number shown.signals object next h there (λ place step is. later.entries step (spots.Signal object place) is)

@@ -1,4 +1,4 @@
--- The attempts of a player name items, queues, semaphores and message queues that are declared.
+-- The attempts of a player name items, queues, semaphores, message queues and signals that are declared.
 use Rattle.std.proofs.Common.{◌≡◌, ℕ, zero, suc, ◌+◌, Bool, true, false, Option, Some, None, is_some, List, [], ◌∷◌, length, All, refl, ap, subst, arith, nat_lt, ◌&&◌}
 use Rattle.std.specs.Option.{option_map, option_map_or}
 use Rattle.std.specs.List.{slice_get, list_all}
@@ -11,7 +11,7 @@ use Rattle.zk_line.specs.declared.types.Decl.TheVariants as decl_kinds
 use Rattle.zk_line.specs.declared.types.Ref.TheVariants.{Known}
 use Rattle.zk_line.specs.declared.types.Call.{Call}
 use Rattle.zk_line.specs.declared.types.Call.TheVariants as calls
-use Rattle.zk_line.specs.Objects.{places, is_queue, is_item, is_sem, is_msgq, number_of, is_at, size_at}
+use Rattle.zk_line.specs.Objects.{places, is_queue, is_item, is_sem, is_msgq, is_signal, number_of, is_at, size_at}
 use Rattle.zk_scenario.specs.Players.{players, calls_of}
 use Rattle.zk_scenario.specs.Parts.{Parts}
 use Rattle.zk_model_wait.specs.declared.clock.ClockOp.TheVariants as clock_ops
@@ -46,12 +46,12 @@ use Rattle.zk_worker.specs.Calls.{plan_of, closing_step, open_step, end_step, qu
 use Rattle.zk_worker.specs.Places.{At}
 use Rattle.zk_worker.specs.Protocol.{worker_attempts, call_attempts, role_attempts, frames_attempts, IsAhead, after, frames_after, frames_progress, entered, first_frame, role_at, starting, start_at}
 use Rattle.zk_worker.specs.Families.{is_declared}
-use Rattle.zk_worker.specs.Machines.{sem_start, msgq_start}
+use Rattle.zk_worker.specs.Machines.{sem_start, msgq_start, signal_start}
 use Rattle.zk_worker.specs.Ranges.{step_fits, role_fits, FramesFit}
 use Rattle.zk_worker.proofs.Limits.{settled-all, entered-all}
 
 -- an item that a call names is one of the items
-item-fits : (decls : List Decl) (object : ℕ) → is_at is_item decls object ≡ true → nat_lt (number_of decls object) (length (places is_item decls)) ≡ true
+pub item-fits : (decls : List Decl) (object : ℕ) → is_at is_item decls object ≡ true → nat_lt (number_of decls object) (length (places is_item decls)) ≡ true
 item-fits decls object is =
     lt-ltb (number_of decls object) (length (places is_item decls)) (omega (arith, number_of-item decls object is, length-places is_item decls))
 
@@ -96,7 +96,7 @@ delayed-fit decls item queue more fits =
     let second = and_parts (is_at is_queue decls queue) more first.1 in
     both-fit decls item queue (and_from (is_at is_item decls item) (is_at is_queue decls queue) first.0 second.0)
 
--- what a call names as a semaphore or as a message queue is declared as one
+-- what a call names as an object of such a kind is declared as one
 declared-at : {S : Type 0} (start : Decl → Option S) (test : Decl → Bool) (decls : List Decl) (object : ℕ) →
     ((decl : Decl) → test decl ≡ true → is_some (start decl) ≡ true) →
     is_at test decls object ≡ true → is_declared start decls object ≡ true
@@ -124,6 +124,15 @@ msgq-declared decls queue more fits =
     starts (decl_kinds.Msgq name size capacity) is = refl
     starts decl is = absurd (cc)
 
+signal-declared : (decls : List Decl) (signal : ℕ) (more : Bool) → (is_at is_signal decls signal && more) ≡ true →
+    is_declared signal_start decls signal ≡ true
+signal-declared decls signal more fits =
+    declared-at signal_start is_signal decls signal starts (and_parts (is_at is_signal decls signal) more fits).0
+  where
+    starts : (decl : Decl) → is_signal decl ≡ true → is_some (signal_start decl) ≡ true
+    starts (decl_kinds.Signal name) is = refl
+    starts decl is = absurd (cc)
+
 plan_of-fits : (decls : List Decl) (call : Call) → call_fits decls call ≡ true → PlanFits decls (plan_of decls call)
 unfolding PlanFits waiting_fits
 plan_of-fits decls (calls.Submit (Known item) None) fits =
@@ -137,6 +146,7 @@ plan_of-fits decls (calls.Schedule (Known item) (Known queue) delay) fits =
 plan_of-fits decls (calls.Reschedule (Known item) (Known queue) delay) fits =
     delayed-fit decls item queue (is_between 0 1000000 delay && true) fits
 plan_of-fits decls (calls.Remaining (Known item)) fits = item-alone decls item fits
+plan_of-fits decls (calls.Busy (Known item)) fits = (and_parts (is_at is_item decls item) true fits).0
 plan_of-fits decls (calls.Start (Known queue)) fits = queue-first decls queue true fits
 plan_of-fits decls (calls.Drain (Known queue) plug) fits = queue-first decls queue true fits
 plan_of-fits decls (calls.Unplug (Known queue)) fits = queue-first decls queue true fits
@@ -153,6 +163,9 @@ plan_of-fits decls (calls.PeekAt (Known queue) index) fits = msgq-declared decls
 plan_of-fits decls (calls.Purge (Known queue)) fits = msgq-declared decls queue true fits
 plan_of-fits decls (calls.Used (Known queue)) fits = msgq-declared decls queue true fits
 plan_of-fits decls (calls.Free (Known queue)) fits = msgq-declared decls queue true fits
+plan_of-fits decls (calls.Raise (Known signal) value) fits = signal-declared decls signal (is_between 0 65535 value && true) fits
+plan_of-fits decls (calls.Clear (Known signal)) fits = signal-declared decls signal true fits
+plan_of-fits decls (calls.Check (Known signal)) fits = signal-declared decls signal true fits
 
 -- the steps of a wait are at its object
 open-fits : (decls : List Decl) (waiting : Waiting) (waits : Bool) → waiting_fits decls waiting ≡ true →

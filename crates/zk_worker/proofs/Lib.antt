@@ -8,5 +8,6 @@ pub mod Families
 pub mod Between
 pub mod ShownSteps
 pub mod Looking
+pub mod SignalWrites
 pub mod Following
 pub mod Trying

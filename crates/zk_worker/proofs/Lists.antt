@@ -31,6 +31,12 @@ module _ {A : Type 0} where
   there-longer (y ∷ xs) ys zero x is = is
   there-longer (y ∷ xs) ys (suc p) x is = there-longer xs ys p x is
 
+  -- what is at a place of the front of a list
+  pub at-front : (xs ys : List A) (p : ℕ) → p < length xs → slice_get (xs ++ ys) p ≡ slice_get xs p
+  at-front [] ys p below = absurd (omega arith)
+  at-front (x ∷ xs) ys zero below = refl
+  at-front (x ∷ xs) ys (suc p) below = at-front xs ys p (omega arith)
+
   -- what is put behind a list is at the place of its length
   pub there-behind : (xs : List A) (x : A) → slice_get (xs ++ x ∷ []) (length xs) ≡ Some x
   there-behind [] x = refl

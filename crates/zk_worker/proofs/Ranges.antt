@@ -1,12 +1,17 @@
 -- The attempts of a player are in range at the machines of its scenario.
-use Rattle.std.proofs.Common.{◌≡◌, ℕ, Bool, true, List, [], ◌∷◌, length, map, sym, refl, subst, ◌∙◌, arith}
+use Rattle.std.proofs.Common.{◌≡◌, ℕ, zero, suc, ◌+◌, ◌<◌, Bool, true, false, cond, nat_lt, Option, Some, None, is_some, List, [], ◌∷◌, length, map, sym, refl, ap, subst, ◌∙◌, arith}
+use Rattle.std.specs.List.{slice_get, range_with_len}
+use Rattle.std.specs.Option.{option_map, option_map_or, option_and_then}
+use Rattle.std.proofs.lemmas.Option.{slice_get-map}
 use Rattle.std.proofs.lemmas.List.{length-map}
 use Rattle.std.proofs.lemmas.List.FromFn.{length-range_with_len}
+use Rattle.zk_line.specs.declared.types.Decl.{Decl}
 use Rattle.zk_scenario.specs.Parts.{Parts}
 use Rattle.zk_scenario.specs.Valid.{IsValid}
-use Rattle.zk_line.specs.Objects.{places, is_thread, is_queue, is_item}
+use Rattle.zk_line.specs.Objects.{places, number_of, is_at, is_thread, is_queue, is_item}
 use Rattle.zk_model_wait.specs.Msgq.{msgq_machine}
 use Rattle.zk_model_wait.specs.Sem.{sem_machine}
+use Rattle.zk_model_wait.specs.Signal.{signal_machine}
 use Rattle.zk_model_work.specs.State.{fresh_queues}
 use Rattle.zk_model_work.specs.Machine.{is_among}
 use Rattle.zk_worker.specs.declared.steps.Step.{Step}
@@ -14,9 +19,10 @@ use Rattle.zk_worker.specs.declared.steps.Step.TheVariants as steps
 use Rattle.zk_worker.specs.Places.{At}
 use Rattle.zk_worker.specs.Protocol.{IsAhead}
 use Rattle.zk_worker.specs.Ranges.{FramesFit, step_fits}
-use Rattle.zk_worker.specs.Machines.{Machines, machines_of, workers, is_on, sem_start, msgq_start}
+use Rattle.zk_worker.specs.Machines.{Machines, machines_of, workers, is_on, item_number, items_of, sem_start, msgq_start, signal_start}
 use Rattle.zk_worker.specs.Attempt.{takes}
-use Rattle.zk_worker.proofs.Fits.{ahead-fits}
+use Rattle.zk_worker.specs.Families.{is_declared}
+use Rattle.zk_worker.proofs.Fits.{ahead-fits, item-fits}
 use Rattle.zk_worker.proofs.Families.{takes-declared_one}
 
 length-fresh_queues : (workers : List ℕ) (started : List Bool) → length workers ≡ length started → length (fresh_queues workers started) ≡ length workers
@@ -29,6 +35,33 @@ pub same-lengths : (s : Parts) → length (workers s.decls) ≡ length (map (is_
 same-lengths s =
     length-range_with_len (length (places is_thread s.decls)) (length (places is_queue s.decls)) ∙ sym (length-map (places is_queue s.decls) (is_on s.decls))
 
+-- what is declared as one of a kind is declared
+is_at-below : (test : Decl → Bool) (decls : List Decl) (object : ℕ) → is_at test decls object ≡ true → object < length decls
+is_at-below test [] object is = absurd (cc)
+is_at-below test (d ∷ ds) zero is = omega arith
+is_at-below test (d ∷ ds) (suc object) is = let more = is_at-below test ds object is in omega arith
+
+slice_get-range : (from many k : ℕ) → k < many → slice_get (range_with_len from many) k ≡ Some (from + k)
+slice_get-range from zero k below = absurd (omega arith)
+slice_get-range from (suc many) zero below = ap (λ (n : ℕ). Some n) (omega arith)
+slice_get-range from (suc many) (suc k) below = slice_get-range (from + 1) many k (omega arith) ∙ ap (λ (n : ℕ). Some n) (omega arith)
+
+-- the number that is kept of a declared object is its number as an item
+item-there : (decls : List Decl) (object : ℕ) → object < length decls → slice_get (items_of decls) object ≡ Some (item_number decls object)
+item-there decls object below =
+    slice_get-map (item_number decls) (range_with_len 0 (length decls)) object
+    ∙ ap (option_map (item_number decls)) (slice_get-range 0 (length decls) object below ∙ ap (λ (n : ℕ). Some n) (omega arith))
+
+number-there : (decls : List Decl) (object : ℕ) → is_at is_item decls object ≡ true → item_number decls object ≡ Some (number_of decls object)
+number-there decls object is = ap (λ (b : Bool). cond b (Some (number_of decls object)) None) is
+
+-- what is declared as one of a kind has the state that it starts in
+starts-declared : {S : Type 0} (start : Decl → Option S) (decls : List Decl) (object : ℕ) → is_declared start decls object ≡ true →
+    is_some (option_and_then (λ (start : Option S). start) (slice_get (map start decls) object)) ≡ true
+starts-declared start [] object is = absurd (cc)
+starts-declared start (d ∷ ds) zero is = is
+starts-declared start (d ∷ ds) (suc object) is = starts-declared start ds object is
+
 -- the services of a scenario take all that is declared
 pub takes-declared : (s : Parts) (step : Step) → step_fits s.decls step ≡ true → takes (machines_of s) step ≡ true
 takes-declared s (steps.Work op) fits =
@@ -38,6 +71,12 @@ takes-declared s (steps.Work op) fits =
 takes-declared s (steps.Clock op) fits = refl
 takes-declared s (steps.Sem object op) fits = takes-declared_one sem_machine sem_start s.decls object op (λ start. refl) fits
 takes-declared s (steps.Msgq object op) fits = takes-declared_one msgq_machine msgq_start s.decls object op (λ start. refl) fits
+takes-declared s (steps.Signal object op) fits = takes-declared_one signal_machine signal_start s.decls object op (λ start. refl) fits
+takes-declared s (steps.LookItem object) fits =
+    ap (λ (item : Option ℕ). option_map_or (λ item. nat_lt item (length (places is_item s.decls))) item false)
+    (ap (option_and_then (λ (item : Option ℕ). item)) (item-there s.decls object (is_at-below is_item s.decls object fits)) ∙ number-there s.decls object fits)
+    ∙ item-fits s.decls object fits
+takes-declared s (steps.LookSignal object must) fits = starts-declared signal_start s.decls object fits
 
 -- and so each attempt of a player of a valid scenario
 pub ahead-takes : (s : Parts) (m : Machines) (at : At) → IsValid s → m ≡ machines_of s → FramesFit s.decls at.frames → (step : Step) → IsAhead s at step → takes m step ≡ true

@@ -1,9 +1,11 @@
 -- What is shown of a player that makes a step.
-use Rattle.std.proofs.Common.{◌≡◌, ◌≢◌, ◌⊎◌, inl, inr, ℕ, ◌+◌, ◌≤◌, Bool, false, Option, Some, None, List, [], ◌∷◌, ◌++◌, length, length-append, refl, sym, ap, subst, ◌∙◌, arith}
+use Rattle.std.proofs.Common.{◌≡◌, ◌≢◌, ◌⊎◌, inl, inr, ℕ, ◌+◌, ◌≤◌, Bool, true, false, not, ◌&&◌, cond, Option, Some, None, List, [], ◌∷◌, ◌++◌, length, length-append, refl, sym, ap, subst, ◌∙◌, arith}
 use Rattle.std.specs.List.{slice_get}
-use Rattle.std.specs.Option.{option_map}
+use Rattle.std.specs.Option.{option_map, option_and_then}
+use Rattle.std.proofs.lemmas.Option.{option_and_then_some}
 use Rattle.zk_base.specs.declared.ids.Who.{Who}
 use Rattle.zk_base.specs.declared.ids.Entry.{Entry}
+use Rattle.zk_base.specs.declared.seen.Seen.{Seen}
 use Rattle.zk_base.specs.History.{entry}
 use Rattle.zk_base.specs.Legal.{state_after}
 use Rattle.zk_scenario.specs.Parts.{Parts}
@@ -13,6 +15,8 @@ use Rattle.zk_model_wait.specs.declared.msgq.MsgqOp.{MsgqOp}
 use Rattle.zk_model_wait.specs.declared.msgq.MsgqReply.{MsgqReply}
 use Rattle.zk_model_wait.specs.declared.sem.SemOp.{SemOp}
 use Rattle.zk_model_wait.specs.declared.sem.SemReply.{SemReply}
+use Rattle.zk_model_wait.specs.declared.signal.SignalOp.{SignalOp}
+use Rattle.zk_model_wait.specs.declared.signal.SignalReply.{SignalReply}
 use Rattle.zk_model_work.specs.declared.ops.WorkOp.{WorkOp}
 use Rattle.zk_model_work.specs.declared.ops.WorkReply.{WorkReply}
 use Rattle.zk_worker.specs.declared.steps.Step.{Step}
@@ -23,11 +27,11 @@ use Rattle.zk_worker.specs.declared.steps.Spot.{Spot}
 use Rattle.zk_worker.specs.declared.steps.Spot.TheVariants as spots
 use Rattle.zk_worker.specs.Places.{At}
 use Rattle.zk_worker.specs.Protocol.{after, spot_of}
-use Rattle.zk_worker.specs.Follows.{made_at, StandsMore}
-use Rattle.zk_worker.specs.Machines.{Machines}
+use Rattle.zk_worker.specs.Follows.{made_at, Stands, StandsMore}
+use Rattle.zk_worker.specs.Machines.{Machines, flags_after}
 use Rattle.zk_worker.specs.Single.{step_of}
 use Rattle.zk_worker.specs.Families.{Family, entry_at, with_entry, answer_at}
-use Rattle.zk_worker.specs.Looks.{LookedBelow}
+use Rattle.zk_worker.specs.Looks.{LookedBelow, looks_at, found_by, look, look_at}
 use Rattle.zk_worker.specs.Shown.{Shown, shown_at, shown_after, is_look, entry_count, ShowsLog}
 use Rattle.zk_worker.specs.Attempt.{reply_in, IsMade}
 use Rattle.zk_worker.proofs.Lists.{at-end, there-longer, there-behind}
@@ -49,6 +53,13 @@ pub record IsMore (shown longer : Shown) (spot : Spot) (step : ℕ × ℕ) (made
 
 pair-same : (a b a' b' : ℕ) → a ≡ a' → b ≡ b' → ◌≡◌ {A = ℕ × ℕ} (a, b) (a', b')
 pair-same a b a' b' one other = cc
+
+-- where each entry stands for what it stood for, so does each look
+stands-still : (old new : Shown) → ((at : Spot) (x : Step × StepReply) → made_at old at ≡ Some x → made_at new at ≡ Some x) →
+    (at : Spot) (x : Step × StepReply) → Stands old at x → Stands new at x
+stands-still old new still (spots.LookItem object flags at) x is = is
+stands-still old new still (spots.LookSignal object seen) x is = is
+stands-still old new still at x is = still at x is
 
 -- the entries of a kind by their places, with one entry more
 pub record IsWith {P E : Type 0} (old new : P → Option E) (place : P) (e : E) : Type 0 where
@@ -91,6 +102,7 @@ module _ {P O R : Type 0} (spot : P → Spot) (step : P → O → Step) (step_re
   pub record Shows (shown : Shown) (entries : P → Option (Entry O R)) : Type 0 where
     pub seen : (p : P) → shown_at shown (spot p) ≡ option_map step_of (entries p)
     pub made : (p : P) → made_at shown (spot p) ≡ option_map (stood p) (entries p)
+    pub entry : (p : P) (x : Step × StepReply) → made_at shown (spot p) ≡ Some x → Stands shown (spot p) x
 
   module _ (old new : Shown) (entries entries' : P → Option (Entry O R)) (before : Shows old entries) (then_ : Shows new entries')
       (elsewhere : (at : Spot) → Elsewhere spot old new at) where
@@ -109,7 +121,10 @@ module _ {P O R : Type 0} (spot : P → Spot) (step : P → O → Step) (step_re
       here = λ not_look. then_.seen place ∙ ap (option_map step_of) more.here;
       stays = stays;
       back = back;
-      stands = record { here = then_.made place ∙ ap (option_map (stood place)) more.here; still = still };
+      stands = record {
+        here = then_.entry place (stood place (entry who number op reply)) (then_.made place ∙ ap (option_map (stood place)) more.here);
+        still = stands-still old new still;
+      };
       count = count;
     }
       where
@@ -182,6 +197,54 @@ msgqs-elsewhere : (shown : Shown) (hs : List (List (Entry MsgqOp MsgqReply))) (a
 msgqs-elsewhere shown hs (spots.Msgq object place) = inl ((object, place), refl)
 msgqs-elsewhere shown hs at = inr (refl, refl)
 
+signals-elsewhere : (shown : Shown) (hs : List (List (Entry SignalOp SignalReply))) (at : Spot) →
+    Elsewhere {P = ℕ × ℕ} (λ p. spots.Signal p.0 p.1) shown (record shown { signals = hs }) at
+signals-elsewhere shown hs (spots.Signal object place) = inl ((object, place), refl)
+signals-elsewhere shown hs at = inr (refl, refl)
+
+-- a look adds no entry
+look-more : (old new : Shown) (spot : Spot) (step : ℕ × ℕ) (made : Step × StepReply) → is_look spot ≡ true → Stands new spot made →
+    ((at : Spot) → (shown_at new at ≡ shown_at old at) × (made_at new at ≡ made_at old at)) → entry_count new ≤ entry_count old + 1 → IsMore old new spot step made
+look-more old new spot step made look stands same count = record {
+  here = λ not_look. absurd (cc);
+  stays = λ at b is. (same at).0 ∙ is;
+  back = λ at b is. inl (sym (same at).0 ∙ is);
+  stands = record { here = stands; still = stands-still old new (λ at x is. (same at).1 ∙ is) };
+  count = count;
+}
+
+looked-elsewhere : (shown : Shown) (looked : Option ℕ) (at : Spot) →
+    (shown_at (record shown { looked = looked }) at ≡ shown_at shown at) × (made_at (record shown { looked = looked }) at ≡ made_at shown at)
+looked-elsewhere shown looked (spots.Work place) = (refl, refl)
+looked-elsewhere shown looked at = (refl, refl)
+
+-- what a look at a signal found that was answered so
+pub record HasLooked (shown : Shown) (object : ℕ) (must : Bool) (reply : StepReply) : Type 0 where
+  pub history : List (Entry SignalOp SignalReply)
+  pub seen : Seen
+  pub there : slice_get shown.signals object ≡ Some history
+  pub found : found_by (looks_at shown.looks object) history ≡ Some seen
+  pub raised : must ≡ true → seen.raised ≡ true
+  pub tells : step_replies.Seen seen ≡ reply
+
+pub look-answered : (shown : Shown) (object : ℕ) (must : Bool) (reply : StepReply) → look_at shown.looks shown.signals object must ≡ Some reply → HasLooked shown object must reply
+look-answered shown object must reply is =
+    let Q : Type 0 = HasLooked shown object must reply in
+    option_and_then_some {P = Q} (λ h. option_and_then (look must) (found_by (looks_at shown.looks object) h)) (slice_get shown.signals object) reply is
+    (λ h there answered. option_and_then_some {P = Q} (look must) (found_by (looks_at shown.looks object) h) reply answered
+    (λ seen found looked. by_raised h seen there found must refl seen.raised refl looked))
+  where
+    by_raised : (h : List (Entry SignalOp SignalReply)) (seen : Seen) → slice_get shown.signals object ≡ Some h → found_by (looks_at shown.looks object) h ≡ Some seen →
+        (must' : Bool) → must ≡ must' → (raised : Bool) → seen.raised ≡ raised → cond (must' && not raised) None (Some (step_replies.Seen seen)) ≡ Some reply → HasLooked shown object must reply
+    by_raised h seen there found true is_must true is_raised looked =
+        record { history = h; seen = seen; there = there; found = found; raised = λ m. is_raised; tells = cc }
+    by_raised h seen there found true is_must false is_raised looked = absurd (cc)
+    by_raised h seen there found false is_must raised is_raised looked =
+        record { history = h; seen = seen; there = there; found = found; raised = λ m. absurd (cc); tells = cc }
+
+nothing-elsewhere : (shown : Shown) (at : Spot) → (shown_at shown at ≡ shown_at shown at) × (made_at shown at ≡ made_at shown at)
+nothing-elsewhere shown at = (refl, refl)
+
 -- a step that its machine answers is shown with it
 pub made-more : (m : Machines) (shown : Shown) (who : Who) (number : ℕ) (step : Step) (reply : StepReply) → reply_in m shown who step ≡ Some reply →
     IsMore shown (shown_after shown who number step reply) (spot_of step reply) (who.number, number) (step, reply)
@@ -189,13 +252,13 @@ made-more m shown who number (steps.Work op) reply answered =
     answered-more shown who number (steps.Work op) (λ r. step_replies.Work r (length shown.work)) (m.work.reply_of (state_after m.work m.work_start shown.work) who op) reply answered (λ r.
     let e = entry who number op r in
     object-more spots.Work (λ p. steps.Work) (λ p r. step_replies.Work r p) shown (record shown { work = shown.work ++ e ∷ [] }) (slice_get shown.work) (slice_get (shown.work ++ e ∷ []))
-    (record { seen = λ p. refl; made = λ p. refl }) (record { seen = λ p. refl; made = λ p. refl }) (work-elsewhere shown (shown.work ++ e ∷ []))
+    (record { seen = λ p. refl; made = λ p. refl; entry = λ p x is. is }) (record { seen = λ p. refl; made = λ p. refl; entry = λ p x is. is }) (work-elsewhere shown (shown.work ++ e ∷ []))
     (length shown.work) who number op r (history-with shown.work e) (omega (arith, length-append shown.work (e ∷ []))))
 made-more m shown who number (steps.Clock op) reply answered =
     answered-more shown who number (steps.Clock op) (λ r. step_replies.Clock r (length shown.clock)) (m.clock.reply_of (state_after m.clock m.clock_start shown.clock) who op) reply answered (λ r.
     let e = entry who number op r in
     object-more spots.Clock (λ p. steps.Clock) (λ p r. step_replies.Clock r p) shown (record shown { clock = shown.clock ++ e ∷ [] }) (slice_get shown.clock) (slice_get (shown.clock ++ e ∷ []))
-    (record { seen = λ p. refl; made = λ p. refl }) (record { seen = λ p. refl; made = λ p. refl }) (clock-elsewhere shown (shown.clock ++ e ∷ []))
+    (record { seen = λ p. refl; made = λ p. refl; entry = λ p x is. is }) (record { seen = λ p. refl; made = λ p. refl; entry = λ p x is. is }) (clock-elsewhere shown (shown.clock ++ e ∷ []))
     (length shown.clock) who number op r (history-with shown.clock e) (omega (arith, length-append shown.clock (e ∷ []))))
 made-more m shown who number (steps.Sem object op) reply answered =
     at-more shown who number (steps.Sem object op) step_replies.Sem m.sems shown.sems object op reply answered (λ h r there.
@@ -203,7 +266,7 @@ made-more m shown who number (steps.Sem object op) reply answered =
     object-more {P = ℕ × ℕ} (λ p. spots.Sem p.0 p.1) (λ p. steps.Sem p.0) (λ p r. step_replies.Sem p.0 r p.1) shown
     (record shown { sems = with_entry shown.sems object e })
     (λ p. entry_at shown.sems p.0 p.1) (λ p. entry_at (with_entry shown.sems object e) p.0 p.1)
-    (record { seen = λ p. refl; made = λ p. refl }) (record { seen = λ p. refl; made = λ p. refl })
+    (record { seen = λ p. refl; made = λ p. refl; entry = λ p x is. is }) (record { seen = λ p. refl; made = λ p. refl; entry = λ p x is. is })
     (sems-elsewhere shown (with_entry shown.sems object e))
     (object, length h) who number op r (histories-with shown.sems object h e there)
     (omega (arith, with-count shown.sems object e h there)))
@@ -213,19 +276,42 @@ made-more m shown who number (steps.Msgq object op) reply answered =
     object-more {P = ℕ × ℕ} (λ p. spots.Msgq p.0 p.1) (λ p. steps.Msgq p.0) (λ p r. step_replies.Msgq p.0 r p.1) shown
     (record shown { msgqs = with_entry shown.msgqs object e })
     (λ p. entry_at shown.msgqs p.0 p.1) (λ p. entry_at (with_entry shown.msgqs object e) p.0 p.1)
-    (record { seen = λ p. refl; made = λ p. refl }) (record { seen = λ p. refl; made = λ p. refl })
+    (record { seen = λ p. refl; made = λ p. refl; entry = λ p x is. is }) (record { seen = λ p. refl; made = λ p. refl; entry = λ p x is. is })
     (msgqs-elsewhere shown (with_entry shown.msgqs object e))
     (object, length h) who number op r (histories-with shown.msgqs object h e there)
     (omega (arith, with-count shown.msgqs object e h there)))
+made-more m shown who number (steps.Signal object op) reply answered =
+    at-more shown who number (steps.Signal object op) step_replies.Signal m.signals shown.signals object op reply answered (λ h r there.
+    let e = entry who number op r in
+    object-more {P = ℕ × ℕ} (λ p. spots.Signal p.0 p.1) (λ p. steps.Signal p.0) (λ p r. step_replies.Signal p.0 r p.1) shown
+    (record shown { signals = with_entry shown.signals object e })
+    (λ p. entry_at shown.signals p.0 p.1) (λ p. entry_at (with_entry shown.signals object e) p.0 p.1)
+    (record { seen = λ p. refl; made = λ p. refl; entry = λ p x is. is }) (record { seen = λ p. refl; made = λ p. refl; entry = λ p x is. is })
+    (signals-elsewhere shown (with_entry shown.signals object e))
+    (object, length h) who number op r (histories-with shown.signals object h e there)
+    (omega (arith, with-count shown.signals object e h there)))
+made-more m shown who number (steps.LookItem object) reply answered =
+    answered-more shown who number (steps.LookItem object) (λ flags. step_replies.Flags flags (length shown.work)) (flags_after m shown.work object) reply answered (λ flags.
+    let looked = option_map (λ n. number + 1) shown.looked in
+    look-more shown (record shown { looked = looked }) (spots.LookItem object flags (length shown.work)) (who.number, number)
+    (steps.LookItem object, step_replies.Flags flags (length shown.work)) refl refl (looked-elsewhere shown looked) (omega arith))
+made-more m shown who number (steps.LookSignal object must) reply answered =
+    let from = look-answered shown object must reply answered in
+    subst (λ (x : StepReply). IsMore shown (shown_after shown who number (steps.LookSignal object must) x) (spot_of (steps.LookSignal object must) x) (who.number, number) (steps.LookSignal object must, x))
+    from.tells
+    (look-more shown shown (spots.LookSignal object from.seen) (who.number, number) (steps.LookSignal object must, step_replies.Seen from.seen) refl
+    (must, refl, from.raised) (nothing-elsewhere shown) (omega arith))
 
 -- where no looks are shown, a step shows none
 pub unlooked-after : (shown : Shown) (who : Who) (number : ℕ) (step : Step) (reply : StepReply) → shown.looked ≡ None → (shown_after shown who number step reply).looked ≡ None
 unlooked-after shown who number (steps.Work op) (step_replies.Work reply place) none = none
+unlooked-after shown who number (steps.LookItem object) (step_replies.Flags flags at) none = ap (option_map (λ n. number + 1)) none
 unlooked-after shown who number step (step_replies.Work reply place) none = none
 unlooked-after shown who number step reply none = none
 
 pub whole-after : (shown : Shown) (who : Who) (number : ℕ) (step : Step) (reply : StepReply) → shown.looks ≡ None → (shown_after shown who number step reply).looks ≡ None
 whole-after shown who number (steps.Work op) (step_replies.Work reply place) none = none
+whole-after shown who number (steps.LookItem object) (step_replies.Flags flags at) none = none
 whole-after shown who number step (step_replies.Work reply place) none = none
 whole-after shown who number step reply none = none
 
@@ -233,9 +319,14 @@ below-next : (o : Option ℕ) (number : ℕ) → LookedBelow o number → Looked
 below-next None number below = tt
 below-next (Some n) number below = omega (arith, below)
 
+look-below : (o : Option ℕ) (number : ℕ) → LookedBelow (option_map (λ n. number + 1) o) (number + 1)
+look-below None number = tt
+look-below (Some n) number = omega arith
+
 -- after a step the looks at items that are shown are below the next one
 looked-after : (shown : Shown) (who : Who) (number : ℕ) (step : Step) (reply : StepReply) → LookedBelow shown.looked number → LookedBelow (shown_after shown who number step reply).looked (number + 1)
 looked-after shown who number (steps.Work op) (step_replies.Work reply place) below = below-next shown.looked number below
+looked-after shown who number (steps.LookItem object) (step_replies.Flags flags at) below = look-below shown.looked number
 looked-after shown who number step (step_replies.Work reply place) below = below-next shown.looked number below
 looked-after shown who number step reply below = below-next shown.looked number below
 

@@ -1,13 +1,16 @@
-use Rattle.std.specs.Prelude.{◌≡◌, ℕ, ◌-◌, ◌^◌, ◌≤◌, Bool, Option, Some, None, Result, Ok, Err}
+use Rattle.std.specs.Prelude.{◌≡◌, ℕ, ◌-◌, ◌^◌, ◌≤◌, Bool, false, Option, Some, None, is_some, Result, Ok, Err, length, slice_get, option_map}
+use Rattle.std.specs.Option.{option_map_or}
 use Rattle.zk_base.specs.declared.ids.Who.{Who}
 use Rattle.zk_base.specs.declared.errors.NoMemory.{NoMemory}
+use Rattle.zk_model_work.specs.declared.ops.WorkOp.TheVariants as work_ops
 use Rattle.zk_worker.specs.declared.steps.Step.{Step}
 use Rattle.zk_worker.specs.declared.steps.Step.TheVariants as steps
 use Rattle.zk_worker.specs.declared.steps.StepReply.{StepReply}
 use Rattle.zk_worker.specs.declared.steps.StepReply.TheVariants as step_replies
 use Rattle.zk_worker.specs.Single.{answer_in}
-use Rattle.zk_worker.specs.Families.{answer_at, takes_at}
-use Rattle.zk_worker.specs.Machines.{Machines}
+use Rattle.zk_worker.specs.Families.{start_of, answer_at, takes_at}
+use Rattle.zk_worker.specs.Looks.{look_at}
+use Rattle.zk_worker.specs.Machines.{Machines, item_of, flags_after}
 use Rattle.zk_worker.specs.Shown.{Shown, shown_after, Between}
 
 -- what is answered to a step where this is shown, if it is possible
@@ -20,13 +23,24 @@ reply_in m shown who (steps.Sem object op) =
     answer_at m.sems shown.sems step_replies.Sem who object op
 reply_in m shown who (steps.Msgq object op) =
     answer_at m.msgqs shown.msgqs step_replies.Msgq who object op
+reply_in m shown who (steps.Signal object op) =
+    answer_at m.signals shown.signals step_replies.Signal who object op
+reply_in m shown who (steps.LookItem object) =
+    option_map (λ flags. step_replies.Flags flags (length shown.work))
+    (flags_after m shown.work object)
+reply_in m shown who (steps.LookSignal object must) =
+    look_at shown.looks shown.signals object must
 
--- whether the ids in a step are in range at its service
+-- whether the ids in a step are in range at its service: that of an item which is looked at as in an operation that names it
 abbrev pub takes : Machines → Step → Bool
 takes m (steps.Work op) = m.work.in_range m.work_start op
 takes m (steps.Clock op) = m.clock.in_range m.clock_start op
 takes m (steps.Sem object op) = takes_at m.sems object op
 takes m (steps.Msgq object op) = takes_at m.msgqs object op
+takes m (steps.Signal object op) = takes_at m.signals object op
+takes m (steps.LookItem object) =
+    option_map_or (λ item. m.work.in_range m.work_start (work_ops.Remaining item)) (item_of m object) false
+takes m (steps.LookSignal object must) = is_some (start_of m.signals object)
 
 -- the same players are served
 abbrev pub SamePlayers : (Who → Type 0) → (Who → Type 0) → Type 0
@@ -40,15 +54,22 @@ Counts = Step → ℕ
 abbrev pub NoneFell : Counts → Counts → Type 0
 NoneFell old new = (step : Step) → (old step ≤ new step) × (new step ≤ 2 ^ 64 - 1)
 
--- of all that is shown only the history of a step's service may have changed
+-- of all that is shown only the history of a step's service may have changed, and for a look the looks there
 abbrev pub KeepsElsewhere : Step → Shown → Shown → Type 0
 KeepsElsewhere (steps.Work op) old new = new ≡ record old { work = new.work }
 KeepsElsewhere (steps.Clock op) old new = new ≡ record old { clock = new.clock }
 KeepsElsewhere (steps.Sem object op) old new = new ≡ record old { sems = new.sems }
 KeepsElsewhere (steps.Msgq object op) old new = new ≡ record old { msgqs = new.msgqs }
+KeepsElsewhere (steps.Signal object op) old new = new ≡ record old { signals = new.signals }
+KeepsElsewhere (steps.LookItem object) old new =
+    new ≡ record old { work = new.work; looked = new.looked }
+KeepsElsewhere (steps.LookSignal object must) old new =
+    new ≡ record old { signals = new.signals; looks = new.looks }
 
--- a look reads at the end of what is shown; other steps say nothing of it
+-- a look at a signal reads at the end of what is shown: its stamp is the number of writes; other steps say nothing of it
 abbrev pub ReadsAt : Shown → Step → StepReply → Type 0
+ReadsAt shown (steps.LookSignal object must) (step_replies.Seen seen) =
+    option_map length (slice_get shown.signals object) ≡ Some seen.stamp
 ReadsAt shown step reply = Unit {0}
 
 -- a step was made: in between something was shown, its reply is the machine's there, and its entry is all that came then

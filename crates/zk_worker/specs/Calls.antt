@@ -13,6 +13,7 @@ use Rattle.zk_model_wait.specs.declared.msgq.MsgqReply.TheVariants as msgq_repli
 use Rattle.zk_model_wait.specs.declared.sem.SemOp.TheVariants as sem_ops
 use Rattle.zk_model_wait.specs.declared.sem.SemReply.{SemReply}
 use Rattle.zk_model_wait.specs.declared.sem.SemReply.TheVariants as sem_replies
+use Rattle.zk_model_wait.specs.declared.signal.SignalOp.TheVariants as signal_ops
 use Rattle.zk_model_work.specs.declared.ops.WorkOp.TheVariants as ops
 use Rattle.zk_model_work.specs.declared.ops.WorkReply.{WorkReply}
 use Rattle.zk_model_work.specs.declared.ops.WorkReply.TheVariants as replies
@@ -24,7 +25,7 @@ use Rattle.zk_worker.specs.declared.steps.Step.TheVariants as steps
 use Rattle.zk_worker.specs.declared.steps.StepReply.{StepReply}
 use Rattle.zk_worker.specs.declared.steps.StepReply.TheVariants as step_replies
 use Rattle.zk_worker.specs.declared.answers.Answer.{Answer}
-use Rattle.zk_worker.specs.declared.answers.Answer.TheVariants.{Number, Flags, Truth, Refused, Bytes}
+use Rattle.zk_worker.specs.declared.answers.Answer.TheVariants.{Number, Flags, Truth, Refused, Bytes, Signal}
 use Rattle.zk_words.specs.declared.timeout.Timeout.{Timeout}
 use Rattle.zk_words.specs.declared.timeout.Timeout.TheVariants.{No, Forever, Ticks}
 use Rattle.zk_words.specs.declared.word.Word.{Word}
@@ -61,6 +62,7 @@ plan_of decls (calls.Schedule item queue delay) =
 plan_of decls (calls.Reschedule item queue delay) =
     One (steps.Work (ops.Reschedule (ref_number decls item) (ref_number decls queue) delay))
 plan_of decls (calls.Remaining item) = One (steps.Work (ops.Remaining (ref_number decls item)))
+plan_of decls (calls.Busy item) = One (steps.LookItem (ref_object item))
 plan_of decls (calls.Start queue) = One (steps.Work (ops.Start (ref_number decls queue)))
 plan_of decls (calls.Drain queue plug) =
     Pair (steps.Work (ops.DrainStart (ref_number decls queue) plug)) closings.Drain
@@ -79,6 +81,10 @@ plan_of decls (calls.PeekAt queue index) =
 plan_of decls (calls.Purge queue) = One (steps.Msgq (ref_object queue) msgq_ops.Purge)
 plan_of decls (calls.Used queue) = One (steps.Msgq (ref_object queue) msgq_ops.Used)
 plan_of decls (calls.Free queue) = One (steps.Msgq (ref_object queue) msgq_ops.Free)
+plan_of decls (calls.Raise signal value) =
+    One (steps.Signal (ref_object signal) (signal_ops.Raise value))
+plan_of decls (calls.Clear signal) = One (steps.Signal (ref_object signal) signal_ops.Clear)
+plan_of decls (calls.Check signal) = One (steps.LookSignal (ref_object signal) false)
 
 -- what a submission answers
 abbrev pub submission_answer : Submitted → Answer
@@ -118,6 +124,9 @@ answer_of (step_replies.Work reply place) = work_answer reply
 answer_of (step_replies.Clock reply place) = Number 0
 answer_of (step_replies.Sem object reply place) = sem_answer reply
 answer_of (step_replies.Msgq object reply place) = msgq_answer reply
+answer_of (step_replies.Signal object reply place) = Number 0
+answer_of (step_replies.Flags flags at) = Flags flags
+answer_of (step_replies.Seen seen) = Signal seen.raised seen.result
 
 -- the step that ends a wait begun by the entry of this place
 abbrev pub closing_step : Closing → ℕ → Step

@@ -1,4 +1,4 @@
-use Rattle.std.specs.Prelude.{◌≡◌, ℕ, Bool, true, false, nat_le, if◌then◌else◌, Option, Some, List, [], ◌∷◌, length, slice_get, option_map}
+use Rattle.std.specs.Prelude.{◌≡◌, ℕ, Bool, true, false, nat_le, if◌then◌else◌, Option, Some, None, List, [], ◌∷◌, length, slice_get, option_map}
 use Rattle.std.specs.List.{AllZip}
 use Rattle.zk_scenario.specs.Parts.{Parts}
 use Rattle.zk_worker.specs.declared.steps.TheConstants.{MOST_STEPS}
@@ -55,7 +55,7 @@ IsPlayed s at [] end = at ≡ end
 IsPlayed s at (made ∷ more) end =
     IsAhead s at made.0 × IsPlayed s (after s at made.0 made.1) more end
 
--- the step and the reply that a spot stands for
+-- the step and the reply whose entry is at a spot; a look has none
 abbrev pub made_at : Shown → Spot → Option (Step × StepReply)
 made_at shown (spots.Work place) =
     option_map (λ e. (steps.Work e.op, step_replies.Work e.reply place))
@@ -69,9 +69,20 @@ made_at shown (spots.Sem object place) =
 made_at shown (spots.Msgq object place) =
     option_map (λ e. (steps.Msgq object e.op, step_replies.Msgq object e.reply place))
     (entry_at shown.msgqs object place)
+made_at shown (spots.Signal object place) =
+    option_map (λ e. (steps.Signal object e.op, step_replies.Signal object e.reply place))
+    (entry_at shown.signals object place)
+made_at shown (spots.LookItem object flags at) = None
+made_at shown (spots.LookSignal object seen) = None
 
--- a spot stands for a step with its reply
+-- a spot stands for a step with its reply. That of a look at a signal doesn't tell whether it had to find the signal raised;
+-- where it had to, it did
 abbrev pub Stands : Shown → Spot → Step × StepReply → Type 0
+Stands shown (spots.LookItem object flags at) made =
+    made ≡ (steps.LookItem object, step_replies.Flags flags at)
+Stands shown (spots.LookSignal object seen) made =
+    (must : Bool) × (made ≡ (steps.LookSignal object must, step_replies.Seen seen))
+    × (must ≡ true → seen.raised ≡ true)
 Stands shown spot made = made_at shown spot ≡ Some made
 
 -- a step with its reply stands at this spot, and what stood at a spot stands there still

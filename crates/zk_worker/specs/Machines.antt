@@ -1,7 +1,8 @@
-use Rattle.std.specs.Prelude.{ℕ, Bool, false, if◌then◌else◌, Option, Some, None, List, length, map, slice_get}
+use Rattle.std.specs.Prelude.{ℕ, Bool, false, if◌then◌else◌, Option, Some, None, List, length, map, slice_get, option_map, option_and_then}
 use Rattle.std.specs.List.{range_with_len}
 use Rattle.std.specs.Option.{option_map_or}
-use Rattle.zk_base.specs.Legal.{Machine}
+use Rattle.zk_base.specs.declared.ids.Entry.{Entry}
+use Rattle.zk_base.specs.Legal.{Machine, state_after}
 use Rattle.zk_line.specs.declared.types.Decl.{Decl}
 use Rattle.zk_line.specs.declared.types.Decl.TheVariants as decls
 use Rattle.zk_scenario.specs.Parts.{Parts}
@@ -13,12 +14,15 @@ use Rattle.zk_model_wait.specs.declared.msgq.MsgqOp.{MsgqOp}
 use Rattle.zk_model_wait.specs.declared.msgq.MsgqReply.{MsgqReply}
 use Rattle.zk_model_wait.specs.declared.sem.SemOp.{SemOp}
 use Rattle.zk_model_wait.specs.declared.sem.SemReply.{SemReply}
+use Rattle.zk_model_wait.specs.declared.signal.SignalOp.{SignalOp}
+use Rattle.zk_model_wait.specs.declared.signal.SignalReply.{SignalReply}
 use Rattle.zk_model_wait.specs.Msgq.{Msgq, new_msgq, msgq_machine}
 use Rattle.zk_model_wait.specs.Sem.{Sem, new_sem, sem_machine}
+use Rattle.zk_model_wait.specs.Signal.{Signal, new_signal, signal_machine}
 use Rattle.zk_model_work.specs.declared.ops.WorkOp.{WorkOp}
 use Rattle.zk_model_work.specs.declared.ops.WorkReply.{WorkReply}
 use Rattle.zk_model_work.specs.State.{State, start_of}
-use Rattle.zk_model_work.specs.Machine.{work_machine}
+use Rattle.zk_model_work.specs.Machine.{work_machine, flags_of}
 use Rattle.zk_worker.specs.Families.{Family}
 
 -- the numbers of the workers as players, in the order of their queues
@@ -59,6 +63,11 @@ abbrev pub msgq_start : Decl → Option Msgq
 msgq_start (decls.Msgq name size capacity) = Some (new_msgq capacity)
 msgq_start decl = None
 
+-- the state that a declaration starts a signal in, if it declares one
+abbrev pub signal_start : Decl → Option Signal
+signal_start (decls.Signal name) = Some new_signal
+signal_start decl = None
+
 -- the machine of each service, and the state that it starts in; and by object number the number of each item at the work service
 pub record Machines : Type 0 where
   pub work : Machine State WorkOp WorkReply
@@ -68,6 +77,16 @@ pub record Machines : Type 0 where
   pub clock_start : Clock
   pub sems : Family Sem SemOp SemReply
   pub msgqs : Family Msgq MsgqOp MsgqReply
+  pub signals : Family Signal SignalOp SignalReply
+
+-- the number of an item at the work service, by its object number
+abbrev pub item_of : Machines → ℕ → Option ℕ
+item_of m object = option_and_then (λ item. item) (slice_get m.items object)
+
+-- the busy flags of an item after a history of the work service
+abbrev pub flags_after : Machines → List (Entry WorkOp WorkReply) → ℕ → Option ℕ
+flags_after m h object =
+    option_map (flags_of (state_after m.work m.work_start h)) (item_of m object)
 
 -- the machines of a scenario
 abbrev pub machines_of : Parts → Machines
@@ -79,4 +98,5 @@ machines_of s = record {
   clock_start = new_clock;
   sems = record { machine = sem_machine; starts = map sem_start s.decls };
   msgqs = record { machine = msgq_machine; starts = map msgq_start s.decls };
+  signals = record { machine = signal_machine; starts = map signal_start s.decls };
 }

@@ -1,10 +1,12 @@
 use Rattle.std.specs.Prelude.{◌≡◌, ℕ, ◌+◌, Bool, false, nat_lt, nat_le, if◌then◌else◌, Option, Some, None, List, [], ◌∷◌, ◌++◌, length, slice_get, option_map, option_and_then}
+use Rattle.zk_base.specs.declared.seen.Seen.{Seen}
 use Rattle.zk_line.specs.declared.types.Decl.{Decl}
 use Rattle.zk_line.specs.declared.types.Decl.TheVariants as decls
 use Rattle.zk_line.specs.declared.types.Call.{Call}
 use Rattle.zk_scenario.specs.Parts.{Parts}
 use Rattle.zk_line.specs.Objects.{places, is_item, number_of}
 use Rattle.zk_scenario.specs.Players.{players, prio_of, calls_of}
+use Rattle.zk_model_wait.specs.Signal.{clear_at}
 use Rattle.zk_model_work.specs.declared.ops.WorkOp.TheVariants as ops
 use Rattle.zk_model_work.specs.declared.ops.WorkReply.TheVariants as replies
 use Rattle.zk_worker.specs.declared.steps.TheConstants.{MOST_STEPS}
@@ -121,12 +123,25 @@ answers_after answers number (Answers word answer) =
     answers ++ record { step = number; word = word; answer = answer } ∷ []
 answers_after answers number progress = answers
 
--- the place of the entry of a step, in the history of its service
+-- the place of the entry of a step, in the history of its service; of a look, after how many entries it was
 abbrev pub place_of : StepReply → ℕ
 place_of (step_replies.Work reply place) = place
 place_of (step_replies.Clock reply place) = place
 place_of (step_replies.Sem object reply place) = place
 place_of (step_replies.Msgq object reply place) = place
+place_of (step_replies.Signal object reply place) = place
+place_of (step_replies.Flags flags at) = at
+place_of (step_replies.Seen seen) = seen.stamp
+
+-- the flags that a look at an item found; no other reply comes there
+abbrev pub found_flags : StepReply → ℕ
+found_flags (step_replies.Flags flags at) = flags
+found_flags reply = 0
+
+-- what a look at a signal found; no other reply comes there
+abbrev pub found_seen : StepReply → Seen
+found_seen (step_replies.Seen seen) = seen
+found_seen reply = clear_at 0
 
 -- where a step is recorded
 abbrev pub spot_of : Step → StepReply → Spot
@@ -134,6 +149,9 @@ spot_of (steps.Work op) reply = spots.Work (place_of reply)
 spot_of (steps.Clock op) reply = spots.Clock (place_of reply)
 spot_of (steps.Sem object op) reply = spots.Sem object (place_of reply)
 spot_of (steps.Msgq object op) reply = spots.Msgq object (place_of reply)
+spot_of (steps.Signal object op) reply = spots.Signal object (place_of reply)
+spot_of (steps.LookItem object) reply = spots.LookItem object (found_flags reply) (place_of reply)
+spot_of (steps.LookSignal object must) reply = spots.LookSignal object (found_seen reply)
 
 -- where a player stands after a step that does this, and is recorded there
 abbrev pub moved : Parts → At → Progress → Spot → At

@@ -1,7 +1,7 @@
 use Rattle.std.specs.Prelude.{◌≡◌, Bool, true, false, List, length, slice_get, All}
 use Rattle.std.specs.Option.{option_map_or}
 use Rattle.zk_line.specs.declared.types.Decl.{Decl}
-use Rattle.zk_line.specs.Objects.{places, is_queue, is_item}
+use Rattle.zk_line.specs.Objects.{places, is_at, is_queue, is_item}
 use Rattle.zk_model_work.specs.Machine.{is_among}
 use Rattle.zk_worker.specs.declared.steps.Step.{Step}
 use Rattle.zk_worker.specs.declared.steps.Step.TheVariants as steps
@@ -9,7 +9,7 @@ use Rattle.zk_worker.specs.declared.frames.Role.{Role}
 use Rattle.zk_worker.specs.declared.frames.Role.TheVariants.{Script, Worker}
 use Rattle.zk_worker.specs.declared.frames.Frame.{Frame}
 use Rattle.zk_worker.specs.Families.{is_declared}
-use Rattle.zk_worker.specs.Machines.{sem_start, msgq_start}
+use Rattle.zk_worker.specs.Machines.{sem_start, msgq_start, signal_start}
 
 -- whether the objects of a step are declared
 abbrev pub step_fits : List Decl → Step → Bool
@@ -18,6 +18,9 @@ step_fits decls (steps.Work op) =
 step_fits decls (steps.Clock op) = true
 step_fits decls (steps.Sem object op) = is_declared sem_start decls object
 step_fits decls (steps.Msgq object op) = is_declared msgq_start decls object
+step_fits decls (steps.Signal object op) = is_declared signal_start decls object
+step_fits decls (steps.LookItem object) = is_at is_item decls object
+step_fits decls (steps.LookSignal object must) = is_declared signal_start decls object
 
 -- whether a worker's queue is declared as one
 abbrev pub role_fits : List Decl → Role → Bool

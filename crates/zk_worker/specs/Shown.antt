@@ -11,6 +11,8 @@ use Rattle.zk_model_wait.specs.declared.msgq.MsgqOp.{MsgqOp}
 use Rattle.zk_model_wait.specs.declared.msgq.MsgqReply.{MsgqReply}
 use Rattle.zk_model_wait.specs.declared.sem.SemOp.{SemOp}
 use Rattle.zk_model_wait.specs.declared.sem.SemReply.{SemReply}
+use Rattle.zk_model_wait.specs.declared.signal.SignalOp.{SignalOp}
+use Rattle.zk_model_wait.specs.declared.signal.SignalReply.{SignalReply}
 use Rattle.zk_model_work.specs.declared.ops.WorkOp.{WorkOp}
 use Rattle.zk_model_work.specs.declared.ops.WorkReply.{WorkReply}
 use Rattle.zk_worker.specs.declared.steps.Step.{Step}
@@ -23,7 +25,7 @@ use Rattle.zk_worker.specs.Single.{step_of, OthersGrew}
 use Rattle.zk_worker.specs.Families.{no_entries, entry_at, with_entry, EachGrew}
 use Rattle.zk_worker.specs.Looks.{LooksGrew, LookedBelow}
 
--- what the services show: the history of each, and by object number that of each semaphore and of each message queue;
+-- what the services show: the history of each, and by object number that of each semaphore, of each message queue and of each signal;
 -- the looks of this player at each signal, where signals are shared without a turn;
 -- and, where looks at items are shown, the first number above those of this player's
 pub record Shown : Type 0 where
@@ -31,6 +33,7 @@ pub record Shown : Type 0 where
   pub clock : List (Entry ClockOp ClockReply)
   pub sems : List (List (Entry SemOp SemReply))
   pub msgqs : List (List (Entry MsgqOp MsgqReply))
+  pub signals : List (List (Entry SignalOp SignalReply))
   pub looks : Option (List (List Seen))
   pub looked : Option ℕ
 
@@ -38,6 +41,7 @@ pub record Shown : Type 0 where
 abbrev pub entry_count : Shown → ℕ
 entry_count shown =
     length shown.work + length shown.clock + sum_by length shown.sems + sum_by length shown.msgqs
+    + sum_by length shown.signals
 
 -- nothing was shown of the services of these declarations, which show whole histories
 abbrev pub nothing_shown : List Decl → Shown
@@ -46,11 +50,12 @@ nothing_shown decls = record {
   clock = [];
   sems = no_entries decls;
   msgqs = no_entries decls;
+  signals = no_entries decls;
   looks = None;
   looked = None;
 }
 
--- what is shown with the entry of a step, in the history of its service
+-- what is shown with the entry of a step, in the history of its service; a look at an item is counted where such looks are shown
 abbrev pub shown_after : Shown → Who → ℕ → Step → StepReply → Shown
 shown_after shown who number (steps.Work op) (step_replies.Work reply place) =
     record shown { work = shown.work ++ entry who number op reply ∷ [] }
@@ -60,6 +65,10 @@ shown_after shown who number (steps.Sem object op) (step_replies.Sem at reply pl
     record shown { sems = with_entry shown.sems object (entry who number op reply) }
 shown_after shown who number (steps.Msgq object op) (step_replies.Msgq at reply place) =
     record shown { msgqs = with_entry shown.msgqs object (entry who number op reply) }
+shown_after shown who number (steps.Signal object op) (step_replies.Signal at reply place) =
+    record shown { signals = with_entry shown.signals object (entry who number op reply) }
+shown_after shown who number (steps.LookItem object) (step_replies.Flags flags at) =
+    record shown { looked = option_map (λ n. number + 1) shown.looked }
 shown_after shown who number step reply = shown
 
 -- whose step is shown at a spot, and the step of which number
@@ -68,9 +77,14 @@ shown_at shown (spots.Work place) = option_map step_of (slice_get shown.work pla
 shown_at shown (spots.Clock place) = option_map step_of (slice_get shown.clock place)
 shown_at shown (spots.Sem object place) = option_map step_of (entry_at shown.sems object place)
 shown_at shown (spots.Msgq object place) = option_map step_of (entry_at shown.msgqs object place)
+shown_at shown (spots.Signal object place) = option_map step_of (entry_at shown.signals object place)
+shown_at shown (spots.LookItem object flags at) = None
+shown_at shown (spots.LookSignal object seen) = None
 
 -- whether a spot is that of a look, which has no entry
 abbrev pub is_look : Spot → Bool
+is_look (spots.LookItem object flags at) = true
+is_look (spots.LookSignal object seen) = true
 is_look spot = false
 
 -- of the player of this number just the steps of a log are shown: each at its spot, but for looks, and no other
@@ -92,6 +106,7 @@ pub record AreShort (shown : Shown) : Type 0 where
   pub clock : length shown.clock < 2 ^ 32 - 1
   pub sems : All (λ h. length h < 2 ^ 32 - 1) shown.sems
   pub msgqs : All (λ h. length h < 2 ^ 32 - 1) shown.msgqs
+  pub signals : All (λ h. length h < 2 ^ 32 - 1) shown.signals
 
 -- each history grew by entries of other players than the one of this number, and looks at signals at most were added
 pub record AllGrew (number : ℕ) (old new : Shown) : Type 0 where
@@ -99,6 +114,7 @@ pub record AllGrew (number : ℕ) (old new : Shown) : Type 0 where
   pub clock : OthersGrew number old.clock new.clock
   pub sems : EachGrew number old.sems new.sems
   pub msgqs : EachGrew number old.msgqs new.msgqs
+  pub signals : EachGrew number old.signals new.signals
   pub looks : LooksGrew old.looks new.looks
   pub looked : new.looked ≡ old.looked
 

@@ -7,7 +7,7 @@ pub enum Answer {
     /// A number. Of a submission 0 where the item was queued already, 1 where it was admitted, and 2 where it was admitted
     /// while it runs. Of a delayed submission the same, and 1 where the item is delayed. Of a drain 0 where it didn't have to
     /// wait, and 1 where it did. Of a question for the rest of a delay so many ticks. Of a question for a semaphore's count,
-    /// or for how many messages a queue has or has room for, that number.
+    /// or for how many messages a queue has or has room for, that number. Of a write to a signal 0.
     Number(u64),
     /// The busy flags of an item, below 32.
     Flags(u8),
@@ -17,6 +17,8 @@ pub enum Answer {
     Refused(Errno),
     /// The message that a queue gave or showed.
     Bytes(Msg),
+    /// Whether a signal is raised, and with which result. The result of one that isn't is 0.
+    Signal(bool, u16),
 }
 
 /// A call that has its answer.

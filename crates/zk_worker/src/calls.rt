@@ -6,7 +6,7 @@ ghost use Rattle.zk_worker.specs.Calls.{opening_progress, until, wait_progress, 
 
 use crate::{Answer, Closing, Plan, Progress, Stage, Step, StepReply, Waiting, Word};
 use zk_base::Errno;
-use zk_model_wait::{ClockOp, ClockReply, MsgqOp, MsgqReply, SemOp, SemReply};
+use zk_model_wait::{ClockOp, ClockReply, MsgqOp, MsgqReply, SemOp, SemReply, SignalOp};
 use zk_model_work::{Submitted, WorkOp, WorkReply};
 use zk_scenario::{Call, Ref, Scenario};
 use zk_words::Timeout;
@@ -90,46 +90,57 @@ fn at_msgq(queue: Ref, op: MsgqOp) -> Plan
     Plan::One(Step::Msgq(ref_object(queue), op))
 }
 
+/// A write to a signal.
+fn at_signal(signal: Ref, op: SignalOp) -> Plan
+    ensures { result ≡ Plan.One (Step.Signal (ref_object signal) op) }
+{
+    Plan::One(Step::Signal(ref_object(signal), op))
+}
+
 /// How a call goes.
-pub fn plan_of(scenario: &Scenario, call: Call) -> Plan
-    ensures { result ≡ plan_of scenario.now.decls call }
+pub fn plan_of(scenario: &Scenario, call: &Call) -> Plan
+    ensures { result ≡ plan_of scenario.now.decls call.now }
 {
     match call {
         Call::Submit(item, queue) => one(WorkOp::Submit(
-            ref_number(scenario, item),
-            queue_number(scenario, queue),
+            ref_number(scenario, *item),
+            queue_number(scenario, *queue),
         )),
-        Call::Cancel(item) => one(WorkOp::Cancel(ref_number(scenario, item))),
-        Call::CancelSync(item) => cancel_sync(ref_number(scenario, item)),
-        Call::Flush(item) => flush(ref_number(scenario, item)),
+        Call::Cancel(item) => one(WorkOp::Cancel(ref_number(scenario, *item))),
+        Call::CancelSync(item) => cancel_sync(ref_number(scenario, *item)),
+        Call::Flush(item) => flush(ref_number(scenario, *item)),
         Call::Schedule(item, queue, delay) => one(WorkOp::Schedule(
-            ref_number(scenario, item),
-            ref_number(scenario, queue),
-            delay,
+            ref_number(scenario, *item),
+            ref_number(scenario, *queue),
+            *delay,
         )),
         Call::Reschedule(item, queue, delay) => one(WorkOp::Reschedule(
-            ref_number(scenario, item),
-            ref_number(scenario, queue),
-            delay,
+            ref_number(scenario, *item),
+            ref_number(scenario, *queue),
+            *delay,
         )),
-        Call::Remaining(item) => one(WorkOp::Remaining(ref_number(scenario, item))),
-        Call::Start(queue) => one(WorkOp::Start(ref_number(scenario, queue))),
-        Call::Drain(queue, plug) => drain(ref_number(scenario, queue), plug),
-        Call::Unplug(queue) => one(WorkOp::Unplug(ref_number(scenario, queue))),
-        Call::Tick(ticks) => tick(ticks),
-        Call::Take(sem, timeout) => Plan::Wait(Waiting::Take(ref_object(sem)), timeout),
-        Call::Give(sem) => at_sem(sem, SemOp::Give),
-        Call::Reset(sem) => at_sem(sem, SemOp::Reset),
-        Call::Count(sem) => at_sem(sem, SemOp::Count),
+        Call::Remaining(item) => one(WorkOp::Remaining(ref_number(scenario, *item))),
+        Call::Busy(item) => Plan::One(Step::LookItem(ref_object(*item))),
+        Call::Start(queue) => one(WorkOp::Start(ref_number(scenario, *queue))),
+        Call::Drain(queue, plug) => drain(ref_number(scenario, *queue), *plug),
+        Call::Unplug(queue) => one(WorkOp::Unplug(ref_number(scenario, *queue))),
+        Call::Tick(ticks) => tick(*ticks),
+        Call::Take(sem, timeout) => Plan::Wait(Waiting::Take(ref_object(*sem)), *timeout),
+        Call::Give(sem) => at_sem(*sem, SemOp::Give),
+        Call::Reset(sem) => at_sem(*sem, SemOp::Reset),
+        Call::Count(sem) => at_sem(*sem, SemOp::Count),
         Call::Put(queue, message, timeout) => {
-            Plan::Wait(Waiting::Put(ref_object(queue), message), timeout)
+            Plan::Wait(Waiting::Put(ref_object(*queue), *message), *timeout)
         }
-        Call::Get(queue, timeout) => Plan::Wait(Waiting::Get(ref_object(queue)), timeout),
-        Call::Peek(queue) => at_msgq(queue, MsgqOp::Peek),
-        Call::PeekAt(queue, index) => at_msgq(queue, MsgqOp::PeekAt(index)),
-        Call::Purge(queue) => at_msgq(queue, MsgqOp::Purge),
-        Call::Used(queue) => at_msgq(queue, MsgqOp::Used),
-        Call::Free(queue) => at_msgq(queue, MsgqOp::Free),
+        Call::Get(queue, timeout) => Plan::Wait(Waiting::Get(ref_object(*queue)), *timeout),
+        Call::Peek(queue) => at_msgq(*queue, MsgqOp::Peek),
+        Call::PeekAt(queue, index) => at_msgq(*queue, MsgqOp::PeekAt(*index)),
+        Call::Purge(queue) => at_msgq(*queue, MsgqOp::Purge),
+        Call::Used(queue) => at_msgq(*queue, MsgqOp::Used),
+        Call::Free(queue) => at_msgq(*queue, MsgqOp::Free),
+        Call::Raise(signal, result) => at_signal(*signal, SignalOp::Raise(*result)),
+        Call::Clear(signal) => at_signal(*signal, SignalOp::Clear),
+        Call::Check(signal) => Plan::One(Step::LookSignal(ref_object(*signal), false)),
     }
 }
 
@@ -189,6 +200,9 @@ fn answer_of(reply: &StepReply) -> Answer
         StepReply::Clock(_, _) => Answer::Number(0),
         StepReply::Sem(_, reply, _) => sem_answer(reply),
         StepReply::Msgq(_, reply, _) => msgq_answer(reply),
+        StepReply::Signal(_, _, _) => Answer::Number(0),
+        StepReply::Flags(flags, _) => Answer::Flags(*flags),
+        StepReply::Seen(seen) => Answer::Signal(seen.raised, seen.result),
     }
 }
 
@@ -204,41 +218,41 @@ fn closing_step(closing: Closing, place: u64) -> Step
 }
 
 /// The step that opens a wait, by whether its call waits where it isn't served at once.
-fn open_step(waiting: Waiting, waits: bool) -> Step
-    ensures { result ≡ open_step waiting waits }
+fn open_step(waiting: &Waiting, waits: bool) -> Step
+    ensures { result ≡ open_step waiting.now waits }
 {
     match waiting {
-        Waiting::Take(object) => Step::Sem(object, SemOp::Take(waits)),
-        Waiting::Put(object, message) => Step::Msgq(object, MsgqOp::Put(message, waits)),
-        Waiting::Get(object) => Step::Msgq(object, MsgqOp::Get(waits)),
+        Waiting::Take(object) => Step::Sem(*object, SemOp::Take(waits)),
+        Waiting::Put(object, message) => Step::Msgq(*object, MsgqOp::Put(*message, waits)),
+        Waiting::Get(object) => Step::Msgq(*object, MsgqOp::Get(waits)),
     }
 }
 
 /// The step that ends the wait begun by the entry of this place.
-fn end_step(waiting: Waiting, place: u64) -> Step
-    ensures { result ≡ end_step waiting place }
+fn end_step(waiting: &Waiting, place: u64) -> Step
+    ensures { result ≡ end_step waiting.now place }
 {
     match waiting {
-        Waiting::Take(object) => Step::Sem(object, SemOp::TakeEnd(place)),
-        Waiting::Put(object, _) => Step::Msgq(object, MsgqOp::PutEnd(place)),
-        Waiting::Get(object) => Step::Msgq(object, MsgqOp::GetEnd(place)),
+        Waiting::Take(object) => Step::Sem(*object, SemOp::TakeEnd(place)),
+        Waiting::Put(object, _) => Step::Msgq(*object, MsgqOp::PutEnd(place)),
+        Waiting::Get(object) => Step::Msgq(*object, MsgqOp::GetEnd(place)),
     }
 }
 
 /// The step that gives that wait up.
-fn quit_step(waiting: Waiting, place: u64) -> Step
-    ensures { result ≡ quit_step waiting place }
+fn quit_step(waiting: &Waiting, place: u64) -> Step
+    ensures { result ≡ quit_step waiting.now place }
 {
     match waiting {
-        Waiting::Take(object) => Step::Sem(object, SemOp::TakeQuit(place)),
-        Waiting::Put(object, _) => Step::Msgq(object, MsgqOp::PutQuit(place)),
-        Waiting::Get(object) => Step::Msgq(object, MsgqOp::GetQuit(place)),
+        Waiting::Take(object) => Step::Sem(*object, SemOp::TakeQuit(place)),
+        Waiting::Put(object, _) => Step::Msgq(*object, MsgqOp::PutQuit(place)),
+        Waiting::Get(object) => Step::Msgq(*object, MsgqOp::GetQuit(place)),
     }
 }
 
 /// The first step of a call that may wait.
-fn first_step(waiting: Waiting, timeout: Timeout) -> Step
-    ensures { result ≡ first_step waiting timeout }
+fn first_step(waiting: &Waiting, timeout: Timeout) -> Step
+    ensures { result ≡ first_step waiting.now timeout }
 {
     match timeout {
         Timeout::No => open_step(waiting, false),
@@ -248,33 +262,33 @@ fn first_step(waiting: Waiting, timeout: Timeout) -> Step
 }
 
 /// The attempt of this index among the next attempts of such a call.
-fn wait_ahead(waiting: Waiting, timeout: Timeout, stage: Stage, index: u32) -> Option<Step>
-    ensures { result ≡ slice_get (wait_attempts waiting timeout stage) index }
+fn wait_ahead(waiting: &Waiting, timeout: Timeout, stage: &Stage, index: u32) -> Option<Step>
+    ensures { result ≡ slice_get (wait_attempts waiting.now timeout stage.now) index }
 {
     match stage {
         Stage::Start if index == 0 => Some(first_step(waiting, timeout)),
         Stage::Alarmed(_) if index == 0 => Some(open_step(waiting, true)),
-        Stage::Waits(place) if index == 0 => Some(end_step(waiting, place)),
-        Stage::WaitsUntil(place, _) if index == 0 => Some(end_step(waiting, place)),
-        Stage::WaitsUntil(_, moment) if index == 1 => Some(Step::Clock(ClockOp::AlarmEnd(moment))),
-        Stage::Quits(place) if index == 0 => Some(quit_step(waiting, place)),
+        Stage::Waits(place) if index == 0 => Some(end_step(waiting, *place)),
+        Stage::WaitsUntil(place, _) if index == 0 => Some(end_step(waiting, *place)),
+        Stage::WaitsUntil(_, moment) if index == 1 => Some(Step::Clock(ClockOp::AlarmEnd(*moment))),
+        Stage::Quits(place) if index == 0 => Some(quit_step(waiting, *place)),
         _ => None,
     }
 }
 
 /// The attempt of this index among the next attempts of a call.
-pub fn plan_ahead(plan: Plan, stage: Stage, index: u32) -> Option<Step>
-    ensures { result ≡ slice_get (plan_attempts plan stage) index }
+pub fn plan_ahead(plan: &Plan, stage: &Stage, index: u32) -> Option<Step>
+    ensures { result ≡ slice_get (plan_attempts plan.now stage.now) index }
 {
     match (plan, stage) {
-        (Plan::One(step), Stage::Start) if index == 0 => Some(step),
-        (Plan::Pair(opening, _), Stage::Start) if index == 0 => Some(opening),
+        (Plan::One(step), Stage::Start) if index == 0 => Some(*step),
+        (Plan::Pair(opening, _), Stage::Start) if index == 0 => Some(*opening),
         (Plan::Pair(_, closing), Stage::Waits(place)) if index == 0 => {
-            Some(closing_step(closing, place))
+            Some(closing_step(*closing, *place))
         }
-        (Plan::Twice(first, _), Stage::Start) if index == 0 => Some(first),
-        (Plan::Twice(_, second), Stage::Halfway) if index == 0 => Some(second),
-        (Plan::Wait(waiting, timeout), stage) => wait_ahead(waiting, timeout, stage, index),
+        (Plan::Twice(first, _), Stage::Start) if index == 0 => Some(*first),
+        (Plan::Twice(_, second), Stage::Halfway) if index == 0 => Some(*second),
+        (Plan::Wait(waiting, timeout), stage) => wait_ahead(waiting, *timeout, stage, index),
         _ => None,
     }
 }
@@ -303,17 +317,17 @@ fn until(moment: u64, progress: Progress) -> Progress
 }
 
 /// What the reply to a step does to a call that may wait.
-fn wait_progress(word: Word, stage: Stage, reply: &StepReply) -> Progress
-    ensures { result ≡ wait_progress word stage reply.now }
+fn wait_progress(word: Word, stage: &Stage, reply: &StepReply) -> Progress
+    ensures { result ≡ wait_progress word stage.now reply.now }
 {
     match (stage, reply) {
         (Stage::Start, StepReply::Clock(ClockReply::At(moment), _)) => {
             Progress::Goes(Stage::Alarmed(*moment))
         }
         (Stage::Start, _) => opening_progress(word, reply),
-        (Stage::Alarmed(moment), _) => until(moment, opening_progress(word, reply)),
+        (Stage::Alarmed(moment), _) => until(*moment, opening_progress(word, reply)),
         (Stage::WaitsUntil(place, _), StepReply::Clock(_, _)) => {
-            Progress::Goes(Stage::Quits(place))
+            Progress::Goes(Stage::Quits(*place))
         }
         _ => Progress::Answers(word, answer_of(reply)),
     }
@@ -322,12 +336,12 @@ fn wait_progress(word: Word, stage: Stage, reply: &StepReply) -> Progress
 /// What the reply to a step does to its call.
 pub fn plan_progress(
     word: Word,
-    plan: Plan,
-    stage: Stage,
+    plan: &Plan,
+    stage: &Stage,
     _made: &Step,
     reply: &StepReply,
 ) -> Progress
-    ensures { result ≡ plan_progress word plan stage _made.now reply.now }
+    ensures { result ≡ plan_progress word plan.now stage.now _made.now reply.now }
 {
     match (plan, stage) {
         (Plan::Pair(_, _), Stage::Start) => opening_progress(word, reply),

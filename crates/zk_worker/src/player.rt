@@ -82,6 +82,7 @@ fn prio_of(decl: &Decl) -> i8
         Decl::Item(_) => 0,
         Decl::Sem(_, _, _) => 0,
         Decl::Msgq(_, _, _) => 0,
+        Decl::Signal(_) => 0,
     }
 }
 
@@ -94,10 +95,10 @@ fn who_at(number: u32, decl: &Decl) -> Who
     }
 }
 
-fn is_between(frame: Frame) -> bool
-    ensures { result ≡ is_between frame.role frame.stage }
+fn is_between(frame: &Frame) -> bool
+    ensures { result ≡ is_between frame.now.role frame.now.stage }
 {
-    match (frame.role, frame.stage) {
+    match (&frame.role, &frame.stage) {
         (Role::Worker(_), Stage::Start) => true,
         _ => false,
     }
@@ -108,7 +109,7 @@ fn is_done(stack: &[Frame]) -> bool
 {
     match stack {
         [] => true,
-        [frame] => is_between(*frame),
+        [frame] => is_between(frame),
         _ => false,
     }
 }
@@ -161,9 +162,9 @@ impl Player {
     }
 
     /// Adds one of these attempts, which was answered so.
-    pub fn made(&mut self, scenario: &Scenario, step: Step, reply: &StepReply)
-        requires ahead { IsAhead scenario.now self.old step }
-        ensures next { self.new ≡ after scenario.now self.old step reply.now }
+    pub fn made(&mut self, scenario: &Scenario, step: &Step, reply: &StepReply)
+        requires ahead { IsAhead scenario.now self.old step.now }
+        ensures next { self.new ≡ after scenario.now self.old step.now reply.now }
 
         // What `step` asks for stays, where services made this step.
         // It follows the scenario still, where this step is shown too.
@@ -171,17 +172,17 @@ impl Player {
             FramesFit scenario.now.decls self.new.frames }
         ensures looks { (alone : Bool) (m : Machines) (old new : Shown) →
             ShowsLog old self.old.who.number self.old.spots →
-            IsMade alone m self.old.who (length self.old.spots) step reply.now old new →
+            IsMade alone m self.old.who (length self.old.spots) step.now reply.now old new →
             LooksRight m old self.old.spots → LooksRight m new self.new.spots }
         ensures follows { (number : ℕ) (old new : Shown) →
-            StandsMore old new (spot_of step reply.now) (step, reply.now) →
+            StandsMore old new (spot_of step.now reply.now) (step.now, reply.now) →
             IsFollowing scenario.now number old self.old → IsFollowing scenario.now number new self.new }
     {
         let number = self.spots.len() as u32;
-        let progress = frames_progress(scenario, &self.stack, &step, reply);
+        let progress = frames_progress(scenario, &self.stack, step, reply);
         put_answer(&mut self.answers, number, &progress);
-        move_frames(scenario, &mut self.stack, progress);
-        put(&mut self.spots, spot_of(&step, reply));
+        move_frames(scenario, &mut self.stack, &progress);
+        put(&mut self.spots, spot_of(step, reply));
     }
 
     /// Who it is to the services.

@@ -106,7 +106,7 @@ impl Player {
         }
         match try_ahead(services, scenario, self)? {
             Some((step, reply)) => {
-                self.made(scenario, step, &reply);
+                self.made(scenario, &step, &reply);
                 Ok(Stepped::Did)
             }
             None => Ok(Stepped::NotYet),

@@ -1,17 +1,18 @@
-ghost use Rattle.std.specs.Prelude.{◌≡◌, slice_get, reverse};
+ghost use Rattle.std.specs.Prelude.{◌≡◌, slice_get, reverse, option_copied};
 ghost use Rattle.zk_line.specs.Objects.{places, is_item};
 ghost use Rattle.zk_scenario.specs.Players.{players, calls_of};
-ghost use Rattle.zk_worker.specs.Protocol.{worker_attempts, call_attempts, role_attempts, run_progress, worker_progress, call_progress, role_progress, is_over, place_of, spot_of};
+ghost use Rattle.zk_worker.specs.Protocol.{worker_attempts, call_attempts, role_attempts, run_progress, worker_progress, call_progress, role_progress, is_over, place_of, found_flags, found_seen, spot_of};
 
 use crate::calls::{plan_ahead, plan_of, plan_progress};
 use crate::{Frame, Progress, Role, Spot, Stage, Step, StepReply};
+use zk_base::Seen;
 use zk_model_work::{WorkOp, WorkReply};
 use zk_scenario::{Call, Scenario, word_of};
 
-fn call_at(scenario: &Scenario, owner: u32, next: u32) -> Option<Call>
-    ensures { result ≡ slice_get (calls_of scenario.now.scripts owner) next }
+fn call_at(scenario: &Scenario, owner: u32, next: u32) -> Option<&Call>
+    ensures { option_copied result ≡ slice_get (calls_of scenario.now.scripts owner) next }
 {
-    scenario.calls(owner).get(next as usize).copied()
+    scenario.calls(owner).get(next as usize)
 }
 
 fn item_object(scenario: &Scenario, item: u32) -> Option<u32>
@@ -20,8 +21,8 @@ fn item_object(scenario: &Scenario, item: u32) -> Option<u32>
     scenario.items().get(item as usize).copied()
 }
 
-fn worker_ahead(queue: u32, stage: Stage, index: u32) -> Option<Step>
-    ensures { result ≡ slice_get (worker_attempts queue stage) index }
+fn worker_ahead(queue: u32, stage: &Stage, index: u32) -> Option<Step>
+    ensures { result ≡ slice_get (worker_attempts queue stage.now) index }
 {
     match stage {
         Stage::Start if index == 0 => Some(Step::Work(WorkOp::Begin(queue))),
@@ -30,25 +31,25 @@ fn worker_ahead(queue: u32, stage: Stage, index: u32) -> Option<Step>
     }
 }
 
-fn call_ahead(scenario: &Scenario, call: Option<Call>, stage: Stage, index: u32) -> Option<Step>
-    ensures { result ≡ slice_get (call_attempts scenario.now.decls call stage) index }
+fn call_ahead(scenario: &Scenario, call: Option<&Call>, stage: &Stage, index: u32) -> Option<Step>
+    ensures { result ≡ slice_get (call_attempts scenario.now.decls (option_copied call.entry) stage.now) index }
 {
     match call {
-        Some(call) => plan_ahead(plan_of(scenario, call), stage, index),
+        Some(call) => plan_ahead(&plan_of(scenario, call), stage, index),
         None => None,
     }
 }
 
 /// The attempt of this index among the next attempts of an open script or run.
-pub fn role_ahead(scenario: &Scenario, frame: Frame, index: u32) -> Option<Step>
-    ensures { result ≡ slice_get (role_attempts scenario.now frame.role frame.next frame.stage) index }
+pub fn role_ahead(scenario: &Scenario, frame: &Frame, index: u32) -> Option<Step>
+    ensures { result ≡ slice_get (role_attempts scenario.now frame.now.role frame.now.next frame.now.stage) index }
 {
     match frame.role {
         Role::Script(owner) => {
             let call = call_at(scenario, owner, frame.next);
-            call_ahead(scenario, call, frame.stage, index)
+            call_ahead(scenario, call, &frame.stage, index)
         }
-        Role::Worker(queue) => worker_ahead(scenario.number(queue), frame.stage, index),
+        Role::Worker(queue) => worker_ahead(scenario.number(queue), &frame.stage, index),
     }
 }
 
@@ -61,8 +62,8 @@ fn run_progress(owner: Option<u32>) -> Progress
     }
 }
 
-fn worker_progress(scenario: &Scenario, stage: Stage, reply: &StepReply) -> Progress
-    ensures { result ≡ worker_progress scenario.now.decls stage reply.now }
+fn worker_progress(scenario: &Scenario, stage: &Stage, reply: &StepReply) -> Progress
+    ensures { result ≡ worker_progress scenario.now.decls stage.now reply.now }
 {
     match (stage, reply) {
         (Stage::Start, StepReply::Work(WorkReply::Run(item, _), _)) => {
@@ -74,35 +75,35 @@ fn worker_progress(scenario: &Scenario, stage: Stage, reply: &StepReply) -> Prog
 
 fn call_progress(
     scenario: &Scenario,
-    call: Option<Call>,
-    stage: Stage,
+    call: Option<&Call>,
+    stage: &Stage,
     made: &Step,
     reply: &StepReply,
 ) -> Progress
-    ensures { result ≡ call_progress scenario.now.decls call stage made.now reply.now }
+    ensures { result ≡ call_progress scenario.now.decls (option_copied call.entry) stage.now made.now reply.now }
 {
     match call {
-        Some(call) => plan_progress(word_of(&call), plan_of(scenario, call), stage, made, reply),
-        None => Progress::Goes(stage),
+        Some(call) => plan_progress(word_of(call), &plan_of(scenario, call), stage, made, reply),
+        None => Progress::Goes(*stage),
     }
 }
 
 /// What the reply to a step does to an open script or run.
-pub fn role_progress(scenario: &Scenario, frame: Frame, made: &Step, reply: &StepReply) -> Progress
-    ensures { result ≡ role_progress scenario.now frame.role frame.next frame.stage made.now reply.now }
+pub fn role_progress(scenario: &Scenario, frame: &Frame, made: &Step, reply: &StepReply) -> Progress
+    ensures { result ≡ role_progress scenario.now frame.now.role frame.now.next frame.now.stage made.now reply.now }
 {
     match frame.role {
         Role::Script(owner) => {
             let call = call_at(scenario, owner, frame.next);
-            call_progress(scenario, call, frame.stage, made, reply)
+            call_progress(scenario, call, &frame.stage, made, reply)
         }
-        Role::Worker(_) => worker_progress(scenario, frame.stage, reply),
+        Role::Worker(_) => worker_progress(scenario, &frame.stage, reply),
     }
 }
 
 /// Whether all calls of a script are answered.
-pub fn is_over(scenario: &Scenario, frame: Frame) -> bool
-    ensures { result ≡ is_over scenario.now frame.role frame.next }
+pub fn is_over(scenario: &Scenario, frame: &Frame) -> bool
+    ensures { result ≡ is_over scenario.now frame.now.role frame.now.next }
 {
     match frame.role {
         Role::Script(owner) => scenario.calls(owner).len() <= frame.next as usize,
@@ -118,6 +119,31 @@ fn place_of(reply: &StepReply) -> u64
         StepReply::Clock(_, place) => *place,
         StepReply::Sem(_, _, place) => *place,
         StepReply::Msgq(_, _, place) => *place,
+        StepReply::Signal(_, _, place) => *place,
+        StepReply::Flags(_, at) => *at,
+        StepReply::Seen(seen) => u64::from(seen.stamp),
+    }
+}
+
+fn found_flags(reply: &StepReply) -> u8
+    ensures { result ≡ found_flags reply.now }
+{
+    match reply {
+        StepReply::Flags(flags, _) => *flags,
+        _ => 0,
+    }
+}
+
+fn found_seen(reply: &StepReply) -> Seen
+    ensures { result ≡ found_seen reply.now }
+{
+    match reply {
+        StepReply::Seen(seen) => *seen,
+        _ => Seen {
+            raised: false,
+            result: 0,
+            stamp: 0,
+        },
     }
 }
 
@@ -130,5 +156,8 @@ pub fn spot_of(made: &Step, reply: &StepReply) -> Spot
         Step::Clock(_) => Spot::Clock(place_of(reply)),
         Step::Sem(object, _) => Spot::Sem(*object, place_of(reply)),
         Step::Msgq(object, _) => Spot::Msgq(*object, place_of(reply)),
+        Step::Signal(object, _) => Spot::Signal(*object, place_of(reply)),
+        Step::LookItem(object) => Spot::LookItem(*object, found_flags(reply), place_of(reply)),
+        Step::LookSignal(object, _) => Spot::LookSignal(*object, found_seen(reply)),
     }
 }

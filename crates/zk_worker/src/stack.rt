@@ -1,4 +1,4 @@
-ghost use Rattle.std.specs.Prelude.{◌≡◌, ◌+◌, ◌<◌, ◌≤◌, [], ◌∷◌, ◌++◌, slice_get, reverse, length, vec_len, vec_capacity, MatchOption, All};
+ghost use Rattle.std.specs.Prelude.{◌≡◌, ◌+◌, ◌<◌, ◌≤◌, [], ◌∷◌, ◌++◌, slice_get, reverse, length, vec_len, vec_capacity, MatchOption, All, option_copied};
 ghost use Rattle.zk_worker.specs.Protocol.{frames_attempts, frames_progress, frames_after, settled, is_over, first_frame, entered, answers_after};
 ghost use Rattle.zk_worker.specs.Stacks.{is_top_over};
 
@@ -38,10 +38,10 @@ fn pop_frame(stack: &mut Vec<Frame>) -> Option<Frame>
     stack.pop()
 }
 
-fn top_frame(stack: &[Frame]) -> Option<Frame>
-    ensures { result ≡ slice_get (reverse stack.now) 0 }
+fn top_frame(stack: &[Frame]) -> Option<&Frame>
+    ensures { option_copied result ≡ slice_get (reverse stack.now) 0 }
 {
-    stack.last().copied()
+    stack.last()
 }
 
 /// The attempt of this index among the next attempts.
@@ -110,18 +110,24 @@ pub fn first_frame(role: Role) -> Frame
 }
 
 /// The open scripts and runs after a step.
-pub fn move_frames(scenario: &Scenario, stack: &mut Vec<Frame>, progress: Progress)
+pub fn move_frames(scenario: &Scenario, stack: &mut Vec<Frame>, progress: &Progress)
     requires room { MOST_FRAMES ≤ vec_capacity stack.old }
     requires short { length stack.old.items ≤ MOST_FRAMES }
     requires nexts { All (λ frame. frame.next < MOST_STEPS) (reverse stack.old.items) }
-    ensures frames { reverse stack.new.items ≡ frames_after scenario.now (reverse stack.old.items) progress }
+    ensures frames { reverse stack.new.items ≡ frames_after scenario.now (reverse stack.old.items) progress.now }
     ensures capacity { vec_capacity stack.old ≤ vec_capacity stack.new }
 {
     let Some(frame) = pop_frame(stack) else {
         return;
     };
     match progress {
-        Progress::Goes(stage) => put_frame(stack, Frame { stage, ..frame }),
+        Progress::Goes(stage) => put_frame(
+            stack,
+            Frame {
+                stage: *stage,
+                ..frame
+            },
+        ),
         Progress::Answers(_, _) => {
             let next = frame.next + 1;
             put_frame(
@@ -135,8 +141,14 @@ pub fn move_frames(scenario: &Scenario, stack: &mut Vec<Frame>, progress: Progre
             settle(scenario, stack);
         }
         Progress::Enters(owner, stage) => {
-            put_frame(stack, Frame { stage, ..frame });
-            enter(stack, owner);
+            put_frame(
+                stack,
+                Frame {
+                    stage: *stage,
+                    ..frame
+                },
+            );
+            enter(stack, *owner);
             settle(scenario, stack);
         }
     }

@@ -1,5 +1,7 @@
-use zk_base::Listed;
-use zk_model_wait::{ClockOp, ClockReply, MsgqOp, MsgqReply, SemOp, SemReply};
+use zk_base::{Listed, Seen};
+use zk_model_wait::{
+    ClockOp, ClockReply, MsgqOp, MsgqReply, SemOp, SemReply, SignalOp, SignalReply,
+};
 use zk_model_work::{WorkOp, WorkReply};
 
 /// The most steps that a player makes. One that has made them makes no further one.
@@ -19,6 +21,13 @@ pub enum Step {
     Sem(u32, SemOp),
     /// An operation of the message queue of this object number.
     Msgq(u32, MsgqOp),
+    /// A write to the signal of this object number.
+    Signal(u32, SignalOp),
+    /// A look at the busy flags of the item of this object number. It makes no entry.
+    LookItem(u32),
+    /// A look at the signal of this object number, and whether it is possible only where the signal is raised. It makes no
+    /// entry.
+    LookSignal(u32, bool),
 }
 
 /// What a step was answered.
@@ -32,6 +41,12 @@ pub enum StepReply {
     Sem(u32, SemReply, u64),
     /// The object number of the message queue, its reply, and the place of the entry in its history, from 0.
     Msgq(u32, MsgqReply, u64),
+    /// The object number of the signal, its reply, and the place of the entry in its history, from 0.
+    Signal(u32, SignalReply, u64),
+    /// The busy flags that a look at an item found, below 32, and after how many entries of the work service it found them.
+    Flags(u8, u64),
+    /// What a look at a signal found.
+    Seen(Seen),
 }
 
 /// Where a step stands in what was recorded.
@@ -45,6 +60,13 @@ pub enum Spot {
     Sem(u32, u64),
     /// The object number of a message queue, and the place of the entry in its history.
     Msgq(u32, u64),
+    /// The object number of a signal, and the place of the entry in its history.
+    Signal(u32, u64),
+    /// A look, which has no entry: the object number of the item, its busy flags, and after how many entries of the work
+    /// service they were found.
+    LookItem(u32, u8, u64),
+    /// A look, which has no entry: the object number of the signal, and what was found.
+    LookSignal(u32, Seen),
 }
 
 /// The spots of a player's steps, by the number of the step.

@@ -7,6 +7,7 @@ use Rattle.zk_model_wait.specs.Sem.{Sem, new_sem, sem_machine}
 use Rattle.zk_model_wait.specs.SemLaws.{KeepsSemLaws}
 use Rattle.zk_model_wait.specs.Msgq.{Msgq, new_msgq, msgq_machine}
 use Rattle.zk_model_wait.specs.MsgqLaws.{KeepsMsgqLaws}
+use Rattle.zk_model_wait.specs.Signal.{new_signal, signal_machine}
 use Rattle.zk_model_work.specs.Machine.{work_machine}
 use Rattle.zk_worker.specs.Machines.{work_start_of, machines_of}
 use Rattle.zk_trace.specs.Text.{trace_text}
@@ -14,7 +15,7 @@ use Rattle.zk_replay.proofs.Legality.{legal-one}
 use Rattle.zk_model_work.proofs.Drains.{undrained-fresh}
 use Rattle.zk_cli.specs.Answer.{IsOutput}
 use Rattle.zk_cli.proofs.Outcomes.{output-run}
-use Rattle.zk_cli.proofs.Starts.{sem-starts, msgq-starts}
+use Rattle.zk_cli.proofs.Starts.{sem-starts, msgq-starts, signal-starts}
 use Rattle.zk_cli.proofs.answer.run.Goals as goal
 
 pub returns : goal.returns
@@ -53,6 +54,10 @@ returns c =
           subst (λ (q : Msgq). KeepsMsgqLaws q front) (sym from.is_new)
           (c.keeps_msgq_laws.ensures from.most front
           (IsLegal-front msgq_machine (new_msgq from.most) front rest (subst (IsLegal msgq_machine (new_msgq from.most)) parts legal)));
+      signal_laws = λ object start h starts there front rest parts.
+          let began = starts ∙ ap Some (signal-starts c.args.scenario.now.decls object start starts) in
+          let legal = legal-one signal_machine (machines_of c.args.scenario.now).signals.starts trace.signals object new_signal h c.in_ok-trace.ensures.lawful.history.signals began there in
+          c.keeps_signal_laws.ensures front (IsLegal-front signal_machine new_signal front rest (subst (IsLegal signal_machine new_signal) parts legal));
       over = c.in_ok-trace.ensures.over;
       ends = refl;
       printed = c.in_ok-put_trace.ensures.text ∙ ap (λ (text : List ℕ). text ++ trace_text c.args.scenario.now trace) c.requires.spelled;

@@ -17,4 +17,9 @@ returns c = λ most h legal. record {
   done = c.queue_calls_are_told.ensures.done most h legal;
   put_waits = c.queue_waits_end.ensures.put_waits most h legal;
   get_waits = c.queue_waits_end.ensures.get_waits most h legal;
+  armed = c.queue_polls_hold.ensures.armed most h legal;
+  noted = c.queue_polls_hold.ensures.noted most h legal;
+  chances = c.queue_polls_hold.ensures.chances most h legal;
+  nothing = c.queue_polls_hold.ensures.nothing (new_msgq most) h;
+  polls = c.queue_polls_hold.ensures.polls most h legal;
 }

@@ -14,4 +14,9 @@ returns c = λ initial limit low h legal. record {
   always = c.calls_are_told.ensures.always (new_sem initial limit) h;
   done = c.calls_are_told.ensures.done initial limit low h legal;
   waits = c.waits_end.ensures.waits initial limit low h legal;
+  armed = c.polls_hold.ensures.armed initial limit low h legal;
+  noted = c.polls_hold.ensures.noted initial limit low h legal;
+  chances = c.polls_hold.ensures.chances initial limit low h legal;
+  nothing = c.polls_hold.ensures.nothing (new_sem initial limit) h;
+  polls = c.polls_hold.ensures.polls initial limit low h legal;
 }

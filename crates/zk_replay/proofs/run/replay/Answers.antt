@@ -1,4 +1,7 @@
-use Rattle.std.proofs.Common.{◌≡◌, false, refl, ap, sym, subst, ◌∙◌}
+use Rattle.std.proofs.Common.{◌≡◌, false, List, length, refl, ap, sym, subst, ◌∙◌}
+use Rattle.zk_base.specs.declared.ids.Entry.{Entry}
+use Rattle.zk_model_wait.specs.declared.signal.SignalOp.{SignalOp}
+use Rattle.zk_model_wait.specs.declared.signal.SignalReply.{SignalReply}
 use Rattle.zk_replay.specs.Alone.{plain_shown}
 use Rattle.zk_replay.specs.RoundRobin.{World, is_spent}
 use Rattle.zk_replay.specs.Ready.{IsReady}
@@ -7,6 +10,9 @@ use Rattle.zk_replay.specs.Ending.{ending_by}
 use Rattle.zk_replay.proofs.Beginning.{ready-first, unspent-first, world-first}
 use Rattle.zk_replay.proofs.Endings.{replayed, over}
 use Rattle.zk_replay.proofs.Lawful.{lawful}
+use Rattle.zk_replay.proofs.Gathered.{logs-short}
+use Rattle.zk_replay.specs.Looks.{AreShort}
+use Rattle.zk_trace.specs.Looked.{item_looks_of, signal_looks_of}
 use Rattle.zk_replay.proofs.run.replay.Goals as goal
 
 pub play_rounds-requires-clause-alone : goal.play_rounds-requires-clause-alone
@@ -26,6 +32,16 @@ play_rounds-requires-clause-unspent c =
     (sym (world-first s (plain_shown c.in_ok-services.services) c.in_ok-players.players.items c.in_ok-services.ensures.shown c.in_ok-players.ensures))
     (unspent-first s)
 
+pub item_looks-requires : goal.item_looks-requires
+item_looks-requires c =
+    let new = world (plain_shown c.play_rounds.new.services) c.play_rounds.new.players.items in
+    subst AreShort (sym (c.items.ensures ∙ c.in_ok-logs.ensures)) (logs-short c.args.scenario.now new c.in_ok-play_rounds.ensures.ready)
+
+pub signal_looks-requires : goal.signal_looks-requires
+signal_looks-requires c =
+    let new = world (plain_shown c.play_rounds.new.services) c.play_rounds.new.players.items in
+    subst AreShort (sym (c.items-3.ensures ∙ c.in_ok-logs.ensures)) (logs-short c.args.scenario.now new c.in_ok-play_rounds.ensures.ready)
+
 pub returns-clause-replay : goal.returns-clause-replay
 returns-clause-replay c =
     let s = c.args.scenario.now in
@@ -33,10 +49,14 @@ returns-clause-replay c =
     let new = world (plain_shown c.play_rounds.new.services) c.play_rounds.new.players.items in
     let so_far = c.in_ok-play_rounds.ensures.rounds in
     let all = c.in_ok-work in
-    replayed s old new c.ending_of-ending.result all.field-0.work all.field-0.clock all.field-0.sems all.field-0.msgqs c.in_ok-logs.logs c.first_services.ensures.valid
+    replayed s old new c.ending_of-ending.result all.field-0.work all.field-0.clock all.field-0.sems all.field-0.msgqs all.field-0.signals
+    c.in_ok-item_looks.item_looks c.in_ok-signal_looks.signal_looks c.in_ok-logs.logs c.first_services.ensures.valid
     (world-first s (plain_shown c.in_ok-services.services) c.in_ok-players.players.items c.in_ok-services.ensures.shown c.in_ok-players.ensures)
     so_far.0 so_far.1 c.in_ok-play_rounds.ensures.over
-    (c.ending_of-ending.ensures ∙ ap ending_by c.deref.ensures.value) all.ensures.work all.ensures.clock all.ensures.sems all.ensures.msgqs c.in_ok-logs.ensures
+    (c.ending_of-ending.ensures ∙ ap ending_by c.deref.ensures.value) all.ensures.work all.ensures.clock all.ensures.sems all.ensures.msgqs all.ensures.signals
+    (c.in_ok-item_looks.ensures ∙ ap item_looks_of c.items.ensures)
+    (c.in_ok-signal_looks.ensures ∙ ap (λ (h : List (List (Entry SignalOp SignalReply))). signal_looks_of (length h) c.items-3.result.now) c.items-2.ensures
+    ∙ ap (signal_looks_of (length all.field-0.signals)) c.items-3.ensures) c.in_ok-logs.ensures
 
 pub returns-clause-lawful : goal.returns-clause-lawful
 returns-clause-lawful c = lawful c.args.scenario.now _ c.first_services.ensures.valid (returns-clause-replay c)

@@ -1,6 +1,10 @@
-use Rattle.std.proofs.Common.{ap, arith, rules, eqb, length}
+use Rattle.std.proofs.Common.{◌≡◌, nat_lt, Ok, Err, ap, arith, rules, sym, ◌∙◌, eqb, length}
+use Rattle.std.proofs.lemmas.Bool.{cond-false, le-ltb}
 use Rattle.std.proofs.lemmas.List.Splits.{length-slice_split}
 use Rattle.std.proofs.lemmas.List.Sums.{count_by-le-length}
+use Rattle.zk_scenario.specs.declared.refused.ScenarioRefused.TheVariants.{At}
+use Rattle.zk_scenario.specs.declared.refused.Why.TheVariants as why
+use Rattle.zk_scenario.specs.Grammar.{read_pieces, pieces_of, scenario_of}
 use Rattle.zk_scenario.specs.Parts.{Parts}
 use Rattle.zk_scenario.proofs.ReadText.{IsReadable-read, text_of-read}
 use Rattle.zk_scenario.proofs.read.read_scenario.Goals as goal
@@ -16,4 +20,10 @@ of-requires c =
     IsReadable-read c.args.text.now parts (search rules)
 
 pub returns-in-Ok-clause-spelled : goal.returns-in-Ok-clause-spelled
-returns-in-Ok-clause-spelled c = text_of-read c.args.text.now c.of.result (search rules)
+returns-in-Ok-clause-spelled c =
+    let text = c.args.text.now in
+    let read : scenario_of text ≡ Ok c.of.result =
+    cond-false (nat_lt 1048576 (length text)) (Err (At 0 why.Length)) (read_pieces (pieces_of text)) (le-ltb 1048576 (length text) c.if-text-gt-LONGEST_SCENARIO.false)
+    ∙ ap read_pieces (sym c.of-lines.ensures) ∙ c.in-Ok.ensures
+    ∙ cc in
+    text_of-read text c.of.result read

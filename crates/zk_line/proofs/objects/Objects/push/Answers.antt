@@ -1,7 +1,7 @@
 use Rattle.std.proofs.Common.{◌≡◌, ◌∙◌, ◌<◌, ◌+◌, ◌^◌, length, ap, arith, ◌++◌, ◌∷◌, [], ℕ, List, Some, cond}
 use Rattle.std.specs.Str.{bytes_eq}
 use Rattle.zk_line.specs.ByName.{by_name}
-use Rattle.zk_line.specs.Objects.{grown, own_list, object_of, is_thread, is_queue, is_item, is_sem, is_msgq, name_of}
+use Rattle.zk_line.specs.Objects.{grown, own_list, object_of, is_thread, is_queue, is_item, is_sem, is_msgq, is_signal, name_of}
 use Rattle.zk_line.proofs.Tables.{length-kind, IsTabled-after}
 use Rattle.zk_line.proofs.objects.Objects.push.Goals as goal
 
@@ -30,6 +30,11 @@ enlist-number-requires-clause-msgq_room c =
     let few = length-kind is_msgq _ _ c.make_room-7.new.list.items c.self.invariant.few c.self.invariant.each_msgq c.make_room-7.ensures.unchanged in
     (omega (arith, c.in_ok-make_room-7.ensures.room), omega (arith, c.make_room-7.new.list.ok.0))
 
+pub enlist-number-requires-clause-signal_room : goal.enlist-number-requires-clause-signal_room
+enlist-number-requires-clause-signal_room c =
+    let few = length-kind is_signal _ _ c.make_room-8.new.list.items c.self.invariant.few c.self.invariant.each_signal c.make_room-8.ensures.unchanged in
+    (omega (arith, c.in_ok-make_room-8.ensures.room), omega (arith, c.make_room-8.new.list.ok.0))
+
 pub invariant_of-self-2 : goal.invariant_of-self-2
 invariant_of-self-2 c =
     let at = c.self.inside in
@@ -48,19 +53,22 @@ invariant_of-self-2 c =
     let items = c.make_room-5.ensures.unchanged in
     let sems = c.make_room-6.ensures.unchanged in
     let msgqs = c.make_room-7.ensures.unchanged in
-    let number : c.enlist-number.result ≡ length (own_list d at.threads.items at.queues.items at.items.items at.sems.items at.msgqs.items) =
+    let signals = c.make_room-8.ensures.unchanged in
+    let number : c.enlist-number.result ≡ length (own_list d at.threads.items at.queues.items at.items.items at.sems.items at.msgqs.items at.signals.items) =
     c.enlist-number.ensures.number
-    ∙ ap (λ l. length (own_list d l c.make_room-4.new.list.items c.make_room-5.new.list.items c.make_room-6.new.list.items c.make_room-7.new.list.items)) threads
-    ∙ ap (λ l. length (own_list d at.threads.items l c.make_room-5.new.list.items c.make_room-6.new.list.items c.make_room-7.new.list.items)) queues
-    ∙ ap (λ l. length (own_list d at.threads.items at.queues.items l c.make_room-6.new.list.items c.make_room-7.new.list.items)) items
-    ∙ ap (λ l. length (own_list d at.threads.items at.queues.items at.items.items l c.make_room-7.new.list.items)) sems
-    ∙ ap (λ l. length (own_list d at.threads.items at.queues.items at.items.items at.sems.items l)) msgqs in
-    IsTabled-after ds d at.threads.items at.queues.items at.items.items at.sems.items at.msgqs.items at.numbers.items c.enlist-number.result at.names c.insert.new.self c.self.invariant few fresh number put
-    c.put-2.new.list.items c.enlist-number.new.threads.items c.enlist-number.new.queues.items c.enlist-number.new.items.items c.enlist-number.new.sems.items c.enlist-number.new.msgqs.items c.put.new.list.items
+    ∙ ap (λ l. length (own_list d l c.make_room-4.new.list.items c.make_room-5.new.list.items c.make_room-6.new.list.items c.make_room-7.new.list.items c.make_room-8.new.list.items)) threads
+    ∙ ap (λ l. length (own_list d at.threads.items l c.make_room-5.new.list.items c.make_room-6.new.list.items c.make_room-7.new.list.items c.make_room-8.new.list.items)) queues
+    ∙ ap (λ l. length (own_list d at.threads.items at.queues.items l c.make_room-6.new.list.items c.make_room-7.new.list.items c.make_room-8.new.list.items)) items
+    ∙ ap (λ l. length (own_list d at.threads.items at.queues.items at.items.items l c.make_room-7.new.list.items c.make_room-8.new.list.items)) sems
+    ∙ ap (λ l. length (own_list d at.threads.items at.queues.items at.items.items at.sems.items l c.make_room-8.new.list.items)) msgqs
+    ∙ ap (λ l. length (own_list d at.threads.items at.queues.items at.items.items at.sems.items at.msgqs.items l)) signals in
+    IsTabled-after ds d at.threads.items at.queues.items at.items.items at.sems.items at.msgqs.items at.signals.items at.numbers.items c.enlist-number.result at.names c.insert.new.self c.self.invariant few fresh number put
+    c.put-2.new.list.items c.enlist-number.new.threads.items c.enlist-number.new.queues.items c.enlist-number.new.items.items c.enlist-number.new.sems.items c.enlist-number.new.msgqs.items c.enlist-number.new.signals.items c.put.new.list.items
     (c.put-2.ensures ∙ ap (λ l. l ++ d ∷ []) c.make_room.ensures.unchanged)
     (c.enlist-number.ensures.threads ∙ ap (λ l. grown is_thread d c.len-object.result l) threads ∙ ap (λ k. grown is_thread d k at.threads.items) object)
     (c.enlist-number.ensures.queues ∙ ap (λ l. grown is_queue d c.len-object.result l) queues ∙ ap (λ k. grown is_queue d k at.queues.items) object)
     (c.enlist-number.ensures.items ∙ ap (λ l. grown is_item d c.len-object.result l) items ∙ ap (λ k. grown is_item d k at.items.items) object)
     (c.enlist-number.ensures.sems ∙ ap (λ l. grown is_sem d c.len-object.result l) sems ∙ ap (λ k. grown is_sem d k at.sems.items) object)
     (c.enlist-number.ensures.msgqs ∙ ap (λ l. grown is_msgq d c.len-object.result l) msgqs ∙ ap (λ k. grown is_msgq d k at.msgqs.items) object)
+    (c.enlist-number.ensures.signals ∙ ap (λ l. grown is_signal d c.len-object.result l) signals ∙ ap (λ k. grown is_signal d k at.signals.items) object)
     (c.put.ensures ∙ ap (λ l. l ++ c.enlist-number.result ∷ []) c.make_room-2.ensures.unchanged)

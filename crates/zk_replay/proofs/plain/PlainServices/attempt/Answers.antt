@@ -6,7 +6,10 @@ use Rattle.zk_model_wait.specs.declared.sem.SemOp.{SemOp}
 use Rattle.zk_model_wait.specs.declared.sem.SemReply.{SemReply}
 use Rattle.zk_model_wait.specs.declared.msgq.MsgqOp.{MsgqOp}
 use Rattle.zk_model_wait.specs.declared.msgq.MsgqReply.{MsgqReply}
-use Rattle.zk_worker.proofs.Between.{above-work, above-clock, above-sems, above-msgqs}
+use Rattle.zk_model_wait.specs.declared.signal.SignalOp.{SignalOp}
+use Rattle.zk_model_wait.specs.declared.signal.SignalReply.{SignalReply}
+use Rattle.zk_poll.specs.Seen.{signal_history}
+use Rattle.zk_worker.proofs.Between.{above-work, above-clock, above-sems, above-msgqs, above-signals}
 use Rattle.zk_worker.specs.declared.steps.Step.TheVariants as steps
 use Rattle.zk_worker.specs.declared.steps.StepReply.TheVariants as step_replies
 use Rattle.zk_msgq.specs.Seen.{msgq_history}
@@ -14,6 +17,7 @@ use Rattle.zk_sem.specs.Seen.{sem_history}
 use Rattle.zk_replay.specs.Alone.{plain_machines, plain_shown}
 use Rattle.zk_replay.specs.Objects.{histories_of}
 use Rattle.zk_replay.proofs.Among.{attempted-at}
+use Rattle.zk_replay.proofs.LookedAt.{item-looked, signal-looked}
 use Rattle.zk_replay.proofs.plain.PlainServices.attempt.Goals as goal
 
 pub act-requires-clause-later : goal.act-requires-clause-later
@@ -79,3 +83,44 @@ returns-in-None-2-clause-attempted c =
     (λ hs. record old { msgqs = hs }) old.msgqs refl refl (λ r place. refl)
     (histories_of msgq_history c.act_at-in-Msgq.new.objects.items) made.field-0 _ _ (made.ensures.made step_replies.Msgq) made.ensures.entry c.in-Msgq.is
     (ap (option_map (λ made. step_replies.Msgq object made.0 made.1)) c.in-None-2.is)
+
+pub act_at-requires-in-Signal-clause-later : goal.act_at-requires-in-Signal-clause-later
+act_at-requires-in-Signal-clause-later c = λ h there.
+    above-signals (plain_shown c.args.self.now) c.args.who.number c.args.number c.in-Signal.object h there c.requires.later
+
+pub act_at-requires-in-Signal-clause-short : goal.act_at-requires-in-Signal-clause-short
+act_at-requires-in-Signal-clause-short c = λ h there.
+    let P : List (Entry SignalOp SignalReply) → Type 0 = λ h. length h < 2 ^ 32 - 1 in
+    All-at P (plain_shown c.args.self.now).signals c.in-Signal.object h (c.requires.short refl).signals there
+
+pub returns-in-Some-3-clause-attempted : goal.returns-in-Some-3-clause-attempted
+returns-in-Some-3-clause-attempted c =
+    let old = plain_shown c.args.self.now in
+    let object = c.in-Signal.object in
+    let made = c.in_ok-reply-in-Signal in
+    attempted-at (plain_machines c.args.self.now) c.args.who c.args.number object c.in-Signal.op (steps.Signal object c.in-Signal.op) (step_replies.Signal object) old
+    (λ hs. record old { signals = hs }) old.signals refl refl (λ r place. refl)
+    (histories_of signal_history c.act_at-in-Signal.new.objects.items) made.field-0 _ _ (made.ensures.made step_replies.Signal) made.ensures.entry c.in-Signal.is
+    (ap (option_map (λ made. step_replies.Signal object made.0 made.1)) c.in-Some-3.is)
+
+pub returns-in-None-3-clause-attempted : goal.returns-in-None-3-clause-attempted
+returns-in-None-3-clause-attempted c =
+    let old = plain_shown c.args.self.now in
+    let object = c.in-Signal.object in
+    let made = c.in_ok-reply-in-Signal in
+    attempted-at (plain_machines c.args.self.now) c.args.who c.args.number object c.in-Signal.op (steps.Signal object c.in-Signal.op) (step_replies.Signal object) old
+    (λ hs. record old { signals = hs }) old.signals refl refl (λ r place. refl)
+    (histories_of signal_history c.act_at-in-Signal.new.objects.items) made.field-0 _ _ (made.ensures.made step_replies.Signal) made.ensures.entry c.in-Signal.is
+    (ap (option_map (λ made. step_replies.Signal object made.0 made.1)) c.in-None-3.is)
+
+pub returns-in-LookItem-clause-attempted : goal.returns-in-LookItem-clause-attempted
+returns-in-LookItem-clause-attempted c =
+    let old = plain_shown c.args.self.now in
+    item-looked old.work old.clock old.sems old.msgqs old.signals (plain_machines c.args.self.now) c.args.who c.args.number c.in-LookItem.object _ c.look_at_item.result
+    (c.look_at_item.ensures c.args.who) c.in-LookItem.is
+
+pub returns-in-LookSignal-clause-attempted : goal.returns-in-LookSignal-clause-attempted
+returns-in-LookSignal-clause-attempted c =
+    let old = plain_shown c.args.self.now in
+    signal-looked old.work old.clock old.sems old.msgqs old.signals (plain_machines c.args.self.now) c.args.who c.args.number c.in-LookSignal.object c.in-LookSignal.must _ c.look_at_signal.result
+    (c.look_at_signal.ensures c.args.who) c.in-LookSignal.is

@@ -12,7 +12,7 @@ use Rattle.zk_worker.proofs.player.Player.made.Goals as goal
 pub invariant_of-self : goal.invariant_of-self
 invariant_of-self c =
     let was = c.self.inside in
-    let short = ahead_short c.args.scenario.now c.args.self.now c.args.step c.requires.ahead in
+    let short = ahead_short c.args.scenario.now c.args.self.now c.args.step.now c.requires.ahead in
     let spots = ap (λ v. length v.spots) c.self.view_is in
     let fewer : length was.spots.items < MOST_STEPS = omega (arith, spots, short) in
     IsRoomy-moved c.args.scenario.now (reverse was.stack.items) (reverse c.move_frames.new.stack.items) was.answers.items c.put_answer.new.answers.items
@@ -29,16 +29,16 @@ pub returns-clause-fits : goal.returns-clause-fits
 returns-clause-fits c =
     let s = c.args.scenario.now in
     λ fits. subst (λ (at : At). FramesFit s.decls at.frames) (sym (returns-clause-next c))
-    (after-fits s c.args.self.now c.args.step c.args.reply.now fits)
+    (after-fits s c.args.self.now c.args.step.now c.args.reply.now fits)
 
 pub returns-clause-follows : goal.returns-clause-follows
 returns-clause-follows c =
     let s = c.args.scenario.now in
     let at = c.args.self.now in
     λ number old new more is. subst (λ (x : At). IsFollowing s number new x) (sym (returns-clause-next c))
-    (following-more s number old new at c.args.step c.args.reply.now more c.requires.ahead is)
+    (following-more s number old new at c.args.step.now c.args.reply.now more c.requires.ahead is)
 
 pub returns-clause-looks : goal.returns-clause-looks
 returns-clause-looks c = λ alone m old new shows made right.
-    looks-stepped alone m m c.args.scenario.now c.args.self.now _ c.args.step c.args.reply.now old new refl shows right made
+    looks-stepped alone m m c.args.scenario.now c.args.self.now _ c.args.step.now c.args.reply.now old new refl shows right made
     (returns-clause-next c)

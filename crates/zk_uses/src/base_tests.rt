@@ -1,8 +1,11 @@
-//! Each public call once, with ample memory.
-use crate::*;
+//! Each public call of `zk_base` once, with ample memory.
 use std::io;
 use std::process::Abort;
 use std::test::Fail;
+use zk_base::{
+    Failed, Listed, MemSink, MemSource, Name, Sink, Source, Status, StdSink, StdSource, SureSink,
+    SureSource, is_name, is_spelled, put, put_decimal,
+};
 
 /// Whether each of the words is a name.
 fn names<R: Abort>(rt: &R, words: &[&str], named: bool) {

@@ -4,9 +4,9 @@ ghost use Rattle.zk_base.specs.declared.ids.Who.{Who};
 ghost use Rattle.zk_base.specs.Legal.{IsLegal};
 ghost use Rattle.zk_turn.specs.Passes.{AreNewPasses, IsNewPass};
 
-use crate::*;
 use std::test::Fail;
 use zk_base::{Engine, NoMemory, Recorded, Service, Who};
+use zk_turn::{Cell, Pass};
 
 /// How many entries were made.
 #[derive(Drop)]
@@ -22,7 +22,7 @@ impl Engine for Tally {
     type State = u64;
 
     ghost use Rattle.std.specs.Prelude.{◌≡◌, false};
-    ghost use Rattle.zk_turn.specs.Tally.{tally_machine, tally_closes, counts, ranges, adds, gives};
+    ghost use Rattle.zk_uses.specs.Tally.{tally_machine, tally_closes, counts, ranges, adds, gives};
 
     ghost stands_for = { λ tally count. tally.count ≡ count };
 
@@ -38,6 +38,13 @@ impl Engine for Tally {
 
     ghost grows = { λ op. false };
 
+    // Nothing is published for looks.
+    ghost word = { λ count index. 0 };
+
+    ghost WORDS = { 0 };
+
+    const WORDS: u32 = 0;
+
     fn step(&mut self, _who: Who, _op: &u8) -> Result<Option<(u64, u64)>, NoMemory> {
         let count = self.count;
         self.count += 1;
@@ -49,6 +56,10 @@ impl Engine for Tally {
     }
 
     fn owed(&self) -> u64 {
+        0
+    }
+
+    fn word(&self, _index: u32) -> u32 {
         0
     }
 

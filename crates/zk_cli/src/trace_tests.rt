@@ -1,25 +1,36 @@
 //! A trace that is put together here, and its text.
-use crate::{Ending, Histories, History, Trace, print_trace};
 use std::alloc::Global;
 use std::test::Fail;
-use zk_base::{Entry, Errno, Listed, Msg, Who};
-use zk_model_wait::{ClockOp, ClockReply, MsgqOp, MsgqReply, SemOp, SemReply};
+use zk_base::{Entry, Errno, Listed, Msg, Seen, Who};
+use zk_model_wait::{
+    ClockOp, ClockReply, MsgqOp, MsgqReply, SemOp, SemReply, SignalOp, SignalReply,
+};
 use zk_model_work::{Expiry, Submitted, WorkOp, WorkReply};
 use zk_scenario::read_scenario;
+use zk_trace::{Ending, Histories, History, ItemLook, SignalLook, SignalLooks, Trace, print_trace};
 use zk_worker::{Answer, Answered, Log, PlayerState, Word};
 
-/// One thread, two queues, three items, a semaphore and a message queue: the thread is player 0, the workers are 1 and 2.
+/// One thread, two queues, three items, a semaphore, a message queue and a signal: the thread is player 0, the workers are 1 and 2.
 const SCENARIO: &str =
-    "zk 1\nthread t0 0 super\nqueue q0 0 on\nqueue q1 0 on\nitem w0\nitem w1\nitem w2\nsem s0 0 10\nmsgq m0 2 1\n";
+    "zk 1\nthread t0 0 super\nqueue q0 0 on\nqueue q1 0 on\nitem w0\nitem w1\nitem w2\n\
+    sem s0 0 10\nmsgq m0 2 1\nsignal g0\n";
 
-/// The object number of the semaphore, and then that of the message queue.
-const OBJECTS: (u32, u32) = (6, 7);
+/// The object numbers of an item, the semaphore, the message queue and the signal.
+const ITEM: u32 = 4;
+
+const SEM: u32 = 6;
+
+const MSGQ: u32 = 7;
+
+const SIGNAL: u32 = 8;
 
 const TRACE: &str = "zt 1
 ended
 service work
 t0.1 reschedule w2 q1 1000000 = 1
 q1.1 announce 5 = now 5 w1:1:a0:q0 w0:2:a1:q0 w2:busy w1:0
+look t0.3 busy w1 = rcqdf @1
+look q0.1 busy w1 = - @2
 service clock
 q0.0 alarm 2 = at 7
 service s0
@@ -45,9 +56,16 @@ t0.9 peekat 1 = nomsg
 t0.10 purge = ok
 t0.11 used = 0
 t0.12 free = 1
+service g0
+t0.0 raise 65535 = 1
+t0.1 clear = 2
+look t0.4 check = clear 0 @0
+look t0.5 check = raised 65535 @1
 player t0 done
 1 reschedule = 1
 7 get = 01ff
+8 check = raised 7
+9 check = clear 0
 ";
 
 fn entry<O, R>(number: u32, step: u32, op: O, reply: R) -> Entry<O, R> {
@@ -109,7 +127,7 @@ fn sems(alloc: Global) -> Result<Histories<SemOp, SemReply>, Fail> {
         (SemOp::Reset, SemReply::Done),
         (SemOp::Count, SemReply::Number(3)),
     ];
-    alone(alloc, OBJECTS.0, history(alloc, &done)?)
+    alone(alloc, SEM, history(alloc, &done)?)
 }
 
 fn msgqs(alloc: Global, message: Msg) -> Result<Histories<MsgqOp, MsgqReply>, Fail> {
@@ -128,7 +146,51 @@ fn msgqs(alloc: Global, message: Msg) -> Result<Histories<MsgqOp, MsgqReply>, Fa
         (MsgqOp::Used, MsgqReply::Number(0)),
         (MsgqOp::Free, MsgqReply::Number(1)),
     ];
-    alone(alloc, OBJECTS.1, history(alloc, &done)?)
+    alone(alloc, MSGQ, history(alloc, &done)?)
+}
+
+fn signals(alloc: Global) -> Result<Histories<SignalOp, SignalReply>, Fail> {
+    let done = [
+        (SignalOp::Raise(65_535), SignalReply::Stamp(1)),
+        (SignalOp::Clear, SignalReply::Stamp(2)),
+    ];
+    alone(alloc, SIGNAL, history(alloc, &done)?)
+}
+
+fn item_look(player: u32, step: u32, flags: u8, at: u64) -> ItemLook {
+    ItemLook {
+        player,
+        step,
+        item: ITEM,
+        flags,
+        at,
+    }
+}
+
+fn signal_look(step: u32, raised: bool, value: u16, stamp: u32) -> SignalLook {
+    SignalLook {
+        player: 0,
+        step,
+        seen: Seen {
+            raised,
+            result: value,
+            stamp,
+        },
+    }
+}
+
+/// The looks at each object: at the signal alone.
+fn signal_looks(alloc: Global) -> Result<SignalLooks, Fail> {
+    let looks = vec![in alloc;
+        signal_look(4, false, 0, 0),
+        signal_look(5, true, 65_535, 1),
+    ]?;
+    let mut all = Listed::new(alloc);
+    for _ in 0..SIGNAL {
+        all.push(Listed::new(alloc))?;
+    }
+    all.push(Listed::from_vec(looks))?;
+    Ok(all)
 }
 
 fn answered(step: u32, word: Word, answer: Answer) -> Answered {
@@ -139,6 +201,8 @@ fn log(alloc: Global, message: Msg) -> Result<Log, Fail> {
     let answers = vec![in alloc;
         answered(1, Word::Reschedule, Answer::Number(1)),
         answered(7, Word::Get, Answer::Bytes(message)),
+        answered(8, Word::Check, Answer::Signal(true, 7)),
+        answered(9, Word::Check, Answer::Signal(false, 0)),
     ]?;
     Ok(Log {
         state: PlayerState::Done,
@@ -158,6 +222,12 @@ fn trace(alloc: Global) -> Result<Trace, Fail> {
         clock: Listed::from_vec(vec![in alloc; alarm]?),
         sems: sems(alloc)?,
         msgqs: msgqs(alloc, message)?,
+        signals: signals(alloc)?,
+        item_looks: Listed::from_vec(vec![in alloc;
+            item_look(0, 3, 31, 1),
+            item_look(1, 1, 0, 2),
+        ]?),
+        signal_looks: signal_looks(alloc)?,
         logs: Listed::from_vec(vec![in alloc; log(alloc, message)?]?),
     })
 }

@@ -1,0 +1,2 @@
+mod LastWrite
+mod Noting

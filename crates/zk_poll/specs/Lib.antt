@@ -1,0 +1,5 @@
+pub mod Notes
+pub mod Seen
+pub mod SignalLaws
+pub mod Tests
+pub mod Words

@@ -1,0 +1,99 @@
+ghost use Rattle.std.specs.Prelude.{◌≡◌, ◌++◌, decimal, OnOk, OnErr};
+ghost use Rattle.zk_trace.specs.Fronts.{StaysInFront};
+ghost use Rattle.zk_trace.specs.Looks.{look_head, item_look_line, signal_look_line, seen_word, stamp_word};
+
+use crate::lined::{Lined, put_spot};
+use crate::names::name_at;
+use crate::words::put_flags;
+use zk_base::{Listed, NoMemory, Seen, put, put_decimal};
+use zk_scenario::Scenario;
+
+/// What a player found when it looked at the busy flags of an item.
+#[derive(Clone, Copy, Debug, PartialEq, Eq)]
+pub struct ItemLook {
+    /// The number of the player.
+    pub player: u32,
+    /// The number of the look among all steps of the player, from 0.
+    pub step: u32,
+    /// The item, by its object number.
+    pub item: u32,
+    /// Its busy flags, below 32.
+    pub flags: u8,
+    /// How many entries the work service had.
+    pub at: u64,
+}
+
+/// What a player found when it looked at a signal.
+#[derive(Clone, Copy, Debug, PartialEq, Eq)]
+pub struct SignalLook {
+    /// The number of the player.
+    pub player: u32,
+    /// The number of the look among all steps of the player, from 0.
+    pub step: u32,
+    /// What it found.
+    pub seen: Seen,
+}
+
+/// All looks at items, by player and then by step.
+pub type ItemLooks = Listed<ItemLook>;
+
+/// The looks at each signal, by object number; each by player and then by step.
+pub type SignalLooks = Listed<Listed<SignalLook>>;
+
+impl Lined for ItemLook {
+    ghost text = { item_look_line };
+
+    fn put_line(&self, out: &mut Vec<u8>, scenario: &Scenario) -> Result<(), NoMemory> {
+        put_look_head(out, scenario, self.player, self.step)?;
+        put(out, b" busy ")?;
+        put(out, name_at(scenario.decls(), self.item as usize))?;
+        put(out, b" = ")?;
+        put_flags(out, self.flags)?;
+        put_stamp(out, self.at)?;
+        put(out, b"\n")
+    }
+}
+
+impl Lined for SignalLook {
+    ghost text = { signal_look_line };
+
+    fn put_line(&self, out: &mut Vec<u8>, scenario: &Scenario) -> Result<(), NoMemory> {
+        put_look_head(out, scenario, self.player, self.step)?;
+        put(out, b" check = ")?;
+        put_seen(out, self.seen.raised, self.seen.result)?;
+        put_stamp(out, u64::from(self.seen.stamp))?;
+        put(out, b"\n")
+    }
+}
+
+/// The word `look` and whose step it is.
+fn put_look_head(
+    out: &mut Vec<u8>,
+    scenario: &Scenario,
+    player: u32,
+    step: u32,
+) -> Result<(), NoMemory>
+    ensures text { OnOk result (out.new.items ≡ out.old.items ++ look_head scenario.now.decls player step) }
+    ensures kept { OnErr result (StaysInFront out.old.items out.new.items) }
+{
+    put(out, b"look ")?;
+    put_spot(out, scenario, player, step)
+}
+
+/// What a signal was: raised or clear, and the result.
+pub fn put_seen(out: &mut Vec<u8>, raised: bool, value: u16) -> Result<(), NoMemory>
+    ensures text { OnOk result (out.new.items ≡ out.old.items ++ seen_word raised value) }
+    ensures kept { OnErr result (StaysInFront out.old.items out.new.items) }
+{
+    put(out, if raised { b"raised " } else { b"clear " })?;
+    put_decimal(out, u64::from(value))
+}
+
+/// After how many entries or writes it was so.
+fn put_stamp(out: &mut Vec<u8>, stamp: u64) -> Result<(), NoMemory>
+    ensures text { OnOk result (out.new.items ≡ out.old.items ++ stamp_word stamp) }
+    ensures kept { OnErr result (StaysInFront out.old.items out.new.items) }
+{
+    put(out, b" @")?;
+    put_decimal(out, stamp)
+}
