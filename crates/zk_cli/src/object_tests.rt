@@ -1,10 +1,10 @@
-//! Semaphores, message queues, signals, looks and waits with ticks: scripts with their traces, through the top call.
+//! Semaphores, message queues, signals, polls, looks and waits with ticks: scripts with their traces, through the top call.
 use crate::tests::row;
 use std::test::*;
 use zk_base::Status;
 
 /// What a scenario adds to the front of the rows, its status, and the trace part that is printed behind it, by name.
-const ROWS: [(&str, Status, &str, &str); 12] = [
+const ROWS: [(&str, Status, &str, &str); 16] = [
     (
         "the first waiter by priority, and a reset",
         Status::Success,
@@ -139,6 +139,58 @@ const ROWS: [(&str, Status, &str, &str); 12] = [
          3 busy = -\nplayer t1 done\n0 check = clear 0\n1 check = raised 65535\n\
          2 check = raised 1\n3 check = raised 0\n4 submit = 1\nplayer q0 done\n1 busy = r\n\
          2 check = raised 0\n",
+    ),
+    (
+        "polls that don't wait",
+        Status::Success,
+        "sem s0 1 1\nmsgq m0 1 1\nsignal g0\nscript t0\npoll no sem:s0 msgq:m0 sig:g0\n\
+         raise g0 3\npoll no ignore msgq:m0 sig:g0 sem:s0\npoll no msgq:m0\nend\n",
+        "zt 1\nended\nservice s0\nt0.0 pollarm no = ready\nt0.6 pollarm no = ready\n\
+         service m0\nt0.1 pollarm no = notready\nt0.4 pollarm no = notready\n\
+         t0.7 pollarm no = notready\nservice g0\nt0.3 raise 3 = 1\n\
+         look t0.2 check = clear 0 @0\nlook t0.5 check = raised 3 @1\nplayer t0 done\n\
+         2 poll = ready 0\n3 raise = 0\n6 poll = ready 2 3\n7 poll = again\nplayer t1 done\n\
+         player q0 done\n",
+    ),
+    (
+        "a poll that a signal ends, and one that times out",
+        Status::Success,
+        "sem s0 0 1\nmsgq m0 1 1\nsignal g0\nscript t0\npoll 3 sem:s0 msgq:m0 sig:g0\n\
+         poll 2 msgq:m0 sem:s0\nend\nscript t1\ncount s0\nused m0\nraise g0 7\ncount s0\n\
+         count s0\ncount s0\ntick 3\nend\n",
+        "zt 1\nended\nservice work\nt1.6 announce 3 = now 3\nservice clock\n\
+         t0.0 alarm 3 = at 3\nt0.6 alarm 2 = at 2\nt1.7 announce 3 = now 3\n\
+         t0.9 alarmend 2 = due\nservice s0\nt1.0 count = 0\nt0.1 pollarm wait = armed\n\
+         t1.3 count = 0\nt0.4 pollquit 1 = plain\nt1.4 count = 0\nt1.5 count = 0\n\
+         t0.8 pollarm wait = armed\nt0.11 pollquit 6 = plain\nservice m0\nt1.1 used = 0\n\
+         t0.2 pollarm wait = armed\nt0.5 pollquit 1 = plain\nt0.7 pollarm wait = armed\n\
+         t0.10 pollquit 3 = plain\nservice g0\nt1.2 raise 7 = 1\n\
+         look t0.3 check = raised 7 @1\nplayer t0 done\n5 poll = ready 2\n11 poll = again\n\
+         player t1 done\n0 count = 0\n1 used = 0\n2 raise = 0\n3 count = 0\n4 count = 0\n\
+         5 count = 0\n7 tick = 0\nplayer q0 done\n",
+    ),
+    (
+        "a note goes to one of two polls, by priority",
+        Status::Success,
+        "thread t2 5 super\nthread t3 3 super\nsem s0 0 2\nmsgq m0 1 1\nscript t0\ncount s0\n\
+         count s0\ncount s0\ngive s0\ncount s0\ngive s0\nput m0 01 no\nend\nscript t2\n\
+         poll forever ignore sem:s0 msgq:m0\ntake s0 no\nend\nscript t3\npoll forever sem:s0\n\
+         take s0 no\nend\n",
+        "zt 1\nended\nservice s0\nt0.0 count = 0\nt2.0 pollarm wait = armed\n\
+         t3.0 pollarm wait = armed\nt0.1 count = 0\nt0.2 count = 0\nt0.3 give = ok\n\
+         t3.1 pollend 2 = noted\nt0.4 count = 1\nt3.2 take no = got\nt0.5 give = ok\n\
+         t2.2 pollend 1 = noted\nt2.4 take no = got\nservice m0\nt2.1 pollarm wait = armed\n\
+         t0.6 put 01 no = ok\nt2.3 pollquit 0 = noted\nplayer t0 done\n0 count = 0\n\
+         1 count = 0\n2 count = 0\n3 give = 0\n4 count = 1\n5 give = 0\n6 put = 0\n\
+         player t1 done\nplayer t2 done\n3 poll = ready 1 2\n4 take = 0\nplayer t3 done\n\
+         1 poll = ready 0\n2 take = 0\nplayer q0 done\n",
+    ),
+    (
+        "a poll that nobody serves",
+        Status::Stuck,
+        "msgq m0 1 1\nscript t0\npoll forever msgq:m0\nend\n",
+        "zt 1\nstuck\nservice m0\nt0.0 pollarm wait = armed\nplayer t0 open\nplayer t1 done\n\
+         player q0 done\n",
     ),
 ];
 

@@ -8,7 +8,7 @@ use zk_model_wait::{
 use zk_model_work::{Expiry, Submitted, WorkOp, WorkReply};
 use zk_scenario::read_scenario;
 use zk_trace::{Ending, Histories, History, ItemLook, SignalLook, SignalLooks, Trace, print_trace};
-use zk_worker::{Answer, Answered, Log, PlayerState, Word};
+use zk_worker::{Answer, Answered, Log, PlayerState, Positions, Word};
 
 /// One thread, two queues, three items, a semaphore, a message queue and a signal: the thread is player 0, the workers are 1 and 2.
 const SCENARIO: &str =
@@ -42,6 +42,10 @@ t0.4 takequit 2 = again
 t0.5 give = ok
 t0.6 reset = ok
 t0.7 count = 3
+t0.8 pollarm no = ready
+t0.9 pollarm wait = armed
+t0.10 pollend 9 = noted
+t0.11 pollquit 9 = plain
 service m0
 t0.0 put 01ff no = ok
 t0.1 put 01ff wait = wait
@@ -56,6 +60,10 @@ t0.9 peekat 1 = nomsg
 t0.10 purge = ok
 t0.11 used = 0
 t0.12 free = 1
+t0.13 pollarm no = notready
+t0.14 pollarm wait = armed
+t0.15 pollend 14 = noted
+t0.16 pollquit 14 = plain
 service g0
 t0.0 raise 65535 = 1
 t0.1 clear = 2
@@ -66,6 +74,7 @@ player t0 done
 7 get = 01ff
 8 check = raised 7
 9 check = clear 0
+10 poll = ready 0 7
 ";
 
 fn entry<O, R>(number: u32, step: u32, op: O, reply: R) -> Entry<O, R> {
@@ -126,6 +135,10 @@ fn sems(alloc: Global) -> Result<Histories<SemOp, SemReply>, Fail> {
         (SemOp::Give, SemReply::Done),
         (SemOp::Reset, SemReply::Done),
         (SemOp::Count, SemReply::Number(3)),
+        (SemOp::PollArm(false), SemReply::Ready),
+        (SemOp::PollArm(true), SemReply::Armed),
+        (SemOp::PollEnd(9), SemReply::Noted),
+        (SemOp::PollQuit(9), SemReply::Plain),
     ];
     alone(alloc, SEM, history(alloc, &done)?)
 }
@@ -145,6 +158,10 @@ fn msgqs(alloc: Global, message: Msg) -> Result<Histories<MsgqOp, MsgqReply>, Fa
         (MsgqOp::Purge, MsgqReply::Done),
         (MsgqOp::Used, MsgqReply::Number(0)),
         (MsgqOp::Free, MsgqReply::Number(1)),
+        (MsgqOp::PollArm(false), MsgqReply::NotReady),
+        (MsgqOp::PollArm(true), MsgqReply::Armed),
+        (MsgqOp::PollEnd(14), MsgqReply::Noted),
+        (MsgqOp::PollQuit(14), MsgqReply::Plain),
     ];
     alone(alloc, MSGQ, history(alloc, &done)?)
 }
@@ -198,11 +215,15 @@ fn answered(step: u32, word: Word, answer: Answer) -> Answered {
 }
 
 fn log(alloc: Global, message: Msg) -> Result<Log, Fail> {
+    let mut ready = Positions::new();
+    ready.push(0);
+    ready.push(7);
     let answers = vec![in alloc;
         answered(1, Word::Reschedule, Answer::Number(1)),
         answered(7, Word::Get, Answer::Bytes(message)),
         answered(8, Word::Check, Answer::Signal(true, 7)),
         answered(9, Word::Check, Answer::Signal(false, 0)),
+        answered(10, Word::Poll, Answer::Ready(ready)),
     ]?;
     Ok(Log {
         state: PlayerState::Done,

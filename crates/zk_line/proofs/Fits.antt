@@ -1,6 +1,7 @@
 -- A call that is made of well named words fits, and a declaration that is made of them has a new name.
-use Rattle.std.proofs.Common.{◌≡◌, ℕ, ◌*◌, ◌/◌, nat_le, length, arith, true, false, not, List, [], ◌∷◌, Option, Some, None, is_some, refl, sym, ap, ◌∙◌}
-use Rattle.std.specs.Prelude.{option_and_then}
+use Rattle.std.proofs.Common.{◌≡◌, ℕ, ◌*◌, ◌/◌, nat_le, length, arith, Bool, true, false, not, cond, ◌&&◌, ◌||◌, List, [], ◌∷◌, map, Option, Some, None, is_some, refl, sym, ap, ◌∙◌}
+use Rattle.std.specs.Prelude.{option_map, option_and_then}
+use Rattle.std.specs.List.{list_all}
 use Rattle.std.specs.Option.{option_map_or, option_flatten}
 use Rattle.std.proofs.lemmas.Bool.{and_parts, and_from}
 use Rattle.std.proofs.lemmas.Option.{cond_some, option_and_then_some, same_Some}
@@ -9,34 +10,62 @@ use Rattle.zk_words.specs.declared.kind.Kind.{Kind}
 use Rattle.zk_words.specs.declared.slot.Slot.{Slot}
 use Rattle.zk_words.specs.declared.slot.Slot.TheVariants as slot
 use Rattle.zk_words.specs.declared.slot.Rest.{Rest}
-use Rattle.zk_words.specs.declared.slot.Rest.TheVariants.{Nothing, Maybe}
+use Rattle.zk_words.specs.declared.slot.Rest.TheVariants.{Nothing, Maybe, Events}
+use Rattle.zk_words.specs.declared.timeout.Timeout.{Timeout}
 use Rattle.zk_words.specs.declared.word.Word.{Word}
 use Rattle.zk_words.specs.Hex.{msg_of}
 use Rattle.zk_words.specs.Numbers.{number_in, priority_of}
-use Rattle.zk_words.specs.Parts.{Placed, parts_of}
+use Rattle.zk_words.specs.declared.event.Source.{Source}
+use Rattle.zk_words.specs.declared.event.Source.TheVariants as source
+use Rattle.zk_words.specs.Events.{event_named, is_ignore, need_of}
+use Rattle.zk_words.specs.Parts.{Placed, placed, parts_of}
 use Rattle.zk_words.specs.Table.{call_row}
-use Rattle.zk_words.specs.Timeouts.{wait_of}
+use Rattle.zk_words.specs.Timeouts.{wait_of, wait_fits}
 use Rattle.zk_words.proofs.HexText.{msg_spelled}
 use Rattle.zk_words.proofs.Numerals.{number_in_spelled}
 use Rattle.zk_words.proofs.Waits.{wait_spelled}
 use Rattle.zk_line.specs.declared.types.Decl.{Decl}
 use Rattle.zk_line.specs.declared.types.Decl.TheVariants as decl
+use Rattle.zk_line.specs.declared.events.Event.{Event as PollEvent}
+use Rattle.zk_line.specs.declared.events.Event.TheVariants as event
+use Rattle.zk_line.specs.declared.types.Ref.{Ref}
 use Rattle.zk_line.specs.declared.types.Ref.TheVariants.{Known}
 use Rattle.zk_line.specs.declared.types.Arg.{Arg}
 use Rattle.zk_line.specs.declared.types.Arg.TheVariants as arg
 use Rattle.zk_line.specs.declared.types.Call.{Call}
-use Rattle.zk_line.specs.Args.{truth_of, ref_of, arg_of, args_of}
+use Rattle.zk_line.specs.declared.types.Call.TheVariants as call
+use Rattle.zk_line.specs.Args.{truth_of, ref_of, event_of, arg_of, args_of}
 use Rattle.zk_line.specs.Calls.{call_of}
 use Rattle.zk_line.specs.Checks.{size_named, size_said, message_size, is_size, is_in_range, each_in_range, is_well_named, are_well_named}
 use Rattle.zk_line.specs.Decls.{decl_of, decl_args}
-use Rattle.zk_line.specs.Fits.{fits_in, rest_fit, args_fit, call_fits}
-use Rattle.zk_line.specs.Objects.{object_of, kind_of, name_of, is_at, is_met}
+use Rattle.zk_line.specs.Few.{event_at}
+use Rattle.zk_line.specs.Fits.{ref_fits, event_fits, fits_in, rest_fit, args_fit, call_fits}
+use Rattle.zk_line.specs.Objects.{object_of, kind_of, name_of, is_at, is_met, names}
 use Rattle.zk_line.proofs.Inverse.{said_of-call_of, written_of-decl_of}
-use Rattle.zk_line.proofs.Spelled.{one_part}
+use Rattle.zk_line.proofs.Options.{one_part}
 
 -- half as many bytes as digits
 half : (n m : ℕ) → n ≡ 2 * m → n / 2 ≡ m
 half n m is = omega (arith, is)
+
+event_at-fits : (decls : List Decl) (s : Source) (object : Ref) → event_fits decls (event_at s object) ≡ ref_fits decls (need_of s) object
+event_at-fits decls source.Sem object = refl
+event_at-fits decls source.Msgq object = refl
+event_at-fits decls source.Signal object = refl
+
+event_fits-read : (decls : List Decl) (w : List ℕ) (e : PollEvent) → is_well_named decls slot.Event w ≡ true → event_of decls w ≡ Some e → event_fits decls e ≡ true
+event_fits-read decls w e named said = by_first (is_ignore w) named said where
+  by_first : (b : Bool) → (b || option_map_or (λ a. names (is_met (need_of a.source)) decls a.name) (event_named w) false) ≡ true
+      → cond b (Some event.Ignore) (option_and_then (λ a. option_map (event_at a.source) (ref_of decls a.name)) (event_named w)) ≡ Some e → event_fits decls e ≡ true
+  by_first true named said = ap (event_fits decls) (sym (same_Some event.Ignore e said))
+  by_first false named said =
+      option_and_then_some _ (event_named w) e said
+      (λ a is_a given.
+      let object = one_part (event_at a.source) (ref_of decls a.name) e given in
+      let known = one_part Known (object_of decls a.name) object.0 object.1 in
+      ap (event_fits decls) (sym object.2 ∙ ap (event_at a.source) (sym known.2)) ∙ event_at-fits decls a.source (Known known.0)
+      ∙ sym (ap (λ o. option_map_or (is_at (is_met (need_of a.source)) decls) o false) known.1)
+      ∙ sym (ap (λ o. option_map_or (λ x. names (is_met (need_of x.source)) decls x.name) o false) is_a) ∙ named)
 
 arg_fits : (decls : List Decl) (size : Option ℕ) (s : Slot) (w : List ℕ) (a : Arg) → is_in_range size s w ≡ true → is_well_named decls s w ≡ true → arg_of decls s w ≡ Some a → fits_in decls size s a ≡ true
 arg_fits decls size (slot.Object need) w a ranged named said =
@@ -57,7 +86,22 @@ arg_fits decls size slot.Hex w a ranged named said =
 arg_fits decls size slot.Wait w a ranged named said =
     let wait = one_part arg.Wait (wait_of w) a said in
     ap (fits_in decls size slot.Wait) (sym wait.2) ∙ (wait_spelled w wait.0 wait.1).1
+arg_fits decls size slot.Event w a ranged named said =
+    let e = one_part arg.Event (event_of decls w) a said in
+    ap (fits_in decls size slot.Event) (sym e.2) ∙ event_fits-read decls w e.0 named e.1
 arg_fits decls size slot.Raw w a ranged named said = refl
+
+-- the events of a poll, word by word
+events_fit-read : (decls : List Decl) (size : Option ℕ) (ws : List (List ℕ)) (args : List Arg) → are_well_named decls (map (placed slot.Event) ws) ≡ true → args_of decls (map (placed slot.Event) ws) ≡ Some args
+    → list_all (fits_in decls size slot.Event) args ≡ true
+events_fit-read decls size [] args named said = ap (list_all (fits_in decls size slot.Event)) (sym (same_Some [] args said))
+events_fit-read decls size (w ∷ ws) args named said =
+    let both = and_parts (is_well_named decls slot.Event w) (are_well_named decls (map (placed slot.Event) ws)) named in
+    option_and_then_some _ (arg_of decls slot.Event w) args said
+    (λ a is_a given.
+    let more = one_part (λ xs. a ∷ xs) (args_of decls (map (placed slot.Event) ws)) args given in
+    ap (list_all (fits_in decls size slot.Event)) (sym more.2)
+    ∙ and_from (fits_in decls size slot.Event a) (list_all (fits_in decls size slot.Event) more.0) (arg_fits decls size slot.Event w a refl both.0 is_a) (events_fit-read decls size ws more.0 both.1 more.1))
 
 -- a line's words and what they say, side by side
 pub args_fit-read : (decls : List Decl) (size : Option ℕ) (slots : List Slot) (rest : Rest) (ws : List (List ℕ)) (args : List Arg) → each_in_range size (parts_of slots rest ws) ≡ true → are_well_named decls (parts_of slots rest ws) ≡ true
@@ -69,6 +113,7 @@ args_fit-read decls size [] (Maybe s) (w ∷ ws) args ranged named said =
     (λ a is_a given.
     ap (rest_fit decls size (Maybe s)) (sym (same_Some _ _ given))
     ∙ arg_fits decls size s w a (and_parts (is_in_range size s w) true ranged).0 (and_parts (is_well_named decls s w) true named).0 is_a)
+args_fit-read decls size [] Events ws args ranged named said = events_fit-read decls size ws args named said
 args_fit-read decls size (s ∷ slots) rest [] args ranged named said = ap (args_fit decls size (s ∷ slots) rest) (sym (same_Some [] args said))
 args_fit-read decls size (s ∷ slots) rest (w ∷ ws) args ranged named said =
     let first = and_parts (is_in_range size s w) (each_in_range size (parts_of slots rest ws)) ranged in
@@ -101,6 +146,16 @@ call_fits-read decls w ws c ranged named made =
     ∙ ap (λ size. args_fit decls size form.slots form.rest args) (size_said-read decls ps args is_args)
     ∙ args_fit-read decls (message_size decls ps) form.slots form.rest ws args ranged named is_args)
 
+events_fit : (decls : List Decl) (events : List PollEvent) → list_all (fits_in decls None slot.Event) (map arg.Event events) ≡ list_all (event_fits decls) events
+events_fit decls [] = refl
+events_fit decls (event ∷ events) = ap (λ b. event_fits decls event && b) (events_fit decls events)
+
+-- a poll that fits waits for a time in range, and for objects that are declared and of their kinds
+pub poll_fits : (decls : List Decl) (wait : Timeout) (events : List PollEvent) → call_fits decls (call.Poll wait events) ≡ true → (wait_fits wait ≡ true) × (list_all (event_fits decls) events ≡ true)
+poll_fits decls wait events fits =
+    let both = and_parts (wait_fits wait) (list_all (fits_in decls None slot.Event) (map arg.Event events)) fits in
+    (both.0, sym (events_fit decls events) ∙ both.1)
+
 -- the kind of what a line declares
 pub kind_of-read : (decls : List Decl) (k : Kind) (parts : List Placed) (d : Decl) → option_and_then (decl_of k) (args_of decls parts) ≡ Some d → kind_of d ≡ k
 kind_of-read decls k parts d made =
@@ -121,6 +176,7 @@ fresh decls slot.Priority w name named said = let part = one_part arg.Priority (
 fresh decls (slot.Either choice) w name named said = let part = one_part (arg.Truth choice) (truth_of choice w) (arg.Name name) said in absurd (cc part.2)
 fresh decls slot.Hex w name named said = let part = one_part arg.Bytes (msg_of w) (arg.Name name) said in absurd (cc part.2)
 fresh decls slot.Wait w name named said = let part = one_part arg.Wait (wait_of w) (arg.Name name) said in absurd (cc part.2)
+fresh decls slot.Event w name named said = let part = one_part arg.Event (event_of decls w) (arg.Name name) said in absurd (cc part.2)
 fresh decls slot.Raw w name named said = absurd (cc)
 
 -- the first that is written of a declaration is its name

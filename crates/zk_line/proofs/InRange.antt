@@ -25,7 +25,7 @@ use Rattle.zk_line.specs.Objects.{kind_of}
 use Rattle.zk_line.proofs.Fits.{args_fit-read}
 use Rattle.zk_line.proofs.Inverse.{written_of-decl_of}
 use Rattle.zk_line.proofs.Makes.{is_some-some}
-use Rattle.zk_line.proofs.Spelled.{one_part}
+use Rattle.zk_line.proofs.Options.{one_part}
 
 -- a word that spells a number in a range spells the number
 number_in-is : (least most : ℕ) (word : List ℕ) (n : ℕ) → number_in least most word ≡ Some n → number_of word ≡ Some n

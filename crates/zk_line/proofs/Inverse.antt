@@ -1,8 +1,10 @@
 -- A call and how it is written say each other, and so do a declaration and how it is written.
-use Rattle.std.proofs.Common.{◌≡◌, ℕ, ◌<◌, Bool, true, false, cond, nat_lt, List, [], ◌∷◌, Option, Some, None, refl, sym, ap, ◌∙◌}
-use Rattle.std.specs.Prelude.{ℤ, option_map, option_to_list}
-use Rattle.std.proofs.lemmas.Bool.{cond-true, lt-ltb}
-use Rattle.std.proofs.lemmas.Option.{cond_some, same_Some}
+use Rattle.std.proofs.Common.{◌≡◌, ℕ, ◌<◌, Bool, true, false, cond, nat_le, nat_lt, ◌&&◌, arith, length, List, [], ◌∷◌, map, Option, Some, None, refl, sym, ap, ◌∙◌}
+use Rattle.std.specs.Prelude.{ℤ, option_map, option_and_then, option_to_list}
+use Rattle.std.proofs.lemmas.Bool.{cond-true, cond-false, lt-ltb, lt-leb}
+use Rattle.std.proofs.lemmas.List.{length-map}
+use Rattle.std.proofs.Math.Bool.{and-false}
+use Rattle.std.proofs.lemmas.Option.{cond_some, option_and_then_some, same_Some}
 use Rattle.zk_words.specs.declared.slot.Choice.{Choice}
 use Rattle.zk_words.specs.declared.slot.Choice.TheVariants.{Mode, State, Drain}
 use Rattle.zk_words.specs.declared.kind.Kind.{Kind}
@@ -13,15 +15,18 @@ use Rattle.zk_words.specs.declared.word.Word.TheVariants as word
 use Rattle.zk_words.specs.Spelled.{same_choice}
 use Rattle.zk_line.specs.declared.types.Ref.{Ref}
 use Rattle.zk_line.specs.declared.types.Arg.{Arg}
-use Rattle.zk_line.specs.declared.types.Arg.TheVariants.{Name, Object, Number, Priority, Truth, Bytes, Wait}
+use Rattle.zk_line.specs.declared.types.Arg.TheVariants.{Name, Object, Number, Priority, Truth, Bytes, Wait, Event}
+use Rattle.zk_line.specs.declared.events.Event.{Event as PollEvent}
 use Rattle.zk_line.specs.declared.types.Call.{Call}
 use Rattle.zk_line.specs.declared.types.Call.TheVariants as call
 use Rattle.zk_line.specs.declared.types.Decl.{Decl}
 use Rattle.zk_line.specs.declared.types.Decl.TheVariants as decl
 use Rattle.zk_line.specs.Calls.{saying, call_of, said_of}
 use Rattle.zk_line.specs.Decls.{decl_of, decl_args}
+use Rattle.zk_line.specs.Few.{is_few}
 use Rattle.zk_line.specs.Objects.{kind_of}
-use Rattle.zk_line.specs.Shapes.{as_name, as_object, as_number, as_result, as_priority, as_truth, as_bytes, as_wait, both, all_three, one, two, three, one_or_two}
+use Rattle.zk_line.proofs.Options.{one_part}
+use Rattle.zk_line.specs.Shapes.{as_name, as_object, as_number, as_result, as_priority, as_truth, as_bytes, as_wait, as_event, all_events, few_events, events_of, wait_events, both, all_three, one, two, three, one_or_two}
 
 -- an argument is read from just the one that is written of it
 abbrev pub IsPart : {A : Type 0} → (Arg → Option A) → (A → Arg) → Type 0
@@ -71,6 +76,46 @@ bytes-is a x e = absurd (cc)
 wait-is : IsPart as_wait Wait
 wait-is (Wait t) x e = ap Wait (same_Some t x e)
 wait-is a x e = absurd (cc)
+
+event-is : IsPart as_event Event
+event-is (Event e) x h = ap Event (same_Some e x h)
+event-is a x h = absurd (cc)
+
+all_events-is : IsShape all_events (map Event)
+all_events-is [] events e = ap (map Event) (same_Some [] events e)
+all_events-is (a ∷ args) events e =
+    option_and_then_some _ (as_event a) events e
+    (λ event is_event given.
+    let rest = one_part (λ more. event ∷ more) (all_events args) events given in
+    ap (λ b. b ∷ args) (event-is a event is_event) ∙ ap (λ xs. Event event ∷ xs) (all_events-is args rest.0 rest.1) ∙ ap (map Event) rest.2)
+
+-- the events that are written are read again
+pub all_events-map : (events : List PollEvent) → all_events (map Event events) ≡ Some events
+all_events-map [] = refl
+all_events-map (event ∷ events) = ap (option_map (λ more. event ∷ more)) (all_events-map events)
+
+-- and they are those of a poll, where they are few
+pub events_of-map : (events : List PollEvent) → is_few events ≡ true → events_of (map Event events) ≡ Some events
+events_of-map events few = ap (option_and_then few_events) (all_events-map events) ∙ cond-true (is_few events) (Some events) None few
+
+-- more than 8 arguments are no events of a poll
+pub events_of-many : (args : List Arg) → 8 < length args → None ≡ events_of args
+events_of-many args many = by_read (all_events args) refl where
+  by_read : (read : Option (List PollEvent)) → all_events args ≡ read → None ≡ option_and_then few_events read
+  by_read None same = refl
+  by_read (Some events) same =
+      let long = ap length (all_events-is args events same) ∙ length-map events Event in
+      let past = lt-leb (length events) 8 (omega (arith, many, long)) in
+      sym (cond-false (is_few events) (Some events) None (ap (λ b. nat_le 1 (length events) && b) past ∙ and-false (nat_le 1 (length events))))
+
+wait_events-is : IsShape wait_events (λ x. Wait x.0 ∷ map Event x.1)
+wait_events-is (Wait wait ∷ args) x e =
+    let made = one_part (λ events. (wait, events)) (events_of args) x e in
+    option_and_then_some few_events (all_events args) made.0 made.1
+    (λ events are few.
+    let same : events ≡ made.0 = (cond_some (is_few events) events made.0 few).1 in
+    ap (λ xs. Wait wait ∷ xs) (all_events-is args events are) ∙ ap (λ es. Wait wait ∷ map Event es) same ∙ ap (λ p. Wait p.0 ∷ map Event p.1) made.2)
+wait_events-is args x e = absurd (cc)
 
 both_is : {A B : Type 0} (a : Option A) (b : Option B) (p : A × B) → both a b ≡ Some p → (a ≡ Some p.0) × (b ≡ Some p.1)
 both_is (Some a) (Some b) p e = let is = same_Some _ _ e in (ap (λ q. Some q.0) is, ap (λ q. Some q.1) is)
@@ -157,10 +202,12 @@ said_of-call_of word.Free = one_object word.Free call.Free (λ x. refl)
 said_of-call_of word.Raise = by_shape (two as_object as_result) _ (λ p. call.Raise p.0 p.1) said_of (saying word.Raise) (two-is as_object Object as_result Number object-is result-is) (λ x. refl)
 said_of-call_of word.Clear = one_object word.Clear call.Clear (λ x. refl)
 said_of-call_of word.Check = one_object word.Check call.Check (λ x. refl)
+said_of-call_of word.Poll = by_shape wait_events _ (λ p. call.Poll p.0 p.1) said_of (saying word.Poll) wait_events-is (λ x. refl)
 
--- a call can be kept: the result of a signal is a number of 16 bits
+-- a call can be kept: the result of a signal is a number of 16 bits, and a poll has 1 to 8 events
 abbrev pub IsKept : Call → Type 0
 IsKept (call.Raise signal result) = result < 65536
+IsKept (call.Poll wait events) = is_few events ≡ true
 IsKept c = Unit {0}
 
 -- what is written of a call makes that call
@@ -193,6 +240,8 @@ call_of-said_of (call.Raise signal result) kept =
     ap (λ o. option_map (λ p. call.Raise p.0 p.1) (both (Some signal) o)) (cond-true (nat_lt result 65536) (Some result) None (lt-ltb result 65536 kept))
 call_of-said_of (call.Clear signal) kept = refl
 call_of-said_of (call.Check signal) kept = refl
+call_of-said_of (call.Poll wait events) few =
+    ap (λ (o : Option (List PollEvent)). option_map (λ (p : Timeout × List PollEvent). call.Poll p.0 p.1) (option_map (λ es. (wait, es)) o)) (events_of-map events few)
 
 -- a declaration as it is written: its kind, and what stands behind that
 pub record Written : Type 0 where

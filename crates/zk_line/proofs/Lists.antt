@@ -16,6 +16,10 @@ pub slice_get-push : {X : Type 0} (xs : List X) (y : X) → slice_get (xs ++ y �
 slice_get-push [] y = refl
 slice_get-push (x ∷ xs) y = slice_get-push xs y
 
+-- a count over a list, from its first element on
+pub count_by-cons : {X : Type 0} (p : X → Bool) (x : X) (xs : List X) → count_by p (x ∷ xs) ≡ cond (p x) 1 0 + count_by p xs
+count_by-cons p x xs = sum_by-append (λ y. cond (p y) 1 0) (x ∷ []) xs ∙ ap (λ n. n + count_by p xs) (omega arith)
+
 -- a count with one element more
 pub count_by-push : {X : Type 0} (p : X → Bool) (xs : List X) (y : X) → count_by p (xs ++ y ∷ []) ≡ count_by p xs + cond (p y) 1 0
 count_by-push p xs y = sum_by-append (λ x. cond (p x) 1 0) xs (y ∷ []) ∙ ap (λ n. count_by p xs + n) (omega arith)

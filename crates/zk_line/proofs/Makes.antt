@@ -1,9 +1,9 @@
 -- A line of right words makes its call or its declaration.
-use Rattle.std.proofs.Common.{◌≡◌, ℕ, ◌/◌, Bool, true, false, cond, nat_le, nat_lt, ◌&&◌, ◌||◌, List, [], ◌∷◌, length, Option, Some, None, is_some, arith, refl, sym, ap, subst, ◌∙◌}
+use Rattle.std.proofs.Common.{◌≡◌, ℕ, ◌≤◌, ◌/◌, Bool, true, false, cond, nat_le, nat_lt, ◌&&◌, ◌||◌, List, [], ◌∷◌, map, count_by, length, Option, Some, None, is_some, arith, refl, sym, ap, subst, ◌∙◌}
 use Rattle.std.specs.Prelude.{option_map, option_and_then, IsSome, bytes_eq}
-use Rattle.std.specs.List.{list_all}
+use Rattle.std.specs.List.{list_all, list_any}
 use Rattle.std.specs.Option.{option_map_or, option_flatten}
-use Rattle.std.proofs.lemmas.Bool.{and_parts, and_from, cond-true, lt-ltb, leb-true}
+use Rattle.std.proofs.lemmas.Bool.{and_parts, and_from, cond-true, lt-ltb, leb-true, ltb-false, le-leb}
 use Rattle.zk_base.specs.Names.{is_name}
 use Rattle.zk_words.specs.declared.kind.Kind.{Kind}
 use Rattle.zk_words.specs.declared.kind.Kind.TheVariants as kind
@@ -14,10 +14,11 @@ use Rattle.zk_words.specs.declared.slot.Choice.TheVariants.{Mode, State, Drain}
 use Rattle.zk_words.specs.declared.slot.Slot.{Slot}
 use Rattle.zk_words.specs.declared.slot.Slot.TheVariants as slot
 use Rattle.zk_words.specs.declared.slot.Rest.{Rest}
-use Rattle.zk_words.specs.declared.slot.Rest.TheVariants.{Nothing, Maybe}
+use Rattle.zk_words.specs.declared.slot.Rest.TheVariants.{Nothing, Maybe, Events}
 use Rattle.zk_words.specs.declared.word.Word.{Word}
 use Rattle.zk_words.specs.declared.word.Word.TheVariants as word
 use Rattle.zk_words.specs.declared.timeout.Timeout.{Timeout}
+use Rattle.zk_words.specs.Events.{Asking, asks, event_named, is_ignore, need_of}
 use Rattle.zk_words.specs.Hex.{is_hex, bytes_of}
 use Rattle.zk_words.specs.Numbers.{number_in, priority_of}
 use Rattle.zk_words.specs.Parts.{Placed, placed, parts_of, fits}
@@ -30,14 +31,19 @@ use Rattle.zk_line.specs.declared.types.Decl.TheVariants as decl
 use Rattle.zk_line.specs.declared.types.Ref.{Ref}
 use Rattle.zk_line.specs.declared.types.Ref.TheVariants.{Known}
 use Rattle.zk_line.specs.declared.types.Arg.{Arg}
-use Rattle.zk_line.specs.declared.types.Arg.TheVariants.{Name, Object, Number, Priority, Truth, Bytes, Wait}
+use Rattle.zk_line.specs.declared.types.Arg.TheVariants.{Name, Object, Number, Priority, Truth, Bytes, Wait, Event}
+use Rattle.zk_line.specs.declared.events.Event.{Event as PollEvent}
+use Rattle.zk_line.specs.declared.events.Event.TheVariants as event
 use Rattle.zk_line.specs.declared.types.Call.{Call}
 use Rattle.zk_line.specs.declared.types.Call.TheVariants as call
-use Rattle.zk_line.specs.Args.{truth_of, arg_of, args_of}
+use Rattle.zk_line.specs.Args.{truth_of, ref_of, arg_of, args_of}
 use Rattle.zk_line.specs.Calls.{call_of}
-use Rattle.zk_line.specs.Checks.{is_size, is_in_range, each_in_range, is_well_named, are_well_named}
+use Rattle.zk_line.specs.Checks.{is_size, is_in_range, each_in_range, is_well_named, are_well_named, is_event_slot, has_many_events}
 use Rattle.zk_line.specs.Decls.{decl_of}
-use Rattle.zk_line.specs.Objects.{object_of, is_at, is_met}
+use Rattle.zk_line.specs.Few.{is_few, event_at}
+use Rattle.zk_line.specs.Objects.{object_of, is_at, is_met, names}
+use Rattle.zk_line.proofs.Inverse.{events_of-map}
+use Rattle.zk_line.proofs.Lists.{count_by-cons}
 use Rattle.zk_line.specs.Shapes.{as_name, as_object, as_number, as_result, as_priority, as_truth, as_bytes, as_wait, both, all_three, one, two, three, one_or_two}
 
 -- a word is spelled, in range and well named, in a line whose messages have so many bytes
@@ -196,6 +202,54 @@ by_line {X} {C} slots rest shape f is decls bytes ws fit right = let m = is decl
       some-map (Some y) e = refl
       some-map None e = absurd (cc)
 
+-- a right event says something
+event-made : (decls : List Decl) (bytes : Option ℕ) (w : List ℕ) → IsRight decls bytes slot.Event w → (e : PollEvent) × (arg_of decls slot.Event w ≡ Some (Event e))
+event-made decls bytes w right = by_first (is_ignore w) right.named where
+  by_object : (a : Asking) (o : Option ℕ) → option_map_or (is_at (is_met (need_of a.source)) decls) o false ≡ true → (e : PollEvent) × (option_map Event (option_map (event_at a.source) (option_map Known o)) ≡ Some (Event e))
+  by_object a None named = absurd (cc)
+  by_object a (Some k) named = (event_at a.source (Known k), refl)
+
+  by_asked : (o : Option Asking) → option_map_or (λ a. names (is_met (need_of a.source)) decls a.name) o false ≡ true
+      → (e : PollEvent) × (option_map Event (option_and_then (λ a. option_map (event_at a.source) (ref_of decls a.name)) o) ≡ Some (Event e))
+  by_asked None named = absurd (cc)
+  by_asked (Some a) named = by_object a (object_of decls a.name) named
+
+  by_first : (b : Bool) → (b || option_map_or (λ a. names (is_met (need_of a.source)) decls a.name) (event_named w) false) ≡ true
+      → (e : PollEvent) × (option_map Event (cond b (Some event.Ignore) (option_and_then (λ a. option_map (event_at a.source) (ref_of decls a.name)) (event_named w))) ≡ Some (Event e))
+  by_first true named = (event.Ignore, refl)
+  by_first false named = by_asked (event_named w) named
+
+events-made : (decls : List Decl) (bytes : Option ℕ) (ws : List (List ℕ)) → AreRight decls bytes (map (placed slot.Event) ws)
+    → (es : List PollEvent) × (args_of decls (map (placed slot.Event) ws) ≡ Some (map Event es)) × (length es ≡ length ws)
+events-made decls bytes [] right = ([], refl, refl)
+events-made decls bytes (w ∷ ws) right =
+    let m = event-made decls bytes w right.0 in let more = events-made decls bytes ws right.1 in
+    (m.0 ∷ more.0, args-cons decls slot.Event w (map (placed slot.Event) ws) (Event m.0) (map Event more.0) m.1 more.1, omega (arith, more.2))
+
+count-events : (ws : List (List ℕ)) → count_by (λ part. is_event_slot part.slot) (map (placed slot.Event) ws) ≡ length ws
+count-events [] = refl
+count-events (w ∷ ws) = omega (arith, count_by-cons (λ part. is_event_slot part.slot) (placed slot.Event w) (map (placed slot.Event) ws), count-events ws)
+
+-- the events of a right poll are few, where they aren't too many
+poll-few : (w : List ℕ) (ws : List (List ℕ)) (es : List PollEvent) → list_any asks ws ≡ true → has_many_events (placed slot.Wait w ∷ map (placed slot.Event) ws) ≡ false → length es ≡ length ws → is_few es ≡ true
+poll-few w [] es fit few long = absurd (cc)
+poll-few w (v ∷ ws) es fit few long =
+    let counted = ltb-false 8 (count_by (λ part. is_event_slot part.slot) (placed slot.Wait w ∷ map (placed slot.Event) (v ∷ ws))) few in
+    let cons = count_by-cons (λ part. is_event_slot part.slot) (placed slot.Wait w) (map (placed slot.Event) (v ∷ ws)) in
+    let most : length es ≤ 8 = omega (arith, counted, cons, count-events (v ∷ ws), long) in
+    and_from (nat_le 1 (length es)) (nat_le (length es) 8) (le-leb 1 (length es) (omega (arith, long))) (le-leb (length es) 8 most)
+
+-- a right poll makes its call
+poll-made : (decls : List Decl) (bytes : Option ℕ) (ws : List (List ℕ)) → fits (slot.Wait ∷ []) Events ws ≡ true → AreRight decls bytes (parts_of (slot.Wait ∷ []) Events ws)
+    → has_many_events (parts_of (slot.Wait ∷ []) Events ws) ≡ false → IsSome (option_and_then (call_of word.Poll) (args_of decls (parts_of (slot.Wait ∷ []) Events ws)))
+poll-made decls bytes [] fit right few = absurd (cc)
+poll-made decls bytes (w ∷ ws) fit right few =
+    let t = is_some-some (wait_of w) right.0.in_range in
+    let es = events-made decls bytes ws right.1 in
+    let args = args-cons decls slot.Wait w (map (placed slot.Event) ws) (Wait t.0) (map Event es.0) (ap (option_map Wait) t.1) es.1 in
+    let is = events_of-map es.0 (poll-few w ws es.0 fit few es.2) in
+    ap (λ o. is_some (option_and_then (call_of word.Poll) o)) args ∙ ap (λ (o : Option (List PollEvent)). is_some (option_map (λ (p : Timeout × List PollEvent). call.Poll p.0 p.1) (option_map (λ xs. (t.0, xs)) o))) is
+
 -- the lines of one object
 one_item : (f : Ref → Call) → Makes (item ∷ []) Nothing (λ args. option_map f (one as_object args))
 one_item f = by_line (item ∷ []) Nothing (one as_object) f (one-line item as_object (object-made need.Item))
@@ -220,34 +274,45 @@ waiting n f = by_line (slot.Object n ∷ slot.Wait ∷ []) Nothing (two as_objec
 delayed : IsLine (item ∷ queue ∷ delay ∷ []) Nothing (three as_object as_object as_number)
 delayed = three-line item as_object queue as_object delay as_number (object-made need.Item) (object-made need.Queue) (number-made 0 1000000)
 
--- a right line of a call word makes its call
-pub makes_call : (w : Word) → Makes (call_row w).slots (call_row w).rest (call_of w)
-makes_call word.Submit = by_line (item ∷ []) (Maybe queue) (one_or_two as_object as_object) (λ p. call.Submit p.0 p.1) (one_or_two-line item as_object queue as_object (object-made need.Item) (object-made need.Queue))
-makes_call word.Cancel = one_item call.Cancel
-makes_call word.CancelSync = one_item call.CancelSync
-makes_call word.Flush = one_item call.Flush
-makes_call word.Schedule = by_line (item ∷ queue ∷ delay ∷ []) Nothing (three as_object as_object as_number) (λ p. call.Schedule p.0 p.1 p.2) delayed
-makes_call word.Reschedule = by_line (item ∷ queue ∷ delay ∷ []) Nothing (three as_object as_object as_number) (λ p. call.Reschedule p.0 p.1 p.2) delayed
-makes_call word.Remaining = one_item call.Remaining
-makes_call word.Busy = one_item call.Busy
-makes_call word.Start = one_queue call.Start
-makes_call word.Drain = by_line (queue ∷ slot.Either Drain ∷ []) Nothing (two as_object (as_truth Drain)) (λ p. call.Drain p.0 p.1) (two-line queue as_object (slot.Either Drain) (as_truth Drain) (object-made need.Queue) (truth-made Drain))
-makes_call word.Unplug = one_queue call.Unplug
-makes_call word.Tick = by_line (ticks ∷ []) Nothing (one as_number) call.Tick (one-line ticks as_number (number-made 1 1000000))
-makes_call word.Take = waiting need.Sem (λ p. call.Take p.0 p.1)
-makes_call word.Give = one_sem call.Give
-makes_call word.Reset = one_sem call.Reset
-makes_call word.Count = one_sem call.Count
-makes_call word.Put = by_line (msgq ∷ slot.Hex ∷ slot.Wait ∷ []) Nothing (three as_object as_bytes as_wait) (λ p. call.Put p.0 p.1 p.2) (three-line msgq as_object slot.Hex as_bytes slot.Wait as_wait (object-made need.Msgq) bytes-made wait-made)
-makes_call word.Get = waiting need.Msgq (λ p. call.Get p.0 p.1)
-makes_call word.Peek = one_msgq call.Peek
-makes_call word.PeekAt = by_line (msgq ∷ index ∷ []) Nothing (two as_object as_number) (λ p. call.PeekAt p.0 p.1) (two-line msgq as_object index as_number (object-made need.Msgq) (number-made 0 255))
-makes_call word.Purge = one_msgq call.Purge
-makes_call word.Used = one_msgq call.Used
-makes_call word.Free = one_msgq call.Free
-makes_call word.Raise = by_line (signal ∷ result ∷ []) Nothing (two as_object as_result) (λ p. call.Raise p.0 p.1) (two-line signal as_object result as_result (object-made need.Signal) result-made)
-makes_call word.Clear = one_signal call.Clear
-makes_call word.Check = one_signal call.Check
+abbrev is_poll : Word → Bool
+is_poll word.Poll = true
+is_poll w = false
+
+-- a right line of a call word that isn't a poll makes its call
+makes_other : (w : Word) → is_poll w ≡ false → Makes (call_row w).slots (call_row w).rest (call_of w)
+makes_other word.Submit other = by_line (item ∷ []) (Maybe queue) (one_or_two as_object as_object) (λ p. call.Submit p.0 p.1) (one_or_two-line item as_object queue as_object (object-made need.Item) (object-made need.Queue))
+makes_other word.Cancel other = one_item call.Cancel
+makes_other word.CancelSync other = one_item call.CancelSync
+makes_other word.Flush other = one_item call.Flush
+makes_other word.Schedule other = by_line (item ∷ queue ∷ delay ∷ []) Nothing (three as_object as_object as_number) (λ p. call.Schedule p.0 p.1 p.2) delayed
+makes_other word.Reschedule other = by_line (item ∷ queue ∷ delay ∷ []) Nothing (three as_object as_object as_number) (λ p. call.Reschedule p.0 p.1 p.2) delayed
+makes_other word.Remaining other = one_item call.Remaining
+makes_other word.Busy other = one_item call.Busy
+makes_other word.Start other = one_queue call.Start
+makes_other word.Drain other = by_line (queue ∷ slot.Either Drain ∷ []) Nothing (two as_object (as_truth Drain)) (λ p. call.Drain p.0 p.1) (two-line queue as_object (slot.Either Drain) (as_truth Drain) (object-made need.Queue) (truth-made Drain))
+makes_other word.Unplug other = one_queue call.Unplug
+makes_other word.Tick other = by_line (ticks ∷ []) Nothing (one as_number) call.Tick (one-line ticks as_number (number-made 1 1000000))
+makes_other word.Take other = waiting need.Sem (λ p. call.Take p.0 p.1)
+makes_other word.Give other = one_sem call.Give
+makes_other word.Reset other = one_sem call.Reset
+makes_other word.Count other = one_sem call.Count
+makes_other word.Put other = by_line (msgq ∷ slot.Hex ∷ slot.Wait ∷ []) Nothing (three as_object as_bytes as_wait) (λ p. call.Put p.0 p.1 p.2) (three-line msgq as_object slot.Hex as_bytes slot.Wait as_wait (object-made need.Msgq) bytes-made wait-made)
+makes_other word.Get other = waiting need.Msgq (λ p. call.Get p.0 p.1)
+makes_other word.Peek other = one_msgq call.Peek
+makes_other word.PeekAt other = by_line (msgq ∷ index ∷ []) Nothing (two as_object as_number) (λ p. call.PeekAt p.0 p.1) (two-line msgq as_object index as_number (object-made need.Msgq) (number-made 0 255))
+makes_other word.Purge other = one_msgq call.Purge
+makes_other word.Used other = one_msgq call.Used
+makes_other word.Free other = one_msgq call.Free
+makes_other word.Raise other = by_line (signal ∷ result ∷ []) Nothing (two as_object as_result) (λ p. call.Raise p.0 p.1) (two-line signal as_object result as_result (object-made need.Signal) result-made)
+makes_other word.Clear other = one_signal call.Clear
+makes_other word.Check other = one_signal call.Check
+makes_other word.Poll other = absurd (cc)
+
+-- a right line of a call word makes its call, where it hasn't too many events
+pub makes_call : (w : Word) (decls : List Decl) (bytes : Option ℕ) (ws : List (List ℕ)) → fits (call_row w).slots (call_row w).rest ws ≡ true → AreRight decls bytes (parts_of (call_row w).slots (call_row w).rest ws)
+    → has_many_events (parts_of (call_row w).slots (call_row w).rest ws) ≡ false → IsSome (option_and_then (call_of w) (args_of decls (parts_of (call_row w).slots (call_row w).rest ws)))
+makes_call word.Poll decls bytes ws fit right few = poll-made decls bytes ws fit right few
+makes_call w decls bytes ws fit right few = makes_other w refl decls bytes ws fit right
 
 -- the lines of a name, a priority and one of the two words of a choice
 playing : (choice : Choice) → IsLine (slot.New ∷ slot.Priority ∷ slot.Either choice ∷ []) Nothing (three as_name as_priority (as_truth choice))

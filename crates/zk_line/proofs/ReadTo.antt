@@ -34,6 +34,7 @@ first_in_range decls (slot.Number least most) word = refl
 first_in_range decls slot.Priority word = refl
 first_in_range decls (slot.Either choice) word = refl
 first_in_range decls slot.Wait word = refl
+first_in_range decls slot.Event word = refl
 first_in_range decls slot.Raw word = refl
 
 -- so the next word is in range as what was said before it asks

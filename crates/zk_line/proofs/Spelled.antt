@@ -1,10 +1,11 @@
 -- What a word says in its slot has one spelling, the word; so has what a line says.
-use Rattle.std.proofs.Common.{◌≡◌, ℕ, Bool, true, false, cond, List, [], ◌∷◌, map, get_or, Option, Some, None, refl, sym, ap, ◌∙◌}
+use Rattle.std.proofs.Common.{◌≡◌, ℕ, Bool, true, false, cond, List, [], ◌∷◌, ◌++◌, length, take, drop, codes, map, get_or, Option, Some, None, refl, sym, ap, ◌∙◌}
 use Rattle.std.specs.Prelude.{ℤ, option_map, option_and_then}
 use Rattle.std.specs.Fmt.{signed_decimal}
 use Rattle.std.specs.Option.{option_map_or, option_flatten}
 use Rattle.std.specs.Str.{bytes_eq}
 use Rattle.std.specs.Cmp.Lexicographic.{bytes_decides}
+use Rattle.std.proofs.lemmas.List.{take-append-drop}
 use Rattle.std.proofs.lemmas.List.Quantifiers.{position-Some}
 use Rattle.std.proofs.lemmas.Option.{cond_some, option_and_then_some, same_Some, slice_get-get_or}
 use Rattle.zk_base.specs.Names.{is_name}
@@ -14,6 +15,9 @@ use Rattle.zk_words.specs.declared.slot.Slot.TheVariants as slot
 use Rattle.zk_words.specs.declared.kind.Kind.{Kind}
 use Rattle.zk_words.specs.declared.word.Word.{Word}
 use Rattle.zk_words.specs.declared.word.Head.TheVariants as head
+use Rattle.zk_words.specs.declared.event.Source.{Source}
+use Rattle.zk_words.specs.declared.event.Source.TheVariants as source
+use Rattle.zk_words.specs.Events.{Asking, source_text, begins, asked, event_named, is_ignore}
 use Rattle.zk_words.specs.Lines.{form_words}
 use Rattle.zk_words.specs.Hex.{msg_of}
 use Rattle.zk_words.specs.Numbers.{number_in, priority_of}
@@ -30,19 +34,18 @@ use Rattle.zk_line.specs.declared.types.Decl.TheVariants as decl
 use Rattle.zk_line.specs.declared.types.Ref.{Ref}
 use Rattle.zk_line.specs.declared.types.Ref.TheVariants.{Known}
 use Rattle.zk_line.specs.declared.types.Arg.{Arg}
-use Rattle.zk_line.specs.declared.types.Arg.TheVariants.{Name, Object, Number, Priority, Truth, Bytes, Wait}
+use Rattle.zk_line.specs.declared.types.Arg.TheVariants.{Name, Object, Number, Priority, Truth, Bytes, Wait, Event}
+use Rattle.zk_line.specs.declared.events.Event.{Event as PollEvent}
+use Rattle.zk_line.specs.declared.events.Event.TheVariants as event
 use Rattle.zk_line.specs.declared.types.Call.{Call}
-use Rattle.zk_line.specs.Args.{truth_of, ref_of, arg_of, args_of, ref_name, arg_text}
+use Rattle.zk_line.specs.Args.{truth_of, ref_of, event_of, arg_of, args_of, ref_name, event_text, arg_text}
 use Rattle.zk_line.specs.Calls.{call_of}
 use Rattle.zk_line.specs.Decls.{decl_of, decl_args}
+use Rattle.zk_line.specs.Few.{event_at}
 use Rattle.zk_line.specs.Objects.{object_of, name_of, name_at}
 use Rattle.zk_line.specs.Text.{said_line, decl_line, call_line}
 use Rattle.zk_line.proofs.Inverse.{said_of-call_of, written_of-decl_of}
-
--- what is made of a part tells it
-pub one_part : {A B : Type 0} (f : A → B) (a : Option A) (made : B) → option_map f a ≡ Some made → (x : A) × (a ≡ Some x) × (f x ≡ made)
-one_part f None made said = absurd (cc)
-one_part f (Some x) made said = (x, refl, same_Some _ _ said)
+use Rattle.zk_line.proofs.Options.{one_part}
 
 -- the name of an object that is found by it
 pub name_at-object_of : (decls : List Decl) (name : List ℕ) (k : ℕ) → object_of decls name ≡ Some k → name_at decls k ≡ name
@@ -70,6 +73,46 @@ flat_priority word p None said is = absurd (cc)
 flat_priority word p (Some None) said is = absurd (cc)
 flat_priority word p (Some (Some q)) said is = (priority_spelled word (Some q) said refl).0 ∙ ap signed_decimal (same_Some q p is)
 
+-- a word that asks for a source is the source's text and the name
+asked_spelled : (word : List ℕ) (a : Asking) → event_named word ≡ Some a → word ≡ source_text a.source ++ a.name
+asked_spelled word a said = by_sem (begins (source_text source.Sem) word) refl said where
+  found : (s : Source) → begins (source_text s) word ≡ true → asked s word ≡ a → word ≡ source_text a.source ++ a.name
+  found s same is =
+      sym (take-append-drop (length (source_text s)) word)
+      ∙ ap (λ front. front ++ drop (length (source_text s)) word) ((bytes_decides (take (length (source_text s)) word) (source_text s)).0 same)
+      ∙ ap (λ b. source_text b.source ++ b.name) is
+
+  by_signal : (b : Bool) → begins (source_text source.Signal) word ≡ b → cond b (Some (asked source.Signal word)) None ≡ Some a → word ≡ source_text a.source ++ a.name
+  by_signal true same here = found source.Signal same (same_Some (asked source.Signal word) a here)
+  by_signal false same here = absurd (cc)
+
+  by_msgq : (b : Bool) → begins (source_text source.Msgq) word ≡ b → cond b (Some (asked source.Msgq word)) (cond (begins (source_text source.Signal) word) (Some (asked source.Signal word)) None) ≡ Some a
+      → word ≡ source_text a.source ++ a.name
+  by_msgq true same here = found source.Msgq same (same_Some (asked source.Msgq word) a here)
+  by_msgq false same here = by_signal (begins (source_text source.Signal) word) refl here
+
+  by_sem : (b : Bool) → begins (source_text source.Sem) word ≡ b
+      → cond b (Some (asked source.Sem word)) (cond (begins (source_text source.Msgq) word) (Some (asked source.Msgq word)) (cond (begins (source_text source.Signal) word) (Some (asked source.Signal word)) None)) ≡ Some a
+      → word ≡ source_text a.source ++ a.name
+  by_sem true same here = found source.Sem same (same_Some (asked source.Sem word) a here)
+  by_sem false same here = by_msgq (begins (source_text source.Msgq) word) refl here
+
+event_at-text : (decls : List Decl) (s : Source) (object : Ref) → event_text decls (event_at s object) ≡ source_text s ++ ref_name decls object
+event_at-text decls source.Sem object = refl
+event_at-text decls source.Msgq object = refl
+event_at-text decls source.Signal object = refl
+
+event_spelled : (decls : List Decl) (word : List ℕ) (e : PollEvent) → event_of decls word ≡ Some e → word ≡ event_text decls e
+event_spelled decls word e said = by_first (is_ignore word) refl said where
+  by_first : (b : Bool) → is_ignore word ≡ b → cond b (Some event.Ignore) (option_and_then (λ a. option_map (event_at a.source) (ref_of decls a.name)) (event_named word)) ≡ Some e → word ≡ event_text decls e
+  by_first true same here = (bytes_decides word (codes "ignore")).0 same ∙ ap (event_text decls) (same_Some event.Ignore e here)
+  by_first false same here =
+      option_and_then_some _ (event_named word) e here
+      (λ a is_a given.
+      let object = one_part (event_at a.source) (ref_of decls a.name) e given in
+      asked_spelled word a is_a ∙ ap (λ name. source_text a.source ++ name) (ref_spelled decls a.name object.0 object.1)
+      ∙ sym (event_at-text decls a.source object.0) ∙ ap (event_text decls) object.2)
+
 -- a word that says something in its slot is the text of that
 arg_spelled : (decls : List Decl) (s : Slot) (word : List ℕ) (arg : Arg) → arg_of decls s word ≡ Some arg → word ≡ arg_text decls arg
 arg_spelled decls slot.New word arg said = ap (arg_text decls) (cond_some (is_name word) (Name word) arg said).1
@@ -87,6 +130,8 @@ arg_spelled decls slot.Hex word arg said =
     let part = one_part Bytes (msg_of word) arg said in (msg_spelled word part.0 part.1).0 ∙ ap (arg_text decls) part.2
 arg_spelled decls slot.Wait word arg said =
     let part = one_part Wait (wait_of word) arg said in (wait_spelled word part.0 part.1).0 ∙ ap (arg_text decls) part.2
+arg_spelled decls slot.Event word arg said =
+    let part = one_part Event (event_of decls word) arg said in event_spelled decls word part.0 part.1 ∙ ap (arg_text decls) part.2
 arg_spelled decls slot.Raw word arg said = absurd (cc)
 
 -- the words of a line that says something throughout are the texts of that

@@ -1,4 +1,4 @@
-use Rattle.std.specs.Prelude.{ℕ, Bool, true, false, List, [], ◌∷◌, Option, Some, None, option_map, option_and_then, if◌then◌else◌}
+use Rattle.std.specs.Prelude.{ℕ, Bool, true, false, List, [], ◌∷◌, ◌++◌, codes, Option, Some, None, option_map, option_and_then, if◌then◌else◌}
 use Rattle.std.specs.Fmt.{decimal, signed_decimal}
 use Rattle.std.specs.Option.{option_flatten}
 use Rattle.std.specs.Str.{bytes_eq}
@@ -6,6 +6,8 @@ use Rattle.zk_base.specs.Names.{is_name}
 use Rattle.zk_words.specs.declared.slot.Choice.{Choice}
 use Rattle.zk_words.specs.declared.slot.Slot.{Slot}
 use Rattle.zk_words.specs.declared.slot.Slot.TheVariants as slot
+use Rattle.zk_words.specs.declared.event.Source.TheVariants as source
+use Rattle.zk_words.specs.Events.{source_text, event_named, is_ignore}
 use Rattle.zk_words.specs.Hex.{msg_of, hex_text}
 use Rattle.zk_words.specs.Numbers.{number_in, priority_of}
 use Rattle.zk_words.specs.Parts.{Placed}
@@ -15,7 +17,10 @@ use Rattle.zk_line.specs.declared.types.Decl.{Decl}
 use Rattle.zk_line.specs.declared.types.Ref.{Ref}
 use Rattle.zk_line.specs.declared.types.Ref.TheVariants.{Known}
 use Rattle.zk_line.specs.declared.types.Arg.{Arg}
-use Rattle.zk_line.specs.declared.types.Arg.TheVariants.{Name, Object, Number, Priority, Truth, Bytes, Wait}
+use Rattle.zk_line.specs.declared.types.Arg.TheVariants.{Name, Object, Number, Priority, Truth, Bytes, Wait, Event}
+use Rattle.zk_line.specs.declared.events.Event.{Event as PollEvent}
+use Rattle.zk_line.specs.declared.events.Event.TheVariants as event
+use Rattle.zk_line.specs.Few.{event_at}
 use Rattle.zk_line.specs.Objects.{object_of, name_at}
 
 -- which of the two words of a choice it is
@@ -28,6 +33,12 @@ truth_of choice word =
 abbrev pub ref_of : List Decl → List ℕ → Option Ref
 ref_of decls word = option_map Known (object_of decls word)
 
+-- an event as a line names it
+abbrev pub event_of : List Decl → List ℕ → Option PollEvent
+event_of decls word =
+    if is_ignore word then Some event.Ignore else
+    option_and_then (λ asked. option_map (event_at asked.source) (ref_of decls asked.name)) (event_named word)
+
 -- what a word says in its slot, where it is right by itself
 abbrev pub arg_of : List Decl → Slot → List ℕ → Option Arg
 arg_of decls slot.New word = (if is_name word then Some (Name word) else None)
@@ -38,6 +49,7 @@ arg_of decls slot.Priority word = option_map Priority (option_flatten (priority_
 arg_of decls (slot.Either choice) word = option_map (Truth choice) (truth_of choice word)
 arg_of decls slot.Hex word = option_map Bytes (msg_of word)
 arg_of decls slot.Wait word = option_map Wait (wait_of word)
+arg_of decls slot.Event word = option_map Event (event_of decls word)
 arg_of decls slot.Raw word = None
 
 -- what all words of a line say, where each says something
@@ -50,6 +62,13 @@ args_of decls (part ∷ parts) =
 abbrev pub ref_name : List Decl → Ref → List ℕ
 ref_name decls (Known object) = name_at decls object
 
+-- the one spelling of an event
+abbrev pub event_text : List Decl → PollEvent → List ℕ
+event_text decls event.Ignore = codes "ignore"
+event_text decls (event.Sem object) = source_text source.Sem ++ ref_name decls object
+event_text decls (event.Msgq object) = source_text source.Msgq ++ ref_name decls object
+event_text decls (event.Sig object) = source_text source.Signal ++ ref_name decls object
+
 -- the one spelling of what a word says
 abbrev pub arg_text : List Decl → Arg → List ℕ
 arg_text decls (Name name) = name
@@ -59,3 +78,4 @@ arg_text decls (Priority prio) = signed_decimal prio
 arg_text decls (Truth choice truth) = choice_text choice truth
 arg_text decls (Bytes message) = hex_text message
 arg_text decls (Wait wait) = wait_text wait
+arg_text decls (Event event) = event_text decls event

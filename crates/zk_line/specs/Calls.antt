@@ -1,12 +1,13 @@
-use Rattle.std.specs.Prelude.{List, [], ◌∷◌, Option, Some, None, option_map, option_to_list}
+use Rattle.std.specs.Prelude.{List, [], ◌∷◌, map, Option, Some, None, option_map, option_to_list}
 use Rattle.zk_words.specs.declared.slot.Choice.TheVariants.{Drain}
 use Rattle.zk_words.specs.declared.word.Word.{Word}
 use Rattle.zk_words.specs.declared.word.Word.TheVariants as word
 use Rattle.zk_line.specs.declared.types.Arg.{Arg}
-use Rattle.zk_line.specs.declared.types.Arg.TheVariants.{Object, Number, Truth, Bytes, Wait}
+use Rattle.zk_line.specs.declared.types.Arg.TheVariants.{Object, Number, Truth, Bytes, Wait, Event}
+use Rattle.zk_line.specs.declared.events.Event.{Event as PollEvent}
 use Rattle.zk_line.specs.declared.types.Call.{Call}
 use Rattle.zk_line.specs.declared.types.Call.TheVariants as call
-use Rattle.zk_line.specs.Shapes.{as_object, as_number, as_result, as_truth, as_bytes, as_wait, one, two, three, one_or_two}
+use Rattle.zk_line.specs.Shapes.{as_object, as_number, as_result, as_truth, as_bytes, as_wait, one, two, three, one_or_two, wait_events}
 
 -- a call as it is written: its word, and what stands behind that
 pub record Saying : Type 0 where
@@ -45,6 +46,7 @@ call_of word.Free args = option_map call.Free (one as_object args)
 call_of word.Raise args = option_map (λ p. call.Raise p.0 p.1) (two as_object as_result args)
 call_of word.Clear args = option_map call.Clear (one as_object args)
 call_of word.Check args = option_map call.Check (one as_object args)
+call_of word.Poll args = option_map (λ p. call.Poll p.0 p.1) (wait_events args)
 
 -- how a call is written
 abbrev pub said_of : Call → Saying
@@ -74,6 +76,7 @@ said_of (call.Free msgq) = saying word.Free (Object msgq ∷ [])
 said_of (call.Raise signal result) = saying word.Raise (Object signal ∷ Number result ∷ [])
 said_of (call.Clear signal) = saying word.Clear (Object signal ∷ [])
 said_of (call.Check signal) = saying word.Check (Object signal ∷ [])
+said_of (call.Poll wait events) = saying word.Poll (Wait wait ∷ map Event events)
 
 -- the word of a call
 abbrev pub word_of : Call → Word
@@ -84,3 +87,8 @@ abbrev pub standing : List (Option Arg) → List Arg
 standing [] = []
 standing (None ∷ args) = standing args
 standing (Some arg ∷ args) = arg ∷ standing args
+
+-- the arguments that events are, where there are any
+abbrev pub events_said : Option (List PollEvent) → List Arg
+events_said None = []
+events_said (Some events) = map Event events

@@ -1,12 +1,13 @@
-use Rattle.std.specs.Prelude.{ℕ, Bool, true, false, not, ◌==◌, ◌/◌, nat_le, ◌&&◌, Option, Some, None, List, [], ◌∷◌, length, is_some, option_and_then}
+use Rattle.std.specs.Prelude.{ℕ, Bool, true, false, not, ◌==◌, ◌/◌, nat_le, nat_lt, ◌&&◌, ◌||◌, count_by, Option, Some, None, List, [], ◌∷◌, length, is_some, option_and_then}
 use Rattle.std.specs.List.{list_all}
 use Rattle.std.specs.Option.{option_flatten, option_map_or}
 use Rattle.zk_base.specs.Names.{is_name}
 use Rattle.zk_words.specs.declared.kind.Kind.TheVariants as kind
 use Rattle.zk_words.specs.declared.slot.Slot.{Slot}
-use Rattle.zk_words.specs.declared.slot.Slot.TheVariants.{New, Owner, Object, Number, Priority, Hex, Wait, Raw}
+use Rattle.zk_words.specs.declared.slot.Slot.TheVariants.{New, Owner, Object, Number, Priority, Hex, Wait, Event, Raw}
 use Rattle.zk_words.specs.declared.word.Head.{Head}
 use Rattle.zk_words.specs.declared.word.Head.TheVariants.{Declare}
+use Rattle.zk_words.specs.Events.{event_named, is_ignore, need_of}
 use Rattle.zk_words.specs.Numbers.{number_in, priority_of}
 use Rattle.zk_words.specs.Parts.{Placed}
 use Rattle.zk_words.specs.Timeouts.{wait_of}
@@ -77,9 +78,19 @@ abbrev pub is_well_named : List Decl → Slot → List ℕ → Bool
 is_well_named decls New word = is_name word && not (is_some (object_of decls word))
 is_well_named decls Owner word = names plays_script decls word
 is_well_named decls (Object need) word = names (is_met need) decls word
+is_well_named decls Event word = is_ignore word || option_map_or (λ asked. names (is_met (need_of asked.source)) decls asked.name) (event_named word) false
 is_well_named decls Raw word = false
 is_well_named decls slot word = true
 
 -- whether each word of a line is
 abbrev pub are_well_named : List Decl → List Placed → Bool
 are_well_named decls parts = list_all (λ part. is_well_named decls part.slot part.text) parts
+
+-- whether a slot is that of an event
+abbrev pub is_event_slot : Slot → Bool
+is_event_slot Event = true
+is_event_slot slot = false
+
+-- whether a line has more events than a poll may have
+abbrev pub has_many_events : List Placed → Bool
+has_many_events parts = nat_lt 8 (count_by (λ part. is_event_slot part.slot) parts)

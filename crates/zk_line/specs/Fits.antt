@@ -1,14 +1,18 @@
 use Rattle.std.specs.Prelude.{ℕ, Bool, true, nat_le, ◌&&◌, Option, List, [], ◌∷◌, length}
+use Rattle.std.specs.List.{list_all}
 use Rattle.zk_words.specs.declared.kind.Need.{Need}
+use Rattle.zk_words.specs.declared.kind.Need.TheVariants as need
 use Rattle.zk_words.specs.declared.slot.Slot.{Slot}
 use Rattle.zk_words.specs.declared.slot.Slot.TheVariants as slot
 use Rattle.zk_words.specs.declared.slot.Rest.{Rest}
-use Rattle.zk_words.specs.declared.slot.Rest.TheVariants.{Maybe}
+use Rattle.zk_words.specs.declared.slot.Rest.TheVariants.{Maybe, Events}
 use Rattle.zk_words.specs.Numbers.{is_between}
 use Rattle.zk_words.specs.Table.{call_row}
 use Rattle.zk_words.specs.Timeouts.{wait_fits}
 use Rattle.zk_line.specs.declared.types.Decl.{Decl}
 use Rattle.zk_line.specs.declared.types.Decl.TheVariants.{Sem, Msgq}
+use Rattle.zk_line.specs.declared.events.Event.{Event}
+use Rattle.zk_line.specs.declared.events.Event.TheVariants as event
 use Rattle.zk_line.specs.declared.types.Ref.{Ref}
 use Rattle.zk_line.specs.declared.types.Ref.TheVariants.{Known}
 use Rattle.zk_line.specs.declared.types.Arg.{Arg}
@@ -22,17 +26,26 @@ use Rattle.zk_line.specs.Objects.{is_at, is_met}
 abbrev pub ref_fits : List Decl → Need → Ref → Bool
 ref_fits decls need (Known object) = is_at (is_met need) decls object
 
+-- whether an event asks for nothing, or for an object that is declared and of its kind
+abbrev pub event_fits : List Decl → Event → Bool
+event_fits decls event.Ignore = true
+event_fits decls (event.Sem object) = ref_fits decls need.Sem object
+event_fits decls (event.Msgq object) = ref_fits decls need.Msgq object
+event_fits decls (event.Sig object) = ref_fits decls need.Signal object
+
 -- whether what stands in a slot fits it: an object that meets the need, a number in the range, a message of the size
 abbrev pub fits_in : List Decl → Option ℕ → Slot → Arg → Bool
 fits_in decls size (slot.Object need) (arg.Object object) = ref_fits decls need object
 fits_in decls size (slot.Number least most) (arg.Number number) = is_between least most number
 fits_in decls size slot.Hex (arg.Bytes message) = is_size size (length message)
 fits_in decls size slot.Wait (arg.Wait wait) = wait_fits wait
+fits_in decls size slot.Event (arg.Event event) = event_fits decls event
 fits_in decls size slot arg = true
 
 -- whether what stands behind the slots fits
 abbrev pub rest_fit : List Decl → Option ℕ → Rest → List Arg → Bool
 rest_fit decls size (Maybe slot) (arg ∷ args) = fits_in decls size slot arg
+rest_fit decls size Events args = list_all (fits_in decls size slot.Event) args
 rest_fit decls size rest args = true
 
 -- whether what a line says fits its slots

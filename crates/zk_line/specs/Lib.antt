@@ -3,6 +3,8 @@ pub mod ByName
 pub mod Calls
 pub mod Checks
 pub mod Decls
+pub mod Few
+pub mod Filling
 pub mod Fits
 pub mod Objects
 pub mod Shapes

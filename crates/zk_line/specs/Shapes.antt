@@ -1,10 +1,12 @@
-use Rattle.std.specs.Prelude.{ℕ, ℤ, Bool, nat_lt, List, [], ◌∷◌, Option, Some, None, option_map, if◌then◌else◌}
+use Rattle.std.specs.Prelude.{ℕ, ℤ, Bool, nat_lt, List, [], ◌∷◌, Option, Some, None, option_map, option_and_then, if◌then◌else◌}
 use Rattle.zk_words.specs.declared.slot.Choice.{Choice}
 use Rattle.zk_words.specs.declared.timeout.Timeout.{Timeout}
 use Rattle.zk_words.specs.Spelled.{same_choice}
 use Rattle.zk_line.specs.declared.types.Ref.{Ref}
+use Rattle.zk_line.specs.declared.events.Event.{Event as PollEvent}
 use Rattle.zk_line.specs.declared.types.Arg.{Arg}
-use Rattle.zk_line.specs.declared.types.Arg.TheVariants.{Name, Object, Number, Priority, Truth, Bytes, Wait}
+use Rattle.zk_line.specs.declared.types.Arg.TheVariants.{Name, Object, Number, Priority, Truth, Bytes, Wait, Event}
+use Rattle.zk_line.specs.Few.{is_few}
 
 -- the name that an argument is, if it is one
 abbrev pub as_name : Arg → Option (List ℕ)
@@ -46,6 +48,11 @@ abbrev pub as_wait : Arg → Option Timeout
 as_wait (Wait wait) = Some wait
 as_wait arg = None
 
+-- the event that it is
+abbrev pub as_event : Arg → Option PollEvent
+as_event (Event event) = Some event
+as_event arg = None
+
 -- two parts, where each is one
 abbrev pub both : {A B : Type 0} → Option A → Option B → Option (A × B)
 both (Some a) (Some b) = Some (a, b)
@@ -76,3 +83,21 @@ abbrev pub one_or_two : {A B : Type 0} → (Arg → Option A) → (Arg → Optio
 one_or_two f g (a ∷ []) = both (f a) (Some None)
 one_or_two f g (a ∷ b ∷ []) = both (f a) (option_map Some (g b))
 one_or_two f g args = None
+
+-- the events that all arguments are
+abbrev pub all_events : List Arg → Option (List PollEvent)
+all_events [] = Some []
+all_events (arg ∷ args) = option_and_then (λ event. option_map (λ events. event ∷ events) (all_events args)) (as_event arg)
+
+-- events that are those of a poll, 1 to 8
+abbrev pub few_events : List PollEvent → Option (List PollEvent)
+few_events events = (if is_few events then Some events else None)
+
+-- the events of a poll that all arguments are
+abbrev pub events_of : List Arg → Option (List PollEvent)
+events_of args = option_and_then few_events (all_events args)
+
+-- how long is waited, and for which events
+abbrev pub wait_events : List Arg → Option (Timeout × List PollEvent)
+wait_events (Wait wait ∷ args) = option_map (λ events. (wait, events)) (events_of args)
+wait_events args = None

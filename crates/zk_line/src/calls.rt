@@ -1,9 +1,10 @@
-ghost use Rattle.std.specs.Prelude.{◌≡◌, [], ◌∷◌};
+ghost use Rattle.std.specs.Prelude.{◌≡◌, [], ◌∷◌, map};
 ghost use Rattle.zk_line.specs.Calls.{saying, call_of, said_of, word_of};
 
+use crate::events::Events;
 use crate::shapes::{
     object_bytes_wait, object_maybe, object_number, object_result, object_truth, object_wait,
-    one_number, one_object, two_objects_number,
+    one_number, one_object, two_objects_number, wait_events,
 };
 use crate::types::{Arg, Call, Ref};
 use std::marker::Model;
@@ -16,14 +17,17 @@ pub struct Said {
     pub word: Word,
     // From the left as many as there are.
     pub args: [Option<Arg>; 3],
+    // Behind those.
+    pub events: Option<Events>,
 }
 
 impl Model for Said {
-    ghost use Rattle.zk_line.specs.Calls.{Saying, saying, standing};
+    ghost use Rattle.zk_line.specs.Calls.{Saying, saying, standing, events_said};
+    ghost use Rattle.std.specs.Prelude.{◌++◌};
 
     ghost Value = { Saying };
 
-    ghost view = { λ s. saying s.word (standing s.args) };
+    ghost view = { λ s. saying s.word (standing s.args ++ events_said s.events) };
 }
 
 /// The call of a word and what stands behind it.
@@ -57,6 +61,7 @@ pub fn call_of(word: Word, args: &[Arg]) -> Option<Call>
         Word::Raise => object_result(args).map(|p| Call::Raise(p.0, p.1)),
         Word::Clear => one_object(args).map(Call::Clear),
         Word::Check => one_object(args).map(Call::Check),
+        Word::Poll => wait_events(args).map(|p| Call::Poll(p.0, p.1)),
     }
 }
 
@@ -96,6 +101,7 @@ pub fn said_of(call: &Call) -> Said
         }
         Call::Clear(signal) => of_one(Word::Clear, object(signal)),
         Call::Check(signal) => of_one(Word::Check, object(signal)),
+        Call::Poll(wait, events) => polled(*wait, events),
     }
 }
 
@@ -118,6 +124,7 @@ fn of_one(word: Word, arg: Arg) -> Said
     Said {
         word,
         args: [Some(arg), None, None],
+        events: None,
     }
 }
 
@@ -127,6 +134,7 @@ fn of_two(word: Word, first: Arg, second: Arg) -> Said
     Said {
         word,
         args: [Some(first), Some(second), None],
+        events: None,
     }
 }
 
@@ -140,6 +148,7 @@ fn delayed(word: Word, item: &Ref, queue: &Ref, delay: u32) -> Said
             Some(object(queue)),
             Some(Arg::Number(delay)),
         ],
+        events: None,
     }
 }
 
@@ -153,5 +162,16 @@ fn sent(word: Word, to: &Ref, message: &Msg, wait: Timeout) -> Said
             Some(Arg::Bytes(*message)),
             Some(Arg::Wait(wait)),
         ],
+        events: None,
+    }
+}
+
+fn polled(wait: Timeout, events: &Events) -> Said
+    ensures { result ≡ saying Word.Poll (Arg.Wait wait ∷ map Arg.Event events.now) }
+{
+    Said {
+        word: Word::Poll,
+        args: [Some(Arg::Wait(wait)), None, None],
+        events: Some(*events),
     }
 }

@@ -1,8 +1,9 @@
 ghost use Rattle.std.specs.Prelude.{◌≡◌, is_some};
 ghost use Rattle.std.specs.Option.{option_flatten};
 ghost use Rattle.zk_words.specs.Numbers.{priority_of};
-ghost use Rattle.zk_line.specs.Checks.{first_object, size_named, message_size, is_in_range, each_in_range, is_up_to, go_together, are_in_range, is_size, hex_in_range};
+ghost use Rattle.zk_line.specs.Checks.{first_object, size_named, message_size, is_in_range, each_in_range, is_up_to, go_together, are_in_range, is_size, hex_in_range, is_event_slot, has_many_events};
 
+use crate::events::MOST_EVENTS;
 use crate::kinds::size_at;
 use crate::objects::Objects;
 use crate::types::{Arg, Ref};
@@ -125,5 +126,31 @@ fn is_up_to(initial: &[u8], limit: &[u8]) -> bool
     match number_in(1, 1_000_000, limit) {
         Some(most) => number_in(0, most, initial).is_some(),
         None => false,
+    }
+}
+
+/// Whether a line has more events than a poll may have.
+pub fn has_many_events(parts: &Parts<'_>) -> bool
+    ensures { result ≡ has_many_events parts.now }
+{
+    let mut parts = parts.again();
+    let mut events = 0;
+    while let Some(part) = parts.next() {
+        if is_event_slot(part.slot) {
+            if MOST_EVENTS <= events {
+                return true;
+            }
+            events += 1;
+        }
+    }
+    false
+}
+
+fn is_event_slot(slot: Slot) -> bool
+    ensures { result ≡ is_event_slot slot }
+{
+    match slot {
+        Slot::Event => true,
+        _ => false,
     }
 }

@@ -5,6 +5,7 @@ mod arg_list;
 mod calls;
 mod checks;
 mod decls;
+mod events;
 mod kinds;
 mod names;
 mod objects;
@@ -15,8 +16,9 @@ mod weights;
 
 pub use arg_list::Args;
 pub use calls::{Said, call_of, said_of, word_of};
-pub use checks::first_object;
+pub use checks::{first_object, has_many_events};
 pub use decls::{decl_args, decl_of};
+pub use events::{Event, Events, MOST_EVENTS};
 pub use kinds::{kind_of, name_of};
 pub use objects::{Objects, make_room, put};
 pub use print::{put_call, put_decl, put_said};

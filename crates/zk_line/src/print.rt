@@ -1,18 +1,20 @@
 ghost use Rattle.std.specs.Prelude.{◌≡◌, [], ◌∷◌, ◌++◌, map, OnOk};
 ghost use Rattle.std.specs.Fmt.{signed_decimal};
-ghost use Rattle.zk_line.specs.Args.{arg_text, ref_name};
-ghost use Rattle.zk_line.specs.Calls.{standing};
+ghost use Rattle.zk_line.specs.Args.{arg_text, event_text, ref_name};
+ghost use Rattle.zk_line.specs.Calls.{standing, events_said};
 ghost use Rattle.zk_line.specs.Text.{said_line, decl_line, call_line, behind};
+ghost use Rattle.zk_words.specs.Events.{source_text};
 ghost use Rattle.zk_words.specs.Table.{row_of};
 ghost use Rattle.zk_words.specs.Timeouts.{wait_text};
 
 use crate::calls::said_of;
 use crate::decls::decl_args;
+use crate::events::{Event, Events};
 use crate::kinds::{kind_of, name_at};
 use crate::types::{Arg, Call, Decl, Ref};
 use itoa::Buffer;
 use zk_base::{NoMemory, put, put_decimal};
-use zk_words::{Head, Timeout, choice_text, put_hex, row_of};
+use zk_words::{Head, Source, Timeout, choice_text, put_hex, row_of, source_text};
 
 /// Appends the line of a declaration. As below, no line feed is written, and after an error a part of
 /// the line may stand there.
@@ -27,7 +29,8 @@ pub fn put_call(out: &mut Vec<u8>, decls: &[Decl], call: &Call) -> Result<(), No
     ensures { OnOk result (out.new.items ≡ out.old.items ++ call_line decls.now call.now) }
 {
     let said = said_of(call);
-    put_said(out, decls, Head::Call(said.word), &said.args)
+    put_said(out, decls, Head::Call(said.word), &said.args)?;
+    put_events(out, decls, &said.events)
 }
 
 /// The line of a head and what stands behind it.
@@ -86,7 +89,56 @@ fn put_arg(out: &mut Vec<u8>, decls: &[Decl], arg: &Arg) -> Result<(), NoMemory>
         Arg::Truth(choice, truth) => put(out, choice_text(*choice, *truth)),
         Arg::Bytes(message) => put_hex(out, message.bytes()),
         Arg::Wait(wait) => put_wait(out, *wait),
+        Arg::Event(event) => put_event(out, decls, event),
     }
+}
+
+/// The events of a poll, each behind a space, where there are any.
+fn put_events(out: &mut Vec<u8>, decls: &[Decl], events: &Option<Events>) -> Result<(), NoMemory>
+    ensures { OnOk result
+        (out.new.items ≡ out.old.items ++ behind (map (arg_text decls.now) (events_said events.now))) }
+{
+    match events {
+        Some(events) => put_each_event(out, decls, events.items()),
+        None => Ok(()),
+    }
+}
+
+fn put_each_event(out: &mut Vec<u8>, decls: &[Decl], events: &[Event]) -> Result<(), NoMemory>
+    ensures { OnOk result
+        (out.new.items ≡ out.old.items ++ behind (map (arg_text decls.now) (map Arg.Event events.now))) }
+{
+    let mut events = events;
+    while let [event, more @ ..] = events {
+        out.push(b' ')?;
+        put_event(out, decls, event)?;
+        events = more;
+    }
+    Ok(())
+}
+
+fn put_event(out: &mut Vec<u8>, decls: &[Decl], event: &Event) -> Result<(), NoMemory>
+    ensures { OnOk result (out.new.items ≡ out.old.items ++ event_text decls.now event.now) }
+{
+    match event {
+        Event::Ignore => put(out, b"ignore"),
+        Event::Sem(object) => put_source(out, decls, Source::Sem, object),
+        Event::Msgq(object) => put_source(out, decls, Source::Msgq, object),
+        Event::Sig(object) => put_source(out, decls, Source::Signal, object),
+    }
+}
+
+fn put_source(
+    out: &mut Vec<u8>,
+    decls: &[Decl],
+    source: Source,
+    object: &Ref,
+) -> Result<(), NoMemory>
+    ensures { OnOk result
+        (out.new.items ≡ out.old.items ++ source_text source ++ ref_name decls.now object.now) }
+{
+    put(out, source_text(source))?;
+    put(out, ref_name(decls, object))
 }
 
 fn put_priority(out: &mut Vec<u8>, prio: i8) -> Result<(), NoMemory>

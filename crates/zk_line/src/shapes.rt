@@ -1,6 +1,7 @@
 ghost use Rattle.std.specs.Prelude.{◌≡◌};
-ghost use Rattle.zk_line.specs.Shapes.{as_name, as_object, as_number, as_result, as_priority, as_truth, as_bytes, as_wait, one, two, three, one_or_two};
+ghost use Rattle.zk_line.specs.Shapes.{as_name, as_object, as_number, as_result, as_priority, as_truth, as_bytes, as_wait, as_event, events_of, wait_events, one, two, three, one_or_two};
 
+use crate::events::{Event, Events, MOST_EVENTS};
 use crate::types::{Arg, Ref};
 use zk_base::{Msg, Name};
 use zk_words::{Choice, Timeout, same_choice};
@@ -108,6 +109,48 @@ pub fn object_bytes_wait(args: &[Arg]) -> Option<(Ref, Msg, Timeout)>
         [Arg::Object(object), Arg::Bytes(message), Arg::Wait(wait)] => Some((
             *object, *message, *wait,
         )),
+        _ => None,
+    }
+}
+
+/// How long is waited, and for which events, 1 to 8 of them.
+pub fn wait_events(args: &[Arg]) -> Option<(Timeout, Events)>
+    ensures { result ≡ wait_events args.now }
+{
+    match args {
+        [Arg::Wait(wait), events @ ..] => match events_of(events) {
+            Some(events) => Some((*wait, events)),
+            None => None,
+        },
+        _ => None,
+    }
+}
+
+fn events_of(args: &[Arg]) -> Option<Events>
+    ensures { result ≡ events_of args.now }
+{
+    if MOST_EVENTS < args.len() {
+        return None;
+    }
+    let mut events = [Event::Ignore; MOST_EVENTS];
+    let mut len = 0;
+    let mut left = args;
+    while let [first, more @ ..] = left {
+        let Some(event) = as_event(first) else {
+            return None;
+        };
+        events[len] = event;
+        len += 1;
+        left = more;
+    }
+    Events::new(&events[..len])
+}
+
+fn as_event(arg: &Arg) -> Option<Event>
+    ensures { result ≡ as_event arg.now }
+{
+    match arg {
+        Arg::Event(event) => Some(*event),
         _ => None,
     }
 }

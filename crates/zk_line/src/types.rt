@@ -1,3 +1,4 @@
+use crate::events::{Event, Events};
 use zk_base::{Msg, Name};
 use zk_words::{Choice, Timeout};
 
@@ -36,6 +37,7 @@ pub enum Arg {
     Truth(Choice, bool),
     Bytes(Msg),
     Wait(Timeout),
+    Event(Event),
 }
 
 /// What stands in a list's places that nothing fills.
@@ -100,4 +102,6 @@ pub enum Call {
     Clear(Ref),
     /// A signal. Zephyr's `k_poll_signal_check`.
     Check(Ref),
+    /// How long is waited until one of these is ready. Zephyr's `k_poll`.
+    Poll(Timeout, Events),
 }

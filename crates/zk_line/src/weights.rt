@@ -11,12 +11,14 @@ ghost use Rattle.zk_line.specs.Weights.{Weighs, or_wrong};
 
 use crate::arg_list::Args;
 use crate::checks::{are_in_range, go_together, hex_in_range, size_named};
+use crate::events::{Event, event_at};
 use crate::kinds::{meets_at, plays_at};
 use crate::objects::Objects;
 use crate::types::{Arg, Ref};
 use zk_base::{Name, NoMemory};
 use zk_words::{
-    Choice, Head, Need, Parts, Slot, choice_text, msg_of, number_in, priority_of, wait_of,
+    Choice, Head, Need, Parts, Slot, choice_text, event_named, is_ignore, msg_of, need_of,
+    number_in, priority_of, wait_of,
 };
 
 /// What speaks against a word in its slot, or against a line's words in theirs.
@@ -83,6 +85,7 @@ fn worth_of(objects: &Objects, said: &[Arg], slot: Slot, word: &[u8]) -> Result<
         Slot::Either(choice) => Ok(Arg::Truth(choice, truth(choice, word))),
         Slot::Hex => message(size_said(objects, said), word),
         Slot::Wait => wait(word),
+        Slot::Event => event(objects, word),
         Slot::Raw => Err(Wrong::Misnamed),
     }
 }
@@ -124,6 +127,26 @@ fn object(objects: &Objects, need: Need, word: &[u8]) -> Result<Arg, Wrong>
     };
     if meets_at(need, objects.decls(), object) {
         Ok(Arg::Object(Ref::Known(object)))
+    } else {
+        Err(Wrong::Misnamed)
+    }
+}
+
+fn event(objects: &Objects, word: &[u8]) -> Result<Arg, Wrong>
+    ensures { Weighs true
+        (is_well_named objects.now Slot.Event word.now) (arg_of objects.now Slot.Event word.now) result }
+{
+    if is_ignore(word) {
+        return Ok(Arg::Event(Event::Ignore));
+    }
+    let Some(asked) = event_named(word) else {
+        return Err(Wrong::Misnamed);
+    };
+    let Some(object) = objects.find(asked.name) else {
+        return Err(Wrong::Misnamed);
+    };
+    if meets_at(need_of(asked.source), objects.decls(), object) {
+        Ok(Arg::Event(event_at(asked.source, Ref::Known(object))))
     } else {
         Err(Wrong::Misnamed)
     }

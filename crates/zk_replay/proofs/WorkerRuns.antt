@@ -17,7 +17,7 @@ use Rattle.zk_line.specs.declared.types.Call.TheVariants as calls
 use Rattle.zk_scenario.specs.Parts.{Parts}
 use Rattle.zk_line.specs.Objects.{places_from, places, is_thread, is_queue, is_item, same_kind, number_of}
 use Rattle.zk_scenario.specs.Players.{players, calls_of}
-use Rattle.zk_scenario.proofs.Valid.{count_by-cons}
+use Rattle.zk_line.proofs.Lists.{count_by-cons}
 use Rattle.zk_model_wait.specs.declared.clock.ClockOp.TheVariants as clock_ops
 use Rattle.zk_model_work.specs.declared.ops.WorkOp.{WorkOp}
 use Rattle.zk_model_work.specs.declared.ops.WorkOp.TheVariants as ops
@@ -55,8 +55,19 @@ use Rattle.zk_words.specs.declared.timeout.Timeout.TheVariants.{No, Forever, Tic
 use Rattle.zk_worker.specs.declared.frames.Waiting.{Waiting}
 use Rattle.zk_worker.specs.declared.frames.Waiting.TheVariants.{Take, Put, Get}
 use Rattle.zk_worker.specs.declared.frames.Plan.{Plan}
-use Rattle.zk_worker.specs.declared.frames.Plan.TheVariants.{One, Pair, Twice, Wait}
-use Rattle.zk_worker.specs.declared.frames.Stage.TheVariants.{Start, Runs, Waits, Halfway, Alarmed, WaitsUntil, Quits}
+use Rattle.zk_worker.specs.declared.frames.Plan.TheVariants.{One, Pair, Twice, Wait, Poll}
+use Rattle.zk_worker.specs.declared.frames.Stage.TheVariants.{Start, Runs, Waits, Halfway, Alarmed, WaitsUntil, Quits, Polls}
+use Rattle.zk_worker.specs.declared.frames.Mark.{Mark}
+use Rattle.zk_worker.specs.declared.frames.Mark.TheVariants.{Armed}
+use Rattle.zk_worker.specs.declared.frames.Alarm.{Alarm}
+use Rattle.zk_worker.specs.declared.frames.Alarm.TheVariants.{Unset}
+use Rattle.zk_line.specs.declared.events.Event.{Event}
+use Rattle.zk_line.specs.declared.events.Event.TheVariants as sources
+use Rattle.zk_line.specs.declared.types.Ref.TheVariants.{Known}
+use Rattle.zk_model_wait.specs.declared.sem.SemOp.TheVariants as sem_ops
+use Rattle.zk_model_wait.specs.declared.msgq.MsgqOp.TheVariants as msgq_ops
+use Rattle.zk_worker.specs.Polls.{fresh, ask_step, watch_step, drop_step, poll_attempts, alarm_after, marked, event_of, mark_of, poll_answer, is_answered, poll_goes, polled, poll_progress}
+use Rattle.zk_worker.proofs.PollSteps.{poll_attempts-each}
 use Rattle.zk_worker.specs.declared.frames.Progress.{Progress}
 use Rattle.zk_worker.specs.declared.frames.Progress.TheVariants.{Goes, Answers, Enters}
 use Rattle.zk_worker.specs.Calls.{plan_of, closing_step, open_step, end_step, quit_step, first_step, wait_attempts, plan_attempts, opening_progress, until, wait_progress, plan_progress}
@@ -151,6 +162,7 @@ IsCalledPlan (One step) = IsCalledStep step
 IsCalledPlan (Pair opening closing) = IsCalledStep opening
 IsCalledPlan (Twice first second) = IsCalledStep first × IsCalledStep second
 IsCalledPlan (Wait waiting timeout) = Unit {0}
+IsCalledPlan (Poll timeout events) = Unit {0}
 
 plan_of-called : (decls : List Decl) (call : Call) → IsCalledPlan (plan_of decls call)
 plan_of-called decls (calls.Tick ticks) = (tt, tt)
@@ -193,6 +205,35 @@ closing-called closings.Cancel since = tt
 closing-called closings.Flush since = tt
 closing-called closings.Drain since = tt
 
+-- a step that an event of a poll gives isn't a worker's either
+made-called : (made step : Step) → IsCalledStep made → Some made ≡ Some step → IsCalledStep step
+made-called made step called is = let same : made ≡ step = cc in subst IsCalledStep same called
+
+ask-called : (registers : Bool) (event : Event) (step : Step) → Unit {0} → ask_step registers event ≡ Some step → IsCalledStep step
+ask-called registers sources.Ignore step any is = absurd (cc)
+ask-called registers (sources.Sem (Known sem)) step any is = made-called (steps.Sem sem (sem_ops.PollArm registers)) step tt is
+ask-called registers (sources.Msgq (Known queue)) step any is = made-called (steps.Msgq queue (msgq_ops.PollArm registers)) step tt is
+ask-called registers (sources.Sig (Known signal)) step any is = made-called (steps.LookSignal signal false) step tt is
+
+watch-called : (event : Event) (mark : Mark) (step : Step) → Unit {0} → watch_step event mark ≡ Some step → IsCalledStep step
+watch-called (sources.Sem (Known sem)) (Armed place) step any is = made-called (steps.Sem sem (sem_ops.PollEnd place)) step tt is
+watch-called (sources.Msgq (Known queue)) (Armed place) step any is = made-called (steps.Msgq queue (msgq_ops.PollEnd place)) step tt is
+watch-called (sources.Sig (Known signal)) mark step any is = made-called (steps.LookSignal signal true) step tt is
+watch-called event mark step any is = absurd (cc)
+
+drop-called : (event : Event) (mark : Mark) (step : Step) → Unit {0} → drop_step event mark ≡ Some step → IsCalledStep step
+drop-called (sources.Sem (Known sem)) (Armed place) step any is = made-called (steps.Sem sem (sem_ops.PollQuit place)) step tt is
+drop-called (sources.Msgq (Known queue)) (Armed place) step any is = made-called (steps.Msgq queue (msgq_ops.PollQuit place)) step tt is
+drop-called event mark step any is = absurd (cc)
+
+each-event : (events : List Event) → All (λ event. Unit {0}) events
+each-event [] = All-nil (λ event. Unit {0})
+each-event (event ∷ events) = All-cons (λ event. Unit {0}) event events tt (each-event events)
+
+poll-called : (timeout : Timeout) (events : List Event) (stage : Stage) → All IsCalledStep (poll_attempts timeout events stage)
+poll-called timeout events stage =
+    poll_attempts-each IsCalledStep (λ event. Unit {0}) ask-called watch-called drop-called (λ op. tt) timeout events stage (each-event events)
+
 -- and so are all that it attempts
 attempts-called : (plan : Plan) (stage : Stage) → IsCalledPlan plan → All IsCalledStep (plan_attempts plan stage)
 attempts-called (One step) Start called = one-called step called
@@ -201,6 +242,7 @@ attempts-called (Pair opening closing) (Waits place) called = one-called (closin
 attempts-called (Twice first second) Start called = one-called first called.0
 attempts-called (Twice first second) Halfway called = one-called second called.1
 attempts-called (Wait waiting timeout) stage called = wait-called waiting timeout stage
+attempts-called (Poll timeout events) stage called = poll-called timeout events stage
 attempts-called plan stage called = All-nil IsCalledStep
 
 -- a call goes on or is answered, and enters no script
@@ -227,11 +269,28 @@ wait-out word (Alarmed moment) reply = until-out moment (opening_progress word r
 wait-out word (WaitsUntil place moment) (step_replies.Clock reply at) = tt
 wait-out word stage reply = tt
 
+goes-out : (word : Word) (timeout : Timeout) (events : List Event) (alarm : Alarm) (marks : List Mark) → StaysOut (poll_goes word timeout events alarm marks)
+goes-out word timeout events alarm marks =
+    elim (is_answered timeout events alarm marks) as (λ b. StaysOut (cond b (Answers word (poll_answer marks)) (Goes (Polls alarm marks)))) [ true ↦ tt | false ↦ tt ]
+
+polled-out : (word : Word) (timeout : Timeout) (events : List Event) (alarm : Alarm) (marks : List Mark) (made : Step) (reply : StepReply) →
+    StaysOut (polled word timeout events alarm marks made reply)
+polled-out word timeout events alarm marks made reply =
+    goes-out word timeout events (alarm_after alarm reply) (marked marks (event_of events alarm marks made) (mark_of reply))
+
+poll-out : (word : Word) (timeout : Timeout) (events : List Event) (stage : Stage) (made : Step) (reply : StepReply) →
+    StaysOut (poll_progress word timeout events stage made reply)
+poll-out word timeout events Start made (step_replies.Clock (clock_replies.At moment) place) = tt
+poll-out word timeout events Start made reply = polled-out word timeout events Unset fresh made reply
+poll-out word timeout events (Polls alarm marks) made reply = polled-out word timeout events alarm marks made reply
+poll-out word timeout events stage made reply = tt
+
 plan-out : (word : Word) (plan : Plan) (stage : Stage) (step : Step) (reply : StepReply) → StaysOut (plan_progress word plan stage step reply)
 plan-out word (One made) stage step reply = tt
 plan-out word (Pair opening closing) Start step reply = opening-out word reply
 plan-out word (Twice first second) Start step reply = tt
 plan-out word (Wait waiting timeout) stage step reply = wait-out word stage reply
+plan-out word (Poll timeout events) stage step reply = poll-out word timeout events stage step reply
 plan-out word plan stage step reply = tt
 
 -- the scripts of a worker after a step of the innermost one, which leaves the queue idle where a call asks for it

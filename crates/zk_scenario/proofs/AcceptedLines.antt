@@ -23,7 +23,7 @@ use Rattle.zk_line.specs.declared.types.Decl.TheVariants as decl
 use Rattle.zk_line.specs.declared.types.Call.{Call}
 use Rattle.zk_line.specs.Args.{args_of}
 use Rattle.zk_line.specs.Calls.{call_of}
-use Rattle.zk_line.specs.Checks.{first_object, message_size, each_in_range, go_together, are_in_range, are_well_named}
+use Rattle.zk_line.specs.Checks.{first_object, message_size, each_in_range, go_together, are_in_range, are_well_named, has_many_events}
 use Rattle.zk_line.specs.Decls.{decl_of}
 use Rattle.zk_line.specs.Fits.{call_fits, decl_fits}
 use Rattle.zk_line.specs.Objects.{object_of, kind_of, is_at, names, plays_script, is_thread, is_queue, is_item, is_sem, is_msgq, is_signal, player_count}
@@ -31,7 +31,7 @@ use Rattle.zk_line.proofs.Fits.{call_fits-read, kind_of-read}
 use Rattle.zk_line.proofs.InRange.{decl_fits-read}
 use Rattle.zk_line.proofs.Lists.{slice_get-append_left, slice_get-push, count_by-push, position-push}
 use Rattle.zk_line.proofs.Makes.{is_some-some}
-use Rattle.zk_line.proofs.Spelled.{one_part}
+use Rattle.zk_line.proofs.Options.{one_part}
 use Rattle.zk_scenario.specs.declared.types.Script.{Script}
 use Rattle.zk_scenario.specs.declared.refused.Why.{Why}
 use Rattle.zk_scenario.specs.declared.refused.Why.TheVariants as why
@@ -47,7 +47,7 @@ pub record Passes (r : Reading) (h : Head) (parts : List Placed) : Type 0 where
   pub placed : is_misplaced r h parts ≡ false
   pub in_range : are_in_range r.decls h parts ≡ true
   pub well_named : are_well_named r.decls parts ≡ true
-  pub within : is_past_limit r h ≡ false
+  pub within : is_past_limit r h parts ≡ false
 
 drop_test : (b : Bool) (reason : Why) (rest : Option Why) → cond b (Some reason) rest ≡ None → (b ≡ false) × (rest ≡ None)
 drop_test true reason rest e = absurd (cc)
@@ -58,7 +58,7 @@ Passes-verdict r h parts e =
     let one = drop_test (is_misplaced r h parts) why.Order _ e in
     let two = drop_test (not (are_in_range r.decls h parts)) why.Number _ one.1 in
     let three = drop_test (not (are_well_named r.decls parts)) why.Name _ two.1 in
-    let four = drop_test (is_past_limit r h) why.Limit _ three.1 in
+    let four = drop_test (is_past_limit r h parts) why.Limit _ three.1 in
     record { placed = one.0; in_range = not-false _ two.0; well_named = not-false _ three.0; within = four.0 }
 
 pub or_none : (a b : Bool) → (a || b) ≡ false → (a ≡ false) × (b ≡ false)
@@ -123,23 +123,21 @@ pub record HasRoom (decls : List Decl) : Type 0 where
 room-valid : (p : Parts) → IsValid p → HasRoom p.decls
 room-valid p valid = record { players = valid.players; queues = valid.queues; items = valid.items; sems = valid.sems; msgqs = valid.msgqs; signals = valid.signals }
 
+-- a scenario is valid, by what there is room for and what is said of its scripts
+IsValid-made : (p : Parts) → HasRoom p.decls → call_count p.scripts ≤ 4096 → list_all decl_fits p.decls ≡ true → list_all (script_fits p.decls) p.scripts ≡ true → OneEach p.scripts → IsValid p
+IsValid-made p room calls in_range fit one_each =
+    record { players = room.players; queues = room.queues; items = room.items; sems = room.sems; msgqs = room.msgqs; signals = room.signals; calls = calls; in_range = in_range; fit = fit; one_each = one_each }
+
 -- no script stands yet, so a declaration says nothing of one
 valid-declared : (r : Reading) (d : Decl) → IsValid (parts_of r) → has_begun r ≡ false → HasRoom (r.decls ++ d ∷ []) → decl_fits d ≡ true → IsValid (parts_of (declared r d))
 valid-declared r d valid first room fits =
     let nothing = nothing_begun r first in
     let none : all_scripts r ≡ [] = ap (λ o. r.scripts ++ option_to_list o) nothing.1 ∙ append-nil r.scripts ∙ nothing.0 in
-    record {
-      players = room.players;
-      queues = room.queues;
-      items = room.items;
-      sems = room.sems;
-      msgqs = room.msgqs;
-      signals = room.signals;
-      calls = valid.calls;
-      in_range = all-push decl_fits r.decls d ∙ and_from (list_all decl_fits r.decls) (decl_fits d) valid.in_range fits;
-      fit = ap (list_all (script_fits (r.decls ++ d ∷ []))) none;
-      one_each = valid.one_each;
-    }
+    IsValid-made (parts_of (declared r d)) room
+    valid.calls
+    (all-push decl_fits r.decls d ∙ and_from (list_all decl_fits r.decls) (decl_fits d) valid.in_range fits)
+    (ap (list_all (script_fits (r.decls ++ d ∷ []))) none)
+    valid.one_each
 
 -- where no script is open, all scripts are those that have ended
 pub all_scripts-none : (r : Reading) → r.current ≡ None → all_scripts r ≡ r.scripts
@@ -155,18 +153,11 @@ valid-begun : (r : Reading) (owner : ℕ) → IsValid (parts_of r) → r.current
 valid-begun r owner valid none thread fresh =
     let s : Script = record { owner = owner; calls = [] } in
     let same = all_scripts-none r none in
-    record {
-      players = valid.players;
-      queues = valid.queues;
-      items = valid.items;
-      sems = valid.sems;
-      msgqs = valid.msgqs;
-      signals = valid.signals;
-      in_range = valid.in_range;
-      calls = omega (arith, call_count-push r.scripts s, ap call_count same, valid.calls);
-      fit = fit-push r.decls r.scripts s ∙ and_from (list_all (script_fits r.decls) r.scripts) (script_fits r.decls s) (ap (list_all (script_fits r.decls)) (sym same) ∙ valid.fit) (and_from (is_at plays_script r.decls owner) true thread refl);
-      one_each = one_each-push r.scripts s (subst OneEach same valid.one_each) fresh;
-    }
+    IsValid-made (parts_of (begun r s)) (room-valid (parts_of r) valid)
+    (omega (arith, call_count-push r.scripts s, ap call_count same, valid.calls))
+    valid.in_range
+    (fit-push r.decls r.scripts s ∙ and_from (list_all (script_fits r.decls) r.scripts) (script_fits r.decls s) (ap (list_all (script_fits r.decls)) (sym same) ∙ valid.fit) (and_from (is_at plays_script r.decls owner) true thread refl))
+    (one_each-push r.scripts s (subst OneEach same valid.one_each) fresh)
 
 valid-called : (decls : List Decl) (ss : List Script) (s : Script) (c : Call) → IsValid (record { decls = decls; scripts = ss ++ s ∷ [] }) → call_fits decls c ≡ true → call_count (ss ++ s ∷ []) < 4096
     → IsValid (record { decls = decls; scripts = ss ++ with_call c s ∷ [] })
@@ -174,18 +165,11 @@ valid-called decls ss s c valid fits few =
     let both = and_parts (list_all (script_fits decls) ss) (script_fits decls s) (sym (fit-push decls ss s) ∙ valid.fit) in
     let own = and_parts (is_at plays_script decls s.owner) (list_all (call_fits decls) s.calls) both.1 in
     let calls = list_all-append (call_fits decls) s.calls (c ∷ []) ∙ and_from (list_all (call_fits decls) s.calls) (call_fits decls c && true) own.1 (and_from (call_fits decls c) true fits refl) in
-    record {
-      players = valid.players;
-      queues = valid.queues;
-      items = valid.items;
-      sems = valid.sems;
-      msgqs = valid.msgqs;
-      signals = valid.signals;
-      in_range = valid.in_range;
-      calls = omega (arith, call_count-push ss s, call_count-push ss (with_call c s), length-append s.calls (c ∷ []));
-      fit = fit-push decls ss (with_call c s) ∙ and_from (list_all (script_fits decls) ss) (script_fits decls (with_call c s)) both.0 (and_from (is_at plays_script decls s.owner) (list_all (call_fits decls) (s.calls ++ c ∷ [])) own.0 calls);
-      one_each = one_each-push ss (with_call c s) (one_each-left ss s valid.one_each) (one_each-fresh ss s valid.one_each);
-    }
+    IsValid-made (record { decls = decls; scripts = ss ++ with_call c s ∷ [] }) (room-valid (record { decls = decls; scripts = ss ++ s ∷ [] }) valid)
+    (omega (arith, call_count-push ss s, call_count-push ss (with_call c s), length-append s.calls (c ∷ [])))
+    valid.in_range
+    (fit-push decls ss (with_call c s) ∙ and_from (list_all (script_fits decls) ss) (script_fits decls (with_call c s)) both.0 (and_from (is_at plays_script decls s.owner) (list_all (call_fits decls) (s.calls ++ c ∷ [])) own.0 calls))
+    (one_each-push ss (with_call c s) (one_each-left ss s valid.one_each) (one_each-fresh ss s valid.one_each))
 
 -- the script that ends has an owner of its own
 pub fresh-closed : (r : Reading) (s : Script) → IsValid (parts_of r) → r.current ≡ Some s → script_of r.scripts s.owner ≡ None
@@ -302,7 +286,7 @@ pub IsValid-called : (r : Reading) (w : Word) (parts : List Placed) (c : Call) �
 IsValid-called r w parts c form p made valid =
     let ranged = (and_parts (each_in_range (message_size r.decls parts) parts) (go_together (head.Call w) parts) p.in_range).0 in
     let fitting = call_fits-read r.decls w form.words c (sym (ap (λ ps. each_in_range (message_size r.decls ps) ps) form.placed) ∙ ranged) (sym (ap (are_well_named r.decls) form.placed) ∙ p.well_named) (sym (ap (λ ps. option_and_then (call_of w) (args_of r.decls ps)) form.placed) ∙ made) in
-    called_fits r c valid p.placed fitting p.within
+    called_fits r c valid p.placed fitting (or_none (nat_le 4096 (call_count (all_scripts r))) (has_many_events parts) p.within).0
 
 -- a line to which no reason applies keeps what was read valid
 pub IsValid-after : (r s : Reading) (h : Head) (parts : List Placed) → IsForm h parts → verdict r h parts ≡ None → after r h parts ≡ Some s → IsValid (parts_of r) → IsValid (parts_of s)

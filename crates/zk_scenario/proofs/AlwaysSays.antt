@@ -1,5 +1,5 @@
 -- A line to which no reason applies says something, so the last refusal of `told` never comes.
-use Rattle.std.proofs.Common.{◌≡◌, ℕ, true, false, List, [], ◌∷◌, Option, Some, None, refl, sym, ap, subst, ◌∙◌}
+use Rattle.std.proofs.Common.{◌≡◌, ℕ, nat_le, true, false, List, [], ◌∷◌, Option, Some, None, refl, sym, ap, subst, ◌∙◌}
 use Rattle.std.specs.Prelude.{option_map, option_and_then, IsSome}
 use Rattle.std.specs.Option.{option_map_or}
 use Rattle.std.proofs.lemmas.Bool.{and_parts}
@@ -12,13 +12,14 @@ use Rattle.zk_words.specs.Parts.{Placed, fits, parts_of as placed_of}
 use Rattle.zk_words.specs.Table.{row_of}
 use Rattle.zk_line.specs.Args.{args_of}
 use Rattle.zk_line.specs.Calls.{call_of}
-use Rattle.zk_line.specs.Checks.{first_object, message_size, each_in_range, go_together, are_well_named}
+use Rattle.zk_line.specs.Checks.{first_object, message_size, each_in_range, go_together, are_well_named, has_many_events}
 use Rattle.zk_line.specs.Decls.{decl_of}
 use Rattle.zk_line.specs.Objects.{object_of, is_at, names, plays_script}
 use Rattle.zk_line.proofs.Makes.{AreRight, are_right, makes_call, makes_decl}
-use Rattle.zk_scenario.specs.Reading.{Reading, declared, called}
+use Rattle.zk_scenario.specs.Reading.{Reading, all_scripts, declared, called}
+use Rattle.zk_scenario.specs.Valid.{call_count}
 use Rattle.zk_scenario.specs.Verdict.{verdict, opened, after}
-use Rattle.zk_scenario.proofs.AcceptedLines.{Passes, Passes-verdict}
+use Rattle.zk_scenario.proofs.AcceptedLines.{Passes, Passes-verdict, or_none}
 
 some-map : {X Y : Type 0} (f : X → Y) (o : Option X) → IsSome o → IsSome (option_map f o)
 some-map f (Some x) e = refl
@@ -53,6 +54,7 @@ after-some r head.Script parts form e =
 after-some r head.End parts form e = refl
 after-some r (head.Call w) parts form e =
     let p = Passes-verdict r (head.Call w) parts e in
+    let few = (or_none (nat_le 4096 (call_count (all_scripts r))) (has_many_events parts) p.within).1 in
     let right = right_words r (head.Call w) parts form p in
     some-map (called r) (option_and_then (call_of w) (args_of r.decls parts))
-    (subst (λ ps. IsSome (option_and_then (call_of w) (args_of r.decls ps))) (sym form.placed) (makes_call w r.decls (message_size r.decls parts) form.words form.fitting right))
+    (subst (λ ps. IsSome (option_and_then (call_of w) (args_of r.decls ps))) (sym form.placed) (makes_call w r.decls (message_size r.decls parts) form.words form.fitting right (sym (ap has_many_events form.placed) ∙ few)))

@@ -30,7 +30,8 @@ use Rattle.zk_line.specs.Decls.{decl_of}
 use Rattle.zk_line.specs.Objects.{object_of}
 use Rattle.zk_line.specs.Text.{decl_line, call_line}
 use Rattle.zk_line.proofs.Makes.{is_some-some}
-use Rattle.zk_line.proofs.Spelled.{one_part, name_at-object_of, decl_is_line, call_is_line}
+use Rattle.zk_line.proofs.Options.{one_part}
+use Rattle.zk_line.proofs.Spelled.{name_at-object_of, decl_is_line, call_is_line}
 use Rattle.zk_scenario.specs.declared.types.Script.{Script}
 use Rattle.zk_scenario.specs.declared.refused.Why.{Why}
 use Rattle.zk_scenario.specs.declared.refused.Why.TheVariants as why

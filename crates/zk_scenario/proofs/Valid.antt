@@ -4,7 +4,6 @@ use Rattle.std.specs.List.{list_all}
 use Rattle.std.specs.Option.{option_map_or}
 use Rattle.std.proofs.lemmas.Bool.{and_parts}
 use Rattle.std.proofs.lemmas.List.Quantifiers.{position-Some}
-use Rattle.std.proofs.lemmas.List.Sums.{sum_by-append}
 use Rattle.std.proofs.lemmas.Option.{slice_get-get_or}
 use Rattle.zk_base.proofs.Lists.{list_all-at}
 use Rattle.zk_line.specs.declared.types.Decl.{Decl}
@@ -15,6 +14,7 @@ use Rattle.zk_scenario.specs.Parts.{Parts}
 use Rattle.zk_scenario.specs.Players.{players, calls_of}
 use Rattle.zk_scenario.specs.Scripts.{script_of}
 use Rattle.zk_line.specs.Fits.{call_fits}
+use Rattle.zk_line.proofs.Lists.{count_by-cons}
 use Rattle.zk_scenario.specs.Valid.{IsValid, script_fits}
 use Rattle.zk_scenario.proofs.ScriptTables.{calls_of-none, calls_of-some}
 use Rattle.zk_line.proofs.Tables.{length-places}
@@ -22,10 +22,6 @@ use Rattle.zk_line.proofs.Tables.{length-places}
 -- the players of the table are as many as their count
 pub length-players : (decls : List Decl) → length (players decls) ≡ player_count decls
 length-players decls = omega (arith, length-append (places is_thread decls) (places is_queue decls), length-places is_thread decls, length-places is_queue decls)
-
--- a count over a list, from its first element on
-pub count_by-cons : {X : Type 0} (p : X → Bool) (x : X) (xs : List X) → count_by p (x ∷ xs) ≡ cond (p x) 1 0 + count_by p xs
-count_by-cons p x xs = sum_by-append (λ y. cond (p y) 1 0) (x ∷ []) xs ∙ ap (λ n. n + count_by p xs) (omega arith)
 
 -- each declaration is of one kind
 length-kinds : (ds : List Decl) → length ds ≡ player_count ds + count_by is_item ds + count_by is_sem ds + count_by is_msgq ds + count_by is_signal ds

@@ -36,13 +36,13 @@ module _ (r : Reading) (decls : List Decl) (h : Head) (parts : List Placed) (wro
   pub verdict_number : wrong ≡ Some OutOfRange → verdict r h parts ≡ Some Number
   verdict_number is =
       let out : are_in_range decls h parts ≡ false = subst (λ w. Weighs (are_in_range decls h parts) (are_well_named decls parts) (args_of decls parts) (or_wrong w args)) is weighed in
-      first_number (is_misplaced r h parts) (are_in_range r.decls h parts) (are_well_named r.decls parts) (is_past_limit r h) placed (ap (λ ds. are_in_range ds h parts) (sym same) ∙ out)
+      first_number (is_misplaced r h parts) (are_in_range r.decls h parts) (are_well_named r.decls parts) (is_past_limit r h parts) placed (ap (λ ds. are_in_range ds h parts) (sym same) ∙ out)
 
   -- its words are right, and say these
-  pub verdict_right : (past : Bool) → wrong ≡ None → is_past_limit r h ≡ past → (verdict r h parts ≡ cond past (Some Limit) None) × (args_of r.decls parts ≡ Some args)
+  pub verdict_right : (past : Bool) → wrong ≡ None → is_past_limit r h parts ≡ past → (verdict r h parts ≡ cond past (Some Limit) None) × (args_of r.decls parts ≡ Some args)
   verdict_right past is limit =
       let right = subst (λ w. Weighs (are_in_range decls h parts) (are_well_named decls parts) (args_of decls parts) (or_wrong w args)) is weighed in (
-        first_limit (is_misplaced r h parts) (are_in_range r.decls h parts) (are_well_named r.decls parts) (is_past_limit r h) placed
+        first_limit (is_misplaced r h parts) (are_in_range r.decls h parts) (are_well_named r.decls parts) (is_past_limit r h parts) placed
             (ap (λ ds. are_in_range ds h parts) (sym same) ∙ right.0) (ap (λ ds. are_well_named ds parts) (sym same) ∙ right.1) ∙ ap (λ b. cond b (Some Limit) None) limit,
         ap (λ ds. args_of ds parts) (sym same) ∙ right.2,
       )

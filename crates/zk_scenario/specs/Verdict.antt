@@ -10,7 +10,7 @@ use Rattle.zk_line.specs.declared.types.Arg.{Arg}
 use Rattle.zk_line.specs.declared.types.Decl.{Decl}
 use Rattle.zk_line.specs.Args.{args_of}
 use Rattle.zk_line.specs.Calls.{call_of}
-use Rattle.zk_line.specs.Checks.{first_object, are_in_range, are_well_named}
+use Rattle.zk_line.specs.Checks.{first_object, are_in_range, are_well_named, has_many_events}
 use Rattle.zk_line.specs.Decls.{decl_of}
 use Rattle.zk_line.specs.Objects.{is_of, player_count}
 use Rattle.zk_scenario.specs.declared.refused.Why.{Why}
@@ -49,11 +49,11 @@ abbrev pub is_full : List Decl → Kind → Bool
 is_full decls kind = nat_le (most kind) (count_by (is_of kind) decls) || makes_player kind && nat_le 64 (player_count decls)
 
 -- whether the line passes a limit
-abbrev pub is_past_limit : Reading → Head → Bool
-is_past_limit r (Declare kind) = is_full r.decls kind
-is_past_limit r Script = false
-is_past_limit r End = false
-is_past_limit r (Call word) = nat_le 4096 (call_count (all_scripts r))
+abbrev pub is_past_limit : Reading → Head → List Placed → Bool
+is_past_limit r (Declare kind) parts = is_full r.decls kind
+is_past_limit r Script parts = false
+is_past_limit r End parts = false
+is_past_limit r (Call word) parts = nat_le 4096 (call_count (all_scripts r)) || has_many_events parts
 
 -- the first reason that applies to a line behind these, if there is one
 abbrev pub verdict : Reading → Head → List Placed → Option Why
@@ -61,7 +61,7 @@ verdict r head parts =
     if is_misplaced r head parts then Some why.Order else
     if not (are_in_range r.decls head parts) then Some why.Number else
     if not (are_well_named r.decls parts) then Some why.Name else
-    if is_past_limit r head then Some why.Limit else None
+    if is_past_limit r head parts then Some why.Limit else None
 
 -- a judgement names the first reason that applies, or says where none does what the line's words say
 abbrev pub Judges : Reading → Head → List Placed → Result (List Arg) Why → Type 0

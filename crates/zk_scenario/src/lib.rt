@@ -4,6 +4,8 @@
 mod laws;
 #[cfg(test)]
 mod line_tests;
+#[cfg(test)]
+mod poll_tests;
 mod read;
 mod reader;
 mod refused;
@@ -24,5 +26,5 @@ pub use refused::{ScenarioRefused, Why};
 pub use scenario::Scenario;
 pub use text::print_scenario;
 pub use types::Script;
-pub use zk_line::{Call, Decl, Ref, word_of};
+pub use zk_line::{Call, Decl, Event, Events, Ref, word_of};
 pub use zk_words::Word;

@@ -14,7 +14,10 @@ use crate::types::Script;
 use std::alloc::Global;
 use std::marker::Model;
 use zk_base::{Listed, NoMemory};
-use zk_line::{Arg, Args, Call, Decl, Objects, Ref, Wrong, call_of, decl_of, first_object, weigh};
+use zk_line::{
+    Arg, Args, Call, Decl, Objects, Ref, Wrong, call_of, decl_of, first_object, has_many_events,
+    weigh,
+};
 use zk_words::{Head, Kind, Line, Parts, Word, line_of, makes_player};
 
 const MOST_PLAYERS: usize = 64;
@@ -87,8 +90,8 @@ impl Reader {
     }
 
     /// Whether the line passes a limit.
-    fn is_past_limit(&self, head: Head) -> bool
-        ensures { result ≡ is_past_limit self.now head }
+    fn is_past_limit(&self, head: Head, parts: &Parts<'_>) -> bool
+        ensures { result ≡ is_past_limit self.now head parts.now }
     {
         match head {
             Head::Declare(kind) => {
@@ -97,7 +100,7 @@ impl Reader {
             }
             Head::Script => false,
             Head::End => false,
-            Head::Call(_) => MOST_CALLS <= self.calls,
+            Head::Call(_) => MOST_CALLS <= self.calls || has_many_events(parts),
         }
     }
 
@@ -115,7 +118,7 @@ impl Reader {
             Some(Wrong::OutOfRange) => Ok(Some(Why::Number)),
             Some(Wrong::Misnamed) => Ok(Some(Why::Name)),
             None => {
-                if self.is_past_limit(head) {
+                if self.is_past_limit(head, parts) {
                     Ok(Some(Why::Limit))
                 } else {
                     Ok(None)

@@ -329,139 +329,96 @@ fn counts_the_calls_with_ticks(rt: HostRuntime) -> Result<(), Fail> {
     Ok(())
 }
 
+// Behind the head of a script.
+const MISSPELLED: [&str; 12] = [
+    "\n|zk 1\n|frob x\n|sems x\n|thread main 01 super\n|thread main +1 super\n",
+    "thread main -0 super\n|thread main -01 super\n|thread main - super\n",
+    "thread main 0x1 super\n|thread main 0 on\n|thread main 0\n|thread  main 0 super\n",
+    "thread main 0 super \n| thread main 0 super\n|thread main 0 super\r\n|item\tx\n",
+    "item Main\n|item 1a\n|item abcdefghijklmnopq\n|submit\n|submit i0 q0 q1\n|end now\n",
+    "end \n|drain q0\n|drain q0 on\n|drain q0  plug\n|drain q0 plug open\n|unplug\n",
+    "unplug q0 q1\n|unplug q0 \n|cancelsync\n|cancelsync i0 i1\n|cancelsync  i0\n",
+    "cancel sync i0\n|flush\n|flush i0 q0\n|flush i0 \n|schedule i0 q0\n|schedule i0 q0 1 1\n",
+    "schedule i0 q0 01\n|schedule i0 q0 -1\n|schedule i0 1 q0\n|schedule  i0 q0 1\n",
+    "reschedule i0 q0 \n|reschedule i0 q0 +1\n|reschedule i0 q0 1 \n|reschedule I0 q0 1\n",
+    "remaining\n|remaining i0 q0\n|remaining 1\n|tick\n|tick 00\n|tick one\n|tick 1 1\n",
+    "ticks 1\n",
+];
+
 #[test]
 fn tells_forms_from_misspellings(rt: HostRuntime) -> Result<(), Fail> {
-    reads_so(
-        &rt,
-        rt.alloc(),
-        &[
-            (
-                INSIDE,
-                "\n|zk 1\n|frob x\n|sems x\n|thread main 01 super\n|thread main +1 super\n",
-                "6 line",
-            ),
-            (
-                INSIDE,
-                "thread main -0 super\n|thread main -01 super\n|thread main - super\n",
-                "6 line",
-            ),
-            (
-                INSIDE,
-                "thread main 0x1 super\n|thread main 0 on\n|thread main 0\n|thread  main 0 super\n",
-                "6 line",
-            ),
-            (
-                INSIDE,
-                "thread main 0 super \n| thread main 0 super\n|thread main 0 super\r\n|item\tx\n",
-                "6 line",
-            ),
-            (
-                INSIDE,
-                "item Main\n|item 1a\n|item abcdefghijklmnopq\n|submit\n|submit i0 q0 q1\n|end now\n",
-                "6 line",
-            ),
-            (
-                INSIDE,
-                "end \n|drain q0\n|drain q0 on\n|drain q0  plug\n|drain q0 plug open\n|unplug\n",
-                "6 line",
-            ),
-            (
-                INSIDE,
-                "unplug q0 q1\n|unplug q0 \n|cancelsync\n|cancelsync i0 i1\n|cancelsync  i0\n",
-                "6 line",
-            ),
-            (
-                INSIDE,
-                "cancel sync i0\n|flush\n|flush i0 q0\n|flush i0 \n|schedule i0 q0\n|schedule i0 q0 1 1\n",
-                "6 line",
-            ),
-            (
-                INSIDE,
-                "schedule i0 q0 01\n|schedule i0 q0 -1\n|schedule i0 1 q0\n|schedule  i0 q0 1\n",
-                "6 line",
-            ),
-            (
-                INSIDE,
-                "reschedule i0 q0 \n|reschedule i0 q0 +1\n|reschedule i0 q0 1 \n|reschedule I0 q0 1\n",
-                "6 line",
-            ),
-            (
-                INSIDE,
-                "remaining\n|remaining i0 q0\n|remaining 1\n|tick\n|tick 00\n|tick one\n|tick 1 1\n",
-                "6 line",
-            ),
-            (INSIDE, "ticks 1\n", "6 line"),
-        ],
-    )
+    for lines in MISSPELLED {
+        assert!(rt; told(rt.alloc(), INSIDE, lines, "6 line")?, "at {lines}");
+    }
+    Ok(())
 }
+
+// What stands before, a line in each of several ways, and what is said.
+const SINGLE: [(&str, &str, &str); 15] = [
+    (
+        HEADER,
+        "thread main 0 super\n|queue q0 15 on\n|queue q0 -1 off\n|item abcdefghijklmnop\n",
+        "read",
+    ),
+    (
+        INSIDE,
+        "thread a_1 -16 user\n|chan\n|claim  no\n|user and more\n|grant i q 1\n",
+        "6 unbuilt",
+    ),
+    (FRONT, "script main\nend\n", "read"),
+    (
+        INSIDE,
+        "submit i0\nend\n|submit i0 q0\nend\n|cancel i0\nend\n|start q0\nend\n|end\n",
+        "read",
+    ),
+    (
+        INSIDE,
+        "drain q0 plug\nend\n|unplug q0\nend\n|cancelsync i0\nend\n|flush i0\nend\n",
+        "read",
+    ),
+    (
+        INSIDE,
+        "schedule i0 q0 0\nend\n|reschedule i0 q0 10\nend\n|remaining i0\nend\n|tick 1\nend\n",
+        "read",
+    ),
+    (
+        HEADER,
+        "thread main 16 super\n|thread main -17 super\n|queue q0 99999999999999999999999 on\n",
+        "2 number",
+    ),
+    (HEADER, "queue q0 -18446744073709551617 on\n", "2 number"),
+    (HEADER, "thread work 0 super\n|item clock\n", "2 name"),
+    (FRONT, "script table\n", "5 name"),
+    (
+        INSIDE,
+        "submit wait\n|submit i0 again\n|cancel nomsg\n|drain open open\n|drain work plug\n",
+        "6 name",
+    ),
+    (
+        INSIDE,
+        "unplug again\n|cancelsync wait\n|flush table\n|schedule q0 i0 1000000\n",
+        "6 name",
+    ),
+    (
+        INSIDE,
+        "schedule wait q0 1\n|reschedule i0 clock 1\n|remaining nomsg\n",
+        "6 name",
+    ),
+    (
+        INSIDE,
+        "tick 1000001\n|schedule i0 q0 4294967295\n|schedule i0 q0 4294967296\n",
+        "6 number",
+    ),
+    (
+        INSIDE,
+        "reschedule i0 q0 18446744073709551617\n|tick 99999999999999999999999999999\n",
+        "6 number",
+    ),
+];
 
 #[test]
 fn tells_what_a_single_line_is(rt: HostRuntime) -> Result<(), Fail> {
-    reads_so(
-        &rt,
-        rt.alloc(),
-        &[
-            (
-                HEADER,
-                "thread main 0 super\n|queue q0 15 on\n|queue q0 -1 off\n|item abcdefghijklmnop\n",
-                "read",
-            ),
-            (
-                INSIDE,
-                "thread a_1 -16 user\n|chan\n|poll  no\n|user and more\n|grant i q 1\n",
-                "6 unbuilt",
-            ),
-            (FRONT, "script main\nend\n", "read"),
-            (
-                INSIDE,
-                "submit i0\nend\n|submit i0 q0\nend\n|cancel i0\nend\n|start q0\nend\n|end\n",
-                "read",
-            ),
-            (
-                INSIDE,
-                "drain q0 plug\nend\n|unplug q0\nend\n|cancelsync i0\nend\n|flush i0\nend\n",
-                "read",
-            ),
-            (
-                INSIDE,
-                "schedule i0 q0 0\nend\n|reschedule i0 q0 10\nend\n|remaining i0\nend\n|tick 1\nend\n",
-                "read",
-            ),
-            (
-                HEADER,
-                "thread main 16 super\n|thread main -17 super\n|queue q0 99999999999999999999999 on\n",
-                "2 number",
-            ),
-            (HEADER, "queue q0 -18446744073709551617 on\n", "2 number"),
-            (HEADER, "thread work 0 super\n|item clock\n", "2 name"),
-            (FRONT, "script table\n", "5 name"),
-            (
-                INSIDE,
-                "submit wait\n|submit i0 again\n|cancel nomsg\n|drain open open\n|drain work plug\n",
-                "6 name",
-            ),
-            (
-                INSIDE,
-                "unplug again\n|cancelsync wait\n|flush table\n|schedule q0 i0 1000000\n",
-                "6 name",
-            ),
-            (
-                INSIDE,
-                "schedule wait q0 1\n|reschedule i0 clock 1\n|remaining nomsg\n",
-                "6 name",
-            ),
-            (
-                INSIDE,
-                "tick 1000001\n|schedule i0 q0 4294967295\n|schedule i0 q0 4294967296\n",
-                "6 number",
-            ),
-            (
-                INSIDE,
-                "reschedule i0 q0 18446744073709551617\n|tick 99999999999999999999999999999\n",
-                "6 number",
-            ),
-        ],
-    )
+    reads_so(&rt, rt.alloc(), &SINGLE)
 }
 
 // Lines that differ by a number alone.

@@ -11,7 +11,7 @@ use Rattle.zk_trace.specs.declared.parts.Part.{Part}
 use Rattle.zk_trace.specs.declared.parts.Part.TheVariants as parts
 use Rattle.zk_trace.specs.Looks.{seen_word}
 use Rattle.zk_trace.specs.Names.{item_name, queue_name, target_name}
-use Rattle.zk_trace.specs.Words.{errno_word, admission_word, flags_word, truth_word, wait_word}
+use Rattle.zk_trace.specs.Words.{errno_word, admission_word, flags_word, truth_word, wait_word, ready_word}
 
 -- the text of a fixed word
 abbrev pub fixed_word : FixedWord → List ℕ
@@ -45,6 +45,7 @@ part_word decls (parts.Flags flags) = flags_word flags
 part_word decls (parts.Truth truth) = truth_word truth
 part_word decls (parts.Bytes message) = hex_text message
 part_word decls (parts.Seen raised value) = seen_word raised value
+part_word decls (parts.Ready positions) = ready_word positions
 part_word decls (parts.Waits waits) = wait_word waits
 part_word decls (parts.Refusal errno) = errno_word errno
 part_word decls (parts.Fixed fixed) = fixed_word fixed
@@ -57,6 +58,7 @@ answer_part (answers.Truth truth) = parts.Truth truth
 answer_part (answers.Refused errno) = parts.Refusal errno
 answer_part (answers.Bytes message) = parts.Bytes message
 answer_part (answers.Signal raised value) = parts.Seen raised value
+answer_part (answers.Ready positions) = parts.Ready positions
 
 -- words, each behind this byte
 abbrev pub each_behind : ℕ → List (List ℕ) → List ℕ

@@ -1,4 +1,5 @@
 use Rattle.std.specs.Prelude.{ℕ, Bool, true, false, ◌==◌, if◌then◌else◌, List, [], ◌∷◌, ◌++◌, codes, decimal}
+use Rattle.std.specs.List.{flat_map}
 use Rattle.std.specs.Int.RustNames.{bit_and}
 use Rattle.zk_base.specs.declared.errors.Errno.{Errno}
 use Rattle.zk_base.specs.declared.errors.Errno.TheVariants.{Busy, Again, Inval, NoDev, NoMsg, Already, Fault}
@@ -52,6 +53,18 @@ truth_word false = codes "false"
 abbrev pub wait_word : Bool → List ℕ
 wait_word true = codes "wait"
 wait_word false = codes "no"
+
+-- a position behind a space
+abbrev pub position_text : ℕ → List ℕ
+position_text position = codes " " ++ decimal position
+
+-- positions, each behind a space
+abbrev pub positions_text : List ℕ → List ℕ
+positions_text positions = flat_map position_text positions
+
+-- the ready events of a poll, by their positions
+abbrev pub ready_word : List ℕ → List ℕ
+ready_word positions = codes "ready" ++ positions_text positions
 
 -- the word of a call, as it stands in the table
 abbrev pub call_word : Word → List ℕ

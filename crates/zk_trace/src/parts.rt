@@ -6,12 +6,14 @@ ghost use Rattle.zk_trace.specs.Parts.{fixed_word, part_word, answer_part, each_
 
 use crate::looks::put_seen;
 use crate::names::{item_name, queue_name, target_name};
-use crate::words::{errno_word, put_admission, put_flags, put_hex, truth_word, wait_word};
+use crate::words::{
+    errno_word, put_admission, put_flags, put_hex, put_ready, truth_word, wait_word,
+};
 use std::marker::Model;
 use zk_base::{Errno, Msg, NoMemory, put, put_decimal};
 use zk_scenario::Scenario;
 use zk_words::{Choice, choice_text};
-use zk_worker::Answer;
+use zk_worker::{Answer, Positions};
 
 /// A word of an operation behind its verb, or a word of a reply.
 #[derive(Drop)]
@@ -40,6 +42,8 @@ pub enum Part<'a> {
     Bytes(Lent<'a>),
     /// Whether a signal is raised, and its result: two words.
     Seen(bool, u16),
+    /// The word `ready` and the positions of a poll's ready events.
+    Ready(Positions),
     /// Whether a call waits where it can't be served at once.
     Waits(bool),
     /// The cause of a refusal.
@@ -117,6 +121,7 @@ pub fn answer_part(answer: &Answer) -> Part<'_>
         Answer::Refused(errno) => Part::Refusal(*errno),
         Answer::Bytes(message) => Part::Bytes(Lent::of(message)),
         Answer::Signal(raised, value) => Part::Seen(*raised, *value),
+        Answer::Ready(positions) => Part::Ready(*positions),
     }
 }
 
@@ -293,6 +298,7 @@ fn put_word(out: &mut Vec<u8>, scenario: &Scenario, part: &Part<'_>) -> Result<(
         Part::Truth(truth) => put(out, truth_word(*truth)),
         Part::Bytes(message) => put_hex(out, message.bytes()),
         Part::Seen(raised, value) => put_seen(out, *raised, *value),
+        Part::Ready(positions) => put_ready(out, positions.numbers()),
         Part::Waits(waits) => put(out, wait_word(*waits)),
         Part::Refusal(errno) => put(out, errno_word(*errno)),
         Part::Fixed(fixed) => put(out, fixed_word(*fixed)),

@@ -1,7 +1,7 @@
 ghost use Rattle.std.specs.Prelude.{◌≡◌, ◌++◌, ◌==◌, ◌<◌, decimal, OnOk, OnErr};
 ghost use Rattle.std.specs.Int.RustNames.{bit_and};
 ghost use Rattle.zk_trace.specs.Fronts.{StaysInFront};
-ghost use Rattle.zk_trace.specs.Words.{ending_word, errno_word, admission_word, flag_letter, flag_letters, flags_word, truth_word, wait_word, call_word, state_word};
+ghost use Rattle.zk_trace.specs.Words.{ending_word, errno_word, admission_word, flag_letter, flag_letters, flags_word, truth_word, wait_word, position_text, positions_text, ready_word, call_word, state_word};
 ghost use Rattle.zk_words.specs.Hex.{digit_of, hex_text};
 
 use crate::Ending;
@@ -99,6 +99,33 @@ pub fn put_hex(out: &mut Vec<u8>, bytes: &[u8]) -> Result<(), NoMemory>
         put(out, &[digit_of(*byte / 16), digit_of(*byte % 16)])?;
     }
     Ok(())
+}
+
+/// Appends the word `ready` and positions, each behind a space.
+pub fn put_ready(out: &mut Vec<u8>, positions: &[u8]) -> Result<(), NoMemory>
+    ensures text { OnOk result (out.new.items ≡ out.old.items ++ ready_word positions.now) }
+    ensures kept { OnErr result (StaysInFront out.old.items out.new.items) }
+{
+    put(out, b"ready")?;
+    put_positions(out, positions)
+}
+
+fn put_positions(out: &mut Vec<u8>, positions: &[u8]) -> Result<(), NoMemory>
+    ensures text { OnOk result (out.new.items ≡ out.old.items ++ positions_text positions.now) }
+    ensures kept { OnErr result (StaysInFront out.old.items out.new.items) }
+{
+    for position in positions {
+        put_position(out, *position)?;
+    }
+    Ok(())
+}
+
+fn put_position(out: &mut Vec<u8>, position: u8) -> Result<(), NoMemory>
+    ensures text { OnOk result (out.new.items ≡ out.old.items ++ position_text position) }
+    ensures kept { OnErr result (StaysInFront out.old.items out.new.items) }
+{
+    put(out, b" ")?;
+    put_decimal(out, u64::from(position))
 }
 
 fn digit_of(value: u8) -> u8

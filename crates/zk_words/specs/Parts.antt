@@ -1,7 +1,10 @@
-use Rattle.std.specs.Prelude.{ℕ, Bool, true, false, List, [], ◌∷◌}
+use Rattle.std.specs.Prelude.{ℕ, Bool, true, false, List, [], ◌∷◌, map}
+use Rattle.std.specs.List.{list_any}
 use Rattle.zk_words.specs.declared.slot.Slot.{Slot}
+use Rattle.zk_words.specs.declared.slot.Slot.TheVariants.{Event}
 use Rattle.zk_words.specs.declared.slot.Rest.{Rest}
-use Rattle.zk_words.specs.declared.slot.Rest.TheVariants.{Nothing, Maybe}
+use Rattle.zk_words.specs.declared.slot.Rest.TheVariants.{Nothing, Maybe, Events}
+use Rattle.zk_words.specs.Events.{asks}
 
 -- a word of a line, and the slot that it stands in
 pub record Placed : Type 0 where
@@ -17,6 +20,7 @@ abbrev pub rest_parts : Rest → List (List ℕ) → List Placed
 rest_parts Nothing words = []
 rest_parts (Maybe slot) [] = []
 rest_parts (Maybe slot) (word ∷ words) = placed slot word ∷ []
+rest_parts Events words = map (placed Event) words
 
 -- the words of a line, each in its slot, from the left as far as there are slots
 abbrev pub parts_of : List Slot → Rest → List (List ℕ) → List Placed
@@ -24,13 +28,14 @@ parts_of [] rest words = rest_parts rest words
 parts_of (slot ∷ slots) rest [] = []
 parts_of (slot ∷ slots) rest (word ∷ words) = placed slot word ∷ parts_of slots rest words
 
--- whether so many words may stand behind the slots
+-- whether such words may stand behind the slots: not more than there may be, and of events one at least that asks
 abbrev pub rest_fits : Rest → List (List ℕ) → Bool
 rest_fits Nothing [] = true
 rest_fits Nothing (word ∷ words) = false
 rest_fits (Maybe slot) [] = true
 rest_fits (Maybe slot) (word ∷ []) = true
 rest_fits (Maybe slot) (word ∷ more ∷ words) = false
+rest_fits Events words = list_any asks words
 
 -- whether there is a word for each slot, and a slot for each word
 abbrev pub fits : List Slot → Rest → List (List ℕ) → Bool

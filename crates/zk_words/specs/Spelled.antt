@@ -6,9 +6,10 @@ use Rattle.zk_words.specs.declared.slot.Choice.{Choice}
 use Rattle.zk_words.specs.declared.slot.Choice.TheVariants.{Mode, State, Drain}
 use Rattle.zk_words.specs.declared.slot.Rest.{Rest}
 use Rattle.zk_words.specs.declared.slot.Slot.{Slot}
-use Rattle.zk_words.specs.declared.slot.Slot.TheVariants.{New, Owner, Object, Number, Priority, Either, Hex, Wait, Raw}
+use Rattle.zk_words.specs.declared.slot.Slot.TheVariants.{New, Owner, Object, Number, Priority, Either, Hex, Wait, Event, Raw}
 use Rattle.zk_words.specs.declared.spelled.Spelling.{Spelling}
 use Rattle.zk_words.specs.declared.spelled.Spelling.TheVariants.{Wrong, Later, Right}
+use Rattle.zk_words.specs.Events.{is_event}
 use Rattle.zk_words.specs.Hex.{is_hex}
 use Rattle.zk_words.specs.Numbers.{is_number, priority_of}
 use Rattle.zk_words.specs.Parts.{Placed, parts_of, fits}
@@ -40,6 +41,7 @@ is_spelled_in Priority word = is_some (priority_of word)
 is_spelled_in (Either choice) word = bytes_eq word (choice_text choice true) || bytes_eq word (choice_text choice false)
 is_spelled_in Hex word = is_hex word
 is_spelled_in Wait word = is_wait word
+is_spelled_in Event word = is_event word
 is_spelled_in Raw word = bytes_eq word (codes "raw")
 
 -- whether the word of a part is

@@ -9,7 +9,7 @@ use Rattle.zk_words.specs.declared.word.Head.TheVariants.{Declare, Script, End, 
 use Rattle.zk_words.specs.declared.slot.Choice.TheVariants.{Mode, State, Drain}
 use Rattle.zk_words.specs.declared.slot.Slot.{Slot}
 use Rattle.zk_words.specs.declared.slot.Slot.TheVariants.{New, Owner, Object, Number, Priority, Either, Hex, Wait, Raw}
-use Rattle.zk_words.specs.declared.slot.Rest.TheVariants.{Nothing, Maybe}
+use Rattle.zk_words.specs.declared.slot.Rest.TheVariants.{Nothing, Maybe, Events}
 use Rattle.zk_words.specs.Rows.{Form}
 
 -- a work item
@@ -72,6 +72,10 @@ exactly first slots = record { first = first; slots = slots; rest = Nothing }
 abbrev pub perhaps : List ℕ → List Slot → Slot → Form
 perhaps first slots last = record { first = first; slots = slots; rest = Maybe last }
 
+-- a line of these slots, and the events of a poll
+abbrev pub polling : List ℕ → List Slot → Form
+polling first slots = record { first = first; slots = slots; rest = Events }
+
 -- the declarations
 abbrev pub kind_row : Kind → Form
 kind_row kind.Thread = exactly (codes "thread") (New ∷ Priority ∷ Either Mode ∷ [])
@@ -109,6 +113,7 @@ call_row word.Free = exactly (codes "free") (msgq ∷ [])
 call_row word.Raise = exactly (codes "raise") (signal ∷ result ∷ [])
 call_row word.Clear = exactly (codes "clear") (signal ∷ [])
 call_row word.Check = exactly (codes "check") (signal ∷ [])
+call_row word.Poll = polling (codes "poll") (Wait ∷ [])
 
 -- the table: the form of each line behind the first
 abbrev pub row_of : Head → Form
@@ -127,4 +132,4 @@ heads =
     ∷ Call word.Start ∷ Call word.Drain ∷ Call word.Unplug ∷ Call word.Tick
     ∷ Call word.Take ∷ Call word.Give ∷ Call word.Reset ∷ Call word.Count
     ∷ Call word.Put ∷ Call word.Get ∷ Call word.Peek ∷ Call word.PeekAt ∷ Call word.Purge ∷ Call word.Used ∷ Call word.Free
-    ∷ Call word.Raise ∷ Call word.Clear ∷ Call word.Check ∷ []
+    ∷ Call word.Raise ∷ Call word.Clear ∷ Call word.Check ∷ Call word.Poll ∷ []

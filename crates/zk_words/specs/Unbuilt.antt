@@ -6,7 +6,6 @@ use Rattle.std.specs.Str.{bytes_eq}
 abbrev pub unbuilt : List (List ℕ)
 unbuilt =
     codes "listener" ∷ codes "sub" ∷ codes "chan" ∷ codes "allow"
-    ∷ codes "poll"
     ∷ codes "claim" ∷ codes "finish" ∷ codes "publish" ∷ codes "notify" ∷ codes "read" ∷ codes "mask" ∷ codes "enable"
     ∷ codes "subwait"
     ∷ codes "grant" ∷ codes "release" ∷ codes "revoke" ∷ codes "public" ∷ codes "init" ∷ codes "user" ∷ []

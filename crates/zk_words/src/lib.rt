@@ -1,6 +1,7 @@
 //! The words of a scenario's line: one table says what stands behind each first word, and a line is read by it.
 #![tactic(auto)]
 
+mod event;
 mod hex;
 mod kind;
 mod line;
@@ -14,6 +15,7 @@ mod timeout;
 mod unbuilt;
 mod word;
 
+pub use event::{Asked, Source, event_named, is_ignore, need_of, source_text};
 pub use hex::{is_hex, msg_of, put_hex};
 pub use kind::{Kind, Need, makes_player, meets, plays_script, same_kind};
 pub use line::{Line, line_of};

@@ -30,6 +30,8 @@ pub enum Slot {
     Hex,
     /// How long a call waits: `no`, `forever`, or a number of ticks.
     Wait,
+    /// What a poll waits for: `ignore`, or `sem:`, `msgq:` or `sig:` and the name of an object of that kind.
+    Event,
     /// The word `raw`, of an object that isn't initialised. The program can't play it yet.
     Raw,
 }
@@ -40,4 +42,6 @@ pub enum Rest {
     Nothing,
     /// One word or none.
     Maybe(Slot),
+    /// The events of a poll: one or more, of which one at least isn't `ignore`.
+    Events,
 }

@@ -1,6 +1,9 @@
 ghost use Rattle.std.specs.Prelude.{◌≡◌, false, []};
+ghost use Rattle.std.specs.List.{list_all, list_any};
+ghost use Rattle.zk_words.specs.Events.{asks, is_event};
 ghost use Rattle.zk_words.specs.Spelled.{choice_text, same_choice, is_spelled_in, is_later_in, right, spelling_of};
 
+use crate::event::{is_event, is_ignore};
 use crate::hex::is_hex;
 use crate::numbers::{is_number, priority_of};
 use crate::pieces::Words;
@@ -66,6 +69,7 @@ pub fn spelling_of(row: &Row, words: Words<'_>) -> Spelling
     rest_spelling(later, row.rest, words)
 }
 
+#[tactic(auto, using(crate::proofs::Spellings::events_spelling))]
 fn rest_spelling(later: bool, rest: Rest, words: Words<'_>) -> Spelling
     ensures { result ≡ spelling_of later [] rest words.entry }
 {
@@ -86,7 +90,40 @@ fn rest_spelling(later: bool, rest: Rest, words: Words<'_>) -> Spelling
             }
             right(later || is_later_in(slot, word))
         }
+        Rest::Events => {
+            if any_asks(words.again()) && are_events(words) {
+                right(later)
+            } else {
+                Spelling::Wrong
+            }
+        }
     }
+}
+
+/// Whether one of the words of events asks for something.
+fn any_asks(words: Words<'_>) -> bool
+    ensures { result ≡ list_any asks words.entry }
+{
+    let mut words = words;
+    while let Some(word) = words.next() {
+        if !is_ignore(word) {
+            return true;
+        }
+    }
+    false
+}
+
+/// Whether all of them are spelled as events.
+fn are_events(words: Words<'_>) -> bool
+    ensures { result ≡ list_all is_event words.entry }
+{
+    let mut words = words;
+    while let Some(word) = words.next() {
+        if !is_event(word) {
+            return false;
+        }
+    }
+    true
 }
 
 fn right(later: bool) -> Spelling
@@ -113,6 +150,7 @@ fn is_spelled_in(slot: Slot, word: &[u8]) -> bool
         }
         Slot::Hex => is_hex(word),
         Slot::Wait => is_wait(word),
+        Slot::Event => is_event(word),
         Slot::Raw => word == b"raw".as_slice(),
     }
 }

@@ -1,7 +1,7 @@
 ghost use Rattle.std.specs.Prelude.{◌≡◌};
 ghost use Rattle.std.specs.Str.{bytes_eq};
 ghost use Rattle.zk_words.specs.Lines.{head_of};
-ghost use Rattle.zk_words.specs.Table.{exactly, perhaps, row_of, call_row, kind_row};
+ghost use Rattle.zk_words.specs.Table.{exactly, perhaps, polling, row_of, call_row, kind_row};
 
 use crate::kind::{Kind, Need};
 use crate::slot::{Choice, Rest, Slot};
@@ -82,6 +82,16 @@ fn perhaps(first: &'static [u8], slots: &'static [Slot], last: Slot) -> Row
     }
 }
 
+fn polling(first: &'static [u8], slots: &'static [Slot]) -> Row
+    ensures { result ≡ polling first.now slots.now }
+{
+    Row {
+        first,
+        slots,
+        rest: Rest::Events,
+    }
+}
+
 fn kind_row(kind: Kind) -> Row
     ensures { result ≡ kind_row kind }
 {
@@ -131,6 +141,7 @@ fn call_row(word: Word) -> Row
         Word::Raise => exactly(b"raise", &[SIGNAL, RESULT]),
         Word::Clear => exactly(b"clear", &[SIGNAL]),
         Word::Check => exactly(b"check", &[SIGNAL]),
+        Word::Poll => polling(b"poll", &[Slot::Wait]),
     }
 }
 
@@ -186,6 +197,7 @@ pub fn head_of(first: &[u8]) -> Option<Head>
         Head::Call(Word::Raise),
         Head::Call(Word::Clear),
         Head::Call(Word::Check),
+        Head::Call(Word::Poll),
     );
     None
 }

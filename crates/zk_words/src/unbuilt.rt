@@ -25,7 +25,6 @@ fn unbuilt() -> &'static [&'static [u8]]
         b"sub",
         b"chan",
         b"allow",
-        b"poll",
         b"claim",
         b"finish",
         b"publish",

@@ -29,6 +29,7 @@ pub enum Word {
     Raise,
     Clear,
     Check,
+    Poll,
 }
 
 /// What a line's first word says that the line is.

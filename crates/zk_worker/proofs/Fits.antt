@@ -1,11 +1,11 @@
 -- The attempts of a player name items, queues, semaphores, message queues and signals that are declared.
-use Rattle.std.proofs.Common.{◌≡◌, ℕ, zero, suc, ◌+◌, Bool, true, false, Option, Some, None, is_some, List, [], ◌∷◌, length, All, refl, ap, subst, arith, nat_lt, ◌&&◌}
+use Rattle.std.proofs.Common.{◌≡◌, ℕ, zero, suc, ◌+◌, Bool, true, false, Option, Some, None, is_some, List, [], ◌∷◌, length, map, All, refl, ap, subst, arith, nat_lt, ◌&&◌}
 use Rattle.std.specs.Option.{option_map, option_map_or}
 use Rattle.std.specs.List.{slice_get, list_all}
 use Rattle.std.proofs.lemmas.Bool.{and_parts, and_from, lt-ltb}
 use Rattle.std.proofs.lemmas.List.Elements.{All-nil, All-cons, All-head, All-tail}
 use Rattle.std.proofs.lemmas.Option.{option_and_then_some}
-use Rattle.zk_base.proofs.Lists.{slice_get-one, cond_nil-at, list_all-at}
+use Rattle.zk_base.proofs.Lists.{slice_get-one, cond_nil-at, list_all-at, All-at}
 use Rattle.zk_line.specs.declared.types.Decl.{Decl}
 use Rattle.zk_line.specs.declared.types.Decl.TheVariants as decl_kinds
 use Rattle.zk_line.specs.declared.types.Ref.TheVariants.{Known}
@@ -20,8 +20,13 @@ use Rattle.zk_words.specs.Numbers.{is_between}
 use Rattle.zk_words.specs.declared.timeout.Timeout.{Timeout}
 use Rattle.zk_words.specs.declared.timeout.Timeout.TheVariants.{No, Forever, Ticks}
 use Rattle.zk_words.specs.Timeouts.{wait_fits}
-use Rattle.zk_line.specs.Checks.{is_size}
-use Rattle.zk_line.specs.Fits.{call_fits}
+use Rattle.zk_line.specs.declared.events.Event.{Event}
+use Rattle.zk_line.specs.declared.events.Event.TheVariants as events
+use Rattle.zk_line.specs.declared.types.Arg.TheVariants as args
+use Rattle.zk_words.specs.declared.slot.Slot.TheVariants as slots
+use Rattle.zk_line.specs.Calls.{said_of}
+use Rattle.zk_line.specs.Checks.{is_size, size_said}
+use Rattle.zk_line.specs.Fits.{event_fits, fits_in, call_fits}
 use Rattle.zk_scenario.specs.Valid.{IsValid}
 use Rattle.zk_line.proofs.Tables.{length-places}
 use Rattle.zk_scenario.proofs.Valid.{number_of-item, number_of-queue, call_fits-calls_of}
@@ -33,7 +38,7 @@ use Rattle.zk_worker.specs.declared.frames.Frame.{Frame}
 use Rattle.zk_worker.specs.declared.frames.Closing.{Closing}
 use Rattle.zk_worker.specs.declared.frames.Closing.TheVariants as closings
 use Rattle.zk_worker.specs.declared.frames.Plan.{Plan}
-use Rattle.zk_worker.specs.declared.frames.Plan.TheVariants.{One, Pair, Twice, Wait}
+use Rattle.zk_worker.specs.declared.frames.Plan.TheVariants.{One, Pair, Twice, Wait, Poll}
 use Rattle.zk_worker.specs.declared.frames.Waiting.{Waiting}
 use Rattle.zk_worker.specs.declared.frames.Waiting.TheVariants.{Take, Put, Get}
 use Rattle.zk_worker.specs.declared.frames.Stage.{Stage}
@@ -44,10 +49,12 @@ use Rattle.zk_worker.specs.declared.frames.Progress.{Progress}
 use Rattle.zk_worker.specs.declared.frames.Progress.TheVariants.{Goes, Answers, Enters}
 use Rattle.zk_worker.specs.Calls.{plan_of, closing_step, open_step, end_step, quit_step, first_step, wait_attempts, plan_attempts}
 use Rattle.zk_worker.specs.Places.{At}
+use Rattle.zk_worker.specs.Polls.{poll_attempts}
 use Rattle.zk_worker.specs.Protocol.{worker_attempts, call_attempts, role_attempts, frames_attempts, IsAhead, after, frames_after, frames_progress, entered, first_frame, role_at, starting, start_at}
 use Rattle.zk_worker.specs.Families.{is_declared}
 use Rattle.zk_worker.specs.Machines.{sem_start, msgq_start, signal_start}
 use Rattle.zk_worker.specs.Ranges.{step_fits, role_fits, FramesFit}
+use Rattle.zk_worker.proofs.PollSteps.{is_source, poll_attempts-fit}
 use Rattle.zk_worker.proofs.Limits.{settled-all, entered-all}
 
 -- an item that a call names is one of the items
@@ -80,6 +87,7 @@ PlanFits decls (One step) = step_fits decls step ≡ true
 PlanFits decls (Pair opening closing) = step_fits decls opening ≡ true
 PlanFits decls (Twice first second) = (step_fits decls first ≡ true) × (step_fits decls second ≡ true)
 PlanFits decls (Wait waiting timeout) = waiting_fits decls waiting ≡ true
+PlanFits decls (Poll timeout events) = All (λ event. is_source decls event ≡ true) events
 
 -- a call of one object, an item or a queue
 item-alone : (decls : List Decl) (item : ℕ) → (is_at is_item decls item && true) ≡ true → nat_lt (number_of decls item) (length (places is_item decls)) ≡ true
@@ -133,6 +141,21 @@ signal-declared decls signal more fits =
     starts (decl_kinds.Signal name) is = refl
     starts decl is = absurd (cc)
 
+-- what an event of a fitting call names is declared as what it names
+event-source : (decls : List Decl) (event : Event) → event_fits decls event ≡ true → is_source decls event ≡ true
+event-source decls events.Ignore fits = refl
+event-source decls (events.Sem (Known sem)) fits = sem-declared decls sem true (and_from (is_at is_sem decls sem) true fits refl)
+event-source decls (events.Msgq (Known queue)) fits = msgq-declared decls queue true (and_from (is_at is_msgq decls queue) true fits refl)
+event-source decls (events.Sig (Known signal)) fits = signal-declared decls signal true (and_from (is_at is_signal decls signal) true fits refl)
+
+events-sources : (decls : List Decl) (size : Option ℕ) (list : List Event) → list_all (fits_in decls size slots.Event) (map args.Event list) ≡ true →
+    All (λ event. is_source decls event ≡ true) list
+events-sources decls size [] fits = let P : Event → Type 0 = λ event. is_source decls event ≡ true in All-nil P
+events-sources decls size (event ∷ more) fits =
+    let P : Event → Type 0 = λ event. is_source decls event ≡ true in
+    let both = and_parts (event_fits decls event) (list_all (fits_in decls size slots.Event) (map args.Event more)) fits in
+    All-cons P event more (event-source decls event both.0) (events-sources decls size more both.1)
+
 plan_of-fits : (decls : List Decl) (call : Call) → call_fits decls call ≡ true → PlanFits decls (plan_of decls call)
 unfolding PlanFits waiting_fits
 plan_of-fits decls (calls.Submit (Known item) None) fits =
@@ -166,6 +189,10 @@ plan_of-fits decls (calls.Free (Known queue)) fits = msgq-declared decls queue t
 plan_of-fits decls (calls.Raise (Known signal) value) fits = signal-declared decls signal (is_between 0 65535 value && true) fits
 plan_of-fits decls (calls.Clear (Known signal)) fits = signal-declared decls signal true fits
 plan_of-fits decls (calls.Check (Known signal)) fits = signal-declared decls signal true fits
+plan_of-fits decls (calls.Poll timeout list) fits =
+    let said = said_of (calls.Poll timeout list) in
+    let size = size_said decls said.args in
+    events-sources decls size list (and_parts (wait_fits timeout) (list_all (fits_in decls size slots.Event) (map args.Event list)) fits).1
 
 -- the steps of a wait are at its object
 open-fits : (decls : List Decl) (waiting : Waiting) (waits : Bool) → waiting_fits decls waiting ≡ true →
@@ -236,6 +263,9 @@ plan_attempts-fit decls (Twice first second) stages.Start k step fits is = one-f
 plan_attempts-fit decls (Twice first second) stages.Halfway k step fits is = one-fits decls second k step fits.1 is
 plan_attempts-fit decls (Twice first second) stage k step fits is = absurd (cc)
 plan_attempts-fit decls (Wait waiting timeout) stage k step fits is = wait_attempts-fit decls waiting timeout stage k step fits is
+plan_attempts-fit decls (Poll timeout list) stage k step fits is =
+    let P : Step → Type 0 = λ s. step_fits decls s ≡ true in
+    All-at P (poll_attempts timeout list stage) k step (poll_attempts-fit decls timeout list stage fits) is
 
 call_attempts-fit : (decls : List Decl) (call : Option Call) (stage : Stage) (k : ℕ) (step : Step) →
     option_map_or (call_fits decls) call true ≡ true → slice_get (call_attempts decls call stage) k ≡ Some step → step_fits decls step ≡ true

@@ -2,6 +2,7 @@ pub mod DeclaredObjects
 pub mod Lists
 pub mod Limits
 pub mod Starts
+pub mod PollSteps
 pub mod Fits
 pub mod Ranges
 pub mod Families

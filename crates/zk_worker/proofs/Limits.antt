@@ -20,7 +20,7 @@ use Rattle.zk_worker.specs.declared.frames.Role.TheVariants.{Script, Worker}
 use Rattle.zk_worker.specs.declared.frames.Stage.{Stage}
 use Rattle.zk_worker.specs.declared.frames.Stage.TheVariants.{Start, Runs, Waits, Halfway, Alarmed, WaitsUntil, Quits}
 use Rattle.zk_worker.specs.declared.frames.Plan.{Plan}
-use Rattle.zk_worker.specs.declared.frames.Plan.TheVariants.{One, Pair, Twice, Wait}
+use Rattle.zk_worker.specs.declared.frames.Plan.TheVariants.{One, Pair, Twice, Wait, Poll}
 use Rattle.zk_worker.specs.declared.frames.Waiting.{Waiting}
 use Rattle.zk_worker.specs.Places.{At}
 use Rattle.zk_worker.specs.Calls.{plan_of, wait_attempts, plan_attempts}
@@ -28,6 +28,7 @@ use Rattle.zk_line.specs.declared.types.Call.{Call}
 use Rattle.zk_scenario.specs.Players.{calls_of}
 use Rattle.zk_worker.specs.Protocol.{attempts, IsAhead, is_over, settled, entered, first_frame, frames_after, answers_after, frames_attempts, role_attempts, call_attempts}
 use Rattle.zk_worker.specs.Stacks.{IsRoomy}
+use Rattle.zk_worker.proofs.PollSteps.{poll_attempts-few}
 
 -- a player with a next attempt has made fewer steps than it may
 pub ahead_short : (s : Parts) (at : At) (step : Step) → IsAhead s at step → length at.spots < MOST_STEPS
@@ -111,7 +112,7 @@ IsRoomy-moved s frames frames' answers answers' spots spots' spot number progres
     (subst (λ (n : List Answered). IsRoomy (frames_after s frames progress) n spots' a' b' c') (sym answers_are)
     (subst (λ (p : List Spot). IsRoomy (frames_after s frames progress) (answers_after answers number progress) p a' b' c') (sym spots_are) here))
 
--- a call has at most two attempts at a time: the end of its wait, and that of its alarm
+-- a call that may wait has at most two attempts at a time: the end of its wait, and that of its alarm
 wait_attempts-few : (waiting : Waiting) (timeout : Timeout) (stage : Stage) → length (wait_attempts waiting timeout stage) ≤ 2
 wait_attempts-few waiting timeout Start = omega arith
 wait_attempts-few waiting timeout (Alarmed moment) = omega arith
@@ -120,7 +121,7 @@ wait_attempts-few waiting timeout (WaitsUntil place moment) = omega arith
 wait_attempts-few waiting timeout (Quits place) = omega arith
 wait_attempts-few waiting timeout stage = omega arith
 
-plan_attempts-few : (plan : Plan) (stage : Stage) → length (plan_attempts plan stage) ≤ 2
+plan_attempts-few : (plan : Plan) (stage : Stage) → length (plan_attempts plan stage) ≤ 9
 plan_attempts-few (One step) Start = omega arith
 plan_attempts-few (One step) stage = omega arith
 plan_attempts-few (Pair opening closing) Start = omega arith
@@ -129,17 +130,18 @@ plan_attempts-few (Pair opening closing) stage = omega arith
 plan_attempts-few (Twice first second) Start = omega arith
 plan_attempts-few (Twice first second) Halfway = omega arith
 plan_attempts-few (Twice first second) stage = omega arith
-plan_attempts-few (Wait waiting timeout) stage = wait_attempts-few waiting timeout stage
+plan_attempts-few (Wait waiting timeout) stage = omega (arith, wait_attempts-few waiting timeout stage)
+plan_attempts-few (Poll timeout events) stage = poll_attempts-few timeout events stage
 
-frames_attempts-few : (s : Parts) (frames : List Frame) → length (frames_attempts s frames) ≤ 2
+frames_attempts-few : (s : Parts) (frames : List Frame) → length (frames_attempts s frames) ≤ 9
 frames_attempts-few s [] = omega arith
 frames_attempts-few s (frame ∷ below) = role_few s frame.role frame.next frame.stage
   where
-    call_few : (s : Parts) (call : Option Call) (stage : Stage) → length (call_attempts s.decls call stage) ≤ 2
+    call_few : (s : Parts) (call : Option Call) (stage : Stage) → length (call_attempts s.decls call stage) ≤ 9
     call_few s None stage = omega arith
     call_few s (Some call) stage = plan_attempts-few (plan_of s.decls call) stage
 
-    role_few : (s : Parts) (role : Role) (next : ℕ) (stage : Stage) → length (role_attempts s role next stage) ≤ 2
+    role_few : (s : Parts) (role : Role) (next : ℕ) (stage : Stage) → length (role_attempts s role next stage) ≤ 9
     role_few s (Script owner) next stage = call_few s (slice_get (calls_of s.scripts owner) next) stage
     role_few s (Worker queue) next Start = omega arith
     role_few s (Worker queue) next Runs = omega arith

@@ -1,10 +1,7 @@
 use Rattle.std.specs.Prelude.{ℕ, Bool, true, false, List, [], ◌∷◌, option_map}
 use Rattle.zk_line.specs.declared.types.Decl.{Decl}
-use Rattle.zk_line.specs.declared.types.Ref.{Ref}
-use Rattle.zk_line.specs.declared.types.Ref.TheVariants.{Known}
 use Rattle.zk_line.specs.declared.types.Call.{Call}
 use Rattle.zk_line.specs.declared.types.Call.TheVariants as calls
-use Rattle.zk_line.specs.Objects.{number_of}
 use Rattle.zk_model_wait.specs.declared.clock.ClockOp.TheVariants as clock_ops
 use Rattle.zk_model_wait.specs.declared.clock.ClockReply.TheVariants as clock_replies
 use Rattle.zk_model_wait.specs.declared.msgq.MsgqOp.TheVariants as msgq_ops
@@ -32,21 +29,15 @@ use Rattle.zk_words.specs.declared.word.Word.{Word}
 use Rattle.zk_worker.specs.declared.frames.Closing.{Closing}
 use Rattle.zk_worker.specs.declared.frames.Closing.TheVariants as closings
 use Rattle.zk_worker.specs.declared.frames.Plan.{Plan}
-use Rattle.zk_worker.specs.declared.frames.Plan.TheVariants.{One, Pair, Twice, Wait}
+use Rattle.zk_worker.specs.declared.frames.Plan.TheVariants.{One, Pair, Twice, Wait, Poll}
 use Rattle.zk_worker.specs.declared.frames.Waiting.{Waiting}
 use Rattle.zk_worker.specs.declared.frames.Waiting.TheVariants.{Take, Put, Get}
 use Rattle.zk_worker.specs.declared.frames.Stage.{Stage}
 use Rattle.zk_worker.specs.declared.frames.Stage.TheVariants.{Start, Waits, Halfway, Alarmed, WaitsUntil, Quits}
 use Rattle.zk_worker.specs.declared.frames.Progress.{Progress}
 use Rattle.zk_worker.specs.declared.frames.Progress.TheVariants.{Goes, Answers}
-
--- the object number of an object that a call names
-abbrev pub ref_object : Ref → ℕ
-ref_object (Known object) = object
-
--- an object that a call names, by its number among those of its kind
-abbrev pub ref_number : List Decl → Ref → ℕ
-ref_number decls (Known object) = number_of decls object
+use Rattle.zk_worker.specs.Polls.{poll_attempts, poll_progress}
+use Rattle.zk_worker.specs.Refs.{ref_object, ref_number}
 
 -- how a call goes
 abbrev pub plan_of : List Decl → Call → Plan
@@ -85,6 +76,7 @@ plan_of decls (calls.Raise signal value) =
     One (steps.Signal (ref_object signal) (signal_ops.Raise value))
 plan_of decls (calls.Clear signal) = One (steps.Signal (ref_object signal) signal_ops.Clear)
 plan_of decls (calls.Check signal) = One (steps.LookSignal (ref_object signal) false)
+plan_of decls (calls.Poll timeout events) = Poll timeout events
 
 -- what a submission answers
 abbrev pub submission_answer : Submitted → Answer
@@ -176,6 +168,7 @@ plan_attempts (Pair opening closing) (Waits place) = closing_step closing place 
 plan_attempts (Twice first second) Start = first ∷ []
 plan_attempts (Twice first second) Halfway = second ∷ []
 plan_attempts (Wait waiting timeout) stage = wait_attempts waiting timeout stage
+plan_attempts (Poll timeout events) stage = poll_attempts timeout events stage
 plan_attempts plan stage = []
 
 -- what the reply to the step that may begin a wait does to its call: it waits, or is answered
@@ -208,3 +201,5 @@ plan_progress word (Pair opening closing) stage made reply = Answers word (answe
 plan_progress word (Twice first second) Start made reply = Goes Halfway
 plan_progress word (Twice first second) stage made reply = Answers word (answer_of reply)
 plan_progress word (Wait waiting timeout) stage made reply = wait_progress word stage reply
+plan_progress word (Poll timeout events) stage made reply =
+    poll_progress word timeout events stage made reply

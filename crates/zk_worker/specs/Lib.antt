@@ -7,8 +7,11 @@ pub mod Looks
 pub mod Machines
 pub mod Places
 pub mod Playing
+pub mod Polls
+pub mod Positions
 pub mod Protocol
 pub mod Ranges
+pub mod Refs
 pub mod Right
 pub mod Shown
 pub mod Single

@@ -1,3 +1,4 @@
+use crate::Positions;
 use zk_base::{Errno, Listed, Msg};
 use zk_words::Word;
 
@@ -19,6 +20,8 @@ pub enum Answer {
     Bytes(Msg),
     /// Whether a signal is raised, and with which result. The result of one that isn't is 0.
     Signal(bool, u16),
+    /// The positions of the events of a poll that are ready.
+    Ready(Positions),
 }
 
 /// A call that has its answer.

@@ -1,37 +1,18 @@
 ghost use Rattle.std.specs.Prelude.{◌≡◌, slice_get, option_map};
-ghost use Rattle.zk_worker.specs.Calls.{ref_object, ref_number, plan_of};
+ghost use Rattle.zk_worker.specs.Calls.{plan_of};
+ghost use Rattle.zk_worker.specs.Refs.{ref_object};
 ghost use Rattle.zk_worker.specs.Calls.{submission_answer, work_answer, sem_answer, msgq_answer, answer_of};
 ghost use Rattle.zk_worker.specs.Calls.{closing_step, open_step, end_step, quit_step, first_step, wait_attempts, plan_attempts};
 ghost use Rattle.zk_worker.specs.Calls.{opening_progress, until, wait_progress, plan_progress};
 
+use crate::polls::{poll_ahead, poll_progress};
+use crate::refs::{queue_number, ref_number, ref_object};
 use crate::{Answer, Closing, Plan, Progress, Stage, Step, StepReply, Waiting, Word};
 use zk_base::Errno;
 use zk_model_wait::{ClockOp, ClockReply, MsgqOp, MsgqReply, SemOp, SemReply, SignalOp};
 use zk_model_work::{Submitted, WorkOp, WorkReply};
 use zk_scenario::{Call, Ref, Scenario};
 use zk_words::Timeout;
-
-fn ref_object(named: Ref) -> u32
-    ensures { result ≡ ref_object named }
-{
-    let Ref::Known(object) = named;
-    object
-}
-
-fn ref_number(scenario: &Scenario, named: Ref) -> u32
-    ensures { result ≡ ref_number scenario.now.decls named }
-{
-    scenario.number(ref_object(named))
-}
-
-fn queue_number(scenario: &Scenario, named: Option<Ref>) -> Option<u32>
-    ensures { result ≡ option_map (ref_number scenario.now.decls) named }
-{
-    match named {
-        Some(queue) => Some(ref_number(scenario, queue)),
-        None => None,
-    }
-}
 
 /// One step at the work service.
 fn one(op: WorkOp) -> Plan
@@ -141,6 +122,7 @@ pub fn plan_of(scenario: &Scenario, call: &Call) -> Plan
         Call::Raise(signal, result) => at_signal(*signal, SignalOp::Raise(*result)),
         Call::Clear(signal) => at_signal(*signal, SignalOp::Clear),
         Call::Check(signal) => Plan::One(Step::LookSignal(ref_object(*signal), false)),
+        Call::Poll(timeout, events) => Plan::Poll(*timeout, *events),
     }
 }
 
@@ -289,6 +271,7 @@ pub fn plan_ahead(plan: &Plan, stage: &Stage, index: u32) -> Option<Step>
         (Plan::Twice(first, _), Stage::Start) if index == 0 => Some(*first),
         (Plan::Twice(_, second), Stage::Halfway) if index == 0 => Some(*second),
         (Plan::Wait(waiting, timeout), stage) => wait_ahead(waiting, *timeout, stage, index),
+        (Plan::Poll(timeout, events), stage) => poll_ahead(*timeout, events, stage, index),
         _ => None,
     }
 }
@@ -338,15 +321,18 @@ pub fn plan_progress(
     word: Word,
     plan: &Plan,
     stage: &Stage,
-    _made: &Step,
+    made: &Step,
     reply: &StepReply,
 ) -> Progress
-    ensures { result ≡ plan_progress word plan.now stage.now _made.now reply.now }
+    ensures { result ≡ plan_progress word plan.now stage.now made.now reply.now }
 {
     match (plan, stage) {
         (Plan::Pair(_, _), Stage::Start) => opening_progress(word, reply),
         (Plan::Twice(_, _), Stage::Start) => Progress::Goes(Stage::Halfway),
         (Plan::Wait(_, _), _) => wait_progress(word, stage, reply),
+        (Plan::Poll(timeout, events), _) => {
+            poll_progress(word, *timeout, events, stage, made, reply)
+        }
         _ => Progress::Answers(word, answer_of(reply)),
     }
 }

@@ -1,5 +1,6 @@
 use crate::{Answer, Step, Word};
 use zk_base::Msg;
+use zk_line::{Events, MOST_EVENTS};
 use zk_words::Timeout;
 
 /// The most scripts and runs that are open at a time: one for each channel, the run of a worker, and its item's script.
@@ -17,6 +18,9 @@ pub enum Plan {
     /// A step that may begin a wait of this length at most, and then the step that ends it or gives it up. With ticks, an
     /// alarm is set before.
     Wait(Waiting, Timeout),
+    /// A poll of this length at most for these events: it asks for each, waits, and gives up what it has registered. With
+    /// ticks, an alarm is set before.
+    Poll(Timeout, Events),
 }
 
 /// What a call waits for, at the object of this number.
@@ -41,6 +45,30 @@ pub enum Closing {
     Drain,
 }
 
+/// How far an event of a poll is.
+#[derive(Clone, Copy, Debug)]
+pub enum Mark {
+    /// It isn't asked yet.
+    Unasked,
+    /// The player is registered, by the entry at this place of its object.
+    Armed(u64),
+    /// It is ready.
+    Ready,
+    /// It wasn't ready, and the player isn't registered.
+    Not,
+}
+
+/// The alarm of a poll.
+#[derive(Clone, Copy, Debug)]
+pub enum Alarm {
+    /// There is none.
+    Unset,
+    /// It ends at this moment or later.
+    Due(u64),
+    /// It has ended.
+    Ended,
+}
+
 /// How far a call or a run has come.
 #[derive(Clone, Copy, Debug)]
 pub enum Stage {
@@ -58,6 +86,8 @@ pub enum Stage {
     WaitsUntil(u64, u64),
     /// The alarm of a call has ended, which gives up the wait that the entry at this place of its object began.
     Quits(u64),
+    /// A poll with this alarm, and how far each of its events is.
+    Polls(Alarm, [Mark; MOST_EVENTS]),
 }
 
 /// What is played.

@@ -4,7 +4,8 @@ use Rattle.zk_base.specs.declared.ids.Who.{Who}
 use Rattle.zk_worker.specs.Protocol.{attempts}
 use Rattle.zk_worker.specs.Shown.{IsLater}
 use Rattle.zk_worker.proofs.Between.{between-none, between-both, log-still, log-later}
-use Rattle.zk_worker.proofs.Trying.{attempted-some, attempted-none, attempted-err, tried-next, first-made}
+use Rattle.zk_worker.proofs.Trying.{attempted-some, attempted-none, attempted-err, tried-next, first-made, none-left}
+use Rattle.zk_worker.proofs.Limits.{attempts-few}
 use Rattle.zk_worker.proofs.playing.try_ahead.Goals as goal
 
 pub loop-index-init : goal.loop-index-init
@@ -62,3 +63,10 @@ loop-index-preserved g c =
       tried = tried-next alone _ _ ahead c.loop-index.index _ old _ new _ _ _ was.tried (sym {b = slice_get ahead c.loop-index.index} c.in-Some.ensures)
           was.others none.0 none.1 (c.in_ok-reply.ensures.rose c.in_default-2.is) was.counts c.attempt.ensures.counts;
     }
+
+pub returns-clause-tried : goal.returns-clause-tried
+returns-clause-tried g c =
+    let was = c.loop-index.invariant in
+    let few = attempts-few c.args.scenario.now c.args.player.now in
+    let end = c.loop-index.auto.index-end in
+    none-left _ _ _ _ c.loop-index.index _ _ _ _ was.tried (omega (arith, few, end)) was.others

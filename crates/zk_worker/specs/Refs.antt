@@ -1,0 +1,13 @@
+use Rattle.std.specs.Prelude.{ℕ, List}
+use Rattle.zk_line.specs.declared.types.Decl.{Decl}
+use Rattle.zk_line.specs.declared.types.Ref.{Ref}
+use Rattle.zk_line.specs.declared.types.Ref.TheVariants.{Known}
+use Rattle.zk_line.specs.Objects.{number_of}
+
+-- the object number of an object that a call names
+abbrev pub ref_object : Ref → ℕ
+ref_object (Known object) = object
+
+-- an object that a call names, by its number among those of its kind
+abbrev pub ref_number : List Decl → Ref → ℕ
+ref_number decls (Known object) = number_of decls object
