@@ -8,7 +8,8 @@ pub record Giving : Type 0 where
   pub calls : ℕ
   pub faults : ℕ
 
--- a sink over memory: the bytes held, how many more fit, the most that one call takes, the calls that fail, the calls so far, and its faults
+-- a sink over memory: the bytes held, how many more fit, the most that one call takes, the calls that fail,
+-- the calls so far, and its faults
 pub record Taking : Type 0 where
   pub held : List ℕ
   pub room : ℕ

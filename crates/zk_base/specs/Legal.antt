@@ -3,7 +3,8 @@ use Rattle.zk_base.specs.declared.ids.Who.{Who}
 use Rattle.zk_base.specs.declared.ids.Entry.{Entry}
 use Rattle.zk_base.specs.History.{Rises}
 
--- a machine: its reply in a state, or nothing where the operation isn't possible; the state after an operation that is; and whether the ids in an operation are in range
+-- a machine: its reply in a state, or nothing where the operation isn't possible; the state after an operation that is;
+-- and whether the ids in an operation are in range
 pub record Machine (S O R : Type 0) : Type 0 where
   pub reply_of : S → Who → O → Option R
   pub next : S → Who → O → S

@@ -8,7 +8,8 @@ use std::fmt;
 /// The refusals that a call can answer, by Zephyr's names and without its numbers.
 #[derive(Clone, Copy, Debug, PartialEq, Eq)]
 pub enum Errno {
-    /// The item is being cancelled, or its queue takes no submission now; or a semaphore's count is 0, and the caller doesn't wait.
+    /// The item is being cancelled, or its queue takes no submission now; or a semaphore's count is 0, and the caller
+    /// doesn't wait.
     Busy,
     /// A wait was given up, or its semaphore was reset meanwhile.
     Again,

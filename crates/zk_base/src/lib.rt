@@ -17,6 +17,7 @@ mod source;
 mod standard;
 mod text;
 mod waits;
+mod within;
 
 pub use engine::Engine;
 pub use errors::{Errno, Failed, NewRefused, NoMemory, Status};
@@ -34,3 +35,4 @@ pub use source::Source;
 pub use standard::{StdSink, StdSource};
 pub use text::{put, put_decimal};
 pub use waits::{Decision, WaitList, Waiter};
+pub use within::push_within;

@@ -1,6 +1,6 @@
 ghost use Rattle.std.specs.Prelude.{◌≡◌, ◌+◌, ◌<◌, ◌≤◌, true, false, [], ◌∷◌, ◌++◌, vec_len, vec_capacity, IsOk, OnOk};
 
-use crate::{Engine, Entry, NoMemory, Service, Who};
+use crate::{Engine, Entry, NoMemory, Service, Who, push_within};
 use std::alloc::Global;
 use std::marker::Model;
 
@@ -27,7 +27,8 @@ impl<C: Engine> Model for Recorded<C> {
     } };
 
     ghost invariant = { λ a.
-        IsRecorded C.machine C.owed C.entries (C.stands_for a.engine) a.start a.past.items (vec_len a.past) (vec_capacity a.past) };
+        IsRecorded C.machine C.owed C.entries (C.stands_for a.engine) a.start a.past.items
+        (vec_len a.past) (vec_capacity a.past) };
 }
 
 impl<C: Engine> Recorded<C> {
@@ -44,19 +45,6 @@ impl<C: Engine> Recorded<C> {
             engine,
             past: Vec::new(alloc),
         }
-    }
-}
-
-/// One item more, for which there is room.
-pub fn put<T: Drop>(items: &mut Vec<T>, item: T)
-    requires { vec_len items.old < vec_capacity items.old }
-    ensures items { items.new.items ≡ items.old.items ++ item ∷ [] }
-    ensures len { vec_len items.new ≡ vec_len items.old + 1 }
-    ensures capacity { vec_capacity items.old ≤ vec_capacity items.new }
-{
-    match items.push(item) {
-        Ok(()) => {}
-        Err(_) => unreachable!(),
     }
 }
 
@@ -115,7 +103,7 @@ impl<C: Engine> Service for Recorded<C> {
         match self.engine.step(who, &op)? {
             None => Ok(None),
             Some((reply, kept)) => {
-                put(
+                push_within(
                     &mut self.past,
                     Entry {
                         who,

@@ -3,8 +3,7 @@ ghost use Rattle.std.specs.List.{find, position_or_len};
 ghost use Rattle.zk_base.specs.Lists.{without_first, put_before};
 ghost use Rattle.zk_base.specs.Waits.{no_waits, is_served_after, is_waiter, is_decision, decide, decision_of, goes_on, open_waits, joined, left, first_decided, all_decided, ended, quitted, quit_answer};
 
-use crate::recorded::put;
-use crate::{NoMemory, Who};
+use crate::{NoMemory, Who, push_within};
 use std::alloc::Global;
 use std::marker::Model;
 
@@ -130,7 +129,7 @@ impl<M: Drop + Copy, A: Drop + Copy> WaitList<M, A> {
             return;
         }
         let waiter = self.waiting.remove(0);
-        put(&mut self.decided, decide(answer, &waiter));
+        push_within(&mut self.decided, decide(answer, &waiter));
     }
 
     /// Decides all waits alike.
@@ -206,7 +205,7 @@ fn decide_each<M, A: Drop + Copy>(waiting: &[Waiter<M>], decided: &mut Vec<Decis
     ensures capacity { vec_capacity decided.old ≤ vec_capacity decided.new }
 {
     for waiter in waiting {
-        put(decided, decide(answer, waiter));
+        push_within(decided, decide(answer, waiter));
     }
 }
 

@@ -22,7 +22,9 @@ use Rattle.zk_replay.specs.Over.{IsOver}
 use Rattle.zk_cli.specs.Moments.{AtEachMoment, AtEachObject}
 use Rattle.zk_cli.specs.Refusal.{refusal_text}
 
--- the input is the text of a scenario, and the output is that text and the trace of its round robin run, which ends so; the trace is lawful for the scenario, its histories keep the laws at each moment, and where the run has ended each admission has ended or was dropped
+-- the input is the text of a scenario, and the output is that text and the trace of its round robin run, which ends so;
+-- the trace is lawful for the scenario, its histories keep the laws at each moment, and where the run has ended each
+-- admission has ended or was dropped
 pub record IsRun (ending : Ending) (input output : List ℕ) : Type 0 where
   pub scenario : Parts
   pub trace : Trace

@@ -48,7 +48,8 @@ abbrev pub HasInput : Status → Type 0
 HasInput WriteFault = Unit {0}
 HasInput status = IsAnswer status
 
--- the statuses that can come for an input: as the run ended where it is in the grammar, a refusal where it isn't, and the faults and want of memory
+-- the statuses that can come for an input: as the run ended where it is in the grammar, a refusal where it isn't,
+-- and the faults and want of memory
 abbrev pub MayEnd : Result Parts ScenarioRefused → Status → Type 0
 MayEnd said ReadFault = Unit {0}
 MayEnd said WriteFault = Unit {0}

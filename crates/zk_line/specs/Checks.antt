@@ -78,7 +78,9 @@ abbrev pub is_well_named : List Decl → Slot → List ℕ → Bool
 is_well_named decls New word = is_name word && not (is_some (object_of decls word))
 is_well_named decls Owner word = names plays_script decls word
 is_well_named decls (Object need) word = names (is_met need) decls word
-is_well_named decls Event word = is_ignore word || option_map_or (λ asked. names (is_met (need_of asked.source)) decls asked.name) (event_named word) false
+is_well_named decls Event word =
+    is_ignore word
+    || option_map_or (λ asked. names (is_met (need_of asked.source)) decls asked.name) (event_named word) false
 is_well_named decls Raw word = false
 is_well_named decls slot word = true
 

@@ -25,10 +25,12 @@ pub length-few : (events : List Event) → is_few events ≡ true → length eve
 length-few events few = leb-true (length events) 8 (and_parts (nat_le 1 (length events)) (nat_le (length events) 8) few).1
 
 -- few events written over the front of those that ask for nothing are filled
-pub IsFilled-made : (events idle front : List Event) → is_few events ≡ true → idle ≡ replicate 8 Ignore → front ≡ events → IsFilled (front ++ drop (length events) idle) (length events)
+pub IsFilled-made : (events idle front : List Event) → is_few events ≡ true → idle ≡ replicate 8 Ignore →
+    front ≡ events → IsFilled (front ++ drop (length events) idle) (length events)
 IsFilled-made events idle front few are same =
     let within = length-few events few in
-    let rest : drop (length events) idle ≡ replicate (8 - length events) Ignore = ap (λ (z : List Event). drop (length events) z) are ∙ drop-replicate (length events) 8 Ignore in
+    let rest : drop (length events) idle ≡ replicate (8 - length events) Ignore =
+        ap (λ (z : List Event). drop (length events) z) are ∙ drop-replicate (length events) 8 Ignore in
     let sized = length-append events (drop (length events) idle) in
     let long = ap length rest ∙ length-replicate (8 - length events) Ignore in
     let P : List Event → Type 0 = λ f. IsFilled (f ++ drop (length events) idle) (length events) in

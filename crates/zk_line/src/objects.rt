@@ -6,7 +6,7 @@ use crate::names::Names;
 use crate::types::Decl;
 use std::alloc::Global;
 use std::marker::Model;
-use zk_base::NoMemory;
+use zk_base::{NoMemory, push_within};
 use zk_words::Kind;
 
 /// The declarations, with a table for each question to them.
@@ -205,8 +205,8 @@ impl Objects {
             &mut self.msgqs,
             &mut self.signals,
         );
-        put(&mut self.numbers, number);
-        put(&mut self.decls, decl);
+        push_within(&mut self.numbers, number);
+        push_within(&mut self.decls, decl);
         Ok(())
     }
 }
@@ -255,7 +255,7 @@ fn put_counted(list: &mut Vec<u32>, object: u32) -> u32
     ensures items { list.new.items ≡ list.old.items ++ object ∷ [] }
 {
     let number = list.len() as u32;
-    put(list, object);
+    push_within(list, object);
     number
 }
 
@@ -266,15 +266,4 @@ pub fn make_room<T>(list: &mut Vec<T>) -> Result<(), NoMemory>
 {
     list.reserve(1)?;
     Ok(())
-}
-
-/// One item more, for which there is room.
-pub fn put<T: Drop>(list: &mut Vec<T>, item: T)
-    requires { vec_len list.old < vec_capacity list.old }
-    ensures { list.new.items ≡ list.old.items ++ item ∷ [] }
-{
-    match list.push(item) {
-        Ok(()) => {}
-        Err(_) => unreachable!(),
-    }
 }

@@ -1,4 +1,5 @@
-//! The services that players wait at, as plain machines: the clock, semaphores, message queues and signals; and the laws of their histories.
+//! The services that players wait at, as plain machines, and the laws of their histories: the clock, semaphores, message
+//! queues and signals.
 #![tactic(auto)]
 
 mod clock;

@@ -3,8 +3,8 @@ ghost use Rattle.zk_model_wait.specs.Msgq.{Msgq, msgq_machine};
 ghost use Rattle.zk_model_wait.specs.MsgqWaits.{putters, getters, pollers};
 ghost use Rattle.zk_model_wait.specs.MsgqLaws.{MsgqHistory, OfEachMsgq, FirstInFirstOut, RingWithinMax, NoneWaitsToGetWhileMessages, NoneWaitsToPutWhileRoom, PutWaitsOnlyAtFull, GetWaitsOnlyAtEmpty, LooksTellTheRing, PurgeEndsEveryPut, PutDecidedByGetOrPurge, GetDecidedByItsPut, MayAlways, PurgeIsDone, PollArmAnswers, NotedAtAChance, EachChanceNotesOne, PollingTakesNothing, KeepsMsgqLaws};
 
-/// Of every legal history of a message queue: each message that it accepted leaves it once, in the order in which they were accepted, be
-/// it got, handed to a get or discarded.
+/// Of every legal history of a message queue: each message that it accepted leaves it once, in the order in which
+/// they were accepted, be it got, handed to a get or discarded.
 pub fn first_in_first_out()
     ensures in_order { OfEachMsgq FirstInFirstOut }
 {}
@@ -29,15 +29,16 @@ pub fn queue_calls_are_told()
     ensures done { OfEachMsgq PurgeIsDone }
 {}
 
-/// Of every legal history of a message queue: who waits has asked for it and is served by priority, and then by longest wait; the end of
-/// a wait is answered its decision, and one who gives up gets what was decided meanwhile.
+/// Of every legal history of a message queue: who waits has asked for it and is served by priority, and then by
+/// longest wait; the end of a wait is answered its decision, and one who gives up gets what was decided meanwhile.
 pub fn queue_waits_end()
     ensures put_waits { OfEachMsgq (KeepsWaits msgq_machine putters) }
     ensures get_waits { OfEachMsgq (KeepsWaits msgq_machine getters) }
 {}
 
-/// Of every legal history of a message queue: a poll is told whether there is a message, each put behind the others notifies one who
-/// polls and isn't notified yet, by priority, and then by longest poll, and nothing else does; and polling takes nothing.
+/// Of every legal history of a message queue: a poll is told whether there is a message, each put behind the others
+/// notifies one who polls and isn't notified yet, by priority, and then by longest poll, and nothing else does; and
+/// polling takes nothing.
 pub fn queue_polls_hold()
     ensures armed { OfEachMsgq PollArmAnswers }
     ensures noted { OfEachMsgq NotedAtAChance }

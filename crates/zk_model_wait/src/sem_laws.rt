@@ -23,14 +23,15 @@ pub fn calls_are_told()
     ensures always { (s : Sem) (h : SemHistory) → MayAlways s h }
 {}
 
-/// Of every legal history of a semaphore: who waits has asked for it, the end of a wait is answered its decision, and one who gives
-/// up gets what was decided meanwhile. Who waits is served by priority, and then by longest wait.
+/// Of every legal history of a semaphore: who waits has asked for it, the end of a wait is answered its decision, and
+/// one who gives up gets what was decided meanwhile. Who waits is served by priority, and then by longest wait.
 pub fn waits_end()
     ensures waits { OfEachSem (KeepsWaits sem_machine takers) }
 {}
 
-/// Of every legal history of a semaphore: a poll is told whether the count is above 0, each give where nobody waits notifies one who
-/// polls and isn't notified yet, by priority, and then by longest poll, and nothing else does; and polling takes nothing.
+/// Of every legal history of a semaphore: a poll is told whether the count is above 0, each give where nobody waits
+/// notifies one who polls and isn't notified yet, by priority, and then by longest poll, and nothing else does; and
+/// polling takes nothing.
 pub fn polls_hold()
     ensures armed { OfEachSem PollArmAnswers }
     ensures noted { OfEachSem NotedAtAChance }

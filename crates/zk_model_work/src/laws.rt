@@ -41,10 +41,10 @@ pub fn flushes_hold()
     ensures { OfEach FlushesHold }
 {}
 
-/// Of every legal work history: a draining goes on until nothing of its queue waits or runs, and ends
-/// there. Meanwhile each admission to it is submitted by its own worker. A drain that had to wait is told
-/// to be done only after a draining has ended since its start. A queue that is plugged and doesn't drain takes nothing, and nothing of it waits or
-/// runs; it is plugged and started as was asked.
+/// Of every legal work history: a draining goes on until nothing of its queue waits or runs, and ends there.
+/// Meanwhile each admission to it is submitted by its own worker. A drain that had to wait is told to be done only
+/// after a draining has ended since its start. A queue that is plugged and doesn't drain takes nothing, and nothing
+/// of it waits or runs; it is plugged and started as was asked.
 pub fn drains_hold()
     ensures { OfEach DrainsHold }
 {}

@@ -18,8 +18,8 @@ pub struct Member {
     pub noted: bool,
 }
 
-/// Who is registered to be noted when something happens, in the order of registration: by priority, and then by registration, one at a
-/// time. The list of pollers of Zephyr's objects.
+/// Who is registered to be noted when something happens, in the order of registration: by priority, and then by
+/// registration, one at a time. The list of pollers of Zephyr's objects.
 ///
 /// Only `reserve` and `arm` take memory.
 #[derive(Drop)]

@@ -1,5 +1,5 @@
 -- Where a run has come to its end, nobody has served whoever waits.
-use Rattle.std.proofs.Common.{◌≡◌, ℕ, zero, suc, Option, Some, None, List, [], ◌∷◌, length, refl, sym, ap, subst, ◌∙◌}
+use Rattle.std.proofs.Common.{◌≡◌, ℕ, zero, suc, ◌+◌, Bool, true, false, not, ◌&&◌, cond, Option, Some, None, List, [], ◌∷◌, length, refl, sym, ap, subst, ◌∙◌}
 use Rattle.std.specs.List.{slice_get}
 use Rattle.std.specs.Option.{option_map, option_and_then}
 use Rattle.zk_base.specs.declared.ids.Who.{Who}
@@ -10,6 +10,8 @@ use Rattle.zk_model_wait.specs.declared.clock.ClockOp.TheVariants as clock_ops
 use Rattle.zk_model_wait.specs.declared.clock.ClockReply.{ClockReply}
 use Rattle.zk_model_wait.specs.declared.sem.SemOp.TheVariants as sem_ops
 use Rattle.zk_model_wait.specs.declared.msgq.MsgqOp.TheVariants as msgq_ops
+use Rattle.zk_model_wait.specs.declared.signal.SignalOp.{SignalOp}
+use Rattle.zk_model_wait.specs.declared.signal.SignalReply.{SignalReply}
 use Rattle.zk_model_wait.specs.Clock.{new_clock, clock_reply, clock_machine}
 use Rattle.zk_model_wait.specs.Sem.{Sem}
 use Rattle.zk_model_wait.specs.Msgq.{Msgq}
@@ -17,13 +19,19 @@ use Rattle.zk_worker.specs.declared.steps.Step.{Step}
 use Rattle.zk_worker.specs.declared.steps.Step.TheVariants as steps
 use Rattle.zk_worker.specs.declared.steps.StepReply.{StepReply}
 use Rattle.zk_worker.specs.declared.steps.StepReply.TheVariants as step_replies
+use Rattle.zk_base.specs.declared.seen.Seen.{Seen}
+use Rattle.zk_scenario.specs.Parts.{Parts}
+use Rattle.zk_worker.specs.Places.{At}
 use Rattle.zk_worker.specs.Single.{answer_in}
 use Rattle.zk_worker.specs.Families.{Family, start_of, answer_at}
 use Rattle.zk_worker.specs.Protocol.{attempts, IsAhead}
 use Rattle.zk_worker.specs.Machines.{Machines, machines_of}
 use Rattle.zk_worker.specs.Shown.{Shown}
 use Rattle.zk_worker.specs.Attempt.{reply_in}
-use Rattle.zk_worker.specs.Choosing.{or_else, first_possible}
+use Rattle.zk_worker.specs.Looks.{look, look_at, looks_at, found_by, seen_after}
+use Rattle.zk_worker.specs.Choosing.{or_else, first_possible, chosen}
+use Rattle.zk_worker.proofs.ShownSteps.{whole-after}
+use Rattle.zk_replay.specs.RoundRobin.{World, stepped, is_spent, turn, turn_of, turns, round, rounds, first, IsRun}
 use Rattle.zk_replay.specs.Laws.{NoneIsServed}
 use Rattle.zk_replay.proofs.OneRun.{none_goes_on}
 
@@ -53,6 +61,43 @@ object-none family hs tell who object op start h starts there none =
     ∙ ap (option_and_then (λ h. answer_in family.machine start h (tell object) who op)) there in
     nothing-mapped (λ reply. tell object reply (length h)) (family.machine.reply_of (state_after family.machine start h) who op) (sym one ∙ none)
 
+module _ (m : Machines) (s : Parts) where
+  -- whole histories are shown along a run
+  whole-stepped : (w : World) (p : ℕ) (at : At) (made : Option (Step × StepReply)) → w.shown.looks ≡ None →
+      (stepped s w p at made).shown.looks ≡ None
+  whole-stepped w p at None whole = whole
+  whole-stepped w p at (Some made) whole = whole-after w.shown at.who (length at.spots) made.0 made.1 whole
+
+  whole-turn_of : (w : World) (p : ℕ) (at : Option At) → w.shown.looks ≡ None → (turn_of m s w p at).shown.looks ≡ None
+  whole-turn_of w p None whole = whole
+  whole-turn_of w p (Some at) whole = whole-stepped w p at (chosen m s w.shown at) whole
+
+  whole-turn : (w : World) (p : ℕ) (spent : Bool) → w.shown.looks ≡ None →
+      (cond spent w (turn_of m s w p (slice_get w.players p))).shown.looks ≡ None
+  whole-turn w p true whole = whole
+  whole-turn w p false whole = whole-turn_of w p (slice_get w.players p) whole
+
+  whole-turns : (w : World) (n p : ℕ) → w.shown.looks ≡ None → (turns m s w n p).shown.looks ≡ None
+  whole-turns w zero p whole = whole
+  whole-turns w (suc n) p whole = whole-turns (turn m s w p) n (p + 1) (whole-turn w p (is_spent w) whole)
+
+  whole-rounds : (w : World) (n : ℕ) → w.shown.looks ≡ None → (rounds m s n w).shown.looks ≡ None
+  whole-rounds w zero whole = whole
+  whole-rounds w (suc n) whole =
+      let before = rounds m s n w in whole-turns before (length before.players) 0 (whole-rounds w n whole)
+
+  whole-run : (w : World) → IsRun m s w → w.shown.looks ≡ None
+  whole-run w run = subst (λ (v : World). v.shown.looks ≡ None) (sym run.1) (whole-rounds (first s) run.0 refl)
+
+-- a look that must find a signal raised and finds nothing, finds it clear
+not-raised : (seen : Seen) → look true seen ≡ None → seen.raised ≡ false
+not-raised seen none = by_mark seen.raised refl none where
+  by_mark : (raised : Bool) → seen.raised ≡ raised → look true seen ≡ None → seen.raised ≡ false
+  by_mark false is none = is
+  by_mark true is none =
+      let found : look true seen ≡ Some (step_replies.Seen seen) =
+      ap (λ (b : Bool). cond (not b) None (Some (step_replies.Seen seen))) is in absurd (cc)
+
 pub none_is_served : NoneIsServed
 none_is_served s w run unspent player at is = record {
   takes = λ object place sem ahead stands.
@@ -67,6 +112,19 @@ none_is_served s w run unspent player at is = record {
       subst (λ (x : Msgq). decision_of x.gets at.who.number place ≡ None) (sym stands.4)
       (object-none (machines_of s).msgqs w.shown.msgqs step_replies.Msgq at.who object (msgq_ops.GetEnd place) stands.0 stands.1 stands.2 stands.3
       (impossible (steps.Msgq object (msgq_ops.GetEnd place)) ahead));
+  sem_polls = λ object place sem ahead stands.
+      subst (λ (x : Sem). decision_of x.pollers at.who.number place ≡ None) (sym stands.4)
+      (object-none (machines_of s).sems w.shown.sems step_replies.Sem at.who object (sem_ops.PollEnd place) stands.0 stands.1 stands.2 stands.3
+      (impossible (steps.Sem object (sem_ops.PollEnd place)) ahead));
+  msgq_polls = λ object place queue ahead stands.
+      subst (λ (x : Msgq). decision_of x.pollers at.who.number place ≡ None) (sym stands.4)
+      (object-none (machines_of s).msgqs w.shown.msgqs step_replies.Msgq at.who object (msgq_ops.PollEnd place) stands.0 stands.1 stands.2 stands.3
+      (impossible (steps.Msgq object (msgq_ops.PollEnd place)) ahead));
+  signals = λ object h ahead shows.
+      let read : look_at w.shown.looks w.shown.signals object true ≡ look true (seen_after h) =
+      ap (λ (o : Option (List (List Seen))). look_at o w.shown.signals object true) (whole-run (machines_of s) s w run)
+      ∙ ap (option_and_then (λ h. option_and_then (look true) (found_by (looks_at None object) h))) shows in
+      not-raised (seen_after h) (sym read ∙ impossible (steps.LookSignal object true) ahead);
   alarms = λ moment ahead.
       nothing-mapped (λ (reply : ClockReply). step_replies.Clock reply (length w.shown.clock)) (clock_reply (state_after clock_machine new_clock w.shown.clock) at.who (clock_ops.AlarmEnd moment))
       (impossible (steps.Clock (clock_ops.AlarmEnd moment)) ahead);

@@ -1,4 +1,4 @@
-use Rattle.std.specs.Prelude.{◌≡◌, ℕ, false, Some, None, List, slice_get}
+use Rattle.std.specs.Prelude.{◌≡◌, ℕ, true, false, Some, None, List, slice_get}
 use Rattle.zk_base.specs.declared.ids.Entry.{Entry}
 use Rattle.zk_base.specs.Legal.{state_after}
 use Rattle.zk_base.specs.Waits.{decision_of}
@@ -9,12 +9,15 @@ use Rattle.zk_model_wait.specs.declared.sem.SemReply.{SemReply}
 use Rattle.zk_model_wait.specs.declared.msgq.MsgqOp.{MsgqOp}
 use Rattle.zk_model_wait.specs.declared.msgq.MsgqOp.TheVariants as msgq_ops
 use Rattle.zk_model_wait.specs.declared.msgq.MsgqReply.{MsgqReply}
+use Rattle.zk_model_wait.specs.declared.signal.SignalOp.{SignalOp}
+use Rattle.zk_model_wait.specs.declared.signal.SignalReply.{SignalReply}
 use Rattle.zk_model_wait.specs.Clock.{new_clock, clock_reply, clock_machine}
 use Rattle.zk_model_wait.specs.Sem.{Sem, sem_machine}
 use Rattle.zk_model_wait.specs.Msgq.{Msgq, msgq_machine}
 use Rattle.zk_scenario.specs.Parts.{Parts}
 use Rattle.zk_worker.specs.declared.steps.Step.TheVariants as steps
 use Rattle.zk_worker.specs.Families.{start_of}
+use Rattle.zk_worker.specs.Looks.{seen_after}
 use Rattle.zk_worker.specs.Places.{At}
 use Rattle.zk_worker.specs.Protocol.{IsAhead}
 use Rattle.zk_worker.specs.Machines.{machines_of}
@@ -32,18 +35,20 @@ NoneGoesOn = (s : Parts) (w : World) → IsRun (machines_of s) s w → is_spent 
     (player : ℕ) (at : At) → slice_get w.players player ≡ Some at →
     chosen (machines_of s) s w.shown at ≡ None
 
--- a semaphore, and a message queue, as its history leaves it
+-- a semaphore as its history leaves it
 abbrev pub IsSemAt : Parts → World → ℕ → Sem → Type 0
 IsSemAt s w object sem = (start : Sem) × (h : List (Entry SemOp SemReply)) ×
     (start_of (machines_of s).sems object ≡ Some start) × (slice_get w.shown.sems object ≡ Some h) ×
     (sem ≡ state_after sem_machine start h)
 
+-- a message queue as its history leaves it
 abbrev pub IsMsgqAt : Parts → World → ℕ → Msgq → Type 0
 IsMsgqAt s w object queue = (start : Msgq) × (h : List (Entry MsgqOp MsgqReply)) ×
     (start_of (machines_of s).msgqs object ≡ Some start) × (slice_get w.shown.msgqs object ≡ Some h) ×
     (queue ≡ state_after msgq_machine start h)
 
--- a player that may only end a wait hasn't been served, and where it may end an alarm the moment of that hasn't come
+-- a player that may only end a wait hasn't been served; one that polls hasn't been noted, nor is a signal raised that
+-- it polls; and where it may end an alarm the moment of that hasn't come
 pub record IsUnserved (s : Parts) (w : World) (at : At) : Type 0 where
   pub takes : (object place : ℕ) (sem : Sem) → IsAhead s at (steps.Sem object (sem_ops.TakeEnd place)) →
       IsSemAt s w object sem → decision_of sem.takers at.who.number place ≡ None
@@ -51,10 +56,17 @@ pub record IsUnserved (s : Parts) (w : World) (at : At) : Type 0 where
       IsMsgqAt s w object queue → decision_of queue.puts at.who.number place ≡ None
   pub gets : (object place : ℕ) (queue : Msgq) → IsAhead s at (steps.Msgq object (msgq_ops.GetEnd place)) →
       IsMsgqAt s w object queue → decision_of queue.gets at.who.number place ≡ None
+  pub sem_polls : (object place : ℕ) (sem : Sem) → IsAhead s at (steps.Sem object (sem_ops.PollEnd place)) →
+      IsSemAt s w object sem → decision_of sem.pollers at.who.number place ≡ None
+  pub msgq_polls : (object place : ℕ) (queue : Msgq) → IsAhead s at (steps.Msgq object (msgq_ops.PollEnd place)) →
+      IsMsgqAt s w object queue → decision_of queue.pollers at.who.number place ≡ None
+  pub signals : (object : ℕ) (h : List (Entry SignalOp SignalReply)) → IsAhead s at (steps.LookSignal object true) →
+      slice_get w.shown.signals object ≡ Some h → (seen_after h).raised ≡ false
   pub alarms : (moment : ℕ) → IsAhead s at (steps.Clock (clock_ops.AlarmEnd moment)) →
       clock_reply (state_after clock_machine new_clock w.shown.clock) at.who (clock_ops.AlarmEnd moment) ≡ None
 
--- at the end of a run in which no player is spent, whoever waits does so since nobody has served it
+-- at the end of a run in which no player is spent, whoever waits does so since nobody has served it, and whoever polls
+-- since nothing that it polls has come
 abbrev pub NoneIsServed : Type 0
 NoneIsServed = (s : Parts) (w : World) → IsRun (machines_of s) s w → is_spent w ≡ false →
     (player : ℕ) (at : At) → slice_get w.players player ≡ Some at → IsUnserved s w at

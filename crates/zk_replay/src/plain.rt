@@ -122,7 +122,8 @@ impl Plain {
     /// The busy flags of the item of this object number, and how many entries the work service has.
     fn look_at_item(&self, object: u32) -> StepReply
         requires { takes (plain_machines self.now) (Step.LookItem object) ≡ true }
-        ensures { (who : Who) → reply_in (plain_machines self.now) (plain_shown self.now) who (Step.LookItem object) ≡ Some result }
+        ensures { (who : Who) →
+            reply_in (plain_machines self.now) (plain_shown self.now) who (Step.LookItem object) ≡ Some result }
     {
         let Some(Some(item)) = self.items.get(object as usize) else {
             unreachable!()
@@ -134,7 +135,8 @@ impl Plain {
     /// What was last written to the signal of this object number. Nothing comes where it has to be raised and isn't.
     fn look_at_signal(&self, object: u32, must: bool) -> Option<StepReply>
         requires { takes (plain_machines self.now) (Step.LookSignal object must) ≡ true }
-        ensures { (who : Who) → reply_in (plain_machines self.now) (plain_shown self.now) who (Step.LookSignal object must) ≡ result }
+        ensures { (who : Who) →
+            reply_in (plain_machines self.now) (plain_shown self.now) who (Step.LookSignal object must) ≡ result }
     {
         let Some(Some(signal)) = self.signals.get(object as usize) else {
             unreachable!()

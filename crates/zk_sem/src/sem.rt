@@ -14,7 +14,8 @@ pub struct Sem {
 }
 
 impl Sem {
-    /// A semaphore before the first entry, at this count, which never passes the limit. Zephyr's `k_sem_init`. It takes no memory.
+    /// A semaphore before the first entry, at this count, which never passes the limit. Zephyr's `k_sem_init`. It
+    /// takes no memory.
     ///
     /// The answer is `Inval` where the limit is 0 or the count is above it.
     pub fn new(alloc: Global, initial: u32, limit: u32) -> Result<Sem, Errno>

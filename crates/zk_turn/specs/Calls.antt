@@ -7,7 +7,8 @@ use Rattle.zk_base.specs.Legal.{Machine, state_after}
 use Rattle.zk_turn.specs.Players.{GoesOn}
 
 module _ {S O R : Type 0} (m : Machine S O R) (start : S) (who : Who) (step : ℕ) (op : O) where
-  -- an entry was made: at what was found, which goes on from what was seen with entries of others, the machine gives the reply, and the entry comes there
+  -- an entry was made: at what was found, which goes on from what was seen with entries of others, the machine gives the
+  -- reply, and the entry comes there
   pub record IsEntered (reply : R) (place : ℕ) (old new : List (Entry O R)) : Type 0 where
     pub found : List (Entry O R)
     pub since : GoesOn (who ∷ []) old found

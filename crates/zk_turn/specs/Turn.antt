@@ -30,7 +30,8 @@ HoldsTurn (Waiting ticket) = ⊥
 HoldsTurn (Holding ticket) = Unit {0}
 
 module _ {O R : Type 0} where
-  -- a ticket that waits isn't served yet or is the one served; a ticket whose turn it is is the one served, and its seat has seen the whole history
+  -- a ticket that waits isn't served yet or is the one served; a ticket whose turn it is is the one served, and its seat
+  -- has seen the whole history
   abbrev pub TicketStands : List (Entry O R) → ℕ → ℕ → List (Entry O R) → Stage → Type 0
   TicketStands history served drawn seen Idle = Unit {0}
   TicketStands history served drawn seen (Waiting ticket) = (served ≤ ticket) × (ticket < drawn)

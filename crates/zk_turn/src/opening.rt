@@ -12,7 +12,7 @@ use crate::views::View;
 use atomic_table::{Seat, Table};
 use std::alloc::Global;
 use std::snapshot::Snapshot;
-use zk_base::{NoMemory, Service, Who};
+use zk_base::{NoMemory, Service, Who, push_within};
 
 // The entries that one player may add, so that a history stays far below 2^32.
 const MOST_ENTRIES: u64 = 20_000;
@@ -41,7 +41,7 @@ impl<S: Service> Cell<S> {
             players: copies,
         };
         let mut slots = Vec::with_capacity(alloc, 1)?;
-        put(&mut slots, Some(service));
+        push_within(&mut slots, Some(service));
         let Ok((table, mut seat)) = Table::new(alloc, &[0, 0, 0], slots, &beginning) else {
             return Err(NoMemory);
         };
@@ -66,7 +66,7 @@ impl<S: Service> Cell<S> {
     {
         for index in 0..players.len() {
             let pass = self.deal(seat, players[index]);
-            put(passes, pass);
+            push_within(passes, pass);
         }
     }
 
@@ -87,18 +87,5 @@ impl<S: Service> Cell<S> {
             room: MOST_ENTRIES,
             front: 0,
         }
-    }
-}
-
-// One more, for which there is room.
-fn put<T: Drop>(items: &mut Vec<T>, item: T)
-    requires { vec_len items.old + 1 ≤ vec_capacity items.old }
-    ensures items { items.new.items ≡ items.old.items ++ item ∷ [] }
-    ensures len { vec_len items.new ≡ vec_len items.old + 1 }
-    ensures capacity { vec_capacity items.old ≤ vec_capacity items.new }
-{
-    match items.push(item) {
-        Ok(()) => {}
-        Err(_) => unreachable!(),
     }
 }

@@ -8,7 +8,8 @@ use Rattle.zk_line.specs.declared.types.Decl.{Decl}
 use Rattle.zk_worker.specs.declared.steps.StepReply.{StepReply}
 use Rattle.zk_worker.specs.Single.{answer_in, OthersGrew}
 
--- the objects of a kind of which there are many: their machine, and by object number the state that each starts in; an object of another kind has none
+-- the objects of a kind of which there are many: their machine, and by object number the state that each starts in; an
+-- object of another kind has none
 pub record Family (S O R : Type 0) : Type 0 where
   pub machine : Machine S O R
   pub starts : List (Option S)

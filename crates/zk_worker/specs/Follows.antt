@@ -49,7 +49,8 @@ state_at at = if is_spent_at at then Spent else (if is_done at.frames then Done 
 abbrev pub log_of : At → Log
 log_of at = record { state = state_at at; steps = at.spots; answers = at.answers }
 
--- these steps with their replies lead from one place of a player to another, each of them being one of the next attempts of those before it
+-- these steps with their replies lead from one place of a player to another, each of them being one of the next
+-- attempts of those before it
 abbrev pub IsPlayed : Parts → At → List (Step × StepReply) → At → Type 0
 IsPlayed s at [] end = at ≡ end
 IsPlayed s at (made ∷ more) end =

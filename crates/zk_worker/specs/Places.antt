@@ -4,7 +4,8 @@ use Rattle.zk_worker.specs.declared.steps.Spot.{Spot}
 use Rattle.zk_worker.specs.declared.answers.Answered.{Answered}
 use Rattle.zk_worker.specs.declared.frames.Frame.{Frame}
 
--- where a player stands: who it is, the open scripts and runs with the innermost first, the answers so far, and where each of its steps is recorded
+-- where a player stands: who it is, the open scripts and runs with the innermost first, the answers so far, and where
+-- each of its steps is recorded
 pub record At : Type 0 where
   pub who : Who
   pub frames : List Frame

@@ -13,7 +13,8 @@ use Rattle.zk_worker.specs.Machines.{Machines}
 use Rattle.zk_worker.specs.Shown.{Shown, Between}
 use Rattle.zk_worker.specs.Attempt.{reply_in, Counts, IsMade}
 
--- a step was tried between two moments: its service counted the attempt, and the machine says that it isn't possible at what was shown at a moment between
+-- a step was tried between two moments: its service counted the attempt, and the machine says that it isn't possible
+-- at what was shown at a moment between
 pub record WasTried (alone : Bool) (m : Machines) (who : Who) (old new : Shown)
     (counts counts' : Counts) (step : Step) : Type 0 where
   pub found : Shown

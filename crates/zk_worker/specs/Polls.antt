@@ -64,7 +64,8 @@ unasked_from n events marks = None
 abbrev pub asks_more : List Event → List Mark → Bool
 asks_more events marks = is_some (unasked_from 0 events marks)
 
--- the step that asks for an event: a signal is looked at, and at a semaphore or a message queue the caller is registered where it waits
+-- the step that asks for an event: a signal is looked at, and at a semaphore or a message queue the caller is
+-- registered where it waits
 abbrev pub ask_step : Bool → Event → Option Step
 ask_step registers Ignore = None
 ask_step registers (Sem sem) = Some (steps.Sem (ref_object sem) (sem_ops.PollArm registers))
@@ -127,8 +128,8 @@ is_closing alarm marks = list_any is_ready marks || is_ended alarm
 abbrev pub registers : Timeout → List Mark → Bool
 registers timeout marks = waits timeout && not (list_any is_ready marks)
 
--- the next attempts of a poll: it asks; where an event is ready or the alarm has ended, it gives up what is registered; and else it waits,
--- for eight events at most, as a poll has no more
+-- the next attempts of a poll: it asks; where an event is ready or the alarm has ended, it gives up what is
+-- registered; and else it waits, for eight events at most, as a poll has no more
 abbrev pub polling : Timeout → List Event → Alarm → List Mark → List Step
 polling timeout events alarm marks =
     if asks_more events marks then

@@ -25,9 +25,9 @@ use Rattle.zk_worker.specs.Single.{step_of, OthersGrew}
 use Rattle.zk_worker.specs.Families.{no_entries, entry_at, with_entry, EachGrew}
 use Rattle.zk_worker.specs.Looks.{LooksGrew, LookedBelow}
 
--- what the services show: the history of each, and by object number that of each semaphore, of each message queue and of each signal;
--- the looks of this player at each signal, where signals are shared without a turn;
--- and, where looks at items are shown, the first number above those of this player's
+-- what the services show: the history of each, and by object number that of each semaphore, of each message queue and
+-- of each signal; the looks of this player at each signal, where signals are shared without a turn; and, where looks
+-- at items are shown, the first number above those of this player's
 pub record Shown : Type 0 where
   pub work : List (Entry WorkOp WorkReply)
   pub clock : List (Entry ClockOp ClockReply)

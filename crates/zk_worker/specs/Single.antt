@@ -8,7 +8,8 @@ use Rattle.zk_worker.specs.declared.steps.StepReply.{StepReply}
 abbrev pub step_of : {O R : Type 0} → Entry O R → ℕ × ℕ
 step_of e = (e.who.number, e.step)
 
--- what a machine answers to an operation after a history, if it is possible: the reply to the step, which has the place of its entry
+-- what a machine answers to an operation after a history, if it is possible: the reply to the step, which has the
+-- place of its entry
 abbrev pub answer_in : {S O R : Type 0} → Machine S O R → S → List (Entry O R) →
     (R → ℕ → StepReply) → Who → O → Option StepReply
 answer_in m start h step_reply who op =

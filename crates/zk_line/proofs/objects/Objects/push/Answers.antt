@@ -63,12 +63,12 @@ invariant_of-self-2 c =
     ∙ ap (λ l. length (own_list d at.threads.items at.queues.items at.items.items at.sems.items l c.make_room-8.new.list.items)) msgqs
     ∙ ap (λ l. length (own_list d at.threads.items at.queues.items at.items.items at.sems.items at.msgqs.items l)) signals in
     IsTabled-after ds d at.threads.items at.queues.items at.items.items at.sems.items at.msgqs.items at.signals.items at.numbers.items c.enlist-number.result at.names c.insert.new.self c.self.invariant few fresh number put
-    c.put-2.new.list.items c.enlist-number.new.threads.items c.enlist-number.new.queues.items c.enlist-number.new.items.items c.enlist-number.new.sems.items c.enlist-number.new.msgqs.items c.enlist-number.new.signals.items c.put.new.list.items
-    (c.put-2.ensures ∙ ap (λ l. l ++ d ∷ []) c.make_room.ensures.unchanged)
+    c.push_within-2.new.items.items c.enlist-number.new.threads.items c.enlist-number.new.queues.items c.enlist-number.new.items.items c.enlist-number.new.sems.items c.enlist-number.new.msgqs.items c.enlist-number.new.signals.items c.push_within.new.items.items
+    (c.push_within-2.ensures.items ∙ ap (λ l. l ++ d ∷ []) c.make_room.ensures.unchanged)
     (c.enlist-number.ensures.threads ∙ ap (λ l. grown is_thread d c.len-object.result l) threads ∙ ap (λ k. grown is_thread d k at.threads.items) object)
     (c.enlist-number.ensures.queues ∙ ap (λ l. grown is_queue d c.len-object.result l) queues ∙ ap (λ k. grown is_queue d k at.queues.items) object)
     (c.enlist-number.ensures.items ∙ ap (λ l. grown is_item d c.len-object.result l) items ∙ ap (λ k. grown is_item d k at.items.items) object)
     (c.enlist-number.ensures.sems ∙ ap (λ l. grown is_sem d c.len-object.result l) sems ∙ ap (λ k. grown is_sem d k at.sems.items) object)
     (c.enlist-number.ensures.msgqs ∙ ap (λ l. grown is_msgq d c.len-object.result l) msgqs ∙ ap (λ k. grown is_msgq d k at.msgqs.items) object)
     (c.enlist-number.ensures.signals ∙ ap (λ l. grown is_signal d c.len-object.result l) signals ∙ ap (λ k. grown is_signal d k at.signals.items) object)
-    (c.put.ensures ∙ ap (λ l. l ++ c.enlist-number.result ∷ []) c.make_room-2.ensures.unchanged)
+    (c.push_within.ensures.items ∙ ap (λ l. l ++ c.enlist-number.result ∷ []) c.make_room-2.ensures.unchanged)

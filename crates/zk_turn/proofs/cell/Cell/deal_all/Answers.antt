@@ -19,8 +19,8 @@ deal-pass-requires-clause-first g c =
       subst Differ is inv.2,
     )
 
-pub put-requires : goal.put-requires
-put-requires g c =
+pub push_within-requires : goal.push_within-requires
+push_within-requires g c =
     let none : Who = record { number = 0; prio = pos 0 } in
     let long = ap (λ (ws : List Who). length ws) (drop_more c.args.players.now c.loop-index.index none c.loop-index-test.true) in
     let room = c.loop-index.invariant.4 in omega arith
@@ -41,12 +41,12 @@ loop-index-preserved g c =
     let passes = AreNewPasses-push legal start cell (take index players) c.loop-index.passes.items (get_or players index none) c.deal-pass.result inv.3 c.deal-pass.ensures.pass in
     let long = ap (λ (ws : List Who). length ws) is in
     let room = inv.4 in
-    let added = c.put.ensures.len in
-    let kept = c.put.ensures.capacity in (
+    let added = c.push_within.ensures.len in
+    let kept = c.push_within.ensures.capacity in (
       c.deal-pass.ensures.table ∙ inv.0,
       c.deal-pass.ensures.others (drop (index + 1) players) at_first,
       differ.1,
-      subst (λ ps. AreNewPasses legal start cell (take (index + 1) players) ps) (sym c.put.ensures.items)
+      subst (λ ps. AreNewPasses legal start cell (take (index + 1) players) ps) (sym c.push_within.ensures.items)
           (subst (λ (ws : List Who). AreNewPasses legal start cell ws (c.loop-index.passes.items ++ c.deal-pass.result ∷ [])) (sym taken) passes),
       omega arith,
     )

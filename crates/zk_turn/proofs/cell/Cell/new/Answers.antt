@@ -20,6 +20,6 @@ new-requires g c =
     let long = ap (λ (l : List Who). length l) copied in
     let most = c.requires.few in
     let few : length ws ≤ 256 = omega arith in
-    let slots_are = c.put.ensures.items ∙ ap (λ l. l ++ Some c.args.service ∷ []) c.in_ok-slots.ensures.items in
+    let slots_are = c.push_within.ensures.items ∙ ap (λ l. l ++ Some c.args.service ∷ []) c.in_ok-slots.ensures.items in
     subst (λ l. Turn legal fits origin (length ws) (opening (0 ∷ 0 ∷ 0 ∷ []) l (opened origin ws))) (sym slots_are)
     (starts legal fits c.args.service origin ws few (IsLegal-nil machine origin) (record { history = c.requires.empty; start = ap g.S.Service.start (sym c.of.ensures) }))
