@@ -35,4 +35,4 @@ pub use source::Source;
 pub use standard::{StdSink, StdSource};
 pub use text::{put, put_decimal};
 pub use waits::{Decision, WaitList, Waiter};
-pub use within::push_within;
+pub use within::{make_room_for_one, push_within};

@@ -20,7 +20,7 @@ pub use checks::{first_object, has_many_events};
 pub use decls::{decl_args, decl_of};
 pub use events::{Event, Events, MOST_EVENTS};
 pub use kinds::{kind_of, name_of};
-pub use objects::{Objects, make_room, put};
+pub use objects::Objects;
 pub use print::{put_call, put_decl, put_said};
 pub use types::{Arg, Call, Decl, Ref};
 pub use weights::{Wrong, weigh};

@@ -6,7 +6,7 @@ use crate::names::Names;
 use crate::types::Decl;
 use std::alloc::Global;
 use std::marker::Model;
-use zk_base::{NoMemory, push_within};
+use zk_base::{NoMemory, make_room_for_one, push_within};
 use zk_words::Kind;
 
 /// The declarations, with a table for each question to them.
@@ -185,14 +185,14 @@ impl Objects {
         ensures ok { OnOk result (self.new ≡ self.old ++ decl ∷ []) }
         ensures unchanged { OnErr result (self.new ≡ self.old) }
     {
-        make_room(&mut self.decls)?;
-        make_room(&mut self.numbers)?;
-        make_room(&mut self.threads)?;
-        make_room(&mut self.queues)?;
-        make_room(&mut self.items)?;
-        make_room(&mut self.sems)?;
-        make_room(&mut self.msgqs)?;
-        make_room(&mut self.signals)?;
+        make_room_for_one(&mut self.decls)?;
+        make_room_for_one(&mut self.numbers)?;
+        make_room_for_one(&mut self.threads)?;
+        make_room_for_one(&mut self.queues)?;
+        make_room_for_one(&mut self.items)?;
+        make_room_for_one(&mut self.sems)?;
+        make_room_for_one(&mut self.msgqs)?;
+        make_room_for_one(&mut self.signals)?;
         let object = self.decls.len() as u32;
         self.names.insert(alloc, name_of(&decl), object)?;
         let number = enlist(
@@ -257,13 +257,4 @@ fn put_counted(list: &mut Vec<u32>, object: u32) -> u32
     let number = list.len() as u32;
     push_within(list, object);
     number
-}
-
-/// Room for one item more.
-pub fn make_room<T>(list: &mut Vec<T>) -> Result<(), NoMemory>
-    ensures room { OnOk result (vec_len list.new < vec_capacity list.new) }
-    ensures unchanged { list.new.items ≡ list.old.items }
-{
-    list.reserve(1)?;
-    Ok(())
 }

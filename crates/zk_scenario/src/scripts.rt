@@ -6,8 +6,8 @@ ghost use Rattle.zk_scenario.specs.Scripts.{script_of};
 use crate::Script;
 use std::alloc::Global;
 use std::marker::Model;
-use zk_base::NoMemory;
-use zk_line::{Call, make_room, put};
+use zk_base::{NoMemory, make_room_for_one, push_within};
+use zk_line::Call;
 
 /// The scripts in the written order, with the place of each object's script.
 #[derive(Drop)]
@@ -73,7 +73,7 @@ impl Scripts {
         ensures ok { OnOk result (self.new ≡ self.old ++ script ∷ []) }
         ensures unchanged { IfErr result (λ back. (back ≡ script) × (self.new ≡ self.old)) }
     {
-        let Ok(()) = make_room(&mut self.scripts) else {
+        let Ok(()) = make_room_for_one(&mut self.scripts) else {
             return Err(script);
         };
         let Ok(()) = widen(&mut self.by_owner, script.owner) else {
@@ -81,7 +81,7 @@ impl Scripts {
         };
         let place = self.scripts.len();
         self.by_owner[script.owner as usize] = Some(place);
-        put(&mut self.scripts, script);
+        push_within(&mut self.scripts, script);
         Ok(())
     }
 }
