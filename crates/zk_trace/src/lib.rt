@@ -1,5 +1,5 @@
 //! The trace of a run, and its text.
-#![tactic(auto, using(crate::proofs::Fronts::front_same, crate::proofs::Fronts::front_put, crate::proofs::Fronts::front_then))]
+#![tactic(auto)]
 
 mod clock;
 mod lined;
