@@ -18,6 +18,3 @@ front_then xs ys zs first further = record {
 -- where a text was put, what stood before it stays in front
 pub front_before : (xs ys put zs : List ℕ) → ys ≡ xs ++ put → StaysInFront ys zs → StaysInFront xs zs
 front_before xs ys put zs is further = front_then xs ys zs (front_put xs put ys is) further
-
--- what each function that appends to a text needs
-pub ruleset fronts = (front_same, front_put, front_then)

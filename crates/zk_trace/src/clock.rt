@@ -54,7 +54,6 @@ fn reply_parts(reply: ClockReply) -> PartList<'static>
 impl Spelled for ClockOp {
     ghost words = { op_words };
 
-    #[tactic(auto, using(crate::proofs::Fronts::fronts))]
     fn put_words(&self, out: &mut Vec<u8>, scenario: &Scenario) -> Result<(), NoMemory> {
         let (verb, parts) = said_of(*self);
         put_said(out, scenario, verb_word(verb), &parts)
@@ -64,7 +63,6 @@ impl Spelled for ClockOp {
 impl Spelled for ClockReply {
     ghost words = { reply_words };
 
-    #[tactic(auto, using(crate::proofs::Fronts::fronts))]
     fn put_words(&self, out: &mut Vec<u8>, scenario: &Scenario) -> Result<(), NoMemory> {
         put_parts(out, scenario, b' ', &reply_parts(*self))
     }

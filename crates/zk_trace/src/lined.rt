@@ -25,7 +25,6 @@ pub trait Lined {
 }
 
 /// Appends the lines of a section behind its head.
-#[tactic(auto, using(crate::proofs::Fronts::fronts))]
 pub fn put_lines<X: Lined>(
     out: &mut Vec<u8>,
     scenario: &Scenario,
@@ -43,7 +42,6 @@ pub fn put_lines<X: Lined>(
 impl<O: Spelled, R: Spelled> Lined for Entry<O, R> {
     ghost text = { entry_line O.words R.words };
 
-    #[tactic(auto, using(crate::proofs::Fronts::fronts))]
     fn put_line(&self, out: &mut Vec<u8>, scenario: &Scenario) -> Result<(), NoMemory> {
         put_spot(out, scenario, self.who.number, self.step)?;
         self.op.put_words(out, scenario)?;
@@ -54,7 +52,6 @@ impl<O: Spelled, R: Spelled> Lined for Entry<O, R> {
 }
 
 /// Whose step it is, and which.
-#[tactic(auto, using(crate::proofs::Fronts::fronts))]
 pub fn put_spot(
     out: &mut Vec<u8>,
     scenario: &Scenario,
@@ -72,7 +69,6 @@ pub fn put_spot(
 impl Lined for Answered {
     ghost text = { answer_line };
 
-    #[tactic(auto, using(crate::proofs::Fronts::fronts))]
     fn put_line(&self, out: &mut Vec<u8>, scenario: &Scenario) -> Result<(), NoMemory> {
         put_decimal(out, u64::from(self.step))?;
         out.push(b' ')?;

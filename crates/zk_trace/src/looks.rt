@@ -43,7 +43,6 @@ pub type SignalLooks = Listed<Listed<SignalLook>>;
 impl Lined for ItemLook {
     ghost text = { item_look_line };
 
-    #[tactic(auto, using(crate::proofs::Fronts::fronts))]
     fn put_line(&self, out: &mut Vec<u8>, scenario: &Scenario) -> Result<(), NoMemory> {
         put_look_head(out, scenario, self.player, self.step)?;
         put(out, b" busy ")?;
@@ -58,7 +57,6 @@ impl Lined for ItemLook {
 impl Lined for SignalLook {
     ghost text = { signal_look_line };
 
-    #[tactic(auto, using(crate::proofs::Fronts::fronts))]
     fn put_line(&self, out: &mut Vec<u8>, scenario: &Scenario) -> Result<(), NoMemory> {
         put_look_head(out, scenario, self.player, self.step)?;
         put(out, b" check = ")?;
@@ -69,7 +67,6 @@ impl Lined for SignalLook {
 }
 
 /// The word `look` and whose step it is.
-#[tactic(auto, using(crate::proofs::Fronts::fronts))]
 fn put_look_head(
     out: &mut Vec<u8>,
     scenario: &Scenario,
@@ -84,7 +81,6 @@ fn put_look_head(
 }
 
 /// What a signal was: raised or clear, and the result.
-#[tactic(auto, using(crate::proofs::Fronts::fronts))]
 pub fn put_seen(out: &mut Vec<u8>, raised: bool, value: u16) -> Result<(), NoMemory>
     ensures text { OnOk result (out.new.items ≡ out.old.items ++ seen_word raised value) }
     ensures kept { OnErr result (StaysInFront out.old.items out.new.items) }
@@ -94,7 +90,6 @@ pub fn put_seen(out: &mut Vec<u8>, raised: bool, value: u16) -> Result<(), NoMem
 }
 
 /// After how many entries or writes it was so.
-#[tactic(auto, using(crate::proofs::Fronts::fronts))]
 fn put_stamp(out: &mut Vec<u8>, stamp: u64) -> Result<(), NoMemory>
     ensures text { OnOk result (out.new.items ≡ out.old.items ++ stamp_word stamp) }
     ensures kept { OnErr result (StaysInFront out.old.items out.new.items) }

@@ -109,7 +109,6 @@ fn reply_parts(reply: &MsgqReply) -> PartList<'_>
 impl Spelled for MsgqOp {
     ghost words = { op_words };
 
-    #[tactic(auto, using(crate::proofs::Fronts::fronts))]
     fn put_words(&self, out: &mut Vec<u8>, scenario: &Scenario) -> Result<(), NoMemory> {
         let (verb, parts) = said_of(self);
         put_said(out, scenario, verb_word(verb), &parts)
@@ -119,7 +118,6 @@ impl Spelled for MsgqOp {
 impl Spelled for MsgqReply {
     ghost words = { reply_words };
 
-    #[tactic(auto, using(crate::proofs::Fronts::fronts))]
     fn put_words(&self, out: &mut Vec<u8>, scenario: &Scenario) -> Result<(), NoMemory> {
         put_parts(out, scenario, b' ', &reply_parts(self))
     }

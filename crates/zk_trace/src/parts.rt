@@ -219,7 +219,6 @@ impl<'a> PartList<'a> {
 }
 
 /// Appends a verb and what stands behind it, each behind a space.
-#[tactic(auto, using(crate::proofs::Fronts::fronts))]
 pub fn put_said(
     out: &mut Vec<u8>,
     scenario: &Scenario,
@@ -236,7 +235,6 @@ pub fn put_said(
 }
 
 /// Appends parts, each behind this separator.
-#[tactic(auto, using(crate::proofs::Fronts::fronts))]
 pub fn put_parts(
     out: &mut Vec<u8>,
     scenario: &Scenario,
@@ -253,7 +251,6 @@ pub fn put_parts(
 }
 
 /// Appends a part behind its separator, where there is one.
-#[tactic(auto, using(crate::proofs::Fronts::fronts))]
 fn put_any(
     out: &mut Vec<u8>,
     scenario: &Scenario,
@@ -271,7 +268,6 @@ fn put_any(
 }
 
 /// Appends a separator and then a part.
-#[tactic(auto, using(crate::proofs::Fronts::fronts))]
 pub fn put_part(
     out: &mut Vec<u8>,
     scenario: &Scenario,
@@ -285,7 +281,6 @@ pub fn put_part(
     put_word(out, scenario, part)
 }
 
-#[tactic(auto, using(crate::proofs::Fronts::fronts))]
 fn put_word(out: &mut Vec<u8>, scenario: &Scenario, part: &Part<'_>) -> Result<(), NoMemory>
     ensures text { OnOk result (out.new.items ≡ out.old.items ++ part_word scenario.now.decls part.now) }
     ensures kept { OnErr result (StaysInFront out.old.items out.new.items) }

@@ -23,7 +23,6 @@ pub fn put_trace(out: &mut Vec<u8>, scenario: &Scenario, trace: &Trace) -> Resul
     put
 }
 
-#[tactic(auto, using(crate::proofs::Fronts::fronts))]
 fn put_all(out: &mut Vec<u8>, scenario: &Scenario, trace: &Trace) -> Result<(), NoMemory>
     ensures text { OnOk result (out.new.items ≡ out.old.items ++ trace_text scenario.now trace.now) }
     ensures kept { OnErr result (StaysInFront out.old.items out.new.items) }
@@ -35,7 +34,6 @@ fn put_all(out: &mut Vec<u8>, scenario: &Scenario, trace: &Trace) -> Result<(), 
     put_players(out, scenario, trace.logs.items())
 }
 
-#[tactic(auto, using(crate::proofs::Fronts::fronts))]
 fn put_services(out: &mut Vec<u8>, scenario: &Scenario, trace: &Trace) -> Result<(), NoMemory>
     ensures text { OnOk result (out.new.items ≡ out.old.items ++ service_sections scenario.now trace.now) }
     ensures kept { OnErr result (StaysInFront out.old.items out.new.items) }

@@ -12,7 +12,6 @@ use zk_scenario::Scenario;
 use zk_worker::{Log, PlayerState};
 
 /// Appends the section of a service, where it did anything.
-#[tactic(auto, using(crate::proofs::Fronts::fronts))]
 pub fn put_service<O: Spelled, R: Spelled>(
     out: &mut Vec<u8>,
     scenario: &Scenario,
@@ -31,7 +30,6 @@ pub fn put_service<O: Spelled, R: Spelled>(
 }
 
 /// Appends the sections of the objects of a kind, each under the name of its object.
-#[tactic(auto, using(crate::proofs::Fronts::fronts))]
 pub fn put_objects<O: Spelled, R: Spelled>(
     out: &mut Vec<u8>,
     scenario: &Scenario,
@@ -47,7 +45,6 @@ pub fn put_objects<O: Spelled, R: Spelled>(
     Ok(())
 }
 
-#[tactic(auto, using(crate::proofs::Fronts::fronts))]
 fn put_object<O: Spelled, R: Spelled>(
     out: &mut Vec<u8>,
     scenario: &Scenario,
@@ -67,7 +64,6 @@ fn put_object<O: Spelled, R: Spelled>(
 }
 
 /// Appends the section of a service that is looked at, where it did anything or was looked at.
-#[tactic(auto, using(crate::proofs::Fronts::fronts))]
 pub fn put_looked<O: Spelled, R: Spelled, L: Lined>(
     out: &mut Vec<u8>,
     scenario: &Scenario,
@@ -88,7 +84,6 @@ pub fn put_looked<O: Spelled, R: Spelled, L: Lined>(
 }
 
 /// Appends the sections of the objects of a kind that is looked at, each under the name of its object.
-#[tactic(auto, using(crate::proofs::Fronts::fronts))]
 pub fn put_looked_objects<O: Spelled, R: Spelled, L: Lined>(
     out: &mut Vec<u8>,
     scenario: &Scenario,
@@ -105,7 +100,6 @@ pub fn put_looked_objects<O: Spelled, R: Spelled, L: Lined>(
     Ok(())
 }
 
-#[tactic(auto, using(crate::proofs::Fronts::fronts))]
 fn put_looked_object<O: Spelled, R: Spelled, L: Lined>(
     out: &mut Vec<u8>,
     scenario: &Scenario,
@@ -136,7 +130,6 @@ fn looks_at<L>(looks: &[Listed<L>], object: usize) -> &[L]
     }
 }
 
-#[tactic(auto, using(crate::proofs::Fronts::fronts))]
 fn put_service_head(out: &mut Vec<u8>, name: &[u8]) -> Result<(), NoMemory>
     ensures text { OnOk result (out.new.items ≡ out.old.items ++ section_head name.now) }
     ensures kept { OnErr result (StaysInFront out.old.items out.new.items) }
@@ -147,7 +140,6 @@ fn put_service_head(out: &mut Vec<u8>, name: &[u8]) -> Result<(), NoMemory>
 }
 
 /// Appends the sections of all players.
-#[tactic(auto, using(crate::proofs::Fronts::fronts))]
 pub fn put_players(out: &mut Vec<u8>, scenario: &Scenario, logs: &[Log]) -> Result<(), NoMemory>
     ensures text { OnOk result (out.new.items ≡ out.old.items ++ player_sections scenario.now.decls 0 logs.now) }
     ensures kept { OnErr result (StaysInFront out.old.items out.new.items) }
@@ -158,7 +150,6 @@ pub fn put_players(out: &mut Vec<u8>, scenario: &Scenario, logs: &[Log]) -> Resu
     Ok(())
 }
 
-#[tactic(auto, using(crate::proofs::Fronts::fronts))]
 fn put_player(
     out: &mut Vec<u8>,
     scenario: &Scenario,
@@ -172,7 +163,6 @@ fn put_player(
     put_lines(out, scenario, log.answers.items())
 }
 
-#[tactic(auto, using(crate::proofs::Fronts::fronts))]
 fn put_player_head(out: &mut Vec<u8>, name: &[u8], state: PlayerState) -> Result<(), NoMemory>
     ensures text { OnOk result (out.new.items ≡ out.old.items ++ player_head name.now state) }
     ensures kept { OnErr result (StaysInFront out.old.items out.new.items) }

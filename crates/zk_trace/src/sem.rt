@@ -86,7 +86,6 @@ fn reply_parts(reply: SemReply) -> PartList<'static>
 impl Spelled for SemOp {
     ghost words = { op_words };
 
-    #[tactic(auto, using(crate::proofs::Fronts::fronts))]
     fn put_words(&self, out: &mut Vec<u8>, scenario: &Scenario) -> Result<(), NoMemory> {
         let (verb, parts) = said_of(*self);
         put_said(out, scenario, verb_word(verb), &parts)
@@ -96,7 +95,6 @@ impl Spelled for SemOp {
 impl Spelled for SemReply {
     ghost words = { reply_words };
 
-    #[tactic(auto, using(crate::proofs::Fronts::fronts))]
     fn put_words(&self, out: &mut Vec<u8>, scenario: &Scenario) -> Result<(), NoMemory> {
         put_parts(out, scenario, b' ', &reply_parts(*self))
     }

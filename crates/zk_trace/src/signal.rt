@@ -48,7 +48,6 @@ fn reply_parts(reply: SignalReply) -> PartList<'static>
 impl Spelled for SignalOp {
     ghost words = { op_words };
 
-    #[tactic(auto, using(crate::proofs::Fronts::fronts))]
     fn put_words(&self, out: &mut Vec<u8>, scenario: &Scenario) -> Result<(), NoMemory> {
         let (verb, parts) = said_of(*self);
         put_said(out, scenario, verb_word(verb), &parts)
@@ -58,7 +57,6 @@ impl Spelled for SignalOp {
 impl Spelled for SignalReply {
     ghost words = { reply_words };
 
-    #[tactic(auto, using(crate::proofs::Fronts::fronts))]
     fn put_words(&self, out: &mut Vec<u8>, scenario: &Scenario) -> Result<(), NoMemory> {
         put_parts(out, scenario, b' ', &reply_parts(*self))
     }

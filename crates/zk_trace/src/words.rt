@@ -36,7 +36,6 @@ pub fn errno_word(errno: Errno) -> &'static [u8]
 }
 
 /// Appends the number of an admission.
-#[tactic(auto, using(crate::proofs::Fronts::fronts))]
 pub fn put_admission(out: &mut Vec<u8>, number: u64) -> Result<(), NoMemory>
     ensures text { OnOk result (out.new.items ≡ out.old.items ++ admission_word number) }
     ensures kept { OnErr result (StaysInFront out.old.items out.new.items) }
@@ -46,7 +45,6 @@ pub fn put_admission(out: &mut Vec<u8>, number: u64) -> Result<(), NoMemory>
 }
 
 /// Appends the letters of the busy flags, or a dash.
-#[tactic(auto, using(crate::proofs::Fronts::fronts))]
 pub fn put_flags(out: &mut Vec<u8>, flags: u8) -> Result<(), NoMemory>
     ensures text { OnOk result (out.new.items ≡ out.old.items ++ flags_word flags) }
     ensures kept { OnErr result (StaysInFront out.old.items out.new.items) }
@@ -57,7 +55,6 @@ pub fn put_flags(out: &mut Vec<u8>, flags: u8) -> Result<(), NoMemory>
     put_letters(out, flags)
 }
 
-#[tactic(auto, using(crate::proofs::Fronts::fronts))]
 fn put_letters(out: &mut Vec<u8>, flags: u8) -> Result<(), NoMemory>
     ensures text { OnOk result (out.new.items ≡ out.old.items ++ flag_letters flags) }
     ensures kept { OnErr result (StaysInFront out.old.items out.new.items) }
@@ -69,7 +66,6 @@ fn put_letters(out: &mut Vec<u8>, flags: u8) -> Result<(), NoMemory>
     put_letter(out, flags, 16, b'f')
 }
 
-#[tactic(auto, using(crate::proofs::Fronts::fronts))]
 fn put_letter(out: &mut Vec<u8>, flags: u8, flag: u8, letter: u8) -> Result<(), NoMemory>
     ensures text { OnOk result (out.new.items ≡ out.old.items ++ flag_letter flags flag letter) }
     ensures kept { OnErr result (StaysInFront out.old.items out.new.items) }
@@ -95,7 +91,6 @@ pub fn wait_word(waits: bool) -> &'static [u8]
 }
 
 /// Appends bytes in lower-case hexadecimal digits, two for each.
-#[tactic(auto, using(crate::proofs::Fronts::fronts))]
 pub fn put_hex(out: &mut Vec<u8>, bytes: &[u8]) -> Result<(), NoMemory>
     ensures text { OnOk result (out.new.items ≡ out.old.items ++ hex_text bytes.now) }
     ensures kept { OnErr result (StaysInFront out.old.items out.new.items) }
@@ -107,7 +102,6 @@ pub fn put_hex(out: &mut Vec<u8>, bytes: &[u8]) -> Result<(), NoMemory>
 }
 
 /// Appends the word `ready` and positions, each behind a space.
-#[tactic(auto, using(crate::proofs::Fronts::fronts))]
 pub fn put_ready(out: &mut Vec<u8>, positions: &[u8]) -> Result<(), NoMemory>
     ensures text { OnOk result (out.new.items ≡ out.old.items ++ ready_word positions.now) }
     ensures kept { OnErr result (StaysInFront out.old.items out.new.items) }
@@ -116,7 +110,6 @@ pub fn put_ready(out: &mut Vec<u8>, positions: &[u8]) -> Result<(), NoMemory>
     put_positions(out, positions)
 }
 
-#[tactic(auto, using(crate::proofs::Fronts::fronts))]
 fn put_positions(out: &mut Vec<u8>, positions: &[u8]) -> Result<(), NoMemory>
     ensures text { OnOk result (out.new.items ≡ out.old.items ++ positions_text positions.now) }
     ensures kept { OnErr result (StaysInFront out.old.items out.new.items) }
@@ -127,7 +120,6 @@ fn put_positions(out: &mut Vec<u8>, positions: &[u8]) -> Result<(), NoMemory>
     Ok(())
 }
 
-#[tactic(auto, using(crate::proofs::Fronts::fronts))]
 fn put_position(out: &mut Vec<u8>, position: u8) -> Result<(), NoMemory>
     ensures text { OnOk result (out.new.items ≡ out.old.items ++ position_text position) }
     ensures kept { OnErr result (StaysInFront out.old.items out.new.items) }

@@ -166,7 +166,6 @@ fn expiries_of(reply: &WorkReply) -> &[Expiry]
 impl Spelled for WorkOp {
     ghost words = { op_words };
 
-    #[tactic(auto, using(crate::proofs::Fronts::fronts))]
     fn put_words(&self, out: &mut Vec<u8>, scenario: &Scenario) -> Result<(), NoMemory> {
         let (verb, parts) = said_of(*self);
         put_said(out, scenario, verb_word(verb), &parts)
@@ -176,14 +175,12 @@ impl Spelled for WorkOp {
 impl Spelled for WorkReply {
     ghost words = { reply_words };
 
-    #[tactic(auto, using(crate::proofs::Fronts::fronts))]
     fn put_words(&self, out: &mut Vec<u8>, scenario: &Scenario) -> Result<(), NoMemory> {
         put_parts(out, scenario, b' ', &reply_parts(self))?;
         put_expiries(out, scenario, expiries_of(self))
     }
 }
 
-#[tactic(auto, using(crate::proofs::Fronts::fronts))]
 fn put_expiries(out: &mut Vec<u8>, scenario: &Scenario, expiries: &[Expiry]) -> Result<(), NoMemory>
     ensures text { OnOk result (out.new.items ≡
         out.old.items ++ each_behind 32 (map (expiry_word scenario.now.decls) expiries.now)) }
@@ -195,7 +192,6 @@ fn put_expiries(out: &mut Vec<u8>, scenario: &Scenario, expiries: &[Expiry]) -> 
     Ok(())
 }
 
-#[tactic(auto, using(crate::proofs::Fronts::fronts))]
 fn put_expiry(out: &mut Vec<u8>, scenario: &Scenario, expiry: Expiry) -> Result<(), NoMemory>
     ensures text { OnOk result (out.new.items ≡ out.old.items ++ 32 ∷ expiry_word scenario.now.decls expiry) }
     ensures kept { OnErr result (StaysInFront out.old.items out.new.items) }
