@@ -180,37 +180,37 @@ impl Services for Plain {
         number: u32,
         step: &Step,
     ) -> Result<Option<StepReply>, NoMemory> {
-        match *step {
+        match step {
             Step::Work(op) => {
                 let place = self.work.history().len() as u64;
-                let reply = self.work.act(who, number, op)?;
+                let reply = self.work.act(who, number, *op)?;
                 Ok(reply.map(|reply| StepReply::Work(reply, place)))
             }
             Step::Clock(op) => {
                 let place = self.clock.history().len() as u64;
-                let reply = self.clock.act(who, number, op)?;
+                let reply = self.clock.act(who, number, *op)?;
                 Ok(reply.map(|reply| StepReply::Clock(reply, place)))
             }
             Step::Sem(object, op) => {
-                match act_at(&mut self.sems, object, who, number, op)? {
-                    Some((reply, place)) => Ok(Some(StepReply::Sem(object, reply, place))),
+                match act_at(&mut self.sems, *object, who, number, *op)? {
+                    Some((reply, place)) => Ok(Some(StepReply::Sem(*object, reply, place))),
                     None => Ok(None),
                 }
             }
             Step::Msgq(object, op) => {
-                match act_at(&mut self.msgqs, object, who, number, op)? {
-                    Some((reply, place)) => Ok(Some(StepReply::Msgq(object, reply, place))),
+                match act_at(&mut self.msgqs, *object, who, number, *op)? {
+                    Some((reply, place)) => Ok(Some(StepReply::Msgq(*object, reply, place))),
                     None => Ok(None),
                 }
             }
             Step::Signal(object, op) => {
-                match act_at(&mut self.signals, object, who, number, op)? {
-                    Some((reply, place)) => Ok(Some(StepReply::Signal(object, reply, place))),
+                match act_at(&mut self.signals, *object, who, number, *op)? {
+                    Some((reply, place)) => Ok(Some(StepReply::Signal(*object, reply, place))),
                     None => Ok(None),
                 }
             }
-            Step::LookItem(object) => Ok(Some(self.look_at_item(object))),
-            Step::LookSignal(object, must) => Ok(self.look_at_signal(object, must)),
+            Step::LookItem(object) => Ok(Some(self.look_at_item(*object))),
+            Step::LookSignal(object, must) => Ok(self.look_at_signal(*object, *must)),
         }
     }
 }

@@ -124,7 +124,7 @@ fn first_sems(alloc: Global, decls: &[Decl]) -> Result<Vec<Option<Sem>>, NoMemor
     ensures starts { IfOk result (λ sems. starts_of sem_start sems.items ≡ map machines.sem_start decls.now) }
     ensures none { IfOk result (λ sems. histories_of sem_history sems.items ≡ no_entries decls.now) }
 {
-    let mut sems = Vec::new(alloc);
+    let mut sems = Vec::with_capacity(alloc, decls.len())?;
     let mut decls = decls;
     while let [decl, rest @ ..] = decls {
         sems.push(first_sem(alloc, decl))?;
@@ -155,7 +155,7 @@ fn first_msgqs(alloc: Global, decls: &[Decl]) -> Result<Vec<Option<Msgq>>, NoMem
     ensures starts { IfOk result (λ msgqs. starts_of msgq_start msgqs.items ≡ map machines.msgq_start decls.now) }
     ensures none { IfOk result (λ msgqs. histories_of msgq_history msgqs.items ≡ no_entries decls.now) }
 {
-    let mut msgqs = Vec::new(alloc);
+    let mut msgqs = Vec::with_capacity(alloc, decls.len())?;
     let mut decls = decls;
     while let [decl, rest @ ..] = decls {
         msgqs.push(first_msgq(alloc, decl)?)?;
@@ -180,7 +180,7 @@ fn first_signals(alloc: Global, decls: &[Decl]) -> Result<Vec<Option<Signal>>, N
     ensures starts { IfOk result (λ signals. starts_of signal_start signals.items ≡ map machines.signal_start decls.now) }
     ensures none { IfOk result (λ signals. histories_of signal_history signals.items ≡ no_entries decls.now) }
 {
-    let mut signals = Vec::new(alloc);
+    let mut signals = Vec::with_capacity(alloc, decls.len())?;
     let mut decls = decls;
     while let [decl, rest @ ..] = decls {
         signals.push(first_signal(alloc, decl))?;

@@ -1,9 +1,10 @@
 -- What is at the places of a list that grows, or in which one place is written.
-use Rattle.std.proofs.Common.{◌≡◌, ◌≢◌, ◌⊎◌, ℕ, zero, suc, ◌+◌, ◌<◌, ◌||◌, Bool, true, false, Some, List, [], ◌∷◌, ◌++◌, length, map, set, inl, inr, refl, sym, ap, subst, ◌∙◌, arith}
+use Rattle.std.proofs.Common.{◌≡◌, ◌≢◌, ◌⊎◌, ℕ, zero, suc, ◌+◌, ◌<◌, ◌||◌, Bool, true, false, Some, List, [], ◌∷◌, ◌++◌, length, map, set, take, reverse, get_or, inl, inr, refl, sym, ap, subst, ◌∙◌, arith}
 use Rattle.std.specs.List.{slice_get, list_any, sum_by, AllZip}
 use Rattle.std.specs.Option.{option_map}
 use Rattle.std.proofs.lemmas.Bool.{or_parts}
 use Rattle.std.proofs.lemmas.Option.{slice_get_within, get_or_from_slice_get}
+use Rattle.std.proofs.lemmas.List.{take_all, take_more, take_more_set, length-set, reverse-append}
 use Rattle.std.proofs.lemmas.List.Sums.{sum_by-set}
 
 or-false : (a b : Bool) → a ≡ false → (a || b) ≡ b
@@ -14,6 +15,17 @@ or-none true b is = refl
 or-none false b is = is
 
 module _ {A : Type 0} where
+  -- a list from its end, before and after its last element is written
+  pub last-written : (xs : List A) (i : ℕ) (x y : A) → length xs ≡ i + 1 → x ≡ get_or xs i x →
+      (below : List A) × (reverse xs ≡ x ∷ below) × (reverse (set xs i y) ≡ y ∷ below)
+  last-written xs i x y long is =
+      let front = take i xs in
+      let before : xs ≡ front ++ x ∷ [] = sym (take_all (i + 1) xs (omega arith)) ∙ take_more xs i x (omega arith)
+      ∙ ap (λ (a : A). front ++ a ∷ []) (sym is) in
+      let after : set xs i y ≡ front ++ y ∷ [] = sym (take_all (i + 1) (set xs i y) (omega (arith, length-set xs i y)))
+      ∙ take_more_set xs i y (omega arith) in
+      (reverse front, ap reverse before ∙ reverse-append front (x ∷ []), ap reverse after ∙ reverse-append front (y ∷ []))
+
   -- what is at a place of a list with one element more
   pub at-end : (xs : List A) (y x : A) (p : ℕ) → slice_get (xs ++ y ∷ []) p ≡ Some x → (slice_get xs p ≡ Some x) ⊎ ((p ≡ length xs) × (y ≡ x))
   at-end [] y x zero is = inr (refl, cc)

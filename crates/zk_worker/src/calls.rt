@@ -79,6 +79,8 @@ fn at_signal(signal: Ref, op: SignalOp) -> Plan
 }
 
 /// How a call goes.
+// In line, so that nothing is made of a plan that its caller doesn't ask for.
+#[inline(always)]
 pub fn plan_of(scenario: &Scenario, call: &Call) -> Plan
     ensures { result ≡ plan_of scenario.now.decls call.now }
 {

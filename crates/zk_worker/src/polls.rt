@@ -243,6 +243,8 @@ fn start_ahead(timeout: Timeout, events: &[Event], index: u32) -> Option<Step>
 
 /// The attempt of this index among the next attempts of a poll.
 #[tactic(auto, using(crate::proofs::PollSteps::few_events))]
+// Out of line, since its locals are large, and few calls poll.
+#[inline(never)]
 pub fn poll_ahead(timeout: Timeout, events: &Events, stage: &Stage, index: u32) -> Option<Step>
     ensures { result ≡ slice_get (poll_attempts timeout events.now stage.now) index }
 {
@@ -413,6 +415,8 @@ fn polled(
 
 /// What the reply to a step does to a poll.
 #[tactic(auto, using(crate::proofs::PollSteps::few_events))]
+// Out of line, as above.
+#[inline(never)]
 pub fn poll_progress(
     word: Word,
     timeout: Timeout,

@@ -117,37 +117,18 @@ pub fn move_frames(scenario: &Scenario, stack: &mut Vec<Frame>, progress: &Progr
     ensures frames { reverse stack.new.items ≡ frames_after scenario.now (reverse stack.old.items) progress.now }
     ensures capacity { vec_capacity stack.old ≤ vec_capacity stack.new }
 {
-    let Some(frame) = pop_frame(stack) else {
+    let Some(frame) = stack.last_mut() else {
         return;
     };
     match progress {
-        Progress::Goes(stage) => put_frame(
-            stack,
-            Frame {
-                stage: *stage,
-                ..frame
-            },
-        ),
+        Progress::Goes(stage) => frame.stage = *stage,
         Progress::Answers(_, _) => {
-            let next = frame.next + 1;
-            put_frame(
-                stack,
-                Frame {
-                    next,
-                    stage: Stage::Start,
-                    ..frame
-                },
-            );
+            frame.next += 1;
+            frame.stage = Stage::Start;
             settle(scenario, stack);
         }
         Progress::Enters(owner, stage) => {
-            put_frame(
-                stack,
-                Frame {
-                    stage: *stage,
-                    ..frame
-                },
-            );
+            frame.stage = *stage;
             enter(stack, *owner);
             settle(scenario, stack);
         }
