@@ -7,6 +7,7 @@ pub mod Looks
 pub mod Machines
 pub mod Places
 pub mod Playing
+pub mod PollLaws
 pub mod Polls
 pub mod Positions
 pub mod Protocol
