@@ -27,7 +27,7 @@ use Rattle.zk_worker.specs.Polls.{waits, is_armed, is_ready, is_to_ask, unasked_
 use Rattle.zk_worker.specs.PollLaws.{Made, may_reply, is_ask, is_wait, is_quit, is_alarm_end, events_from, asks, is_over, IsRegistered, IsFor, IsDue}
 use Rattle.zk_worker.proofs.PollMarks.{AsksNext, asks_first, none_to_ask, asked-at, to_ask-kept, none_ready-at, WatchOf, watching-each, Watched, watched, position-look, watched-clock}
 use Rattle.zk_worker.proofs.PollReplies.{Marks, ask-marks, ask-is, Drops, drop-drops, watch-marks, watch-is, ask-for, ended-for, ask-only, arm-asks, ask-registers}
-use Rattle.zk_worker.proofs.PollPlays.{Apart, Asked, asked-more, asked-same, asked-next, Kept, kept-marked, kept-clock, zip-length, Named}
+use Rattle.zk_worker.proofs.PollPlays.{Apart, Asked, asked-more, asked-same, asked-next, Kept, kept-marked, kept-clock, zip-length, Named, any-front}
 use Rattle.zk_worker.proofs.PollSteps.{all_taken}
 
 -- what a poll keeps with one step more
@@ -97,7 +97,7 @@ ask-kept timeout events play alarm marks made index k kept apart later may found
     let for : IsFor events play made.0 k = ask-for events play made.0 made.1 k is_one (asked-next events play marks k kept.asked next) in
     subst (λ (o : Option ℕ). KeptFor timeout events play alarm marks made o) (sym found)
     (kept-marked timeout events play alarm marks made k next.event Unasked kept apart next.there next.marked refl says for
-    (asked-more events play marks k made (mark_of made.1) kept.asked next is_one says.named says.asked) later (record {
+    (asked-more events play marks k made (mark_of made.1) kept.asked next is_one says.named says.asked) later may (record {
       arms = λ arm. ask-registers registering next.event made.0 made.1 asked arm ∙ ap (λ (b : Bool). waits timeout && not b) (sym kept.tells);
       asked = λ no_ask sets. absurd (both_ways (is_ask made) no_ask is_one);
       waiting = λ wait. absurd (both_ways (is_wait made) (ask-only made.0 made.1 is_one).0 wait);
@@ -118,7 +118,7 @@ drop-kept timeout events play alarm marks made index (Some k) kept apart later m
     kept-marked timeout events play alarm marks made k at.event at.mark kept apart at.there at.marked drops.unready drops.marks
     (ended-for events play made.0 made.1 drops.spot k drops.at by)
     (asked-same events play marks (set marks k (mark_of made.1)) made kept.asked drops.no_ask
-    (to_ask-kept 0 events marks k at.event at.mark (mark_of made.1) at.there at.marked closed drops.marks.asked)) later (record {
+    (to_ask-kept 0 events marks k at.event at.mark (mark_of made.1) at.there at.marked closed drops.marks.asked)) later may (record {
       arms = λ arm. absurd (both_ways (is_ask made) drops.no_ask (arm-asks made.0 made.1 arm));
       asked = λ no_ask sets. all-asked events play marks kept.asked none;
       waiting = λ wait. absurd (both_ways (is_wait made) drops.no_wait wait);
@@ -153,7 +153,7 @@ watch-kept timeout events play alarm marks made kept apart later may none unread
     subst (λ (o : Option ℕ). KeptFor timeout events play alarm marks made o) (sym found)
     (kept-marked timeout events play alarm marks made at.i at.event at.mark kept apart at.there at.marked (none_ready-at marks at.i at.mark unready at.marked) says for
     (asked-same events play marks (set marks at.i (mark_of made.1)) made kept.asked known.1
-    (to_ask-kept 0 events marks at.i at.event at.mark (mark_of made.1) at.there at.marked closed says.asked)) later (record {
+    (to_ask-kept 0 events marks at.i at.event at.mark (mark_of made.1) at.there at.marked closed says.asked)) later may (record {
       arms = λ arm. absurd (both_ways (is_ask made) known.1 (arm-asks made.0 made.1 arm));
       asked = λ no_ask sets. all-asked events play marks kept.asked none;
       waiting = λ wait. over;
@@ -214,7 +214,8 @@ alarm-kept timeout events play alarm marks made kept later may none over of =
       sets = λ ticks is. absurd (cc);
       ends = λ moment is. subst (λ (m : ℕ). IsDue play m) (ap moment_of is) due;
     })
-    (λ moment is. absurd (ended-due (alarm_after alarm made.1) moment after is))))
+    (λ moment is. absurd (ended-due (alarm_after alarm made.1) moment after is))
+    (λ moment set unended. absurd (both_ways true (any-front is_alarm_end play (steps.Clock op, made.1) unended).1 refl))))
     may
 
 -- what a poll that waits attempts

@@ -1,15 +1,17 @@
 -- The laws of a poll, of each of its plays.
-use Rattle.std.proofs.Common.{◌≡◌, ℕ, zero, suc, ◌+◌, ◌<◌, ◌≤◌, Bool, true, false, not, ◌&&◌, ◌||◌, cond, Some, None, List, [], ◌∷◌, ◌++◌, length, replicate, slice_get, count_by, refl, sym, ap, subst, ◌∙◌, ◌⊎◌, inl, inr, ⊎_elim, append-nil, append_assoc, arith}
+use Rattle.std.proofs.Common.{◌≡◌, ℕ, zero, suc, ◌+◌, ◌<◌, ◌≤◌, Bool, true, false, not, ◌&&◌, ◌||◌, cond, is_some, Option, Some, None, List, [], ◌∷◌, ◌++◌, length, replicate, take, get_or, option_to_list, slice_get, count_by, refl, sym, ap, subst, ◌∙◌, ◌⊎◌, inl, inr, ⊎_elim, append-nil, append_assoc, arith}
+use Rattle.std.specs.Option.{option_and_then}
 use Rattle.std.specs.List.{AllZip, Contains, list_any}
-use Rattle.std.proofs.lemmas.Bool.{and_parts, and_from, not-true, not_from_false, both_ways, cond-true, cond-false}
-use Rattle.std.proofs.lemmas.List.{length-append, nil_from_length}
+use Rattle.std.proofs.lemmas.Bool.{and_parts, and_from, not-true, not_from_false, not-false, both_ways, or_parts, cond-true, cond-false}
+use Rattle.std.proofs.lemmas.List.{length-append, length_push, nil_from_length}
 use Rattle.std.proofs.lemmas.List.Elements.{All-head}
-use Rattle.std.proofs.lemmas.Option.{same_Some}
+use Rattle.std.proofs.lemmas.Option.{same_Some, slice_get_within, slice_get-get_or, some_pair_parts}
 use Rattle.zk_base.proofs.Lists.{All-front, All-back, slice_get-one}
 use Rattle.zk_base.specs.declared.errors.Errno.TheVariants.{Again}
 use Rattle.zk_line.specs.declared.events.Event.{Event}
+use Rattle.zk_line.specs.declared.events.Event.TheVariants.{Sig}
 use Rattle.zk_line.specs.declared.events.TheConstants.{MOST_EVENTS}
-use Rattle.zk_line.proofs.Lists.{count_by-cons}
+use Rattle.zk_line.proofs.Lists.{count_by-cons, slice_get-append_left}
 use Rattle.zk_model_wait.specs.declared.clock.ClockOp.TheVariants as clock_ops
 use Rattle.zk_model_wait.specs.declared.clock.ClockReply.TheVariants as clock_replies
 use Rattle.zk_words.specs.declared.timeout.Timeout.{Timeout}
@@ -30,10 +32,13 @@ use Rattle.zk_worker.specs.declared.steps.Step.{Step}
 use Rattle.zk_worker.specs.declared.steps.Step.TheVariants as steps
 use Rattle.zk_worker.specs.declared.steps.StepReply.{StepReply}
 use Rattle.zk_worker.specs.declared.steps.StepReply.TheVariants as step_replies
-use Rattle.zk_worker.specs.Polls.{waits, fresh, is_armed, is_ready, asks_more, is_closing, polling, mark_of, event_of, marked, alarm_after, ready_from, poll_answer, is_answered, poll_goes, polled, poll_progress}
-use Rattle.zk_worker.specs.PollLaws.{Made, Leads, LeadsOn, StandsAt, AreServed, may_reply, events_from, asks, AreRising, NamesWhatIsTold, AnswersWhatIsTold, IsDone, KeepsPollLaws, OfEachPoll, GoesOnUntilDone}
-use Rattle.zk_worker.proofs.PollMarks.{to_ask, none_to_ask, no_unasked, to_ask-fresh, spot_for, spot_for-unasked, standing, standing-fresh, standing-none, known-fresh, known-none}
-use Rattle.zk_worker.proofs.PollPlays.{Apart, apart-front, Kept, kept-clock, zip-length, Named}
+use Rattle.zk_worker.specs.Polls.{waits, fresh, is_armed, is_ready, asks_more, unasked_from, ask_step, drop_step, step_at, asking, dropping, watching, alarm_steps, registers, poll_attempts, is_closing, polling, mark_of, event_of, marked, alarm_after, ready_from, poll_answer, is_answered, poll_goes, polled, poll_progress}
+use Rattle.zk_worker.specs.PollLaws.{Made, Leads, LeadsOn, StandsAt, AreServed, may_reply, events_from, asks, AreRising, NamesWhatIsTold, AnswersWhatIsTold, IsDone, KeepsPollLaws, OfEachPoll, OfEachStage, GoesOn, WaitsForAll, AsksFor, is_over, is_quit, is_alarm_end, tells_ready}
+use Rattle.zk_worker.specs.Refs.{ref_object}
+use Rattle.zk_worker.proofs.PollSteps.{all_taken}
+use Rattle.zk_worker.proofs.PollReplies.{asks-for, stands-attempts}
+use Rattle.zk_worker.proofs.PollMarks.{AsksNext, asks_first, known-at, first_armed, watching-has, to_ask, none_to_ask, no_unasked, to_ask-fresh, spot_for, spot_for-unasked, standing, standing-fresh, standing-none, known-fresh, known-none}
+use Rattle.zk_worker.proofs.PollPlays.{Apart, apart-front, Kept, kept-clock, zip-length, Named, slice_get-here, stands-cases}
 use Rattle.zk_worker.proofs.PollAnswers.{Later, over-is, all-asked, polling-kept}
 
 -- no step stands in an empty play
@@ -65,6 +70,8 @@ kept-fresh timeout events few = record {
   timed = λ before made stands. absurd (nil-stands before made stands);
   alarmed = λ before made stands. absurd (nil-stands before made stands);
   due = λ moment is. absurd (cc);
+  set_due = λ moment set unended. absurd (nil-stands [] (steps.Clock (clock_ops.Alarm set.ticks), step_replies.Clock (clock_replies.At moment) set.place) set.stands);
+  stands = λ unended k spot registered. absurd (nil-stands registered.before registered.ask registered.stands);
 }
 
 -- what comes of a step of a poll: what it keeps, and whether that is its answer
@@ -92,6 +99,10 @@ abbrev alarm_of : Step → ℕ
 alarm_of (steps.Clock (clock_ops.Alarm ticks)) = ticks
 alarm_of step = 0
 
+abbrev moment_in : StepReply → ℕ
+moment_in (step_replies.Clock (clock_replies.At moment) place) = moment
+moment_in reply = 0
+
 abbrev due_of : Alarm → ℕ
 due_of (Due moment) = moment
 due_of alarm = 0
@@ -116,7 +127,14 @@ ticks-next word ticks events made progress few may is comes = by made.0 made.1 i
           ticks = ticks;
           place = place;
           stands = record { rest = []; whole = ap (λ (a : Alarm). (steps.Clock (clock_ops.Alarm ticks), step_replies.Clock (clock_replies.At (due_of a)) place) ∷ []) is };
-        });
+        })
+        (λ n set unended.
+        let made : Made = (steps.Clock (clock_ops.Alarm ticks), step_replies.Clock (clock_replies.At moment) place) in
+        let first : Made = (steps.Clock (clock_ops.Alarm set.ticks), step_replies.Clock (clock_replies.At n) set.place) in
+        ⊎_elim
+        (λ (at : StandsAt [] [] first). absurd (nil-stands [] first at))
+        (λ (last : ([] ≡ []) × (first ≡ made)). ap (λ (x : Made). Due (moment_in x.1)) (sym last.1))
+        (stands-cases [] made [] first set.stands.rest set.stands.whole));
     comes = ap (λ (b : Bool). cond b (Answers word (poll_answer fresh)) (Goes (Polls (Due moment) fresh)))
         (and-false (not (asks_more events fresh)) (not (list_any is_armed fresh))) ∙ comes;
   }
@@ -353,10 +371,145 @@ done-answered timeout events play alarm marks kept done =
     and_from (not (asks_more events marks)) ((is_closing alarm marks || not (waits timeout)) && not (list_any is_armed marks)) (not_from_false (asks_more events marks) asked)
     (and_from (is_closing alarm marks || not (waits timeout)) (not (list_any is_armed marks)) over (not_from_false (list_any is_armed marks) armed))
 
-pub goes_on_until_done : GoesOnUntilDone
-goes_on_until_done word timeout events few front made stage led served done =
-    by stage (led-kept word timeout events [] Start (front ++ made ∷ []) stage few refl led served) where
-      by : (stage : Stage) → KeptAt timeout events (front ++ made ∷ []) stage → ⊥
-      by Start none = push-some front made none
-      by (Polls alarm marks) kept = both_ways (is_answered timeout events alarm marks) kept.1 (done-answered timeout events (front ++ made ∷ []) alarm marks kept.0 done)
-      by stage kept = kept
+push-one : {X : Type 0} (xs : List X) (y : X) → slice_get (xs ++ y ∷ []) (length xs) ≡ Some y
+push-one [] y = refl
+push-one (x ∷ xs) y = push-one xs y
+
+-- nothing is left to ask where as many were asked as there are
+asked-all : (timeout : Timeout) (events : List Event) (play : List Made) (alarm : Alarm) (marks : List Mark) → Kept timeout events play alarm marks →
+    length (asks play) ≡ length (events_from 0 events) → asks_more events marks ≡ false
+asked-all timeout events play alarm marks kept all =
+    let many = zip-length Named kept.asked.done (asks play) kept.asked.each in
+    let whole = ap (λ (xs : List (ℕ × Event)). length xs) kept.asked.whole ∙ length-append kept.asked.done (to_ask 0 events marks) in
+    let none : length (to_ask 0 events marks) ≡ 0 = omega (arith, many, whole, all) in
+    no_unasked 0 events marks (nil_from_length (to_ask 0 events marks) none)
+
+-- a poll that asks attempts the ask of the next event
+asks-attempts : (timeout : Timeout) (events : List Event) (play : List Made) (alarm : Alarm) (marks : List Mark) (k : ℕ) (event : Event) → Kept timeout events play alarm marks →
+    slice_get (events_from 0 events) (length (asks play)) ≡ Some (k, event) → (step : Step) × (polling timeout events alarm marks ≡ step ∷ []) × AsksFor event step
+asks-attempts timeout events play alarm marks k event kept next = by (unasked_from 0 events marks) refl where
+  many : length kept.asked.done ≡ length (asks play)
+  many = zip-length Named kept.asked.done (asks play) kept.asked.each
+
+  by : (o : Option ℕ) → unasked_from 0 events marks ≡ o → (step : Step) × (polling timeout events alarm marks ≡ step ∷ []) × AsksFor event step
+  by None none =
+      let nothing : to_ask 0 events marks ≡ [] = none_to_ask 0 events marks (ap (λ (o : Option ℕ). is_some o) none) in
+      let whole : events_from 0 events ≡ kept.asked.done = kept.asked.whole ∙ ap (λ (xs : List (ℕ × Event)). kept.asked.done ++ xs) nothing ∙ append-nil kept.asked.done in
+      let within = slice_get_within (events_from 0 events) (length (asks play)) (k, event) next in
+      let long = ap (λ (xs : List (ℕ × Event)). length xs) whole in
+      absurd (omega (arith, within, long, many))
+  by (Some j) found =
+      let first : AsksNext 0 events marks j j = asks_first events marks j found in
+      let whole = kept.asked.whole ∙ ap (λ (xs : List (ℕ × Event)). kept.asked.done ++ xs) first.whole in
+      let at : slice_get (events_from 0 events) (length (asks play)) ≡ Some (j, first.event) =
+      ap (λ (xs : List (ℕ × Event)). slice_get xs (length (asks play))) whole
+      ∙ ap (λ (n : ℕ). slice_get (kept.asked.done ++ (j, first.event) ∷ first.rest) n) (sym many) ∙ slice_get-here kept.asked.done (j, first.event) first.rest in
+      let same = some_pair_parts j k first.event event (sym at ∙ next) in
+      let asked = asks-for (registers timeout marks) first.event first.unasked in
+      let stepping : asking (registers timeout marks) events marks ≡ Some asked.0 =
+      ap (λ (o : Option ℕ). step_at (λ event mark. ask_step (registers timeout marks) event) events marks o) found
+      ∙ ap (λ (o : Option Event). option_and_then (λ event. option_and_then (λ (mark : Mark). ask_step (registers timeout marks) event) (slice_get marks j)) o) first.there
+      ∙ ap (λ (o : Option Mark). option_and_then (λ (mark : Mark). ask_step (registers timeout marks) first.event) o) first.marked ∙ asked.1 in (
+        asked.0,
+        ap (λ (b : Bool). cond b (option_to_list (asking (registers timeout marks) events marks))
+            (cond (is_closing alarm marks) (option_to_list (dropping events marks)) (watching (take MOST_EVENTS events) marks ++ alarm_steps alarm))) (ap (λ (o : Option ℕ). is_some o) found)
+            ∙ ap (λ (o : Option Step). option_to_list o) stepping,
+        subst (λ (e : Event). AsksFor e asked.0) same.1 asked.2,
+      )
+
+-- a poll that waits attempts all that it waits for
+waits-attempts : (timeout : Timeout) (events : List Event) (play : List Made) (alarm : Alarm) (marks : List Mark) → Kept timeout events play alarm marks → length events ≤ MOST_EVENTS →
+    length (asks play) ≡ length (events_from 0 events) → is_over play ≡ false → WaitsForAll events play (polling timeout events alarm marks)
+waits-attempts timeout events play alarm marks kept few all unended =
+    let none = asked-all timeout events play alarm marks kept all in
+    let closes : is_closing alarm marks ≡ false = sym (over-is timeout events play alarm marks kept) ∙ unended in
+    let stays : polling timeout events alarm marks ≡ watching events marks ++ alarm_steps alarm =
+    ap (λ (b : Bool). cond b (option_to_list (asking (registers timeout marks) events marks))
+    (cond (is_closing alarm marks) (option_to_list (dropping events marks)) (watching (take MOST_EVENTS events) marks ++ alarm_steps alarm))) none
+    ∙ ap (λ (b : Bool). cond b (option_to_list (dropping events marks)) (watching (take MOST_EVENTS events) marks ++ alarm_steps alarm)) closes
+    ∙ ap (λ (es : List Event). watching es marks ++ alarm_steps alarm) (all_taken events few) in
+    subst (λ (attempts : List Step). WaitsForAll events play attempts) (sym stays) (record {
+      registered = λ k spot registered.
+          let at = kept.stands unended k spot registered in
+          let ends = stands-attempts at.event at.mark spot at.is in
+          let has = watching-has events marks k at.event at.mark ends.0 at.there at.marked ends.3 in
+          (ends.0, has.0, ends.2, slice_get-append_left (watching events marks) (alarm_steps alarm) has.0 (slice_get_within (watching events marks) has.0 ends.0 has.1) ∙ has.1);
+      signals = λ k signal there.
+          let look = steps.LookSignal (ref_object signal) true in
+          let within = slice_get_within events k (Sig signal) there in
+          let mark = get_or marks k Unasked in
+          let marked : slice_get marks k ≡ Some mark = slice_get-get_or marks k Unasked (omega (arith, within, kept.size)) in
+          let has = watching-has events marks k (Sig signal) mark look there marked refl in
+          (has.0, slice_get-append_left (watching events marks) (alarm_steps alarm) has.0 (slice_get_within (watching events marks) has.0 look has.1) ∙ has.1);
+      alarm = λ moment due.
+          let ends = steps.Clock (clock_ops.AlarmEnd moment) in
+          let set : alarm ≡ Due moment = kept.set_due moment due (or_parts (list_any tells_ready play) (list_any is_alarm_end play) unended).1 in
+          let last : alarm_steps alarm ≡ ends ∷ [] = ap alarm_steps set in (
+            length (watching events marks),
+            sym (ap (λ (xs : List Step). length (watching events marks ++ xs)) last ∙ length_push (watching events marks) ends),
+            ap (λ (xs : List Step). slice_get (watching events marks ++ xs) (length (watching events marks))) last ∙ push-one (watching events marks) ends,
+          );
+    })
+
+-- and one whose waiting is over a step that gives a registration up
+quits-attempts : (timeout : Timeout) (events : List Event) (play : List Made) (alarm : Alarm) (marks : List Mark) → Kept timeout events play alarm marks →
+    is_answered timeout events alarm marks ≡ false → length (asks play) ≡ length (events_from 0 events) → is_over play ≡ true →
+    (step : Step) × (polling timeout events alarm marks ≡ step ∷ []) × ((reply : StepReply) → is_quit (step, reply) ≡ true)
+quits-attempts timeout events play alarm marks kept unanswered all over =
+    let none = asked-all timeout events play alarm marks kept all in
+    let closes : is_closing alarm marks ≡ true = sym (over-is timeout events play alarm marks kept) ∙ over in
+    let some : list_any is_armed marks ≡ true = armed-left (asks_more events marks) (is_closing alarm marks) (not (waits timeout)) (list_any is_armed marks) none closes unanswered in
+    let first = first_armed marks some in
+    let at = known-at events marks first.0 first.1 kept.known first.3 first.4 in
+    let quits = stands-attempts at.1.event at.1.mark at.0 at.1.is in
+    let stepping : dropping events marks ≡ Some quits.1 =
+    ap (λ (o : Option ℕ). step_at drop_step events marks o) first.2
+    ∙ ap (λ (o : Option Event). option_and_then (λ event. option_and_then (drop_step event) (slice_get marks first.0)) o) at.1.there
+    ∙ ap (λ (o : Option Mark). option_and_then (drop_step at.1.event) o) at.1.marked ∙ quits.4 in (
+      quits.1,
+      ap (λ (b : Bool). cond b (option_to_list (asking (registers timeout marks) events marks))
+          (cond (is_closing alarm marks) (option_to_list (dropping events marks)) (watching (take MOST_EVENTS events) marks ++ alarm_steps alarm))) none
+          ∙ ap (λ (b : Bool). cond b (option_to_list (dropping events marks)) (watching (take MOST_EVENTS events) marks ++ alarm_steps alarm)) closes
+          ∙ ap (λ (o : Option Step). option_to_list o) stepping,
+      quits.5,
+    ) where
+      armed-left : (more closes stays armed : Bool) → more ≡ false → closes ≡ true → (not more && ((closes || stays) && not armed)) ≡ false → armed ≡ true
+      armed-left true closes stays armed none over unended = absurd (cc)
+      armed-left false false stays armed none over unended = absurd (cc)
+      armed-left false true stays armed none over unended = not-false armed unended
+
+-- a poll at its first stage, or at one with this alarm and these marks
+goes-on : (timeout : Timeout) (events : List Event) (play : List Made) (alarm : Alarm) (marks : List Mark) → Kept timeout events play alarm marks → length events ≤ MOST_EVENTS →
+    ((ticks : ℕ) → timeout ≡ Ticks ticks → play ≡ [] → ⊥) →
+    (is_over play ≡ true → is_answered timeout events alarm marks ≡ false) → ((play ≡ [] → ⊥) → is_answered timeout events alarm marks ≡ false) →
+    GoesOn timeout events play (polling timeout events alarm marks)
+goes-on timeout events play alarm marks kept few later over unanswered = record {
+  begins = λ ticks is none. absurd (later ticks is none);
+  asking = λ begun k event next. asks-attempts timeout events play alarm marks k event kept next;
+  waiting = λ begun all unended. waits-attempts timeout events play alarm marks kept few all unended;
+  quitting = λ all is_one. quits-attempts timeout events play alarm marks kept (over is_one) all is_one;
+  undone = λ some done. both_ways (is_answered timeout events alarm marks) (unanswered some) (done-answered timeout events play alarm marks kept done);
+}
+
+plain-goes : (timeout : Timeout) (events : List Event) → length events ≤ MOST_EVENTS → ((ticks : ℕ) → timeout ≡ Ticks ticks → ⊥) → GoesOn timeout events [] (polling timeout events Unset fresh)
+plain-goes timeout events few plain =
+    goes-on timeout events [] Unset fresh (kept-fresh timeout events few) few (λ ticks is none. plain ticks is) (λ over. absurd (cc)) (λ some. absurd (some refl))
+
+start-goes : (timeout : Timeout) (events : List Event) → length events ≤ MOST_EVENTS → GoesOn timeout events [] (poll_attempts timeout events Start)
+start-goes No events few = plain-goes No events few (λ ticks is. absurd (cc))
+start-goes Forever events few = plain-goes Forever events few (λ ticks is. absurd (cc))
+start-goes (Ticks ticks) events few = record {
+  begins = λ n is none. ap (λ (t : Timeout). steps.Clock (clock_ops.Alarm (ticks_of t)) ∷ []) is;
+  asking = λ begun k event next. absurd (begun ticks refl refl);
+  waiting = λ begun all unended. absurd (begun ticks refl refl);
+  quitting = λ all over. absurd (cc);
+  undone = λ some done. some refl;
+}
+
+pub poll_goes_on : OfEachStage GoesOn
+poll_goes_on word timeout events few play stage led served =
+    by stage (led-kept word timeout events [] Start play stage few refl led served) where
+      by : (stage : Stage) → KeptAt timeout events play stage → GoesOn timeout events play (poll_attempts timeout events stage)
+      by Start none = subst (λ (p : List Made). GoesOn timeout events p (poll_attempts timeout events Start)) (sym none) (start-goes timeout events few)
+      by (Polls alarm marks) kept = goes-on timeout events play alarm marks kept.0 few kept.2 (λ over. kept.1) (λ some. kept.1)
+      by stage kept = absurd kept

@@ -1,7 +1,7 @@
 -- The marks of a poll's events, event by event.
 use Rattle.std.proofs.Common.{◌≡◌, ℕ, zero, suc, ◌+◌, ◌≤◌, Bool, true, false, ◌||◌, cond, is_some, Option, Some, None, option_to_list, List, [], ◌∷◌, ◌++◌, length, set, replicate, slice_get, count_by, All, refl, sym, ap, subst, ◌∙◌, arith}
 use Rattle.std.specs.List.{list_any, position, position_from}
-use Rattle.std.proofs.lemmas.Bool.{or_parts, or_from}
+use Rattle.std.proofs.lemmas.Bool.{or_parts, or_from, both_ways}
 use Rattle.std.proofs.lemmas.Iterator.Adapters.{position_from-zero}
 use Rattle.std.proofs.lemmas.List.Elements.{All-nil, All-cons, All-append, All-weaker}
 use Rattle.std.proofs.lemmas.List.Sums.{sum_by-append}
@@ -45,6 +45,7 @@ pub record AsksNext (n : ℕ) (events : List Event) (marks : List Mark) (k i : �
   pub rest : List (ℕ × Event)
   pub there : slice_get events i ≡ Some event
   pub marked : slice_get marks i ≡ Some Unasked
+  pub unasked : is_to_ask event Unasked ≡ true
   pub whole : to_ask n events marks ≡ (k, event) ∷ rest
   pub next : (mark : Mark) → is_unasked mark ≡ false → to_ask n events (set marks i mark) ≡ rest
 
@@ -64,6 +65,7 @@ asks_next n (event ∷ events) (mark ∷ marks) k is = by (is_to_ask event mark)
           rest = to_ask (n + 1) events marks;
           there = refl;
           marked = ap (λ (m : Mark). Some m) (unasked-to_ask event mark free);
+          unasked = ap (λ (m : Mark). is_to_ask event m) (sym (unasked-to_ask event mark free)) ∙ free;
           whole = ap (λ (b : Bool). cond b ((n, event) ∷ to_ask (n + 1) events marks) (to_ask (n + 1) events marks)) free
               ∙ ap (λ (m : ℕ). let whole : List (ℕ × Event) = (m, event) ∷ to_ask (n + 1) events marks in whole) here;
           next = λ new asked. ap (λ (b : Bool). cond b ((n, event) ∷ to_ask (n + 1) events marks) (to_ask (n + 1) events marks)) (asked-not event new asked);
@@ -79,6 +81,7 @@ asks_next n (event ∷ events) (mark ∷ marks) k is = by (is_to_ask event mark)
           rest = later.2.rest;
           there = later.2.there;
           marked = later.2.marked;
+          unasked = later.2.unasked;
           whole = ap (λ (b : Bool). cond b ((n, event) ∷ to_ask (n + 1) events marks) (to_ask (n + 1) events marks)) closed ∙ later.2.whole;
           next = λ new asked. ap (λ (b : Bool). cond b ((n, event) ∷ to_ask (n + 1) events (set marks later.0 new)) (to_ask (n + 1) events (set marks later.0 new))) closed ∙ later.2.next new asked;
         },
@@ -245,6 +248,69 @@ known-none (event ∷ events) [] known none = refl
 known-none (event ∷ events) (mark ∷ marks) known none =
     let both = none-is (spot_for event mark) (standing events marks) none in
     or_from (is_armed mark) (list_any is_armed marks) (known.0 ∙ both.0) (known-none events marks known.1 both.1)
+
+-- the caller is registered there for this event
+pub record Standing (events : List Event) (marks : List Mark) (spot : Spot) (k : ℕ) : Type 0 where
+  pub event : Event
+  pub mark : Mark
+  pub there : slice_get events k ≡ Some event
+  pub marked : slice_get marks k ≡ Some mark
+  pub is : spot_for event mark ≡ Some spot
+
+some-is : {X : Type 0} (o : Option X) → is_some o ≡ true → (x : X) × (o ≡ Some x)
+some-is None is = absurd (cc)
+some-is (Some x) is = (x, refl)
+
+none_armed-at : (marks : List Mark) (k : ℕ) (mark : Mark) → list_any is_armed marks ≡ false → slice_get marks k ≡ Some mark → is_armed mark ≡ false
+none_armed-at [] k mark none marked = absurd (cc)
+none_armed-at (m ∷ marks) zero mark none marked = ap is_armed (sym (same_Some m mark marked)) ∙ (or_parts (is_armed m) (list_any is_armed marks) none).0
+none_armed-at (m ∷ marks) (suc k) mark none marked = none_armed-at marks k mark (or_parts (is_armed m) (list_any is_armed marks) none).1 marked
+
+pub known-at : (events : List Event) (marks : List Mark) (k : ℕ) (mark : Mark) → AreKnown events marks → slice_get marks k ≡ Some mark → is_armed mark ≡ true →
+    (spot : Spot) × Standing events marks spot k
+known-at [] marks k mark known marked armed = absurd (both_ways (is_armed mark) (none_armed-at marks k mark known marked) armed)
+known-at (event ∷ events) [] k mark known marked armed = absurd (cc)
+known-at (event ∷ events) (m ∷ marks) zero mark known marked armed =
+    let same : m ≡ mark = same_Some m mark marked in
+    let at = some-is (spot_for event m) (sym known.0 ∙ ap is_armed same ∙ armed) in
+    (at.0, record { event = event; mark = m; there = refl; marked = refl; is = at.1 })
+known-at (event ∷ events) (m ∷ marks) (suc k) mark known marked armed =
+    let later = known-at events marks k mark known.1 marked armed in
+    (later.0, record { event = later.1.event; mark = later.1.mark; there = later.1.there; marked = later.1.marked; is = later.1.is })
+
+-- the first mark of a registration, counted from n
+armed-from : (n : ℕ) (marks : List Mark) → list_any is_armed marks ≡ true →
+    (i : ℕ) × (mark : Mark) × (position_from is_armed n marks ≡ Some (n + i)) × (slice_get marks i ≡ Some mark) × (is_armed mark ≡ true)
+armed-from n [] some = absurd (cc)
+armed-from n (m ∷ marks) some = by (is_armed m) refl some (armed-from (n + 1) marks) where
+  by : (b : Bool) → is_armed m ≡ b → (b || list_any is_armed marks) ≡ true →
+      (list_any is_armed marks ≡ true → (i : ℕ) × (mark : Mark) × (position_from is_armed (n + 1) marks ≡ Some ((n + 1) + i)) × (slice_get marks i ≡ Some mark) × (is_armed mark ≡ true)) →
+      (i : ℕ) × (mark : Mark) × (position_from is_armed n (m ∷ marks) ≡ Some (n + i)) × (slice_get (m ∷ marks) i ≡ Some mark) × (is_armed mark ≡ true)
+  by true here some more =
+      (0, m, ap (λ (b : Bool). cond b (Some n) (position_from is_armed (n + 1) marks)) here ∙ ap (λ (k : ℕ). Some k) (omega arith), refl, here)
+  by false past some more =
+      let later = more some in
+      (suc later.0, later.1, ap (λ (b : Bool). cond b (Some n) (position_from is_armed (n + 1) marks)) past ∙ later.2 ∙ ap (λ (k : ℕ). Some k) (omega arith), later.3, later.4)
+
+pub first_armed : (marks : List Mark) → list_any is_armed marks ≡ true → (k : ℕ) × (mark : Mark) × (position is_armed marks ≡ Some k) × (slice_get marks k ≡ Some mark) × (is_armed mark ≡ true)
+first_armed marks some =
+    let at = armed-from 0 marks some in
+    (at.0, at.1, position_from-zero is_armed marks ∙ at.2 ∙ ap (λ (k : ℕ). Some k) (omega arith), at.3, at.4)
+
+-- a poll that waits attempts the step of each event
+pub watching-has : (events : List Event) (marks : List Mark) (k : ℕ) (event : Event) (mark : Mark) (step : Step) → slice_get events k ≡ Some event → slice_get marks k ≡ Some mark →
+    watch_step event mark ≡ Some step → (index : ℕ) × (slice_get (watching events marks) index ≡ Some step)
+watching-has [] marks k event mark step there marked is = absurd (cc)
+watching-has (e ∷ events) [] k event mark step there marked is = absurd (cc)
+watching-has (e ∷ events) (m ∷ marks) zero event mark step there marked is =
+    let same : watch_step e m ≡ Some step = ap (λ (x : Event). watch_step x m) (same_Some e event there) ∙ ap (λ (x : Mark). watch_step event x) (same_Some m mark marked) ∙ is in
+    (0, ap (λ (o : Option Step). slice_get (option_to_list o ++ watching events marks) 0) same)
+watching-has (e ∷ events) (m ∷ marks) (suc k) event mark step there marked is =
+    let later = watching-has events marks k event mark step there marked is in
+    behind (watch_step e m) later.0 later.1 where
+      behind : (o : Option Step) (index : ℕ) → slice_get (watching events marks) index ≡ Some step → (index : ℕ) × (slice_get (option_to_list o ++ watching events marks) index ≡ Some step)
+      behind None index at = (index, at)
+      behind (Some first) index at = (suc index, at)
 
 -- whether some event is ready, after a new mark of one that isn't
 pub any_ready-set : (marks : List Mark) (i : ℕ) (mark new : Mark) → slice_get marks i ≡ Some mark → is_ready mark ≡ false →

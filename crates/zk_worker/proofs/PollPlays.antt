@@ -1,7 +1,7 @@
 -- What holds along each play of a poll: its marks are what its steps told.
 use Rattle.std.proofs.Common.{◌≡◌, ℕ, suc, ◌+◌, ◌<◌, Bool, true, false, ◌||◌, cond, eqb, Option, Some, None, option_to_list, List, [], ◌∷◌, ◌++◌, length, set, slice_get, count_by, refl, sym, ap, subst, ◌∙◌, ◌⊎◌, inl, inr, ⊎_elim, append_assoc, append-nil, arith}
 use Rattle.std.specs.List.{AllZip, filter_map, cons_option, list_any}
-use Rattle.std.proofs.lemmas.Bool.{cases_eq, eq-eqb, ne_eqb, cond-true, cond-false, both_ways}
+use Rattle.std.proofs.lemmas.Bool.{cases_eq, eq-eqb, ne_eqb, cond-true, cond-false, both_ways, or_parts, or_from}
 use Rattle.std.proofs.lemmas.List.{length-set}
 use Rattle.std.proofs.lemmas.List.Elements.{filter-append, filter_map-append}
 use Rattle.std.proofs.lemmas.List.Folds.{list_any-append}
@@ -28,10 +28,10 @@ use Rattle.zk_worker.specs.declared.steps.Step.TheVariants as steps
 use Rattle.zk_worker.specs.declared.steps.StepReply.{StepReply}
 use Rattle.zk_worker.specs.declared.steps.StepReply.TheVariants as step_replies
 use Rattle.zk_worker.specs.Polls.{is_ready, is_ended, mark_of, marked, alarm_after}
-use Rattle.zk_worker.specs.PollLaws.{Made, StandsAt, registered_at, ended_at, is_ask, is_of_clock, is_alarm_end, tells_ready, names, events_from, asks, registrations, endings, IsAskFor, IsRegistered, IsFor, IsTold, IsForOne, EachIsForOne, IsInTime, EachIsInTime, IsDue, IsAlarmed, KeepsItsAlarm}
+use Rattle.zk_worker.specs.PollLaws.{Made, StandsAt, may_reply, registered_at, ended_at, is_ask, is_of_clock, is_alarm_end, tells_ready, names, events_from, asks, registrations, endings, IsAskFor, IsRegistered, IsFor, IsTold, IsForOne, EachIsForOne, IsInTime, EachIsInTime, is_over, IsDue, IsAlarmed, KeepsItsAlarm}
 use Rattle.zk_worker.proofs.Lists.{zip-push}
-use Rattle.zk_worker.proofs.PollMarks.{is_unasked, to_ask, AsksNext, spot_for, standing, AreKnown, known-set, standing-set, any_ready-set}
-use Rattle.zk_worker.proofs.PollReplies.{Marks, OfClock, of-clock, free-no_end, registered-for}
+use Rattle.zk_worker.proofs.PollMarks.{is_unasked, to_ask, AsksNext, spot_for, standing, Standing, AreKnown, known-set, standing-set, any_ready-set}
+use Rattle.zk_worker.proofs.PollReplies.{Marks, OfClock, of-clock, free-no_end, registered-for, ask-for, ended-tells, registered-asks}
 
 -- no two steps have registered at one place
 abbrev pub Apart : List Made → Type 0
@@ -48,7 +48,7 @@ stands-last : (play : List Made) (made : Made) → StandsAt (play ++ made ∷ []
 stands-last play made = record { rest = []; whole = refl }
 
 -- a step of a play with one more is one of the play, or the one more
-stands-cases : (play : List Made) (made : Made) (before : List Made) (x : Made) (rest : List Made) → play ++ made ∷ [] ≡ before ++ x ∷ rest →
+pub stands-cases : (play : List Made) (made : Made) (before : List Made) (x : Made) (rest : List Made) → play ++ made ∷ [] ≡ before ++ x ∷ rest →
     StandsAt play before x ⊎ ((before ≡ play) × (x ≡ made))
 stands-cases [] made [] x rest whole = inr (refl, cc)
 stands-cases [] made (b ∷ []) x rest whole = absurd (cc)
@@ -116,6 +116,8 @@ pub record Kept (timeout : Timeout) (events : List Event) (play : List Made) (al
   pub timed : EachIsInTime timeout events play
   pub alarmed : KeepsItsAlarm timeout play
   pub due : (moment : ℕ) → alarm ≡ Due moment → IsDue play moment
+  pub set_due : (moment : ℕ) → IsDue play moment → list_any is_alarm_end play ≡ false → alarm ≡ Due moment
+  pub stands : is_over play ≡ false → (k : ℕ) (spot : Spot) → IsRegistered events play spot k → Standing events marks spot k
 
 cons-one : (o : Option Spot) → cons_option o [] ≡ option_to_list o
 cons-one None = refl
@@ -169,7 +171,7 @@ zip-length R [] (y ∷ ys) all = absurd all
 zip-length R (x ∷ xs) [] all = absurd all
 zip-length R (x ∷ xs) (y ∷ ys) all = ap suc (zip-length R xs ys all.1)
 
-slice_get-here : {X : Type 0} (xs : List X) (y : X) (ys : List X) → slice_get (xs ++ y ∷ ys) (length xs) ≡ Some y
+pub slice_get-here : {X : Type 0} (xs : List X) (y : X) (ys : List X) → slice_get (xs ++ y ∷ ys) (length xs) ≡ Some y
 slice_get-here [] y ys = refl
 slice_get-here (x ∷ xs) y ys = slice_get-here xs y ys
 
@@ -219,13 +221,25 @@ due-longer play more moment due = record {
   stands = stands-longer play more [] (steps.Clock (clock_ops.Alarm due.ticks), step_replies.Clock (clock_replies.At moment) due.place) due.stands;
 }
 
+-- where no step of a play with one more is such a step, none of the play is, nor the last
+pub any-front : (test : Made → Bool) (play : List Made) (made : Made) → list_any test (play ++ made ∷ []) ≡ false → (list_any test play ≡ false) × (test made ≡ false)
+any-front test play made none =
+    let both = or_parts (list_any test play) (test made || false) (sym (list_any-append test play (made ∷ [])) ∙ none) in
+    (both.0, (or_parts (test made) false both.1).0)
+
+over-front : (play : List Made) (made : Made) → is_over (play ++ made ∷ []) ≡ false → (is_over play ≡ false) × (tells_ready made ≡ false)
+over-front play made unended =
+    let both = or_parts (list_any tells_ready (play ++ made ∷ [])) (list_any is_alarm_end (play ++ made ∷ [])) unended in
+    let told = any-front tells_ready play made both.0 in
+    (or_from (list_any tells_ready play) (list_any is_alarm_end play) told.0 (any-front is_alarm_end play made both.1).0, told.1)
+
 -- a step for an event, whose reply gives the event a new mark
 pub kept-marked : (timeout : Timeout) (events : List Event) (play : List Made) (alarm : Alarm) (marks : List Mark) (made : Made) (k : ℕ) (event : Event) (mark : Mark) →
     Kept timeout events play alarm marks → Apart play → slice_get events k ≡ Some event → slice_get marks k ≡ Some mark → is_ready mark ≡ false →
     Marks event mark made → IsFor events play made.0 k → Asked events (play ++ made ∷ []) (set marks k (mark_of made.1)) →
-    ((ticks : ℕ) → timeout ≡ Ticks ticks → play ≡ [] → ⊥) → IsInTime timeout events play made →
+    ((ticks : ℕ) → timeout ≡ Ticks ticks → play ≡ [] → ⊥) → may_reply made ≡ true → IsInTime timeout events play made →
     Kept timeout events (play ++ made ∷ []) (alarm_after alarm made.1) (set marks k (mark_of made.1))
-kept-marked timeout events play alarm marks made k event mark kept apart there marked unready says for asked later time =
+kept-marked timeout events play alarm marks made k event mark kept apart there marked unready says for asked later may time =
     let new = mark_of made.1 in
     let longer : List Made = play ++ made ∷ [] in
     let within : k < length marks = slice_get_within marks k mark marked in
@@ -307,13 +321,47 @@ kept-marked timeout events play alarm marks made k event mark kept apart there m
         ends = λ moment is. absurd (both_ways (is_of_clock made) says.free (ap (λ (step : Step). is_of_clock (step, made.1)) is));
       });
       due = λ moment is. due-longer play (made ∷ []) moment (kept.due moment (sym (says.still alarm) ∙ is));
+      set_due = λ moment set unended.
+          let first : Made = (steps.Clock (clock_ops.Alarm set.ticks), step_replies.Clock (clock_replies.At moment) set.place) in
+          ⊎_elim
+          (λ (at : StandsAt play [] first). says.still alarm ∙ kept.set_due moment (record { ticks = set.ticks; place = set.place; stands = at }) (any-front is_alarm_end play made unended).0)
+          (λ (last : ([] ≡ play) × (first ≡ made)). absurd (both_ways (is_of_clock made) says.free (ap is_of_clock (sym last.1))))
+          (stands-cases play made [] first set.stands.rest set.stands.whole);
+      stands = λ unended j spot registered.
+          let before = over-front play made unended in
+          let ended : ended_at made ≡ Some spot → ⊥ = λ at.
+          both_ways (is_over play) before.0 (time.quitting (ended-tells made.0 made.1 spot at may before.1)) in
+          ⊎_elim
+          (λ (at : StandsAt play registered.before registered.ask).
+          let was = kept.stands before.0 j spot (record { before = registered.before; ask = registered.ask; stands = at; at = registered.at; for = registered.for }) in
+          ⊎_elim
+          (λ (same : k ≡ j).
+          let event_so : event ≡ was.event = same_Some event was.event (sym there ∙ ap (λ (x : ℕ). slice_get events x) same ∙ was.there) in
+          let mark_so : mark ≡ was.mark = same_Some mark was.mark (sym marked ∙ ap (λ (x : ℕ). slice_get marks x) same ∙ was.marked) in
+          absurd (ended (says.left ∙ ap (λ (x : Event). spot_for x mark) event_so ∙ ap (λ (x : Mark). spot_for was.event x) mark_so ∙ was.is)))
+          (λ (other : k ≡ j → ⊥). record { event = was.event; mark = was.mark; there = was.there; marked = aside j other ∙ was.marked; is = was.is })
+          (cases_eq k j))
+          (λ (last : (registered.before ≡ play) × (registered.ask ≡ made)).
+          let at : registered_at made ≡ Some spot = ap registered_at (sym last.1) ∙ registered.at in
+          let turn : IsAskFor events play j = subst (λ (p : List Made). IsAskFor events p j) last.0 registered.for in
+          let then : IsFor events play made.0 j = ask-for events play made.0 made.1 j (registered-asks made.0 made.1 spot at) turn in
+          let same : k ≡ j = for-one events play made.0 k j apart for then in
+          record {
+            event = event;
+            mark = new;
+            there = ap (λ (x : ℕ). slice_get events x) (sym same) ∙ there;
+            marked = here j same;
+            is = sym says.taken ∙ at;
+          })
+          (stands-cases play made registered.before registered.ask registered.stands.rest registered.stands.whole);
     }
 
 -- a step of the clock leaves the marks
 pub kept-clock : (timeout : Timeout) (events : List Event) (play : List Made) (alarm new : Alarm) (marks : List Mark) (op : ClockOp) (reply : StepReply) → Kept timeout events play alarm marks →
     (is_ended alarm || is_alarm_end (steps.Clock op, reply)) ≡ is_ended new → IsInTime timeout events play (steps.Clock op, reply) → IsAlarmed timeout play (steps.Clock op, reply) →
-    ((moment : ℕ) → new ≡ Due moment → IsDue (play ++ (steps.Clock op, reply) ∷ []) moment) → Kept timeout events (play ++ (steps.Clock op, reply) ∷ []) new marks
-kept-clock timeout events play alarm new marks op reply kept ends time alarmed due =
+    ((moment : ℕ) → new ≡ Due moment → IsDue (play ++ (steps.Clock op, reply) ∷ []) moment) →
+    ((moment : ℕ) → IsDue (play ++ (steps.Clock op, reply) ∷ []) moment → list_any is_alarm_end (play ++ (steps.Clock op, reply) ∷ []) ≡ false → new ≡ Due moment) → Kept timeout events (play ++ (steps.Clock op, reply) ∷ []) new marks
+kept-clock timeout events play alarm new marks op reply kept ends time alarmed due set_due =
     let made : Made = (steps.Clock op, reply) in
     let says : OfClock made = of-clock op reply in
     record {
@@ -341,4 +389,12 @@ kept-clock timeout events play alarm new marks op reply kept ends time alarmed d
       timed = timed-more timeout events play made kept.timed time;
       alarmed = alarmed-more timeout play made kept.alarmed alarmed;
       due = due;
+      set_due = set_due;
+      stands = λ unended j spot registered. ⊎_elim
+          (λ (at : StandsAt play registered.before registered.ask).
+          kept.stands (over-front play made unended).0 j spot (record { before = registered.before; ask = registered.ask; stands = at; at = registered.at; for = registered.for }))
+          (λ (last : (registered.before ≡ play) × (registered.ask ≡ made)).
+          let at : None ≡ Some spot = sym says.none ∙ ap registered_at (sym last.1) ∙ registered.at in
+          absurd (cc))
+          (stands-cases play made registered.before registered.ask registered.stands.rest registered.stands.whole);
     }

@@ -20,8 +20,8 @@ use Rattle.zk_worker.specs.declared.steps.Step.{Step}
 use Rattle.zk_worker.specs.declared.steps.Step.TheVariants as steps
 use Rattle.zk_worker.specs.declared.steps.StepReply.{StepReply}
 use Rattle.zk_worker.specs.declared.steps.StepReply.TheVariants as step_replies
-use Rattle.zk_worker.specs.Polls.{is_armed, is_ready, ask_step, watch_step, drop_step, is_watch, mark_of, alarm_after}
-use Rattle.zk_worker.specs.PollLaws.{Made, may_reply, registered_at, ended_at, is_ask, is_arm, asks_to_wait, is_wait, is_quit, is_of_clock, is_alarm_end, tells_ready, names, IsAskFor, IsRegistered, IsFor}
+use Rattle.zk_worker.specs.Polls.{is_to_ask, is_armed, is_ready, ask_step, watch_step, drop_step, is_watch, mark_of, alarm_after}
+use Rattle.zk_worker.specs.PollLaws.{Made, may_reply, registered_at, ended_at, is_ask, is_arm, asks_to_wait, is_wait, is_quit, is_of_clock, is_alarm_end, tells_ready, names, IsAskFor, IsRegistered, IsFor, AsksFor, end_of}
 use Rattle.zk_worker.specs.Refs.{ref_object}
 use Rattle.zk_worker.proofs.PollMarks.{is_unasked, spot_for}
 
@@ -244,3 +244,50 @@ ask-registers registers (Sem sem) step reply is arm = ap (λ (s : Step). asks_to
 ask-registers registers (Msgq queue) step reply is arm = ap (λ (s : Step). asks_to_wait (s, reply)) (sym (same_Some (steps.Msgq (ref_object queue) (msgq_ops.PollArm registers)) step is))
 ask-registers registers (Sig signal) step reply is arm =
     absurd (both_ways (is_arm (step, reply)) (ap (λ (s : Step). is_arm (s, reply)) (sym (same_Some (steps.LookSignal (ref_object signal) false) step is))) arm)
+
+-- a registration ends only where it is noted, or is given up
+pub ended-tells : (step : Step) (reply : StepReply) (spot : Spot) → ended_at (step, reply) ≡ Some spot → may_reply (step, reply) ≡ true → tells_ready (step, reply) ≡ false → is_quit (step, reply) ≡ true
+ended-tells (steps.Sem object (sem_ops.PollQuit place)) reply spot is may untold = refl
+ended-tells (steps.Msgq object (msgq_ops.PollQuit place)) reply spot is may untold = refl
+ended-tells (steps.Sem object (sem_ops.PollEnd place)) reply spot is may untold = sem-noted object place reply may untold where
+  sem-noted : (object place : ℕ) (reply : StepReply) → may_reply (steps.Sem object (sem_ops.PollEnd place), reply) ≡ true → tells_ready (steps.Sem object (sem_ops.PollEnd place), reply) ≡ false → false ≡ true
+  sem-noted object place (step_replies.Sem at sem_replies.Noted n) may untold = absurd (cc)
+  sem-noted object place reply may untold = may
+ended-tells (steps.Msgq object (msgq_ops.PollEnd place)) reply spot is may untold = msgq-noted object place reply may untold where
+  msgq-noted : (object place : ℕ) (reply : StepReply) → may_reply (steps.Msgq object (msgq_ops.PollEnd place), reply) ≡ true → tells_ready (steps.Msgq object (msgq_ops.PollEnd place), reply) ≡ false → false ≡ true
+  msgq-noted object place (step_replies.Msgq at msgq_replies.Noted n) may untold = absurd (cc)
+  msgq-noted object place reply may untold = may
+ended-tells step reply spot is may untold = absurd (cc)
+
+pub registered-asks : (step : Step) (reply : StepReply) (spot : Spot) → registered_at (step, reply) ≡ Some spot → is_ask (step, reply) ≡ true
+registered-asks (steps.Sem object (sem_ops.PollArm waits)) reply spot is = refl
+registered-asks (steps.Msgq object (msgq_ops.PollArm waits)) reply spot is = refl
+registered-asks step reply spot is = absurd (cc)
+
+-- an event that is to be asked has its ask
+pub asks-for : (registers : Bool) (event : Event) → is_to_ask event Unasked ≡ true → (step : Step) × (ask_step registers event ≡ Some step) × AsksFor event step
+asks-for registers Ignore is = absurd (cc)
+asks-for registers (Sem sem) is = (steps.Sem (ref_object sem) (sem_ops.PollArm registers), refl, λ reply. (refl, eqb-same (ref_object sem)))
+asks-for registers (Msgq queue) is = (steps.Msgq (ref_object queue) (msgq_ops.PollArm registers), refl, λ reply. (refl, eqb-same (ref_object queue)))
+asks-for registers (Sig signal) is = (steps.LookSignal (ref_object signal) false, refl, λ reply. (refl, eqb-same (ref_object signal)))
+
+-- and one at which the caller is registered has what waits for its note, and what gives it up
+pub stands-attempts : (event : Event) (mark : Mark) (spot : Spot) → spot_for event mark ≡ Some spot →
+    (ends : Step) × (quits : Step) × (end_of spot ≡ Some ends) × (watch_step event mark ≡ Some ends) × (drop_step event mark ≡ Some quits) × ((reply : StepReply) → is_quit (quits, reply) ≡ true)
+stands-attempts (Sem sem) (Armed place) spot is = (
+  steps.Sem (ref_object sem) (sem_ops.PollEnd place),
+  steps.Sem (ref_object sem) (sem_ops.PollQuit place),
+  ap end_of (sym (same_Some (spots.Sem (ref_object sem) place) spot is)),
+  refl,
+  refl,
+  λ reply. refl,
+)
+stands-attempts (Msgq queue) (Armed place) spot is = (
+  steps.Msgq (ref_object queue) (msgq_ops.PollEnd place),
+  steps.Msgq (ref_object queue) (msgq_ops.PollQuit place),
+  ap end_of (sym (same_Some (spots.Msgq (ref_object queue) place) spot is)),
+  refl,
+  refl,
+  λ reply. refl,
+)
+stands-attempts event mark spot is = absurd (cc)

@@ -1,6 +1,7 @@
 use Rattle.std.specs.Prelude.{◌≡◌, ℕ, ◌+◌, ◌≤◌, Bool, true, false, not, ◌&&◌, ◌||◌, ◌==◌, count_by, Option, Some, None, List, [], ◌∷◌, ◌++◌, length, slice_get, All}
 use Rattle.std.specs.List.{AllZip, Contains, filter, filter_map, list_any, position}
 use Rattle.zk_base.specs.declared.errors.Errno.TheVariants.{Again}
+use Rattle.zk_line.specs.declared.types.Ref.{Ref}
 use Rattle.zk_line.specs.declared.events.Event.{Event}
 use Rattle.zk_line.specs.declared.events.Event.TheVariants.{Ignore, Sem, Msgq, Sig}
 use Rattle.zk_line.specs.declared.events.TheConstants.{MOST_EVENTS}
@@ -343,8 +344,42 @@ OfEachPoll P = (word : Word) (timeout : Timeout) (events : List Event) → lengt
     (play : List Made) (answer : Answer) → IsAnswered word timeout events play answer →
     AreServed play → P timeout events play answer
 
--- a poll that goes on has something left to do: once it is done, it has its answer
-abbrev pub GoesOnUntilDone : Type 0
-GoesOnUntilDone = (word : Word) (timeout : Timeout) (events : List Event) → length events ≤ MOST_EVENTS →
-    (front : List Made) (made : Made) (stage : Stage) → LeadsOn word timeout events Start (front ++ made ∷ []) stage →
-    AreServed (front ++ made ∷ []) → IsDone timeout events (front ++ made ∷ []) → ⊥
+-- the step that waits for the note of a registration
+abbrev pub end_of : Spot → Option Step
+end_of (spots.Sem object place) = Some (steps.Sem object (sem_ops.PollEnd place))
+end_of (spots.Msgq object place) = Some (steps.Msgq object (msgq_ops.PollEnd place))
+end_of spot = None
+
+-- a poll that waits attempts all that it waits for: the end of each registration, a look at each signal, and the end of its alarm last
+pub record WaitsForAll (events : List Event) (play : List Made) (attempts : List Step) : Type 0 where
+  pub registered : (k : ℕ) (spot : Spot) → IsRegistered events play spot k →
+      (step : Step) × (index : ℕ) × (end_of spot ≡ Some step) × (slice_get attempts index ≡ Some step)
+  pub signals : (k : ℕ) (signal : Ref) → slice_get events k ≡ Some (Sig signal) →
+      (index : ℕ) × (slice_get attempts index ≡ Some (steps.LookSignal (ref_object signal) true))
+  pub alarm : (moment : ℕ) → IsDue play moment → (index : ℕ) × (index + 1 ≡ length attempts)
+      × (slice_get attempts index ≡ Some (steps.Clock (clock_ops.AlarmEnd moment)))
+
+-- an attempt that asks for an event
+abbrev pub AsksFor : Event → Step → Type 0
+AsksFor event step = (reply : StepReply) → (is_ask (step, reply) ≡ true) × (names event (step, reply) ≡ true)
+
+-- a poll that isn't answered has its attempts: with ticks the alarm first; then an ask as long as some event isn't asked; then all
+-- that it waits for; and once the waiting is over a step that gives a registration up
+pub record GoesOn (timeout : Timeout) (events : List Event) (play : List Made) (attempts : List Step) :
+    Type 0 where
+  pub begins : (ticks : ℕ) → timeout ≡ Ticks ticks → play ≡ [] →
+      attempts ≡ steps.Clock (clock_ops.Alarm ticks) ∷ []
+  pub asking : ((ticks : ℕ) → timeout ≡ Ticks ticks → play ≡ [] → ⊥) → (k : ℕ) (event : Event) →
+      slice_get (events_from 0 events) (length (asks play)) ≡ Some (k, event) →
+      (step : Step) × (attempts ≡ step ∷ []) × AsksFor event step
+  pub waiting : ((ticks : ℕ) → timeout ≡ Ticks ticks → play ≡ [] → ⊥) →
+      length (asks play) ≡ length (events_from 0 events) → is_over play ≡ false → WaitsForAll events play attempts
+  pub quitting : length (asks play) ≡ length (events_from 0 events) → is_over play ≡ true →
+      (step : Step) × (attempts ≡ step ∷ []) × ((reply : StepReply) → is_quit (step, reply) ≡ true)
+  pub undone : (play ≡ [] → ⊥) → IsDone timeout events play → ⊥
+
+-- it holds of each poll of up to eight events, as far as it was played without its answer, over any services
+abbrev pub OfEachStage : (Timeout → List Event → List Made → List Step → Type 0) → Type 0
+OfEachStage P = (word : Word) (timeout : Timeout) (events : List Event) → length events ≤ MOST_EVENTS →
+    (play : List Made) (stage : Stage) → LeadsOn word timeout events Start play stage →
+    AreServed play → P timeout events play (poll_attempts timeout events stage)
