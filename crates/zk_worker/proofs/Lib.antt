@@ -8,6 +8,7 @@ pub mod PollReplies
 pub mod PollPlays
 pub mod PollAnswers
 pub mod PollLaws
+pub mod PollTells
 pub mod Fits
 pub mod Ranges
 pub mod Families
