@@ -5,7 +5,8 @@ use Rattle.std.specs.List.{AllZip, Contains, list_any}
 use Rattle.std.proofs.lemmas.Bool.{and_parts, and_from, not-true, not_from_false, not-false, both_ways, or_parts, cond-true, cond-false}
 use Rattle.std.proofs.lemmas.List.{length-append, length_push, nil_from_length}
 use Rattle.std.proofs.lemmas.List.Elements.{All-head}
-use Rattle.std.proofs.lemmas.Option.{same_Some, slice_get_within, slice_get-get_or, some_pair_parts}
+use Rattle.std.proofs.lemmas.List.Quantifiers.{position-Some}
+use Rattle.std.proofs.lemmas.Option.{same_Some, slice_get_within, slice_get-get_or, get_or_from_slice_get, some_pair_parts}
 use Rattle.zk_base.proofs.Lists.{All-front, All-back, slice_get-one}
 use Rattle.zk_base.specs.declared.errors.Errno.TheVariants.{Again}
 use Rattle.zk_line.specs.declared.events.Event.{Event}
@@ -33,11 +34,11 @@ use Rattle.zk_worker.specs.declared.steps.Step.TheVariants as steps
 use Rattle.zk_worker.specs.declared.steps.StepReply.{StepReply}
 use Rattle.zk_worker.specs.declared.steps.StepReply.TheVariants as step_replies
 use Rattle.zk_worker.specs.Polls.{waits, fresh, is_armed, is_ready, asks_more, unasked_from, ask_step, drop_step, step_at, asking, dropping, watching, alarm_steps, registers, poll_attempts, is_closing, polling, mark_of, event_of, marked, alarm_after, ready_from, poll_answer, is_answered, poll_goes, polled, poll_progress}
-use Rattle.zk_worker.specs.PollLaws.{Made, Leads, LeadsOn, StandsAt, AreServed, may_reply, events_from, asks, AreRising, NamesWhatIsTold, AnswersWhatIsTold, IsDone, KeepsPollLaws, OfEachPoll, OfEachStage, GoesOn, WaitsForAll, AsksFor, is_over, is_quit, is_alarm_end, tells_ready}
+use Rattle.zk_worker.specs.PollLaws.{Made, Leads, LeadsOn, StandsAt, AreServed, may_reply, events_from, asks, AreRising, NamesWhatIsTold, AnswersWhatIsTold, IsDone, KeepsPollLaws, OfEachPoll, OfEachStage, GoesOn, WaitsForAll, AsksFor, is_over, is_alarm_end, tells_ready, GivesUpFirst, endings}
 use Rattle.zk_worker.specs.Refs.{ref_object}
 use Rattle.zk_worker.proofs.PollSteps.{all_taken}
-use Rattle.zk_worker.proofs.PollReplies.{asks-for, stands-attempts}
-use Rattle.zk_worker.proofs.PollMarks.{AsksNext, asks_first, known-at, first_armed, watching-has, to_ask, none_to_ask, no_unasked, to_ask-fresh, spot_for, spot_for-unasked, standing, standing-fresh, standing-none, known-fresh, known-none}
+use Rattle.zk_worker.proofs.PollReplies.{asks-for, stands-attempts, spot_for-armed}
+use Rattle.zk_worker.proofs.PollMarks.{Standing, standing-counts, AsksNext, asks_first, known-at, first_armed, watching-has, to_ask, none_to_ask, no_unasked, to_ask-fresh, spot_for, spot_for-unasked, standing, standing-fresh, standing-none, known-fresh, known-none}
 use Rattle.zk_worker.proofs.PollPlays.{Apart, apart-front, Kept, kept-clock, zip-length, Named, slice_get-here, stands-cases}
 use Rattle.zk_worker.proofs.PollAnswers.{Later, over-is, all-asked, polling-kept}
 
@@ -71,6 +72,7 @@ kept-fresh timeout events few = record {
   alarmed = λ before made stands. absurd (nil-stands before made stands);
   due = λ moment is. absurd (cc);
   set_due = λ moment set unended. absurd (nil-stands [] (steps.Clock (clock_ops.Alarm set.ticks), step_replies.Clock (clock_replies.At moment) set.place) set.stands);
+  left = λ k spot registered. absurd (nil-stands registered.before registered.ask registered.stands);
   stands = λ unended k spot registered. absurd (nil-stands registered.before registered.ask registered.stands);
 }
 
@@ -454,7 +456,7 @@ waits-attempts timeout events play alarm marks kept few all unended =
 -- and one whose waiting is over a step that gives a registration up
 quits-attempts : (timeout : Timeout) (events : List Event) (play : List Made) (alarm : Alarm) (marks : List Mark) → Kept timeout events play alarm marks →
     is_answered timeout events alarm marks ≡ false → length (asks play) ≡ length (events_from 0 events) → is_over play ≡ true →
-    (step : Step) × (polling timeout events alarm marks ≡ step ∷ []) × ((reply : StepReply) → is_quit (step, reply) ≡ true)
+    (step : Step) × (polling timeout events alarm marks ≡ step ∷ []) × GivesUpFirst events play step
 quits-attempts timeout events play alarm marks kept unanswered all over =
     let none = asked-all timeout events play alarm marks kept all in
     let closes : is_closing alarm marks ≡ true = sym (over-is timeout events play alarm marks kept) ∙ over in
@@ -471,7 +473,23 @@ quits-attempts timeout events play alarm marks kept unanswered all over =
           (cond (is_closing alarm marks) (option_to_list (dropping events marks)) (watching (take MOST_EVENTS events) marks ++ alarm_steps alarm))) none
           ∙ ap (λ (b : Bool). cond b (option_to_list (dropping events marks)) (watching (take MOST_EVENTS events) marks ++ alarm_steps alarm)) closes
           ∙ ap (λ (o : Option Step). option_to_list o) stepping,
-      quits.5,
+      record {
+        place = first.0;
+        spot = at.0;
+        quits = quits.5;
+        registered = kept.armed first.0 at.1.event at.1.mark at.0 at.1.there at.1.marked at.1.is;
+        stands = λ test passes.
+            let counts = standing-counts test events marks first.0 at.1.event at.1.mark at.0 at.1.there at.1.marked at.1.is passes in
+            let same = kept.same test in
+            omega (arith, counts, same);
+        first = λ k other registered below. ⊎_elim
+            (λ (standing : Standing events marks other k).
+            let none = (position-Some is_armed marks first.0 Unasked first.2).2 k below in
+            let mark = get_or_from_slice_get marks k standing.mark Unasked standing.marked in
+            absurd (both_ways (is_armed standing.mark) (ap is_armed (sym mark) ∙ none) (spot_for-armed standing.event standing.mark other standing.is)))
+            (λ (ended : Contains (endings play) other). ended)
+            (kept.left k other registered);
+      },
     ) where
       armed-left : (more closes stays armed : Bool) → more ≡ false → closes ≡ true → (not more && ((closes || stays) && not armed)) ≡ false → armed ≡ true
       armed-left true closes stays armed none over unended = absurd (cc)

@@ -1,5 +1,5 @@
 -- The marks of a poll's events, event by event.
-use Rattle.std.proofs.Common.{◌≡◌, ℕ, zero, suc, ◌+◌, ◌≤◌, Bool, true, false, ◌||◌, cond, is_some, Option, Some, None, option_to_list, List, [], ◌∷◌, ◌++◌, length, set, replicate, slice_get, count_by, All, refl, sym, ap, subst, ◌∙◌, arith}
+use Rattle.std.proofs.Common.{◌<◌, ◌≡◌, ℕ, zero, suc, ◌+◌, ◌≤◌, Bool, true, false, ◌||◌, cond, is_some, Option, Some, None, option_to_list, List, [], ◌∷◌, ◌++◌, length, set, replicate, slice_get, count_by, All, refl, sym, ap, subst, ◌∙◌, arith}
 use Rattle.std.specs.List.{list_any, position, position_from}
 use Rattle.std.proofs.lemmas.Bool.{or_parts, or_from, both_ways}
 use Rattle.std.proofs.lemmas.Iterator.Adapters.{position_from-zero}
@@ -256,6 +256,25 @@ pub record Standing (events : List Event) (marks : List Mark) (spot : Spot) (k :
   pub there : slice_get events k ≡ Some event
   pub marked : slice_get marks k ≡ Some mark
   pub is : spot_for event mark ≡ Some spot
+
+count-one : (test : Spot → Bool) (spot : Spot) → test spot ≡ true → 0 < count_by test (spot ∷ [])
+count-one test spot is = let one = ap {B = ℕ} (λ (b : Bool). cond b 1 0) is in omega (arith, one)
+
+-- what stands is counted
+pub standing-counts : (test : Spot → Bool) (events : List Event) (marks : List Mark) (k : ℕ) (event : Event) (mark : Mark) (spot : Spot) → slice_get events k ≡ Some event →
+    slice_get marks k ≡ Some mark → spot_for event mark ≡ Some spot → test spot ≡ true → 0 < count_by test (standing events marks)
+standing-counts test [] marks k event mark spot there marked is passes = absurd (cc)
+standing-counts test (e ∷ events) [] k event mark spot there marked is passes = absurd (cc)
+standing-counts test (e ∷ events) (m ∷ marks) zero event mark spot there marked is passes =
+    let same : spot_for e m ≡ Some spot = ap (λ (x : Event). spot_for x m) (same_Some e event there) ∙ ap (λ (x : Mark). spot_for event x) (same_Some m mark marked) ∙ is in
+    let both = count-append test (option_to_list (spot_for e m)) (standing events marks) in
+    let here = ap (λ (o : Option Spot). count_by test (option_to_list o)) same in
+    let one = count-one test spot passes in
+    omega (arith, both, here, one)
+standing-counts test (e ∷ events) (m ∷ marks) (suc k) event mark spot there marked is passes =
+    let both = count-append test (option_to_list (spot_for e m)) (standing events marks) in
+    let later = standing-counts test events marks k event mark spot there marked is passes in
+    omega (arith, both, later)
 
 some-is : {X : Type 0} (o : Option X) → is_some o ≡ true → (x : X) × (o ≡ Some x)
 some-is None is = absurd (cc)

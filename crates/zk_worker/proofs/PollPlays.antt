@@ -1,9 +1,9 @@
 -- What holds along each play of a poll: its marks are what its steps told.
 use Rattle.std.proofs.Common.{◌≡◌, ℕ, suc, ◌+◌, ◌<◌, Bool, true, false, ◌||◌, cond, eqb, Option, Some, None, option_to_list, List, [], ◌∷◌, ◌++◌, length, set, slice_get, count_by, refl, sym, ap, subst, ◌∙◌, ◌⊎◌, inl, inr, ⊎_elim, append_assoc, append-nil, arith}
-use Rattle.std.specs.List.{AllZip, filter_map, cons_option, list_any}
+use Rattle.std.specs.List.{AllZip, filter_map, cons_option, list_any, Contains}
 use Rattle.std.proofs.lemmas.Bool.{cases_eq, eq-eqb, ne_eqb, cond-true, cond-false, both_ways, or_parts, or_from}
 use Rattle.std.proofs.lemmas.List.{length-set}
-use Rattle.std.proofs.lemmas.List.Elements.{filter-append, filter_map-append}
+use Rattle.std.proofs.lemmas.List.Elements.{filter-append, filter_map-append, Contains-append_left, Contains-append_right}
 use Rattle.std.proofs.lemmas.List.Folds.{list_any-append}
 use Rattle.std.proofs.lemmas.List.Sums.{sum_by-append}
 use Rattle.std.proofs.lemmas.Option.{same_Some, slice_get_within, some_pair_parts}
@@ -117,6 +117,7 @@ pub record Kept (timeout : Timeout) (events : List Event) (play : List Made) (al
   pub alarmed : KeepsItsAlarm timeout play
   pub due : (moment : ℕ) → alarm ≡ Due moment → IsDue play moment
   pub set_due : (moment : ℕ) → IsDue play moment → list_any is_alarm_end play ≡ false → alarm ≡ Due moment
+  pub left : (k : ℕ) (spot : Spot) → IsRegistered events play spot k → Standing events marks spot k ⊎ Contains (endings play) spot
   pub stands : is_over play ≡ false → (k : ℕ) (spot : Spot) → IsRegistered events play spot k → Standing events marks spot k
 
 cons-one : (o : Option Spot) → cons_option o [] ≡ option_to_list o
@@ -220,6 +221,16 @@ due-longer play more moment due = record {
   place = due.place;
   stands = stands-longer play more [] (steps.Clock (clock_ops.Alarm due.ticks), step_replies.Clock (clock_replies.At moment) due.place) due.stands;
 }
+
+-- what a play has ended is ended in each longer one, and what its last step ends too
+ended-longer : (play : List Made) (made : Made) (spot : Spot) → Contains (endings play) spot → Contains (endings (play ++ made ∷ [])) spot
+ended-longer play made spot was =
+    subst (λ (xs : List Spot). Contains xs spot) (sym (filter_map-append ended_at play (made ∷ []))) (Contains-append_left (endings play) (endings (made ∷ [])) spot was)
+
+ended-last : (play : List Made) (made : Made) (spot : Spot) → ended_at made ≡ Some spot → Contains (endings (play ++ made ∷ [])) spot
+ended-last play made spot is =
+    let here : Contains (endings (made ∷ [])) spot = subst (λ (o : Option Spot). Contains (cons_option o []) spot) (sym is) (0, omega arith, refl) in
+    subst (λ (xs : List Spot). Contains xs spot) (sym (filter_map-append ended_at play (made ∷ []))) (Contains-append_right (endings play) (endings (made ∷ [])) spot here)
 
 -- where no step of a play with one more is such a step, none of the play is, nor the last
 pub any-front : (test : Made → Bool) (play : List Made) (made : Made) → list_any test (play ++ made ∷ []) ≡ false → (list_any test play ≡ false) × (test made ≡ false)
@@ -327,6 +338,24 @@ kept-marked timeout events play alarm marks made k event mark kept apart there m
           (λ (at : StandsAt play [] first). says.still alarm ∙ kept.set_due moment (record { ticks = set.ticks; place = set.place; stands = at }) (any-front is_alarm_end play made unended).0)
           (λ (last : ([] ≡ play) × (first ≡ made)). absurd (both_ways (is_of_clock made) says.free (ap is_of_clock (sym last.1))))
           (stands-cases play made [] first set.stands.rest set.stands.whole);
+      left = λ j spot registered. ⊎_elim
+          (λ (at : StandsAt play registered.before registered.ask). ⊎_elim
+          (λ (was : Standing events marks spot j). ⊎_elim
+          (λ (same : k ≡ j).
+          let event_so : event ≡ was.event = same_Some event was.event (sym there ∙ ap (λ (x : ℕ). slice_get events x) same ∙ was.there) in
+          let mark_so : mark ≡ was.mark = same_Some mark was.mark (sym marked ∙ ap (λ (x : ℕ). slice_get marks x) same ∙ was.marked) in
+          inr (ended-last play made spot (says.left ∙ ap (λ (x : Event). spot_for x mark) event_so ∙ ap (λ (x : Mark). spot_for was.event x) mark_so ∙ was.is)))
+          (λ (other : k ≡ j → ⊥). inl (record { event = was.event; mark = was.mark; there = was.there; marked = aside j other ∙ was.marked; is = was.is }))
+          (cases_eq k j))
+          (λ (was : Contains (endings play) spot). inr (ended-longer play made spot was))
+          (kept.left j spot (record { before = registered.before; ask = registered.ask; stands = at; at = registered.at; for = registered.for })))
+          (λ (last : (registered.before ≡ play) × (registered.ask ≡ made)).
+          let at : registered_at made ≡ Some spot = ap registered_at (sym last.1) ∙ registered.at in
+          let turn : IsAskFor events play j = subst (λ (p : List Made). IsAskFor events p j) last.0 registered.for in
+          let then : IsFor events play made.0 j = ask-for events play made.0 made.1 j (registered-asks made.0 made.1 spot at) turn in
+          let same : k ≡ j = for-one events play made.0 k j apart for then in
+          inl (record { event = event; mark = new; there = ap (λ (x : ℕ). slice_get events x) (sym same) ∙ there; marked = here j same; is = sym says.taken ∙ at }))
+          (stands-cases play made registered.before registered.ask registered.stands.rest registered.stands.whole);
       stands = λ unended j spot registered.
           let before = over-front play made unended in
           let ended : ended_at made ≡ Some spot → ⊥ = λ at.
@@ -390,6 +419,15 @@ kept-clock timeout events play alarm new marks op reply kept ends time alarmed d
       alarmed = alarmed-more timeout play made kept.alarmed alarmed;
       due = due;
       set_due = set_due;
+      left = λ j spot registered. ⊎_elim
+          (λ (at : StandsAt play registered.before registered.ask). ⊎_elim
+          (λ (was : Standing events marks spot j). inl was)
+          (λ (was : Contains (endings play) spot). inr (ended-longer play made spot was))
+          (kept.left j spot (record { before = registered.before; ask = registered.ask; stands = at; at = registered.at; for = registered.for })))
+          (λ (last : (registered.before ≡ play) × (registered.ask ≡ made)).
+          let at : None ≡ Some spot = sym says.none ∙ ap registered_at (sym last.1) ∙ registered.at in
+          absurd (cc))
+          (stands-cases play made registered.before registered.ask registered.stands.rest registered.stands.whole);
       stands = λ unended j spot registered. ⊎_elim
           (λ (at : StandsAt play registered.before registered.ask).
           kept.stands (over-front play made unended).0 j spot (record { before = registered.before; ask = registered.ask; stands = at; at = registered.at; for = registered.for }))

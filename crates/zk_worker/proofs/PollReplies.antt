@@ -21,7 +21,7 @@ use Rattle.zk_worker.specs.declared.steps.Step.TheVariants as steps
 use Rattle.zk_worker.specs.declared.steps.StepReply.{StepReply}
 use Rattle.zk_worker.specs.declared.steps.StepReply.TheVariants as step_replies
 use Rattle.zk_worker.specs.Polls.{is_to_ask, is_armed, is_ready, ask_step, watch_step, drop_step, is_watch, mark_of, alarm_after}
-use Rattle.zk_worker.specs.PollLaws.{Made, may_reply, registered_at, ended_at, is_ask, is_arm, asks_to_wait, is_wait, is_quit, is_of_clock, is_alarm_end, tells_ready, names, IsAskFor, IsRegistered, IsFor, AsksFor, end_of}
+use Rattle.zk_worker.specs.PollLaws.{Made, may_reply, registered_at, ended_at, is_ask, is_arm, asks_to_wait, is_wait, is_quit, is_of_clock, is_alarm_end, tells_ready, names, IsAskFor, IsRegistered, IsFor, AsksFor, end_of, quit_of}
 use Rattle.zk_worker.specs.Refs.{ref_object}
 use Rattle.zk_worker.proofs.PollMarks.{is_unasked, spot_for}
 
@@ -273,14 +273,14 @@ asks-for registers (Sig signal) is = (steps.LookSignal (ref_object signal) false
 
 -- and one at which the caller is registered has what waits for its note, and what gives it up
 pub stands-attempts : (event : Event) (mark : Mark) (spot : Spot) → spot_for event mark ≡ Some spot →
-    (ends : Step) × (quits : Step) × (end_of spot ≡ Some ends) × (watch_step event mark ≡ Some ends) × (drop_step event mark ≡ Some quits) × ((reply : StepReply) → is_quit (quits, reply) ≡ true)
+    (ends : Step) × (quits : Step) × (end_of spot ≡ Some ends) × (watch_step event mark ≡ Some ends) × (drop_step event mark ≡ Some quits) × (quit_of spot ≡ Some quits)
 stands-attempts (Sem sem) (Armed place) spot is = (
   steps.Sem (ref_object sem) (sem_ops.PollEnd place),
   steps.Sem (ref_object sem) (sem_ops.PollQuit place),
   ap end_of (sym (same_Some (spots.Sem (ref_object sem) place) spot is)),
   refl,
   refl,
-  λ reply. refl,
+  ap quit_of (sym (same_Some (spots.Sem (ref_object sem) place) spot is)),
 )
 stands-attempts (Msgq queue) (Armed place) spot is = (
   steps.Msgq (ref_object queue) (msgq_ops.PollEnd place),
@@ -288,6 +288,12 @@ stands-attempts (Msgq queue) (Armed place) spot is = (
   ap end_of (sym (same_Some (spots.Msgq (ref_object queue) place) spot is)),
   refl,
   refl,
-  λ reply. refl,
+  ap quit_of (sym (same_Some (spots.Msgq (ref_object queue) place) spot is)),
 )
 stands-attempts event mark spot is = absurd (cc)
+
+-- what the caller is registered by is a mark that says so
+pub spot_for-armed : (event : Event) (mark : Mark) (spot : Spot) → spot_for event mark ≡ Some spot → is_armed mark ≡ true
+spot_for-armed (Sem sem) (Armed place) spot is = refl
+spot_for-armed (Msgq queue) (Armed place) spot is = refl
+spot_for-armed event mark spot is = absurd (cc)

@@ -1,4 +1,4 @@
-use Rattle.std.specs.Prelude.{◌≡◌, ℕ, ◌+◌, ◌≤◌, Bool, true, false, not, ◌&&◌, ◌||◌, ◌==◌, count_by, Option, Some, None, List, [], ◌∷◌, ◌++◌, length, slice_get, All}
+use Rattle.std.specs.Prelude.{◌≡◌, ℕ, ◌+◌, ◌<◌, ◌≤◌, Bool, true, false, not, ◌&&◌, ◌||◌, ◌==◌, count_by, Option, Some, None, List, [], ◌∷◌, ◌++◌, length, slice_get, All}
 use Rattle.std.specs.List.{AllZip, Contains, filter, filter_map, list_any, position}
 use Rattle.zk_base.specs.declared.errors.Errno.TheVariants.{Again}
 use Rattle.zk_line.specs.declared.types.Ref.{Ref}
@@ -363,8 +363,25 @@ pub record WaitsForAll (events : List Event) (play : List Made) (attempts : List
 abbrev pub AsksFor : Event → Step → Type 0
 AsksFor event step = (reply : StepReply) → (is_ask (step, reply) ≡ true) × (names event (step, reply) ≡ true)
 
+-- the step that gives a registration up
+abbrev pub quit_of : Spot → Option Step
+quit_of (spots.Sem object place) = Some (steps.Sem object (sem_ops.PollQuit place))
+quit_of (spots.Msgq object place) = Some (steps.Msgq object (msgq_ops.PollQuit place))
+quit_of spot = None
+
+-- the step gives up the first registration that stands: it isn't ended, and those of earlier events are
+pub record GivesUpFirst (events : List Event) (play : List Made) (step : Step) : Type 0 where
+  pub place : ℕ
+  pub spot : Spot
+  pub quits : quit_of spot ≡ Some step
+  pub registered : IsRegistered events play spot place
+  pub stands : (test : Spot → Bool) → test spot ≡ true →
+      count_by test (endings play) < count_by test (registrations play)
+  pub first : (k : ℕ) (other : Spot) → IsRegistered events play other k → k < place →
+      Contains (endings play) other
+
 -- a poll that isn't answered has its attempts: with ticks the alarm first; then an ask as long as some event isn't asked; then all
--- that it waits for; and once the waiting is over a step that gives a registration up
+-- that it waits for; and once the waiting is over the step that gives the first registration up
 pub record GoesOn (timeout : Timeout) (events : List Event) (play : List Made) (attempts : List Step) :
     Type 0 where
   pub begins : (ticks : ℕ) → timeout ≡ Ticks ticks → play ≡ [] →
@@ -375,7 +392,7 @@ pub record GoesOn (timeout : Timeout) (events : List Event) (play : List Made) (
   pub waiting : ((ticks : ℕ) → timeout ≡ Ticks ticks → play ≡ [] → ⊥) →
       length (asks play) ≡ length (events_from 0 events) → is_over play ≡ false → WaitsForAll events play attempts
   pub quitting : length (asks play) ≡ length (events_from 0 events) → is_over play ≡ true →
-      (step : Step) × (attempts ≡ step ∷ []) × ((reply : StepReply) → is_quit (step, reply) ≡ true)
+      (step : Step) × (attempts ≡ step ∷ []) × GivesUpFirst events play step
   pub undone : (play ≡ [] → ⊥) → IsDone timeout events play → ⊥
 
 -- it holds of each poll of up to eight events, as far as it was played without its answer, over any services
