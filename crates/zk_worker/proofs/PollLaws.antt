@@ -9,6 +9,7 @@ use Rattle.std.proofs.lemmas.List.Quantifiers.{position-Some}
 use Rattle.std.proofs.lemmas.Option.{same_Some, slice_get_within, slice_get-get_or, get_or_from_slice_get, some_pair_parts}
 use Rattle.zk_base.proofs.Lists.{All-front, All-back, slice_get-one}
 use Rattle.zk_base.specs.declared.errors.Errno.TheVariants.{Again}
+use Rattle.zk_line.specs.declared.types.Ref.{Ref}
 use Rattle.zk_line.specs.declared.events.Event.{Event}
 use Rattle.zk_line.specs.declared.events.Event.TheVariants.{Sig}
 use Rattle.zk_line.specs.declared.events.TheConstants.{MOST_EVENTS}
@@ -34,11 +35,11 @@ use Rattle.zk_worker.specs.declared.steps.Step.TheVariants as steps
 use Rattle.zk_worker.specs.declared.steps.StepReply.{StepReply}
 use Rattle.zk_worker.specs.declared.steps.StepReply.TheVariants as step_replies
 use Rattle.zk_worker.specs.Polls.{waits, fresh, is_armed, is_ready, asks_more, unasked_from, ask_step, drop_step, step_at, asking, dropping, watching, alarm_steps, registers, poll_attempts, is_closing, polling, mark_of, event_of, marked, alarm_after, ready_from, poll_answer, is_answered, poll_goes, polled, poll_progress}
-use Rattle.zk_worker.specs.PollLaws.{Made, Leads, LeadsOn, StandsAt, AreServed, may_reply, events_from, asks, AreRising, NamesWhatIsTold, AnswersWhatIsTold, IsDone, KeepsPollLaws, OfEachPoll, OfEachStage, GoesOn, WaitsForAll, AsksFor, is_over, is_alarm_end, tells_ready, GivesUpFirst, endings}
+use Rattle.zk_worker.specs.PollLaws.{Made, Leads, LeadsOn, StandsAt, AreServed, may_reply, events_from, asks, AreRising, NamesWhatIsTold, AnswersWhatIsTold, IsDone, KeepsPollLaws, OfEachPoll, OfEachStage, GoesOn, WaitsForAll, AsksFor, is_over, is_alarm_end, tells_ready, GivesUpFirst, endings, IsRegistered, WaitsFor, end_of}
 use Rattle.zk_worker.specs.Refs.{ref_object}
 use Rattle.zk_worker.proofs.PollSteps.{all_taken}
 use Rattle.zk_worker.proofs.PollReplies.{asks-for, stands-attempts, spot_for-armed}
-use Rattle.zk_worker.proofs.PollMarks.{Standing, standing-counts, AsksNext, asks_first, known-at, first_armed, watching-has, to_ask, none_to_ask, no_unasked, to_ask-fresh, spot_for, spot_for-unasked, standing, standing-fresh, standing-none, known-fresh, known-none}
+use Rattle.zk_worker.proofs.PollMarks.{WatchAt, watching-order, Standing, standing-counts, AsksNext, asks_first, known-at, first_armed, watching-has, to_ask, none_to_ask, no_unasked, to_ask-fresh, spot_for, spot_for-unasked, standing, standing-fresh, standing-none, known-fresh, known-none}
 use Rattle.zk_worker.proofs.PollPlays.{Apart, apart-front, Kept, kept-clock, zip-length, Named, slice_get-here, stands-cases}
 use Rattle.zk_worker.proofs.PollAnswers.{Later, over-is, all-asked, polling-kept}
 
@@ -419,6 +420,25 @@ asks-attempts timeout events play alarm marks k event kept next = by (unasked_fr
         subst (λ (e : Event). AsksFor e asked.0) same.1 asked.2,
       )
 
+-- what waits for an event is the step of its mark
+watches-at : (timeout : Timeout) (events : List Event) (play : List Made) (alarm : Alarm) (marks : List Mark) (k : ℕ) (step : Step) → Kept timeout events play alarm marks →
+    length events ≤ MOST_EVENTS → is_over play ≡ false → WaitsFor events play k step → WatchAt events marks k step
+watches-at timeout events play alarm marks k step kept few unended waits = ⊎_elim
+    (λ (by : (spot : Spot) × IsRegistered events play spot k × (end_of spot ≡ Some step)).
+    let at = kept.stands unended k by.0 by.1 in
+    let ends = stands-attempts at.event at.mark by.0 at.is in
+    record { event = at.event; mark = at.mark; there = at.there; marked = at.marked; is = ends.3 ∙ sym ends.2 ∙ by.2 })
+    (λ (by : (signal : Ref) × (slice_get events k ≡ Some (Sig signal)) × (steps.LookSignal (ref_object signal) true ≡ step)).
+    let within = slice_get_within events k (Sig by.0) by.1 in
+    record {
+      event = Sig by.0;
+      mark = get_or marks k Unasked;
+      there = by.1;
+      marked = slice_get-get_or marks k Unasked (omega (arith, within, kept.size));
+      is = ap (λ (s : Step). Some s) by.2;
+    })
+    waits
+
 -- a poll that waits attempts all that it waits for
 waits-attempts : (timeout : Timeout) (events : List Event) (play : List Made) (alarm : Alarm) (marks : List Mark) → Kept timeout events play alarm marks → length events ≤ MOST_EVENTS →
     length (asks play) ≡ length (events_from 0 events) → is_over play ≡ false → WaitsForAll events play (polling timeout events alarm marks)
@@ -431,18 +451,18 @@ waits-attempts timeout events play alarm marks kept few all unended =
     ∙ ap (λ (b : Bool). cond b (option_to_list (dropping events marks)) (watching (take MOST_EVENTS events) marks ++ alarm_steps alarm)) closes
     ∙ ap (λ (es : List Event). watching es marks ++ alarm_steps alarm) (all_taken events few) in
     subst (λ (attempts : List Step). WaitsForAll events play attempts) (sym stays) (record {
-      registered = λ k spot registered.
-          let at = kept.stands unended k spot registered in
-          let ends = stands-attempts at.event at.mark spot at.is in
-          let has = watching-has events marks k at.event at.mark ends.0 at.there at.marked ends.3 in
-          (ends.0, has.0, ends.2, slice_get-append_left (watching events marks) (alarm_steps alarm) has.0 (slice_get_within (watching events marks) has.0 ends.0 has.1) ∙ has.1);
-      signals = λ k signal there.
-          let look = steps.LookSignal (ref_object signal) true in
-          let within = slice_get_within events k (Sig signal) there in
-          let mark = get_or marks k Unasked in
-          let marked : slice_get marks k ≡ Some mark = slice_get-get_or marks k Unasked (omega (arith, within, kept.size)) in
-          let has = watching-has events marks k (Sig signal) mark look there marked refl in
-          (has.0, slice_get-append_left (watching events marks) (alarm_steps alarm) has.0 (slice_get_within (watching events marks) has.0 look has.1) ∙ has.1);
+      all = λ k step waits.
+          let has = watching-has events marks k step (watches-at timeout events play alarm marks k step kept few unended waits) in
+          (has.0, slice_get-append_left (watching events marks) (alarm_steps alarm) has.0 (slice_get_within (watching events marks) has.0 step has.1) ∙ has.1);
+      in_order = λ j k first second below one two.
+          let at = watching-order events marks j k first second below
+          (watches-at timeout events play alarm marks j first kept few unended one) (watches-at timeout events play alarm marks k second kept few unended two) in (
+            at.0,
+            at.1,
+            at.2,
+            slice_get-append_left (watching events marks) (alarm_steps alarm) at.0 (slice_get_within (watching events marks) at.0 first at.3) ∙ at.3,
+            slice_get-append_left (watching events marks) (alarm_steps alarm) at.1 (slice_get_within (watching events marks) at.1 second at.4) ∙ at.4,
+          );
       alarm = λ moment due.
           let ends = steps.Clock (clock_ops.AlarmEnd moment) in
           let set : alarm ≡ Due moment = kept.set_due moment due (or_parts (list_any tells_ready play) (list_any is_alarm_end play) unended).1 in
@@ -507,6 +527,9 @@ goes-on timeout events play alarm marks kept few later over unanswered = record 
   waiting = λ begun all unended. waits-attempts timeout events play alarm marks kept few all unended;
   quitting = λ all is_one. quits-attempts timeout events play alarm marks kept (over is_one) all is_one;
   undone = λ some done. both_ways (is_answered timeout events alarm marks) (unanswered some) (done-answered timeout events play alarm marks kept done);
+  each = kept.each;
+  timed = kept.timed;
+  alarm = kept.alarmed;
 }
 
 plain-goes : (timeout : Timeout) (events : List Event) → length events ≤ MOST_EVENTS → ((ticks : ℕ) → timeout ≡ Ticks ticks → ⊥) → GoesOn timeout events [] (polling timeout events Unset fresh)
@@ -522,6 +545,9 @@ start-goes (Ticks ticks) events few = record {
   waiting = λ begun all unended. absurd (begun ticks refl refl);
   quitting = λ all over. absurd (cc);
   undone = λ some done. some refl;
+  each = λ before made stands free. absurd (nil-stands before made stands);
+  timed = λ before made stands. absurd (nil-stands before made stands);
+  alarm = λ before made stands. absurd (nil-stands before made stands);
 }
 
 pub poll_goes_on : OfEachStage GoesOn

@@ -1,4 +1,4 @@
-use Rattle.std.specs.Prelude.{◌≡◌, ℕ, ◌+◌, ◌<◌, ◌≤◌, Bool, true, false, not, ◌&&◌, ◌||◌, ◌==◌, count_by, Option, Some, None, List, [], ◌∷◌, ◌++◌, length, slice_get, All}
+use Rattle.std.specs.Prelude.{◌≡◌, ℕ, ◌+◌, ◌<◌, ◌≤◌, ◌⊎◌, Bool, true, false, not, ◌&&◌, ◌||◌, ◌==◌, count_by, Option, Some, None, List, [], ◌∷◌, ◌++◌, length, slice_get, All}
 use Rattle.std.specs.List.{AllZip, Contains, filter, filter_map, list_any, position}
 use Rattle.zk_base.specs.declared.errors.Errno.TheVariants.{Again}
 use Rattle.zk_line.specs.declared.types.Ref.{Ref}
@@ -113,7 +113,8 @@ ended_at (steps.Msgq object (msgq_ops.PollEnd place), reply) = Some (spots.Msgq 
 ended_at (steps.Msgq object (msgq_ops.PollQuit place), reply) = Some (spots.Msgq object place)
 ended_at made = None
 
--- the replies are such as services give: each is one that its step can have, and no two steps have registered at one place of an object
+-- the replies are such as services give: each is one that its step can have, and no two steps have registered at one place
+-- of an object
 pub record AreServed (play : List Made) : Type 0 where
   pub each : All (λ made. may_reply made ≡ true) play
   pub apart : (before other : List Made) (a b : Made) (spot : Spot) →
@@ -288,8 +289,8 @@ EachIsForOne events play = (before : List Made) (made : Made) → StandsAt play 
 abbrev pub is_over : List Made → Bool
 is_over play = list_any tells_ready play || list_any is_alarm_end play
 
--- a step comes in its time: an ask registers where the call waits and nothing was told to be ready yet; all else comes once each event
--- was asked; it waits until the waiting is over, and gives up only then
+-- a step comes in its time: an ask registers where the call waits and nothing was told to be ready yet; all else comes once
+-- each event was asked; it waits until the waiting is over, and gives up only then
 pub record IsInTime (timeout : Timeout) (events : List Event) (before : List Made) (made : Made) :
     Type 0 where
   pub arms : is_arm made ≡ true → asks_to_wait made ≡ (waits timeout && not (list_any tells_ready before))
@@ -350,12 +351,20 @@ end_of (spots.Sem object place) = Some (steps.Sem object (sem_ops.PollEnd place)
 end_of (spots.Msgq object place) = Some (steps.Msgq object (msgq_ops.PollEnd place))
 end_of spot = None
 
--- a poll that waits attempts all that it waits for: the end of each registration, a look at each signal, and the end of its alarm last
+-- the step waits for the event at this position: it ends its registration, or looks at its signal
+abbrev pub WaitsFor : List Event → List Made → ℕ → Step → Type 0
+WaitsFor events play k step =
+    ((spot : Spot) × IsRegistered events play spot k × (end_of spot ≡ Some step))
+    ⊎ ((signal : Ref) × (slice_get events k ≡ Some (Sig signal))
+    × (steps.LookSignal (ref_object signal) true ≡ step))
+
+-- a poll that waits attempts all that it waits for, in the order of the events, and the end of its alarm last
 pub record WaitsForAll (events : List Event) (play : List Made) (attempts : List Step) : Type 0 where
-  pub registered : (k : ℕ) (spot : Spot) → IsRegistered events play spot k →
-      (step : Step) × (index : ℕ) × (end_of spot ≡ Some step) × (slice_get attempts index ≡ Some step)
-  pub signals : (k : ℕ) (signal : Ref) → slice_get events k ≡ Some (Sig signal) →
-      (index : ℕ) × (slice_get attempts index ≡ Some (steps.LookSignal (ref_object signal) true))
+  pub all : (k : ℕ) (step : Step) → WaitsFor events play k step →
+      (index : ℕ) × (slice_get attempts index ≡ Some step)
+  pub in_order : (j k : ℕ) (first second : Step) → j < k → WaitsFor events play j first →
+      WaitsFor events play k second → (i n : ℕ) × (i < n) × (slice_get attempts i ≡ Some first)
+      × (slice_get attempts n ≡ Some second)
   pub alarm : (moment : ℕ) → IsDue play moment → (index : ℕ) × (index + 1 ≡ length attempts)
       × (slice_get attempts index ≡ Some (steps.Clock (clock_ops.AlarmEnd moment)))
 
@@ -380,8 +389,9 @@ pub record GivesUpFirst (events : List Event) (play : List Made) (step : Step) :
   pub first : (k : ℕ) (other : Spot) → IsRegistered events play other k → k < place →
       Contains (endings play) other
 
--- a poll that isn't answered has its attempts: with ticks the alarm first; then an ask as long as some event isn't asked; then all
--- that it waits for; and once the waiting is over the step that gives the first registration up
+-- a poll that isn't answered has its attempts: with ticks the alarm first; then an ask as long as some event isn't asked; then
+-- all that it waits for; and once the waiting is over the step that gives the first registration up. It isn't done, and what it
+-- did is in its time
 pub record GoesOn (timeout : Timeout) (events : List Event) (play : List Made) (attempts : List Step) :
     Type 0 where
   pub begins : (ticks : ℕ) → timeout ≡ Ticks ticks → play ≡ [] →
@@ -394,6 +404,9 @@ pub record GoesOn (timeout : Timeout) (events : List Event) (play : List Made) (
   pub quitting : length (asks play) ≡ length (events_from 0 events) → is_over play ≡ true →
       (step : Step) × (attempts ≡ step ∷ []) × GivesUpFirst events play step
   pub undone : (play ≡ [] → ⊥) → IsDone timeout events play → ⊥
+  pub each : EachIsForOne events play
+  pub timed : EachIsInTime timeout events play
+  pub alarm : KeepsItsAlarm timeout play
 
 -- it holds of each poll of up to eight events, as far as it was played without its answer, over any services
 abbrev pub OfEachStage : (Timeout → List Event → List Made → List Step → Type 0) → Type 0
