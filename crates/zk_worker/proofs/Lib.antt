@@ -3,6 +3,12 @@ pub mod Lists
 pub mod Limits
 pub mod Starts
 pub mod PollSteps
+pub mod PollMarks
+pub mod PollReplies
+pub mod PollPlays
+pub mod PollAnswers
+pub mod PollLaws
+pub mod PollTells
 pub mod Fits
 pub mod Ranges
 pub mod Families

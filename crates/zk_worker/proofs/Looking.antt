@@ -9,7 +9,6 @@ use Rattle.std.proofs.Math.Seq.{take-length}
 use Rattle.zk_base.specs.declared.ids.Who.{Who}
 use Rattle.zk_base.specs.declared.ids.Entry.{Entry}
 use Rattle.zk_base.specs.History.{entry}
-use Rattle.zk_base.specs.Legal.{state_after}
 use Rattle.zk_base.specs.declared.seen.Seen.{Seen}
 use Rattle.zk_model_wait.specs.declared.signal.SignalOp.{SignalOp}
 use Rattle.zk_model_wait.specs.declared.signal.SignalReply.{SignalReply}
@@ -26,7 +25,7 @@ use Rattle.zk_worker.specs.declared.steps.Spot.{Spot}
 use Rattle.zk_worker.specs.declared.steps.Spot.TheVariants as spots
 use Rattle.zk_worker.specs.Places.{At}
 use Rattle.zk_worker.specs.Protocol.{after, spot_of}
-use Rattle.zk_worker.specs.Single.{step_of, OthersGrew}
+use Rattle.zk_worker.specs.Single.{step_of}
 use Rattle.zk_worker.specs.Families.{with_entry, EachGrew}
 use Rattle.zk_worker.specs.Looks.{Longer, LooksGrew, last_of, looks_at, found_by, IsKnown, writes_of, seen_after}
 use Rattle.zk_worker.specs.Machines.{Machines, flags_after}

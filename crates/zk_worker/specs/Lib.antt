@@ -7,6 +7,8 @@ pub mod Looks
 pub mod Machines
 pub mod Places
 pub mod Playing
+pub mod PollLaws
+pub mod PollReplies
 pub mod Polls
 pub mod Positions
 pub mod Protocol

@@ -8,7 +8,7 @@ use Rattle.zk_model_wait.specs.declared.msgq.MsgqReply.TheVariants as msgq_repli
 use Rattle.zk_model_wait.specs.declared.sem.SemOp.TheVariants as sem_ops
 use Rattle.zk_model_wait.specs.declared.sem.SemReply.TheVariants as sem_replies
 use Rattle.zk_words.specs.declared.timeout.Timeout.{Timeout}
-use Rattle.zk_words.specs.declared.timeout.Timeout.TheVariants.{No, Ticks, Forever}
+use Rattle.zk_words.specs.declared.timeout.Timeout.TheVariants.{No, Ticks}
 use Rattle.zk_words.specs.declared.word.Word.{Word}
 use Rattle.zk_worker.specs.declared.answers.Answer.{Answer}
 use Rattle.zk_worker.specs.declared.answers.Answer.TheVariants as answers
