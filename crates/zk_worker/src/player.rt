@@ -11,7 +11,7 @@ ghost use Rattle.zk_worker.specs.Attempt.{IsMade};
 use crate::frames::MOST_FRAMES;
 use crate::protocol::spot_of;
 use crate::stack::{
-    first_frame, frames_ahead, frames_progress, move_frames, put, put_answer, settle,
+    first_frame, frames_ahead, frames_progress, move_frames, put_answer, settle,
 };
 use crate::steps::MOST_STEPS;
 use crate::{
@@ -19,7 +19,7 @@ use crate::{
 };
 use std::alloc::Global;
 use std::marker::Model;
-use zk_base::{NoMemory, Who};
+use zk_base::{NoMemory, Who, push_within};
 use zk_scenario::{Decl, Scenario};
 
 /// A player of a scenario, and what it has done.
@@ -141,7 +141,7 @@ impl Player {
         };
         let who = who_at(number, decl);
         let mut stack = Vec::with_capacity(alloc, MOST_FRAMES)?;
-        put(&mut stack, first_frame(role_at(decl, object)));
+        push_within(&mut stack, first_frame(role_at(decl, object)));
         settle(scenario, &mut stack);
         Ok(Player {
             who,
@@ -182,7 +182,7 @@ impl Player {
         let progress = frames_progress(scenario, &self.stack, step, reply);
         put_answer(&mut self.answers, number, &progress);
         move_frames(scenario, &mut self.stack, &progress);
-        put(&mut self.spots, spot_of(step, reply));
+        push_within(&mut self.spots, spot_of(step, reply));
     }
 
     /// Who it is to the services.

@@ -6,19 +6,8 @@ use crate::frames::MOST_FRAMES;
 use crate::protocol::{is_over, role_ahead, role_progress};
 use crate::steps::MOST_STEPS;
 use crate::{Answered, Frame, Progress, Role, Stage, Step, StepReply};
+use zk_base::push_within;
 use zk_scenario::Scenario;
-
-/// One item more, for which there is room.
-pub fn put<T: Drop>(items: &mut Vec<T>, item: T)
-    requires { vec_len items.old < vec_capacity items.old }
-    ensures items { items.new.items ≡ items.old.items ++ item ∷ [] }
-    ensures capacity { vec_capacity items.old ≤ vec_capacity items.new }
-{
-    match items.push(item) {
-        Ok(()) => {}
-        Err(_) => unreachable!(),
-    }
-}
 
 // The innermost frame is the last of the stack.
 
@@ -27,7 +16,7 @@ fn put_frame(stack: &mut Vec<Frame>, frame: Frame)
     ensures frames { reverse stack.new.items ≡ frame ∷ reverse stack.old.items }
     ensures capacity { vec_capacity stack.old ≤ vec_capacity stack.new }
 {
-    put(stack, frame);
+    push_within(stack, frame);
 }
 
 fn pop_frame(stack: &mut Vec<Frame>) -> Option<Frame>
@@ -142,7 +131,7 @@ pub fn put_answer(answers: &mut Vec<Answered>, number: u32, progress: &Progress)
     ensures capacity { vec_capacity answers.old ≤ vec_capacity answers.new }
 {
     match progress {
-        Progress::Answers(word, answer) => put(
+        Progress::Answers(word, answer) => push_within(
             answers,
             Answered {
                 step: number,

@@ -30,8 +30,8 @@ returns-clause-start c =
     subst (λ (l : List Decl). slice_get l object ≡ Some decl) c.decls.ensures.all
     (slice_get_read c.decls.result.now (length c.decls.result.now) object decl refl within c.in-Some-get.ensures.lookup.1) in
     let frame : c.first_frame.result ≡ first_frame (role_at decl object) = c.first_frame.ensures ∙ ap first_frame c.role_at.ensures in
-    let stack : c.put.new.items.items ≡ first_frame (role_at decl object) ∷ [] =
-    c.put.ensures.items ∙ ap (λ (l : List Frame). l ++ c.first_frame.result ∷ []) c.in_ok-stack.ensures.items ∙ ap (λ (f : Frame). f ∷ []) frame in
+    let stack : c.push_within.new.items.items ≡ first_frame (role_at decl object) ∷ [] =
+    c.push_within.ensures.items ∙ ap (λ (l : List Frame). l ++ c.first_frame.result ∷ []) c.in_ok-stack.ensures.items ∙ ap (λ (f : Frame). f ∷ []) frame in
     let frames = c.settle.ensures.frames ∙ ap (λ (l : List Frame). settled s (reverse l)) stack in
     let made = At-same _ _ _ _ _ _ _ _ (sym c.who_at-who.ensures) (sym frames)
     (sym c.in_ok-with_capacity.ensures.items) (sym c.in_ok-with_capacity-2.ensures.items) in
