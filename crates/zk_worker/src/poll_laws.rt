@@ -1,6 +1,7 @@
 ghost use Rattle.zk_model_wait.specs.MsgqLaws.{OfEachMsgq};
 ghost use Rattle.zk_model_wait.specs.SemLaws.{OfEachSem};
 ghost use Rattle.zk_worker.specs.PollLaws.{OfEachPoll, OfEachStage, KeepsPollLaws, GoesOn};
+ghost use Rattle.zk_worker.specs.PollLogs.{EachPollIsPlayed};
 ghost use Rattle.zk_worker.specs.PollReplies.{SemTellsPolls, MsgqTellsPolls, ClockTellsPolls};
 
 /// Of each play of each poll, over any services: where it is answered it names just the events that a step told to be ready, and is
@@ -17,4 +18,10 @@ pub fn services_tell_polls()
     ensures sems { OfEachSem SemTellsPolls }
     ensures msgqs { OfEachMsgq MsgqTellsPolls }
     ensures clock { ClockTellsPolls }
+{}
+
+/// Of each player that follows the scenario, by whatever is shown: each `poll` that it answered is a call of a script, and its answer
+/// that of a play, which stands among the player's steps up to the one that was answered. It does nothing when it runs.
+pub fn answered_polls_are_played()
+    ensures { EachPollIsPlayed }
 {}

@@ -1,0 +1,5 @@
+use Rattle.zk_worker.proofs.PollLogs.{each_poll_is_played}
+use Rattle.zk_worker.proofs.poll_laws.answered_polls_are_played.Goals as goal
+
+pub returns : goal.returns
+returns c = each_poll_is_played
