@@ -1,7 +1,7 @@
 ghost use Rattle.zk_model_wait.specs.MsgqLaws.{OfEachMsgq};
 ghost use Rattle.zk_model_wait.specs.SemLaws.{OfEachSem};
 ghost use Rattle.zk_worker.specs.PollLaws.{OfEachPoll, OfEachStage, KeepsPollLaws, GoesOn};
-ghost use Rattle.zk_worker.specs.PollLogs.{EachPollIsPlayed};
+ghost use Rattle.zk_worker.specs.PollLogs.{EachPollIsPlayed, EachPollKeepsItsLaws};
 ghost use Rattle.zk_worker.specs.PollReplies.{SemTellsPolls, MsgqTellsPolls, ClockTellsPolls};
 
 /// Of each play of each poll, over any services: where it is answered it names just the events that a step told to be ready, and is
@@ -21,7 +21,9 @@ pub fn services_tell_polls()
 {}
 
 /// Of each player that follows the scenario, by whatever is shown: each `poll` that it answered is a call of a script, and its answer
-/// that of a play, which stands among the player's steps up to the one that was answered. It does nothing when it runs.
+/// that of a play, which stands among the player's steps up to the one that was answered; and where the histories that are shown are
+/// legal, it keeps the laws of polls. It does nothing when it runs.
 pub fn answered_polls_are_played()
-    ensures { EachPollIsPlayed }
+    ensures played { EachPollIsPlayed }
+    ensures laws { EachPollKeepsItsLaws }
 {}
