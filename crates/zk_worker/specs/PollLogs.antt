@@ -18,7 +18,7 @@ use Rattle.zk_worker.specs.Places.{At}
 use Rattle.zk_worker.specs.PollLaws.{Made, IsAnswered, KeepsPollLaws}
 use Rattle.zk_worker.specs.Shown.{Shown, ShowsLog}
 
--- a poll that a player answered: a call of a script, and its play, which are the steps of the player up to the one that was answered
+-- a poll that a player answered: a call of a script, and its play, which are steps of the player up to the one that was answered
 pub record IsPollOf (s : Parts) (made : List Made) (a : Answered) : Type 0 where
   pub owner : ℕ
   pub next : ℕ
