@@ -9,6 +9,8 @@ pub mod PollPlays
 pub mod PollAnswers
 pub mod PollLaws
 pub mod PollTells
+pub mod PollLogs
+pub mod PollServed
 pub mod Fits
 pub mod Ranges
 pub mod Families

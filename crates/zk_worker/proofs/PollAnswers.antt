@@ -1,5 +1,5 @@
 -- Each step of a poll keeps what its marks say, and so does its answer.
-use Rattle.std.proofs.Common.{◌≡◌, ℕ, zero, suc, ◌≤◌, Bool, true, false, not, ◌&&◌, ◌||◌, cond, is_some, Option, Some, None, option_to_list, List, [], ◌∷◌, ◌++◌, length, set, take, slice_get, All, refl, sym, ap, subst, ◌∙◌, ◌⊎◌, inl, inr, ⊎_elim, append-nil, arith}
+use Rattle.std.proofs.Common.{◌≡◌, ℕ, zero, suc, ◌≤◌, Bool, true, false, not, ◌&&◌, ◌||◌, cond, Option, Some, None, option_to_list, List, [], ◌∷◌, ◌++◌, length, set, take, slice_get, All, refl, sym, ap, subst, ◌∙◌, ◌⊎◌, inl, inr, ⊎_elim, append-nil, arith}
 use Rattle.std.specs.List.{list_any, position}
 use Rattle.std.specs.Option.{option_and_then}
 use Rattle.std.proofs.lemmas.Bool.{or_parts, both_ways}
@@ -25,7 +25,7 @@ use Rattle.zk_worker.specs.declared.steps.StepReply.{StepReply}
 use Rattle.zk_worker.specs.declared.steps.StepReply.TheVariants as step_replies
 use Rattle.zk_worker.specs.Polls.{waits, is_armed, is_ready, is_to_ask, unasked_from, asks_more, ask_step, drop_step, step_at, asking, dropping, watching, alarm_steps, is_ended, is_closing, registers, polling, mark_of, is_watch, watched_from, event_of, marked, alarm_after}
 use Rattle.zk_worker.specs.PollLaws.{Made, may_reply, is_ask, is_wait, is_quit, is_alarm_end, events_from, asks, is_over, IsRegistered, IsFor, IsDue}
-use Rattle.zk_worker.proofs.PollMarks.{AsksNext, asks_first, none_to_ask, asked-at, to_ask-kept, none_ready-at, WatchOf, watching-each, Watched, watched, position-look, watched-clock}
+use Rattle.zk_worker.proofs.PollMarks.{some-is, AsksNext, asks_first, none_to_ask, asked-at, to_ask-kept, none_ready-at, WatchOf, watching-each, Watched, watched, position-look, watched-clock}
 use Rattle.zk_worker.proofs.PollReplies.{Marks, ask-marks, ask-is, Drops, drop-drops, watch-marks, watch-is, ask-for, ended-for, ask-only, arm-asks, ask-registers}
 use Rattle.zk_worker.proofs.PollPlays.{Apart, Asked, asked-more, asked-same, asked-next, Kept, kept-marked, kept-clock, zip-length, Named, any-front}
 use Rattle.zk_worker.proofs.PollSteps.{all_taken}
@@ -44,10 +44,6 @@ option-at : {X : Type 0} (o : Option X) (k : ℕ) (x : X) → slice_get (option_
 option-at None k x is = absurd (cc)
 option-at (Some y) zero x is = is
 option-at (Some y) (suc k) x is = absurd (cc)
-
-some-is : {X : Type 0} (o : Option X) → is_some o ≡ true → (x : X) × (o ≡ Some x)
-some-is None is = absurd (cc)
-some-is (Some x) is = (x, refl)
 
 -- a poll with ticks has made a step
 abbrev pub Later : Timeout → List Made → Type 0

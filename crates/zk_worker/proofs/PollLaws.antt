@@ -13,7 +13,7 @@ use Rattle.zk_line.specs.declared.types.Ref.{Ref}
 use Rattle.zk_line.specs.declared.events.Event.{Event}
 use Rattle.zk_line.specs.declared.events.Event.TheVariants.{Sig}
 use Rattle.zk_line.specs.declared.events.TheConstants.{MOST_EVENTS}
-use Rattle.zk_line.proofs.Lists.{count_by-cons, slice_get-append_left}
+use Rattle.zk_line.proofs.Lists.{count_by-cons, slice_get-append_left, slice_get-push}
 use Rattle.zk_model_wait.specs.declared.clock.ClockOp.TheVariants as clock_ops
 use Rattle.zk_model_wait.specs.declared.clock.ClockReply.TheVariants as clock_replies
 use Rattle.zk_words.specs.declared.timeout.Timeout.{Timeout}
@@ -374,10 +374,6 @@ done-answered timeout events play alarm marks kept done =
     and_from (not (asks_more events marks)) ((is_closing alarm marks || not (waits timeout)) && not (list_any is_armed marks)) (not_from_false (asks_more events marks) asked)
     (and_from (is_closing alarm marks || not (waits timeout)) (not (list_any is_armed marks)) over (not_from_false (list_any is_armed marks) armed))
 
-push-one : {X : Type 0} (xs : List X) (y : X) → slice_get (xs ++ y ∷ []) (length xs) ≡ Some y
-push-one [] y = refl
-push-one (x ∷ xs) y = push-one xs y
-
 -- nothing is left to ask where as many were asked as there are
 asked-all : (timeout : Timeout) (events : List Event) (play : List Made) (alarm : Alarm) (marks : List Mark) → Kept timeout events play alarm marks →
     length (asks play) ≡ length (events_from 0 events) → asks_more events marks ≡ false
@@ -469,7 +465,7 @@ waits-attempts timeout events play alarm marks kept few all unended =
           let last : alarm_steps alarm ≡ ends ∷ [] = ap alarm_steps set in (
             length (watching events marks),
             sym (ap (λ (xs : List Step). length (watching events marks ++ xs)) last ∙ length_push (watching events marks) ends),
-            ap (λ (xs : List Step). slice_get (watching events marks ++ xs) (length (watching events marks))) last ∙ push-one (watching events marks) ends,
+            ap (λ (xs : List Step). slice_get (watching events marks ++ xs) (length (watching events marks))) last ∙ slice_get-push (watching events marks) ends,
           );
     })
 

@@ -166,7 +166,7 @@ abbrev pub standing : List Event → List Mark → List Spot
 standing (event ∷ events) (mark ∷ marks) = option_to_list (spot_for event mark) ++ standing events marks
 standing events marks = []
 
-count-append : {X : Type 0} (test : X → Bool) (xs ys : List X) → count_by test (xs ++ ys) ≡ count_by test xs + count_by test ys
+pub count-append : {X : Type 0} (test : X → Bool) (xs ys : List X) → count_by test (xs ++ ys) ≡ count_by test xs + count_by test ys
 count-append test xs ys = sum_by-append (λ x. cond (test x) 1 0) xs ys
 
 pub standing-set : (test : Spot → Bool) (events : List Event) (marks : List Mark) (i : ℕ) (event : Event) (mark new : Mark) →
@@ -276,7 +276,7 @@ standing-counts test (e ∷ events) (m ∷ marks) (suc k) event mark spot there 
     let later = standing-counts test events marks k event mark spot there marked is passes in
     omega (arith, both, later)
 
-some-is : {X : Type 0} (o : Option X) → is_some o ≡ true → (x : X) × (o ≡ Some x)
+pub some-is : {X : Type 0} (o : Option X) → is_some o ≡ true → (x : X) × (o ≡ Some x)
 some-is None is = absurd (cc)
 some-is (Some x) is = (x, refl)
 

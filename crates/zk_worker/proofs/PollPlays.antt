@@ -5,7 +5,6 @@ use Rattle.std.proofs.lemmas.Bool.{cases_eq, eq-eqb, ne_eqb, cond-true, cond-fal
 use Rattle.std.proofs.lemmas.List.{length-set}
 use Rattle.std.proofs.lemmas.List.Elements.{filter-append, filter_map-append, Contains-append_left, Contains-append_right}
 use Rattle.std.proofs.lemmas.List.Folds.{list_any-append}
-use Rattle.std.proofs.lemmas.List.Sums.{sum_by-append}
 use Rattle.std.proofs.lemmas.Option.{same_Some, slice_get_within, some_pair_parts}
 use Rattle.zk_line.specs.declared.events.Event.{Event}
 use Rattle.zk_line.specs.declared.events.TheConstants.{MOST_EVENTS}
@@ -30,7 +29,7 @@ use Rattle.zk_worker.specs.declared.steps.StepReply.TheVariants as step_replies
 use Rattle.zk_worker.specs.Polls.{is_ready, is_ended, mark_of, marked, alarm_after}
 use Rattle.zk_worker.specs.PollLaws.{Made, StandsAt, may_reply, registered_at, ended_at, is_ask, is_of_clock, is_alarm_end, tells_ready, names, events_from, asks, registrations, endings, IsAskFor, IsRegistered, IsFor, IsTold, IsForOne, EachIsForOne, IsInTime, EachIsInTime, is_over, IsDue, IsAlarmed, KeepsItsAlarm}
 use Rattle.zk_worker.proofs.Lists.{zip-push}
-use Rattle.zk_worker.proofs.PollMarks.{is_unasked, to_ask, AsksNext, spot_for, standing, Standing, AreKnown, known-set, standing-set, any_ready-set}
+use Rattle.zk_worker.proofs.PollMarks.{count-append, is_unasked, to_ask, AsksNext, spot_for, standing, Standing, AreKnown, known-set, standing-set, any_ready-set}
 use Rattle.zk_worker.proofs.PollReplies.{Marks, OfClock, of-clock, free-no_end, registered-for, ask-for, ended-tells, registered-asks}
 
 -- no two steps have registered at one place
@@ -123,9 +122,6 @@ pub record Kept (timeout : Timeout) (events : List Event) (play : List Made) (al
 cons-one : (o : Option Spot) → cons_option o [] ≡ option_to_list o
 cons-one None = refl
 cons-one (Some x) = refl
-
-count-append : (test : Spot → Bool) (xs ys : List Spot) → count_by test (xs ++ ys) ≡ count_by test xs + count_by test ys
-count-append test xs ys = sum_by-append (λ x. cond (test x) 1 0) xs ys
 
 -- what is counted of a play with one step more
 count-more : (test : Spot → Bool) (at : Made → Option Spot) (play : List Made) (made : Made) →

@@ -72,7 +72,7 @@ module _ (P : Step → Type 0) (Q : Event → Type 0)
     (asked : (registers : Bool) (event : Event) (step : Step) → Q event → ask_step registers event ≡ Some step → P step)
     (watched : (event : Event) (mark : Mark) (step : Step) → Q event → watch_step event mark ≡ Some step → P step)
     (dropped : (event : Event) (mark : Mark) (step : Step) → Q event → drop_step event mark ≡ Some step → P step)
-    (alarmed : (op : ClockOp) → P (steps.Clock op)) where
+    (alarmed : (ticks : ℕ) → P (steps.Clock (clock_ops.Alarm ticks))) (ended : (moment : ℕ) → P (steps.Clock (clock_ops.AlarmEnd moment))) where
   -- the step for the event at a place
   step_at-each : (made : Event → Mark → Option Step) → ((event : Event) (mark : Mark) (step : Step) → Q event → made event mark ≡ Some step → P step) →
       (events : List Event) (marks : List Mark) (place : Option ℕ) (step : Step) → All Q events → step_at made events marks place ≡ Some step → P step
@@ -91,7 +91,7 @@ module _ (P : Step → Type 0) (Q : Event → Type 0)
       (watching-each events marks (All-tail Q event events all))
 
   alarm-each : (alarm : Alarm) → All P (alarm_steps alarm)
-  alarm-each (Due moment) = All-cons P (steps.Clock (clock_ops.AlarmEnd moment)) [] (alarmed (clock_ops.AlarmEnd moment)) (All-nil P)
+  alarm-each (Due moment) = All-cons P (steps.Clock (clock_ops.AlarmEnd moment)) [] (ended moment) (All-nil P)
   alarm-each alarm = All-nil P
 
   polling-each : (timeout : Timeout) (events : List Event) (alarm : Alarm) (marks : List Mark) → All Q events → All P (polling timeout events alarm marks)
@@ -111,13 +111,21 @@ module _ (P : Step → Type 0) (Q : Event → Type 0)
       ]
 
   start-each : (timeout : Timeout) (events : List Event) → All Q events → All P (poll_start timeout events)
-  start-each (Ticks ticks) events all = All-cons P (steps.Clock (clock_ops.Alarm ticks)) [] (alarmed (clock_ops.Alarm ticks)) (All-nil P)
+  start-each (Ticks ticks) events all = All-cons P (steps.Clock (clock_ops.Alarm ticks)) [] (alarmed ticks) (All-nil P)
   start-each timeout events all = polling-each timeout events Unset fresh all
 
-  pub poll_attempts-each : (timeout : Timeout) (events : List Event) (stage : Stage) → All Q events → All P (poll_attempts timeout events stage)
-  poll_attempts-each timeout events Start all = start-each timeout events all
-  poll_attempts-each timeout events (Polls alarm marks) all = polling-each timeout events alarm marks all
-  poll_attempts-each timeout events stage all = All-nil P
+  pub poll_attempts-all : (timeout : Timeout) (events : List Event) (stage : Stage) → All Q events → All P (poll_attempts timeout events stage)
+  poll_attempts-all timeout events Start all = start-each timeout events all
+  poll_attempts-all timeout events (Polls alarm marks) all = polling-each timeout events alarm marks all
+  poll_attempts-all timeout events stage all = All-nil P
+
+-- the same, of what holds of all steps of the clock
+pub poll_attempts-each : (P : Step → Type 0) (Q : Event → Type 0) (asked : (registers : Bool) (event : Event) (step : Step) → Q event → ask_step registers event ≡ Some step → P step)
+    (watched : (event : Event) (mark : Mark) (step : Step) → Q event → watch_step event mark ≡ Some step → P step)
+    (dropped : (event : Event) (mark : Mark) (step : Step) → Q event → drop_step event mark ≡ Some step → P step) (alarmed : (op : ClockOp) → P (steps.Clock op))
+    (timeout : Timeout) (events : List Event) (stage : Stage) → All Q events → All P (poll_attempts timeout events stage)
+poll_attempts-each P Q asked watched dropped alarmed =
+    poll_attempts-all P Q asked watched dropped (λ ticks. alarmed (clock_ops.Alarm ticks)) (λ moment. alarmed (clock_ops.AlarmEnd moment))
 
 -- the attempts of a poll name what is declared, where its events do
 pub poll_attempts-fit : (decls : List Decl) (timeout : Timeout) (events : List Event) (stage : Stage) → All (λ event. is_source decls event ≡ true) events →

@@ -8,6 +8,7 @@ pub mod Machines
 pub mod Places
 pub mod Playing
 pub mod PollLaws
+pub mod PollLogs
 pub mod PollReplies
 pub mod Polls
 pub mod Positions

@@ -21,7 +21,7 @@ pub use frames::{Alarm, Closing, Frame, Mark, Plan, Progress, Role, Stage, Waiti
 pub use log::{Log, PlayerState};
 pub use player::Player;
 pub use playing::Stepped;
-pub use poll_laws::{keeps_poll_laws, services_tell_polls};
+pub use poll_laws::{answered_polls_are_played, keeps_poll_laws, services_tell_polls};
 pub use positions::Positions;
 pub use services::Services;
 pub use steps::{MOST_ATTEMPTS, MOST_STEPS, Spot, Spots, Step, StepReply};
