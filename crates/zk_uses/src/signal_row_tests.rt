@@ -1,13 +1,14 @@
+//! The signal service of one caller, one write after another.
 ghost use Rattle.std.specs.Prelude.{◌+◌, ◌<◌, ◌≤◌, length, IfOk};
 ghost use Rattle.zk_poll.specs.Seen.{signal_history};
-ghost use Rattle.zk_poll.specs.Tests.{IsBelow};
+ghost use Rattle.zk_uses.specs.Tried.{IsBelow};
 
-use crate::Signal;
 use std::process::Abort;
-use std::test::*;
+use std::test::Fail;
 use zk_base::{NoMemory, Seen, Service, Who};
 use zk_model_wait::SignalOp::{Clear, Raise};
 use zk_model_wait::{SignalOp, SignalReply};
+use zk_poll::Signal;
 
 /// One write: the player, the write, and then whether a look finds the signal raised, its result, and its word.
 type Row = (u32, SignalOp, bool, u16, u32);

@@ -10,7 +10,8 @@ use zk_scenario::read_scenario;
 use zk_trace::{Ending, Histories, History, ItemLook, SignalLook, SignalLooks, Trace, print_trace};
 use zk_worker::{Answer, Answered, Log, PlayerState, Positions, Word};
 
-/// One thread, two queues, three items, a semaphore, a message queue and a signal: the thread is player 0, the workers are 1 and 2.
+/// One thread, two queues, three items, a semaphore, a message queue and a signal: the thread is
+/// player 0, the workers are 1 and 2.
 const SCENARIO: &str =
     "zk 1\nthread t0 0 super\nqueue q0 0 on\nqueue q1 0 on\nitem w0\nitem w1\nitem w2\n\
     sem s0 0 10\nmsgq m0 2 1\nsignal g0\n";

@@ -1,6 +1,7 @@
-use crate::Notes;
-use std::test::*;
+//! Who is noted when something is ready, one call after another.
+use std::test::Fail;
 use zk_base::Who;
+use zk_poll::Notes;
 
 /// Three are registered. The notes go by priority and then by registration, and none is left for who isn't there; who is taken out was
 /// noted or not.
