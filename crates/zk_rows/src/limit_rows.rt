@@ -9,9 +9,11 @@ pub const SIXTEEN_SPACES: &str = "                ";
 
 const FOUR_CALLS: &str = "schedule i0 q0 1\nreschedule i0 q0 1\nremaining i0\ntick 1\n";
 
-/// The parts of a text, and what is said of it: how many objects of each kind, calls of a script,
-/// events of a poll and bytes of a message there are, and how long the whole is.
-pub const LIMITS: [(&[Part], &str); 54] = [
+/// The parts of a text, and what is said of it.
+pub type Limit = (&'static [Part], &'static str);
+
+/// How many threads, queues, items and calls there are.
+pub const OBJECTS: [Limit; 14] = [
     (
         &[Once(HEADER), Numbered(64, "thread t", " 0 super\n")],
         "read",
@@ -136,6 +138,10 @@ pub const LIMITS: [(&[Part], &str); 54] = [
         ],
         "66 unbuilt",
     ),
+];
+
+/// How many semaphores and message queues.
+pub const WAITS: [Limit; 9] = [
     (
         &[
             Once(HEADER),
@@ -200,6 +206,10 @@ pub const LIMITS: [(&[Part], &str); 54] = [
         ],
         "18 unbuilt",
     ),
+];
+
+/// How many signals.
+pub const SIGNALS: [Limit; 6] = [
     (&[Once(HEADER), Numbered(32, "signal g", "\n")], "read"),
     (&[Once(HEADER), Numbered(33, "signal g", "\n")], "34 limit"),
     (
@@ -234,6 +244,10 @@ pub const LIMITS: [(&[Part], &str); 54] = [
         ],
         "34 unbuilt",
     ),
+];
+
+/// How many events of a poll.
+pub const EVENTS: [Limit; 9] = [
     (
         &[
             Once(POLL_INSIDE),
@@ -315,6 +329,10 @@ pub const LIMITS: [(&[Part], &str); 54] = [
         ],
         "8 line",
     ),
+];
+
+/// How many bytes of a message.
+pub const MESSAGES: [Limit; 9] = [
     (
         &[
             Once("zk 1\nthread main 0 super\nmsgq m 1 1\nscript main\nput m "),
@@ -387,6 +405,10 @@ pub const LIMITS: [(&[Part], &str); 54] = [
         ],
         "5 number",
     ),
+];
+
+/// How many calls with ticks, and how long the whole is.
+pub const LENGTHS: [Limit; 7] = [
     (
         &[Once(INSIDE), Times(1024, FOUR_CALLS), Once("end\n")],
         "read",

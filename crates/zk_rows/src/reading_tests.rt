@@ -1,6 +1,8 @@
 //! Texts that are read as scenarios: each is printed again as it stood, or refused at a line for a
 //! reason.
-use crate::limit_rows::LIMITS;
+use crate::limit_rows::{
+    EVENTS, LENGTHS, Limit, MESSAGES, OBJECTS, SIGNALS as SIGNAL_LIMITS, WAITS as WAIT_LIMITS,
+};
 use crate::signal_lines::{LOOKS, MISSPELLED_POLLS, POLLS, SIGNAL_CALLS, SIGNALS};
 use crate::wait_lines::{MISSPELLED_MSGQ_CALLS, MSGQ_CALLS, MSGQS, SEM_CALLS, SEMS, SIZES};
 use crate::work_lines::{
@@ -131,13 +133,43 @@ fn lines_are_read_or_refused(rt: HostRuntime) -> Result<(), Fail> {
     Ok(())
 }
 
-#[test]
-fn limits_are_kept(rt: HostRuntime) -> Result<(), Fail> {
-    for (parts, said) in LIMITS.as_slice() {
-        let text = text_of(rt.alloc(), parts)?;
-        assert!(rt; is_read_so(rt.alloc(), &text, said)?, "{said}");
+/// Each text is read so.
+fn are_kept<R: Abort>(rt: &R, alloc: Global, limits: &[Limit]) -> Result<(), NoMemory> {
+    for (parts, said) in limits {
+        let text = text_of(alloc, parts)?;
+        assert!(rt; is_read_so(alloc, &text, said)?, "{said}");
     }
     Ok(())
+}
+
+#[test]
+fn limits_of_objects_are_kept(rt: HostRuntime) -> Result<(), NoMemory> {
+    are_kept(&rt, rt.alloc(), OBJECTS.as_slice())
+}
+
+#[test]
+fn limits_of_waits_are_kept(rt: HostRuntime) -> Result<(), NoMemory> {
+    are_kept(&rt, rt.alloc(), WAIT_LIMITS.as_slice())
+}
+
+#[test]
+fn limits_of_signals_are_kept(rt: HostRuntime) -> Result<(), NoMemory> {
+    are_kept(&rt, rt.alloc(), SIGNAL_LIMITS.as_slice())
+}
+
+#[test]
+fn limits_of_events_are_kept(rt: HostRuntime) -> Result<(), NoMemory> {
+    are_kept(&rt, rt.alloc(), EVENTS.as_slice())
+}
+
+#[test]
+fn limits_of_messages_are_kept(rt: HostRuntime) -> Result<(), NoMemory> {
+    are_kept(&rt, rt.alloc(), MESSAGES.as_slice())
+}
+
+#[test]
+fn limits_of_lengths_are_kept(rt: HostRuntime) -> Result<(), NoMemory> {
+    are_kept(&rt, rt.alloc(), LENGTHS.as_slice())
 }
 
 const WHOLE: &str =

@@ -4,8 +4,8 @@ use std::process::Abort;
 use std::test::Fail;
 use zk_scenario::{Scenario, read_scenario};
 
-/// A text, the objects of each kind, each object's number among those of its kind, each player's
-/// priority, and how many scripts there are and how many calls the first object has.
+/// A text, the objects of each kind, each object with its number among those of its kind, each
+/// player with its priority, and how many scripts there are and how many calls the first object has.
 struct Row {
     text: &'static str,
     threads: &'static [u32],
@@ -14,23 +14,24 @@ struct Row {
     sems: &'static [u32],
     msgqs: &'static [u32],
     signals: &'static [u32],
-    numbers: &'static [u32],
-    prios: &'static [i8],
+    numbers: &'static [(u32, u32)],
+    prios: &'static [(u32, i8)],
     scripts: usize,
     calls: usize,
 }
 
 const ROWS: [Row; 3] = [
     Row {
-        text: "zk 1\nthread main -3 super\nqueue q0 -1 on\nitem i0\nscript main\nsubmit i0 q0\nend\n",
+        text: "zk 1\nthread main -3 super\nqueue q0 -1 on\nitem i0\nscript main\n\
+               submit i0 q0\nend\n",
         threads: &[0],
         queues: &[1],
         items: &[2],
         sems: &[],
         msgqs: &[],
         signals: &[],
-        numbers: &[0, 0, 0],
-        prios: &[-3, -1],
+        numbers: &[(0, 0), (1, 0), (2, 0)],
+        prios: &[(0, -3), (1, -1)],
         scripts: 1,
         calls: 1,
     },
@@ -42,8 +43,8 @@ const ROWS: [Row; 3] = [
         sems: &[0, 2],
         msgqs: &[1, 4],
         signals: &[],
-        numbers: &[0, 0, 1, 0, 1],
-        prios: &[0],
+        numbers: &[(0, 0), (1, 0), (2, 1), (3, 0), (4, 1)],
+        prios: &[(0, 0)],
         scripts: 0,
         calls: 0,
     },
@@ -55,8 +56,8 @@ const ROWS: [Row; 3] = [
         sems: &[],
         msgqs: &[1],
         signals: &[0, 2],
-        numbers: &[0, 0, 1, 0],
-        prios: &[0],
+        numbers: &[(0, 0), (1, 0), (2, 1), (3, 0)],
+        prios: &[(0, 0)],
         scripts: 0,
         calls: 0,
     },
@@ -75,15 +76,15 @@ fn lists<R: Abort>(rt: &R, scenario: &Scenario, row: &Row) {
 /// The objects have these numbers, and the players these priorities; there is none behind them.
 fn numbers<R: Abort>(rt: &R, scenario: &Scenario, row: &Row) {
     assert_eq!(rt; scenario.decls().len(), row.numbers.len());
-    for (object, number) in row.numbers.iter().enumerate() {
-        assert_eq!(rt; scenario.number(object as u32), *number, "object {object}");
+    for (object, number) in row.numbers {
+        assert_eq!(rt; scenario.number(*object), *number, "object {object}");
     }
     assert_eq!(rt; scenario.players() as usize, row.prios.len());
-    for (player, prio) in row.prios.iter().enumerate() {
-        let who = scenario.who(player as u32);
+    for (player, prio) in row.prios {
+        let who = scenario.who(*player);
         assert_eq!(rt; who.map(|who| who.prio), Some(*prio), "player {player}");
     }
-    assert!(rt; scenario.who(row.prios.len() as u32).is_none());
+    assert!(rt; scenario.who(scenario.players()).is_none());
 }
 
 /// There are so many scripts and so many calls of the first object, and the others have none.
