@@ -1,10 +1,11 @@
 //! Each public call of `zk_base` once, with ample memory.
+use std::alloc::Global;
 use std::io;
 use std::process::Abort;
 use std::test::Fail;
 use zk_base::{
-    Failed, Listed, MemSink, MemSource, Name, Sink, Source, Status, StdSink, StdSource, SureSink,
-    SureSource, is_name, is_spelled, put, put_decimal,
+    Failed, Listed, MemSink, MemSource, Name, NoMemory, Sink, Source, Status, StdSink, StdSource,
+    SureSink, SureSource, is_name, is_spelled, put, put_decimal,
 };
 
 /// Whether each of the words is a name.
@@ -35,18 +36,26 @@ fn names_are_told_from_other_words(rt: HostRuntime) {
     assert_eq!(rt; name.bytes(), b"debounce".as_slice());
 }
 
-#[test]
-fn lists_and_texts_grow(rt: HostRuntime) -> Result<(), Fail> {
-    let mut list = Listed::new(rt.alloc());
-    list.push(3u8)?;
+/// A list of two, by way of a plain one.
+fn listed(alloc: Global) -> Result<Listed<u8>, NoMemory> {
+    let mut list = Listed::new(alloc);
+    list.push(3)?;
     list.push(5)?;
-    assert_eq!(rt; list.items(), [3, 5].as_slice());
-    let again = Listed::from_vec(list.into_vec());
-    assert_eq!(rt; again.items().len(), 2);
-    let mut out = Vec::new(rt.alloc());
+    Ok(Listed::from_vec(list.into_vec()))
+}
+
+/// A text of two parts.
+fn text(alloc: Global) -> Result<Vec<u8>, NoMemory> {
+    let mut out = Vec::new(alloc);
     put(&mut out, b"a")?;
     put_decimal(&mut out, 1_048_576)?;
-    assert_eq!(rt; out.as_slice(), b"a1048576".as_slice());
+    Ok(out)
+}
+
+#[test]
+fn lists_and_texts_grow(rt: HostRuntime) -> Result<(), Fail> {
+    assert_eq!(rt; listed(rt.alloc())?.items(), [3, 5].as_slice());
+    assert_eq!(rt; text(rt.alloc())?.as_slice(), b"a1048576".as_slice());
     Ok(())
 }
 
@@ -112,7 +121,7 @@ fn sources_give_pieces_and_fail_where_they_are_told(rt: HostRuntime) -> Result<(
 }
 
 #[test]
-fn sinks_take_pieces_and_fail_where_they_are_told(rt: HostRuntime) -> Result<(), Fail> {
+fn a_sink_takes_pieces_and_fails_where_it_is_told(rt: HostRuntime) -> Result<(), Fail> {
     let room = Vec::with_capacity(rt.alloc(), 6)?;
     let mut sink = MemSink::new(room, 4, vec![in rt.alloc(); 1u64]?);
     writes(
@@ -126,6 +135,11 @@ fn sinks_take_pieces_and_fail_where_they_are_told(rt: HostRuntime) -> Result<(),
         ],
     );
     assert_eq!(rt; sink.held(), b"abcdef".as_slice());
+    Ok(())
+}
+
+#[test]
+fn a_sure_sink_takes_pieces(rt: HostRuntime) -> Result<(), Fail> {
     let mut sink = SureSink::new(Vec::with_capacity(rt.alloc(), 3)?, 2);
     writes(
         &rt,

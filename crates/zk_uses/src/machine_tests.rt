@@ -9,7 +9,7 @@ use zk_model_work::WorkOp::{
     Announce, Begin, Cancel, CancelDone, CancelStart, DrainDone, DrainStart, End, FlushDone,
     FlushStart, Remaining, Reschedule, Schedule, Start, Submit, Unplug,
 };
-use zk_model_work::{WorkOp, WorkReply, WorkState, work_next};
+use zk_model_work::{WorkOp, WorkState, work_next};
 
 /// One attempt: the player, the operation, and what is answered.
 type Row = (u32, WorkOp, &'static str);
@@ -130,11 +130,20 @@ const DELAYS: [Row; 16] = [
 ];
 
 /// One attempt. It makes one entry at most.
-fn attempt(state: &mut WorkState, number: u32, op: &WorkOp) -> Result<Option<WorkReply>, NoMemory>
+fn attempt<R: Abort>(
+    rt: &R,
+    alloc: Global,
+    state: &mut WorkState,
+    row: &Row,
+) -> Result<(), NoMemory>
     requires { state.old.entries < 100 }
     ensures { IfOk result (λ _. state.new.entries ≤ state.old.entries + 1) }
 {
-    work_next(state, Who { number, prio: 0 }, op)
+    let (number, op, wanted) = *row;
+    let reply = work_next(state, Who { number, prio: 0 }, &op)?;
+    let text = format!(in alloc; "{reply:?}")?;
+    assert_eq!(rt; text.as_str(), wanted);
+    Ok(())
 }
 
 /// Makes the attempts one after another, in a state with three items and two queues, whose workers are the players 2 and 3.
@@ -143,10 +152,7 @@ fn play<R: Abort>(rt: &R, alloc: Global, rows: &[Row]) -> Result<(), Fail>
 {
     let mut state = WorkState::new(alloc, 3, &[2, 3], &[true, false])?;
     for index in 0..rows.len() {
-        let (number, op, wanted) = rows[index];
-        let reply = attempt(&mut state, number, &op)?;
-        let text = format!(in alloc; "{reply:?}")?;
-        assert_eq!(rt; text.as_str(), wanted, "at {index}");
+        attempt(rt, alloc, &mut state, &rows[index])?;
     }
     Ok(())
 }

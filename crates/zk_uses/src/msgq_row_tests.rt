@@ -3,88 +3,99 @@ ghost use Rattle.std.specs.Prelude.{◌+◌, ◌<◌, ◌≤◌, length, IfOk};
 ghost use Rattle.zk_msgq.specs.Seen.{msgq_history};
 ghost use Rattle.zk_uses.specs.Tried.{IsBelow};
 
-use self::Tried::{Of, Put};
+use self::Asked::{
+    Free, Get, GetEnd, GetQuit, Peek, PeekAt, PollArm, PollEnd, PollQuit, Purge, Put, PutEnd,
+    PutQuit, Used,
+};
 use std::alloc::Global;
 use std::process::Abort;
 use std::test::Fail;
 use zk_base::{Msg, NewRefused, NoMemory, Service, Who};
-use zk_model_wait::MsgqOp::{
-    Free, Get, GetEnd, GetQuit, Peek, PeekAt, PollArm, PollEnd, PollQuit, Purge, PutEnd, PutQuit,
-    Used,
-};
 use zk_model_wait::{MsgqOp, MsgqReply};
 use zk_msgq::Msgq;
 
-/// An operation, with a message of one byte where it is a put.
+/// What is asked, with a message of one byte in a put.
 #[derive(Clone, Copy)]
-enum Tried {
+enum Asked {
     Put(u8, bool),
-    Of(MsgqOp),
+    PutEnd(u64),
+    PutQuit(u64),
+    Get(bool),
+    GetEnd(u64),
+    GetQuit(u64),
+    Peek,
+    PeekAt(u32),
+    Purge,
+    Used,
+    Free,
+    PollArm(bool),
+    PollEnd(u64),
+    PollQuit(u64),
 }
 
 /// One attempt: the player and its priority, the operation, and what is answered.
-type Row = (u32, i8, Tried, (&'static str, u32));
+type Row = (u32, i8, Asked, (&'static str, u32));
 
 /// A full queue: a put waits until a get makes room for its message, the high one first; a purge ends the other.
 const PUTS_WAIT: [Row; 19] = [
-    (0, 0, Of(Free), ("number", 2)),
+    (0, 0, Free, ("number", 2)),
     (0, 0, Put(1, false), ("done", 0)),
     (0, 0, Put(2, true), ("done", 0)),
     (0, 0, Put(3, false), ("nomsg", 0)),
     (1, 5, Put(4, true), ("wait", 0)),
     (2, 3, Put(5, true), ("wait", 0)),
-    (2, 3, Of(PutEnd(5)), ("none", 0)),
-    (0, 0, Of(Peek), ("bytes", 1)),
-    (0, 0, Of(PeekAt(1)), ("bytes", 2)),
-    (0, 0, Of(PeekAt(2)), ("nomsg", 0)),
-    (0, 0, Of(Get(false)), ("bytes", 1)),
-    (2, 3, Of(PutEnd(5)), ("done", 0)),
-    (1, 5, Of(PutEnd(4)), ("none", 0)),
-    (0, 0, Of(PeekAt(1)), ("bytes", 5)),
-    (0, 0, Of(Used), ("number", 2)),
-    (0, 0, Of(Purge), ("done", 0)),
-    (1, 5, Of(PutEnd(4)), ("nomsg", 0)),
-    (0, 0, Of(Free), ("number", 2)),
-    (0, 0, Of(Get(false)), ("nomsg", 0)),
+    (2, 3, PutEnd(5), ("none", 0)),
+    (0, 0, Peek, ("bytes", 1)),
+    (0, 0, PeekAt(1), ("bytes", 2)),
+    (0, 0, PeekAt(2), ("nomsg", 0)),
+    (0, 0, Get(false), ("bytes", 1)),
+    (2, 3, PutEnd(5), ("done", 0)),
+    (1, 5, PutEnd(4), ("none", 0)),
+    (0, 0, PeekAt(1), ("bytes", 5)),
+    (0, 0, Used, ("number", 2)),
+    (0, 0, Purge, ("done", 0)),
+    (1, 5, PutEnd(4), ("nomsg", 0)),
+    (0, 0, Free, ("number", 2)),
+    (0, 0, Get(false), ("nomsg", 0)),
 ];
 
 /// An empty queue: gets wait, a put hands its message to the first of them, and one that is given up gets what it was handed.
 const GETS_WAIT: [Row; 15] = [
-    (1, 0, Of(Get(true)), ("wait", 0)),
-    (2, 0, Of(Get(true)), ("wait", 0)),
-    (3, 0, Of(Get(true)), ("wait", 0)),
+    (1, 0, Get(true), ("wait", 0)),
+    (2, 0, Get(true), ("wait", 0)),
+    (3, 0, Get(true), ("wait", 0)),
     (0, 0, Put(7, false), ("done", 0)),
-    (0, 0, Of(Used), ("number", 0)),
-    (2, 0, Of(GetQuit(1)), ("again", 0)),
-    (2, 0, Of(GetQuit(1)), ("none", 0)),
-    (1, 0, Of(GetQuit(0)), ("bytes", 7)),
+    (0, 0, Used, ("number", 0)),
+    (2, 0, GetQuit(1), ("again", 0)),
+    (2, 0, GetQuit(1), ("none", 0)),
+    (1, 0, GetQuit(0), ("bytes", 7)),
     (0, 0, Put(8, false), ("done", 0)),
-    (3, 0, Of(GetEnd(2)), ("bytes", 8)),
+    (3, 0, GetEnd(2), ("bytes", 8)),
     (0, 0, Put(9, true), ("done", 0)),
     (0, 0, Put(10, true), ("wait", 0)),
-    (0, 0, Of(PutQuit(10)), ("again", 0)),
-    (0, 0, Of(Get(false)), ("bytes", 9)),
-    (0, 0, Of(Get(false)), ("nomsg", 0)),
+    (0, 0, PutQuit(10), ("again", 0)),
+    (0, 0, Get(false), ("bytes", 9)),
+    (0, 0, Get(false), ("nomsg", 0)),
 ];
 
 /// Polls: a put that is handed to a get notifies nobody, nor does one that moves in. A put that goes behind the others notifies one.
 const POLLED: [Row; 16] = [
-    (1, 0, Of(PollArm(true)), ("armed", 0)),
-    (2, 0, Of(PollArm(true)), ("armed", 0)),
-    (0, 0, Of(Get(true)), ("wait", 0)),
+    (1, 0, PollArm(true), ("armed", 0)),
+    (2, 0, PollArm(true), ("armed", 0)),
+    (0, 0, Get(true), ("wait", 0)),
     (0, 0, Put(7, false), ("done", 0)),
-    (1, 0, Of(PollEnd(0)), ("none", 0)),
+    (1, 0, PollEnd(0), ("none", 0)),
     (0, 0, Put(8, false), ("done", 0)),
     (0, 0, Put(9, true), ("wait", 0)),
-    (2, 0, Of(PollEnd(1)), ("none", 0)),
-    (3, 0, Of(Get(false)), ("bytes", 8)),
-    (2, 0, Of(PollEnd(1)), ("none", 0)),
-    (1, 0, Of(PollEnd(0)), ("noted", 0)),
-    (0, 0, Of(PutEnd(5)), ("done", 0)),
-    (3, 0, Of(PollArm(true)), ("ready", 0)),
-    (0, 0, Of(Purge), ("done", 0)),
-    (3, 0, Of(PollArm(false)), ("notready", 0)),
-    (2, 0, Of(PollQuit(1)), ("plain", 0)),
+    (2, 0, PollEnd(1), ("none", 0)),
+    (3, 0, Get(false), ("bytes", 8)),
+    (2, 0, PollEnd(1), ("none", 0)),
+    (1, 0, PollEnd(0), ("noted", 0)),
+    (0, 0, PutEnd(5), ("done", 0)),
+    (3, 0, PollArm(true), ("ready", 0)),
+    (0, 0, Purge, ("done", 0)),
+    (3, 0, PollArm(false), ("notready", 0)),
+    (2, 0, PollQuit(1), ("plain", 0)),
 ];
 
 /// A message of one byte.
@@ -96,10 +107,22 @@ fn message(byte: u8) -> Msg {
 }
 
 /// The operation.
-fn op_of(tried: Tried) -> MsgqOp {
-    match tried {
+fn op_of(asked: Asked) -> MsgqOp {
+    match asked {
         Put(byte, waits) => MsgqOp::Put(message(byte), waits),
-        Of(op) => op,
+        PutEnd(place) => MsgqOp::PutEnd(place),
+        PutQuit(place) => MsgqOp::PutQuit(place),
+        Get(waits) => MsgqOp::Get(waits),
+        GetEnd(place) => MsgqOp::GetEnd(place),
+        GetQuit(place) => MsgqOp::GetQuit(place),
+        Peek => MsgqOp::Peek,
+        PeekAt(index) => MsgqOp::PeekAt(index),
+        Purge => MsgqOp::Purge,
+        Used => MsgqOp::Used,
+        Free => MsgqOp::Free,
+        PollArm(waits) => MsgqOp::PollArm(waits),
+        PollEnd(place) => MsgqOp::PollEnd(place),
+        PollQuit(place) => MsgqOp::PollQuit(place),
     }
 }
 
@@ -129,12 +152,17 @@ fn first_byte(bytes: &[u8]) -> u32 {
 }
 
 /// One attempt, at a step above all earlier ones.
-fn attempt(msgq: &mut Msgq, who: Who, step: u32, op: MsgqOp) -> Result<Option<MsgqReply>, NoMemory>
+fn attempt<R: Abort>(rt: &R, msgq: &mut Msgq, step: u32, row: &Row) -> Result<(), NoMemory>
     requires below { IsBelow step (msgq_history msgq.old) }
     requires few { step < 100 }
     ensures { IfOk result (λ _. IsBelow (step + 1) (msgq_history msgq.new)) }
 {
-    msgq.act(who, step, op)
+    let (number, prio, asked, wanted) = *row;
+    let reply = msgq.act(Who { number, prio }, step, op_of(asked))?;
+    let (word, number) = told(&reply);
+    assert_eq!(rt; word, wanted.0, "at {step}");
+    assert_eq!(rt; number, wanted.1, "at {step}");
+    Ok(())
 }
 
 /// Makes the attempts one after another, and says what the message queue has then.
@@ -143,22 +171,21 @@ fn play<R: Abort>(rt: &R, alloc: Global, size: u32, most: u32, rows: &[Row]) -> 
 {
     let mut msgq = Msgq::new(alloc, size, most)?;
     for index in 0..rows.len() {
-        let (number, prio, tried, wanted) = rows[index];
-        let reply = attempt(&mut msgq, Who { number, prio }, index as u32, op_of(tried))?;
-        let (word, number) = told(&reply);
-        assert_eq!(rt; word, wanted.0, "at {index}");
-        assert_eq!(rt; number, wanted.1, "at {index}");
+        attempt(rt, &mut msgq, index as u32, &rows[index])?;
     }
     Ok(msgq)
 }
 
+/// The size of a message, how many fit, the attempts, and how many entries there are then.
+const TABLES: [(u32, u32, &[Row], usize); 3] = [
+    (1, 2, &PUTS_WAIT, 17),
+    (64, 1, &GETS_WAIT, 14),
+    (1, 1, &POLLED, 13),
+];
+
 #[test]
 fn attempts_are_answered(rt: HostRuntime) -> Result<(), Fail> {
-    for (size, most, rows, entries) in [
-        (1, 2, PUTS_WAIT.as_slice(), 17),
-        (64, 1, GETS_WAIT.as_slice(), 14),
-        (1, 1, POLLED.as_slice(), 13),
-    ] {
+    for (size, most, rows, entries) in TABLES {
         assert!(&rt; rows.len() < 100);
         let msgq = play(&rt, rt.alloc(), size, most, rows)?;
         assert_eq!(&rt; msgq.history().len(), entries);
@@ -166,10 +193,18 @@ fn attempts_are_answered(rt: HostRuntime) -> Result<(), Fail> {
     Ok(())
 }
 
+/// Whether there is one of this size and for so many messages; where not, the answer is `Inval`.
+fn is_made(alloc: Global, size: u32, most: u32) -> bool {
+    match Msgq::new(alloc, size, most) {
+        Ok(_) => true,
+        Err(refused) => refused != NewRefused::Inval,
+    }
+}
+
 /// Sizes and numbers at their limits, and beside them.
 #[test]
-fn sizes_are_kept(rt: HostRuntime) -> Result<(), Fail> {
-    for (size, most, takes) in [
+fn sizes_are_kept(rt: HostRuntime) {
+    for (size, most, made) in [
         (1, 1, true),
         (64, 256, true),
         (0, 1, false),
@@ -177,23 +212,6 @@ fn sizes_are_kept(rt: HostRuntime) -> Result<(), Fail> {
         (1, 0, false),
         (1, 257, false),
     ] {
-        let made = Msgq::new(rt.alloc(), size, most);
-        assert_eq!(&rt; made.is_ok(), takes);
-        if let Err(refused) = made {
-            assert_eq!(&rt; refused, NewRefused::Inval);
-        }
+        assert_eq!(&rt; is_made(rt.alloc(), size, most), made);
     }
-    Ok(())
-}
-
-/// Room for three entries lets a wait begin, and all that was done is handed out.
-#[test]
-fn room(rt: HostRuntime) -> Result<(), Fail> {
-    let mut msgq = Msgq::new(rt.alloc(), 4, 1)?;
-    msgq.reserve()?;
-    assert!(&rt; msgq.room() >= 3);
-    let reply = msgq.act(Who { number: 0, prio: 0 }, 0, Get(true))?;
-    assert_eq!(&rt; told(&reply).0, "wait");
-    assert_eq!(&rt; msgq.into_history().len(), 1);
-    Ok(())
 }

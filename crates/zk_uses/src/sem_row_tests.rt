@@ -7,10 +7,10 @@ use std::alloc::Global;
 use std::process::Abort;
 use std::test::Fail;
 use zk_base::{Errno, NoMemory, Service, Who};
+use zk_model_wait::SemOp;
 use zk_model_wait::SemOp::{
     Count, Give, PollArm, PollEnd, PollQuit, Reset, Take, TakeEnd, TakeQuit,
 };
-use zk_model_wait::{SemOp, SemReply};
 use zk_sem::Sem;
 
 /// One attempt: the player and its priority, the operation, and what is answered.
@@ -82,12 +82,22 @@ const TABLES: [(u32, u32, &[Row], usize); 3] = [
 ];
 
 /// One attempt, at a step above all earlier ones.
-fn attempt(sem: &mut Sem, who: Who, step: u32, op: SemOp) -> Result<Option<SemReply>, NoMemory>
+fn attempt<R: Abort>(
+    rt: &R,
+    alloc: Global,
+    sem: &mut Sem,
+    step: u32,
+    row: &Row,
+) -> Result<(), NoMemory>
     requires below { IsBelow step (sem_history sem.old) }
     requires few { step < 100 }
     ensures { IfOk result (λ _. IsBelow (step + 1) (sem_history sem.new)) }
 {
-    sem.act(who, step, op)
+    let (number, prio, op, wanted) = *row;
+    let reply = sem.act(Who { number, prio }, step, op)?;
+    let text = format!(in alloc; "{reply:?}")?;
+    assert_eq!(rt; text.as_str(), wanted, "at {step}");
+    Ok(())
 }
 
 /// Makes the attempts one after another, and says what the semaphore has then.
@@ -102,10 +112,7 @@ fn play<R: Abort>(
 {
     let mut sem = Sem::new(alloc, initial, limit)?;
     for index in 0..rows.len() {
-        let (number, prio, op, wanted) = rows[index];
-        let reply = attempt(&mut sem, Who { number, prio }, index as u32, op)?;
-        let text = format!(in alloc; "{reply:?}")?;
-        assert_eq!(rt; text.as_str(), wanted, "at {index}");
+        attempt(rt, alloc, &mut sem, index as u32, &rows[index])?;
     }
     Ok(sem)
 }
@@ -120,27 +127,18 @@ fn attempts_are_answered(rt: HostRuntime) -> Result<(), Fail> {
     Ok(())
 }
 
-/// A limit of 0, and a count above the limit, are refused.
-#[test]
-fn limits_are_kept(rt: HostRuntime) -> Result<(), Fail> {
-    for (initial, limit, refused) in [(0, 0, true), (0, 1, false), (1, 1, false), (2, 1, true)] {
-        let made = Sem::new(rt.alloc(), initial, limit);
-        assert_eq!(&rt; made.is_err(), refused);
-        if let Err(errno) = made {
-            assert_eq!(&rt; errno, Errno::Inval);
-        }
+/// Whether there is one at this count and with this limit; where not, the answer is `Inval`.
+fn is_made(alloc: Global, initial: u32, limit: u32) -> bool {
+    match Sem::new(alloc, initial, limit) {
+        Ok(_) => true,
+        Err(errno) => errno != Errno::Inval,
     }
-    Ok(())
 }
 
-/// Room for three entries lets three waits begin, and the ends of the waits take none of it.
+/// A limit of 0, and a count above the limit, are refused.
 #[test]
-fn room(rt: HostRuntime) -> Result<(), Fail> {
-    let mut sem = Sem::new(rt.alloc(), 0, 1)?;
-    sem.reserve()?;
-    assert!(&rt; sem.room() >= 3);
-    let reply = sem.act(Who { number: 0, prio: 0 }, 0, Take(true))?;
-    assert_eq!(&rt; reply, Some(SemReply::Wait));
-    assert_eq!(&rt; sem.into_history().len(), 1);
-    Ok(())
+fn limits_are_kept(rt: HostRuntime) {
+    for (initial, limit, made) in [(0, 0, false), (0, 1, true), (1, 1, true), (2, 1, false)] {
+        assert_eq!(&rt; is_made(rt.alloc(), initial, limit), made);
+    }
 }

@@ -3,6 +3,7 @@ ghost use Rattle.std.specs.Prelude.{◌+◌, ◌<◌, ◌≤◌, length, IfOk};
 ghost use Rattle.zk_poll.specs.Seen.{signal_history};
 ghost use Rattle.zk_uses.specs.Tried.{IsBelow};
 
+use std::alloc::Global;
 use std::process::Abort;
 use std::test::Fail;
 use zk_base::{NoMemory, Seen, Service, Who};
@@ -14,74 +15,63 @@ use zk_poll::Signal;
 type Row = (u32, SignalOp, bool, u16, u32);
 
 /// One write, at a step above all earlier ones.
-fn write(
-    signal: &mut Signal,
-    who: Who,
-    step: u32,
-    op: SignalOp,
-) -> Result<Option<SignalReply>, NoMemory>
+fn write<R: Abort>(rt: &R, signal: &mut Signal, step: u32, row: &Row) -> Result<(), NoMemory>
     requires below { IsBelow step (signal_history signal.old) }
     requires few { step < 100 }
     ensures { IfOk result (λ _. IsBelow (step + 1) (signal_history signal.new)) }
 {
-    signal.act(who, step, op)
-}
-
-/// Makes the writes one after another, and looks after each.
-fn play<R: Abort>(rt: &R, mut signal: Signal, rows: &[Row]) -> Result<usize, Fail>
-    requires few { length rows.now < 100 }
-    requires fresh { IsBelow 0 (signal_history signal) }
-{
-    for index in 0..rows.len() {
-        let (number, op, raised, result, word) = rows[index];
-        let stamp = index as u32 + 1;
-        let reply = write(&mut signal, Who { number, prio: 0 }, index as u32, op)?;
-        assert_eq!(rt; reply, Some(SignalReply::Stamp(stamp)), "at {index}");
-        let seen = Seen {
-            raised,
-            result,
-            stamp,
-        };
-        assert_eq!(rt; signal.seen(), seen, "at {index}");
-        assert_eq!(rt; signal.word(0), word, "at {index}");
-        assert_eq!(rt; signal.word(1), 0, "at {index}");
-    }
-    Ok(signal.into_history().len())
-}
-
-/// Each write is told its number, and a look finds the last one: a second raise takes the place of the first, and a clear leaves no
-/// result.
-#[test]
-fn last_write(rt: HostRuntime) -> Result<(), Fail> {
-    let writes = play(
-        &rt,
-        Signal::new(rt.alloc()),
-        &[
-            (0, Raise(7), true, 7, 65_543),
-            (1, Raise(0), true, 0, 65_536),
-            (0, Clear, false, 0, 0),
-            (0, Clear, false, 0, 0),
-            (2, Raise(65_535), true, 65_535, 131_071),
-        ],
-    )?;
-    assert_eq!(&rt; writes, 5);
+    let (number, op, _, _, _) = *row;
+    let reply = signal.act(Who { number, prio: 0 }, step, op)?;
+    assert_eq!(rt; reply, Some(SignalReply::Stamp(step + 1)));
     Ok(())
 }
 
-/// A look before any write finds nothing raised, and room for three writes lets one be made.
+/// What a look finds, and what is published, after the write of this step.
+fn look<R: Abort>(rt: &R, signal: &Signal, step: u32, row: &Row)
+    requires { step < 100 }
+{
+    let (_, _, raised, result, word) = *row;
+    let seen = Seen {
+        raised,
+        result,
+        stamp: step + 1,
+    };
+    assert_eq!(rt; signal.seen(), seen, "at {step}");
+    assert_eq!(rt; signal.word(0), word, "at {step}");
+    assert_eq!(rt; signal.word(1), 0, "at {step}");
+}
+
+/// Makes the writes one after another, and looks after each.
+fn play<R: Abort>(rt: &R, alloc: Global, rows: &[Row]) -> Result<Signal, Fail>
+    requires { length rows.now < 100 }
+{
+    let mut signal = Signal::new(alloc);
+    for index in 0..rows.len() {
+        write(rt, &mut signal, index as u32, &rows[index])?;
+        look(rt, &signal, index as u32, &rows[index]);
+    }
+    Ok(signal)
+}
+
+/// A second raise takes the place of the first, and a clear leaves no result.
+const WRITES: [Row; 5] = [
+    (0, Raise(7), true, 7, 65_543),
+    (1, Raise(0), true, 0, 65_536),
+    (0, Clear, false, 0, 0),
+    (0, Clear, false, 0, 0),
+    (2, Raise(65_535), true, 65_535, 131_071),
+];
+
+/// Each write is told its number, and a look finds the last one; before any it finds nothing raised.
 #[test]
-fn first_look(rt: HostRuntime) -> Result<(), Fail> {
-    let mut signal = Signal::new(rt.alloc());
+fn last_write(rt: HostRuntime) -> Result<(), Fail> {
     let clear = Seen {
         raised: false,
         result: 0,
         stamp: 0,
     };
-    assert_eq!(&rt; signal.seen(), clear);
-    signal.reserve()?;
-    assert!(&rt; signal.room() >= 3);
-    let reply = signal.act(Who { number: 0, prio: 0 }, 0, Raise(1))?;
-    assert_eq!(&rt; reply, Some(SignalReply::Stamp(1)));
-    assert_eq!(&rt; signal.history().len(), 1);
+    assert_eq!(&rt; Signal::new(rt.alloc()).seen(), clear);
+    let signal = play(&rt, rt.alloc(), WRITES.as_slice())?;
+    assert_eq!(&rt; signal.into_history().len(), 5);
     Ok(())
 }

@@ -167,43 +167,48 @@ impl Tried {
     }
 }
 
-/// Makes the attempts one after another.
-fn play<R: Abort>(rt: &R, alloc: Global, rows: &[Row]) -> Result<Tried, Fail> {
-    let mut tried = Tried::new(alloc)?;
+/// Makes the attempts one after another, each of which adds an entry. What is kept of them is told so.
+fn play<R: Abort>(
+    rt: &R,
+    alloc: Global,
+    tried: &mut Tried,
+    rows: &[Row],
+    kept: &str,
+) -> Result<(), Fail> {
     for row in rows {
         tried.told(rt, alloc, row)?;
     }
-    Ok(tried)
+    let text = tried.kept(alloc)?;
+    assert_eq!(rt; text.as_str(), kept);
+    assert_eq!(rt; tried.count(), rows.len());
+    Ok(())
 }
 
 #[test]
 fn attempts_are_answered_and_kept(rt: HostRuntime) -> Result<(), Fail> {
     for (rows, kept) in TABLES {
-        let tried = play(&rt, rt.alloc(), rows)?;
-        assert_eq!(&rt; tried.count(), rows.len());
-        let text = tried.kept(rt.alloc())?;
-        assert_eq!(&rt; text.as_str(), kept);
+        let mut tried = Tried::new(rt.alloc())?;
+        let played = play(&rt, rt.alloc(), &mut tried, rows, kept);
         assert_eq!(&rt; tried.last_count(), rows.len());
+        played?;
     }
     Ok(())
 }
 
-/// After `reserve` three entries fit.
-#[test]
-fn room(rt: HostRuntime) -> Result<(), Fail> {
-    let mut work = Work::new(rt.alloc(), 1, &[1], &[true])?;
-    work.reserve()?;
-    assert!(&rt; work.room() >= 3);
+/// Makes the attempts one after another, and looks at the words after each.
+fn publishes<R: Abort>(rt: &R, alloc: Global, tried: &mut Tried) -> Result<(), Fail> {
+    assert_eq!(rt; tried.words(), [0, 0, 0]);
+    for (row, words) in BUSY_FLAGS.as_slice() {
+        tried.told(rt, alloc, row)?;
+        assert_eq!(rt; tried.words(), *words);
+    }
     Ok(())
 }
 
 #[test]
 fn busy_flags_are_published(rt: HostRuntime) -> Result<(), Fail> {
     let mut tried = Tried::new(rt.alloc())?;
-    assert_eq!(&rt; tried.words(), [0, 0, 0]);
-    for (row, words) in BUSY_FLAGS {
-        tried.told(&rt, rt.alloc(), &row)?;
-        assert_eq!(&rt; tried.words(), words);
-    }
-    Ok(())
+    let published = publishes(&rt, rt.alloc(), &mut tried);
+    assert_eq!(&rt; tried.last_count(), BUSY_FLAGS.len());
+    published
 }

@@ -3,4 +3,4 @@ use Rattle.zk_uses.specs.Tried.{IsBelow}
 use Rattle.zk_uses.proofs.msgq_row_tests.play.Given as goal
 
 abbrev pub invariant-loop-index : goal.invariant-loop-index
-invariant-loop-index g l = IsBelow l.index-counter (msgq_history l.msgq)
+invariant-loop-index g l = IsBelow l.index (msgq_history l.msgq)
