@@ -36,7 +36,8 @@ enum Asked {
 /// One attempt: the player and its priority, the operation, and what is answered.
 type Row = (u32, i8, Asked, (&'static str, u32));
 
-/// A full queue: a put waits until a get makes room for its message, the high one first; a purge ends the other.
+/// A full queue: a put waits until a get makes room for its message, the high one first; a purge
+/// ends the other.
 const PUTS_WAIT: [Row; 19] = [
     (0, 0, Free, ("number", 2)),
     (0, 0, Put(1, false), ("done", 0)),
@@ -59,7 +60,8 @@ const PUTS_WAIT: [Row; 19] = [
     (0, 0, Get(false), ("nomsg", 0)),
 ];
 
-/// An empty queue: gets wait, a put hands its message to the first of them, and one that is given up gets what it was handed.
+/// An empty queue: gets wait, a put hands its message to the first of them, and one that is given
+/// up gets what it was handed.
 const GETS_WAIT: [Row; 15] = [
     (1, 0, Get(true), ("wait", 0)),
     (2, 0, Get(true), ("wait", 0)),
@@ -78,7 +80,8 @@ const GETS_WAIT: [Row; 15] = [
     (0, 0, Get(false), ("nomsg", 0)),
 ];
 
-/// Polls: a put that is handed to a get notifies nobody, nor does one that moves in. A put that goes behind the others notifies one.
+/// Polls: a put that is handed to a get notifies nobody, nor does one that moves in. A put that
+/// goes behind the others notifies one.
 const POLLED: [Row; 16] = [
     (1, 0, PollArm(true), ("armed", 0)),
     (2, 0, PollArm(true), ("armed", 0)),

@@ -20,8 +20,8 @@ const LOW: Who = Who { number: 1, prio: 5 };
 
 const HIGH: Who = Who { number: 2, prio: 3 };
 
-/// Three are registered, and asked for. The notes go by priority and then by registration, and none is left for who isn't there; who is
-/// taken out was noted or not.
+/// Three are registered, and asked for. The notes go by priority and then by registration, and none
+/// is left for who isn't there; who is taken out was noted or not.
 const ROWS: [(Asked, &str); 9] = [
     (Find(6), "Some((Who { number: 2, prio: 3 }, false))"),
     (Note, "Some(6)"),

@@ -12,7 +12,8 @@ use zk_sem::Sem;
 use zk_time::Clock;
 use zk_work::Work;
 
-/// A new service is given room, and makes one entry: how many are handed out then. Nothing is published at an index that no service has.
+/// A new service is given room, and makes one entry: how many are handed out then. Nothing is
+/// published at an index that no service has.
 fn made<S: Service, R: Abort>(rt: &R, service: S, op: S::Op) -> Result<usize, NoMemory>
 where
     S::Op: Drop,

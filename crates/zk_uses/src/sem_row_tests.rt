@@ -16,7 +16,8 @@ use zk_sem::Sem;
 /// One attempt: the player and its priority, the operation, and what is answered.
 type Row = (u32, i8, SemOp, &'static str);
 
-/// A low and a high waiter: a give serves the high one, a reset ends the other, and what is given later is counted up to the limit.
+/// A low and a high waiter: a give serves the high one, a reset ends the other, and what is given
+/// later is counted up to the limit.
 const SERVED_BY_PRIORITY: [Row; 15] = [
     (0, 0, Count, "Some(Number(0))"),
     (2, 5, Take(true), "Some(Wait)"),
@@ -35,7 +36,8 @@ const SERVED_BY_PRIORITY: [Row; 15] = [
     (1, 0, Take(false), "Some(Busy)"),
 ];
 
-/// Waits that are given up: one that was served meanwhile gets it, one that wasn't goes without, and what comes next goes to the next.
+/// Waits that are given up: one that was served meanwhile gets it, one that wasn't goes without,
+/// and what comes next goes to the next.
 const GIVEN_UP: [Row; 12] = [
     (0, 0, Take(true), "Some(Got)"),
     (0, 0, Take(true), "Some(Wait)"),
@@ -51,8 +53,8 @@ const GIVEN_UP: [Row; 12] = [
     (3, -1, Count, "Some(Number(0))"),
 ];
 
-/// Polls: a give that serves a taker notifies nobody. Each other give notifies the first by priority that isn't notified yet, at the
-/// limit too.
+/// Polls: a give that serves a taker notifies nobody. Each other give notifies the first by
+/// priority that isn't notified yet, at the limit too.
 const POLLED: [Row; 18] = [
     (0, 0, PollArm(false), "Some(NotReady)"),
     (1, 5, PollArm(true), "Some(Armed)"),

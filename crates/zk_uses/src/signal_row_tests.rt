@@ -11,7 +11,8 @@ use zk_model_wait::SignalOp::{Clear, Raise};
 use zk_model_wait::{SignalOp, SignalReply};
 use zk_poll::Signal;
 
-/// One write: the player, the write, and then whether a look finds the signal raised, its result, and its word.
+/// One write: the player, the write, and then whether a look finds the signal raised, its result,
+/// and its word.
 type Row = (u32, SignalOp, bool, u16, u32);
 
 /// One write, at a step above all earlier ones.
@@ -62,7 +63,8 @@ const WRITES: [Row; 5] = [
     (2, Raise(65_535), true, 65_535, 131_071),
 ];
 
-/// Each write is told its number, and a look finds the last one; before any it finds nothing raised.
+/// Each write is told its number, and a look finds the last one; before any it finds nothing
+/// raised.
 #[test]
 fn last_write(rt: HostRuntime) -> Result<(), Fail> {
     let clear = Seen {
