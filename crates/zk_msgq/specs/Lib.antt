@@ -2,4 +2,3 @@ pub mod Laws
 pub mod Owed
 pub mod Seen
 pub mod Sizes
-pub mod Tests

@@ -5,6 +5,3 @@ mod engine;
 mod msgq;
 
 pub use msgq::Msgq;
-
-#[cfg(test)]
-mod tests;

@@ -1,5 +1,4 @@
 pub mod Notes
 pub mod Seen
 pub mod SignalLaws
-pub mod Tests
 pub mod Words

@@ -7,8 +7,3 @@ mod signal_engine;
 
 pub use notes::{Member, Notes};
 pub use signal::Signal;
-
-#[cfg(test)]
-mod note_tests;
-#[cfg(test)]
-mod tests;

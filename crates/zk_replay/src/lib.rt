@@ -3,13 +3,9 @@
 
 mod laws;
 mod looks;
-#[cfg(test)]
-mod object_tests;
 mod objects;
 mod plain;
 mod run;
-#[cfg(test)]
-mod tests;
 mod turns;
 
 pub use laws::{none_goes_on, none_is_served, one_run};

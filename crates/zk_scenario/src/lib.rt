@@ -2,23 +2,13 @@
 #![tactic(auto)]
 
 mod laws;
-#[cfg(test)]
-mod line_tests;
-#[cfg(test)]
-mod poll_tests;
 mod read;
 mod reader;
 mod refused;
 mod scenario;
 mod scripts;
-#[cfg(test)]
-mod signal_tests;
-#[cfg(test)]
-mod tests;
 mod text;
 mod types;
-#[cfg(test)]
-mod waiting_tests;
 
 pub use laws::tells_them_apart;
 pub use read::{LONGEST_SCENARIO, read_scenario};

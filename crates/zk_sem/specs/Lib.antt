@@ -1,4 +1,3 @@
 pub mod Laws
 pub mod Owed
 pub mod Seen
-pub mod Tests

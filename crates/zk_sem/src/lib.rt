@@ -5,6 +5,3 @@ mod engine;
 mod sem;
 
 pub use sem::Sem;
-
-#[cfg(test)]
-mod tests;

@@ -1,10 +1,11 @@
 //! Each public call of `zk_base` once, with ample memory.
+use std::alloc::Global;
 use std::io;
 use std::process::Abort;
 use std::test::Fail;
 use zk_base::{
-    Failed, Listed, MemSink, MemSource, Name, Sink, Source, Status, StdSink, StdSource, SureSink,
-    SureSource, is_name, is_spelled, put, put_decimal,
+    Failed, Listed, MemSink, MemSource, Name, NoMemory, Sink, Source, Status, StdSink, StdSource,
+    SureSink, SureSource, is_name, is_spelled, put, put_decimal,
 };
 
 /// Whether each of the words is a name.
@@ -29,24 +30,32 @@ fn names_are_told_from_other_words(rt: HostRuntime) {
         false,
     );
     assert!(rt; is_spelled(b"work"));
-}
-
-#[test]
-fn a_name_gives_its_bytes(rt: HostRuntime) {
     let Some(name) = Name::new(b"debounce") else {
         panic!(rt; "it is a name")
     };
     assert_eq!(rt; name.bytes(), b"debounce".as_slice());
 }
 
-#[test]
-fn lists_give_back_their_items(rt: HostRuntime) -> Result<(), Fail> {
-    let mut list = Listed::new(rt.alloc());
-    list.push(3u8)?;
+/// A list of two, by way of a plain one.
+fn listed(alloc: Global) -> Result<Listed<u8>, NoMemory> {
+    let mut list = Listed::new(alloc);
+    list.push(3)?;
     list.push(5)?;
-    assert_eq!(rt; list.items(), [3, 5].as_slice());
-    let again = Listed::from_vec(list.into_vec());
-    assert_eq!(rt; again.items().len(), 2);
+    Ok(Listed::from_vec(list.into_vec()))
+}
+
+/// A text of two parts.
+fn text(alloc: Global) -> Result<Vec<u8>, NoMemory> {
+    let mut out = Vec::new(alloc);
+    put(&mut out, b"a")?;
+    put_decimal(&mut out, 1_048_576)?;
+    Ok(out)
+}
+
+#[test]
+fn lists_and_texts_grow(rt: HostRuntime) -> Result<(), Fail> {
+    assert_eq!(rt; listed(rt.alloc())?.items(), [3, 5].as_slice());
+    assert_eq!(rt; text(rt.alloc())?.as_slice(), b"a1048576".as_slice());
     Ok(())
 }
 
@@ -65,15 +74,6 @@ fn statuses_have_their_codes(rt: HostRuntime) {
     ] {
         assert_eq!(rt; status.code(), code);
     }
-}
-
-#[test]
-fn text_is_appended(rt: HostRuntime) -> Result<(), Fail> {
-    let mut out = Vec::new(rt.alloc());
-    put(&mut out, b"a")?;
-    put_decimal(&mut out, 1_048_576)?;
-    assert_eq!(rt; out.as_slice(), b"a1048576".as_slice());
-    Ok(())
 }
 
 /// Reads once for each row: what is answered, and what stands in the buffer then.
@@ -95,7 +95,7 @@ fn writes<R: Abort, S: Sink>(rt: &R, sink: &mut S, rows: &[(&[u8], Result<usize,
 }
 
 #[test]
-fn a_source_gives_pieces_and_fails_where_it_is_told(rt: HostRuntime) -> Result<(), Fail> {
+fn sources_give_pieces_and_fail_where_they_are_told(rt: HostRuntime) -> Result<(), Fail> {
     let mut source = MemSource::new(b"abcdef".to_vec(rt.alloc())?, 4, vec![in rt.alloc(); 1u64]?);
     reads(
         &rt,
@@ -107,11 +107,6 @@ fn a_source_gives_pieces_and_fails_where_it_is_told(rt: HostRuntime) -> Result<(
             (Ok(0), b"efcd\0\0\0\0"),
         ],
     );
-    Ok(())
-}
-
-#[test]
-fn a_sure_source_gives_pieces(rt: HostRuntime) -> Result<(), Fail> {
     let mut source = SureSource::new(b"abc".to_vec(rt.alloc())?, 2);
     reads(
         &rt,
@@ -187,19 +182,15 @@ impl io::Write for Broken {
     }
 }
 
+/// The reader gives two bytes and fails; the writer takes one byte, then none, and then it fails.
 #[test]
-fn a_reader_that_fails_is_a_fault(rt: HostRuntime) {
+fn a_stream_that_fails_is_a_fault(rt: HostRuntime) {
     let mut source = StdSource::new(Broken { calls: 0 });
     reads(
         &rt,
         &mut source,
         &[(Ok(2), b"ok\0\0\0\0\0\0"), (Err(Failed), b"ok\0\0\0\0\0\0")],
     );
-}
-
-/// It takes one byte, then none, and then it fails.
-#[test]
-fn a_writer_that_takes_nothing_is_a_fault(rt: HostRuntime) {
     let mut sink = StdSink::new(Broken { calls: 0 });
     writes(
         &rt,

@@ -8,25 +8,30 @@ use std::fmt::Write;
 use std::process::Abort;
 use std::test::Fail;
 use zk_base::{NoMemory, Service, Who};
+use zk_model_wait::ClockOp;
 use zk_model_wait::ClockOp::{Alarm, AlarmEnd, Announce};
-use zk_model_wait::{ClockOp, ClockReply};
 use zk_time::Clock;
 
 /// One attempt: the player, the operation, and what is answered.
 type Row = (u32, ClockOp, &'static str);
 
 /// One attempt, at a step above all earlier ones.
-fn attempt(
+fn attempt<R: Abort>(
+    rt: &R,
+    alloc: Global,
     clock: &mut Clock,
-    number: u32,
     step: u32,
-    op: ClockOp,
-) -> Result<Option<ClockReply>, NoMemory>
+    row: &Row,
+) -> Result<(), NoMemory>
     requires below { IsBelow step (clock_history clock.old) }
     requires few { step < 100 }
     ensures { IfOk result (λ _. IsBelow (step + 1) (clock_history clock.new)) }
 {
-    clock.act(Who { number, prio: 0 }, step, op)
+    let (number, op, wanted) = *row;
+    let reply = clock.act(Who { number, prio: 0 }, step, op)?;
+    let text = format!(in alloc; "{reply:?}")?;
+    assert_eq!(rt; text.as_str(), wanted, "at {step}");
+    Ok(())
 }
 
 /// Makes the attempts one after another, and says what the clock has then.
@@ -35,10 +40,7 @@ fn play<R: Abort>(rt: &R, alloc: Global, rows: &[Row]) -> Result<Clock, Fail>
 {
     let mut clock = Clock::new(alloc);
     for index in 0..rows.len() {
-        let (number, op, wanted) = rows[index];
-        let reply = attempt(&mut clock, number, index as u32, op)?;
-        let text = format!(in alloc; "{reply:?}")?;
-        assert_eq!(rt; text.as_str(), wanted, "at {index}");
+        attempt(rt, alloc, &mut clock, index as u32, &rows[index])?;
     }
     Ok(clock)
 }
@@ -84,18 +86,11 @@ fn alarms(rt: HostRuntime) -> Result<(), Fail> {
     let text = kept(rt.alloc(), &clock)?;
     assert_eq!(&rt;
         text.as_str(),
-        "0.1 Alarm(5) At(5); 1.2 Alarm(3) At(3); 2.3 Announce(2) Now(2); 0.4 Alarm(3) At(5); 2.6 Announce(1) Now(3); 1.8 AlarmEnd(3) Due; 2.10 Announce(4294967295) Now(4294967298); 0.11 AlarmEnd(5) Due; 0.12 AlarmEnd(5) Due; "
+        "0.1 Alarm(5) At(5); 1.2 Alarm(3) At(3); 2.3 Announce(2) Now(2); 0.4 Alarm(3) At(5); \
+         2.6 Announce(1) Now(3); 1.8 AlarmEnd(3) Due; \
+         2.10 Announce(4294967295) Now(4294967298); 0.11 AlarmEnd(5) Due; \
+         0.12 AlarmEnd(5) Due; "
     );
     assert_eq!(&rt; last_count(clock), 9);
-    Ok(())
-}
-
-/// After `reserve` three entries fit; and it has no words.
-#[test]
-fn room(rt: HostRuntime) -> Result<(), Fail> {
-    let mut clock = Clock::new(rt.alloc());
-    clock.reserve()?;
-    assert!(&rt; clock.room() >= 3);
-    assert_eq!(&rt; clock.word(0), 0, "it publishes nothing");
     Ok(())
 }

@@ -14,12 +14,22 @@ mod draws;
 #[cfg(test)]
 mod machine_tests;
 #[cfg(test)]
+mod msgq_row_tests;
+#[cfg(test)]
 mod msgq_tests;
+#[cfg(test)]
+mod note_tests;
 mod often;
 #[cfg(test)]
 mod queue_tests;
 #[cfg(test)]
+mod room_tests;
+#[cfg(test)]
+mod sem_row_tests;
+#[cfg(test)]
 mod sem_tests;
+#[cfg(test)]
+mod signal_row_tests;
 mod taking;
 #[cfg(test)]
 mod tests;

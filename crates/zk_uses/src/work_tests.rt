@@ -21,6 +21,68 @@ use zk_work::Work;
 /// One attempt: the player, the operation, and what is answered.
 type Row = (u32, WorkOp, &'static str);
 
+/// One item, and one started queue, whose worker is player 1.
+const ONE_RUN: [Row; 3] = [
+    (0, Submit(0, Some(0)), "Some(Sub(Fresh(0, 0)))"),
+    (1, Begin(0), "Some(Run(0, 0))"),
+    (1, End(0), "Some(Done)"),
+];
+
+/// A queue that isn't started takes nothing.
+const ONE_START: [Row; 4] = [
+    (0, Submit(0, Some(1)), "Some(Sub(Refused(NoDev)))"),
+    (0, Start(1), "Some(Done)"),
+    (0, Start(1), "Some(Already)"),
+    (0, Submit(0, Some(1)), "Some(Sub(Fresh(0, 1)))"),
+];
+
+/// Two items whose deadlines come with one announce, of which a queue that is off refuses one.
+const DELAYS: [Row; 4] = [
+    (0, Schedule(0, 1, 5), "Some(Armed)"),
+    (0, Reschedule(1, 0, 4), "Some(Armed)"),
+    (0, Announce(3), "Some(Now(3, Listed { items: [] }))"),
+    (
+        0,
+        Announce(2),
+        "Some(Now(5, Listed { items: [Expiry { item: 1, submitted: Fresh(0, 0) }, \
+         Expiry { item: 0, submitted: Refused(NoDev) }] }))",
+    ),
+];
+
+/// A flush ends a delay at once, and the item runs.
+const ONE_FLUSH: [Row; 4] = [
+    (0, Schedule(0, 0, 7), "Some(Armed)"),
+    (0, Remaining(0), "Some(Number(7))"),
+    (0, FlushStart(0), "Some(WaitFor(0))"),
+    (0, Remaining(0), "Some(Number(0))"),
+];
+
+/// The attempts, and what is kept of them: what was answered.
+const TABLES: [(&[Row], &str); 4] = [
+    (&ONE_RUN, "Sub(Fresh(0, 0)) Run(0, 0) Done "),
+    (
+        &ONE_START,
+        "Sub(Refused(NoDev)) Done Already Sub(Fresh(0, 1)) ",
+    ),
+    (
+        &DELAYS,
+        "Armed Armed Now(3, Listed { items: [] }) Now(5, Listed { items: [Expiry { item: 1, submitted: Fresh(0, 0) }, \
+         Expiry { item: 0, submitted: Refused(NoDev) }] }) ",
+    ),
+    (&ONE_FLUSH, "Armed Number(7) WaitFor(0) Number(0) "),
+];
+
+/// What is published of the items after each attempt.
+const BUSY_FLAGS: [(Row, [u32; 3]); 7] = [
+    ((0, Submit(0, Some(0)), "Some(Sub(Fresh(0, 0)))"), [4, 0, 0]),
+    ((0, Schedule(1, 0, 3), "Some(Armed)"), [4, 8, 0]),
+    ((1, Begin(0), "Some(Run(0, 0))"), [1, 8, 0]),
+    ((0, FlushStart(0), "Some(WaitFor(0))"), [17, 8, 0]),
+    ((0, Cancel(0), "Some(Flags(19))"), [19, 8, 0]),
+    ((0, Cancel(1), "Some(Flags(0))"), [19, 0, 0]),
+    ((1, End(0), "Some(Done)"), [0, 0, 0]),
+];
+
 /// Whether the operation is one of these tests, and its item and its queue are below 2.
 fn names_what_is_there(op: WorkOp) -> bool
     ensures { result ≡ true → is_among 2 2 op ≡ true }
@@ -105,115 +167,48 @@ impl Tried {
     }
 }
 
-/// Makes the attempts one after another.
-fn play<R: Abort>(rt: &R, alloc: Global, rows: &[Row]) -> Result<Tried, Fail> {
-    let mut tried = Tried::new(alloc)?;
+/// Makes the attempts one after another, each of which adds an entry. What is kept of them is told so.
+fn play<R: Abort>(
+    rt: &R,
+    alloc: Global,
+    tried: &mut Tried,
+    rows: &[Row],
+    kept: &str,
+) -> Result<(), Fail> {
     for row in rows {
         tried.told(rt, alloc, row)?;
     }
-    Ok(tried)
-}
-
-/// One item, and one started queue, whose worker is player 1.
-#[test]
-fn one_run(rt: HostRuntime) -> Result<(), Fail> {
-    let tried = play(
-        &rt,
-        rt.alloc(),
-        &[
-            (0, Submit(0, Some(0)), "Some(Sub(Fresh(0, 0)))"),
-            (1, Begin(0), "Some(Run(0, 0))"),
-            (1, End(0), "Some(Done)"),
-        ],
-    )?;
-    assert_eq!(&rt; tried.count(), 3);
-    assert_eq!(&rt; tried.last_count(), 3);
+    let text = tried.kept(alloc)?;
+    assert_eq!(rt; text.as_str(), kept);
+    assert_eq!(rt; tried.count(), rows.len());
     Ok(())
 }
 
-/// After `reserve` three entries fit.
 #[test]
-fn room(rt: HostRuntime) -> Result<(), Fail> {
-    let mut work = Work::new(rt.alloc(), 1, &[1], &[true])?;
-    work.reserve()?;
-    assert!(&rt; work.room() >= 3);
-    Ok(())
-}
-
-/// A queue that isn't started takes nothing.
-#[test]
-fn one_start(rt: HostRuntime) -> Result<(), Fail> {
-    play(
-        &rt,
-        rt.alloc(),
-        &[
-            (0, Submit(0, Some(1)), "Some(Sub(Refused(NoDev)))"),
-            (0, Start(1), "Some(Done)"),
-            (0, Start(1), "Some(Already)"),
-            (0, Submit(0, Some(1)), "Some(Sub(Fresh(0, 1)))"),
-        ],
-    )?;
-    Ok(())
-}
-
-/// Two items whose deadlines come with one announce, of which a queue that is off refuses one. What is kept
-/// is what was answered.
-#[test]
-fn delays(rt: HostRuntime) -> Result<(), Fail> {
-    let tried = play(
-        &rt,
-        rt.alloc(),
-        &[
-            (0, Schedule(0, 1, 5), "Some(Armed)"),
-            (0, Reschedule(1, 0, 4), "Some(Armed)"),
-            (0, Announce(3), "Some(Now(3, Listed { items: [] }))"),
-            (
-                0,
-                Announce(2),
-                "Some(Now(5, Listed { items: [Expiry { item: 1, submitted: Fresh(0, 0) }, Expiry { item: 0, submitted: Refused(NoDev) }] }))",
-            ),
-        ],
-    )?;
-    let kept = tried.kept(rt.alloc())?;
-    assert_eq!(&rt;
-        kept.as_str(),
-        "Armed Armed Now(3, Listed { items: [] }) Now(5, Listed { items: [Expiry { item: 1, submitted: Fresh(0, 0) }, Expiry { item: 0, submitted: Refused(NoDev) }] }) "
-    );
-    Ok(())
-}
-
-/// A flush ends a delay at once, and the item runs.
-#[test]
-fn one_flush(rt: HostRuntime) -> Result<(), Fail> {
-    play(
-        &rt,
-        rt.alloc(),
-        &[
-            (0, Schedule(0, 0, 7), "Some(Armed)"),
-            (0, Remaining(0), "Some(Number(7))"),
-            (0, FlushStart(0), "Some(WaitFor(0))"),
-            (0, Remaining(0), "Some(Number(0))"),
-        ],
-    )?;
-    Ok(())
-}
-
-/// What is published of the items, after each attempt.
-#[test]
-fn busy_flags(rt: HostRuntime) -> Result<(), Fail> {
-    let mut tried = Tried::new(rt.alloc())?;
-    assert_eq!(&rt; tried.words(), [0, 0, 0]);
-    for (row, words) in [
-        ((0, Submit(0, Some(0)), "Some(Sub(Fresh(0, 0)))"), [4, 0, 0]),
-        ((0, Schedule(1, 0, 3), "Some(Armed)"), [4, 8, 0]),
-        ((1, Begin(0), "Some(Run(0, 0))"), [1, 8, 0]),
-        ((0, FlushStart(0), "Some(WaitFor(0))"), [17, 8, 0]),
-        ((0, Cancel(0), "Some(Flags(19))"), [19, 8, 0]),
-        ((0, Cancel(1), "Some(Flags(0))"), [19, 0, 0]),
-        ((1, End(0), "Some(Done)"), [0, 0, 0]),
-    ] {
-        tried.told(&rt, rt.alloc(), &row)?;
-        assert_eq!(&rt; tried.words(), words);
+fn attempts_are_answered_and_kept(rt: HostRuntime) -> Result<(), Fail> {
+    for (rows, kept) in TABLES {
+        let mut tried = Tried::new(rt.alloc())?;
+        let played = play(&rt, rt.alloc(), &mut tried, rows, kept);
+        assert_eq!(&rt; tried.last_count(), rows.len());
+        played?;
     }
     Ok(())
+}
+
+/// Makes the attempts one after another, and looks at the words after each.
+fn publishes<R: Abort>(rt: &R, alloc: Global, tried: &mut Tried) -> Result<(), Fail> {
+    assert_eq!(rt; tried.words(), [0, 0, 0]);
+    for (row, words) in BUSY_FLAGS.as_slice() {
+        tried.told(rt, alloc, row)?;
+        assert_eq!(rt; tried.words(), *words);
+    }
+    Ok(())
+}
+
+#[test]
+fn busy_flags_are_published(rt: HostRuntime) -> Result<(), Fail> {
+    let mut tried = Tried::new(rt.alloc())?;
+    let published = publishes(&rt, rt.alloc(), &mut tried);
+    assert_eq!(&rt; tried.last_count(), BUSY_FLAGS.len());
+    published
 }

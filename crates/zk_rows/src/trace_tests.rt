@@ -10,7 +10,8 @@ use zk_scenario::read_scenario;
 use zk_trace::{Ending, Histories, History, ItemLook, SignalLook, SignalLooks, Trace, print_trace};
 use zk_worker::{Answer, Answered, Log, PlayerState, Positions, Word};
 
-/// One thread, two queues, three items, a semaphore, a message queue and a signal: the thread is player 0, the workers are 1 and 2.
+/// One thread, two queues, three items, a semaphore, a message queue and a signal: the thread is
+/// player 0, the workers are 1 and 2.
 const SCENARIO: &str =
     "zk 1\nthread t0 0 super\nqueue q0 0 on\nqueue q1 0 on\nitem w0\nitem w1\nitem w2\n\
     sem s0 0 10\nmsgq m0 2 1\nsignal g0\n";
@@ -253,18 +254,30 @@ fn trace(alloc: Global) -> Result<Trace, Fail> {
     })
 }
 
+/// What is printed of it.
+fn printed(alloc: Global, trace: &Trace) -> Result<Vec<u8>, Fail> {
+    let scenario = read_scenario(alloc, SCENARIO.as_bytes())?;
+    let text = print_trace(alloc, &scenario, trace)?;
+    Ok(text)
+}
+
+fn text(alloc: Global) -> Result<Vec<u8>, Fail> {
+    let trace = trace(alloc)?;
+    printed(alloc, &trace)
+}
+
+/// Whether the piece is there, and is this text.
+fn is_text(piece: Option<&[u8]>, text: &str) -> bool {
+    match piece {
+        Some(piece) => piece == text.as_bytes(),
+        None => false,
+    }
+}
+
 #[test]
 fn prints_each_section(rt: HostRuntime) -> Result<(), Fail> {
-    let alloc = rt.alloc();
-    let scenario = read_scenario(alloc, SCENARIO.as_bytes()).map_err(|_| "a scenario")?;
-    let text = print_trace(alloc, &scenario, &trace(alloc)?)?;
-    assert_eq!(rt;
-        text.get(..SCENARIO.len()).ok_or("the scenario")?,
-        SCENARIO.as_bytes()
-    );
-    assert_eq!(rt;
-        text.get(SCENARIO.len()..).ok_or("a trace")?,
-        TRACE.as_bytes()
-    );
+    let text = text(rt.alloc())?;
+    assert!(rt; is_text(text.get(..SCENARIO.len()), SCENARIO));
+    assert!(rt; is_text(text.get(SCENARIO.len()..), TRACE));
     Ok(())
 }

@@ -1,10 +1,10 @@
-//! Semaphores, message queues, signals, polls, looks and waits with ticks: scripts with their traces, through the top call.
-use crate::tests::row;
-use std::test::*;
+//! Scripts of semaphores, message queues, signals, polls, looks and waits with ticks, with their
+//! traces.
+use crate::run_tests::Row;
 use zk_base::Status;
 
-/// What a scenario adds to the front of the rows, its status, and the trace part that is printed behind it, by name.
-const ROWS: [(&str, Status, &str, &str); 16] = [
+/// All but work queues.
+pub const OBJECTS: [Row; 16] = [
     (
         "the first waiter by priority, and a reset",
         Status::Success,
@@ -193,11 +193,3 @@ const ROWS: [(&str, Status, &str, &str); 16] = [
          player q0 done\n",
     ),
 ];
-
-#[test]
-fn objects_print_their_traces(rt: HostRuntime) -> Result<(), Fail> {
-    for (name, status, scripts, trace) in ROWS.as_slice() {
-        row(&rt, name, *status, scripts, trace)?;
-    }
-    Ok(())
-}

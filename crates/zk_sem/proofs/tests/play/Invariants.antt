@@ -1,6 +1,0 @@
-use Rattle.zk_sem.specs.Seen.{sem_history}
-use Rattle.zk_sem.specs.Tests.{IsBelow}
-use Rattle.zk_sem.proofs.tests.play.Given as goal
-
-abbrev pub invariant-loop-index : goal.invariant-loop-index
-invariant-loop-index g l = IsBelow l.index-counter (sem_history l.sem)
