@@ -20,11 +20,12 @@ use Rattle.zk_trace.specs.Lawful.{IsLawful}
 use Rattle.zk_replay.specs.Replay.{IsReplay}
 use Rattle.zk_replay.specs.Over.{IsOver}
 use Rattle.zk_cli.specs.Moments.{AtEachMoment, AtEachObject}
+use Rattle.zk_cli.specs.Polls.{EachKeepsPolls}
 use Rattle.zk_cli.specs.Refusal.{refusal_text}
 
 -- the input is the text of a scenario, and the output is that text and the trace of its round robin run, which ends so;
--- the trace is lawful for the scenario, its histories keep the laws at each moment, and where the run has ended each
--- admission has ended or was dropped
+-- the trace is lawful for the scenario, its histories keep the laws at each moment, its polls keep theirs, and where the
+-- run has ended each admission has ended or was dropped
 pub record IsRun (ending : Ending) (input output : List ℕ) : Type 0 where
   pub scenario : Parts
   pub trace : Trace
@@ -37,6 +38,7 @@ pub record IsRun (ending : Ending) (input output : List ℕ) : Type 0 where
   pub sem_laws : AtEachObject KeepsSemLaws (machines_of scenario).sems trace.sems
   pub msgq_laws : AtEachObject KeepsMsgqLaws (machines_of scenario).msgqs trace.msgqs
   pub signal_laws : AtEachObject (λ start. KeepsSignalLaws) (machines_of scenario).signals trace.signals
+  pub polls : EachKeepsPolls scenario trace
   pub over : IsOver scenario trace
   pub ends : trace.ending ≡ ending
   pub printed : output ≡ text_of scenario ++ trace_text scenario trace

@@ -15,6 +15,7 @@ use Rattle.zk_replay.proofs.Legality.{legal-one}
 use Rattle.zk_model_work.proofs.Drains.{undrained-fresh}
 use Rattle.zk_cli.specs.Answer.{IsOutput}
 use Rattle.zk_cli.proofs.Outcomes.{output-run}
+use Rattle.zk_cli.proofs.PollsKept.{polls-kept}
 use Rattle.zk_cli.proofs.Starts.{sem-starts, msgq-starts, signal-starts}
 use Rattle.zk_cli.proofs.answer.run.Goals as goal
 
@@ -58,6 +59,7 @@ returns c =
           let began = starts ∙ ap Some (signal-starts c.args.scenario.now.decls object start starts) in
           let legal = legal-one signal_machine (machines_of c.args.scenario.now).signals.starts trace.signals object new_signal h c.in_ok-trace.ensures.lawful.history.signals began there in
           c.keeps_signal_laws.ensures front (IsLegal-front signal_machine new_signal front rest (subst (IsLegal signal_machine new_signal) parts legal));
+      polls = polls-kept c.args.scenario.now trace c.replay.ensures.valid c.in_ok-trace.ensures.lawful;
       over = c.in_ok-trace.ensures.over;
       ends = refl;
       printed = c.in_ok-put_trace.ensures.text ∙ ap (λ (text : List ℕ). text ++ trace_text c.args.scenario.now trace) c.requires.spelled;
