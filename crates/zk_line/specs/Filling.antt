@@ -30,7 +30,7 @@ pub IsFilled-made : (events idle front : List Event) → is_few events ≡ true 
 IsFilled-made events idle front few are same =
     let within = length-few events few in
     let rest : drop (length events) idle ≡ replicate (8 - length events) Ignore =
-        ap (λ (z : List Event). drop (length events) z) are ∙ drop-replicate (length events) 8 Ignore in
+    ap (λ (z : List Event). drop (length events) z) are ∙ drop-replicate (length events) 8 Ignore in
     let sized = length-append events (drop (length events) idle) in
     let long = ap length rest ∙ length-replicate (8 - length events) Ignore in
     let P : List Event → Type 0 = λ f. IsFilled (f ++ drop (length events) idle) (length events) in

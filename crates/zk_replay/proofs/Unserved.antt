@@ -1,5 +1,5 @@
 -- Where a run has come to its end, nobody has served whoever waits.
-use Rattle.std.proofs.Common.{◌≡◌, ℕ, zero, suc, ◌+◌, Bool, true, false, not, ◌&&◌, cond, Option, Some, None, List, [], ◌∷◌, length, refl, sym, ap, subst, ◌∙◌}
+use Rattle.std.proofs.Common.{◌≡◌, ℕ, zero, suc, ◌+◌, Bool, true, false, not, cond, Option, Some, None, List, [], ◌∷◌, length, refl, sym, ap, subst, ◌∙◌}
 use Rattle.std.specs.List.{slice_get}
 use Rattle.std.specs.Option.{option_map, option_and_then}
 use Rattle.zk_base.specs.declared.ids.Who.{Who}
@@ -10,8 +10,6 @@ use Rattle.zk_model_wait.specs.declared.clock.ClockOp.TheVariants as clock_ops
 use Rattle.zk_model_wait.specs.declared.clock.ClockReply.{ClockReply}
 use Rattle.zk_model_wait.specs.declared.sem.SemOp.TheVariants as sem_ops
 use Rattle.zk_model_wait.specs.declared.msgq.MsgqOp.TheVariants as msgq_ops
-use Rattle.zk_model_wait.specs.declared.signal.SignalOp.{SignalOp}
-use Rattle.zk_model_wait.specs.declared.signal.SignalReply.{SignalReply}
 use Rattle.zk_model_wait.specs.Clock.{new_clock, clock_reply, clock_machine}
 use Rattle.zk_model_wait.specs.Sem.{Sem}
 use Rattle.zk_model_wait.specs.Msgq.{Msgq}
@@ -31,7 +29,7 @@ use Rattle.zk_worker.specs.Attempt.{reply_in}
 use Rattle.zk_worker.specs.Looks.{look, look_at, looks_at, found_by, seen_after}
 use Rattle.zk_worker.specs.Choosing.{or_else, first_possible, chosen}
 use Rattle.zk_worker.proofs.ShownSteps.{whole-after}
-use Rattle.zk_replay.specs.RoundRobin.{World, stepped, is_spent, turn, turn_of, turns, round, rounds, first, IsRun}
+use Rattle.zk_replay.specs.RoundRobin.{World, stepped, is_spent, turn, turn_of, turns, rounds, first, IsRun}
 use Rattle.zk_replay.specs.Laws.{NoneIsServed}
 use Rattle.zk_replay.proofs.OneRun.{none_goes_on}
 

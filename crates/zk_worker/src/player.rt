@@ -10,9 +10,7 @@ ghost use Rattle.zk_worker.specs.Attempt.{IsMade};
 
 use crate::frames::MOST_FRAMES;
 use crate::protocol::spot_of;
-use crate::stack::{
-    first_frame, frames_ahead, frames_progress, move_frames, put_answer, settle,
-};
+use crate::stack::{first_frame, frames_ahead, frames_progress, move_frames, put_answer, settle};
 use crate::steps::MOST_STEPS;
 use crate::{
     Answered, Answers, Frame, Log, PlayerState, Role, Spot, Spots, Stage, Step, StepReply,
