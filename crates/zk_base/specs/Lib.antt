@@ -1,5 +1,6 @@
 pub mod Causes
 pub mod Codes
+pub mod Fews
 pub mod History
 pub mod InMemory
 pub mod Legal

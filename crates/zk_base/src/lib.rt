@@ -3,6 +3,7 @@
 
 mod engine;
 mod errors;
+mod few;
 mod ids;
 mod listed;
 mod memory_sink;
@@ -20,6 +21,7 @@ mod waits;
 
 pub use engine::Engine;
 pub use errors::{Errno, Failed, NewRefused, NoMemory, Status};
+pub use few::{Few, MOST_FEW};
 pub use ids::{Entry, Who};
 pub use listed::Listed;
 pub use memory_sink::{MemSink, SureSink};

@@ -1,0 +1,85 @@
+ghost use Rattle.std.specs.Prelude.{◌≡◌, ◌<◌, [], ◌∷◌, ◌++◌, Some, None, if◌then◌else◌, length};
+ghost use Rattle.zk_base.specs.Fews.{is_few};
+
+use std::marker::Model;
+
+/// The most numbers that a short list keeps.
+pub const MOST_FEW: usize = 8;
+
+/// A short list of numbers: at most 8, kept in place, so that it is copied without memory.
+#[derive(Clone, Copy, Debug)]
+pub struct Few {
+    // The numbers, then zeros.
+    numbers: [u32; MOST_FEW],
+    len: usize,
+}
+
+impl Model for Few {
+    ghost use Rattle.std.specs.Prelude.{ℕ, List, take, length};
+    ghost use Rattle.zk_base.specs.Fews.{is_few};
+    ghost use Rattle.zk_base.specs.Padded.{padded, IsPadded};
+    ghost use Rattle.zk_base.specs.Padding.{padded-take, length-padded};
+
+    ghost Value = { List ℕ };
+
+    ghost view = { λ f. take f.len f.numbers };
+
+    ghost invariant = { λ f. IsPadded 8 is_few f.numbers f.len };
+
+    ghost inverse = { λ v. record { numbers = padded 8 v; len = length v } };
+
+    ghost inverse_ok = { λ f held. λ i. record {
+      numbers = padded-take 8 is_few f.numbers f.len held i;
+      len = length-padded 8 is_few f.numbers f.len held i;
+    } };
+}
+
+impl Few {
+    /// No number.
+    pub fn none() -> Few
+        ensures { result ≡ [] }
+    {
+        Few {
+            numbers: [0; MOST_FEW],
+            len: 0,
+        }
+    }
+
+    /// The list of these numbers. There is none where they are more than 8.
+    pub fn new(numbers: &[u32]) -> Option<Few>
+        ensures { result ≡ (if is_few numbers.now then Some numbers.now else None) }
+    {
+        if !is_few(numbers) {
+            return None;
+        }
+        let mut kept = [0; MOST_FEW];
+        kept[..numbers.len()].copy_from_slice(numbers);
+        Some(Few {
+            numbers: kept,
+            len: numbers.len(),
+        })
+    }
+
+    /// One number more, behind the others.
+    pub fn push(&mut self, number: u32)
+        requires { length self.old < 8 }
+        ensures { self.new ≡ self.old ++ number ∷ [] }
+    {
+        self.numbers[self.len] = number;
+        self.len += 1;
+    }
+
+    /// Its numbers: at most 8 of them.
+    pub fn numbers(&self) -> &[u32]
+        ensures { result.now ≡ self.now }
+    {
+        &self.numbers[..self.len]
+    }
+}
+
+/// Whether so many numbers are few.
+fn is_few(numbers: &[u32]) -> bool
+    ensures { result ≡ is_few numbers.now }
+{
+    numbers.len() <= MOST_FEW
+}
