@@ -2,7 +2,7 @@ ghost use Rattle.std.specs.Prelude.{◌≡◌, true, false, ◌+◌, ◌-◌, �
 ghost use Rattle.std.specs.List.{list_any};
 ghost use Rattle.zk_base.specs.History.{AddsNone};
 ghost use Rattle.zk_base.specs.Waits.{open_waits};
-ghost use Rattle.zk_model_bus.specs.Channel.{unmasked, new_chan, is_valid, holds, is_claim, has_claimed, has_entered, is_observer, told_of, mask_one, masked, gain_reply, gain, handed_on, chan_reply, chan_next, chan_after, may_wait};
+ghost use Rattle.zk_model_bus.specs.Channel.{unmasked, new_chan, is_valid, holds, is_claim, has_claimed, has_entered, is_observer, told_of, mask_one, masked, gain_reply, gain, held_by, handed_on, chan_reply, chan_next, chan_after, may_wait};
 
 use std::alloc::Global;
 use std::marker::Model;
@@ -11,8 +11,8 @@ use zk_base::{Few, Msg, NoMemory, WaitList, Waiter, Who};
 /// What can be asked of a channel.
 #[derive(Clone, Copy, Debug)]
 pub enum ChanOp {
-    /// Gets the channel for a message that its validator takes. Where it is held the caller waits, if this is true. The opening of
-    /// Zephyr's `zbus_chan_pub`.
+    /// Gets the channel for a message that its validator takes. Where it is held the caller waits, if this is true. The
+    /// opening of Zephyr's `zbus_chan_pub`.
     Offer(Msg, bool),
     /// Gets the channel without a message. Where it is held the caller waits, if this is true. The opening of Zephyr's
     /// `zbus_chan_notify` and `zbus_chan_read`.
@@ -251,6 +251,16 @@ fn mask(observers: &mut [ChanObserver], number: u32, on: bool)
     }
 }
 
+/// Who waits, as a holder in the manner of its call.
+fn held_by(waiter: &Waiter<Manner>) -> Holder
+    ensures { result ≡ held_by waiter.now }
+{
+    Holder {
+        player: waiter.who.number,
+        manner: waiter.matter,
+    }
+}
+
 impl ChanStore {
     /// A channel before the first entry, with its first message and its observers by number.
     pub fn new(
@@ -445,13 +455,7 @@ impl ChanStore {
         ensures next { self.new.chan ≡ handed_on self.old.chan }
         ensures room { self.old.room ≤ self.new.room }
     {
-        self.holder = match self.waits.first() {
-            Some(first) => Some(Holder {
-                player: first.who.number,
-                manner: first.matter,
-            }),
-            None => None,
-        };
+        self.holder = self.waits.first().map(|first| held_by(&first));
         self.waits.decide_first(ChanReply::Got);
     }
 

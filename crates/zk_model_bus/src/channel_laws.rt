@@ -3,8 +3,8 @@ ghost use Rattle.zk_model_bus.specs.Channel.{Channel, chan_machine};
 ghost use Rattle.zk_model_bus.specs.ChannelWaits.{callers};
 ghost use Rattle.zk_model_bus.specs.ChannelLaws.{ChanHistory, OfEachChan, HolderGainedItLast, GainedOnlyWhereFree, HandedOnAtOnce, HandedOnByAFree, OnlyTheHolderUses, FreedInItsManner, HolderMayUse, OneUsesAtATime, GetTellsTheLastSet, ListTellsTheUnmasked, MaskKnowsItsObservers, RefusedByItsValidator, CallWaitsOnlyWhereHeld, MayAlways, KeepsChannelLaws};
 
-/// Of every legal history of a channel: one player holds it at a time, from the entry that got it or handed it on until it is freed;
-/// a channel that is freed goes to the first who waits; and only its holder uses and frees it, and may do so.
+/// Of every legal history of a channel: one player holds it at a time, from the entry that got it or handed it on until it
+/// is freed; a channel that is freed goes to the first who waits; and only its holder uses and frees it, and may do so.
 pub fn one_holds()
     ensures holder { OfEachChan HolderGainedItLast }
     ensures gained { OfEachChan GainedOnlyWhereFree }
@@ -16,8 +16,8 @@ pub fn one_holds()
     ensures one { OfEachChan OneUsesAtATime }
 {}
 
-/// Of every legal history of a channel: its message is that of the last set, and the observers that it tells are those that aren't
-/// masked.
+/// Of every legal history of a channel: its message is that of the last set, and the observers that it tells are those that
+/// aren't masked.
 pub fn message_holds()
     ensures get { OfEachChan GetTellsTheLastSet }
     ensures list { OfEachChan ListTellsTheUnmasked }
@@ -31,8 +31,8 @@ pub fn channel_calls_are_told()
     ensures always { (c : Channel) (h : ChanHistory) → MayAlways c h }
 {}
 
-/// Of every legal history of a channel: who waits has asked for it and is served by priority, and then by longest wait; the end of a wait
-/// is answered its decision, and one who gives up gets what was decided meanwhile.
+/// Of every legal history of a channel: who waits has asked for it and is served by priority, and then by longest wait; the
+/// end of a wait is answered its decision, and one who gives up gets what was decided meanwhile.
 pub fn channel_waits_end()
     ensures waits { OfEachChan (KeepsWaits chan_machine callers) }
 {}
