@@ -318,10 +318,6 @@ handed_on_by_a_free message valid observers h legal front e d at decides =
 
 -- Nobody waits where nobody holds the channel.
 
-without-nil : {A : Type 0} (p : A → Bool) (xs : List A) → xs ≡ [] → without_first p xs ≡ []
-without-nil p [] none = refl
-without-nil p (x ∷ xs) none = absurd (cc)
-
 gain-served : (o : Option Holder) (c : Channel) (who : Who) (manner : Manner) (waits : Bool) → c.holder ≡ o → (c.holder ≡ None → c.waits.waiting ≡ []) →
     (gain o c who manner waits).holder ≡ None → (gain o c who manner waits).waits.waiting ≡ []
 gain-served None c who manner waits is served none = absurd (cc)
@@ -342,7 +338,7 @@ next-served c who (ops.Offer message waits) served none =
 next-served c who (ops.Enter waits) served none = gain-served c.holder c who manners.Enter waits refl served none
 next-served c who (ops.Claim waits) served none = gain-served c.holder c who manners.Claim waits refl served none
 next-served c who (ops.ClaimEnd place) served none = served none
-next-served c who (ops.ClaimQuit place) served none = without-nil (is_waiter who.number place) c.waits.waiting (served none)
+next-served c who (ops.ClaimQuit place) served none = ap (without_first (is_waiter who.number place)) (served none)
 next-served c who (ops.Set message) served none = if-served (holds c who) (record c { message = message }) c served served none
 next-served c who ops.List served none = served none
 next-served c who ops.Get served none = served none
@@ -407,7 +403,7 @@ so-entered c who (inr is) =
     ∙ ap (λ (b : Bool). b && true) (eqb-same who.number)
 
 -- what is given only where a test holds
-was-given : (b : Bool) (given reply : ChanReply) → cond b (Some given) None ≡ Some reply → (b ≡ true) × (given ≡ reply)
+pub was-given : (b : Bool) (given reply : ChanReply) → cond b (Some given) None ≡ Some reply → (b ≡ true) × (given ≡ reply)
 was-given true given reply is = (refl, same_Some given reply is)
 was-given false given reply is = absurd (cc)
 

@@ -19,7 +19,7 @@ use Rattle.zk_model_bus.specs.declared.channel.ChanReply.{ChanReply}
 use Rattle.zk_model_bus.specs.declared.channel.ChanReply.TheVariants.{NoMsg, Observers, Bytes, Done, Inval}
 use Rattle.zk_model_bus.specs.Channel.{Channel, unmasked, new_chan, is_valid, holds, has_claimed, has_entered, is_observer, told_of, masked, gain_reply, gain, handed_on, chan_reply, chan_next, chan_machine}
 use Rattle.zk_model_bus.specs.ChannelLaws.{ChanHistory, OfEachChan, chan_after_all, waits_of, asks_observers, IsAboveBound, IsRefused, CallIsTold, set_by, last_set, masked_by, last_mask, numbers, RefusedByItsValidator, CallWaitsOnlyWhereHeld, GetTellsTheLastSet, ListTellsTheUnmasked, MaskKnowsItsObservers, MayAlways}
-use Rattle.zk_model_bus.proofs.ChannelHolds.{replied, replied-as}
+use Rattle.zk_model_bus.proofs.ChannelHolds.{replied, replied-as, was-given}
 
 -- the same in both arms
 arms : {A : Type 0} (P : Channel → A) (z : A) (b : Bool) (x y : Channel) → P x ≡ z → P y ≡ z → P (cond b x y) ≡ z
@@ -56,17 +56,12 @@ message-after c [] replays = refl
 message-after c (e ∷ es) replays =
     message-after (chan_next c e.who e.op) es replays.1 ∙ ap (λ (m : List ℕ). last_set m es) (next-message c e.who e.op e.reply replays.0)
 
--- what is given only where a test holds
-given-so : (b : Bool) (given reply : ChanReply) → cond b (Some given) None ≡ Some reply → given ≡ reply
-given-so true given reply is = same_Some given reply is
-given-so false given reply is = absurd (cc)
-
 pub get_tells_the_last_set : OfEachChan GetTellsTheLastSet
 get_tells_the_last_set message valid observers h legal front e at op =
     let new = new_chan message valid observers in
     let c = chan_after_all new front in
     let replays = Replays-front chan_machine new front (e ∷ at.rest) (subst (Replays chan_machine new) at.whole legal.0) in
-    sym (given-so (holds c e.who) (Bytes c.message) e.reply (replied-as new h front e ops.Get legal.0 at op)) ∙ ap Bytes (message-after new front replays)
+    sym (was-given (holds c e.who) (Bytes c.message) e.reply (replied-as new h front e ops.Get legal.0 at op)).1 ∙ ap Bytes (message-after new front replays)
 
 -- The observers.
 
@@ -125,8 +120,8 @@ any-as observer f [] = refl
 any-as observer f (n ∷ ns) = ap (λ (b : Bool). eqb n observer || b) (any-as observer f ns)
 
 asks-so : (c : Channel) (who : Who) (op : ChanOp) (reply : ChanReply) → chan_reply c who op ≡ Some reply → asks_observers op ≡ true → reply ≡ Observers (told_of c.observers)
-asks-so c who (ops.Set message) reply told is = sym (given-so (holds c who) (Observers (told_of c.observers)) reply told)
-asks-so c who ops.List reply told is = sym (given-so (holds c who) (Observers (told_of c.observers)) reply told)
+asks-so c who (ops.Set message) reply told is = sym (was-given (holds c who) (Observers (told_of c.observers)) reply told).1
+asks-so c who ops.List reply told is = sym (was-given (holds c who) (Observers (told_of c.observers)) reply told).1
 asks-so c who op reply told is = absurd (cc)
 
 pub list_tells_the_unmasked : OfEachChan ListTellsTheUnmasked

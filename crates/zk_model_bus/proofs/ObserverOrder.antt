@@ -34,10 +34,6 @@ pub record IsServed (capacity : Option ℕ) (o : Observer) : Type 0 where
 some-waits : {A : Type 0} (w : A) (ws xs : List A) → xs ≡ w ∷ ws → xs ≡ [] → ⊥
 some-waits w ws xs is none = let both = sym is ∙ none in cc
 
-without-nil : {A : Type 0} (p : A → Bool) (xs : List A) → xs ≡ [] → without_first p xs ≡ []
-without-nil p [] none = refl
-without-nil p (x ∷ xs) none = absurd (cc)
-
 list-served : (capacity : Option ℕ) (most : ℕ) (o : Observer) (channel : ℕ) (room : Bool) → capacity ≡ Some most → ltb (length o.channels) most ≡ room → o.takers.waiting ≡ [] → IsServed capacity o →
     IsServed capacity (cond room (record o { channels = o.channels ++ channel ∷ [] }) o)
 list-served capacity most o channel true has below nobody is =
@@ -90,7 +86,7 @@ next-served capacity o who (ops.Take waits) is =
 next-served capacity o who (ops.TakeEnd place) is = record { same = is.same; none = is.none; within = is.within; listener = is.listener }
 next-served capacity o who (ops.TakeQuit place) is = record {
   same = is.same;
-  none = λ above. without-nil (is_waiter who.number place) o.takers.waiting (is.none above);
+  none = λ above. ap (without_first (is_waiter who.number place)) (is.none above);
   within = is.within;
   listener = is.listener;
 }
@@ -116,15 +112,12 @@ nil-of : (channels : List ℕ) (w : Waiter Unit) (ws waiting : List (Waiter Unit
 nil-of [] w ws waiting some none = refl
 nil-of (c ∷ cs) w ws waiting some none = absurd (some-waits w ws waiting some (none (omega arith)))
 
-above-apart : (n : ℕ) → 0 < n → eqb n 0 ≡ false
-above-apart n some = grind (arith, nat_tests)
-
 -- what was decided before is handed to nobody
 handed-old : (before : Waits Unit ObsReply) (ds : List (Decision ObsReply)) → All (Contains before.decided) ds → handed_by before ds ≡ []
 handed-old before [] held = refl
 handed-old before (d ∷ ds) held =
     let some = decided-some before d (All-head (Contains before.decided) d ds held) in
-    let old : eqb (decided_at d.place before) 0 ≡ false = above-apart (decided_at d.place before) some in
+    let old : eqb (decided_at d.place before) 0 ≡ false = grind (arith, nat_tests) in
     ap (λ (b : Bool). cond b (channel_of d.answer) [] ++ handed_by before ds) old ∙ handed-old before ds (All-tail (Contains before.decided) d ds held)
 
 handed-append : (before : Waits Unit ObsReply) (ds cs : List (Decision ObsReply)) → handed_by before (ds ++ cs) ≡ handed_by before ds ++ handed_by before cs

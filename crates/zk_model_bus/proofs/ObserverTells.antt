@@ -1,7 +1,6 @@
 -- What the calls at an observer are told, along a history.
-use Rattle.std.proofs.Common.{◌≡◌, ℕ, ◌<◌, ◌≤◌, Bool, true, false, ltb, cond, Option, Some, None, is_some, List, [], ◌∷◌, ◌++◌, length, refl, sym, ap, subst, ◌∙◌, arith}
-use Rattle.std.proofs.lemmas.Bool.{ltb-true}
-use Rattle.std.proofs.lemmas.Bool.Decides.{nat_tests}
+use Rattle.std.proofs.Common.{◌≡◌, ℕ, ◌<◌, Bool, true, false, ltb, cond, Option, Some, None, is_some, List, [], ◌∷◌, ◌++◌, length, refl, sym, ap, subst, ◌∙◌, arith}
+use Rattle.std.proofs.lemmas.Bool.{ltb-true, ltb-false}
 use Rattle.std.proofs.lemmas.Option.{same_Some}
 use Rattle.zk_base.specs.declared.ids.Who.{Who}
 use Rattle.zk_base.specs.declared.ids.Entry.{Entry}
@@ -88,9 +87,6 @@ listener_runs capacity h legal front e channel at op is listens =
     let o = obs_after_all (new_obs capacity) front in
     visit-told capacity h front e channel true legal.0 at op is ∙ ap (λ (own : Option ℕ). visit_reply own o.takers.waiting o) listens
 
-not-below : (a b : ℕ) → ltb a b ≡ false → b ≤ a
-not-below a b is = grind (arith, nat_tests)
-
 push-told : (most : ℕ) (waiting : List (Waiter Unit)) (o : Observer) → o.takers.waiting ≡ waiting → (0 < length o.channels → o.takers.waiting ≡ []) → PushIsTold most o (visit_reply (Some most) waiting o)
 push-told most (w ∷ ws) o some none = record { handed = λ waits. refl; room = λ below. refl; full = λ nobody full. absurd (let both = sym some ∙ nobody in cc) }
 push-told most [] o nobody none = by (ltb (length o.channels) most) refl where
@@ -99,7 +95,7 @@ push-told most [] o nobody none = by (ltb (length o.channels) most) refl where
       let less = ltb-true (length o.channels) most below in
       record { handed = λ waits. refl; room = λ is. refl; full = λ none full. absurd (omega arith) }
   by false above =
-      let more = not-below (length o.channels) most above in
+      let more = ltb-false (length o.channels) most above in
       record { handed = λ waits. absurd (waits nobody); room = λ is. absurd (omega arith); full = λ none full. refl }
 
 pub full_only_at_capacity : OfEachObs FullOnlyAtCapacity
