@@ -5,6 +5,8 @@
 #[cfg(test)]
 mod base_tests;
 #[cfg(test)]
+mod bus_machine_tests;
+#[cfg(test)]
 mod clock_machine_tests;
 mod clock_shared;
 #[cfg(test)]

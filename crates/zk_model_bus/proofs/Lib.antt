@@ -1,0 +1,6 @@
+pub mod ChannelHolds
+pub mod ChannelTells
+pub mod ChannelWaits
+pub mod ObserverOrder
+pub mod ObserverTells
+pub mod ObserverWaits

@@ -1,0 +1,6 @@
+pub mod Channel
+pub mod ChannelLaws
+pub mod ChannelWaits
+pub mod Observer
+pub mod ObserverLaws
+pub mod ObserverWaits

@@ -1,0 +1,18 @@
+//! zbus as plain machines: channels, and the listeners and subscribers that observe them; and the laws of their histories.
+#![tactic(auto)]
+
+mod channel;
+mod channel_laws;
+mod observer;
+mod observer_laws;
+
+pub use channel::{
+    ChanObserver, ChanOp, ChanReply, ChanState, ChanStore, Holder, Manner, Valid, chan_next,
+};
+pub use channel_laws::{
+    channel_calls_are_told, channel_waits_end, keeps_channel_laws, message_holds, one_holds,
+};
+pub use observer::{ObsOp, ObsReply, ObsState, ObsStore, obs_next};
+pub use observer_laws::{
+    keeps_observer_laws, observer_calls_are_told, observer_waits_end, off_holds, taken_in_order,
+};
