@@ -96,6 +96,13 @@ impl<M: Drop + Copy, A: Drop + Copy> WaitList<M, A> {
         (self.waiting.len() + self.decided.len()) as u64
     }
 
+    /// How many waits go on, undecided.
+    pub fn waiting(&self) -> u64
+        ensures { result ≡ length self.now.waits.waiting }
+    {
+        self.waiting.len() as u64
+    }
+
     /// The first who waits: who is served next.
     pub fn first(&self) -> Option<Waiter<M>>
         ensures { result ≡ slice_get self.now.waits.waiting 0 }
