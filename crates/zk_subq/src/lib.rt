@@ -4,4 +4,4 @@
 mod engine;
 mod observer;
 
-pub use observer::{MOST_CHANNELS, Observer};
+pub use observer::Observer;

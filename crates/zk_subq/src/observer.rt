@@ -1,15 +1,12 @@
-ghost use Rattle.std.specs.Prelude.{◌≡◌, ◌≤◌, ◌↔◌, true, false, None, Some, [], IfErr, IfOk, IfSome};
+ghost use Rattle.std.specs.Prelude.{◌≡◌, ◌≤◌, true, None, Some, [], IfOk, IfSome};
 ghost use Rattle.zk_model_bus.specs.Observer.{new_obs};
 ghost use Rattle.zk_subq.specs.Seen.{obs_start, obs_history};
 ghost use Rattle.zk_subq.specs.Sizes.{is_capacity};
 
 use crate::engine::ObsEngine;
 use std::alloc::Global;
-use zk_base::{Entry, NewRefused, NoMemory, Recorded, Service, Who};
+use zk_base::{Entry, NoMemory, Recorded, Service, Who};
 use zk_model_bus::{ObsOp, ObsReply, ObsState};
-
-/// The most channels that a subscriber lists.
-pub const MOST_CHANNELS: u32 = 256;
 
 /// An observer of channels, with its history: a listener or a subscriber. Zephyr's `zbus_observer`.
 #[derive(Drop)]
@@ -26,30 +23,15 @@ impl Observer {
         made(alloc, None)
     }
 
-    /// A subscriber before the first entry, whose list has room for so many channels. Zephyr's `ZBUS_SUBSCRIBER_DEFINE`.
-    ///
-    /// The answer is `Inval` where the capacity isn't 1 to 256.
-    pub fn subscriber(alloc: Global, capacity: u32) -> Result<Observer, NewRefused>
+    /// A subscriber before the first entry, whose list has room for so many channels, 1 to 256. Zephyr's
+    /// `ZBUS_SUBSCRIBER_DEFINE`.
+    pub fn subscriber(alloc: Global, capacity: u32) -> Result<Observer, NoMemory>
+        requires { is_capacity capacity ≡ true }
         ensures start { IfOk result (λ observer. obs_start observer ≡ new_obs (Some capacity)) }
         ensures history { IfOk result (λ observer. obs_history observer ≡ []) }
-        ensures takes { IfOk result (λ _. is_capacity capacity ≡ true) }
-        ensures inval { IfErr result (λ refused. (refused ≡ NewRefused.Inval) ↔ (is_capacity capacity ≡ false)) }
     {
-        if !is_capacity(capacity) {
-            return Err(NewRefused::Inval);
-        }
-        match made(alloc, Some(capacity)) {
-            Ok(observer) => Ok(observer),
-            Err(NoMemory) => Err(NewRefused::NoMemory),
-        }
+        made(alloc, Some(capacity))
     }
-}
-
-/// Whether a subscriber's list can have room for so many channels.
-fn is_capacity(capacity: u32) -> bool
-    ensures { result ≡ is_capacity capacity }
-{
-    1 <= capacity && capacity <= MOST_CHANNELS
 }
 
 /// An observer before the first entry.
