@@ -1,12 +1,12 @@
 -- The laws of the engine, over all states and operations.
-use Rattle.std.proofs.Common.{◌≡◌, ℕ, suc, ◌+◌, ◌≤◌, Bool, true, false, cond, ◌&&◌, ◌==◌, not, Option, Some, None, is_some, List, [], ◌∷◌, length, refl, sym, subst, arith}
+use Rattle.std.proofs.Common.{◌≡◌, ℕ, ◌+◌, ◌≤◌, Bool, true, false, cond, ◌&&◌, ◌==◌, not, Option, Some, None, is_some, List, [], ◌∷◌, length, refl, sym, subst, arith}
 use Rattle.std.specs.List.{slice_get}
 use Rattle.std.specs.Option.{option_map, option_map_or}
 use Rattle.std.proofs.lemmas.List.{length-append}
 use Rattle.zk_base.specs.declared.ids.Who.{Who}
 use Rattle.zk_base.specs.declared.waits.Waiter.{Waiter}
 use Rattle.zk_base.specs.declared.waits.Decision.{Decision}
-use Rattle.zk_base.specs.Waits.{Waits, is_served_after, is_waiter, open_waits, decide, decides_first}
+use Rattle.zk_base.specs.Waits.{is_served_after, is_waiter, decide, decides_first}
 use Rattle.zk_base.proofs.Firsts.{length-less}
 use Rattle.zk_base.proofs.WaitMoves.{length-put_before, open-joined, open-ended, open-ended-most, open-quitted, open-quitted-most}
 use Rattle.zk_model_bus.specs.declared.channel.Holder.{Holder}
@@ -16,7 +16,7 @@ use Rattle.zk_model_bus.specs.declared.channel.ChanOp.{ChanOp}
 use Rattle.zk_model_bus.specs.declared.channel.ChanOp.TheVariants as ops
 use Rattle.zk_model_bus.specs.declared.channel.ChanReply.{ChanReply}
 use Rattle.zk_model_bus.specs.declared.channel.ChanReply.TheVariants.{Got, Again, Done}
-use Rattle.zk_model_bus.specs.Channel.{Channel, owed_entries, chan_reply, chan_next, chan_changed, chan_in_range, is_valid, is_claim, holds, has_claimed, has_entered, gain, held_by, handed_on}
+use Rattle.zk_model_bus.specs.Channel.{Channel, owed_entries, chan_reply, chan_next, chan_in_range, is_valid, is_claim, holds, has_claimed, has_entered, gain, held_by, handed_on}
 use Rattle.zk_bus.specs.Owed.{chan_closes}
 
 -- each entry is counted

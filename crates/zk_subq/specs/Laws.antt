@@ -6,9 +6,8 @@ use Rattle.zk_base.specs.Waits.{open_waits}
 use Rattle.zk_base.proofs.WaitMoves.{open-joined, open-ended, open-ended-most, open-quitted, open-quitted-most, open-first}
 use Rattle.zk_model_bus.specs.declared.observer.ObsOp.{ObsOp}
 use Rattle.zk_model_bus.specs.declared.observer.ObsOp.TheVariants as ops
-use Rattle.zk_model_bus.specs.declared.observer.ObsReply.{ObsReply}
 use Rattle.zk_model_bus.specs.declared.observer.ObsReply.TheVariants.{Channel, Again}
-use Rattle.zk_model_bus.specs.Observer.{Observer, obs_reply, obs_next, obs_in_range, visited, listed, taken}
+use Rattle.zk_model_bus.specs.Observer.{Observer, obs_reply, obs_next, obs_in_range, visited, taken}
 use Rattle.zk_subq.specs.Owed.{obs_closes}
 
 -- each entry is counted
