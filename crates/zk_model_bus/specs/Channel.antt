@@ -46,6 +46,11 @@ new_chan message valid observers = record {
   waits = no_waits;
 }
 
+-- the entries that are owed: who waits ends the wait and then frees the channel, and so does who holds it; a decided wait
+-- is that of the holder, and has yet to end
+abbrev pub owed_entries : Channel → ℕ
+owed_entries c = open_waits c.waits + length c.waits.waiting + (if is_some c.holder then 1 else 0)
+
 -- a channel with few observers, at which no more wait than have called
 pub record IsCalled (c : Channel) : Type 0 where
   pub observed : length c.observers ≤ 8

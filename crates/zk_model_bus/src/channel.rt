@@ -2,7 +2,7 @@ ghost use Rattle.std.specs.Prelude.{◌≡◌, true, false, ◌+◌, ◌-◌, �
 ghost use Rattle.std.specs.List.{list_any};
 ghost use Rattle.zk_base.specs.History.{AddsNone};
 ghost use Rattle.zk_base.specs.Waits.{open_waits};
-ghost use Rattle.zk_model_bus.specs.Channel.{unmasked, new_chan, is_valid, holds, is_claim, has_claimed, has_entered, is_observer, told_of, mask_one, masked, gain_reply, gain, held_by, handed_on, chan_reply, chan_next, chan_after, may_wait};
+ghost use Rattle.zk_model_bus.specs.Channel.{unmasked, new_chan, is_valid, holds, is_claim, has_claimed, has_entered, is_observer, told_of, mask_one, masked, gain_reply, gain, held_by, handed_on, chan_reply, chan_next, chan_after, may_wait, owed_entries};
 
 use std::alloc::Global;
 use std::marker::Model;
@@ -282,11 +282,11 @@ impl ChanStore {
         })
     }
 
-    /// How many waits there are that haven't ended.
-    pub fn open(&self) -> u64
-        ensures { result ≡ open_waits self.now.chan.waits }
+    /// How many entries are owed: the end of each wait, and the freeing by each who waits or holds.
+    pub fn owed(&self) -> u64
+        ensures { result ≡ owed_entries self.now.chan }
     {
-        self.waits.open()
+        self.waits.open() + self.waits.waiting() + u64::from(self.holder.is_some())
     }
 
     /// Makes room for so many waits.
@@ -391,7 +391,7 @@ impl ChanStore {
     }
 
     /// The caller holds the channel by a claim.
-    fn has_claimed(&self, who: Who) -> bool
+    pub fn has_claimed(&self, who: Who) -> bool
         ensures { result ≡ has_claimed self.now.chan who }
     {
         match self.holder {

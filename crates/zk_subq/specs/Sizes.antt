@@ -1,0 +1,5 @@
+use Rattle.std.specs.Prelude.{ℕ, Bool, nat_le, ◌&&◌}
+
+-- a subscriber lists 1 to 256 channels
+abbrev pub is_capacity : ℕ → Bool
+is_capacity capacity = nat_le 1 capacity && nat_le capacity 256
