@@ -4,3 +4,4 @@ pub mod ChannelWaits
 pub mod Observer
 pub mod ObserverLaws
 pub mod ObserverWaits
+pub mod Table

@@ -3,8 +3,10 @@
 
 mod channel;
 mod channel_laws;
+mod kinds;
 mod observer;
 mod observer_laws;
+mod table;
 
 pub use channel::{
     ChanObserver, ChanOp, ChanReply, ChanState, ChanStore, Holder, Manner, Valid, chan_next,
@@ -12,7 +14,12 @@ pub use channel::{
 pub use channel_laws::{
     channel_calls_are_told, channel_waits_end, keeps_channel_laws, message_holds, one_holds,
 };
+pub use kinds::{Kind, Need};
 pub use observer::{ObsOp, ObsReply, ObsState, ObsStore, obs_next};
 pub use observer_laws::{
     keeps_observer_laws, observer_calls_are_told, observer_waits_end, off_holds, taken_in_order,
+};
+pub use table::{
+    OopsWhy, TableEntry, TableOp, TableReply, TableSetup, TableState, TableStore, is_for,
+    table_next,
 };
