@@ -5,3 +5,4 @@ pub mod Observer
 pub mod ObserverLaws
 pub mod ObserverWaits
 pub mod Table
+pub mod TableLaws

@@ -1,4 +1,5 @@
-//! zbus as plain machines: channels, and the listeners and subscribers that observe them; and the laws of their histories.
+//! zbus and the object table as plain machines: channels, the listeners and subscribers that observe them, and the permissions of
+//! threads; and the laws of their histories.
 #![tactic(auto)]
 
 mod channel;
@@ -7,6 +8,7 @@ mod kinds;
 mod observer;
 mod observer_laws;
 mod table;
+mod table_laws;
 
 pub use channel::{
     ChanObserver, ChanOp, ChanReply, ChanState, ChanStore, Holder, Manner, Valid, chan_next,
@@ -22,4 +24,7 @@ pub use observer_laws::{
 pub use table::{
     OopsWhy, TableEntry, TableOp, TableReply, TableSetup, TableState, TableStore, is_for,
     table_next,
+};
+pub use table_laws::{
+    checks_are_told, grants_stand, keeps_table_laws, oops_is_last, ready_for_good, user_for_good,
 };
