@@ -3,3 +3,4 @@ pub mod First
 pub mod Kept
 pub mod Laws
 pub mod Seen
+pub mod Tests

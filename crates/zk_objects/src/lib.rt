@@ -9,3 +9,6 @@ mod object;
 mod objects;
 
 pub use objects::Objects;
+
+#[cfg(test)]
+mod tests;
