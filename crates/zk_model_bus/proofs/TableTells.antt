@@ -3,7 +3,7 @@ use Rattle.std.proofs.Common.{◌≡◌, ℕ, ◌⊎◌, inl, inr, Bool, true, f
 use Rattle.std.specs.Cmp.{first_so, second_so}
 use Rattle.std.specs.List.{list_any}
 use Rattle.std.specs.Option.{option_map_or}
-use Rattle.std.proofs.lemmas.Bool.{eqb-true}
+use Rattle.std.proofs.lemmas.Bool.{eqb-true, and_from, or_cases, or_from, or_left, or_right, not-true, both_ways}
 use Rattle.std.proofs.lemmas.Option.{same_Some}
 use Rattle.zk_base.specs.declared.ids.Who.{Who}
 use Rattle.zk_base.specs.declared.ids.Entry.{Entry}
@@ -28,29 +28,12 @@ TableStep = Entry TableOp TableReply
 
 -- Truth values.
 
-or-left : (a b : Bool) → a ≡ true → (a || b) ≡ true
-or-left true b is = refl
-or-left false b is = absurd (cc)
-
-or-right : (a b : Bool) → b ≡ true → (a || b) ≡ true
-or-right true b is = refl
-or-right false b is = is
-
-one-of : (a b : Bool) → (a || b) ≡ true → (a ≡ true) ⊎ (b ≡ true)
-one-of true b is = inl refl
-one-of false b is = inr is
-
 not-so : (b : Bool) → (b ≡ true → ⊥) → b ≡ false
 not-so true none = absurd (none refl)
 not-so false none = refl
 
-both-so : (a b : Bool) → a ≡ true → b ≡ true → (a && b) ≡ true
-both-so true b a-is b-is = b-is
-both-so false b a-is b-is = absurd (cc)
-
 neither : (a b : Bool) → (a ≡ true → ⊥) → (b ≡ true → ⊥) → (a || b) ≡ false
-neither true b no-a no-b = absurd (no-a refl)
-neither false b no-a no-b = not-so b no-b
+neither a b no-a no-b = or_from a b (not-so a no-a) (not-so b no-b)
 
 -- What the table keeps of a history.
 
@@ -106,7 +89,7 @@ later-entry e es front f is = record { rest = is.rest; whole = ap (λ (l : Table
 any-entry : (test : TableEntry → Bool) (h : TableHistory) → list_any test (map kept h) ≡ true →
     (front : TableHistory) × (e : TableStep) × IsEntry h front e × (test (kept e) ≡ true)
 any-entry test [] is = absurd (cc)
-any-entry test (e ∷ es) is = by (one-of (test (kept e)) (list_any test (map kept es)) is) (λ later. any-entry test es later) where
+any-entry test (e ∷ es) is = by (or_cases (test (kept e)) (list_any test (map kept es)) is) (λ later. any-entry test es later) where
   by : (test (kept e) ≡ true) ⊎ (list_any test (map kept es) ≡ true) →
       (list_any test (map kept es) ≡ true → (front : TableHistory) × (f : TableStep) × IsEntry es front f × (test (kept f) ≡ true)) →
       (front : TableHistory) × (f : TableStep) × IsEntry (e ∷ es) front f × (test (kept f) ≡ true)
@@ -116,8 +99,8 @@ any-entry test (e ∷ es) is = by (one-of (test (kept e)) (list_any test (map ke
       (e ∷ found.0, found.1, later-entry e es found.0 found.1 found.2, found.3)
 
 any-at : (test : TableEntry → Bool) (front rest : TableHistory) (e : TableStep) → test (kept e) ≡ true → list_any test (map kept (front ++ e ∷ rest)) ≡ true
-any-at test [] rest e is = or-left (test (kept e)) (list_any test (map kept rest)) is
-any-at test (f ∷ fs) rest e is = or-right (test (kept f)) (list_any test (map kept (fs ++ e ∷ rest))) (any-at test fs rest e is)
+any-at test [] rest e is = or_left (test (kept e)) (list_any test (map kept rest)) is
+any-at test (f ∷ fs) rest e is = or_right (test (kept f)) (list_any test (map kept (fs ++ e ∷ rest))) (any-at test fs rest e is)
 
 entry-any : (test : TableEntry → Bool) (h front : TableHistory) (e : TableStep) → IsEntry h front e → test (kept e) ≡ true → list_any test (map kept h) ≡ true
 entry-any test h front e is passes = subst (λ (l : TableHistory). list_any test (map kept l) ≡ true) (sym is.whole) (any-at test front is.rest e passes)
@@ -144,7 +127,7 @@ init-op object (ops.Init own) is = ap ops.Init (eqb-true own object is)
 init-op object op is = absurd (cc)
 
 ready-so : (setup : Setup) (object : ℕ) (h : TableHistory) → is_ready (after setup h) object ≡ true → IsReady setup object h
-ready-so setup object h is = by (one-of (begins_ready setup object) (was_initialised (after setup h) object) is) where
+ready-so setup object h is = by (or_cases (begins_ready setup object) (was_initialised (after setup h) object) is) where
   by : (begins_ready setup object ≡ true) ⊎ (was_initialised (after setup h) object ≡ true) → IsReady setup object h
   by (inl begins) = inl begins
   by (inr later) =
@@ -152,9 +135,9 @@ ready-so setup object h is = by (one-of (begins_ready setup object) (was_initial
       inr (found.0, found.1, found.2, init-op object found.1.op found.3)
 
 so-ready : (setup : Setup) (object : ℕ) (h : TableHistory) → IsReady setup object h → is_ready (after setup h) object ≡ true
-so-ready setup object h (inl begins) = or-left (begins_ready setup object) (was_initialised (after setup h) object) begins
+so-ready setup object h (inl begins) = or_left (begins_ready setup object) (was_initialised (after setup h) object) begins
 so-ready setup object h (inr is) =
-    or-right (begins_ready setup object) (was_initialised (after setup h) object)
+    or_right (begins_ready setup object) (was_initialised (after setup h) object)
     (entry-any (λ (e : TableEntry). initialises object e.op) h is.0 is.1 is.2 (subst (λ (op : TableOp). initialises object op ≡ true) (sym is.3) (eqb-same object)))
 
 -- Who is a user.
@@ -164,7 +147,7 @@ enter-op ops.EnterUser is = refl
 enter-op op is = absurd (cc)
 
 user-so : (setup : Setup) (player : ℕ) (h : TableHistory) → is_user (after setup h) player ≡ true → IsUser setup player h
-user-so setup player h is = by (one-of (begins_as_user setup player) (has_entered (after setup h) player) is) where
+user-so setup player h is = by (or_cases (begins_as_user setup player) (has_entered (after setup h) player) is) where
   by : (begins_as_user setup player ≡ true) ⊎ (has_entered (after setup h) player ≡ true) → IsUser setup player h
   by (inl begins) = inl begins
   by (inr later) =
@@ -176,12 +159,12 @@ same-test : (a b : ℕ) → a ≡ b → eqb a b ≡ true
 same-test a b is = subst (λ (n : ℕ). eqb a n ≡ true) is (eqb-same a)
 
 so-user : (setup : Setup) (player : ℕ) (h : TableHistory) → IsUser setup player h → is_user (after setup h) player ≡ true
-so-user setup player h (inl begins) = or-left (begins_as_user setup player) (has_entered (after setup h) player) begins
+so-user setup player h (inl begins) = or_left (begins_as_user setup player) (has_entered (after setup h) player) begins
 so-user setup player h (inr is) =
     let e = is.1 in
-    or-right (begins_as_user setup player) (has_entered (after setup h) player)
+    or_right (begins_as_user setup player) (has_entered (after setup h) player)
     (entry-any (λ (k : TableEntry). eqb k.player player && enters k.op) h is.0 e is.2
-    (both-so (eqb e.who.number player) (enters e.op) (same-test e.who.number player is.3) (subst (λ (op : TableOp). enters op ≡ true) (sym is.4) refl)))
+    (and_from (eqb e.who.number player) (enters e.op) (same-test e.who.number player is.3) (subst (λ (op : TableOp). enters op ≡ true) (sym is.4) refl)))
 
 -- Who is dead.
 
@@ -200,7 +183,7 @@ so-dead : (setup : Setup) (player : ℕ) (h : TableHistory) → HasOops player h
 so-dead setup player h is =
     let e = is.1 in
     entry-any (λ (k : TableEntry). eqb k.player player && is_oops k.reply) h is.0 e is.3
-    (both-so (eqb e.who.number player) (is_oops e.reply) (same-test e.who.number player is.4) (subst (λ (reply : TableReply). is_oops reply ≡ true) (sym is.5) refl))
+    (and_from (eqb e.who.number player) (is_oops e.reply) (same-test e.who.number player is.4) (subst (λ (reply : TableReply). is_oops reply ≡ true) (sym is.5) refl))
 
 -- The last word on a permission.
 
@@ -390,7 +373,7 @@ grant_stands setup h legal front e object need is op granted told =
     let t = after setup front in
     let own = is_allowed t e.who.number object in
     not-refused (has_kind setup object need) (own || is_public t object) (is_any need || is_ready t object)
-    (or-left own (is_public t object) (so-granted setup e.who.number object front granted))
+    (or_left own (is_public t object) (so-granted setup e.who.number object front granted))
     (sym (check-told setup h front e (Some object) need legal.0 is op) ∙ told)
 
 pub public_for_good : OfEachTable PublicForGood
@@ -398,7 +381,7 @@ public_for_good setup h legal front e object need is op public told =
     let t = after setup front in
     let own = is_allowed t e.who.number object in
     not-refused (has_kind setup object need) (own || is_public t object) (is_any need || is_ready t object)
-    (or-right own (is_public t object) (so-public setup object front public))
+    (or_right own (is_public t object) (so-public setup object front public))
     (sym (check-told setup h front e (Some object) need legal.0 is op) ∙ told)
 
 none-granted : (setup : Setup) (player object : ℕ) (h : TableHistory) → (IsGranted setup player object h → ⊥) → (IsPublic object h → ⊥) →
@@ -424,11 +407,11 @@ ready_for_good setup h legal = record {
   ready = λ front e object need is op ready told.
       let t = after setup front in
       is-ready (has_kind setup object need) (is_allowed t e.who.number object || is_public t object) (is_any need || is_ready t object)
-      (or-right (is_any need) (is_ready t object) (so-ready setup object front ready)) (sym (check-told setup h front e (Some object) need legal.0 is op) ∙ told);
+      (or_right (is_any need) (is_ready t object) (so-ready setup object front ready)) (sym (check-told setup h front e (Some object) need legal.0 is op) ∙ told);
   any = λ front e object need is op any told.
       let t = after setup front in
       is-ready (has_kind setup object need) (is_allowed t e.who.number object || is_public t object) (is_any need || is_ready t object)
-      (or-left (is_any need) (is_ready t object) any) (sym (check-told setup h front e (Some object) need legal.0 is op) ∙ told);
+      (or_left (is_any need) (is_ready t object) any) (sym (check-told setup h front e (Some object) need legal.0 is op) ∙ told);
 }
 
 pub none_before_init : OfEachTable NoneBeforeInit
@@ -478,10 +461,6 @@ is_answered setup h legal = record {
 
 -- Who may do what.
 
-not-true : (b : Bool) → not b ≡ true → b ≡ true → ⊥
-not-true true is was = cc
-not-true false is was = cc
-
 not-of : (b : Bool) → (b ≡ true → ⊥) → not b ≡ true
 not-of true none = absurd (none refl)
 not-of false none = refl
@@ -498,7 +477,8 @@ in-mode setup h front e replays is =
 
 pub dead_makes_no_entry : OfEachTable DeadMakesNoEntry
 dead_makes_no_entry setup h legal front e is oops =
-    not-true (is_dead (after setup front) e.who.number) (alive setup h front e legal.0 is) (so-dead setup e.who.number front oops)
+    let dead = is_dead (after setup front) e.who.number in
+    both_ways dead (not-true dead (alive setup h front e legal.0 is)) (so-dead setup e.who.number front oops)
 
 check-mode : (user : Bool) (op : TableOp) → is_check op ≡ true → is_for user op ≡ user
 check-mode user (ops.Check object need) is = refl
@@ -526,14 +506,14 @@ users_are_checked setup h legal front e is check =
 pub user_for_good : OfEachTable UserForGood
 user_for_good setup h legal front e is supervisors user =
     let now = is_user (after setup front) e.who.number in
-    not-true now (sym (supervisor-mode now e.op supervisors) ∙ in-mode setup h front e legal.0 is) (so-user setup e.who.number front user)
+    both_ways now (not-true now (sym (supervisor-mode now e.op supervisors) ∙ in-mode setup h front e legal.0 is)) (so-user setup e.who.number front user)
 
 possible : (setup : Setup) (h : TableHistory) (who : Who) (op : TableOp) → Replays table_machine (new_table setup) h → (HasOops who.number h → ⊥) →
     is_for (is_user (after setup h) who.number) op ≡ true → IsPossible setup h who op
 possible setup h who op replays living mode =
     let t = after setup h in
     let lives = not-of (is_dead t who.number) (λ dead. living (dead-so setup who.number h dead)) in
-    let may-so : may t who.number op ≡ true = both-so (not (is_dead t who.number)) (is_for (is_user t who.number) op) lives mode in
+    let may-so : may t who.number op ≡ true = and_from (not (is_dead t who.number)) (is_for (is_user t who.number) op) lives mode in
     let reply = answer t who.number op in
     (reply, ap (λ (s : Table). table_reply s who op) (state-so setup h replays) ∙ ap (λ (b : Bool). cond b (Some reply) None) may-so)
 

@@ -1,6 +1,7 @@
 -- The bits of a word, and the sets of players that they make.
 use Rattle.std.proofs.Common.{◌≡◌, ◌≢◌, ℕ, ◌+◌, ◌*◌, ◌-◌, ◌^◌, ◌<◌, ◌≤◌, Bool, true, false, not, eqb, ltb, cond, ◌&&◌, ◌||◌, List, [], ◌∷◌, ◌++◌, bit_and, bit_or, refl, sym, ap, ◌∙◌, arith}
 use Rattle.std.specs.List.{list_any}
+use Rattle.std.proofs.Math.Bool.{or-false, or-true, and-false, and-true}
 use Rattle.std.proofs.lemmas.Bool.{eqb-true, eqb-false, ne_eqb, ltb-true, ltb-false}
 use Rattle.std.proofs.lemmas.List.Folds.{list_any-append}
 use Rattle.std.proofs.lemmas.Nat.{and_or_self, and_or_apart, and_assoc, and-not, and_block, and_le_l, and_le_r, pow_apart, pow_pos, pow_below}
@@ -60,25 +61,9 @@ taken-bit w n p below = by (ltb n 64) refl (eqb n p) refl where
   by false is true same = let big = ltb-false n 64 is in let eq = eqb-true n p same in absurd (omega arith)
   by false is false other = refl
 
-pub or-none : (a : Bool) → (a || false) ≡ a
-or-none true = refl
-or-none false = refl
-
-pub or-all : (a : Bool) → (a || true) ≡ true
-or-all true = refl
-or-all false = refl
-
-pub and-none : (a : Bool) → (a && false) ≡ false
-and-none true = refl
-and-none false = refl
-
-pub and-all : (a : Bool) → (a && true) ≡ a
-and-all true = refl
-and-all false = refl
-
 swapped : (a b : Bool) → cond b true a ≡ (a || b)
-swapped a true = sym (or-all a)
-swapped a false = sym (or-none a)
+swapped a true = sym (or-true a)
+swapped a false = sym (or-false a)
 
 -- a player below 64 more is in the set, and the others are as they were
 pub marked-low : (m after : Marked) (player other : ℕ) → player < 64 → after.bits ≡ given m.bits player → after.above ≡ m.above →
@@ -93,7 +78,7 @@ marked-low m after player other small bits above = by (ltb other 64) refl where
       let high = ltb-false other 64 is in
       let apart = ne_eqb player other (λ same. omega arith) in
       ap (λ (l : List ℕ). list_any (λ (k : ℕ). eqb k other) l) above
-      ∙ sym (or-none (list_any (λ (k : ℕ). eqb k other) m.above))
+      ∙ sym (or-false (list_any (λ (k : ℕ). eqb k other) m.above))
       ∙ ap (λ (b : Bool). list_any (λ (k : ℕ). eqb k other) m.above || b) (sym apart)
 
 -- and so for one above
@@ -106,11 +91,11 @@ marked-high m after player other big bits above = by (ltb other 64) refl where
   by true is =
       let below = ltb-true other 64 is in
       let apart = ne_eqb player other (λ same. omega arith) in
-      ap (λ (w : ℕ). has_bit w other) bits ∙ sym (or-none (has_bit m.bits other)) ∙ ap (λ (b : Bool). has_bit m.bits other || b) (sym apart)
+      ap (λ (w : ℕ). has_bit w other) bits ∙ sym (or-false (has_bit m.bits other)) ∙ ap (λ (b : Bool). has_bit m.bits other || b) (sym apart)
   by false is =
       ap (λ (l : List ℕ). list_any (λ (k : ℕ). eqb k other) l) above
       ∙ list_any-append (λ (k : ℕ). eqb k other) m.above (player ∷ [])
-      ∙ ap (λ (b : Bool). list_any (λ (k : ℕ). eqb k other) m.above || b) (or-none (eqb player other))
+      ∙ ap (λ (b : Bool). list_any (λ (k : ℕ). eqb k other) m.above || b) (or-false (eqb player other))
 
 -- no player has a bit in an empty word
 pub none-set : (player : ℕ) → has_bit 0 player ≡ false
@@ -121,5 +106,5 @@ none-set player =
 
 -- a bit that is set where a test holds
 pub set-where : (w n p : ℕ) (test before : Bool) → p < 64 → has_bit w p ≡ before → has_bit (cond test (given w n) w) p ≡ (before || (eqb n p && test))
-set-where w n p true before below is = given-bit w n p below ∙ swapped (has_bit w p) (eqb n p) ∙ ap (λ (b : Bool). b || eqb n p) is ∙ ap (λ (b : Bool). before || b) (sym (and-all (eqb n p)))
-set-where w n p false before below is = is ∙ sym (or-none before) ∙ ap (λ (b : Bool). before || b) (sym (and-none (eqb n p)))
+set-where w n p true before below is = given-bit w n p below ∙ swapped (has_bit w p) (eqb n p) ∙ ap (λ (b : Bool). b || eqb n p) is ∙ ap (λ (b : Bool). before || b) (sym (and-true (eqb n p)))
+set-where w n p false before below is = is ∙ sym (or-false before) ∙ ap (λ (b : Bool). before || b) (sym (and-false (eqb n p)))

@@ -1,6 +1,7 @@
 -- What is kept at first stands for the table before the first entry.
 use Rattle.std.proofs.Common.{◌≡◌, ℕ, zero, suc, ◌+◌, ◌<◌, ◌≤◌, Bool, true, false, eqb, ltb, cond, ◌&&◌, ◌||◌, ◌⊎◌, inl, inr, All, Option, Some, None, List, [], ◌∷◌, ◌++◌, length, slice_get, refl, sym, ap, subst, ◌∙◌, arith}
 use Rattle.std.specs.List.{list_any}
+use Rattle.std.proofs.Math.Bool.{or-false}
 use Rattle.std.specs.Option.{option_map_or}
 use Rattle.std.proofs.lemmas.Bool.{eqb-true, eqb-false, ne_eqb, eq-eqb, ltb-true, ltb-false, lt-ltb, le-ltb}
 use Rattle.std.proofs.lemmas.List.Elements.{All-head, All-tail}
@@ -11,7 +12,7 @@ use Rattle.zk_objects.specs.declared.object.Object.{Object}
 use Rattle.zk_objects.specs.Bits.{Marked, has_bit, given}
 use Rattle.zk_objects.specs.First.{declares_user, IsFirstThread, AreFirst}
 use Rattle.zk_objects.specs.Kept.{IsObject, Stands}
-use Rattle.zk_objects.proofs.BitWords.{or-none, none-set, set-where}
+use Rattle.zk_objects.proofs.BitWords.{none-set, set-where}
 
 declares-past : (threads : List (ℕ × Bool)) (player : ℕ) → length threads ≤ player → declares_user threads player ≡ false
 declares-past threads player past = ap (λ (d : Option (ℕ × Bool)). option_map_or (λ (t : ℕ × Bool). t.1) d false) (slice_get_past threads player past)
@@ -27,7 +28,7 @@ bits-so test i p = by (ltb p i) refl (eqb i p) refl where
   by true less true same = let lt = ltb-true p i less in let eq = eqb-true i p same in absurd (omega arith)
   by true less false other =
       let lt = ltb-true p i less in
-      or-none (test p) ∙ ap (λ (b : Bool). b && test p) (sym (lt-ltb p (i + 1) (omega arith)))
+      or-false (test p) ∙ ap (λ (b : Bool). b && test p) (sym (lt-ltb p (i + 1) (omega arith)))
   by false more true same =
       let eq = eqb-true i p same in
       ap test eq ∙ ap (λ (b : Bool). b && test p) (sym (lt-ltb p (i + 1) (omega arith)))
@@ -74,7 +75,7 @@ first-object setup object x is kind granted public ready thread = record {
   kind = kind;
   granted = granted;
   public = public;
-  ready = ap (λ (r : Option Bool). option_map_or (λ (b : Bool). b) r false) (sym ready) ∙ sym (or-none (begins_ready setup object));
+  ready = ap (λ (r : Option Bool). option_map_or (λ (b : Bool). b) r false) (sym ready) ∙ sym (or-false (begins_ready setup object));
   small = λ is-thread. (thread-found setup object x.player is thread (kind ∙ ap Some is-thread)).0;
   thread = λ is-thread p. (thread-found setup object x.player is thread (kind ∙ ap Some is-thread)).1 p;
 }
@@ -114,7 +115,7 @@ pub stands-first : (setup : Setup) (objects : List Object) (users dead : Marked)
 stands-first setup objects users dead is first bits none-users dead-bits none-dead = record {
   long = first.long;
   each = first.each;
-  of_users = λ player. user player (ltb player 64) refl ∙ sym (or-none (begins_as_user setup player));
+  of_users = λ player. user player (ltb player 64) refl ∙ sym (or-false (begins_as_user setup player));
   of_dead = λ player. dead-none player (ltb player 64) refl;
   beyond = λ player object big. beyond-declared (length setup.threads) setup.allowed (length setup.kinds) player object is.few is.allowed big;
 } where

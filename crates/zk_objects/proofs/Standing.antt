@@ -2,6 +2,7 @@
 use Rattle.std.proofs.Common.{◌≡◌, ℕ, zero, suc, ◌<◌, ◌≤◌, Bool, true, false, not, eqb, ltb, cond, ◌&&◌, ◌||◌, Option, Some, None, List, [], ◌∷◌, ◌++◌, length, set, slice_get, refl, sym, ap, subst, ◌∙◌, arith}
 use Rattle.std.specs.Cmp.{first_so}
 use Rattle.std.specs.List.{list_any}
+use Rattle.std.proofs.Math.Bool.{or_assoc, or-false, or-true, and-false, and-true}
 use Rattle.std.specs.Option.{option_map_or}
 use Rattle.std.proofs.lemmas.Bool.{eqb-true, eqb-false, ne_eqb, ltb-true, ltb-false}
 use Rattle.std.proofs.lemmas.List.{length-set, get_or-set_same, get_or-set_other}
@@ -24,16 +25,12 @@ use Rattle.zk_model_bus.specs.Table.{Setup, Table, meets, is_any, has_kind, is_t
 use Rattle.zk_objects.specs.declared.object.Object.{Object}
 use Rattle.zk_objects.specs.Bits.{Marked, has_bit, given, taken, is_marked}
 use Rattle.zk_objects.specs.Kept.{IsObject, Stands, is_granted, object_reply, init_reply, answered, target_of, object_of, changed, put_in, changed_at, objects_after}
-use Rattle.zk_objects.proofs.BitWords.{or-none, or-all, and-none, and-all, given-bit, taken-bit}
-
-or-assoc : (a b c : Bool) → (a || (b || c)) ≡ ((a || b) || c)
-or-assoc true b c = refl
-or-assoc false b c = refl
+use Rattle.zk_objects.proofs.BitWords.{given-bit, taken-bit}
 
 -- One entry more.
 
 any-snoc : (test : TableEntry → Bool) (es : List TableEntry) (e : TableEntry) → list_any test (es ++ e ∷ []) ≡ (list_any test es || test e)
-any-snoc test es e = list_any-append test es (e ∷ []) ∙ ap (λ (b : Bool). list_any test es || b) (or-none (test e))
+any-snoc test es e = list_any-append test es (e ∷ []) ∙ ap (λ (b : Bool). list_any test es || b) (or-false (test e))
 
 allowed-next : (t : Table) (who : Who) (op : TableOp) (player object : ℕ) →
     is_allowed (table_next t who op) player object ≡ said t.setup player object (is_allowed t player object) who.number op
@@ -46,12 +43,12 @@ public-next t who op object = any-snoc (λ (e : TableEntry). publishes object e.
 ready-next : (t : Table) (who : Who) (op : TableOp) (object : ℕ) → is_ready (table_next t who op) object ≡ (is_ready t object || initialises object op)
 ready-next t who op object =
     ap (λ (b : Bool). begins_ready t.setup object || b) (any-snoc (λ (e : TableEntry). initialises object e.op) t.entries (entry_of t who op))
-    ∙ or-assoc (begins_ready t.setup object) (was_initialised t object) (initialises object op)
+    ∙ sym (or_assoc (begins_ready t.setup object) (was_initialised t object) (initialises object op))
 
 pub user-next : (t : Table) (who : Who) (op : TableOp) (player : ℕ) → is_user (table_next t who op) player ≡ (is_user t player || (eqb who.number player && enters op))
 user-next t who op player =
     ap (λ (b : Bool). begins_as_user t.setup player || b) (any-snoc (λ (e : TableEntry). eqb e.player player && enters e.op) t.entries (entry_of t who op))
-    ∙ or-assoc (begins_as_user t.setup player) (has_entered t player) (eqb who.number player && enters op)
+    ∙ sym (or_assoc (begins_as_user t.setup player) (has_entered t player) (eqb who.number player && enters op))
 
 pub dead-next : (t : Table) (who : Who) (op : TableOp) (player : ℕ) →
     is_dead (table_next t who op) player ≡ (is_dead t player || (eqb who.number player && is_oops (answer t who.number op)))
@@ -137,11 +134,11 @@ missed : (setup : Setup) (player object : ℕ) (before : Bool) (by : ℕ) (op : 
     (said setup player object before by op ≡ before) × (publishes object op ≡ false) × (initialises object op ≡ false)
 missed setup player object before by (ops.Check named need) miss = (refl, refl, refl)
 missed setup player object before by (ops.Grant thread own) miss =
-    (ap (λ (b : Bool). cond (is_thread setup player thread && b) true before) miss ∙ ap (λ (b : Bool). cond b true before) (and-none (is_thread setup player thread)), refl, refl)
+    (ap (λ (b : Bool). cond (is_thread setup player thread && b) true before) miss ∙ ap (λ (b : Bool). cond b true before) (and-false (is_thread setup player thread)), refl, refl)
 missed setup player object before by (ops.Revoke thread own) miss =
-    (ap (λ (b : Bool). cond (is_thread setup player thread && b) false before) miss ∙ ap (λ (b : Bool). cond b false before) (and-none (is_thread setup player thread)), refl, refl)
+    (ap (λ (b : Bool). cond (is_thread setup player thread && b) false before) miss ∙ ap (λ (b : Bool). cond b false before) (and-false (is_thread setup player thread)), refl, refl)
 missed setup player object before by (ops.Release own) miss =
-    (ap (λ (b : Bool). cond (eqb by player && b) false before) miss ∙ ap (λ (b : Bool). cond b false before) (and-none (eqb by player)), refl, refl)
+    (ap (λ (b : Bool). cond (eqb by player && b) false before) miss ∙ ap (λ (b : Bool). cond b false before) (and-false (eqb by player)), refl, refl)
 missed setup player object before by (ops.Public own) miss = (refl, miss, refl)
 missed setup player object before by (ops.Init own) miss = (refl, refl, miss)
 missed setup player object before by ops.EnterUser miss = (refl, refl, refl)
@@ -151,8 +148,8 @@ missed-object : (t : Table) (who : Who) (op : TableOp) (object : ℕ) (x : Objec
 missed-object t who op object x is miss = record {
   kind = is.kind;
   granted = λ player small. is.granted player small ∙ sym (missed t.setup player object (is_allowed t player object) who.number op miss).0 ∙ sym (allowed-next t who op player object);
-  public = is.public ∙ sym (or-none (is_public t object)) ∙ ap (λ (b : Bool). is_public t object || b) (sym (missed t.setup 0 object false who.number op miss).1) ∙ sym (public-next t who op object);
-  ready = is.ready ∙ sym (or-none (is_ready t object)) ∙ ap (λ (b : Bool). is_ready t object || b) (sym (missed t.setup 0 object false who.number op miss).2) ∙ sym (ready-next t who op object);
+  public = is.public ∙ sym (or-false (is_public t object)) ∙ ap (λ (b : Bool). is_public t object || b) (sym (missed t.setup 0 object false who.number op miss).1) ∙ sym (public-next t who op object);
+  ready = is.ready ∙ sym (or-false (is_ready t object)) ∙ ap (λ (b : Bool). is_ready t object || b) (sym (missed t.setup 0 object false who.number op miss).2) ∙ sym (ready-next t who op object);
   small = is.small;
   thread = is.thread;
 }
@@ -175,7 +172,7 @@ spoken : (setup : Setup) (player object target by thread own : ℕ) (w : ℕ) �
     (has_bit (given w target) player ≡ cond (is_thread setup player thread && eqb own object) true (has_bit w player))
     × (has_bit (taken w target) player ≡ cond (is_thread setup player thread && eqb own object) false (has_bit w player))
 spoken setup player object target by thread own w hit is small =
-    let both : (is_thread setup player thread && eqb own object) ≡ eqb target player = ap (λ (b : Bool). is_thread setup player thread && b) hit ∙ and-all (is_thread setup player thread) ∙ is in (
+    let both : (is_thread setup player thread && eqb own object) ≡ eqb target player = ap (λ (b : Bool). is_thread setup player thread && b) hit ∙ and-true (is_thread setup player thread) ∙ is in (
       given-bit w target player small ∙ ap (λ (b : Bool). cond b true (has_bit w player)) (sym both),
       taken-bit w target player small ∙ ap (λ (b : Bool). cond b false (has_bit w player)) (sym both),
     )
@@ -190,25 +187,25 @@ hit-object t objects users dead who (ops.Grant thread own) object x stands range
     let known = first_so (has_kind t.setup thread needs.Thread) (is_object t.setup own) range in
     changed-object t who op object target x is
     (λ player small. (spoken t.setup player object target who.number thread own x.granted hit (thread-so t objects users dead thread player stands known (slice_get objects thread) refl).1 small).0)
-    (sym (or-none x.public)) (sym (or-none x.ready)) refl refl
+    (sym (or-false x.public)) (sym (or-false x.ready)) refl refl
 hit-object t objects users dead who (ops.Revoke thread own) object x stands range is hit =
     let op = ops.Revoke thread own in
     let target = target_of objects who.number op in
     let known = first_so (has_kind t.setup thread needs.Thread) (is_object t.setup own) range in
     changed-object t who op object target x is
     (λ player small. (spoken t.setup player object target who.number thread own x.granted hit (thread-so t objects users dead thread player stands known (slice_get objects thread) refl).1 small).1)
-    (sym (or-none x.public)) (sym (or-none x.ready)) refl refl
+    (sym (or-false x.public)) (sym (or-false x.ready)) refl refl
 hit-object t objects users dead who (ops.Release own) object x stands range is hit =
     changed-object t who (ops.Release own) object who.number x is
     (λ player small. taken-bit x.granted who.number player small
-    ∙ ap (λ (b : Bool). cond b false (has_bit x.granted player)) (sym (ap (λ (b : Bool). eqb who.number player && b) hit ∙ and-all (eqb who.number player))))
-    (sym (or-none x.public)) (sym (or-none x.ready)) refl refl
+    ∙ ap (λ (b : Bool). cond b false (has_bit x.granted player)) (sym (ap (λ (b : Bool). eqb who.number player && b) hit ∙ and-true (eqb who.number player))))
+    (sym (or-false x.public)) (sym (or-false x.ready)) refl refl
 hit-object t objects users dead who (ops.Public own) object x stands range is hit =
     changed-object t who (ops.Public own) object who.number x is (λ player small. refl)
-    (sym (ap (λ (b : Bool). x.public || b) hit ∙ or-all x.public)) (sym (or-none x.ready)) refl refl
+    (sym (ap (λ (b : Bool). x.public || b) hit ∙ or-true x.public)) (sym (or-false x.ready)) refl refl
 hit-object t objects users dead who (ops.Init own) object x stands range is hit =
     changed-object t who (ops.Init own) object who.number x is (λ player small. refl)
-    (sym (or-none x.public)) (sym (ap (λ (b : Bool). x.ready || b) hit ∙ or-all x.ready)) refl refl
+    (sym (or-false x.public)) (sym (ap (λ (b : Bool). x.ready || b) hit ∙ or-true x.ready)) refl refl
 
 -- All objects after an operation.
 
@@ -375,4 +372,4 @@ oops-none Done none = refl
 oops-none Already none = refl
 
 pub unmarked : (was own does : Bool) → does ≡ false → was ≡ (was || (own && does))
-unmarked was own does none = sym (ap (λ (b : Bool). was || (own && b)) none ∙ ap (λ (b : Bool). was || b) (and-none own) ∙ or-none was)
+unmarked was own does none = sym (ap (λ (b : Bool). was || (own && b)) none ∙ ap (λ (b : Bool). was || b) (and-false own) ∙ or-false was)
