@@ -4,3 +4,4 @@ pub mod ChannelWaits
 pub mod ObserverOrder
 pub mod ObserverTells
 pub mod ObserverWaits
+pub mod TableTells

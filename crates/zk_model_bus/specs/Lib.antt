@@ -4,3 +4,5 @@ pub mod ChannelWaits
 pub mod Observer
 pub mod ObserverLaws
 pub mod ObserverWaits
+pub mod Table
+pub mod TableLaws

@@ -1,0 +1,4 @@
+pub mod BitWords
+pub mod Firsts
+pub mod Standing
+pub mod Setups

@@ -1,0 +1,32 @@
+-- The declarations of the tests fit together.
+use Rattle.std.proofs.Common.{◌≡◌, ℕ, zero, suc, Bool, true, Some, [], slice_get, refl, subst, ◌<◌, arith}
+use Rattle.std.proofs.lemmas.List.Elements.{All-nil, All-cons}
+use Rattle.std.proofs.lemmas.Option.{same_Some}
+use Rattle.zk_model_bus.specs.declared.kinds.Kind.TheVariants as kinds
+use Rattle.zk_model_bus.specs.Table.{IsSetup}
+use Rattle.zk_objects.specs.Tests.{one_user}
+
+pub one-user : IsSetup one_user
+one-user = record {
+  long = refl;
+  few = omega arith;
+  threads = threads;
+  once = once;
+  each = each;
+  allowed = let P : ℕ × ℕ → Type 0 = λ a. (a.0 < 1) × (a.1 < 3) in All-cons P (0, 1) [] (omega arith, omega arith) (All-nil P);
+} where
+  threads : (player : ℕ) (thread : ℕ × Bool) → slice_get one_user.threads player ≡ Some thread → slice_get one_user.kinds thread.0 ≡ Some kinds.Thread
+  threads zero thread is = subst (λ (t : ℕ × Bool). slice_get one_user.kinds t.0 ≡ Some kinds.Thread) (same_Some (0, true) thread is) refl
+  threads (suc player) thread is = absurd (cc)
+
+  once : (p q : ℕ) (a b : ℕ × Bool) → slice_get one_user.threads p ≡ Some a → slice_get one_user.threads q ≡ Some b → a.0 ≡ b.0 → p ≡ q
+  once zero zero a b one other same = refl
+  once zero (suc q) a b one other same = absurd (cc)
+  once (suc p) q a b one other same = absurd (cc)
+
+  each : (object : ℕ) → slice_get one_user.kinds object ≡ Some kinds.Thread →
+      (player : ℕ) × (thread : ℕ × Bool) × (slice_get one_user.threads player ≡ Some thread) × (thread.0 ≡ object)
+  each zero is = (0, (0, true), refl, refl)
+  each (suc zero) is = absurd (cc)
+  each (suc (suc zero)) is = absurd (cc)
+  each (suc (suc (suc object))) is = absurd (cc)

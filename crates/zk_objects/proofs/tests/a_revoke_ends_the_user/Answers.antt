@@ -1,0 +1,7 @@
+use Rattle.std.proofs.Common.{sym, subst}
+use Rattle.zk_model_bus.specs.Table.{IsSetup}
+use Rattle.zk_objects.proofs.Setups.{one-user}
+use Rattle.zk_objects.proofs.tests.a_revoke_ends_the_user.Goals as goal
+
+pub new-requires : goal.new-requires
+new-requires g c = subst IsSetup (sym c.in_ok-setup.ensures) one-user

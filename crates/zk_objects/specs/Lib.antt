@@ -1,0 +1,6 @@
+pub mod Bits
+pub mod First
+pub mod Kept
+pub mod Laws
+pub mod Seen
+pub mod Tests

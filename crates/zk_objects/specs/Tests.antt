@@ -1,0 +1,20 @@
+use Rattle.std.specs.Prelude.{◌≡◌, ℕ, ◌<◌, ◌≤◌, true, false, [], ◌∷◌, length, All}
+use Rattle.zk_model_bus.specs.declared.kinds.Kind.TheVariants as kinds
+use Rattle.zk_model_bus.specs.Table.{Setup, new_table}
+use Rattle.zk_objects.specs.declared.objects.Objects.{Objects}
+use Rattle.zk_objects.specs.Seen.{objects_start, objects_history}
+
+-- a user thread, a semaphore that it is allowed, and a raw one
+abbrev pub one_user : Setup
+one_user = record {
+  kinds = kinds.Thread ∷ kinds.Sem ∷ kinds.Sem ∷ [];
+  ready = true ∷ true ∷ false ∷ [];
+  threads = (0, true) ∷ [];
+  allowed = (0, 1) ∷ [];
+}
+
+-- a table over it, all of whose steps are below this one, and that has no more entries than that
+pub record IsBelow (step : ℕ) (objects : Objects) : Type 0 where
+  pub start : objects_start objects ≡ new_table one_user
+  pub below : All (λ e. e.step < step) (objects_history objects)
+  pub few : length (objects_history objects) ≤ step

@@ -1,0 +1,96 @@
+ghost use Rattle.std.specs.Prelude.{◌≡◌, ℕ, ◌==◌, ◌&&◌, ◌<◌, ◌≤◌, Some, length, slice_get, IfOk};
+ghost use Rattle.std.specs.List.{list_any};
+ghost use Rattle.zk_model_bus.specs.Table.{IsSetup, new_table};
+ghost use Rattle.zk_objects.specs.Bits.{has_bit};
+ghost use Rattle.zk_objects.specs.Kept.{IsObject};
+ghost use Rattle.zk_objects.specs.First.{AreFirst, declares_user, IsFirstThread};
+
+use crate::bits::given;
+use crate::object::Object;
+use std::alloc::Global;
+use zk_base::NoMemory;
+use zk_model_bus::{Kind, TableSetup};
+
+/// The player has permission on the object at first.
+fn begins_allowed(allowed: &[(u32, u32)], player: u32, object: usize) -> bool
+    ensures { result ≡ list_any (λ a. a.0 == player && a.1 == object) allowed.now }
+{
+    allowed.iter().any(|permission| permission.0 == player && permission.1 as usize == object)
+}
+
+/// The bits of the players that have permission on an object at first.
+fn first_granted(allowed: &[(u32, u32)], object: usize) -> u64
+    ensures { (player : ℕ) → player < 64 →
+        has_bit result player ≡ list_any (λ a. a.0 == player && a.1 == object) allowed.now }
+{
+    let mut granted = 0;
+    for player in 0..64 {
+        if begins_allowed(allowed, player, object) {
+            granted = given(granted, player);
+        }
+    }
+    granted
+}
+
+/// The player is a user at first.
+fn begins_as_user(threads: &[(u32, bool)], player: u32) -> bool
+    ensures { result ≡ declares_user threads.now player }
+{
+    match threads.get(player as usize) {
+        Some(declared) => declared.1,
+        None => false,
+    }
+}
+
+/// The bits of the players that are users at first.
+pub fn first_users(threads: &[(u32, bool)]) -> u64
+    ensures { (player : ℕ) → player < 64 → has_bit result player ≡ declares_user threads.now player }
+{
+    let mut users = 0;
+    for player in 0..64 {
+        if begins_as_user(threads, player) {
+            users = given(users, player);
+        }
+    }
+    users
+}
+
+/// The player of a thread's object. There is none at 64.
+fn first_player(threads: &[(u32, bool)], object: usize) -> u32
+    requires { length threads.now ≤ 64 }
+    ensures { IsFirstThread threads.now object result }
+{
+    for (player, thread) in threads.iter().enumerate() {
+        if thread.0 as usize == object {
+            return player as u32;
+        }
+    }
+    64
+}
+
+/// What is kept of an object of this kind at first.
+fn first_object(setup: &TableSetup, object: usize, kind: Kind) -> Object
+    requires setup { IsSetup setup.now }
+    requires kind { slice_get setup.now.kinds object ≡ Some kind }
+    ensures { IsObject (new_table setup.now) object result }
+{
+    Object {
+        kind,
+        granted: first_granted(&setup.allowed, object),
+        public: false,
+        ready: setup.ready[object],
+        player: first_player(&setup.threads, object),
+    }
+}
+
+/// What is kept of each object at first.
+pub fn first_objects(alloc: Global, setup: &TableSetup) -> Result<Vec<Object>, NoMemory>
+    requires { IsSetup setup.now }
+    ensures { IfOk result (λ objects. AreFirst setup.now objects.items) }
+{
+    let mut objects = Vec::new(alloc);
+    for (object, kind) in setup.kinds.iter().enumerate() {
+        objects.push(first_object(setup, object, *kind))?;
+    }
+    Ok(objects)
+}
