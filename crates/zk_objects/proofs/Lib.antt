@@ -1,4 +1,3 @@
 pub mod BitWords
 pub mod Firsts
 pub mod Standing
-pub mod Setups

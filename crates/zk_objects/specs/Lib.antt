@@ -3,4 +3,3 @@ pub mod First
 pub mod Kept
 pub mod Laws
 pub mod Seen
-pub mod Tests

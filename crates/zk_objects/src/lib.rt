@@ -9,6 +9,3 @@ mod object;
 mod objects;
 
 pub use objects::Objects;
-
-#[cfg(test)]
-mod tests;

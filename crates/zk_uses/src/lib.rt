@@ -5,8 +5,6 @@
 #[cfg(test)]
 mod base_tests;
 #[cfg(test)]
-mod bus_machine_tests;
-#[cfg(test)]
 mod clock_machine_tests;
 mod clock_shared;
 #[cfg(test)]

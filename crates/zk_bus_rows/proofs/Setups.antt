@@ -4,7 +4,7 @@ use Rattle.std.proofs.lemmas.List.Elements.{All-nil, All-cons}
 use Rattle.std.proofs.lemmas.Option.{same_Some}
 use Rattle.zk_model_bus.specs.declared.kinds.Kind.TheVariants as kinds
 use Rattle.zk_model_bus.specs.Table.{IsSetup}
-use Rattle.zk_objects.specs.Tests.{one_user}
+use Rattle.zk_bus_rows.specs.Tables.{one_user}
 
 pub one-user : IsSetup one_user
 one-user = record {

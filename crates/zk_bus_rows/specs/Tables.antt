@@ -14,7 +14,7 @@ one_user = record {
 }
 
 -- a table over it, all of whose steps are below this one, and that has no more entries than that
-pub record IsBelow (step : ℕ) (objects : Objects) : Type 0 where
+pub record IsTried (step : ℕ) (objects : Objects) : Type 0 where
   pub start : objects_start objects ≡ new_table one_user
   pub below : All (λ e. e.step < step) (objects_history objects)
   pub few : length (objects_history objects) ≤ step

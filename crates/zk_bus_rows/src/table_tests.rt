@@ -1,14 +1,15 @@
+//! The object table of one caller, one attempt after another.
 ghost use Rattle.std.specs.Prelude.{◌≡◌, true, ◌+◌, ◌<◌, IfOk};
 ghost use Rattle.zk_model_bus.specs.Table.{names_objects};
-ghost use Rattle.zk_objects.specs.Tests.{one_user, IsBelow};
+ghost use Rattle.zk_bus_rows.specs.Tables.{one_user, IsTried};
 
-use crate::Objects;
 use std::alloc::Global;
 use std::process::Abort;
-use std::test::*;
+use std::test::Fail;
 use zk_base::{NoMemory, Service, Who};
 use zk_model_bus::TableOp::{Check, EnterUser, Grant, Init, Public, Release, Revoke};
 use zk_model_bus::{Kind, Need, TableOp, TableReply, TableSetup};
+use zk_objects::Objects;
 
 /// A user thread, a semaphore that it is allowed, and a raw one.
 fn one_user(alloc: Global) -> Result<TableSetup, NoMemory>
@@ -29,10 +30,10 @@ fn attempt(
     step: u32,
     op: TableOp,
 ) -> Result<Option<TableReply>, NoMemory>
-    requires below { IsBelow step objects.old }
+    requires below { IsTried step objects.old }
     requires few { step < 100 }
     requires range { names_objects one_user op ≡ true }
-    ensures { IfOk result (λ _. IsBelow (step + 1) objects.new) }
+    ensures { IfOk result (λ _. IsTried (step + 1) objects.new) }
 {
     objects.act(Who { number, prio: 0 }, step, op)
 }
@@ -47,10 +48,10 @@ fn says<R: Abort>(
     op: TableOp,
     wanted: &str,
 ) -> Result<(), Fail>
-    requires below { IsBelow step objects.old }
+    requires below { IsTried step objects.old }
     requires few { step < 100 }
     requires range { names_objects one_user op ≡ true }
-    ensures { IfOk result (λ _. IsBelow (step + 1) objects.new) }
+    ensures { IfOk result (λ _. IsTried (step + 1) objects.new) }
 {
     let reply = attempt(objects, number, step, op)?;
     let text = format!(in alloc; "{reply:?}")?;
