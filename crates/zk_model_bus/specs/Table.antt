@@ -207,6 +207,7 @@ names_objects setup (ops.Public object) = is_object setup object
 names_objects setup (ops.Init object) = is_object setup object
 names_objects setup ops.EnterUser = true
 
+-- the declarations don't change, so what is in range in one state is in each
 abbrev pub table_in_range : Table → TableOp → Bool
 table_in_range t op = names_objects t.setup op
 

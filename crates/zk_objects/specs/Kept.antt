@@ -41,10 +41,12 @@ object_reply player need (Some x) =
     else if not (is_any need || x.ready) then Oops NotInit
     else Done
 
+-- a check finds no object where it names none
 abbrev pub checked : List Object → ℕ → Option ℕ → Need → TableReply
 checked objects player None need = Oops NoObject
 checked objects player (Some object) need = object_reply player need (slice_get objects object)
 
+-- an init is told whether the object was initialised before
 abbrev pub init_reply : Option Object → TableReply
 init_reply None = Done
 init_reply (Some x) = if x.ready then Already else Done
@@ -81,10 +83,12 @@ changed target (ops.Public object) x = record x { public = true }
 changed target (ops.Init object) x = record x { ready = true }
 changed target ops.EnterUser x = x
 
+-- the changed object is put in, where there is one at this number
 abbrev pub put_in : List Object → ℕ → ℕ → TableOp → Option Object → List Object
 put_in objects object target op None = objects
 put_in objects object target op (Some x) = slice_set objects object (changed target op x)
 
+-- the objects where an operation changes the one of this number, or none
 abbrev pub changed_at : List Object → ℕ → TableOp → Option ℕ → List Object
 changed_at objects target op None = objects
 changed_at objects target op (Some object) = put_in objects object target op (slice_get objects object)
