@@ -3,6 +3,7 @@ ghost use Rattle.std.specs.Prelude.{◌+◌, ◌<◌, ◌≤◌, length, IfOk};
 ghost use Rattle.zk_bus.specs.Seen.{chan_history};
 ghost use Rattle.zk_bus_rows.specs.Tried.{IsBelow};
 
+use crate::room::has_room;
 use std::alloc::Global;
 use std::process::Abort;
 use std::test::Fail;
@@ -13,20 +14,6 @@ use zk_model_bus::{ChanOp, ChanReply, Valid};
 
 /// One attempt: the player, the operation, and what is answered.
 type Row = (u32, ChanOp, &'static str);
-
-/// One attempt, at a step above all earlier ones.
-fn attempt(
-    channel: &mut Channel,
-    step: u32,
-    number: u32,
-    op: ChanOp,
-) -> Result<Option<ChanReply>, NoMemory>
-    requires below { IsBelow step (chan_history channel.old) }
-    requires few { step < 100 }
-    ensures { IfOk result (λ _. IsBelow (step + 1) (chan_history channel.new)) }
-{
-    channel.act(Who { number, prio: 0 }, step, op)
-}
 
 /// What is told: lists and messages as their numbers.
 fn told(alloc: Global, reply: &Option<ChanReply>) -> Result<String, Fail> {
@@ -39,22 +26,35 @@ fn told(alloc: Global, reply: &Option<ChanReply>) -> Result<String, Fail> {
     Ok(text)
 }
 
+/// One attempt, at a step above all earlier ones.
+fn attempt<R: Abort>(
+    rt: &R,
+    alloc: Global,
+    channel: &mut Channel,
+    step: u32,
+    row: &Row,
+) -> Result<(), Fail>
+    requires below { IsBelow step (chan_history channel.old) }
+    requires few { step < 100 }
+    ensures { IfOk result (λ _. IsBelow (step + 1) (chan_history channel.new)) }
+{
+    let (number, op, wanted) = *row;
+    let reply = channel.act(Who { number, prio: 0 }, step, op)?;
+    let text = told(alloc, &reply)?;
+    assert_eq!(rt; text.as_str(), wanted, "at {step}");
+    Ok(())
+}
+
 /// Makes the attempts one after another, at a new channel with the observers 10, 11 and 12, whose messages begin with 5 at
-/// most; and says how many entries it has then.
-fn play<R: Abort>(rt: &R, alloc: Global, first: Msg, rows: &[Row]) -> Result<usize, Fail>
+/// most.
+fn play<R: Abort>(rt: &R, alloc: Global, first: Msg, rows: &[Row]) -> Result<Channel, Fail>
     requires { length rows.now < 100 }
 {
     let mut channel = Channel::new(alloc, first, Valid::Max(5), &[10, 11, 12])?;
-    channel.reserve()?;
-    assert!(rt; channel.room() >= 3);
     for index in 0..rows.len() {
-        let (number, op, wanted) = rows[index];
-        let reply = attempt(&mut channel, index as u32, number, op)?;
-        let text = told(alloc, &reply)?;
-        assert_eq!(rt; text.as_str(), wanted, "at {index}");
+        attempt(rt, alloc, &mut channel, index as u32, &rows[index])?;
     }
-    assert_eq!(rt; channel.word(0), 0);
-    Ok(channel.into_history().len())
+    Ok(channel)
 }
 
 /// A claim that others wait for, a message that is refused, and masked observers.
@@ -87,6 +87,18 @@ fn calls_are_answered(rt: HostRuntime) -> Result<(), Fail> {
         (0, List, "[10, 11, 12]"),
         (0, Free, "Done"),
     ];
-    assert_eq!(&rt; play(&rt, rt.alloc(), zero, &rows)?, 17);
+    let channel = play(&rt, rt.alloc(), zero, &rows)?;
+    assert_eq!(&rt; channel.into_history().len(), 17);
+    Ok(())
+}
+
+/// A new channel makes room for three entries, and publishes nothing.
+#[test]
+fn room_is_made(rt: HostRuntime) -> Result<(), Fail> {
+    let Some(first) = Msg::new(&[0]) else {
+        return Ok(());
+    };
+    let mut channel = Channel::new(rt.alloc(), first, Valid::Any, &[])?;
+    has_room(&rt, &mut channel)?;
     Ok(())
 }

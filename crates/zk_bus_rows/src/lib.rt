@@ -7,4 +7,6 @@ mod channel_tests;
 #[cfg(test)]
 mod observer_tests;
 #[cfg(test)]
+mod room;
+#[cfg(test)]
 mod table_tests;

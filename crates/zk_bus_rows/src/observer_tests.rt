@@ -1,8 +1,9 @@
 //! The observer service of one caller, one attempt after another.
-ghost use Rattle.std.specs.Prelude.{◌+◌, ◌<◌, ◌≤◌, length, IfOk};
+ghost use Rattle.std.specs.Prelude.{◌≡◌, ◌+◌, ◌<◌, ◌≤◌, [], length, IfOk};
 ghost use Rattle.zk_subq.specs.Seen.{obs_history};
 ghost use Rattle.zk_bus_rows.specs.Tried.{IsBelow};
 
+use crate::room::has_room;
 use std::alloc::Global;
 use std::process::Abort;
 use std::test::Fail;
@@ -60,28 +61,43 @@ fn attempt<R: Abort>(
     Ok(())
 }
 
-/// Makes the attempts one after another, at a new subscriber for one channel or a new listener; and says how many entries
-/// it has then.
-fn play<R: Abort>(rt: &R, alloc: Global, listens: bool, rows: &[Row]) -> Result<usize, Fail>
-    requires { length rows.now < 100 }
+/// Makes the attempts one after another, at a new observer.
+fn play<R: Abort>(
+    rt: &R,
+    alloc: Global,
+    observer: Observer,
+    rows: &[Row],
+) -> Result<Observer, NoMemory>
+    requires fresh { obs_history observer ≡ [] }
+    requires few { length rows.now < 100 }
 {
-    let mut observer = if listens {
-        Observer::listener(alloc)?
-    } else {
-        Observer::subscriber(alloc, 1)?
-    };
-    observer.reserve()?;
-    assert!(rt; observer.room() >= 3);
+    let mut observer = observer;
     for index in 0..rows.len() {
         attempt(rt, alloc, &mut observer, index as u32, &rows[index])?;
     }
-    assert_eq!(rt; observer.word(0), 0);
-    Ok(observer.into_history().len())
+    Ok(observer)
 }
 
 #[test]
-fn visits_and_takes_are_answered(rt: HostRuntime) -> Result<(), Fail> {
-    assert_eq!(&rt; play(&rt, rt.alloc(), false, &SUBSCRIBER)?, 12);
-    assert_eq!(&rt; play(&rt, rt.alloc(), true, &LISTENER)?, 3);
+fn a_subscriber_is_pushed(rt: HostRuntime) -> Result<(), Fail> {
+    let observer = Observer::subscriber(rt.alloc(), 1)?;
+    let observer = play(&rt, rt.alloc(), observer, &SUBSCRIBER)?;
+    assert_eq!(&rt; observer.into_history().len(), 12);
+    Ok(())
+}
+
+#[test]
+fn a_listener_runs(rt: HostRuntime) -> Result<(), Fail> {
+    let observer = Observer::listener(rt.alloc())?;
+    let observer = play(&rt, rt.alloc(), observer, &LISTENER)?;
+    assert_eq!(&rt; observer.history().len(), 3);
+    Ok(())
+}
+
+/// A new observer makes room for three entries, and publishes nothing.
+#[test]
+fn room_is_made(rt: HostRuntime) -> Result<(), Fail> {
+    let mut observer = Observer::subscriber(rt.alloc(), 2)?;
+    has_room(&rt, &mut observer)?;
     Ok(())
 }
