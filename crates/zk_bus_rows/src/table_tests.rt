@@ -1,5 +1,6 @@
 //! The object table of one caller, one attempt after another.
-ghost use Rattle.std.specs.Prelude.{◌≡◌, true, ◌+◌, ◌<◌, IfOk};
+ghost use Rattle.std.specs.Prelude.{◌≡◌, true, ◌+◌, ◌<◌, length, IfOk};
+ghost use Rattle.std.specs.List.{list_all};
 ghost use Rattle.zk_model_bus.specs.Table.{names_objects};
 ghost use Rattle.zk_bus_rows.specs.Tables.{one_user, IsTried};
 
@@ -8,8 +9,98 @@ use std::process::Abort;
 use std::test::Fail;
 use zk_base::{NoMemory, Service, Who};
 use zk_model_bus::TableOp::{Check, EnterUser, Grant, Init, Public, Release, Revoke};
-use zk_model_bus::{Kind, Need, TableOp, TableReply, TableSetup};
+use zk_model_bus::{Kind, Need, TableOp, TableSetup};
 use zk_objects::Objects;
+
+/// One attempt: the player, the operation, and what is answered.
+struct Row {
+    player: u32,
+    op: TableOp,
+    wanted: &'static str,
+}
+
+/// The permission ends with a revoke, and the user with the check after it; a grant, a public and an init hold for the next.
+const REVOKED: [Row; 9] = [
+    Row {
+        player: 0,
+        op: Check(Some(1), Need::Sem),
+        wanted: "Some(Done)",
+    },
+    Row {
+        player: 0,
+        op: Public(2),
+        wanted: "None",
+    },
+    Row {
+        player: 1,
+        op: Revoke(0, 1),
+        wanted: "Some(Done)",
+    },
+    Row {
+        player: 1,
+        op: Grant(0, 2),
+        wanted: "Some(Done)",
+    },
+    Row {
+        player: 1,
+        op: Init(2),
+        wanted: "Some(Done)",
+    },
+    Row {
+        player: 1,
+        op: Init(2),
+        wanted: "Some(Already)",
+    },
+    Row {
+        player: 0,
+        op: Check(Some(2), Need::Sem),
+        wanted: "Some(Done)",
+    },
+    Row {
+        player: 0,
+        op: Check(Some(1), Need::Any),
+        wanted: "Some(Oops(NotGranted))",
+    },
+    Row {
+        player: 0,
+        op: Release(1),
+        wanted: "None",
+    },
+];
+
+/// A player above those of a scenario is kept too: it enters, is checked, and ends.
+const FAR: [Row; 6] = [
+    Row {
+        player: 70,
+        op: EnterUser,
+        wanted: "Some(Done)",
+    },
+    Row {
+        player: 70,
+        op: EnterUser,
+        wanted: "None",
+    },
+    Row {
+        player: 1,
+        op: Public(2),
+        wanted: "Some(Done)",
+    },
+    Row {
+        player: 70,
+        op: Check(Some(2), Need::Any),
+        wanted: "Some(Done)",
+    },
+    Row {
+        player: 70,
+        op: Check(Some(2), Need::Sem),
+        wanted: "Some(Oops(NotInit))",
+    },
+    Row {
+        player: 70,
+        op: Check(None, Need::Sem),
+        wanted: "None",
+    },
+];
 
 /// A user thread, a semaphore that it is allowed, and a raw one.
 fn one_user(alloc: Global) -> Result<TableSetup, NoMemory>
@@ -24,96 +115,64 @@ fn one_user(alloc: Global) -> Result<TableSetup, NoMemory>
 }
 
 /// One attempt, at a step above all earlier ones.
-fn attempt(
-    objects: &mut Objects,
-    number: u32,
-    step: u32,
-    op: TableOp,
-) -> Result<Option<TableReply>, NoMemory>
-    requires below { IsTried step objects.old }
-    requires few { step < 100 }
-    requires range { names_objects one_user op ≡ true }
-    ensures { IfOk result (λ _. IsTried (step + 1) objects.new) }
-{
-    objects.act(Who { number, prio: 0 }, step, op)
-}
-
-/// Makes one attempt, and says what is answered.
-fn says<R: Abort>(
+fn attempt<R: Abort>(
     rt: &R,
     alloc: Global,
     objects: &mut Objects,
-    number: u32,
     step: u32,
-    op: TableOp,
-    wanted: &str,
-) -> Result<(), Fail>
+    row: &Row,
+) -> Result<(), NoMemory>
     requires below { IsTried step objects.old }
     requires few { step < 100 }
-    requires range { names_objects one_user op ≡ true }
+    requires range { names_objects one_user row.now.op ≡ true }
     ensures { IfOk result (λ _. IsTried (step + 1) objects.new) }
 {
-    let reply = attempt(objects, number, step, op)?;
+    let who = Who {
+        number: row.player,
+        prio: 0,
+    };
+    let reply = objects.act(who, step, row.op)?;
     let text = format!(in alloc; "{reply:?}")?;
-    assert_eq!(rt; text.as_str(), wanted, "at {step}");
+    assert_eq!(rt; text.as_str(), row.wanted, "at {step}");
     Ok(())
 }
 
-/// The permission ends with a revoke, and the user with the check after it; a grant, a public and an init hold for the next.
+/// Makes the attempts one after another, at a new table.
+fn play<R: Abort>(
+    rt: &R,
+    alloc: Global,
+    objects: Objects,
+    rows: &[Row],
+) -> Result<Objects, NoMemory>
+    requires fresh { IsTried 0 objects }
+    requires few { length rows.now < 100 }
+    requires range { list_all (λ row. names_objects one_user row.op) rows.now ≡ true }
+{
+    let mut objects = objects;
+    for (step, row) in rows.iter().enumerate() {
+        attempt(rt, alloc, &mut objects, step as u32, row)?;
+    }
+    Ok(objects)
+}
+
+/// A new table over the user thread and the two semaphores.
+fn made(alloc: Global) -> Result<Objects, NoMemory>
+    ensures { IfOk result (λ objects. IsTried 0 objects) }
+{
+    let setup = one_user(alloc)?;
+    Objects::new(alloc, &setup)
+}
+
 #[test]
 fn a_revoke_ends_the_user(rt: HostRuntime) -> Result<(), Fail> {
-    let alloc = rt.alloc();
-    let setup = one_user(alloc)?;
-    let mut objects = Objects::new(alloc, &setup)?;
-    let o = &mut objects;
-    says(&rt, alloc, o, 0, 0, Check(Some(1), Need::Sem), "Some(Done)")?;
-    says(&rt, alloc, o, 0, 1, Public(2), "None")?;
-    says(&rt, alloc, o, 1, 2, Revoke(0, 1), "Some(Done)")?;
-    says(&rt, alloc, o, 1, 3, Grant(0, 2), "Some(Done)")?;
-    says(&rt, alloc, o, 1, 4, Init(2), "Some(Done)")?;
-    says(&rt, alloc, o, 1, 5, Init(2), "Some(Already)")?;
-    says(&rt, alloc, o, 0, 6, Check(Some(2), Need::Sem), "Some(Done)")?;
-    says(
-        &rt,
-        alloc,
-        o,
-        0,
-        7,
-        Check(Some(1), Need::Any),
-        "Some(Oops(NotGranted))",
-    )?;
-    says(&rt, alloc, o, 0, 8, Release(1), "None")?;
+    let objects = play(&rt, rt.alloc(), made(rt.alloc())?, &REVOKED)?;
+    assert_eq!(&rt; objects.into_history().len(), 7);
     Ok(())
 }
 
-/// A player above those of a scenario is kept too: it enters, is checked, and ends.
 #[test]
 fn a_far_player_is_kept(rt: HostRuntime) -> Result<(), Fail> {
-    let alloc = rt.alloc();
-    let setup = one_user(alloc)?;
-    let mut objects = Objects::new(alloc, &setup)?;
-    let o = &mut objects;
-    says(&rt, alloc, o, 70, 0, EnterUser, "Some(Done)")?;
-    says(&rt, alloc, o, 70, 1, EnterUser, "None")?;
-    says(&rt, alloc, o, 1, 2, Public(2), "Some(Done)")?;
-    says(
-        &rt,
-        alloc,
-        o,
-        70,
-        3,
-        Check(Some(2), Need::Any),
-        "Some(Done)",
-    )?;
-    says(
-        &rt,
-        alloc,
-        o,
-        70,
-        4,
-        Check(Some(2), Need::Sem),
-        "Some(Oops(NotInit))",
-    )?;
-    says(&rt, alloc, o, 70, 5, Check(None, Need::Sem), "None")?;
+    let objects = play(&rt, rt.alloc(), made(rt.alloc())?, &FAR)?;
+    assert_eq!(&rt; objects.into_history().len(), 4);
     Ok(())
 }
