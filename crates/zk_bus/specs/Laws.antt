@@ -108,7 +108,8 @@ entered-where true some = refl
 entered-where false some = absurd (cc)
 
 -- the end of a wait gives one, and so does freeing the channel
-pub gives : (c : Channel) (who : Who) (op : ChanOp) → chan_closes c who op ≡ true → is_some (chan_reply c who op) ≡ true →
+pub gives : (c : Channel) (who : Who) (op : ChanOp) → chan_closes c who op ≡ true →
+    is_some (chan_reply c who op) ≡ true →
     1 + owed_entries (chan_next c who op) ≤ owed_entries c
 gives c who (ops.ClaimEnd place) closes some = let one = open-ended c.waits who.number place some in omega arith
 gives c who (ops.ClaimQuit place) closes some =

@@ -240,8 +240,8 @@ MayAlways c h = (who : Who) (op : ChanOp) → is_always op ≡ true →
 -- between two who use the channel the first frees it
 abbrev pub OneUsesAtATime : Channel → ChanHistory → Type 0
 OneUsesAtATime c h = (front middle rest : ChanHistory) (e f : Entry ChanOp ChanReply) →
-    h ≡ (front ++ e ∷ middle) ++ f ∷ rest → uses e.op ≡ true → uses f.op ≡ true → (e.who.number ≡ f.who.number → ⊥) →
-    list_any (is_freed_by e.who.number) middle ≡ true
+    h ≡ (front ++ e ∷ middle) ++ f ∷ rest → uses e.op ≡ true → uses f.op ≡ true →
+    (e.who.number ≡ f.who.number → ⊥) → list_any (is_freed_by e.who.number) middle ≡ true
 
 -- the laws of a channel: who holds it, what is in it, what its calls are told, and its waits
 pub record KeepsChannelLaws (c : Channel) (h : ChanHistory) : Type 0 where
