@@ -1,4 +1,4 @@
-use Rattle.std.specs.Prelude.{◌≡◌, Bool, true, Option, Some, List, [], ◌∷◌, All}
+use Rattle.std.specs.Prelude.{◌≡◌, Bool, true, if◌then◌else◌, Option, Some, is_some, List, [], ◌∷◌, All}
 use Rattle.zk_base.specs.declared.ids.Who.{Who}
 use Rattle.zk_base.specs.declared.ids.Entry.{Entry}
 use Rattle.zk_base.specs.History.{Rises}
@@ -9,6 +9,10 @@ pub record Machine (S O R : Type 0) : Type 0 where
   pub reply_of : S → Who → O → Option R
   pub next : S → Who → O → S
   pub in_range : S → O → Bool
+
+-- the state after an operation with this reply: nothing changes where there is none
+abbrev pub after_reply : {S O R : Type 0} → Machine S O R → S → Who → O → Option R → S
+after_reply m s who op reply = if is_some reply then m.next s who op else s
 
 -- the state after a history
 abbrev pub state_after : {S O R : Type 0} → Machine S O R → S → List (Entry O R) → S

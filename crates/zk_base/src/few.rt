@@ -1,4 +1,4 @@
-ghost use Rattle.std.specs.Prelude.{◌≡◌, ◌<◌, [], ◌∷◌, ◌++◌, Some, None, if◌then◌else◌, length};
+ghost use Rattle.std.specs.Prelude.{◌≡◌, ◌<◌, ◌≤◌, [], ◌∷◌, ◌++◌, Some, None, if◌then◌else◌, length};
 ghost use Rattle.zk_base.specs.Fews.{is_few};
 
 use std::marker::Model;
@@ -69,9 +69,10 @@ impl Few {
         self.len += 1;
     }
 
-    /// Its numbers: at most 8 of them.
+    /// Its numbers.
     pub fn numbers(&self) -> &[u32]
-        ensures { result.now ≡ self.now }
+        ensures same { result.now ≡ self.now }
+        ensures few { length result.now ≤ 8 }
     {
         &self.numbers[..self.len]
     }

@@ -2,15 +2,14 @@ ghost use Rattle.std.specs.Prelude.{◌≡◌, ◌≤◌, [], length, IfOk};
 ghost use Rattle.zk_model_bus.specs.Channel.{new_chan};
 ghost use Rattle.zk_bus.specs.Seen.{chan_start, chan_history};
 
-use crate::engine::ChanEngine;
 use std::alloc::Global;
-use zk_base::{Entry, Msg, NoMemory, Recorded, Service, Who};
-use zk_model_bus::{ChanOp, ChanReply, ChanState, Valid};
+use zk_base::{Entry, Msg, NoMemory, PlainEngine, Recorded, Service, Who};
+use zk_model_bus::{ChanOp, ChanReply, ChanState, ChanStore, Valid};
 
 /// A channel, with its history. Zephyr's `zbus_channel`.
 #[derive(Drop)]
 pub struct Channel {
-    inner: Recorded<ChanEngine>,
+    inner: Recorded<PlainEngine<ChanStore>>,
 }
 
 impl Channel {
@@ -27,7 +26,7 @@ impl Channel {
         ensures history { IfOk result (λ channel. chan_history channel ≡ []) }
     {
         let start = ChanState::new(alloc, initial, valid, observers)?;
-        let engine = ChanEngine::new(alloc, initial, valid, observers)?;
+        let engine = PlainEngine::new(ChanStore::new(alloc, initial, valid, observers)?);
         Ok(Channel {
             inner: Recorded::new(alloc, start, engine),
         })
@@ -42,8 +41,7 @@ impl Service for Channel {
     type State = ChanState;
 
     ghost use Rattle.std.specs.Prelude.{false};
-    ghost use Rattle.zk_model_bus.specs.Channel.{chan_machine};
-    ghost use Rattle.zk_bus.specs.Owed.{chan_closes};
+    ghost use Rattle.zk_model_bus.specs.Channel.{chan_closes, chan_machine};
     ghost use Rattle.zk_bus.specs.Seen.{chan_start, chan_history};
 
     ghost machine = { chan_machine };

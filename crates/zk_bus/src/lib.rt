@@ -2,6 +2,5 @@
 #![tactic(auto)]
 
 mod channel;
-mod engine;
 
 pub use channel::Channel;

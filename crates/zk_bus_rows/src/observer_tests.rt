@@ -88,7 +88,7 @@ fn a_subscriber_is_pushed(rt: HostRuntime) -> Result<(), Fail> {
 
 #[test]
 fn a_listener_runs(rt: HostRuntime) -> Result<(), Fail> {
-    let observer = Observer::listener(rt.alloc())?;
+    let observer = Observer::listener(rt.alloc());
     let observer = play(&rt, rt.alloc(), observer, &LISTENER)?;
     assert_eq!(&rt; observer.history().len(), 3);
     Ok(())

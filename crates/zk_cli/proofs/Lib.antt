@@ -1,4 +1,6 @@
 pub mod Pieces
 pub mod Outcomes
 pub mod PollsKept
+pub mod ScriptsKept
+pub mod PublishesKept
 pub mod Starts

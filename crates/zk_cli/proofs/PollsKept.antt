@@ -30,7 +30,7 @@ use Rattle.zk_cli.specs.Polls.{EachKeepsPolls}
 use Rattle.zk_cli.proofs.Starts.{sem-starts, msgq-starts}
 
 -- a trace shows of each player just its log
-shows-log : (t : Trace) (number : ℕ) (log : Log) → IsPlaced t → slice_get t.logs number ≡ Some log →
+pub shows-log : (t : Trace) (number : ℕ) (log : Log) → IsPlaced t → slice_get t.logs number ≡ Some log →
     ShowsLog (trace_shown t) number log.steps
 shows-log t number log placed is = record {
   each = λ step spot there no_look. placed.stands number step spot log is there no_look;
@@ -40,7 +40,7 @@ shows-log t number log placed is = record {
 }
 
 -- the history of an object is legal from where that object starts, if it does
-object-legal : {S O R : Type 0} (m : Machine S O R) (starts : List (Option S)) (hs : List (List (Entry O R))) (object : ℕ) (h : List (Entry O R)) →
+pub object-legal : {S O R : Type 0} (m : Machine S O R) (starts : List (Option S)) (hs : List (List (Entry O R))) (object : ℕ) (h : List (Entry O R)) →
     AllZip (IsLegalAt m) starts hs → slice_get hs object ≡ Some h →
     (start : Option S) × (slice_get starts object ≡ Some start) × IsLegalAt m start h
 object-legal m [] [] object h all there = absurd (cc)
@@ -84,7 +84,7 @@ polls-kept s t valid lawful number log is =
     let follows = lawful.log.follow number log is in
     let steps : follows.end.spots ≡ log.steps = ap (λ (l : Log). l.steps) follows.logged in
     let shows = subst (ShowsLog (trace_shown t) number) (sym steps) (shows-log t number log lawful.place is) in
-    let all = each_poll_keeps_its_laws s number (trace_shown t) follows.end follows.led shows (shows-legal s valid.in_range t lawful.history) in
+    let all = each_poll_keeps_its_laws s number (trace_shown t) follows.end follows.led valid shows (shows-legal s valid.in_range t lawful.history) in
     record {
       made = follows.led.made;
       stands = subst (λ (x : List Spot). AllZip (Stands (trace_shown t)) x follows.led.made) steps follows.led.stands;

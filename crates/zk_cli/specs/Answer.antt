@@ -1,6 +1,8 @@
 use Rattle.std.specs.Prelude.{◌≡◌, ℕ, Result, Ok, Err, List, ◌++◌}
 use Rattle.zk_base.specs.declared.errors.Status.{Status}
 use Rattle.zk_base.specs.declared.errors.Status.TheVariants as statuses
+use Rattle.zk_model_bus.specs.ChannelLaws.{KeepsChannelLaws}
+use Rattle.zk_model_bus.specs.ObserverLaws.{KeepsObserverLaws}
 use Rattle.zk_model_wait.specs.ClockLaws.{KeepsClockLaws}
 use Rattle.zk_model_wait.specs.MsgqLaws.{KeepsMsgqLaws}
 use Rattle.zk_model_wait.specs.SemLaws.{KeepsSemLaws}
@@ -21,11 +23,14 @@ use Rattle.zk_replay.specs.Replay.{IsReplay}
 use Rattle.zk_replay.specs.Over.{IsOver}
 use Rattle.zk_cli.specs.Moments.{AtEachMoment, AtEachObject}
 use Rattle.zk_cli.specs.Polls.{EachKeepsPolls}
+use Rattle.zk_cli.specs.Publishes.{EachVisitsAsTold}
 use Rattle.zk_cli.specs.Refusal.{refusal_text}
+use Rattle.zk_cli.specs.Scripts.{EachEntersItsScripts}
 
 -- the input is the text of a scenario, and the output is that text and the trace of its round robin run, which ends so;
--- the trace is lawful for the scenario, its histories keep the laws at each moment, its polls keep theirs, and where the
--- run has ended each admission has ended or was dropped
+-- the trace is lawful for the scenario, its histories keep the laws at each moment, its polls keep theirs, each script is
+-- entered that was to be, each publish and notify has visited its observers or was refused, and where the run has ended each
+-- admission has ended or was dropped
 pub record IsRun (ending : Ending) (input output : List ℕ) : Type 0 where
   pub scenario : Parts
   pub trace : Trace
@@ -38,7 +43,11 @@ pub record IsRun (ending : Ending) (input output : List ℕ) : Type 0 where
   pub sem_laws : AtEachObject KeepsSemLaws (machines_of scenario).sems trace.sems
   pub msgq_laws : AtEachObject KeepsMsgqLaws (machines_of scenario).msgqs trace.msgqs
   pub signal_laws : AtEachObject (λ start. KeepsSignalLaws) (machines_of scenario).signals trace.signals
+  pub channel_laws : AtEachObject KeepsChannelLaws (machines_of scenario).chans trace.chans
+  pub observer_laws : AtEachObject KeepsObserverLaws (machines_of scenario).observers trace.observers
   pub polls : EachKeepsPolls scenario trace
+  pub scripts : EachEntersItsScripts scenario trace
+  pub publishes : EachVisitsAsTold scenario trace
   pub over : IsOver scenario trace
   pub ends : trace.ending ≡ ending
   pub printed : output ≡ text_of scenario ++ trace_text scenario trace

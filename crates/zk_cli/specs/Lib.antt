@@ -3,5 +3,7 @@ pub mod Input
 pub mod Moments
 pub mod Output
 pub mod Polls
+pub mod Publishes
 pub mod Refusal
+pub mod Scripts
 pub mod Top

@@ -6,6 +6,7 @@ ghost use Rattle.zk_cli.specs.Answer.{IsRun, IsOutput, status_of};
 
 use std::alloc::Global;
 use zk_base::{NoMemory, Status, put, put_decimal};
+use zk_model_bus::{keeps_channel_laws, keeps_observer_laws};
 use zk_model_wait::{keeps_clock_laws, keeps_msgq_laws, keeps_sem_laws, keeps_signal_laws};
 use zk_model_work::keeps_laws;
 use zk_replay::replay;
@@ -34,6 +35,8 @@ fn run(alloc: Global, text: Vec<u8>, scenario: &Scenario) -> Result<(Vec<u8>, St
     keeps_sem_laws();
     keeps_msgq_laws();
     keeps_signal_laws();
+    keeps_channel_laws();
+    keeps_observer_laws();
     let trace = replay(alloc, scenario)?;
     let mut output = text;
     put_trace(&mut output, scenario, &trace)?;

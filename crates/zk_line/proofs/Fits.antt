@@ -6,11 +6,11 @@ use Rattle.std.specs.Option.{option_map_or, option_flatten}
 use Rattle.std.proofs.lemmas.Bool.{and_parts, and_from}
 use Rattle.std.proofs.lemmas.Option.{cond_some, option_and_then_some, same_Some}
 use Rattle.zk_base.specs.Names.{is_name}
-use Rattle.zk_words.specs.declared.kind.Kind.{Kind}
+use Rattle.zk_model_bus.specs.declared.kinds.Kind.{Kind}
 use Rattle.zk_words.specs.declared.slot.Slot.{Slot}
 use Rattle.zk_words.specs.declared.slot.Slot.TheVariants as slot
 use Rattle.zk_words.specs.declared.slot.Rest.{Rest}
-use Rattle.zk_words.specs.declared.slot.Rest.TheVariants.{Nothing, Maybe, Events}
+use Rattle.zk_words.specs.declared.slot.Rest.TheVariants.{Nothing, Maybe, Many, Events}
 use Rattle.zk_words.specs.declared.timeout.Timeout.{Timeout}
 use Rattle.zk_words.specs.declared.word.Word.{Word}
 use Rattle.zk_words.specs.Hex.{msg_of}
@@ -21,6 +21,7 @@ use Rattle.zk_words.specs.Events.{event_named, is_ignore, need_of}
 use Rattle.zk_words.specs.Parts.{Placed, placed, parts_of}
 use Rattle.zk_words.specs.Table.{call_row}
 use Rattle.zk_words.specs.Timeouts.{wait_of, wait_fits}
+use Rattle.zk_words.specs.Validators.{validator_of}
 use Rattle.zk_words.proofs.HexText.{msg_spelled}
 use Rattle.zk_words.proofs.Numerals.{number_in_spelled}
 use Rattle.zk_words.proofs.Waits.{wait_spelled}
@@ -35,17 +36,17 @@ use Rattle.zk_line.specs.declared.types.Arg.TheVariants as arg
 use Rattle.zk_line.specs.declared.types.Call.{Call}
 use Rattle.zk_line.specs.declared.types.Call.TheVariants as call
 use Rattle.zk_line.specs.Args.{truth_of, ref_of, event_of, arg_of, args_of}
-use Rattle.zk_line.specs.Calls.{call_of}
-use Rattle.zk_line.specs.Checks.{size_named, size_said, message_size, is_size, is_in_range, each_in_range, is_well_named, are_well_named}
+use Rattle.zk_line.specs.Calls.{call_of, said_of}
+use Rattle.zk_line.specs.Checks.{size_named, size_said, message_size, is_size, is_in_range, each_in_range, is_well_named, each_well_named}
 use Rattle.zk_line.specs.Decls.{decl_of, decl_args}
-use Rattle.zk_line.specs.Few.{event_at}
-use Rattle.zk_line.specs.Fits.{ref_fits, event_fits, fits_in, rest_fit, args_fit, call_fits}
+use Rattle.zk_line.specs.Few.{is_few, event_at}
+use Rattle.zk_line.specs.Fits.{ref_fits, event_fits, fits_in, rest_fit, args_fit, has_few_events, call_fits}
 use Rattle.zk_line.specs.Objects.{object_of, kind_of, name_of, is_at, is_met, names}
-use Rattle.zk_line.proofs.Inverse.{said_of-call_of, written_of-decl_of}
+use Rattle.zk_line.proofs.Inverse.{said_of-call_of, few-call, written_of-decl_of}
 use Rattle.zk_line.proofs.Options.{one_part}
 
 -- half as many bytes as digits
-half : (n m : ℕ) → n ≡ 2 * m → n / 2 ≡ m
+pub half : (n m : ℕ) → n ≡ 2 * m → n / 2 ≡ m
 half n m is = omega (arith, is)
 
 event_at-fits : (decls : List Decl) (s : Source) (object : Ref) → event_fits decls (event_at s object) ≡ ref_fits decls (need_of s) object
@@ -89,22 +90,24 @@ arg_fits decls size slot.Wait w a ranged named said =
 arg_fits decls size slot.Event w a ranged named said =
     let e = one_part arg.Event (event_of decls w) a said in
     ap (fits_in decls size slot.Event) (sym e.2) ∙ event_fits-read decls w e.0 named e.1
+arg_fits decls size slot.Valid w a ranged named said = refl
 arg_fits decls size slot.Raw w a ranged named said = refl
 
--- the events of a poll, word by word
-events_fit-read : (decls : List Decl) (size : Option ℕ) (ws : List (List ℕ)) (args : List Arg) → are_well_named decls (map (placed slot.Event) ws) ≡ true → args_of decls (map (placed slot.Event) ws) ≡ Some args
-    → list_all (fits_in decls size slot.Event) args ≡ true
-events_fit-read decls size [] args named said = ap (list_all (fits_in decls size slot.Event)) (sym (same_Some [] args said))
-events_fit-read decls size (w ∷ ws) args named said =
-    let both = and_parts (is_well_named decls slot.Event w) (are_well_named decls (map (placed slot.Event) ws)) named in
-    option_and_then_some _ (arg_of decls slot.Event w) args said
+-- words that are all in one slot, word by word
+each_fit-read : (decls : List Decl) (size : Option ℕ) (s : Slot) (ws : List (List ℕ)) (args : List Arg) → each_in_range size (map (placed s) ws) ≡ true → each_well_named decls (map (placed s) ws) ≡ true → args_of decls (map (placed s) ws) ≡ Some args
+    → list_all (fits_in decls size s) args ≡ true
+each_fit-read decls size s [] args ranged named said = ap (list_all (fits_in decls size s)) (sym (same_Some [] args said))
+each_fit-read decls size s (w ∷ ws) args ranged named said =
+    let first = and_parts (is_in_range size s w) (each_in_range size (map (placed s) ws)) ranged in
+    let both = and_parts (is_well_named decls s w) (each_well_named decls (map (placed s) ws)) named in
+    option_and_then_some _ (arg_of decls s w) args said
     (λ a is_a given.
-    let more = one_part (λ xs. a ∷ xs) (args_of decls (map (placed slot.Event) ws)) args given in
-    ap (list_all (fits_in decls size slot.Event)) (sym more.2)
-    ∙ and_from (fits_in decls size slot.Event a) (list_all (fits_in decls size slot.Event) more.0) (arg_fits decls size slot.Event w a refl both.0 is_a) (events_fit-read decls size ws more.0 both.1 more.1))
+    let more = one_part (λ xs. a ∷ xs) (args_of decls (map (placed s) ws)) args given in
+    ap (list_all (fits_in decls size s)) (sym more.2)
+    ∙ and_from (fits_in decls size s a) (list_all (fits_in decls size s) more.0) (arg_fits decls size s w a first.0 both.0 is_a) (each_fit-read decls size s ws more.0 first.1 both.1 more.1))
 
 -- a line's words and what they say, side by side
-pub args_fit-read : (decls : List Decl) (size : Option ℕ) (slots : List Slot) (rest : Rest) (ws : List (List ℕ)) (args : List Arg) → each_in_range size (parts_of slots rest ws) ≡ true → are_well_named decls (parts_of slots rest ws) ≡ true
+pub args_fit-read : (decls : List Decl) (size : Option ℕ) (slots : List Slot) (rest : Rest) (ws : List (List ℕ)) (args : List Arg) → each_in_range size (parts_of slots rest ws) ≡ true → each_well_named decls (parts_of slots rest ws) ≡ true
     → args_of decls (parts_of slots rest ws) ≡ Some args → args_fit decls size slots rest args ≡ true
 args_fit-read decls size [] Nothing ws args ranged named said = refl
 args_fit-read decls size [] (Maybe s) [] args ranged named said = ap (rest_fit decls size (Maybe s)) (sym (same_Some [] args said))
@@ -113,11 +116,12 @@ args_fit-read decls size [] (Maybe s) (w ∷ ws) args ranged named said =
     (λ a is_a given.
     ap (rest_fit decls size (Maybe s)) (sym (same_Some _ _ given))
     ∙ arg_fits decls size s w a (and_parts (is_in_range size s w) true ranged).0 (and_parts (is_well_named decls s w) true named).0 is_a)
-args_fit-read decls size [] Events ws args ranged named said = events_fit-read decls size ws args named said
+args_fit-read decls size [] (Many s) ws args ranged named said = each_fit-read decls size s ws args ranged named said
+args_fit-read decls size [] Events ws args ranged named said = each_fit-read decls size slot.Event ws args ranged named said
 args_fit-read decls size (s ∷ slots) rest [] args ranged named said = ap (args_fit decls size (s ∷ slots) rest) (sym (same_Some [] args said))
 args_fit-read decls size (s ∷ slots) rest (w ∷ ws) args ranged named said =
     let first = and_parts (is_in_range size s w) (each_in_range size (parts_of slots rest ws)) ranged in
-    let both = and_parts (is_well_named decls s w) (are_well_named decls (parts_of slots rest ws)) named in
+    let both = and_parts (is_well_named decls s w) (each_well_named decls (parts_of slots rest ws)) named in
     option_and_then_some _ (arg_of decls s w) args said
     (λ a is_a given.
     let more = one_part (λ xs. a ∷ xs) (args_of decls (parts_of slots rest ws)) args given in
@@ -135,16 +139,18 @@ size_said-read decls (p ∷ ps) args said =
 
 -- the call of a line whose words are in range and well named fits
 pub call_fits-read : (decls : List Decl) (w : Word) (ws : List (List ℕ)) (c : Call) → each_in_range (message_size decls (parts_of (call_row w).slots (call_row w).rest ws)) (parts_of (call_row w).slots (call_row w).rest ws) ≡ true
-    → are_well_named decls (parts_of (call_row w).slots (call_row w).rest ws) ≡ true
+    → each_well_named decls (parts_of (call_row w).slots (call_row w).rest ws) ≡ true
     → option_and_then (call_of w) (args_of decls (parts_of (call_row w).slots (call_row w).rest ws)) ≡ Some c → call_fits decls c ≡ true
 call_fits-read decls w ws c ranged named made =
     let form = call_row w in
     let ps = parts_of form.slots form.rest ws in
     option_and_then_some (call_of w) (args_of decls ps) c made
     (λ args is_args given.
-    ap (λ said. args_fit decls (size_said decls said.args) (call_row said.word).slots (call_row said.word).rest said.args) (said_of-call_of w args c given)
+    let said = said_of c in
+    and_from (has_few_events c) (args_fit decls (size_said decls said.args) (call_row said.word).slots (call_row said.word).rest said.args) (few-call w args c given)
+    (ap (λ said. args_fit decls (size_said decls said.args) (call_row said.word).slots (call_row said.word).rest said.args) (said_of-call_of w args c given)
     ∙ ap (λ size. args_fit decls size form.slots form.rest args) (size_said-read decls ps args is_args)
-    ∙ args_fit-read decls (message_size decls ps) form.slots form.rest ws args ranged named is_args)
+    ∙ args_fit-read decls (message_size decls ps) form.slots form.rest ws args ranged named is_args))
 
 events_fit : (decls : List Decl) (events : List PollEvent) → list_all (fits_in decls None slot.Event) (map arg.Event events) ≡ list_all (event_fits decls) events
 events_fit decls [] = refl
@@ -153,8 +159,13 @@ events_fit decls (event ∷ events) = ap (λ b. event_fits decls event && b) (ev
 -- a poll that fits waits for a time in range, and for objects that are declared and of their kinds
 pub poll_fits : (decls : List Decl) (wait : Timeout) (events : List PollEvent) → call_fits decls (call.Poll wait events) ≡ true → (wait_fits wait ≡ true) × (list_all (event_fits decls) events ≡ true)
 poll_fits decls wait events fits =
-    let both = and_parts (wait_fits wait) (list_all (fits_in decls None slot.Event) (map arg.Event events)) fits in
+    let all = and_parts (is_few events) (wait_fits wait && list_all (fits_in decls None slot.Event) (map arg.Event events)) fits in
+    let both = and_parts (wait_fits wait) (list_all (fits_in decls None slot.Event) (map arg.Event events)) all.1 in
     (both.0, sym (events_fit decls events) ∙ both.1)
+
+-- and its events are 1 to 8
+pub poll_few : (decls : List Decl) (wait : Timeout) (events : List PollEvent) → call_fits decls (call.Poll wait events) ≡ true → is_few events ≡ true
+poll_few decls wait events fits = (and_parts (is_few events) (wait_fits wait && list_all (fits_in decls None slot.Event) (map arg.Event events)) fits).0
 
 -- the kind of what a line declares
 pub kind_of-read : (decls : List Decl) (k : Kind) (parts : List Placed) (d : Decl) → option_and_then (decl_of k) (args_of decls parts) ≡ Some d → kind_of d ≡ k
@@ -177,6 +188,7 @@ fresh decls (slot.Either choice) w name named said = let part = one_part (arg.Tr
 fresh decls slot.Hex w name named said = let part = one_part arg.Bytes (msg_of w) (arg.Name name) said in absurd (cc part.2)
 fresh decls slot.Wait w name named said = let part = one_part arg.Wait (wait_of w) (arg.Name name) said in absurd (cc part.2)
 fresh decls slot.Event w name named said = let part = one_part arg.Event (event_of decls w) (arg.Name name) said in absurd (cc part.2)
+fresh decls slot.Valid w name named said = let part = one_part arg.Valid (validator_of w) (arg.Name name) said in absurd (cc part.2)
 fresh decls slot.Raw w name named said = absurd (cc)
 
 -- the first that is written of a declaration is its name
@@ -187,19 +199,22 @@ first_name (decl.Item name) = (_, refl)
 first_name (decl.Sem name initial limit) = (_, refl)
 first_name (decl.Msgq name size capacity) = (_, refl)
 first_name (decl.Signal name) = (_, refl)
+first_name (decl.Listener name) = (_, refl)
+first_name (decl.Sub name capacity) = (_, refl)
+first_name (decl.Chan name message valid observers) = (_, refl)
 
 -- the name of what a line declares is no other's
-pub fresh-read : (decls : List Decl) (k : Kind) (parts : List Placed) (d : Decl) → are_well_named decls parts ≡ true → option_and_then (decl_of k) (args_of decls parts) ≡ Some d → object_of decls (name_of d) ≡ None
+pub fresh-read : (decls : List Decl) (k : Kind) (parts : List Placed) (d : Decl) → each_well_named decls parts ≡ true → option_and_then (decl_of k) (args_of decls parts) ≡ Some d → object_of decls (name_of d) ≡ None
 fresh-read decls k parts d named made =
     option_and_then_some (decl_of k) (args_of decls parts) d made
     (λ args is_args given.
     let first = first_name d in
     by_parts parts named (is_args ∙ ap Some (sym (ap (λ w. w.args) (written_of-decl_of k args d given)) ∙ first.1))) where
-      by_parts : {more : List Arg} (ps : List Placed) → are_well_named decls ps ≡ true → args_of decls ps ≡ Some (arg.Name (name_of d) ∷ more) → object_of decls (name_of d) ≡ None
+      by_parts : {more : List Arg} (ps : List Placed) → each_well_named decls ps ≡ true → args_of decls ps ≡ Some (arg.Name (name_of d) ∷ more) → object_of decls (name_of d) ≡ None
       by_parts [] all said = absurd (cc)
       by_parts {more} (p ∷ ps) all said =
           option_and_then_some _ (arg_of decls p.slot p.text) (arg.Name (name_of d) ∷ more) said
           (λ a is_a given.
           let rest = one_part (λ xs. a ∷ xs) (args_of decls ps) (arg.Name (name_of d) ∷ more) given in
           let same : a ≡ arg.Name (name_of d) = cc rest.2 in
-          fresh decls p.slot p.text (name_of d) (and_parts (is_well_named decls p.slot p.text) (are_well_named decls ps) all).0 (is_a ∙ ap Some same))
+          fresh decls p.slot p.text (name_of d) (and_parts (is_well_named decls p.slot p.text) (each_well_named decls ps) all).0 (is_a ∙ ap Some same))

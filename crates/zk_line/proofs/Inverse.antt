@@ -1,32 +1,36 @@
 -- A call and how it is written say each other, and so do a declaration and how it is written.
-use Rattle.std.proofs.Common.{◌≡◌, ℕ, ◌<◌, Bool, true, false, cond, nat_le, nat_lt, ◌&&◌, arith, length, List, [], ◌∷◌, map, Option, Some, None, refl, sym, ap, ◌∙◌}
+use Rattle.std.proofs.Common.{◌≡◌, ℕ, ◌<◌, Bool, true, false, cond, eqb, nat_le, nat_lt, ◌&&◌, arith, length, List, [], ◌∷◌, map, Option, Some, None, refl, sym, ap, ◌∙◌}
 use Rattle.std.specs.Prelude.{ℤ, option_map, option_and_then, option_to_list}
-use Rattle.std.proofs.lemmas.Bool.{cond-true, cond-false, lt-ltb, lt-leb}
+use Rattle.std.proofs.lemmas.Bool.{eqb-true, eq-eqb, cond-true, cond-false, lt-ltb, lt-leb}
 use Rattle.std.proofs.lemmas.List.{length-map}
 use Rattle.std.proofs.Math.Bool.{and-false}
 use Rattle.std.proofs.lemmas.Option.{cond_some, option_and_then_some, same_Some}
+use Rattle.zk_base.specs.Fews as fews
+use Rattle.zk_model_bus.specs.declared.channel.Valid.{Valid}
 use Rattle.zk_words.specs.declared.slot.Choice.{Choice}
 use Rattle.zk_words.specs.declared.slot.Choice.TheVariants.{Mode, State, Drain}
-use Rattle.zk_words.specs.declared.kind.Kind.{Kind}
-use Rattle.zk_words.specs.declared.kind.Kind.TheVariants as kind
+use Rattle.zk_model_bus.specs.declared.kinds.Kind.{Kind}
+use Rattle.zk_model_bus.specs.declared.kinds.Kind.TheVariants as kind
 use Rattle.zk_words.specs.declared.timeout.Timeout.{Timeout}
 use Rattle.zk_words.specs.declared.word.Word.{Word}
 use Rattle.zk_words.specs.declared.word.Word.TheVariants as word
 use Rattle.zk_words.specs.Spelled.{same_choice}
 use Rattle.zk_line.specs.declared.types.Ref.{Ref}
+use Rattle.zk_line.specs.declared.types.Ref.TheVariants.{Known}
 use Rattle.zk_line.specs.declared.types.Arg.{Arg}
-use Rattle.zk_line.specs.declared.types.Arg.TheVariants.{Name, Object, Number, Priority, Truth, Bytes, Wait, Event}
+use Rattle.zk_line.specs.declared.types.Arg.TheVariants.{Name, Object, Number, Priority, Truth, Bytes, Wait, Event, Valid as ValidArg}
 use Rattle.zk_line.specs.declared.events.Event.{Event as PollEvent}
 use Rattle.zk_line.specs.declared.types.Call.{Call}
 use Rattle.zk_line.specs.declared.types.Call.TheVariants as call
 use Rattle.zk_line.specs.declared.types.Decl.{Decl}
 use Rattle.zk_line.specs.declared.types.Decl.TheVariants as decl
 use Rattle.zk_line.specs.Calls.{saying, call_of, said_of}
-use Rattle.zk_line.specs.Decls.{decl_of, decl_args}
+use Rattle.zk_line.specs.Decls.{decl_of, decl_args, objects_said, written, written_of}
 use Rattle.zk_line.specs.Few.{is_few}
+use Rattle.zk_line.specs.Fits.{has_few_events}
 use Rattle.zk_line.specs.Objects.{kind_of}
 use Rattle.zk_line.proofs.Options.{one_part}
-use Rattle.zk_line.specs.Shapes.{as_name, as_object, as_number, as_result, as_priority, as_truth, as_bytes, as_wait, as_event, all_events, few_events, events_of, wait_events, both, all_three, one, two, three, one_or_two}
+use Rattle.zk_line.specs.Shapes.{as_name, as_object, as_number, as_result, as_priority, as_truth, as_bytes, as_wait, as_event, as_known, all_objects, few_objects, objects_of, channel_parts, all_events, few_events, events_of, wait_events, both, all_three, one, two, three, one_or_two}
 
 -- an argument is read from just the one that is written of it
 abbrev pub IsPart : {A : Type 0} → (Arg → Option A) → (A → Arg) → Type 0
@@ -117,6 +121,69 @@ wait_events-is (Wait wait ∷ args) x e =
     ap (λ xs. Wait wait ∷ xs) (all_events-is args events are) ∙ ap (λ es. Wait wait ∷ map Event es) same ∙ ap (λ p. Wait p.0 ∷ map Event p.1) made.2)
 wait_events-is args x e = absurd (cc)
 
+known-is : IsPart as_known (λ object. Object (Known object))
+known-is (Object (Known object)) x e = ap (λ n. Object (Known n)) (same_Some object x e)
+known-is a x e = absurd (cc)
+
+all_objects-is : IsShape all_objects objects_said
+all_objects-is [] objects e = ap objects_said (same_Some [] objects e)
+all_objects-is (a ∷ args) objects e =
+    option_and_then_some _ (as_known a) objects e
+    (λ object is_object given.
+    let rest = one_part (λ more. object ∷ more) (all_objects args) objects given in
+    ap (λ b. b ∷ args) (known-is a object is_object) ∙ ap (λ xs. Object (Known object) ∷ xs) (all_objects-is args rest.0 rest.1) ∙ ap objects_said rest.2)
+
+-- the objects that are written are read again
+pub all_objects-said : (objects : List ℕ) → all_objects (objects_said objects) ≡ Some objects
+all_objects-said [] = refl
+all_objects-said (object ∷ objects) = ap (option_map (λ more. object ∷ more)) (all_objects-said objects)
+
+-- and they are those of a channel, where they are few
+pub objects_of-said : (objects : List ℕ) → fews.is_few objects ≡ true → objects_of (objects_said objects) ≡ Some objects
+objects_of-said objects few = ap (option_and_then few_objects) (all_objects-said objects) ∙ cond-true (fews.is_few objects) (Some objects) None few
+
+-- more than 8 arguments are no observers of a channel
+pub objects_of-many : (args : List Arg) → 8 < length args → None ≡ objects_of args
+objects_of-many args many = by_read (all_objects args) refl where
+  by_read : (read : Option (List ℕ)) → all_objects args ≡ read → None ≡ option_and_then few_objects read
+  by_read None same = refl
+  by_read (Some objects) same =
+      let long = ap length (all_objects-is args objects same) ∙ length-map objects (λ (object : ℕ). Object (Known object)) in
+      sym (cond-false (fews.is_few objects) (Some objects) None (lt-leb (length objects) 8 (omega (arith, many, long))))
+
+-- objects that are observers of a channel are written so, and are few
+objects_of-is : (args : List Arg) (objects : List ℕ) → objects_of args ≡ Some objects → (args ≡ objects_said objects) × (fews.is_few objects ≡ true)
+objects_of-is args objects e =
+    option_and_then_some few_objects (all_objects args) objects e
+    (λ all are few.
+    let found = cond_some (fews.is_few all) all objects few in
+    (all_objects-is args all are ∙ ap objects_said found.1, ap fews.is_few (sym found.1) ∙ found.0))
+
+-- what is read of a channel, as it is written
+abbrev pub ChannelParts : Type 0
+ChannelParts = List ℕ × List ℕ × Valid × List ℕ
+
+abbrev pub parts_said : ChannelParts → List Arg
+parts_said p = Name p.0 ∷ Number (length p.1) ∷ Bytes p.1 ∷ ValidArg p.2 ∷ objects_said p.3
+
+-- what stands behind a channel is read from just what is written of it, and its observers are few
+channel_parts-are : (args : List Arg) (p : ChannelParts) → channel_parts args ≡ Some p → (args ≡ parts_said p) × (fews.is_few p.3 ≡ true)
+channel_parts-are (Name name ∷ Number size ∷ Bytes message ∷ ValidArg valid ∷ args) p e = by_size (eqb size (length message)) refl e where
+  by_size : (b : Bool) → eqb size (length message) ≡ b → cond b (option_map (λ observers. (name, message, valid, observers)) (objects_of args)) None ≡ Some p
+      → (Name name ∷ Number size ∷ Bytes message ∷ ValidArg valid ∷ args ≡ parts_said p) × (fews.is_few p.3 ≡ true)
+  by_size true same here =
+      let made = one_part (λ (observers : List ℕ). (name, message, valid, observers)) (objects_of args) p here in
+      let are = objects_of-is args made.0 made.1 in (
+        ap (λ n. Name name ∷ Number n ∷ Bytes message ∷ ValidArg valid ∷ args) (eqb-true size (length message) same)
+            ∙ ap (λ xs. Name name ∷ Number (length message) ∷ Bytes message ∷ ValidArg valid ∷ xs) are.0 ∙ ap parts_said made.2,
+        ap (λ (q : ChannelParts). fews.is_few q.3) (sym made.2) ∙ are.1,
+      )
+  by_size false same here = absurd (cc)
+channel_parts-are args p e = absurd (cc)
+
+channel_parts-is : IsShape channel_parts parts_said
+channel_parts-is args p e = (channel_parts-are args p e).0
+
 both_is : {A B : Type 0} (a : Option A) (b : Option B) (p : A × B) → both a b ≡ Some p → (a ≡ Some p.0) × (b ≡ Some p.1)
 both_is (Some a) (Some b) p e = let is = same_Some _ _ e in (ap (λ q. Some q.0) is, ap (λ q. Some q.1) is)
 both_is a b p e = absurd (cc)
@@ -174,6 +241,11 @@ delayed w f says = by_shape (three as_object as_object as_number) _ f said_of (s
 waiting : (w : Word) (f : Ref × Timeout → Call) → ((x : Ref × Timeout) → said_of (f x) ≡ saying w (Object x.0 ∷ Wait x.1 ∷ [])) → (args : List Arg) (c : Call) → option_map f (two as_object as_wait args) ≡ Some c → said_of c ≡ saying w args
 waiting w f says = by_shape (two as_object as_wait) _ f said_of (saying w) (two-is as_object Object as_wait Wait object-is wait-is) says
 
+-- the words of an object, a message for it, and how long is waited for it
+sent : (w : Word) (f : Ref × List ℕ × Timeout → Call) → ((x : Ref × List ℕ × Timeout) → said_of (f x) ≡ saying w (Object x.0 ∷ Bytes x.1 ∷ Wait x.2 ∷ [])) → (args : List Arg) (c : Call)
+    → option_map f (three as_object as_bytes as_wait args) ≡ Some c → said_of c ≡ saying w args
+sent w f says = by_shape (three as_object as_bytes as_wait) _ f said_of (saying w) (three-is as_object Object as_bytes Bytes as_wait Wait object-is bytes-is wait-is) says
+
 -- what is made a call is written so
 pub said_of-call_of : (w : Word) (args : List Arg) (c : Call) → call_of w args ≡ Some c → said_of c ≡ saying w args
 said_of-call_of word.Submit = by_shape (one_or_two as_object as_object) _ (λ p. call.Submit p.0 p.1) said_of (saying word.Submit) (one_or_two-is as_object Object as_object Object object-is object-is) (λ x. refl)
@@ -192,7 +264,7 @@ said_of-call_of word.Take = waiting word.Take (λ p. call.Take p.0 p.1) (λ x. r
 said_of-call_of word.Give = one_object word.Give call.Give (λ x. refl)
 said_of-call_of word.Reset = one_object word.Reset call.Reset (λ x. refl)
 said_of-call_of word.Count = one_object word.Count call.Count (λ x. refl)
-said_of-call_of word.Put = by_shape (three as_object as_bytes as_wait) _ (λ p. call.Put p.0 p.1 p.2) said_of (saying word.Put) (three-is as_object Object as_bytes Bytes as_wait Wait object-is bytes-is wait-is) (λ x. refl)
+said_of-call_of word.Put = sent word.Put (λ p. call.Put p.0 p.1 p.2) (λ x. refl)
 said_of-call_of word.Get = waiting word.Get (λ p. call.Get p.0 p.1) (λ x. refl)
 said_of-call_of word.Peek = one_object word.Peek call.Peek (λ x. refl)
 said_of-call_of word.PeekAt = by_shape (two as_object as_number) _ (λ p. call.PeekAt p.0 p.1) said_of (saying word.PeekAt) (two-is as_object Object as_number Number object-is number-is) (λ x. refl)
@@ -203,6 +275,14 @@ said_of-call_of word.Raise = by_shape (two as_object as_result) _ (λ p. call.Ra
 said_of-call_of word.Clear = one_object word.Clear call.Clear (λ x. refl)
 said_of-call_of word.Check = one_object word.Check call.Check (λ x. refl)
 said_of-call_of word.Poll = by_shape wait_events _ (λ p. call.Poll p.0 p.1) said_of (saying word.Poll) wait_events-is (λ x. refl)
+said_of-call_of word.Claim = waiting word.Claim (λ p. call.Claim p.0 p.1) (λ x. refl)
+said_of-call_of word.Finish = one_object word.Finish call.Finish (λ x. refl)
+said_of-call_of word.Publish = sent word.Publish (λ p. call.Publish p.0 p.1 p.2) (λ x. refl)
+said_of-call_of word.Notify = waiting word.Notify (λ p. call.Notify p.0 p.1) (λ x. refl)
+said_of-call_of word.Read = waiting word.Read (λ p. call.Read p.0 p.1) (λ x. refl)
+said_of-call_of word.Mask = by_shape (three as_object as_object (as_truth State)) _ (λ p. call.Mask p.0 p.1 p.2) said_of (saying word.Mask) (three-is as_object Object as_object Object (as_truth State) (Truth State) object-is object-is (truth-is State)) (λ x. refl)
+said_of-call_of word.Enable = by_shape (two as_object (as_truth State)) _ (λ p. call.Enable p.0 p.1) said_of (saying word.Enable) (two-is as_object Object (as_truth State) (Truth State) object-is (truth-is State)) (λ x. refl)
+said_of-call_of word.SubWait = waiting word.SubWait (λ p. call.SubWait p.0 p.1) (λ x. refl)
 
 -- a call can be kept: the result of a signal is a number of 16 bits, and a poll has 1 to 8 events
 abbrev pub IsKept : Call → Type 0
@@ -242,19 +322,34 @@ call_of-said_of (call.Clear signal) kept = refl
 call_of-said_of (call.Check signal) kept = refl
 call_of-said_of (call.Poll wait events) few =
     ap (λ (o : Option (List PollEvent)). option_map (λ (p : Timeout × List PollEvent). call.Poll p.0 p.1) (option_map (λ es. (wait, es)) o)) (events_of-map events few)
+call_of-said_of (call.Claim channel wait) kept = refl
+call_of-said_of (call.Finish channel) kept = refl
+call_of-said_of (call.Publish channel message wait) kept = refl
+call_of-said_of (call.Notify channel wait) kept = refl
+call_of-said_of (call.Read channel wait) kept = refl
+call_of-said_of (call.Mask channel observer on) kept = refl
+call_of-said_of (call.Enable observer on) kept = refl
+call_of-said_of (call.SubWait sub wait) kept = refl
 
--- a declaration as it is written: its kind, and what stands behind that
-pub record Written : Type 0 where
-  pub kind : Kind
-  pub args : List Arg
+-- what is made a call can be kept: the events of a poll are few
+few-poll : (args : List Arg) (wait : Timeout) (events : List PollEvent) → call_of word.Poll args ≡ Some (call.Poll wait events) → is_few events ≡ true
+few-poll args wait events said =
+    let made = one_part (λ (p : Timeout × List PollEvent). call.Poll p.0 p.1) (wait_events args) (call.Poll wait events) said in
+    let same : made.0.1 ≡ events = cc made.2 in ap is_few (sym same) ∙ by_args args made.0 made.1 where
+      by_args : (args : List Arg) (p : Timeout × List PollEvent) → wait_events args ≡ Some p → is_few p.1 ≡ true
+      by_args (Wait t ∷ more) p e =
+          let read = one_part (λ (es : List PollEvent). (t, es)) (events_of more) p e in
+          option_and_then_some few_events (all_events more) read.0 read.1
+          (λ all are few.
+          let found = cond_some (is_few all) all read.0 few in
+          ap (λ (q : Timeout × List PollEvent). is_few q.1) (sym read.2) ∙ ap is_few (sym found.1) ∙ found.0)
+      by_args more p e = absurd (cc)
 
--- a kind and what stands behind it
-abbrev pub written : Kind → List Arg → Written
-written k args = record { kind = k; args = args }
-
--- how a declaration is written
-abbrev pub written_of : Decl → Written
-written_of d = written (kind_of d) (decl_args d)
+pub few-call : (w : Word) (args : List Arg) (c : Call) → call_of w args ≡ Some c → has_few_events c ≡ true
+few-call w args (call.Poll wait events) said =
+    let is : word.Poll ≡ w = ap (λ s. s.word) (said_of-call_of w args (call.Poll wait events) said) in
+    few-poll args wait events (ap (λ v. call_of v args) is ∙ said)
+few-call w args c said = refl
 
 -- the kinds of a name, a priority and one of the two words of a choice
 playing : (k : Kind) (choice : Choice) (f : List ℕ × ℤ × Bool → Decl) → ((x : List ℕ × ℤ × Bool) → written_of (f x) ≡ written k (Name x.0 ∷ Priority x.1 ∷ Truth choice x.2 ∷ []))
@@ -275,12 +370,31 @@ written_of-decl_of kind.Item = by_shape (one as_name) _ decl.Item written_of (wr
 written_of-decl_of kind.Sem = numbered kind.Sem (λ p. decl.Sem p.0 p.1 p.2) (λ x. refl)
 written_of-decl_of kind.Msgq = numbered kind.Msgq (λ p. decl.Msgq p.0 p.1 p.2) (λ x. refl)
 written_of-decl_of kind.Signal = by_shape (one as_name) _ decl.Signal written_of (written kind.Signal) (one-is as_name Name name-is) (λ x. refl)
+written_of-decl_of kind.Listener = by_shape (one as_name) _ decl.Listener written_of (written kind.Listener) (one-is as_name Name name-is) (λ x. refl)
+written_of-decl_of kind.Sub = by_shape (two as_name as_number) _ (λ p. decl.Sub p.0 p.1) written_of (written kind.Sub) (two-is as_name Name as_number Number name-is number-is) (λ x. refl)
+written_of-decl_of kind.Chan = by_shape channel_parts _ (λ p. decl.Chan p.0 p.1 p.2 p.3) written_of (written kind.Chan) channel_parts-is (λ x. refl)
+
+-- a declaration can be kept: a channel has at most 8 observers
+abbrev pub IsKeptDecl : Decl → Type 0
+IsKeptDecl (decl.Chan name message valid observers) = fews.is_few observers ≡ true
+IsKeptDecl d = Unit {0}
 
 -- what is written of a declaration makes that declaration
-pub decl_of-decl_args : (d : Decl) → decl_of (kind_of d) (decl_args d) ≡ Some d
-decl_of-decl_args (decl.Thread name prio user) = refl
-decl_of-decl_args (decl.Queue name prio on) = refl
-decl_of-decl_args (decl.Item name) = refl
-decl_of-decl_args (decl.Sem name initial limit) = refl
-decl_of-decl_args (decl.Msgq name size capacity) = refl
-decl_of-decl_args (decl.Signal name) = refl
+pub decl_of-decl_args : (d : Decl) → IsKeptDecl d → decl_of (kind_of d) (decl_args d) ≡ Some d
+decl_of-decl_args (decl.Thread name prio user) kept = refl
+decl_of-decl_args (decl.Queue name prio on) kept = refl
+decl_of-decl_args (decl.Item name) kept = refl
+decl_of-decl_args (decl.Sem name initial limit) kept = refl
+decl_of-decl_args (decl.Msgq name size capacity) kept = refl
+decl_of-decl_args (decl.Signal name) kept = refl
+decl_of-decl_args (decl.Listener name) kept = refl
+decl_of-decl_args (decl.Sub name capacity) kept = refl
+decl_of-decl_args (decl.Chan name message valid observers) few =
+    ap (λ b. option_map (λ (p : ChannelParts). decl.Chan p.0 p.1 p.2 p.3) (cond b (option_map (λ xs. (name, message, valid, xs)) (objects_of (objects_said observers))) None)) (eq-eqb (length message) (length message) refl)
+    ∙ ap (λ (o : Option (List ℕ)). option_map (λ (p : ChannelParts). decl.Chan p.0 p.1 p.2 p.3) (option_map (λ xs. (name, message, valid, xs)) o)) (objects_of-said observers few)
+
+-- what a channel's line declares has at most 8 observers
+pub few-channel : (args : List Arg) (name message : List ℕ) (valid : Valid) (observers : List ℕ) → decl_of kind.Chan args ≡ Some (decl.Chan name message valid observers) → fews.is_few observers ≡ true
+few-channel args name message valid observers said =
+    let made = one_part (λ (p : ChannelParts). decl.Chan p.0 p.1 p.2 p.3) (channel_parts args) (decl.Chan name message valid observers) said in
+    let same : made.0.3 ≡ observers = cc made.2 in ap fews.is_few (sym same) ∙ (channel_parts-are args made.0 made.1).1

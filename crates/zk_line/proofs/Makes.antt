@@ -1,50 +1,56 @@
 -- A line of right words makes its call or its declaration.
-use Rattle.std.proofs.Common.{◌≡◌, ℕ, ◌≤◌, ◌/◌, Bool, true, false, cond, nat_le, nat_lt, ◌&&◌, ◌||◌, List, [], ◌∷◌, map, count_by, length, Option, Some, None, is_some, arith, refl, sym, ap, subst, ◌∙◌}
+use Rattle.std.proofs.Common.{◌≡◌, ℕ, ◌≤◌, ◌/◌, Bool, true, false, cond, eqb, nat_le, nat_lt, ◌&&◌, ◌||◌, List, [], ◌∷◌, map, count_by, length, Option, Some, None, is_some, arith, refl, sym, ap, subst, ◌∙◌}
 use Rattle.std.specs.Prelude.{option_map, option_and_then, IsSome, bytes_eq}
 use Rattle.std.specs.List.{list_all, list_any}
 use Rattle.std.specs.Option.{option_map_or, option_flatten}
-use Rattle.std.proofs.lemmas.Bool.{and_parts, and_from, cond-true, lt-ltb, leb-true, ltb-false, le-leb}
+use Rattle.std.proofs.lemmas.Bool.{and_parts, and_from, eqb-true, eq-eqb, cond-true, lt-ltb, leb-true, ltb-false, le-leb}
 use Rattle.zk_base.specs.Names.{is_name}
-use Rattle.zk_words.specs.declared.kind.Kind.{Kind}
-use Rattle.zk_words.specs.declared.kind.Kind.TheVariants as kind
-use Rattle.zk_words.specs.declared.kind.Need.{Need}
-use Rattle.zk_words.specs.declared.kind.Need.TheVariants as need
+use Rattle.zk_model_bus.specs.declared.kinds.Kind.{Kind}
+use Rattle.zk_model_bus.specs.declared.kinds.Kind.TheVariants as kind
+use Rattle.zk_model_bus.specs.declared.kinds.Need.{Need}
+use Rattle.zk_model_bus.specs.declared.kinds.Need.TheVariants as need
+use Rattle.zk_base.specs.Fews as fews
+use Rattle.zk_model_bus.specs.declared.channel.Valid.{Valid}
 use Rattle.zk_words.specs.declared.slot.Choice.{Choice}
 use Rattle.zk_words.specs.declared.slot.Choice.TheVariants.{Mode, State, Drain}
 use Rattle.zk_words.specs.declared.slot.Slot.{Slot}
 use Rattle.zk_words.specs.declared.slot.Slot.TheVariants as slot
 use Rattle.zk_words.specs.declared.slot.Rest.{Rest}
-use Rattle.zk_words.specs.declared.slot.Rest.TheVariants.{Nothing, Maybe, Events}
+use Rattle.zk_words.specs.declared.slot.Rest.TheVariants.{Nothing, Maybe, Many, Events}
 use Rattle.zk_words.specs.declared.word.Word.{Word}
 use Rattle.zk_words.specs.declared.word.Word.TheVariants as word
 use Rattle.zk_words.specs.declared.timeout.Timeout.{Timeout}
 use Rattle.zk_words.specs.Events.{Asking, asks, event_named, is_ignore, need_of}
-use Rattle.zk_words.specs.Hex.{is_hex, bytes_of}
+use Rattle.zk_words.specs.Hex.{is_hex, bytes_of, msg_of}
 use Rattle.zk_words.specs.Numbers.{number_in, priority_of}
 use Rattle.zk_words.specs.Parts.{Placed, placed, parts_of, fits}
 use Rattle.zk_words.specs.Spelled.{choice_text, is_spelled_in, part_is_spelled}
-use Rattle.zk_words.specs.Table.{call_row, kind_row, item, queue, sem, msgq, signal, delay, ticks, index, initial, limit, size, capacity, result}
+use Rattle.zk_words.specs.Table.{call_row, kind_row, item, queue, sem, msgq, signal, delay, ticks, index, initial, limit, size, capacity, channel, observer, result}
 use Rattle.zk_words.specs.Timeouts.{wait_of}
+use Rattle.zk_words.specs.Validators.{validator_of}
+use Rattle.zk_words.specs.declared.word.Head.TheVariants.{Declare}
+use Rattle.zk_words.proofs.HexText.{msg_spelled}
 use Rattle.zk_words.proofs.Numerals.{number_in_spelled}
 use Rattle.zk_line.specs.declared.types.Decl.{Decl}
 use Rattle.zk_line.specs.declared.types.Decl.TheVariants as decl
 use Rattle.zk_line.specs.declared.types.Ref.{Ref}
 use Rattle.zk_line.specs.declared.types.Ref.TheVariants.{Known}
 use Rattle.zk_line.specs.declared.types.Arg.{Arg}
-use Rattle.zk_line.specs.declared.types.Arg.TheVariants.{Name, Object, Number, Priority, Truth, Bytes, Wait, Event}
+use Rattle.zk_line.specs.declared.types.Arg.TheVariants.{Name, Object, Number, Priority, Truth, Bytes, Wait, Event, Valid as ValidArg}
 use Rattle.zk_line.specs.declared.events.Event.{Event as PollEvent}
 use Rattle.zk_line.specs.declared.events.Event.TheVariants as event
 use Rattle.zk_line.specs.declared.types.Call.{Call}
 use Rattle.zk_line.specs.declared.types.Call.TheVariants as call
 use Rattle.zk_line.specs.Args.{truth_of, ref_of, arg_of, args_of}
 use Rattle.zk_line.specs.Calls.{call_of}
-use Rattle.zk_line.specs.Checks.{is_size, is_in_range, each_in_range, is_well_named, are_well_named, is_event_slot, has_many_events}
-use Rattle.zk_line.specs.Decls.{decl_of}
+use Rattle.zk_line.specs.Checks.{is_size, is_in_range, each_in_range, is_well_named, each_well_named, is_event_slot, has_many_events, go_together, is_observer_slot, has_many_observers}
+use Rattle.zk_line.specs.Decls.{decl_of, objects_said}
 use Rattle.zk_line.specs.Few.{is_few, event_at}
 use Rattle.zk_line.specs.Objects.{object_of, is_at, is_met, names}
-use Rattle.zk_line.proofs.Inverse.{events_of-map}
+use Rattle.zk_line.proofs.Fits.{half}
+use Rattle.zk_line.proofs.Inverse.{events_of-map, objects_of-said, ChannelParts}
 use Rattle.zk_line.proofs.Lists.{count_by-cons}
-use Rattle.zk_line.specs.Shapes.{as_name, as_object, as_number, as_result, as_priority, as_truth, as_bytes, as_wait, both, all_three, one, two, three, one_or_two}
+use Rattle.zk_line.specs.Shapes.{as_name, as_object, as_number, as_result, as_priority, as_truth, as_bytes, as_wait, both, all_three, one, two, three, one_or_two, objects_of}
 
 -- a word is spelled, in range and well named, in a line whose messages have so many bytes
 pub record IsRight (decls : List Decl) (bytes : Option ℕ) (s : Slot) (w : List ℕ) : Type 0 where
@@ -58,12 +64,12 @@ AreRight decls bytes [] = Unit {0}
 AreRight decls bytes (p ∷ ps) = IsRight decls bytes p.slot p.text × AreRight decls bytes ps
 
 -- the three tests of a line's words, side by side
-pub are_right : (decls : List Decl) (bytes : Option ℕ) (ps : List Placed) → list_all part_is_spelled ps ≡ true → each_in_range bytes ps ≡ true → are_well_named decls ps ≡ true → AreRight decls bytes ps
+pub are_right : (decls : List Decl) (bytes : Option ℕ) (ps : List Placed) → list_all part_is_spelled ps ≡ true → each_in_range bytes ps ≡ true → each_well_named decls ps ≡ true → AreRight decls bytes ps
 are_right decls bytes [] s r n = tt
 are_right decls bytes (p ∷ ps) s r n =
     let ss = and_parts (part_is_spelled p) (list_all part_is_spelled ps) s in
     let rs = and_parts (is_in_range bytes p.slot p.text) (each_in_range bytes ps) r in
-    let ns = and_parts (is_well_named decls p.slot p.text) (are_well_named decls ps) n in
+    let ns = and_parts (is_well_named decls p.slot p.text) (each_well_named decls ps) n in
     (record { spelled = ss.0; in_range = rs.0; named = ns.0 }, are_right decls bytes ps ss.1 rs.1 ns.1)
 
 -- what is there is something
@@ -112,11 +118,14 @@ truth-made choice decls bytes w right = by_first (bytes_eq w (choice_text choice
   by_first false false is_first is_second e = absurd (cc)
 
 -- digits of the size that is asked for, and so of at most 64 bytes, spell a message
-bytes-made : IsMade slot.Hex as_bytes
-bytes-made decls bytes w right =
+message-said : (decls : List Decl) (bytes : Option ℕ) (w : List ℕ) → IsRight decls bytes slot.Hex w → msg_of w ≡ Some (bytes_of w)
+message-said decls bytes w right =
     let short = (and_parts (nat_le (length w) 128) (is_size bytes (length w / 2)) right.in_range).0 in
     let hex : (is_hex w && nat_le (length w) 128) ≡ true = and_from (is_hex w) (nat_le (length w) 128) right.spelled short in
-    (Bytes (bytes_of w), ap (option_map Bytes) (cond-true (is_hex w && nat_le (length w) 128) (Some (bytes_of w)) None hex), refl)
+    cond-true (is_hex w && nat_le (length w) 128) (Some (bytes_of w)) None hex
+
+bytes-made : IsMade slot.Hex as_bytes
+bytes-made decls bytes w right = (Bytes (bytes_of w), ap (option_map Bytes) (message-said decls bytes w right), refl)
 
 wait-made : IsMade slot.Wait as_wait
 wait-made decls bytes w right = let t = is_some-some (wait_of w) right.in_range in (Wait t.0, ap (option_map Wait) t.1, refl)
@@ -266,9 +275,16 @@ one_msgq f = by_line (msgq ∷ []) Nothing (one as_object) f (one-line msgq as_o
 one_signal : (f : Ref → Call) → Makes (signal ∷ []) Nothing (λ args. option_map f (one as_object args))
 one_signal f = by_line (signal ∷ []) Nothing (one as_object) f (one-line signal as_object (object-made need.Signal))
 
+one_chan : (f : Ref → Call) → Makes (channel ∷ []) Nothing (λ args. option_map f (one as_object args))
+one_chan f = by_line (channel ∷ []) Nothing (one as_object) f (one-line channel as_object (object-made need.Chan))
+
 -- the lines of an object and of how long is waited for it
 waiting : (n : Need) (f : Ref × Timeout → Call) → Makes (slot.Object n ∷ slot.Wait ∷ []) Nothing (λ args. option_map f (two as_object as_wait args))
 waiting n f = by_line (slot.Object n ∷ slot.Wait ∷ []) Nothing (two as_object as_wait) f (two-line (slot.Object n) as_object slot.Wait as_wait (object-made n) wait-made)
+
+-- the lines of an object, of a message for it, and of how long is waited for it
+sending : (n : Need) (f : Ref × List ℕ × Timeout → Call) → Makes (slot.Object n ∷ slot.Hex ∷ slot.Wait ∷ []) Nothing (λ args. option_map f (three as_object as_bytes as_wait args))
+sending n f = by_line (slot.Object n ∷ slot.Hex ∷ slot.Wait ∷ []) Nothing (three as_object as_bytes as_wait) f (three-line (slot.Object n) as_object slot.Hex as_bytes slot.Wait as_wait (object-made n) bytes-made wait-made)
 
 -- the lines of an item, a queue and a delay
 delayed : IsLine (item ∷ queue ∷ delay ∷ []) Nothing (three as_object as_object as_number)
@@ -296,7 +312,7 @@ makes_other word.Take other = waiting need.Sem (λ p. call.Take p.0 p.1)
 makes_other word.Give other = one_sem call.Give
 makes_other word.Reset other = one_sem call.Reset
 makes_other word.Count other = one_sem call.Count
-makes_other word.Put other = by_line (msgq ∷ slot.Hex ∷ slot.Wait ∷ []) Nothing (three as_object as_bytes as_wait) (λ p. call.Put p.0 p.1 p.2) (three-line msgq as_object slot.Hex as_bytes slot.Wait as_wait (object-made need.Msgq) bytes-made wait-made)
+makes_other word.Put other = sending need.Msgq (λ p. call.Put p.0 p.1 p.2)
 makes_other word.Get other = waiting need.Msgq (λ p. call.Get p.0 p.1)
 makes_other word.Peek other = one_msgq call.Peek
 makes_other word.PeekAt other = by_line (msgq ∷ index ∷ []) Nothing (two as_object as_number) (λ p. call.PeekAt p.0 p.1) (two-line msgq as_object index as_number (object-made need.Msgq) (number-made 0 255))
@@ -307,6 +323,14 @@ makes_other word.Raise other = by_line (signal ∷ result ∷ []) Nothing (two a
 makes_other word.Clear other = one_signal call.Clear
 makes_other word.Check other = one_signal call.Check
 makes_other word.Poll other = absurd (cc)
+makes_other word.Claim other = waiting need.Chan (λ p. call.Claim p.0 p.1)
+makes_other word.Finish other = one_chan call.Finish
+makes_other word.Publish other = sending need.Chan (λ p. call.Publish p.0 p.1 p.2)
+makes_other word.Notify other = waiting need.Chan (λ p. call.Notify p.0 p.1)
+makes_other word.Read other = waiting need.Chan (λ p. call.Read p.0 p.1)
+makes_other word.Mask other = by_line (channel ∷ observer ∷ slot.Either State ∷ []) Nothing (three as_object as_object (as_truth State)) (λ p. call.Mask p.0 p.1 p.2) (three-line channel as_object observer as_object (slot.Either State) (as_truth State) (object-made need.Chan) (object-made need.Obs) (truth-made State))
+makes_other word.Enable other = by_line (observer ∷ slot.Either State ∷ []) Nothing (two as_object (as_truth State)) (λ p. call.Enable p.0 p.1) (two-line observer as_object (slot.Either State) (as_truth State) (object-made need.Obs) (truth-made State))
+makes_other word.SubWait other = waiting need.Sub (λ p. call.SubWait p.0 p.1)
 
 -- a right line of a call word makes its call, where it hasn't too many events
 pub makes_call : (w : Word) (decls : List Decl) (bytes : Option ℕ) (ws : List (List ℕ)) → fits (call_row w).slots (call_row w).rest ws ≡ true → AreRight decls bytes (parts_of (call_row w).slots (call_row w).rest ws)
@@ -323,11 +347,95 @@ numbered : (least most low high : ℕ) → IsLine (slot.New ∷ slot.Number leas
 numbered least most low high =
     three_maybe_raw-line slot.New as_name (slot.Number least most) as_number (slot.Number low high) as_number name-made (number-made least most) (number-made low high)
 
--- a right line of a kind makes its declaration
-pub makes_decl : (k : Kind) → Makes (kind_row k).slots (kind_row k).rest (decl_of k)
-makes_decl kind.Thread = by_line (slot.New ∷ slot.Priority ∷ slot.Either Mode ∷ []) Nothing (three as_name as_priority (as_truth Mode)) (λ p. decl.Thread p.0 p.1 p.2) (playing Mode)
-makes_decl kind.Queue = by_line (slot.New ∷ slot.Priority ∷ slot.Either State ∷ []) Nothing (three as_name as_priority (as_truth State)) (λ p. decl.Queue p.0 p.1 p.2) (playing State)
-makes_decl kind.Item = by_line (slot.New ∷ []) Nothing (one as_name) decl.Item (one-line slot.New as_name name-made)
-makes_decl kind.Sem = by_line (slot.New ∷ initial ∷ limit ∷ []) (Maybe slot.Raw) (three as_name as_number as_number) (λ p. decl.Sem p.0 p.1 p.2) (numbered 0 1000000 1 1000000)
-makes_decl kind.Msgq = by_line (slot.New ∷ size ∷ capacity ∷ []) (Maybe slot.Raw) (three as_name as_number as_number) (λ p. decl.Msgq p.0 p.1 p.2) (numbered 1 64 1 256)
-makes_decl kind.Signal = by_line (slot.New ∷ []) (Maybe slot.Raw) (one as_name) decl.Signal (one_maybe_raw-line slot.New as_name name-made)
+-- right observers say their objects
+objects-made : (decls : List Decl) (bytes : Option ℕ) (ws : List (List ℕ)) → AreRight decls bytes (map (placed observer) ws)
+    → (objects : List ℕ) × (args_of decls (map (placed observer) ws) ≡ Some (objects_said objects)) × (length objects ≡ length ws)
+objects-made decls bytes [] right = ([], refl, refl)
+objects-made decls bytes (w ∷ ws) right =
+    let more = objects-made decls bytes ws right.1 in by_place (object_of decls w) refl more.0 more.1 more.2 where
+      by_place : (o : Option ℕ) → object_of decls w ≡ o → (more : List ℕ) → args_of decls (map (placed observer) ws) ≡ Some (objects_said more) → length more ≡ length ws
+          → (objects : List ℕ) × (args_of decls (map (placed observer) (w ∷ ws)) ≡ Some (objects_said objects)) × (length objects ≡ length (w ∷ ws))
+      by_place None same more said long = let none : false ≡ true = sym (ap (λ o. option_map_or (is_at (is_met need.Obs) decls) o false) same) ∙ right.0.named in absurd (cc)
+      by_place (Some k) same more said long =
+          (k ∷ more, args-cons decls observer w (map (placed observer) ws) (Object (Known k)) (objects_said more) (ap (λ o. option_map Object (option_map Known o)) same) said, omega (arith, long))
+
+count-observers : (ws : List (List ℕ)) → count_by (λ part. is_observer_slot part.slot) (map (placed observer) ws) ≡ length ws
+count-observers [] = refl
+count-observers (w ∷ ws) = omega (arith, count_by-cons (λ part. is_observer_slot part.slot) (placed observer w) (map (placed observer) ws), count-observers ws)
+
+-- the size that stands before a message is the message's
+size-is : (v u : List ℕ) (n : ℕ) (message : List ℕ) → number_in 1 64 v ≡ Some n → msg_of u ≡ Some message → is_size (number_in 1 64 v) (length u / 2) ≡ true → n ≡ length message
+size-is v u n message is said together =
+    let sized : eqb (length u / 2) n ≡ true = sym (ap (λ o. is_size o (length u / 2)) is) ∙ together in
+    sym (eqb-true (length u / 2) n sized) ∙ half (length u) (length message) (msg_spelled u message said).1
+
+-- the line of a channel, by what its words say
+abbrev chan_args : List ℕ → ℕ → List ℕ → Valid → List ℕ → List Arg
+chan_args name n message valid objects = Name name ∷ Number n ∷ Bytes message ∷ ValidArg valid ∷ objects_said objects
+
+chan-some : (name : List ℕ) (n : ℕ) (message : List ℕ) (valid : Valid) (objects : List ℕ) → n ≡ length message → fews.is_few objects ≡ true → IsSome (decl_of kind.Chan (chan_args name n message valid objects))
+chan-some name n message valid objects sized few =
+    ap (λ b. is_some (option_map (λ (p : ChannelParts). decl.Chan p.0 p.1 p.2 p.3) (cond b (option_map (λ xs. (name, message, valid, xs)) (objects_of (objects_said objects))) None))) (eq-eqb n (length message) sized)
+    ∙ ap (λ (o : Option (List ℕ)). is_some (option_map (λ (p : ChannelParts). decl.Chan p.0 p.1 p.2 p.3) (option_map (λ xs. (name, message, valid, xs)) o))) (objects_of-said objects few)
+
+-- the slots of a channel's line
+abbrev chan_parts : List (List ℕ) → List Placed
+chan_parts ws = parts_of (slot.New ∷ size ∷ slot.Hex ∷ slot.Valid ∷ []) (Many observer) ws
+
+-- a right line of a channel makes its declaration, where its size is its message's and it hasn't too many observers
+chan-made : (decls : List Decl) (bytes : Option ℕ) (ws : List (List ℕ)) → fits (slot.New ∷ size ∷ slot.Hex ∷ slot.Valid ∷ []) (Many observer) ws ≡ true → AreRight decls bytes (chan_parts ws)
+    → go_together (Declare kind.Chan) (chan_parts ws) ≡ true → has_many_observers (chan_parts ws) ≡ false → IsSome (option_and_then (decl_of kind.Chan) (args_of decls (chan_parts ws)))
+chan-made decls bytes [] fit right together few = absurd (cc)
+chan-made decls bytes (w ∷ []) fit right together few = absurd (cc)
+chan-made decls bytes (w ∷ v ∷ []) fit right together few = absurd (cc)
+chan-made decls bytes (w ∷ v ∷ u ∷ []) fit right together few = absurd (cc)
+chan-made decls bytes (w ∷ v ∷ u ∷ t ∷ ws) fit right together few =
+    let rest = map (placed observer) ws in
+    let name : arg_of decls slot.New w ≡ Some (Name w) = cond-true (is_name w) (Some (Name w)) None (and_parts (is_name w) _ right.0.named).0 in
+    let n = is_some-some (number_in 1 64 v) right.1.0.in_range in
+    let message = message-said decls bytes u right.1.1.0 in
+    let valid = is_some-some (validator_of t) right.1.1.1.0.spelled in
+    let objects = objects-made decls bytes ws right.1.1.1.1 in
+    let args = args-cons decls slot.New w (placed size v ∷ placed slot.Hex u ∷ placed slot.Valid t ∷ rest) (Name w) (Number n.0 ∷ Bytes (bytes_of u) ∷ ValidArg valid.0 ∷ objects_said objects.0) name
+    (args-cons decls size v (placed slot.Hex u ∷ placed slot.Valid t ∷ rest) (Number n.0) (Bytes (bytes_of u) ∷ ValidArg valid.0 ∷ objects_said objects.0) (ap (option_map Number) n.1)
+    (args-cons decls slot.Hex u (placed slot.Valid t ∷ rest) (Bytes (bytes_of u)) (ValidArg valid.0 ∷ objects_said objects.0) (ap (option_map Bytes) message)
+    (args-cons decls slot.Valid t rest (ValidArg valid.0) (objects_said objects.0) (ap (option_map ValidArg) valid.1) objects.1))) in
+    let counted = ltb-false 8 (count_by (λ part. is_observer_slot part.slot) (chan_parts (w ∷ v ∷ u ∷ t ∷ ws))) few in
+    let all = count-all w v u t ws in
+    let short = le-leb (length objects.0) 8 (omega (arith, counted, all, objects.2)) in
+    ap (λ o. is_some (option_and_then (decl_of kind.Chan) o)) args ∙ chan-some w n.0 (bytes_of u) valid.0 objects.0 (size-is v u n.0 (bytes_of u) n.1 message together) short where
+      count-all : (w v u t : List ℕ) (ws : List (List ℕ)) → count_by (λ part. is_observer_slot part.slot) (chan_parts (w ∷ v ∷ u ∷ t ∷ ws)) ≡ length ws
+      count-all w v u t ws =
+          let p : Placed → Bool = λ part. is_observer_slot part.slot in
+          let rest = map (placed observer) ws in
+          omega (
+            arith,
+            count_by-cons p (placed slot.New w) (placed size v ∷ placed slot.Hex u ∷ placed slot.Valid t ∷ rest),
+            count_by-cons p (placed size v) (placed slot.Hex u ∷ placed slot.Valid t ∷ rest),
+            count_by-cons p (placed slot.Hex u) (placed slot.Valid t ∷ rest),
+            count_by-cons p (placed slot.Valid t) rest,
+            count-observers ws,
+          )
+
+abbrev is_channel : Kind → Bool
+is_channel kind.Chan = true
+is_channel k = false
+
+-- a right line of a kind other than a channel makes its declaration
+makes_other_decl : (k : Kind) → is_channel k ≡ false → Makes (kind_row k).slots (kind_row k).rest (decl_of k)
+makes_other_decl kind.Thread other = by_line (slot.New ∷ slot.Priority ∷ slot.Either Mode ∷ []) Nothing (three as_name as_priority (as_truth Mode)) (λ p. decl.Thread p.0 p.1 p.2) (playing Mode)
+makes_other_decl kind.Queue other = by_line (slot.New ∷ slot.Priority ∷ slot.Either State ∷ []) Nothing (three as_name as_priority (as_truth State)) (λ p. decl.Queue p.0 p.1 p.2) (playing State)
+makes_other_decl kind.Item other = by_line (slot.New ∷ []) Nothing (one as_name) decl.Item (one-line slot.New as_name name-made)
+makes_other_decl kind.Sem other = by_line (slot.New ∷ initial ∷ limit ∷ []) (Maybe slot.Raw) (three as_name as_number as_number) (λ p. decl.Sem p.0 p.1 p.2) (numbered 0 1000000 1 1000000)
+makes_other_decl kind.Msgq other = by_line (slot.New ∷ size ∷ capacity ∷ []) (Maybe slot.Raw) (three as_name as_number as_number) (λ p. decl.Msgq p.0 p.1 p.2) (numbered 1 64 1 256)
+makes_other_decl kind.Signal other = by_line (slot.New ∷ []) (Maybe slot.Raw) (one as_name) decl.Signal (one_maybe_raw-line slot.New as_name name-made)
+makes_other_decl kind.Listener other = by_line (slot.New ∷ []) Nothing (one as_name) decl.Listener (one-line slot.New as_name name-made)
+makes_other_decl kind.Sub other = by_line (slot.New ∷ capacity ∷ []) Nothing (two as_name as_number) (λ p. decl.Sub p.0 p.1) (two-line slot.New as_name capacity as_number name-made (number-made 1 256))
+makes_other_decl kind.Chan other = absurd (cc)
+
+-- a right line of a kind makes its declaration, where its numbers go together and it hasn't too many observers
+pub makes_decl : (k : Kind) (decls : List Decl) (bytes : Option ℕ) (ws : List (List ℕ)) → fits (kind_row k).slots (kind_row k).rest ws ≡ true → AreRight decls bytes (parts_of (kind_row k).slots (kind_row k).rest ws)
+    → go_together (Declare k) (parts_of (kind_row k).slots (kind_row k).rest ws) ≡ true → has_many_observers (parts_of (kind_row k).slots (kind_row k).rest ws) ≡ false
+    → IsSome (option_and_then (decl_of k) (args_of decls (parts_of (kind_row k).slots (kind_row k).rest ws)))
+makes_decl kind.Chan decls bytes ws fit right together few = chan-made decls bytes ws fit right together few
+makes_decl k decls bytes ws fit right together few = makes_other_decl k refl decls bytes ws fit right

@@ -12,7 +12,7 @@ use Rattle.zk_line.specs.declared.types.Decl.{Decl}
 use Rattle.zk_line.specs.declared.types.Arg.{Arg}
 use Rattle.zk_line.specs.declared.types.Arg.TheVariants.{Bytes}
 use Rattle.zk_line.specs.Args.{arg_of, args_of}
-use Rattle.zk_line.specs.Checks.{size_named, size_said, message_size, is_in_range, each_in_range, is_well_named, are_well_named}
+use Rattle.zk_line.specs.Checks.{size_named, size_said, message_size, is_in_range, each_in_range, is_well_named, each_well_named}
 use Rattle.zk_line.specs.Weights.{Weighs}
 
 -- the size of a line's messages, where its first words say these and the others follow
@@ -35,6 +35,7 @@ first_in_range decls slot.Priority word = refl
 first_in_range decls (slot.Either choice) word = refl
 first_in_range decls slot.Wait word = refl
 first_in_range decls slot.Event word = refl
+first_in_range decls slot.Valid word = refl
 first_in_range decls slot.Raw word = refl
 
 -- so the next word is in range as what was said before it asks
@@ -57,7 +58,7 @@ pub record IsReadTo (decls : List Decl) (whole : List Placed) (args : List Arg) 
   pub spelled : list_all part_is_spelled parts ≡ true
   pub sized : message_size decls whole ≡ size_with decls args parts
   pub in_range : each_in_range (message_size decls whole) whole ≡ each_in_range (message_size decls whole) parts
-  pub named : are_well_named decls whole ≡ are_well_named decls parts
+  pub named : each_well_named decls whole ≡ each_well_named decls parts
   pub said : args_of decls whole ≡ option_map (λ more. args ++ more) (args_of decls parts)
 
 -- it is read one word further
@@ -73,6 +74,6 @@ read_next decls whole args after parts left s word arg held is weighed same =
       spelled = (and_parts (is_spelled_in s word) (list_all part_is_spelled left) now.spelled).1;
       sized = now.sized ∙ sym (size_next decls args arg s word left weighed.2);
       in_range = now.in_range ∙ ap (λ b. b && each_in_range size left) in_range;
-      named = now.named ∙ ap (λ b. b && are_well_named decls left) weighed.1;
+      named = now.named ∙ ap (λ b. b && each_well_named decls left) weighed.1;
       said = now.said ∙ ap (λ o. option_map (λ xs. args ++ xs) (option_and_then (λ x. option_map (λ xs. x ∷ xs) (args_of decls left)) o)) weighed.2 ∙ said_next args arg (args_of decls left);
     })

@@ -12,7 +12,7 @@ use Rattle.zk_base.specs.Names.{is_name}
 use Rattle.zk_words.specs.declared.slot.Choice.{Choice}
 use Rattle.zk_words.specs.declared.slot.Slot.{Slot}
 use Rattle.zk_words.specs.declared.slot.Slot.TheVariants as slot
-use Rattle.zk_words.specs.declared.kind.Kind.{Kind}
+use Rattle.zk_model_bus.specs.declared.kinds.Kind.{Kind}
 use Rattle.zk_words.specs.declared.word.Word.{Word}
 use Rattle.zk_words.specs.declared.word.Head.TheVariants as head
 use Rattle.zk_words.specs.declared.event.Source.{Source}
@@ -26,21 +26,23 @@ use Rattle.zk_words.specs.Spelled.{choice_text}
 use Rattle.zk_words.specs.Table.{row_of}
 use Rattle.zk_words.specs.Text.{line_text}
 use Rattle.zk_words.specs.Timeouts.{wait_of}
+use Rattle.zk_words.specs.Validators.{validator_of}
 use Rattle.zk_words.proofs.HexText.{msg_spelled}
 use Rattle.zk_words.proofs.Numerals.{number_in_spelled, priority_spelled}
+use Rattle.zk_words.proofs.ValidatorText.{validator_spelled}
 use Rattle.zk_words.proofs.Waits.{wait_spelled}
 use Rattle.zk_line.specs.declared.types.Decl.{Decl}
 use Rattle.zk_line.specs.declared.types.Decl.TheVariants as decl
 use Rattle.zk_line.specs.declared.types.Ref.{Ref}
 use Rattle.zk_line.specs.declared.types.Ref.TheVariants.{Known}
 use Rattle.zk_line.specs.declared.types.Arg.{Arg}
-use Rattle.zk_line.specs.declared.types.Arg.TheVariants.{Name, Object, Number, Priority, Truth, Bytes, Wait, Event}
+use Rattle.zk_line.specs.declared.types.Arg.TheVariants.{Name, Object, Number, Priority, Truth, Bytes, Wait, Event, Valid}
 use Rattle.zk_line.specs.declared.events.Event.{Event as PollEvent}
 use Rattle.zk_line.specs.declared.events.Event.TheVariants as event
 use Rattle.zk_line.specs.declared.types.Call.{Call}
 use Rattle.zk_line.specs.Args.{truth_of, ref_of, event_of, arg_of, args_of, ref_name, event_text, arg_text}
 use Rattle.zk_line.specs.Calls.{call_of}
-use Rattle.zk_line.specs.Decls.{decl_of, decl_args}
+use Rattle.zk_line.specs.Decls.{decl_of}
 use Rattle.zk_line.specs.Few.{event_at}
 use Rattle.zk_line.specs.Objects.{object_of, name_of, name_at}
 use Rattle.zk_line.specs.Text.{said_line, decl_line, call_line}
@@ -132,6 +134,8 @@ arg_spelled decls slot.Wait word arg said =
     let part = one_part Wait (wait_of word) arg said in (wait_spelled word part.0 part.1).0 ∙ ap (arg_text decls) part.2
 arg_spelled decls slot.Event word arg said =
     let part = one_part Event (event_of decls word) arg said in event_spelled decls word part.0 part.1 ∙ ap (arg_text decls) part.2
+arg_spelled decls slot.Valid word arg said =
+    let part = one_part Valid (validator_of word) arg said in validator_spelled word part.0 part.1 ∙ ap (arg_text decls) part.2
 arg_spelled decls slot.Raw word arg said = absurd (cc)
 
 -- the words of a line that says something throughout are the texts of that
@@ -144,23 +148,13 @@ args_spelled decls (p ∷ ps) args said =
     ap (λ w. w ∷ map (λ q. q.text) ps) (arg_spelled decls p.slot p.text arg is_arg)
     ∙ ap (λ ws. arg_text decls arg ∷ ws) (args_spelled decls ps rest.0 rest.1) ∙ ap (map (arg_text decls)) rest.2)
 
--- how a declaration is written says nothing of other objects
-decl_text : (decls : List Decl) (d : Decl) → map (arg_text decls) (decl_args d) ≡ map (arg_text []) (decl_args d)
-decl_text decls (decl.Thread name prio user) = refl
-decl_text decls (decl.Queue name prio on) = refl
-decl_text decls (decl.Item name) = refl
-decl_text decls (decl.Sem name initial limit) = refl
-decl_text decls (decl.Msgq name size capacity) = refl
-decl_text decls (decl.Signal name) = refl
-
 -- a line that makes a declaration is the declaration's line
-pub decl_is_line : (decls : List Decl) (k : Kind) (parts : List Placed) (d : Decl) → option_and_then (decl_of k) (args_of decls parts) ≡ Some d → decl_line d ≡ line_text (form_words (head.Declare k) parts)
+pub decl_is_line : (decls : List Decl) (k : Kind) (parts : List Placed) (d : Decl) → option_and_then (decl_of k) (args_of decls parts) ≡ Some d → decl_line decls d ≡ line_text (form_words (head.Declare k) parts)
 decl_is_line decls k parts d made =
     option_and_then_some (decl_of k) (args_of decls parts) d made
     (λ args is_args given.
-    let is = written_of-decl_of k args d given in
-    ap (λ w. said_line [] (head.Declare w.kind) (decl_args d)) is
-    ∙ ap (λ ws. line_text ((row_of (head.Declare k)).first ∷ ws)) (sym (decl_text decls d) ∙ ap (λ w. map (arg_text decls) w.args) is ∙ sym (args_spelled decls parts args is_args)))
+    ap (λ w. said_line decls (head.Declare w.kind) w.args) (written_of-decl_of k args d given)
+    ∙ ap (λ ws. line_text ((row_of (head.Declare k)).first ∷ ws)) (sym (args_spelled decls parts args is_args)))
 
 -- a line that makes a call is the call's line
 pub call_is_line : (decls : List Decl) (w : Word) (parts : List Placed) (c : Call) → option_and_then (call_of w) (args_of decls parts) ≡ Some c → call_line decls c ≡ line_text (form_words (head.Call w) parts)

@@ -13,11 +13,12 @@ use Rattle.zk_words.specs.Numbers.{number_in, priority_of}
 use Rattle.zk_words.specs.Parts.{Placed}
 use Rattle.zk_words.specs.Spelled.{choice_text}
 use Rattle.zk_words.specs.Timeouts.{wait_of, wait_text}
+use Rattle.zk_words.specs.Validators.{validator_of, validator_text}
 use Rattle.zk_line.specs.declared.types.Decl.{Decl}
 use Rattle.zk_line.specs.declared.types.Ref.{Ref}
 use Rattle.zk_line.specs.declared.types.Ref.TheVariants.{Known}
 use Rattle.zk_line.specs.declared.types.Arg.{Arg}
-use Rattle.zk_line.specs.declared.types.Arg.TheVariants.{Name, Object, Number, Priority, Truth, Bytes, Wait, Event}
+use Rattle.zk_line.specs.declared.types.Arg.TheVariants.{Name, Object, Number, Priority, Truth, Bytes, Wait, Event, Valid}
 use Rattle.zk_line.specs.declared.events.Event.{Event as PollEvent}
 use Rattle.zk_line.specs.declared.events.Event.TheVariants as event
 use Rattle.zk_line.specs.Few.{event_at}
@@ -50,6 +51,7 @@ arg_of decls (slot.Either choice) word = option_map (Truth choice) (truth_of cho
 arg_of decls slot.Hex word = option_map Bytes (msg_of word)
 arg_of decls slot.Wait word = option_map Wait (wait_of word)
 arg_of decls slot.Event word = option_map Event (event_of decls word)
+arg_of decls slot.Valid word = option_map Valid (validator_of word)
 arg_of decls slot.Raw word = None
 
 -- what all words of a line say, where each says something
@@ -79,3 +81,4 @@ arg_text decls (Truth choice truth) = choice_text choice truth
 arg_text decls (Bytes message) = hex_text message
 arg_text decls (Wait wait) = wait_text wait
 arg_text decls (Event event) = event_text decls event
+arg_text decls (Valid valid) = validator_text valid

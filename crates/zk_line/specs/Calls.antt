@@ -1,5 +1,5 @@
 use Rattle.std.specs.Prelude.{List, [], ◌∷◌, map, Option, Some, None, option_map, option_to_list}
-use Rattle.zk_words.specs.declared.slot.Choice.TheVariants.{Drain}
+use Rattle.zk_words.specs.declared.slot.Choice.TheVariants.{State, Drain}
 use Rattle.zk_words.specs.declared.word.Word.{Word}
 use Rattle.zk_words.specs.declared.word.Word.TheVariants as word
 use Rattle.zk_line.specs.declared.types.Arg.{Arg}
@@ -47,6 +47,14 @@ call_of word.Raise args = option_map (λ p. call.Raise p.0 p.1) (two as_object a
 call_of word.Clear args = option_map call.Clear (one as_object args)
 call_of word.Check args = option_map call.Check (one as_object args)
 call_of word.Poll args = option_map (λ p. call.Poll p.0 p.1) (wait_events args)
+call_of word.Claim args = option_map (λ p. call.Claim p.0 p.1) (two as_object as_wait args)
+call_of word.Finish args = option_map call.Finish (one as_object args)
+call_of word.Publish args = option_map (λ p. call.Publish p.0 p.1 p.2) (three as_object as_bytes as_wait args)
+call_of word.Notify args = option_map (λ p. call.Notify p.0 p.1) (two as_object as_wait args)
+call_of word.Read args = option_map (λ p. call.Read p.0 p.1) (two as_object as_wait args)
+call_of word.Mask args = option_map (λ p. call.Mask p.0 p.1 p.2) (three as_object as_object (as_truth State) args)
+call_of word.Enable args = option_map (λ p. call.Enable p.0 p.1) (two as_object (as_truth State) args)
+call_of word.SubWait args = option_map (λ p. call.SubWait p.0 p.1) (two as_object as_wait args)
 
 -- how a call is written
 abbrev pub said_of : Call → Saying
@@ -77,6 +85,14 @@ said_of (call.Raise signal result) = saying word.Raise (Object signal ∷ Number
 said_of (call.Clear signal) = saying word.Clear (Object signal ∷ [])
 said_of (call.Check signal) = saying word.Check (Object signal ∷ [])
 said_of (call.Poll wait events) = saying word.Poll (Wait wait ∷ map Event events)
+said_of (call.Claim channel wait) = saying word.Claim (Object channel ∷ Wait wait ∷ [])
+said_of (call.Finish channel) = saying word.Finish (Object channel ∷ [])
+said_of (call.Publish channel message wait) = saying word.Publish (Object channel ∷ Bytes message ∷ Wait wait ∷ [])
+said_of (call.Notify channel wait) = saying word.Notify (Object channel ∷ Wait wait ∷ [])
+said_of (call.Read channel wait) = saying word.Read (Object channel ∷ Wait wait ∷ [])
+said_of (call.Mask channel observer on) = saying word.Mask (Object channel ∷ Object observer ∷ Truth State on ∷ [])
+said_of (call.Enable observer on) = saying word.Enable (Object observer ∷ Truth State on ∷ [])
+said_of (call.SubWait sub wait) = saying word.SubWait (Object sub ∷ Wait wait ∷ [])
 
 -- the word of a call
 abbrev pub word_of : Call → Word

@@ -1,8 +1,10 @@
 use Rattle.std.specs.Prelude.{ℕ, Bool, true, false, not, ◌==◌, ◌/◌, nat_le, nat_lt, ◌&&◌, ◌||◌, count_by, Option, Some, None, List, [], ◌∷◌, length, is_some, option_and_then}
-use Rattle.std.specs.List.{list_all}
+use Rattle.std.specs.List.{list_all, list_any}
+use Rattle.std.specs.Str.{bytes_eq}
 use Rattle.std.specs.Option.{option_flatten, option_map_or}
 use Rattle.zk_base.specs.Names.{is_name}
-use Rattle.zk_words.specs.declared.kind.Kind.TheVariants as kind
+use Rattle.zk_model_bus.specs.declared.kinds.Kind.TheVariants as kind
+use Rattle.zk_model_bus.specs.declared.kinds.Need.TheVariants as need
 use Rattle.zk_words.specs.declared.slot.Slot.{Slot}
 use Rattle.zk_words.specs.declared.slot.Slot.TheVariants.{New, Owner, Object, Number, Priority, Hex, Wait, Event, Raw}
 use Rattle.zk_words.specs.declared.word.Head.{Head}
@@ -63,9 +65,11 @@ each_in_range size parts = list_all (λ part. is_in_range size part.slot part.te
 abbrev pub is_up_to : List ℕ → List ℕ → Bool
 is_up_to initial limit = option_map_or (λ most. is_some (number_in 0 most initial)) (number_in 1 1000000 limit) false
 
--- whether the numbers of a line go together: those of a semaphore
+-- whether the numbers of a line go together: those of a semaphore, and a channel's size and its message
 abbrev pub go_together : Head → List Placed → Bool
 go_together (Declare kind.Sem) (name ∷ initial ∷ limit ∷ parts) = is_up_to initial.text limit.text
+go_together (Declare kind.Chan) (name ∷ size ∷ message ∷ parts) =
+    is_size (number_in 1 64 size.text) (length message.text / 2)
 go_together head parts = true
 
 -- whether no number of a line is out of its range, and no message of the wrong size
@@ -85,8 +89,30 @@ is_well_named decls Raw word = false
 is_well_named decls slot word = true
 
 -- whether each word of a line is
+abbrev pub each_well_named : List Decl → List Placed → Bool
+each_well_named decls parts = list_all (λ part. is_well_named decls part.slot part.text) parts
+
+-- whether a slot is that of an observer
+abbrev pub is_observer_slot : Slot → Bool
+is_observer_slot (Object need.Obs) = true
+is_observer_slot slot = false
+
+-- whether one of the words of a line names this observer
+abbrev pub names_observer : List ℕ → List Placed → Bool
+names_observer name parts = list_any (λ part. is_observer_slot part.slot && bytes_eq part.text name) parts
+
+-- whether no observer is named twice
+abbrev pub name_once : List Placed → Bool
+name_once [] = true
+name_once (part ∷ parts) = not (is_observer_slot part.slot && names_observer part.text parts) && name_once parts
+
+-- whether each name of a line may stand where it does, and no observer is named twice
 abbrev pub are_well_named : List Decl → List Placed → Bool
-are_well_named decls parts = list_all (λ part. is_well_named decls part.slot part.text) parts
+are_well_named decls parts = each_well_named decls parts && name_once parts
+
+-- whether a line names more observers than a channel may have
+abbrev pub has_many_observers : List Placed → Bool
+has_many_observers parts = nat_lt 8 (count_by (λ part. is_observer_slot part.slot) parts)
 
 -- whether a slot is that of an event
 abbrev pub is_event_slot : Slot → Bool

@@ -1,12 +1,15 @@
-use Rattle.std.specs.Prelude.{List, [], ◌∷◌, Option, option_map}
+use Rattle.std.specs.Prelude.{ℕ, List, [], ◌∷◌, length, map, Option, None, Some, option_map}
 use Rattle.zk_words.specs.declared.slot.Choice.TheVariants.{Mode, State}
-use Rattle.zk_words.specs.declared.kind.Kind.{Kind}
-use Rattle.zk_words.specs.declared.kind.Kind.TheVariants as kind
+use Rattle.zk_model_bus.specs.declared.kinds.Kind.{Kind}
+use Rattle.zk_model_bus.specs.declared.kinds.Kind.TheVariants as kind
 use Rattle.zk_line.specs.declared.types.Decl.{Decl}
 use Rattle.zk_line.specs.declared.types.Decl.TheVariants as decl
 use Rattle.zk_line.specs.declared.types.Arg.{Arg}
-use Rattle.zk_line.specs.declared.types.Arg.TheVariants.{Name, Number, Priority, Truth}
-use Rattle.zk_line.specs.Shapes.{as_name, as_number, as_priority, as_truth, one, three}
+use Rattle.zk_line.specs.declared.types.Arg.TheVariants.{Name, Number, Priority, Truth, Object, Bytes, Valid}
+use Rattle.zk_line.specs.declared.types.Ref.TheVariants.{Known}
+use Rattle.zk_line.specs.declared.decls.Channel.{Channel}
+use Rattle.zk_line.specs.Objects.{kind_of}
+use Rattle.zk_line.specs.Shapes.{as_name, as_number, as_priority, as_truth, one, two, three, channel_parts}
 
 -- the declaration of a kind and what stands behind it
 abbrev pub decl_of : Kind → List Arg → Option Decl
@@ -16,6 +19,13 @@ decl_of kind.Item args = option_map decl.Item (one as_name args)
 decl_of kind.Sem args = option_map (λ p. decl.Sem p.0 p.1 p.2) (three as_name as_number as_number args)
 decl_of kind.Msgq args = option_map (λ p. decl.Msgq p.0 p.1 p.2) (three as_name as_number as_number args)
 decl_of kind.Signal args = option_map decl.Signal (one as_name args)
+decl_of kind.Listener args = option_map decl.Listener (one as_name args)
+decl_of kind.Sub args = option_map (λ p. decl.Sub p.0 p.1) (two as_name as_number args)
+decl_of kind.Chan args = option_map (λ p. decl.Chan p.0 p.1 p.2 p.3) (channel_parts args)
+
+-- objects as they are written
+abbrev pub objects_said : List ℕ → List Arg
+objects_said objects = map (λ object. Object (Known object)) objects
 
 -- how a declaration is written, behind its kind
 abbrev pub decl_args : Decl → List Arg
@@ -25,3 +35,26 @@ decl_args (decl.Item name) = Name name ∷ []
 decl_args (decl.Sem name initial limit) = Name name ∷ Number initial ∷ Number limit ∷ []
 decl_args (decl.Msgq name size capacity) = Name name ∷ Number size ∷ Number capacity ∷ []
 decl_args (decl.Signal name) = Name name ∷ []
+decl_args (decl.Listener name) = Name name ∷ []
+decl_args (decl.Sub name capacity) = Name name ∷ Number capacity ∷ []
+decl_args (decl.Chan name message valid observers) =
+    Name name ∷ Number (length message) ∷ Bytes message ∷ Valid valid ∷ objects_said observers
+
+-- what stands behind the name of a channel, where there is one
+abbrev pub channel_said : Option Channel → List Arg
+channel_said None = []
+channel_said (Some channel) =
+    Number (length channel.message) ∷ Bytes channel.message ∷ Valid channel.valid ∷ objects_said channel.observers
+
+-- a declaration as it is written: its kind, and what stands behind that
+pub record Written : Type 0 where
+  pub kind : Kind
+  pub args : List Arg
+
+-- a kind and what stands behind it
+abbrev pub written : Kind → List Arg → Written
+written kind args = record { kind = kind; args = args }
+
+-- how a declaration is written
+abbrev pub written_of : Decl → Written
+written_of decl = written (kind_of decl) (decl_args decl)

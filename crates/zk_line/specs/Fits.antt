@@ -1,16 +1,18 @@
-use Rattle.std.specs.Prelude.{ℕ, Bool, true, nat_le, ◌&&◌, Option, List, [], ◌∷◌, length}
-use Rattle.std.specs.List.{list_all}
-use Rattle.zk_words.specs.declared.kind.Need.{Need}
-use Rattle.zk_words.specs.declared.kind.Need.TheVariants as need
+use Rattle.std.specs.Prelude.{◌≡◌, ℕ, Bool, true, not, ◌==◌, nat_le, ◌&&◌, Option, Some, List, [], ◌∷◌, length, take, slice_get}
+use Rattle.std.specs.List.{list_all, list_any}
+use Rattle.zk_base.specs.Fews as fews
+use Rattle.zk_base.specs.Messages.{is_message}
+use Rattle.zk_model_bus.specs.declared.kinds.Need.{Need}
+use Rattle.zk_model_bus.specs.declared.kinds.Need.TheVariants as need
 use Rattle.zk_words.specs.declared.slot.Slot.{Slot}
 use Rattle.zk_words.specs.declared.slot.Slot.TheVariants as slot
 use Rattle.zk_words.specs.declared.slot.Rest.{Rest}
-use Rattle.zk_words.specs.declared.slot.Rest.TheVariants.{Maybe, Events}
+use Rattle.zk_words.specs.declared.slot.Rest.TheVariants.{Maybe, Many, Events}
 use Rattle.zk_words.specs.Numbers.{is_between}
 use Rattle.zk_words.specs.Table.{call_row}
 use Rattle.zk_words.specs.Timeouts.{wait_fits}
 use Rattle.zk_line.specs.declared.types.Decl.{Decl}
-use Rattle.zk_line.specs.declared.types.Decl.TheVariants.{Sem, Msgq}
+use Rattle.zk_line.specs.declared.types.Decl.TheVariants.{Sem, Msgq, Sub, Chan}
 use Rattle.zk_line.specs.declared.events.Event.{Event}
 use Rattle.zk_line.specs.declared.events.Event.TheVariants as event
 use Rattle.zk_line.specs.declared.types.Ref.{Ref}
@@ -18,9 +20,11 @@ use Rattle.zk_line.specs.declared.types.Ref.TheVariants.{Known}
 use Rattle.zk_line.specs.declared.types.Arg.{Arg}
 use Rattle.zk_line.specs.declared.types.Arg.TheVariants as arg
 use Rattle.zk_line.specs.declared.types.Call.{Call}
+use Rattle.zk_line.specs.declared.types.Call.TheVariants as call
 use Rattle.zk_line.specs.Calls.{said_of}
 use Rattle.zk_line.specs.Checks.{size_said, is_size}
-use Rattle.zk_line.specs.Objects.{is_at, is_met}
+use Rattle.zk_line.specs.Few.{is_few}
+use Rattle.zk_line.specs.Objects.{is_at, is_met, is_observer, observers_of}
 
 -- whether an object is declared and meets a need
 abbrev pub ref_fits : List Decl → Need → Ref → Bool
@@ -45,6 +49,7 @@ fits_in decls size slot arg = true
 -- whether what stands behind the slots fits
 abbrev pub rest_fit : List Decl → Option ℕ → Rest → List Arg → Bool
 rest_fit decls size (Maybe slot) (arg ∷ args) = fits_in decls size slot arg
+rest_fit decls size (Many slot) args = list_all (fits_in decls size slot) args
 rest_fit decls size Events args = list_all (fits_in decls size slot.Event) args
 rest_fit decls size rest args = true
 
@@ -54,15 +59,38 @@ args_fit decls size [] rest args = rest_fit decls size rest args
 args_fit decls size (slot ∷ slots) rest [] = true
 args_fit decls size (slot ∷ slots) rest (arg ∷ args) = fits_in decls size slot arg && args_fit decls size slots rest args
 
--- whether each object of a call is declared and of the kind that the call asks for, each number is in range, and a
--- message has the size of its message queue
+-- whether the events of a call are 1 to 8, where it is a poll
+abbrev pub has_few_events : Call → Bool
+has_few_events (call.Poll wait events) = is_few events
+has_few_events call = true
+
+-- whether each object of a call is declared and of the kind that the call asks for, each number is in range, a message
+-- has the size of its message queue or channel, and the events of a poll are few
 abbrev pub call_fits : List Decl → Call → Bool
 call_fits decls call =
     let said = said_of call in
-    let form = call_row said.word in args_fit decls (size_said decls said.args) form.slots form.rest said.args
+    let form = call_row said.word in
+    has_few_events call && args_fit decls (size_said decls said.args) form.slots form.rest said.args
 
--- whether what is declared is in range: a semaphore's first count and limit, a message queue's size and room
+-- whether numbers are different, each from all others
+abbrev pub all_different : List ℕ → Bool
+all_different [] = true
+all_different (n ∷ ns) = not (list_any (λ m. m == n) ns) && all_different ns
+
+-- whether what is declared is in range: a semaphore's first count and limit, a message queue's size and room, what a
+-- subscriber has room for, the length of a channel's message; and a channel's observers are few and different
 abbrev pub decl_fits : Decl → Bool
 decl_fits (Sem name initial limit) = is_between 1 1000000 limit && nat_le initial limit
 decl_fits (Msgq name size capacity) = is_between 1 64 size && is_between 1 256 capacity
+decl_fits (Sub name capacity) = is_between 1 256 capacity
+decl_fits (Chan name message valid observers) = is_message message && fews.is_few observers && all_different observers
 decl_fits decl = true
+
+-- whether the observers of what is declared are subscribers and listeners among these declarations
+abbrev pub observers_fit : List Decl → Decl → Bool
+observers_fit decls decl = list_all (is_at is_observer decls) (observers_of decl)
+
+-- the observers of each channel are subscribers and listeners that are declared before it
+abbrev pub AreObserved : List Decl → Type 0
+AreObserved decls =
+    (object : ℕ) (decl : Decl) → slice_get decls object ≡ Some decl → observers_fit (take object decls) decl ≡ true

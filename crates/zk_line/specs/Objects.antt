@@ -2,13 +2,15 @@ use Rattle.std.specs.Prelude.{◌≡◌, ℕ, ◌^◌, ◌+◌, ◌<◌, Bool, f
 use Rattle.std.specs.List.{position}
 use Rattle.std.specs.Option.{option_map_or}
 use Rattle.std.specs.Str.{bytes_eq}
-use Rattle.zk_words.specs.declared.kind.Kind.{Kind}
-use Rattle.zk_words.specs.declared.kind.Kind.TheVariants as kind
-use Rattle.zk_words.specs.declared.kind.Need.{Need}
+use Rattle.zk_model_bus.specs.declared.kinds.Kind.{Kind}
+use Rattle.zk_model_bus.specs.declared.kinds.Kind.TheVariants as kind
+use Rattle.zk_model_bus.specs.declared.kinds.Need.{Need}
+use Rattle.zk_model_bus.specs.declared.kinds.Need.TheVariants as need
+use Rattle.zk_model_bus.specs.Table as tables
 use Rattle.zk_words.specs.Kinds as kinds
 use Rattle.zk_line.specs.declared.names.Names.{Names}
 use Rattle.zk_line.specs.declared.types.Decl.{Decl}
-use Rattle.zk_line.specs.declared.types.Decl.TheVariants.{Thread, Queue, Item, Sem, Msgq, Signal}
+use Rattle.zk_line.specs.declared.types.Decl.TheVariants.{Thread, Queue, Item, Sem, Msgq, Signal, Listener, Sub, Chan}
 use Rattle.zk_line.specs.ByName.{by_name}
 
 -- the kind of what is declared
@@ -19,6 +21,9 @@ kind_of (Item name) = kind.Item
 kind_of (Sem name initial limit) = kind.Sem
 kind_of (Msgq name size capacity) = kind.Msgq
 kind_of (Signal name) = kind.Signal
+kind_of (Listener name) = kind.Listener
+kind_of (Sub name capacity) = kind.Sub
+kind_of (Chan name message valid observers) = kind.Chan
 
 -- the name that a declaration gives
 abbrev pub name_of : Decl → List ℕ
@@ -28,10 +33,13 @@ name_of (Item name) = name
 name_of (Sem name initial limit) = name
 name_of (Msgq name size capacity) = name
 name_of (Signal name) = name
+name_of (Listener name) = name
+name_of (Sub name capacity) = name
+name_of (Chan name message valid observers) = name
 
 -- whether a declaration is of a kind
 abbrev pub is_of : Kind → Decl → Bool
-is_of kind decl = kinds.same_kind (kind_of decl) kind
+is_of kind decl = tables.same_kind (kind_of decl) kind
 
 -- whether a declaration is of a thread
 abbrev pub is_thread : Decl → Bool
@@ -57,17 +65,40 @@ is_msgq decl = is_of kind.Msgq decl
 abbrev pub is_signal : Decl → Bool
 is_signal decl = is_of kind.Signal decl
 
--- the test for declarations of the same kind
+-- whether a declaration is of a listener
+abbrev pub is_listener : Decl → Bool
+is_listener decl = is_of kind.Listener decl
+
+-- whether a declaration is of a channel
+abbrev pub is_chan : Decl → Bool
+is_chan decl = is_of kind.Chan decl
+
+-- whether what is declared meets a need
+abbrev pub is_met : Need → Decl → Bool
+is_met need decl = tables.meets need (kind_of decl)
+
+-- whether a declaration is of an observer: a subscriber or a listener
+abbrev pub is_observer : Decl → Bool
+is_observer decl = is_met need.Obs decl
+
+-- whether a declaration counts with those of a kind: it is of that kind, and subscribers and listeners count together
+abbrev pub counts_with : Kind → Decl → Bool
+counts_with kind.Listener decl = is_observer decl
+counts_with kind.Sub decl = is_observer decl
+counts_with kind decl = is_of kind decl
+
+-- the test for declarations that count with this one
 abbrev pub same_kind : Decl → Decl → Bool
-same_kind decl = is_of (kind_of decl)
+same_kind decl = counts_with (kind_of decl)
 
 -- whether what is declared can play a script
 abbrev pub plays_script : Decl → Bool
 plays_script decl = kinds.plays_script (kind_of decl)
 
--- whether what is declared meets a need
-abbrev pub is_met : Need → Decl → Bool
-is_met need decl = kinds.meets need (kind_of decl)
+-- the observers of a channel, as object numbers
+abbrev pub observers_of : Decl → List ℕ
+observers_of (Chan name message valid observers) = observers
+observers_of decl = []
 
 -- the positions of the elements that pass a test, counted from the first one's own position
 abbrev pub places_from : ℕ → (Decl → Bool) → List Decl → List ℕ
@@ -82,7 +113,7 @@ places test decls = places_from 0 test decls
 abbrev pub player_count : List Decl → ℕ
 player_count decls = count_by is_thread decls + count_by is_queue decls
 
--- the number of an object among those of its kind, from 0 in declared order
+-- the number of an object among those that it counts with, from 0 in declared order
 abbrev pub number_of : List Decl → ℕ → ℕ
 number_of decls object = option_map_or (λ d. count_by (same_kind d) (take object decls)) (slice_get decls object) 0
 
@@ -105,6 +136,7 @@ names test decls name = option_map_or (is_at test decls) (object_of decls name) 
 -- how many bytes each message of what is declared has, if it has messages
 abbrev pub size_of : Decl → Option ℕ
 size_of (Msgq name size capacity) = Some size
+size_of (Chan name message valid observers) = Some (length message)
 size_of decl = None
 
 -- how many bytes each message of an object has, if it is declared and has messages
@@ -112,13 +144,16 @@ abbrev pub size_at : List Decl → ℕ → Option ℕ
 size_at decls object = option_and_then size_of (slice_get decls object)
 
 -- the list of a declaration's kind, among those of all kinds
-abbrev pub own_list : Decl → List ℕ → List ℕ → List ℕ → List ℕ → List ℕ → List ℕ → List ℕ
-own_list (Thread name prio user) threads queues items sems msgqs signals = threads
-own_list (Queue name prio on) threads queues items sems msgqs signals = queues
-own_list (Item name) threads queues items sems msgqs signals = items
-own_list (Sem name initial limit) threads queues items sems msgqs signals = sems
-own_list (Msgq name size capacity) threads queues items sems msgqs signals = msgqs
-own_list (Signal name) threads queues items sems msgqs signals = signals
+abbrev pub own_list : Decl → List ℕ → List ℕ → List ℕ → List ℕ → List ℕ → List ℕ → List ℕ → List ℕ → List ℕ
+own_list (Thread name prio user) threads queues items sems msgqs signals chans observers = threads
+own_list (Queue name prio on) threads queues items sems msgqs signals chans observers = queues
+own_list (Item name) threads queues items sems msgqs signals chans observers = items
+own_list (Sem name initial limit) threads queues items sems msgqs signals chans observers = sems
+own_list (Msgq name size capacity) threads queues items sems msgqs signals chans observers = msgqs
+own_list (Signal name) threads queues items sems msgqs signals chans observers = signals
+own_list (Listener name) threads queues items sems msgqs signals chans observers = observers
+own_list (Sub name capacity) threads queues items sems msgqs signals chans observers = observers
+own_list (Chan name message valid own) threads queues items sems msgqs signals chans observers = chans
 
 -- a list of objects after one more declaration, which stands in it where it passes the list's test
 abbrev pub grown : (Decl → Bool) → Decl → ℕ → List ℕ → List ℕ
@@ -129,7 +164,7 @@ abbrev pub HasRoom : ℕ → ℕ → Type 0
 HasRoom len capacity = (len < capacity) × (len < 2 ^ 32)
 
 -- the tables say what the declarations say
-pub record IsTabled (decls : List Decl) (threads queues items sems msgqs signals numbers : List ℕ) (names : Names) : Type 0 where
+pub record IsTabled (decls : List Decl) (threads queues items sems msgqs signals chans observers numbers : List ℕ) (names : Names) : Type 0 where
   pub few : length decls < 2 ^ 32
   pub each_thread : threads ≡ places is_thread decls
   pub each_queue : queues ≡ places is_queue decls
@@ -137,6 +172,8 @@ pub record IsTabled (decls : List Decl) (threads queues items sems msgqs signals
   pub each_sem : sems ≡ places is_sem decls
   pub each_msgq : msgqs ≡ places is_msgq decls
   pub each_signal : signals ≡ places is_signal decls
+  pub each_chan : chans ≡ places is_chan decls
+  pub each_observer : observers ≡ places is_observer decls
   pub long : length numbers ≡ length decls
   pub each_number : (object : ℕ) → unwrap_or (slice_get numbers object) 0 ≡ number_of decls object
   pub each_name : (name : List ℕ) → by_name names name ≡ object_of decls name

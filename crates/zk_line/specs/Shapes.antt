@@ -1,11 +1,14 @@
-use Rattle.std.specs.Prelude.{ℕ, ℤ, Bool, nat_lt, List, [], ◌∷◌, Option, Some, None, option_map, option_and_then, if◌then◌else◌}
+use Rattle.std.specs.Prelude.{ℕ, ℤ, Bool, nat_lt, ◌==◌, List, [], ◌∷◌, length, Option, Some, None, option_map, option_and_then, if◌then◌else◌}
+use Rattle.zk_base.specs.Fews as fews
+use Rattle.zk_model_bus.specs.declared.channel.Valid.{Valid}
 use Rattle.zk_words.specs.declared.slot.Choice.{Choice}
 use Rattle.zk_words.specs.declared.timeout.Timeout.{Timeout}
 use Rattle.zk_words.specs.Spelled.{same_choice}
 use Rattle.zk_line.specs.declared.types.Ref.{Ref}
+use Rattle.zk_line.specs.declared.types.Ref.TheVariants.{Known}
 use Rattle.zk_line.specs.declared.events.Event.{Event as PollEvent}
 use Rattle.zk_line.specs.declared.types.Arg.{Arg}
-use Rattle.zk_line.specs.declared.types.Arg.TheVariants.{Name, Object, Number, Priority, Truth, Bytes, Wait, Event}
+use Rattle.zk_line.specs.declared.types.Arg.TheVariants.{Name, Object, Number, Priority, Truth, Bytes, Wait, Event, Valid as ValidArg}
 use Rattle.zk_line.specs.Few.{is_few}
 
 -- the name that an argument is, if it is one
@@ -17,6 +20,11 @@ as_name arg = None
 abbrev pub as_object : Arg → Option Ref
 as_object (Object object) = Some object
 as_object arg = None
+
+-- the number of the object that it is
+abbrev pub as_known : Arg → Option ℕ
+as_known (Object (Known object)) = Some object
+as_known arg = None
 
 -- the number that it is
 abbrev pub as_number : Arg → Option ℕ
@@ -101,3 +109,25 @@ events_of args = option_and_then few_events (all_events args)
 abbrev pub wait_events : List Arg → Option (Timeout × List PollEvent)
 wait_events (Wait wait ∷ args) = option_map (λ events. (wait, events)) (events_of args)
 wait_events args = None
+
+-- the objects that all arguments are
+abbrev pub all_objects : List Arg → Option (List ℕ)
+all_objects [] = Some []
+all_objects (arg ∷ args) =
+    option_and_then (λ object. option_map (λ objects. object ∷ objects) (all_objects args)) (as_known arg)
+
+-- objects that are those of a channel, 8 at most
+abbrev pub few_objects : List ℕ → Option (List ℕ)
+few_objects objects = (if fews.is_few objects then Some objects else None)
+
+-- the observers of a channel that all arguments are
+abbrev pub objects_of : List Arg → Option (List ℕ)
+objects_of args = option_and_then few_objects (all_objects args)
+
+-- a channel's name, its first message, behind the size of that, what messages it takes, and its observers
+abbrev pub channel_parts : List Arg → Option (List ℕ × List ℕ × Valid × List ℕ)
+channel_parts (Name name ∷ Number size ∷ Bytes message ∷ ValidArg valid ∷ args) =
+    if size == length message
+    then option_map (λ observers. (name, message, valid, observers)) (objects_of args)
+    else None
+channel_parts args = None

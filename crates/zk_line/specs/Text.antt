@@ -8,16 +8,15 @@ use Rattle.zk_line.specs.declared.types.Arg.{Arg}
 use Rattle.zk_line.specs.declared.types.Call.{Call}
 use Rattle.zk_line.specs.Args.{arg_text}
 use Rattle.zk_line.specs.Calls.{said_of}
-use Rattle.zk_line.specs.Decls.{decl_args}
-use Rattle.zk_line.specs.Objects.{kind_of}
+use Rattle.zk_line.specs.Decls.{written_of}
 
 -- the line of a head and what stands behind it
 abbrev pub said_line : List Decl → Head → List Arg → List ℕ
 said_line decls head args = line_text ((row_of head).first ∷ map (arg_text decls) args)
 
--- the line of a declaration
-abbrev pub decl_line : Decl → List ℕ
-decl_line decl = said_line [] (head.Declare (kind_of decl)) (decl_args decl)
+-- the line of a declaration, which may name objects that are declared
+abbrev pub decl_line : List Decl → Decl → List ℕ
+decl_line decls decl = let said = written_of decl in said_line decls (head.Declare said.kind) said.args
 
 -- the line of a call
 abbrev pub call_line : List Decl → Call → List ℕ

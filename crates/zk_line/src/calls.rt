@@ -4,7 +4,7 @@ ghost use Rattle.zk_line.specs.Calls.{saying, call_of, said_of, word_of};
 use crate::events::Events;
 use crate::shapes::{
     object_bytes_wait, object_maybe, object_number, object_result, object_truth, object_wait,
-    one_number, one_object, two_objects_number, wait_events,
+    one_number, one_object, two_objects_number, two_objects_truth, wait_events,
 };
 use crate::types::{Arg, Call, Ref};
 use std::marker::Model;
@@ -62,6 +62,14 @@ pub fn call_of(word: Word, args: &[Arg]) -> Option<Call>
         Word::Clear => one_object(args).map(Call::Clear),
         Word::Check => one_object(args).map(Call::Check),
         Word::Poll => wait_events(args).map(|p| Call::Poll(p.0, p.1)),
+        Word::Claim => object_wait(args).map(|p| Call::Claim(p.0, p.1)),
+        Word::Finish => one_object(args).map(Call::Finish),
+        Word::Publish => object_bytes_wait(args).map(|p| Call::Publish(p.0, p.1, p.2)),
+        Word::Notify => object_wait(args).map(|p| Call::Notify(p.0, p.1)),
+        Word::Read => object_wait(args).map(|p| Call::Read(p.0, p.1)),
+        Word::Mask => two_objects_truth(Choice::State, args).map(|p| Call::Mask(p.0, p.1, p.2)),
+        Word::Enable => object_truth(Choice::State, args).map(|p| Call::Enable(p.0, p.1)),
+        Word::SubWait => object_wait(args).map(|p| Call::SubWait(p.0, p.1)),
     }
 }
 
@@ -102,6 +110,18 @@ pub fn said_of(call: &Call) -> Said
         Call::Clear(signal) => of_one(Word::Clear, object(signal)),
         Call::Check(signal) => of_one(Word::Check, object(signal)),
         Call::Poll(wait, events) => polled(*wait, events),
+        Call::Claim(channel, wait) => of_two(Word::Claim, object(channel), Arg::Wait(*wait)),
+        Call::Finish(channel) => of_one(Word::Finish, object(channel)),
+        Call::Publish(channel, message, wait) => sent(Word::Publish, channel, message, *wait),
+        Call::Notify(channel, wait) => of_two(Word::Notify, object(channel), Arg::Wait(*wait)),
+        Call::Read(channel, wait) => of_two(Word::Read, object(channel), Arg::Wait(*wait)),
+        Call::Mask(channel, observer, on) => masked(channel, observer, *on),
+        Call::Enable(observer, on) => of_two(
+            Word::Enable,
+            object(observer),
+            Arg::Truth(Choice::State, *on),
+        ),
+        Call::SubWait(sub, wait) => of_two(Word::SubWait, object(sub), Arg::Wait(*wait)),
     }
 }
 
@@ -161,6 +181,21 @@ fn sent(word: Word, to: &Ref, message: &Msg, wait: Timeout) -> Said
             Some(object(to)),
             Some(Arg::Bytes(*message)),
             Some(Arg::Wait(wait)),
+        ],
+        events: None,
+    }
+}
+
+fn masked(channel: &Ref, observer: &Ref, on: bool) -> Said
+    ensures { result ≡ saying Word.Mask
+        (Arg.Object channel.now ∷ Arg.Object observer.now ∷ Arg.Truth Choice.State on ∷ []) }
+{
+    Said {
+        word: Word::Mask,
+        args: [
+            Some(object(channel)),
+            Some(object(observer)),
+            Some(Arg::Truth(Choice::State, on)),
         ],
         events: None,
     }

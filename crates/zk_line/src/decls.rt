@@ -1,11 +1,42 @@
 ghost use Rattle.std.specs.Prelude.{◌≡◌, [], ◌∷◌};
-ghost use Rattle.zk_line.specs.Calls.{standing};
-ghost use Rattle.zk_line.specs.Decls.{decl_of, decl_args};
+ghost use Rattle.zk_line.specs.Decls.{decl_of, written, written_of};
 
-use crate::shapes::{name_priority_truth, name_two_numbers, one_name};
+use crate::shapes::{channel_parts, name_number, name_priority_truth, name_two_numbers, one_name};
 use crate::types::{Arg, Decl};
-use zk_base::Name;
-use zk_words::{Choice, Kind};
+use std::marker::Model;
+use zk_base::{Few, Msg, Name};
+use zk_words::{Choice, Kind, Valid};
+
+/// What stands behind the name of a channel; the length of its message stands before that.
+#[derive(Clone, Copy, Debug)]
+pub struct Channel {
+    /// The message that it has at first.
+    pub message: Msg,
+    /// What messages it takes.
+    pub valid: Valid,
+    /// Its observers, by object number.
+    pub observers: Few,
+}
+
+/// A declaration as it is written: its kind, and what stands behind that.
+#[derive(Drop)]
+pub struct Written {
+    pub kind: Kind,
+    // From the left as many as there are.
+    pub args: [Option<Arg>; 3],
+    // Behind those.
+    pub channel: Option<Channel>,
+}
+
+impl Model for Written {
+    ghost use Rattle.std.specs.Prelude.{◌++◌};
+    ghost use Rattle.zk_line.specs.Calls.{standing};
+    ghost use Rattle.zk_line.specs.Decls.{Written as Saying, written, channel_said};
+
+    ghost Value = { Saying };
+
+    ghost view = { λ w. written w.kind (standing w.args ++ channel_said w.channel) };
+}
 
 /// The declaration of a kind and what stands behind it.
 pub fn decl_of(kind: Kind, args: &[Arg]) -> Option<Decl>
@@ -20,37 +51,77 @@ pub fn decl_of(kind: Kind, args: &[Arg]) -> Option<Decl>
         Kind::Sem => name_two_numbers(args).map(|p| Decl::Sem(p.0, p.1, p.2)),
         Kind::Msgq => name_two_numbers(args).map(|p| Decl::Msgq(p.0, p.1, p.2)),
         Kind::Signal => one_name(args).map(Decl::Signal),
+        Kind::Listener => one_name(args).map(Decl::Listener),
+        Kind::Sub => name_number(args).map(|p| Decl::Sub(p.0, p.1)),
+        Kind::Chan => channel_parts(args).map(|p| Decl::Chan(p.0, p.1, p.2, p.3)),
     }
 }
 
-/// How a declaration is written, behind its kind.
-pub fn decl_args(decl: &Decl) -> [Option<Arg>; 3]
-    ensures { standing result ≡ decl_args decl.now }
+/// How a declaration is written.
+pub fn written_of(decl: &Decl) -> Written
+    ensures { result ≡ written_of decl.now }
 {
     match decl {
-        Decl::Thread(name, prio, user) => [
-            Some(Arg::Name(*name)),
-            Some(Arg::Priority(*prio)),
-            Some(Arg::Truth(Choice::Mode, *user)),
-        ],
-        Decl::Queue(name, prio, on) => [
-            Some(Arg::Name(*name)),
-            Some(Arg::Priority(*prio)),
-            Some(Arg::Truth(Choice::State, *on)),
-        ],
-        Decl::Item(name) => [Some(Arg::Name(*name)), None, None],
-        Decl::Sem(name, initial, limit) => numbered(name, *initial, *limit),
-        Decl::Msgq(name, size, capacity) => numbered(name, *size, *capacity),
-        Decl::Signal(name) => [Some(Arg::Name(*name)), None, None],
+        Decl::Thread(name, prio, user) => playing(Kind::Thread, name, *prio, Choice::Mode, *user),
+        Decl::Queue(name, prio, on) => playing(Kind::Queue, name, *prio, Choice::State, *on),
+        Decl::Item(name) => named(Kind::Item, name),
+        Decl::Sem(name, initial, limit) => numbered(Kind::Sem, name, *initial, *limit),
+        Decl::Msgq(name, size, capacity) => numbered(Kind::Msgq, name, *size, *capacity),
+        Decl::Signal(name) => named(Kind::Signal, name),
+        Decl::Listener(name) => named(Kind::Listener, name),
+        Decl::Sub(name, capacity) => Written {
+            kind: Kind::Sub,
+            args: [Some(Arg::Name(*name)), Some(Arg::Number(*capacity)), None],
+            channel: None,
+        },
+        Decl::Chan(name, message, valid, observers) => Written {
+            kind: Kind::Chan,
+            args: [Some(Arg::Name(*name)), None, None],
+            channel: Some(Channel {
+                message: *message,
+                valid: *valid,
+                observers: *observers,
+            }),
+        },
     }
 }
 
-fn numbered(name: &Name, first: u32, second: u32) -> [Option<Arg>; 3]
-    ensures { standing result ≡ Arg.Name name.now ∷ Arg.Number first ∷ Arg.Number second ∷ [] }
+fn named(kind: Kind, name: &Name) -> Written
+    ensures { result ≡ written kind (Arg.Name name.now ∷ []) }
 {
-    [
-        Some(Arg::Name(*name)),
-        Some(Arg::Number(first)),
-        Some(Arg::Number(second)),
-    ]
+    Written {
+        kind,
+        args: [Some(Arg::Name(*name)), None, None],
+        channel: None,
+    }
+}
+
+fn playing(kind: Kind, name: &Name, prio: i8, choice: Choice, first: bool) -> Written
+    ensures { result ≡ written kind
+        (Arg.Name name.now ∷ Arg.Priority prio ∷ Arg.Truth choice first ∷ []) }
+{
+    Written {
+        kind,
+        args: [
+            Some(Arg::Name(*name)),
+            Some(Arg::Priority(prio)),
+            Some(Arg::Truth(choice, first)),
+        ],
+        channel: None,
+    }
+}
+
+fn numbered(kind: Kind, name: &Name, first: u32, second: u32) -> Written
+    ensures { result ≡ written kind
+        (Arg.Name name.now ∷ Arg.Number first ∷ Arg.Number second ∷ []) }
+{
+    Written {
+        kind,
+        args: [
+            Some(Arg::Name(*name)),
+            Some(Arg::Number(first)),
+            Some(Arg::Number(second)),
+        ],
+        channel: None,
+    }
 }

@@ -2,7 +2,7 @@ ghost use Rattle.std.specs.Prelude.{◌≡◌};
 ghost use Rattle.zk_line.specs.Objects.{kind_of, name_of, is_at, is_met, name_at, plays_script, size_at};
 
 use crate::types::Decl;
-use zk_words::{Kind, Need, meets, plays_script};
+use zk_words::{Kind, Need, plays_script};
 
 /// The kind of what is declared.
 pub fn kind_of(decl: &Decl) -> Kind
@@ -15,6 +15,9 @@ pub fn kind_of(decl: &Decl) -> Kind
         Decl::Sem(..) => Kind::Sem,
         Decl::Msgq(..) => Kind::Msgq,
         Decl::Signal(_) => Kind::Signal,
+        Decl::Listener(_) => Kind::Listener,
+        Decl::Sub(..) => Kind::Sub,
+        Decl::Chan(..) => Kind::Chan,
     }
 }
 
@@ -29,6 +32,9 @@ pub fn name_of(decl: &Decl) -> &[u8]
         Decl::Sem(name, _, _) => name.bytes(),
         Decl::Msgq(name, _, _) => name.bytes(),
         Decl::Signal(name) => name.bytes(),
+        Decl::Listener(name) => name.bytes(),
+        Decl::Sub(name, _) => name.bytes(),
+        Decl::Chan(name, _, _, _) => name.bytes(),
     }
 }
 
@@ -57,17 +63,18 @@ pub fn meets_at(need: Need, decls: &[Decl], object: u32) -> bool
     ensures { result ≡ is_at (is_met need) decls.now object }
 {
     match decls.get(object as usize) {
-        Some(decl) => meets(need, kind_of(decl)),
+        Some(decl) => need.is_met_by(kind_of(decl)),
         None => false,
     }
 }
 
 /// How many bytes each message of an object has, if it is one that has messages.
-pub fn size_at(decls: &[Decl], object: u32) -> Option<u32>
+pub fn size_at(decls: &[Decl], object: u32) -> Option<usize>
     ensures { result ≡ size_at decls.now object }
 {
     match decls.get(object as usize) {
-        Some(Decl::Msgq(_, size, _)) => Some(*size),
+        Some(Decl::Msgq(_, size, _)) => Some(*size as usize),
+        Some(Decl::Chan(_, message, _, _)) => Some(message.bytes().len()),
         _ => None,
     }
 }

@@ -16,8 +16,8 @@ mod weights;
 
 pub use arg_list::Args;
 pub use calls::{Said, call_of, said_of, word_of};
-pub use checks::{first_object, has_many_events};
-pub use decls::{decl_args, decl_of};
+pub use checks::{first_object, has_many_events, has_many_observers};
+pub use decls::{Channel, Written, decl_of, written_of};
 pub use events::{Event, Events, MOST_EVENTS};
 pub use kinds::{kind_of, name_of};
 pub use objects::Objects;

@@ -1,5 +1,5 @@
 ghost use Rattle.std.specs.Prelude.{◌≡◌, ◌+◌, ◌-◌, ◌^◌, ◌<◌, None, [], ◌∷◌, ◌++◌, OnOk, OnErr, length, count_by, vec_len, vec_capacity};
-ghost use Rattle.zk_line.specs.Objects.{is_of, object_of, own_list, grown, HasRoom, is_thread, is_queue, is_item, is_sem, is_msgq, is_signal, name_of, places, number_of, player_count};
+ghost use Rattle.zk_line.specs.Objects.{counts_with, object_of, own_list, grown, HasRoom, is_thread, is_queue, is_item, is_sem, is_msgq, is_signal, is_chan, is_observer, name_of, places, number_of, player_count};
 
 use crate::kinds::name_of;
 use crate::names::Names;
@@ -11,7 +11,7 @@ use zk_words::Kind;
 
 /// The declarations, with a table for each question to them.
 ///
-/// `numbers` has for each object its number among those of its kind, `names` the object of each name.
+/// `numbers` has for each object its number among those that it counts with, `names` the object of each name.
 #[derive(Drop)]
 pub struct Objects {
     decls: Vec<Decl>,
@@ -21,6 +21,9 @@ pub struct Objects {
     sems: Vec<u32>,
     msgqs: Vec<u32>,
     signals: Vec<u32>,
+    chans: Vec<u32>,
+    // Subscribers and listeners together.
+    observers: Vec<u32>,
     numbers: Vec<u32>,
     names: Names,
 }
@@ -36,7 +39,7 @@ impl Model for Objects {
 
     ghost invariant = { λ a.
         IsTabled a.decls.items a.threads.items a.queues.items a.items.items a.sems.items a.msgqs.items
-        a.signals.items a.numbers.items a.names };
+        a.signals.items a.chans.items a.observers.items a.numbers.items a.names };
 }
 
 impl Objects {
@@ -52,6 +55,8 @@ impl Objects {
             sems: Vec::new(alloc),
             msgqs: Vec::new(alloc),
             signals: Vec::new(alloc),
+            chans: Vec::new(alloc),
+            observers: Vec::new(alloc),
             numbers: Vec::new(alloc),
             names: Names::new(alloc),
         }
@@ -107,6 +112,20 @@ impl Objects {
         &self.signals
     }
 
+    /// The object numbers of the channels, in order.
+    pub fn chans(&self) -> &[u32]
+        ensures all { result.now ≡ places is_chan self.now }
+    {
+        &self.chans
+    }
+
+    /// The object numbers of the observers, subscribers and listeners together, in order.
+    pub fn observers(&self) -> &[u32]
+        ensures all { result.now ≡ places is_observer self.now }
+    {
+        &self.observers
+    }
+
     /// How many players there are: the threads, and a worker for each queue.
     pub fn player_count(&self) -> usize
         ensures { result ≡ player_count self.now }
@@ -114,9 +133,9 @@ impl Objects {
         self.threads.len() + self.queues.len()
     }
 
-    /// How many objects of a kind there are.
+    /// How many objects there are that count with those of a kind: subscribers and listeners count together.
     pub fn count(&self, kind: Kind) -> usize
-        ensures { result ≡ count_by (is_of kind) self.now }
+        ensures { result ≡ count_by (counts_with kind) self.now }
     {
         match kind {
             Kind::Thread => self.thread_count(),
@@ -125,6 +144,9 @@ impl Objects {
             Kind::Sem => self.sem_count(),
             Kind::Msgq => self.msgq_count(),
             Kind::Signal => self.signal_count(),
+            Kind::Listener => self.observer_count(),
+            Kind::Sub => self.observer_count(),
+            Kind::Chan => self.chan_count(),
         }
     }
 
@@ -164,7 +186,20 @@ impl Objects {
         self.signals.len()
     }
 
-    /// The number of an object among those of its kind.
+    fn chan_count(&self) -> usize
+        ensures { result ≡ count_by is_chan self.now }
+    {
+        self.chans.len()
+    }
+
+    fn observer_count(&self) -> usize
+        ensures { result ≡ count_by is_observer self.now }
+    {
+        self.observers.len()
+    }
+
+    /// The number of an object among those that it counts with: those of its kind, but subscribers and listeners
+    /// count together.
     pub fn number(&self, object: u32) -> u32
         ensures { result ≡ number_of self.now object }
     {
@@ -193,6 +228,8 @@ impl Objects {
         make_room_for_one(&mut self.sems)?;
         make_room_for_one(&mut self.msgqs)?;
         make_room_for_one(&mut self.signals)?;
+        make_room_for_one(&mut self.chans)?;
+        make_room_for_one(&mut self.observers)?;
         let object = self.decls.len() as u32;
         self.names.insert(alloc, name_of(&decl), object)?;
         let number = enlist(
@@ -204,6 +241,8 @@ impl Objects {
             &mut self.sems,
             &mut self.msgqs,
             &mut self.signals,
+            &mut self.chans,
+            &mut self.observers,
         );
         push_within(&mut self.numbers, number);
         push_within(&mut self.decls, decl);
@@ -221,6 +260,8 @@ fn enlist(
     sems: &mut Vec<u32>,
     msgqs: &mut Vec<u32>,
     signals: &mut Vec<u32>,
+    chans: &mut Vec<u32>,
+    observers: &mut Vec<u32>,
 ) -> u32
     requires thread_room { HasRoom (vec_len threads.old) (vec_capacity threads.old) }
     requires queue_room { HasRoom (vec_len queues.old) (vec_capacity queues.old) }
@@ -228,15 +269,19 @@ fn enlist(
     requires sem_room { HasRoom (vec_len sems.old) (vec_capacity sems.old) }
     requires msgq_room { HasRoom (vec_len msgqs.old) (vec_capacity msgqs.old) }
     requires signal_room { HasRoom (vec_len signals.old) (vec_capacity signals.old) }
+    requires chan_room { HasRoom (vec_len chans.old) (vec_capacity chans.old) }
+    requires observer_room { HasRoom (vec_len observers.old) (vec_capacity observers.old) }
     ensures number { result ≡ length
         (own_list decl.now threads.old.items queues.old.items items.old.items sems.old.items msgqs.old.items
-        signals.old.items) }
+        signals.old.items chans.old.items observers.old.items) }
     ensures threads { threads.new.items ≡ grown is_thread decl.now object threads.old.items }
     ensures queues { queues.new.items ≡ grown is_queue decl.now object queues.old.items }
     ensures items { items.new.items ≡ grown is_item decl.now object items.old.items }
     ensures sems { sems.new.items ≡ grown is_sem decl.now object sems.old.items }
     ensures msgqs { msgqs.new.items ≡ grown is_msgq decl.now object msgqs.old.items }
     ensures signals { signals.new.items ≡ grown is_signal decl.now object signals.old.items }
+    ensures chans { chans.new.items ≡ grown is_chan decl.now object chans.old.items }
+    ensures observers { observers.new.items ≡ grown is_observer decl.now object observers.old.items }
 {
     match decl {
         Decl::Thread(..) => put_counted(threads, object),
@@ -245,6 +290,9 @@ fn enlist(
         Decl::Sem(..) => put_counted(sems, object),
         Decl::Msgq(..) => put_counted(msgqs, object),
         Decl::Signal(_) => put_counted(signals, object),
+        Decl::Listener(_) => put_counted(observers, object),
+        Decl::Sub(..) => put_counted(observers, object),
+        Decl::Chan(..) => put_counted(chans, object),
     }
 }
 

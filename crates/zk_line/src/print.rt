@@ -2,26 +2,29 @@ ghost use Rattle.std.specs.Prelude.{◌≡◌, [], ◌∷◌, ◌++◌, map, OnO
 ghost use Rattle.std.specs.Fmt.{signed_decimal};
 ghost use Rattle.zk_line.specs.Args.{arg_text, event_text, ref_name};
 ghost use Rattle.zk_line.specs.Calls.{standing, events_said};
+ghost use Rattle.zk_line.specs.Decls.{channel_said, objects_said};
 ghost use Rattle.zk_line.specs.Text.{said_line, decl_line, call_line, behind};
 ghost use Rattle.zk_words.specs.Events.{source_text};
 ghost use Rattle.zk_words.specs.Table.{row_of};
 ghost use Rattle.zk_words.specs.Timeouts.{wait_text};
 
 use crate::calls::said_of;
-use crate::decls::decl_args;
+use crate::decls::{Channel, written_of};
 use crate::events::{Event, Events};
-use crate::kinds::{kind_of, name_at};
+use crate::kinds::name_at;
 use crate::types::{Arg, Call, Decl, Ref};
 use itoa::Buffer;
 use zk_base::{NoMemory, put, put_decimal};
-use zk_words::{Head, Source, Timeout, choice_text, put_hex, row_of, source_text};
+use zk_words::{Head, Source, Timeout, choice_text, put_hex, put_validator, row_of, source_text};
 
 /// Appends the line of a declaration. As below, no line feed is written, and after an error a part of
 /// the line may stand there.
-pub fn put_decl(out: &mut Vec<u8>, decl: &Decl) -> Result<(), NoMemory>
-    ensures { OnOk result (out.new.items ≡ out.old.items ++ decl_line decl.now) }
+pub fn put_decl(out: &mut Vec<u8>, decls: &[Decl], decl: &Decl) -> Result<(), NoMemory>
+    ensures { OnOk result (out.new.items ≡ out.old.items ++ decl_line decls.now decl.now) }
 {
-    put_said(out, &[], Head::Declare(kind_of(decl)), &decl_args(decl))
+    let written = written_of(decl);
+    put_said(out, decls, Head::Declare(written.kind), &written.args)?;
+    put_channel(out, decls, &written.channel)
 }
 
 /// The line of a call.
@@ -90,7 +93,40 @@ fn put_arg(out: &mut Vec<u8>, decls: &[Decl], arg: &Arg) -> Result<(), NoMemory>
         Arg::Bytes(message) => put_hex(out, message.bytes()),
         Arg::Wait(wait) => put_wait(out, *wait),
         Arg::Event(event) => put_event(out, decls, event),
+        Arg::Valid(valid) => put_validator(out, *valid),
     }
+}
+
+/// What stands behind the name of a channel, where there is one.
+fn put_channel(out: &mut Vec<u8>, decls: &[Decl], channel: &Option<Channel>) -> Result<(), NoMemory>
+    ensures { OnOk result
+        (out.new.items ≡ out.old.items ++ behind (map (arg_text decls.now) (channel_said channel.now))) }
+{
+    match channel {
+        Some(channel) => {
+            out.push(b' ')?;
+            put_decimal(out, channel.message.bytes().len() as u64)?;
+            out.push(b' ')?;
+            put_hex(out, channel.message.bytes())?;
+            out.push(b' ')?;
+            put_validator(out, channel.valid)?;
+            put_objects(out, decls, channel.observers.numbers())
+        }
+        None => Ok(()),
+    }
+}
+
+fn put_objects(out: &mut Vec<u8>, decls: &[Decl], objects: &[u32]) -> Result<(), NoMemory>
+    ensures { OnOk result
+        (out.new.items ≡ out.old.items ++ behind (map (arg_text decls.now) (objects_said objects.now))) }
+{
+    let mut objects = objects;
+    while let [object, more @ ..] = objects {
+        out.push(b' ')?;
+        put(out, name_at(decls, *object))?;
+        objects = more;
+    }
+    Ok(())
 }
 
 /// The events of a poll, each behind a space, where there are any.

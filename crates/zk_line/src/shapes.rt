@@ -1,10 +1,10 @@
 ghost use Rattle.std.specs.Prelude.{◌≡◌};
-ghost use Rattle.zk_line.specs.Shapes.{as_name, as_object, as_number, as_result, as_priority, as_truth, as_bytes, as_wait, as_event, events_of, wait_events, one, two, three, one_or_two};
+ghost use Rattle.zk_line.specs.Shapes.{as_name, as_object, as_number, as_result, as_priority, as_truth, as_bytes, as_wait, as_event, as_known, events_of, wait_events, objects_of, channel_parts, one, two, three, one_or_two};
 
 use crate::events::{Event, Events, MOST_EVENTS};
 use crate::types::{Arg, Ref};
-use zk_base::{Msg, Name};
-use zk_words::{Choice, Timeout, same_choice};
+use zk_base::{Few, MOST_FEW, Msg, Name};
+use zk_words::{Choice, Timeout, Valid, same_choice};
 
 /// One object.
 pub fn one_object(args: &[Arg]) -> Option<Ref>
@@ -45,6 +45,26 @@ pub fn two_objects_number(args: &[Arg]) -> Option<(Ref, Ref, u32)>
         [Arg::Object(first), Arg::Object(second), Arg::Number(number)] => Some((
             *first, *second, *number,
         )),
+        _ => None,
+    }
+}
+
+/// Two objects and one of the two words of a choice.
+pub fn two_objects_truth(choice: Choice, args: &[Arg]) -> Option<(Ref, Ref, bool)>
+    ensures { result ≡ three as_object as_object (as_truth choice) args.now }
+{
+    match args {
+        [
+            Arg::Object(first),
+            Arg::Object(second),
+            Arg::Truth(other, truth),
+        ] => {
+            if same_choice(choice, *other) {
+                Some((*first, *second, *truth))
+            } else {
+                None
+            }
+        }
         _ => None,
     }
 }
@@ -193,6 +213,68 @@ pub fn name_two_numbers(args: &[Arg]) -> Option<(Name, u32, u32)>
         [Arg::Name(name), Arg::Number(first), Arg::Number(second)] => Some((
             *name, *first, *second,
         )),
+        _ => None,
+    }
+}
+
+/// A name and a number.
+pub fn name_number(args: &[Arg]) -> Option<(Name, u32)>
+    ensures { result ≡ two as_name as_number args.now }
+{
+    match args {
+        [Arg::Name(name), Arg::Number(number)] => Some((*name, *number)),
+        _ => None,
+    }
+}
+
+/// A channel's name, its first message, behind the length of that, what messages it takes, and its observers.
+pub fn channel_parts(args: &[Arg]) -> Option<(Name, Msg, Valid, Few)>
+    ensures { result ≡ channel_parts args.now }
+{
+    match args {
+        [
+            Arg::Name(name),
+            Arg::Number(size),
+            Arg::Bytes(message),
+            Arg::Valid(valid),
+            observers @ ..,
+        ] => {
+            if *size as usize == message.bytes().len() {
+                objects_of(observers).map(|observers| (*name, *message, *valid, observers))
+            } else {
+                None
+            }
+        }
+        _ => None,
+    }
+}
+
+/// The objects that all arguments are, if they are 8 at most.
+fn objects_of(args: &[Arg]) -> Option<Few>
+    ensures { result ≡ objects_of args.now }
+{
+    if MOST_FEW < args.len() {
+        return None;
+    }
+    let mut objects = [0; MOST_FEW];
+    let mut len = 0;
+    let mut left = args;
+    while let [first, more @ ..] = left {
+        let Some(object) = as_known(first) else {
+            return None;
+        };
+        objects[len] = object;
+        len += 1;
+        left = more;
+    }
+    Few::new(&objects[..len])
+}
+
+fn as_known(arg: &Arg) -> Option<u32>
+    ensures { result ≡ as_known arg.now }
+{
+    match arg {
+        Arg::Object(Ref::Known(object)) => Some(*object),
         _ => None,
     }
 }

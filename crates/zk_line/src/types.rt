@@ -1,6 +1,6 @@
 use crate::events::{Event, Events};
-use zk_base::{Msg, Name};
-use zk_words::{Choice, Timeout};
+use zk_base::{Few, Msg, Name};
+use zk_words::{Choice, Timeout, Valid};
 
 /// One declaration. Objects are numbered from 0 in declared order.
 #[derive(Clone, Copy, Debug)]
@@ -17,6 +17,13 @@ pub enum Decl {
     Msgq(Name, u32, u32),
     /// A signal.
     Signal(Name),
+    /// A listener. Zephyr's `ZBUS_LISTENER_DEFINE`.
+    Listener(Name),
+    /// A subscriber, and of how many messages it is told that it hasn't taken (1 to 256). Zephyr's `ZBUS_SUBSCRIBER_DEFINE`.
+    Sub(Name, u32),
+    /// A channel, the message that it has at first, what messages it takes, and the object numbers of its
+    /// observers: subscribers and listeners that are declared before it, each once. Zephyr's `ZBUS_CHAN_DEFINE`.
+    Chan(Name, Msg, Valid, Few),
 }
 
 /// An object as a call names it.
@@ -38,6 +45,8 @@ pub enum Arg {
     Bytes(Msg),
     Wait(Timeout),
     Event(Event),
+    /// What messages a channel takes.
+    Valid(Valid),
 }
 
 /// What stands in a list's places that nothing fills.
@@ -104,4 +113,21 @@ pub enum Call {
     Check(Ref),
     /// How long is waited until one of these is ready. Zephyr's `k_poll`.
     Poll(Timeout, Events),
+    /// A channel. Zephyr's `zbus_chan_claim`.
+    Claim(Ref, Timeout),
+    /// A channel. Zephyr's `zbus_chan_finish`.
+    Finish(Ref),
+    /// A channel, and a message of its size. Zephyr's `zbus_chan_pub`.
+    Publish(Ref, Msg, Timeout),
+    /// A channel. Zephyr's `zbus_chan_notify`.
+    Notify(Ref, Timeout),
+    /// A channel. Zephyr's `zbus_chan_read`.
+    Read(Ref, Timeout),
+    /// A channel, one of its observers, and whether that isn't told of the channel's messages any more. Zephyr's
+    /// `zbus_obs_set_chan_notification_mask`.
+    Mask(Ref, Ref, bool),
+    /// An observer, and whether it is told of messages. Zephyr's `zbus_obs_set_enable`.
+    Enable(Ref, bool),
+    /// A subscriber. Zephyr's `zbus_sub_wait`.
+    SubWait(Ref, Timeout),
 }

@@ -6,11 +6,12 @@ ghost use Rattle.zk_words.specs.Numbers.{number_in, priority_of};
 ghost use Rattle.zk_words.specs.Spelled.{is_spelled_in, part_is_spelled};
 ghost use Rattle.zk_line.specs.Args.{truth_of, arg_of, args_of};
 ghost use Rattle.zk_words.specs.Timeouts.{wait_of};
+ghost use Rattle.zk_words.specs.Validators.{validator_of};
 ghost use Rattle.zk_line.specs.Checks.{size_said, is_in_range, hex_in_range, are_in_range, is_well_named, are_well_named};
 ghost use Rattle.zk_line.specs.Weights.{Weighs, or_wrong};
 
 use crate::arg_list::Args;
-use crate::checks::{are_in_range, go_together, hex_in_range, size_named};
+use crate::checks::{are_in_range, go_together, hex_in_range, name_once, size_named};
 use crate::events::{Event, event_at};
 use crate::kinds::{meets_at, plays_at};
 use crate::objects::Objects;
@@ -18,7 +19,7 @@ use crate::types::{Arg, Ref};
 use zk_base::{Name, NoMemory};
 use zk_words::{
     Choice, Head, Need, Parts, Slot, choice_text, event_named, is_ignore, msg_of, need_of,
-    number_in, priority_of, wait_of,
+    number_in, priority_of, validator_of, wait_of,
 };
 
 /// What speaks against a word in its slot, or against a line's words in theirs.
@@ -56,7 +57,11 @@ pub fn weigh(
             Err(Wrong::Misnamed) => return Ok(Some(misnamed(are_in_range(objects, head, parts)))),
         }
     }
-    Ok(None)
+    if name_once(parts) {
+        Ok(None)
+    } else {
+        Ok(Some(Wrong::Misnamed))
+    }
 }
 
 /// What speaks against a line in which a name is wrong, and the numbers are in range or not.
@@ -86,6 +91,7 @@ fn worth_of(objects: &Objects, said: &[Arg], slot: Slot, word: &[u8]) -> Result<
         Slot::Hex => message(size_said(objects, said), word),
         Slot::Wait => wait(word),
         Slot::Event => event(objects, word),
+        Slot::Valid => validator(word),
         Slot::Raw => Err(Wrong::Misnamed),
     }
 }
@@ -173,7 +179,7 @@ fn priority(word: &[u8]) -> Result<Arg, Wrong>
 }
 
 /// How many bytes a message has behind words that say these.
-fn size_said(objects: &Objects, said: &[Arg]) -> Option<u32>
+fn size_said(objects: &Objects, said: &[Arg]) -> Option<usize>
     ensures { result ≡ size_said objects.now said.now }
 {
     match said {
@@ -182,7 +188,7 @@ fn size_said(objects: &Objects, said: &[Arg]) -> Option<u32>
     }
 }
 
-fn message(size: Option<u32>, word: &[u8]) -> Result<Arg, Wrong>
+fn message(size: Option<usize>, word: &[u8]) -> Result<Arg, Wrong>
     requires { is_hex word.now ≡ true }
     ensures { Weighs (hex_in_range size word.now) true (option_map Arg.Bytes (msg_of word.now)) result }
 {
@@ -201,6 +207,16 @@ fn wait(word: &[u8]) -> Result<Arg, Wrong>
     match wait_of(word) {
         Some(wait) => Ok(Arg::Wait(wait)),
         None => Err(Wrong::OutOfRange),
+    }
+}
+
+fn validator(word: &[u8]) -> Result<Arg, Wrong>
+    requires { is_some (validator_of word.now) ≡ true }
+    ensures { Weighs true true (option_map Arg.Valid (validator_of word.now)) result }
+{
+    match validator_of(word) {
+        Some(valid) => Ok(Arg::Valid(valid)),
+        None => Err(Wrong::Misnamed),
     }
 }
 

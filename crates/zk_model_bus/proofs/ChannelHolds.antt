@@ -62,7 +62,7 @@ offer-holds : (c : Channel) (who : Who) (waits valid : Bool) → cond valid (gai
 offer-holds c who waits true is = gain-holds c.holder c who manners.Offer waits is
 offer-holds c who waits false is = absurd (cc)
 
-own-holds : (c : Channel) (who : Who) (op : ChanOp) (manner : Manner) → chan_reply c who op ≡ Some Got → manner_of op ≡ Some manner →
+pub own-holds : (c : Channel) (who : Who) (op : ChanOp) (manner : Manner) → chan_reply c who op ≡ Some Got → manner_of op ≡ Some manner →
     (c.holder ≡ None) × ((chan_next c who op).holder ≡ Some (held who.number manner))
 own-holds c who (ops.Offer message waits) manner told is =
     let got = offer-holds c who waits (is_valid c.valid message) (same_Some (cond (is_valid c.valid message) (gain_reply c.holder waits) NoMsg) Got told) in

@@ -1,4 +1,6 @@
 pub mod ChannelHolds
+pub mod ChannelKept
+pub mod ChannelObservers
 pub mod ChannelTells
 pub mod ChannelWaits
 pub mod ObserverOrder

@@ -164,6 +164,15 @@ may_wait (ops.Enter waits) = waits
 may_wait (ops.Claim waits) = waits
 may_wait _ = false
 
+-- the end of a wait gives an entry that is owed, and so does freeing the channel:
+-- a finish does where the caller has claimed it
+abbrev pub chan_closes : Channel → Who → ChanOp → Bool
+chan_closes c who (ops.ClaimEnd place) = true
+chan_closes c who (ops.ClaimQuit place) = true
+chan_closes c who ops.Free = true
+chan_closes c who ops.Finish = has_claimed c who
+chan_closes c who _ = false
+
 -- any number is in range as the observer of a mask
 abbrev pub chan_in_range : Channel → ChanOp → Bool
 chan_in_range c op = true

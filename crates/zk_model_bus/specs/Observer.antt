@@ -1,4 +1,5 @@
-use Rattle.std.specs.Prelude.{ℕ, ◌+◌, ◌^◌, ◌<◌, ◌≤◌, Bool, true, false, nat_lt, if◌then◌else◌, Option, Some, None, is_some, List, [], ◌∷◌, ◌++◌, length}
+use Rattle.std.specs.Prelude.{ℕ, ◌+◌, ◌^◌, ◌<◌, ◌≤◌, Bool, true, false, nat_lt, if◌then◌else◌, Option, Some, None, is_some, IfSome, List, [], ◌∷◌, ◌++◌, length}
+use Rattle.circular_buffer.specs.Buffer.{Buffer}
 use Rattle.zk_base.specs.declared.ids.Who.{Who}
 use Rattle.zk_base.specs.declared.waits.Waiter.{Waiter}
 use Rattle.zk_base.specs.Legal.{Machine}
@@ -26,14 +27,25 @@ pub record ObsView : Type 0 where
 abbrev pub new_obs : Option ℕ → Observer
 new_obs capacity = record { capacity = capacity; entries = 0; enabled = true; channels = []; takers = no_waits }
 
+-- the most channels that a subscriber's ring has room for; a listener has no ring
+abbrev pub most_of : Option (Buffer ℕ) → Option ℕ
+most_of None = None
+most_of (Some ring) = Some ring.capacity
+
+-- the channels in a subscriber's ring; a listener has no ring
+abbrev pub channels_of : Option (Buffer ℕ) → List ℕ
+channels_of None = []
+channels_of (Some ring) = ring.items
+
 -- an observer that lists no more than so many, and at which no more wait than have called
-pub record IsListed (most : ℕ) (o : Observer) : Type 0 where
-  pub within : length o.channels ≤ most
-  pub bounded : most ≤ 256
+pub record IsListed (o : Observer) : Type 0 where
+  pub within : IfSome o.capacity (λ most. length o.channels ≤ most)
+  pub bounded : IfSome o.capacity (λ most. most ≤ 256)
   pub few : o.entries < 2 ^ 32
   pub called : open_waits o.takers ≤ o.entries
 
--- what a visit of an enabled observer is answered: a listener runs, and a subscriber is pushed where somebody waits or there is room
+-- what a visit of an enabled observer is answered: a listener runs,
+-- and a subscriber is pushed where somebody waits or there is room
 abbrev pub visit_reply : Option ℕ → List (Waiter Unit) → Observer → ObsReply
 visit_reply None waiting o = Run
 visit_reply (Some capacity) (w ∷ ws) o = Pushed
@@ -90,6 +102,12 @@ obs_after o who op reply = if is_some reply then obs_next o who op else o
 abbrev pub may_wait : ObsOp → Bool
 may_wait (ops.Take waits) = waits
 may_wait _ = false
+
+-- the end of a wait gives an entry that is owed: one for each that hasn't ended
+abbrev pub obs_closes : ObsOp → Bool
+obs_closes (ops.TakeEnd place) = true
+obs_closes (ops.TakeQuit place) = true
+obs_closes _ = false
 
 -- any number is in range as the channel of a visit
 abbrev pub obs_in_range : Observer → ObsOp → Bool

@@ -2,11 +2,11 @@ ghost use Rattle.std.specs.Prelude.{◌≡◌, true, false, ◌+◌, ◌-◌, �
 ghost use Rattle.std.specs.List.{list_any};
 ghost use Rattle.zk_base.specs.History.{AddsNone};
 ghost use Rattle.zk_base.specs.Waits.{open_waits};
-ghost use Rattle.zk_model_bus.specs.Channel.{unmasked, new_chan, is_valid, holds, is_claim, has_claimed, has_entered, is_observer, told_of, mask_one, masked, gain_reply, gain, held_by, handed_on, chan_reply, chan_next, chan_after, may_wait, owed_entries};
+ghost use Rattle.zk_model_bus.specs.Channel.{unmasked, new_chan, is_valid, holds, is_claim, has_claimed, has_entered, is_observer, told_of, mask_one, masked, gain_reply, gain, held_by, handed_on, chan_reply, chan_next, chan_after, may_wait};
 
 use std::alloc::Global;
 use std::marker::Model;
-use zk_base::{Few, Msg, NoMemory, WaitList, Waiter, Who};
+use zk_base::{Few, Msg, NoMemory, Store, WaitList, Waiter, Who};
 
 /// What can be asked of a channel.
 #[derive(Clone, Copy, Debug)]
@@ -282,29 +282,6 @@ impl ChanStore {
         })
     }
 
-    /// How many entries are owed: the end of each wait, and the freeing by each who waits or holds.
-    pub fn owed(&self) -> u64
-        ensures { result ≡ owed_entries self.now.chan }
-    {
-        self.waits.open() + self.waits.waiting() + u64::from(self.holder.is_some())
-    }
-
-    /// Makes room for so many waits.
-    pub fn reserve(&mut self, more: usize) -> Result<(), NoMemory>
-        ensures room { IfOk result (λ _. more ≤ self.new.room) }
-        ensures more { self.old.room ≤ self.new.room }
-        ensures same { self.new.chan ≡ self.old.chan }
-    {
-        self.waits.reserve(more)
-    }
-
-    /// How many waits it takes without memory.
-    pub fn room(&self) -> u64
-        ensures { result ≡ self.now.room }
-    {
-        self.waits.room()
-    }
-
     /// A call for the channel, in this manner.
     fn gain(&mut self, who: Who, manner: Manner, waits: bool) -> Result<ChanReply, NoMemory>
         requires { self.old.chan.entries < 2 ^ 32 - 1 }
@@ -391,7 +368,7 @@ impl ChanStore {
     }
 
     /// The caller holds the channel by a claim.
-    pub fn has_claimed(&self, who: Who) -> bool
+    fn has_claimed(&self, who: Who) -> bool
         ensures { result ≡ has_claimed self.now.chan who }
     {
         match self.holder {
@@ -537,4 +514,59 @@ pub fn chan_next(
         ChanOp::Finish => Ok(Some(store.finish(who))),
         ChanOp::Mask(observer, on) => Ok(Some(store.mask(who, observer, on))),
     }
+}
+
+impl Store for ChanStore {
+    type Op = ChanOp;
+
+    type Reply = ChanReply;
+
+    type State = ChanState;
+
+    ghost use Rattle.zk_model_bus.specs.Channel.{owed_entries, chan_closes, chan_machine};
+    ghost use Rattle.zk_model_bus.specs.ChannelOwed.{counts, ranges, adds, gives};
+
+    ghost state = { λ s. s.chan };
+
+    ghost room = { λ s. s.room };
+
+    ghost machine = { chan_machine };
+
+    ghost entries = { λ c. c.entries };
+
+    ghost owed = { owed_entries };
+
+    ghost closes = { chan_closes };
+
+    fn next(&mut self, who: Who, op: &ChanOp) -> Result<Option<ChanReply>, NoMemory> {
+        chan_next(self, who, op)
+    }
+
+    fn is_closing(&self, who: Who, op: &ChanOp) -> bool {
+        match op {
+            ChanOp::ClaimEnd(_) | ChanOp::ClaimQuit(_) | ChanOp::Free => true,
+            ChanOp::Finish => self.has_claimed(who),
+            _ => false,
+        }
+    }
+
+    fn owed(&self) -> u64 {
+        self.waits.open() + self.waits.waiting() + u64::from(self.holder.is_some())
+    }
+
+    fn reserve(&mut self, more: usize) -> Result<(), NoMemory> {
+        self.waits.reserve(more)
+    }
+
+    fn room(&self) -> u64 {
+        self.waits.room()
+    }
+
+    ghost counts = { counts };
+
+    ghost ranges = { ranges };
+
+    ghost adds = { adds };
+
+    ghost gives = { gives };
 }

@@ -1,5 +1,5 @@
 ghost use Rattle.std.specs.Prelude.{◌≡◌};
-ghost use Rattle.zk_model_bus.specs.Table.{meets, is_any};
+ghost use Rattle.zk_model_bus.specs.Table.{same_kind, meets, is_any};
 
 /// What an object is.
 #[derive(Clone, Copy, Debug, PartialEq, Eq)]
@@ -44,23 +44,40 @@ pub enum Need {
     Any,
 }
 
+/// Whether two kinds are one.
+pub fn same_kind(kind: Kind, other: Kind) -> bool
+    ensures { result ≡ same_kind kind other }
+{
+    match (kind, other) {
+        (Kind::Thread, Kind::Thread) => true,
+        (Kind::Sem, Kind::Sem) => true,
+        (Kind::Msgq, Kind::Msgq) => true,
+        (Kind::Signal, Kind::Signal) => true,
+        (Kind::Queue, Kind::Queue) => true,
+        (Kind::Item, Kind::Item) => true,
+        (Kind::Chan, Kind::Chan) => true,
+        (Kind::Sub, Kind::Sub) => true,
+        (Kind::Listener, Kind::Listener) => true,
+        _ => false,
+    }
+}
+
 impl Need {
     /// An object of this kind meets the need.
     pub fn is_met_by(self, kind: Kind) -> bool
         ensures { result ≡ meets self kind }
     {
-        match (self, kind) {
-            (Need::Thread, Kind::Thread) => true,
-            (Need::Sem, Kind::Sem) => true,
-            (Need::Msgq, Kind::Msgq) => true,
-            (Need::Signal, Kind::Signal) => true,
-            (Need::Queue, Kind::Queue) => true,
-            (Need::Item, Kind::Item) => true,
-            (Need::Chan, Kind::Chan) => true,
-            (Need::Sub, Kind::Sub) => true,
-            (Need::Obs, Kind::Sub | Kind::Listener) => true,
-            (Need::Any, _) => true,
-            _ => false,
+        match self {
+            Need::Thread => same_kind(kind, Kind::Thread),
+            Need::Sem => same_kind(kind, Kind::Sem),
+            Need::Msgq => same_kind(kind, Kind::Msgq),
+            Need::Signal => same_kind(kind, Kind::Signal),
+            Need::Queue => same_kind(kind, Kind::Queue),
+            Need::Item => same_kind(kind, Kind::Item),
+            Need::Chan => same_kind(kind, Kind::Chan),
+            Need::Sub => same_kind(kind, Kind::Sub),
+            Need::Obs => same_kind(kind, Kind::Sub) || same_kind(kind, Kind::Listener),
+            Need::Any => true,
         }
     }
 

@@ -16,7 +16,7 @@ pub use channel::{
 pub use channel_laws::{
     channel_calls_are_told, channel_waits_end, keeps_channel_laws, message_holds, one_holds,
 };
-pub use kinds::{Kind, Need};
+pub use kinds::{Kind, Need, same_kind};
 pub use observer::{ObsOp, ObsReply, ObsState, ObsStore, obs_next};
 pub use observer_laws::{
     keeps_observer_laws, observer_calls_are_told, observer_waits_end, off_holds, taken_in_order,

@@ -1,13 +1,12 @@
-ghost use Rattle.std.specs.Prelude.{◌≡◌, true, false, ◌+◌, ◌-◌, ◌^◌, ◌<◌, ◌≤◌, ◌++◌, ◌∷◌, [], Some, length, IsOk, IfOk, IfSome, OnErr};
+ghost use Rattle.std.specs.Prelude.{◌≡◌, true, false, ◌+◌, ◌-◌, ◌^◌, ◌<◌, ◌≤◌, ◌++◌, ◌∷◌, [], Some, None, length, IsOk, IfOk, OnErr};
 ghost use Rattle.circular_buffer.specs.Buffer.{buffer};
 ghost use Rattle.zk_base.specs.History.{AddsNone};
-ghost use Rattle.zk_base.specs.Waits.{open_waits};
 ghost use Rattle.zk_model_bus.specs.Observer.{new_obs, visit_reply, visited, obs_reply, obs_next, obs_after, may_wait};
 
 use circular_buffer::HeapCircularBuffer;
 use std::alloc::Global;
 use std::marker::Model;
-use zk_base::{NoMemory, WaitList, Waiter, Who};
+use zk_base::{NoMemory, Store, WaitList, Waiter, Who};
 
 /// What can be asked of an observer: a listener or a subscriber.
 #[derive(Clone, Copy, Debug)]
@@ -50,36 +49,34 @@ pub enum ObsReply {
 /// The state of an observer's machine, with the memory that it has for waits.
 #[derive(Drop)]
 pub struct ObsStore {
-    listens: bool,
     enabled: bool,
     entries: u64,
-    // The oldest channel at the front. It has its room from the start, and a listener's has none.
-    ring: HeapCircularBuffer<u32>,
+    // The channels of a subscriber, the oldest at the front. It has its room from the start.
+    ring: Option<HeapCircularBuffer<u32>>,
     takers: WaitList<(), ObsReply>,
 }
 
 impl Model for ObsStore {
-    ghost use Rattle.std.specs.Prelude.{Some, None, if◌then◌else◌};
-    ghost use Rattle.zk_model_bus.specs.Observer.{ObsView, IsListed};
+    ghost use Rattle.zk_model_bus.specs.Observer.{ObsView, IsListed, most_of, channels_of};
 
     ghost Value = { ObsView };
 
     ghost view = { λ s. record {
       obs = record {
-        capacity = if s.listens then None else Some s.ring.capacity;
+        capacity = most_of s.ring;
         entries = s.entries;
         enabled = s.enabled;
-        channels = s.ring.items;
+        channels = channels_of s.ring;
         takers = s.takers.waits;
       };
       room = s.takers.room;
     } };
 
-    ghost invariant = { λ s. IsListed s.ring.capacity (record {
-      capacity = if s.listens then None else Some s.ring.capacity;
+    ghost invariant = { λ s. IsListed (record {
+      capacity = most_of s.ring;
       entries = s.entries;
       enabled = s.enabled;
-      channels = s.ring.items;
+      channels = channels_of s.ring;
       takers = s.takers.waits;
     }) };
 }
@@ -99,13 +96,22 @@ impl Model for ObsState {
 }
 
 impl ObsState {
-    /// An observer before the first entry: a subscriber whose list has this capacity, or a listener where there is none.
-    pub fn new(alloc: Global, capacity: Option<u32>) -> Result<ObsState, NoMemory>
-        requires { IfSome capacity (λ most. most ≤ 256) }
-        ensures { IfOk result (λ state. state ≡ new_obs capacity) }
+    /// A listener before the first entry. It takes no memory.
+    pub fn listener(alloc: Global) -> ObsState
+        ensures { result ≡ new_obs None }
+    {
+        ObsState {
+            store: ObsStore::listener(alloc),
+        }
+    }
+
+    /// A subscriber before the first entry, whose list has this capacity.
+    pub fn subscriber(alloc: Global, capacity: u32) -> Result<ObsState, NoMemory>
+        requires { capacity ≤ 256 }
+        ensures { IfOk result (λ state. state ≡ new_obs (Some capacity)) }
     {
         Ok(ObsState {
-            store: ObsStore::new(alloc, capacity)?,
+            store: ObsStore::subscriber(alloc, capacity)?,
         })
     }
 }
@@ -119,45 +125,28 @@ fn append(ring: &mut HeapCircularBuffer<u32>, channel: u32)
 }
 
 impl ObsStore {
-    /// An observer before the first entry: a subscriber whose list has this capacity, or a listener where there is none.
-    pub fn new(alloc: Global, capacity: Option<u32>) -> Result<ObsStore, NoMemory>
-        requires { IfSome capacity (λ most. most ≤ 256) }
-        ensures { IfOk result (λ store. store.obs ≡ new_obs capacity) }
+    /// A listener before the first entry. It takes no memory.
+    pub fn listener(alloc: Global) -> ObsStore
+        ensures { result.obs ≡ new_obs None }
     {
-        let (listens, most) = match capacity {
-            Some(most) => (false, most),
-            None => (true, 0),
-        };
-        Ok(ObsStore {
-            listens,
+        ObsStore {
             enabled: true,
             entries: 0,
-            ring: HeapCircularBuffer::with_capacity(alloc, most as usize)?,
+            ring: None,
             takers: WaitList::new(alloc),
+        }
+    }
+
+    /// A subscriber before the first entry, whose list has this capacity.
+    pub fn subscriber(alloc: Global, capacity: u32) -> Result<ObsStore, NoMemory>
+        requires { capacity ≤ 256 }
+        ensures { IfOk result (λ store. store.obs ≡ new_obs (Some capacity)) }
+    {
+        let ring = HeapCircularBuffer::with_capacity(alloc, capacity as usize)?;
+        Ok(ObsStore {
+            ring: Some(ring),
+            ..ObsStore::listener(alloc)
         })
-    }
-
-    /// How many waits there are that haven't ended.
-    pub fn open(&self) -> u64
-        ensures { result ≡ open_waits self.now.obs.takers }
-    {
-        self.takers.open()
-    }
-
-    /// Makes room for so many waits.
-    pub fn reserve(&mut self, more: usize) -> Result<(), NoMemory>
-        ensures room { IfOk result (λ _. more ≤ self.new.room) }
-        ensures more { self.old.room ≤ self.new.room }
-        ensures same { self.new.obs ≡ self.old.obs }
-    {
-        self.takers.reserve(more)
-    }
-
-    /// How many waits it takes without memory.
-    pub fn room(&self) -> u64
-        ensures { result ≡ self.now.room }
-    {
-        self.takers.room()
     }
 
     /// What an observer that is enabled does at a visit.
@@ -167,13 +156,13 @@ impl ObsStore {
             ≡ visited self.old.obs.capacity self.old.obs.takers.waiting self.old.obs channel }
         ensures room { self.old.room ≤ self.new.room }
     {
-        if self.listens {
+        let Some(ring) = &mut self.ring else {
             return ObsReply::Run;
-        }
+        };
         if self.takers.first().is_some() {
             self.takers.decide_first(ObsReply::Channel(channel));
-        } else if !self.ring.is_full() {
-            append(&mut self.ring, channel);
+        } else if !ring.is_full() {
+            append(ring, channel);
         } else {
             return ObsReply::Full;
         }
@@ -205,11 +194,11 @@ impl ObsStore {
         ensures room { self.old.room ≤ self.new.room + 1 }
         ensures kept { AddsNone result → self.old.room ≤ self.new.room }
     {
-        if self.listens {
+        let Some(ring) = &mut self.ring else {
             return Ok(None);
-        }
+        };
         let mut reply = ObsReply::NoMsg;
-        if let Some(channel) = self.ring.pop_front() {
+        if let Some(channel) = ring.pop_front() {
             reply = ObsReply::Channel(channel);
         } else if waits {
             self.takers.join(Waiter {
@@ -279,4 +268,56 @@ pub fn obs_next(store: &mut ObsStore, who: Who, op: &ObsOp) -> Result<Option<Obs
         ObsOp::TakeQuit(place) => Ok(store.take_quit(who, place)),
         ObsOp::Enable(on) => Ok(Some(store.enable(who, on))),
     }
+}
+
+impl Store for ObsStore {
+    type Op = ObsOp;
+
+    type Reply = ObsReply;
+
+    type State = ObsState;
+
+    ghost use Rattle.zk_base.specs.Waits.{open_waits};
+    ghost use Rattle.zk_model_bus.specs.Observer.{obs_closes, obs_machine};
+    ghost use Rattle.zk_model_bus.specs.ObserverOwed.{counts, ranges, adds, gives};
+
+    ghost state = { λ s. s.obs };
+
+    ghost room = { λ s. s.room };
+
+    ghost machine = { obs_machine };
+
+    ghost entries = { λ o. o.entries };
+
+    ghost owed = { λ o. open_waits o.takers };
+
+    ghost closes = { λ o who op. obs_closes op };
+
+    fn next(&mut self, who: Who, op: &ObsOp) -> Result<Option<ObsReply>, NoMemory> {
+        obs_next(self, who, op)
+    }
+
+    fn is_closing(&self, _who: Who, op: &ObsOp) -> bool {
+        matches!(op, ObsOp::TakeEnd(_) | ObsOp::TakeQuit(_))
+    }
+
+    fn owed(&self) -> u64 {
+        self.takers.open()
+    }
+
+    fn reserve(&mut self, more: usize) -> Result<(), NoMemory> {
+        self.takers.reserve(more)
+    }
+
+    fn room(&self) -> u64 {
+        self.takers.room()
+    }
+
+    ghost counts = { counts };
+
+    ghost ranges = { ranges };
+
+    ghost adds = { adds };
+
+    ghost gives = { gives };
 }

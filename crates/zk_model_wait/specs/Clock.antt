@@ -1,4 +1,4 @@
-use Rattle.std.specs.Prelude.{ℕ, ◌+◌, ◌-◌, ◌*◌, ◌^◌, ◌<◌, ◌≤◌, Bool, true, false, nat_le, ◌==◌, ◌&&◌, if◌then◌else◌, Option, Some, None, is_some, List, [], ◌∷◌, ◌++◌}
+use Rattle.std.specs.Prelude.{ℕ, ◌+◌, ◌-◌, ◌*◌, ◌^◌, ◌<◌, ◌≤◌, Bool, true, false, nat_le, ◌==◌, ◌&&◌, if◌then◌else◌, Option, Some, None, is_some, List, [], ◌∷◌, ◌++◌, length}
 use Rattle.std.specs.List.{list_any}
 use Rattle.zk_base.specs.declared.ids.Who.{Who}
 use Rattle.zk_base.specs.Legal.{Machine}
@@ -67,6 +67,15 @@ after_reply c who op reply = if is_some reply then clock_next c who op else c
 abbrev pub sets_alarm : ClockOp → Bool
 sets_alarm (ops.Alarm ticks) = true
 sets_alarm _ = false
+
+-- the entries that are owed: the end of each alarm
+abbrev pub clock_owed : Clock → ℕ
+clock_owed c = length c.alarms
+
+-- the end of an alarm gives an entry that is owed
+abbrev pub clock_closes : ClockOp → Bool
+clock_closes (ops.AlarmEnd moment) = true
+clock_closes _ = false
 
 -- an operation names nothing that could be missing
 abbrev pub in_range : Clock → ClockOp → Bool

@@ -168,6 +168,16 @@ may_wait (ops.Get waits) = waits
 may_wait (ops.PollArm waits) = waits
 may_wait _ = false
 
+-- the end of a wait or of a poll gives an entry that is owed: one for each that hasn't ended
+abbrev pub msgq_closes : MsgqOp → Bool
+msgq_closes (ops.PutEnd place) = true
+msgq_closes (ops.PutQuit place) = true
+msgq_closes (ops.GetEnd place) = true
+msgq_closes (ops.GetQuit place) = true
+msgq_closes (ops.PollEnd place) = true
+msgq_closes (ops.PollQuit place) = true
+msgq_closes _ = false
+
 -- an operation names nothing that could be missing
 abbrev pub msgq_in_range : Msgq → MsgqOp → Bool
 msgq_in_range q op = true

@@ -110,6 +110,14 @@ may_wait (ops.Take waits) = waits
 may_wait (ops.PollArm waits) = waits
 may_wait _ = false
 
+-- the end of a wait or of a poll gives an entry that is owed: one for each that hasn't ended
+abbrev pub sem_closes : SemOp → Bool
+sem_closes (ops.TakeEnd place) = true
+sem_closes (ops.TakeQuit place) = true
+sem_closes (ops.PollEnd place) = true
+sem_closes (ops.PollQuit place) = true
+sem_closes _ = false
+
 -- an operation names nothing that could be missing
 abbrev pub sem_in_range : Sem → SemOp → Bool
 sem_in_range s op = true

@@ -5,7 +5,7 @@ ghost use Rattle.zk_model_wait.specs.Clock.{new_clock, is_alarm, has_alarm, is_d
 
 use std::alloc::Global;
 use std::marker::Model;
-use zk_base::{NoMemory, Who};
+use zk_base::{NoMemory, Store, Who};
 
 /// What can be asked of the clock. Time is counted in ticks, from 0.
 #[derive(Clone, Copy, Debug)]
@@ -155,30 +155,6 @@ impl ClockStore {
         }
     }
 
-    /// How many alarms there are that haven't ended.
-    pub fn alarms(&self) -> u64
-        ensures { result ≡ length self.now.clock.alarms }
-    {
-        self.alarms.len() as u64
-    }
-
-    /// Makes room for so many alarms.
-    pub fn reserve(&mut self, more: usize) -> Result<(), NoMemory>
-        ensures room { IfOk result (λ _. more ≤ self.new.room) }
-        ensures more { self.old.room ≤ self.new.room }
-        ensures same { self.new.clock ≡ self.old.clock }
-    {
-        self.alarms.reserve(more)?;
-        Ok(())
-    }
-
-    /// How many alarms it takes without memory.
-    pub fn room(&self) -> u64
-        ensures { result ≡ self.now.room }
-    {
-        (self.alarms.capacity() - self.alarms.len()) as u64
-    }
-
     fn announce(&mut self, who: Who, ticks: u32) -> Option<ClockReply>
         requires { self.old.clock.entries < 2 ^ 32 - 1 }
         ensures reply { result ≡ clock_reply self.old.clock who (ClockOp.Announce ticks) }
@@ -249,4 +225,56 @@ pub fn clock_next(
         ClockOp::Alarm(ticks) => store.alarm(who, ticks),
         ClockOp::AlarmEnd(moment) => Ok(store.alarm_end(who, moment)),
     }
+}
+
+impl Store for ClockStore {
+    type Op = ClockOp;
+
+    type Reply = ClockReply;
+
+    type State = ClockState;
+
+    ghost use Rattle.zk_model_wait.specs.Clock.{clock_owed, clock_closes, clock_machine};
+    ghost use Rattle.zk_model_wait.specs.ClockOwed.{counts, ranges, adds, gives};
+
+    ghost state = { λ s. s.clock };
+
+    ghost room = { λ s. s.room };
+
+    ghost machine = { clock_machine };
+
+    ghost entries = { λ c. c.entries };
+
+    ghost owed = { clock_owed };
+
+    ghost closes = { λ c who op. clock_closes op };
+
+    fn next(&mut self, who: Who, op: &ClockOp) -> Result<Option<ClockReply>, NoMemory> {
+        clock_next(self, who, op)
+    }
+
+    fn is_closing(&self, _who: Who, op: &ClockOp) -> bool {
+        matches!(op, ClockOp::AlarmEnd(_))
+    }
+
+    fn owed(&self) -> u64 {
+        self.alarms.len() as u64
+    }
+
+    fn reserve(&mut self, more: usize) -> Result<(), NoMemory> {
+        self.alarms.reserve(more)?;
+        Ok(())
+    }
+
+    fn room(&self) -> u64 {
+        (self.alarms.capacity() - self.alarms.len()) as u64
+    }
+
+    ghost counts = { counts };
+
+    ghost ranges = { ranges };
+
+    ghost adds = { adds };
+
+    ghost gives = { gives };
 }

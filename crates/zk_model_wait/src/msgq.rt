@@ -2,12 +2,12 @@ ghost use Rattle.std.specs.Prelude.{◌≡◌, true, false, ◌+◌, ◌-◌, �
 ghost use Rattle.circular_buffer.specs.Buffer.{buffer};
 ghost use Rattle.zk_base.specs.declared.ids.Who.{Who};
 ghost use Rattle.zk_base.specs.History.{AddsNone};
-ghost use Rattle.zk_model_wait.specs.Msgq.{new_msgq, peek_reply, moved_in, only_looks, msgq_reply, msgq_after, may_wait, open_calls};
+ghost use Rattle.zk_model_wait.specs.Msgq.{new_msgq, peek_reply, moved_in, only_looks, msgq_reply, msgq_after, may_wait};
 
 use circular_buffer::HeapCircularBuffer;
 use std::alloc::Global;
 use std::marker::Model;
-use zk_base::{Msg, NoMemory, WaitList, Waiter, Who};
+use zk_base::{Msg, NoMemory, Store, WaitList, Waiter, Who};
 
 /// What can be asked of a message queue.
 #[derive(Clone, Copy, Debug)]
@@ -157,34 +157,6 @@ impl MsgqStore {
             gets: WaitList::new(alloc),
             pollers: WaitList::new(alloc),
         })
-    }
-
-    /// How many waits and polls there are that haven't ended.
-    pub fn open(&self) -> u64
-        ensures { result ≡ open_calls self.now.msgq }
-    {
-        self.puts.open() + self.gets.open() + self.pollers.open()
-    }
-
-    /// Makes room for so many waits of each kind, and so many polls.
-    pub fn reserve(&mut self, more: usize) -> Result<(), NoMemory>
-        ensures room { IfOk result (λ _. more ≤ self.new.room) }
-        ensures more { self.old.room ≤ self.new.room }
-        ensures same { self.new.msgq ≡ self.old.msgq }
-    {
-        self.puts.reserve(more)?;
-        self.gets.reserve(more)?;
-        self.pollers.reserve(more)
-    }
-
-    /// How many waits and polls it takes without memory.
-    pub fn room(&self) -> u64
-        ensures { result ≡ self.now.room }
-    {
-        self.puts
-            .room()
-            .min(self.gets.room())
-            .min(self.pollers.room())
     }
 
     fn put(&mut self, who: Who, message: Msg, waits: bool) -> Result<Option<MsgqReply>, NoMemory>
@@ -451,4 +423,68 @@ pub fn msgq_next(
             Ok(Some(reply))
         }
     }
+}
+
+impl Store for MsgqStore {
+    type Op = MsgqOp;
+
+    type Reply = MsgqReply;
+
+    type State = MsgqState;
+
+    ghost use Rattle.zk_model_wait.specs.Msgq.{open_calls, msgq_closes, msgq_machine};
+    ghost use Rattle.zk_model_wait.specs.MsgqOwed.{counts, ranges, adds, gives};
+
+    ghost state = { λ s. s.msgq };
+
+    ghost room = { λ s. s.room };
+
+    ghost machine = { msgq_machine };
+
+    ghost entries = { λ q. q.entries };
+
+    ghost owed = { open_calls };
+
+    ghost closes = { λ q who op. msgq_closes op };
+
+    fn next(&mut self, who: Who, op: &MsgqOp) -> Result<Option<MsgqReply>, NoMemory> {
+        msgq_next(self, who, op)
+    }
+
+    fn is_closing(&self, _who: Who, op: &MsgqOp) -> bool {
+        matches!(
+            op,
+            MsgqOp::PutEnd(_)
+                | MsgqOp::PutQuit(_)
+                | MsgqOp::GetEnd(_)
+                | MsgqOp::GetQuit(_)
+                | MsgqOp::PollEnd(_)
+                | MsgqOp::PollQuit(_)
+        )
+    }
+
+    fn owed(&self) -> u64 {
+        self.puts.open() + self.gets.open() + self.pollers.open()
+    }
+
+    fn reserve(&mut self, more: usize) -> Result<(), NoMemory> {
+        self.puts.reserve(more)?;
+        self.gets.reserve(more)?;
+        self.pollers.reserve(more)
+    }
+
+    fn room(&self) -> u64 {
+        self.puts
+            .room()
+            .min(self.gets.room())
+            .min(self.pollers.room())
+    }
+
+    ghost counts = { counts };
+
+    ghost ranges = { ranges };
+
+    ghost adds = { adds };
+
+    ghost gives = { gives };
 }

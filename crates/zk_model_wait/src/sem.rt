@@ -1,10 +1,10 @@
 ghost use Rattle.std.specs.Prelude.{◌≡◌, true, false, ◌+◌, ◌-◌, ◌^◌, ◌<◌, ◌≤◌, [], Some, IsOk, IfOk, OnOk, OnErr};
 ghost use Rattle.zk_base.specs.History.{AddsNone};
-ghost use Rattle.zk_model_wait.specs.Sem.{new_sem, give_to, sem_reply, sem_after, may_wait, open_takes};
+ghost use Rattle.zk_model_wait.specs.Sem.{new_sem, give_to, sem_reply, sem_after, may_wait};
 
 use std::alloc::Global;
 use std::marker::Model;
-use zk_base::{NoMemory, WaitList, Waiter, Who};
+use zk_base::{NoMemory, Store, WaitList, Waiter, Who};
 
 /// What can be asked of a semaphore.
 #[derive(Clone, Copy, Debug)]
@@ -133,30 +133,6 @@ impl SemStore {
             takers: WaitList::new(alloc),
             pollers: WaitList::new(alloc),
         }
-    }
-
-    /// How many waits and polls there are that haven't ended.
-    pub fn open(&self) -> u64
-        ensures { result ≡ open_takes self.now.sem }
-    {
-        self.takers.open() + self.pollers.open()
-    }
-
-    /// Makes room for so many waits and so many polls.
-    pub fn reserve(&mut self, more: usize) -> Result<(), NoMemory>
-        ensures room { IfOk result (λ _. more ≤ self.new.room) }
-        ensures more { self.old.room ≤ self.new.room }
-        ensures same { self.new.sem ≡ self.old.sem }
-    {
-        self.takers.reserve(more)?;
-        self.pollers.reserve(more)
-    }
-
-    /// How many waits and polls it takes without memory.
-    pub fn room(&self) -> u64
-        ensures { result ≡ self.now.room }
-    {
-        self.takers.room().min(self.pollers.room())
     }
 
     fn take(&mut self, who: Who, waits: bool) -> Result<Option<SemReply>, NoMemory>
@@ -336,4 +312,59 @@ pub fn sem_next(store: &mut SemStore, who: Who, op: &SemOp) -> Result<Option<Sem
         SemOp::PollEnd(place) => Ok(store.poll_end(who, place)),
         SemOp::PollQuit(place) => Ok(store.poll_quit(who, place)),
     }
+}
+
+impl Store for SemStore {
+    type Op = SemOp;
+
+    type Reply = SemReply;
+
+    type State = SemState;
+
+    ghost use Rattle.zk_model_wait.specs.Sem.{open_takes, sem_closes, sem_machine};
+    ghost use Rattle.zk_model_wait.specs.SemOwed.{counts, ranges, adds, gives};
+
+    ghost state = { λ s. s.sem };
+
+    ghost room = { λ s. s.room };
+
+    ghost machine = { sem_machine };
+
+    ghost entries = { λ s. s.entries };
+
+    ghost owed = { open_takes };
+
+    ghost closes = { λ s who op. sem_closes op };
+
+    fn next(&mut self, who: Who, op: &SemOp) -> Result<Option<SemReply>, NoMemory> {
+        sem_next(self, who, op)
+    }
+
+    fn is_closing(&self, _who: Who, op: &SemOp) -> bool {
+        matches!(
+            op,
+            SemOp::TakeEnd(_) | SemOp::TakeQuit(_) | SemOp::PollEnd(_) | SemOp::PollQuit(_)
+        )
+    }
+
+    fn owed(&self) -> u64 {
+        self.takers.open() + self.pollers.open()
+    }
+
+    fn reserve(&mut self, more: usize) -> Result<(), NoMemory> {
+        self.takers.reserve(more)?;
+        self.pollers.reserve(more)
+    }
+
+    fn room(&self) -> u64 {
+        self.takers.room().min(self.pollers.room())
+    }
+
+    ghost counts = { counts };
+
+    ghost ranges = { ranges };
+
+    ghost adds = { adds };
+
+    ghost gives = { gives };
 }

@@ -1,7 +1,6 @@
 //! The message queue service.
 #![tactic(auto)]
 
-mod engine;
 mod msgq;
 
 pub use msgq::Msgq;

@@ -3,10 +3,9 @@ ghost use Rattle.zk_model_wait.specs.Msgq.{new_msgq};
 ghost use Rattle.zk_msgq.specs.Seen.{msgq_start, msgq_history};
 ghost use Rattle.zk_msgq.specs.Sizes.{is_size};
 
-use crate::engine::MsgqEngine;
 use std::alloc::Global;
-use zk_base::{Entry, LONGEST_MESSAGE, NewRefused, NoMemory, Recorded, Service, Who};
-use zk_model_wait::{MsgqOp, MsgqReply, MsgqState};
+use zk_base::{Entry, LONGEST_MESSAGE, NewRefused, NoMemory, PlainEngine, Recorded, Service, Who};
+use zk_model_wait::{MsgqOp, MsgqReply, MsgqState, MsgqStore};
 
 /// The most messages that a queue holds.
 pub const MOST_MESSAGES: u32 = 256;
@@ -14,7 +13,7 @@ pub const MOST_MESSAGES: u32 = 256;
 /// A message queue, with its history. Zephyr's `k_msgq`.
 #[derive(Drop)]
 pub struct Msgq {
-    inner: Recorded<MsgqEngine>,
+    inner: Recorded<PlainEngine<MsgqStore>>,
 }
 
 impl Msgq {
@@ -52,7 +51,7 @@ fn made(alloc: Global, most: u32) -> Result<Msgq, NoMemory>
     ensures history { IfOk result (λ msgq. msgq_history msgq ≡ []) }
 {
     let start = MsgqState::new(alloc, most)?;
-    let engine = MsgqEngine::new(alloc, most)?;
+    let engine = PlainEngine::new(MsgqStore::new(alloc, most)?);
     Ok(Msgq {
         inner: Recorded::new(alloc, start, engine),
     })
@@ -66,8 +65,7 @@ impl Service for Msgq {
     type State = MsgqState;
 
     ghost use Rattle.std.specs.Prelude.{false};
-    ghost use Rattle.zk_model_wait.specs.Msgq.{msgq_machine};
-    ghost use Rattle.zk_msgq.specs.Owed.{msgq_closes};
+    ghost use Rattle.zk_model_wait.specs.Msgq.{msgq_closes, msgq_machine};
     ghost use Rattle.zk_msgq.specs.Seen.{msgq_start, msgq_history};
 
     ghost machine = { msgq_machine };

@@ -22,6 +22,12 @@ use Rattle.zk_model_wait.specs.declared.msgq.MsgqOp.{MsgqOp}
 use Rattle.zk_model_wait.specs.declared.msgq.MsgqReply.{MsgqReply}
 use Rattle.zk_model_wait.specs.declared.signal.SignalOp.{SignalOp}
 use Rattle.zk_model_wait.specs.declared.signal.SignalReply.{SignalReply}
+use Rattle.zk_model_bus.specs.declared.channel.ChanOp.{ChanOp}
+use Rattle.zk_model_bus.specs.declared.channel.ChanReply.{ChanReply}
+use Rattle.zk_model_bus.specs.declared.observer.ObsOp.{ObsOp}
+use Rattle.zk_model_bus.specs.declared.observer.ObsReply.{ObsReply}
+use Rattle.zk_model_bus.specs.Channel.{Channel}
+use Rattle.zk_model_bus.specs.Observer.{Observer}
 use Rattle.zk_model_wait.specs.Signal.{Signal}
 use Rattle.zk_model_wait.specs.Sem.{Sem}
 use Rattle.zk_model_wait.specs.Msgq.{Msgq}
@@ -36,7 +42,7 @@ use Rattle.zk_worker.specs.Places.{At}
 use Rattle.zk_worker.specs.Protocol.{start_at}
 use Rattle.zk_worker.specs.Follows.{is_spent_at}
 use Rattle.zk_worker.specs.Ranges.{FramesFit}
-use Rattle.zk_worker.specs.Machines.{machines_of, workers, work_start_of, item_number, items_of, sem_start, msgq_start, signal_start}
+use Rattle.zk_worker.specs.Machines.{machines_of, workers, work_start_of, item_number, items_of, sem_start, msgq_start, signal_start, chan_start, observer_start}
 use Rattle.zk_worker.specs.Shown.{Shown, nothing_shown}
 use Rattle.zk_worker.proofs.Fits.{start_at-fits}
 use Rattle.zk_worker.proofs.Following.{following-fresh}
@@ -147,12 +153,13 @@ ready-first s valid =
     let none : All None_made (starts s n) =
     starts-all None_made s (λ k at is. omega (arith, ap (λ (l : List Spot). length l) (start_at-fresh s k at is).none_made)) n in
     record {
+      valid = valid;
       few = omega (arith, length-starts s n (omega arith), length-players s.decls, valid.players);
       numbers = numbers-starts s n (omega arith);
       shows = λ p at is. log-none s.decls at.who.number at.spots (start_at-fresh s p at (first-there s p at is)).none_made;
       looks = λ p at is. looks-fresh (machines_of s) (nothing_shown s.decls) at.spots (start_at-fresh s p at (first-there s p at is)).none_made;
       short = All-weaker None_made Short (λ at le. omega arith) (starts s n) none;
-      counted = omega (arith, none-counted SemOp SemReply s.decls, none-counted MsgqOp MsgqReply s.decls, none-counted SignalOp SignalReply s.decls);
+      counted = omega (arith, none-counted SemOp SemReply s.decls, none-counted MsgqOp MsgqReply s.decls, none-counted SignalOp SignalReply s.decls, none-counted ChanOp ChanReply s.decls, none-counted ObsOp ObsReply s.decls);
       whole = refl;
       unlooked = refl;
       follow = λ p at is. following-fresh s p (nothing_shown s.decls) at (first-there s p at is);
@@ -179,28 +186,33 @@ pub world-first : (s : Parts) (shown : Shown) (made : List At) → shown ≡ not
 world-first s shown made nothing all = ap (λ (x : Shown). world x made) nothing ∙ ap (world (nothing_shown s.decls)) all
 
 -- services that start as those of a scenario do have its machines
-pub machines-first : (s : Parts) (work : State) (items : List (Option ℕ)) (clock : Clock) (sems : List (Option Sem)) (msgqs : List (Option Msgq)) (signals : List (Option Signal)) →
+pub machines-first : (s : Parts) (work : State) (items : List (Option ℕ)) (clock : Clock) (sems : List (Option Sem)) (msgqs : List (Option Msgq)) (signals : List (Option Signal))
+    (chans : List (Option Channel)) (observers : List (Option Observer)) →
     work ≡ work_start_of s → items ≡ items_of s.decls → clock ≡ new_clock → sems ≡ map sem_start s.decls → msgqs ≡ map msgq_start s.decls → signals ≡ map signal_start s.decls →
-    machines_from work items clock sems msgqs signals ≡ machines_of s
-machines-first s work items clock sems msgqs signals same_work same_items same_clock same_sems same_msgqs same_signals =
-    ap (λ (x : State). machines_from x items clock sems msgqs signals) same_work
-    ∙ ap (λ (x : List (Option ℕ)). machines_from (work_start_of s) x clock sems msgqs signals) same_items
-    ∙ ap (λ (x : Clock). machines_from (work_start_of s) (items_of s.decls) x sems msgqs signals) same_clock
-    ∙ ap (λ (x : List (Option Sem)). machines_from (work_start_of s) (items_of s.decls) new_clock x msgqs signals) same_sems
-    ∙ ap (λ (x : List (Option Msgq)). machines_from (work_start_of s) (items_of s.decls) new_clock (map sem_start s.decls) x signals) same_msgqs
-    ∙ ap (machines_from (work_start_of s) (items_of s.decls) new_clock (map sem_start s.decls) (map msgq_start s.decls)) same_signals
+    chans ≡ map chan_start s.decls → observers ≡ map observer_start s.decls → machines_from work items clock sems msgqs signals chans observers ≡ machines_of s
+machines-first s work items clock sems msgqs signals chans observers same_work same_items same_clock same_sems same_msgqs same_signals same_chans same_observers =
+    ap (λ (x : State). machines_from x items clock sems msgqs signals chans observers) same_work
+    ∙ ap (λ (x : List (Option ℕ)). machines_from (work_start_of s) x clock sems msgqs signals chans observers) same_items
+    ∙ ap (λ (x : Clock). machines_from (work_start_of s) (items_of s.decls) x sems msgqs signals chans observers) same_clock
+    ∙ ap (λ (x : List (Option Sem)). machines_from (work_start_of s) (items_of s.decls) new_clock x msgqs signals chans observers) same_sems
+    ∙ ap (λ (x : List (Option Msgq)). machines_from (work_start_of s) (items_of s.decls) new_clock (map sem_start s.decls) x signals chans observers) same_msgqs
+    ∙ ap (λ (x : List (Option Signal)). machines_from (work_start_of s) (items_of s.decls) new_clock (map sem_start s.decls) (map msgq_start s.decls) x chans observers) same_signals
+    ∙ ap (λ (x : List (Option Channel)). machines_from (work_start_of s) (items_of s.decls) new_clock (map sem_start s.decls) (map msgq_start s.decls) (map signal_start s.decls) x observers) same_chans
+    ∙ ap (machines_from (work_start_of s) (items_of s.decls) new_clock (map sem_start s.decls) (map msgq_start s.decls) (map signal_start s.decls) (map chan_start s.decls)) same_observers
 
 -- and show nothing
 pub shown-first : (s : Parts) (work : List (Entry WorkOp WorkReply)) (clock : List (Entry ClockOp ClockReply)) (sems : List (List (Entry SemOp SemReply)))
-    (msgqs : List (List (Entry MsgqOp MsgqReply))) (signals : List (List (Entry SignalOp SignalReply))) →
-    work ≡ [] → clock ≡ [] → sems ≡ no_entries s.decls → msgqs ≡ no_entries s.decls → signals ≡ no_entries s.decls →
-    whole_shown work clock sems msgqs signals ≡ nothing_shown s.decls
-shown-first s work clock sems msgqs signals no_work no_clock no_sems no_msgqs no_signals =
-    ap (λ (h : List (Entry WorkOp WorkReply)). whole_shown h clock sems msgqs signals) no_work
-    ∙ ap (λ (h : List (Entry ClockOp ClockReply)). whole_shown [] h sems msgqs signals) no_clock
-    ∙ ap (λ (h : List (List (Entry SemOp SemReply))). whole_shown [] [] h msgqs signals) no_sems
-    ∙ ap (λ (h : List (List (Entry MsgqOp MsgqReply))). whole_shown [] [] (no_entries s.decls) h signals) no_msgqs
-    ∙ ap (whole_shown [] [] (no_entries s.decls) (no_entries s.decls)) no_signals
+    (msgqs : List (List (Entry MsgqOp MsgqReply))) (signals : List (List (Entry SignalOp SignalReply))) (chans : List (List (Entry ChanOp ChanReply))) (observers : List (List (Entry ObsOp ObsReply))) →
+    work ≡ [] → clock ≡ [] → sems ≡ no_entries s.decls → msgqs ≡ no_entries s.decls → signals ≡ no_entries s.decls → chans ≡ no_entries s.decls → observers ≡ no_entries s.decls →
+    whole_shown work clock sems msgqs signals chans observers ≡ nothing_shown s.decls
+shown-first s work clock sems msgqs signals chans observers no_work no_clock no_sems no_msgqs no_signals no_chans no_observers =
+    ap (λ (h : List (Entry WorkOp WorkReply)). whole_shown h clock sems msgqs signals chans observers) no_work
+    ∙ ap (λ (h : List (Entry ClockOp ClockReply)). whole_shown [] h sems msgqs signals chans observers) no_clock
+    ∙ ap (λ (h : List (List (Entry SemOp SemReply))). whole_shown [] [] h msgqs signals chans observers) no_sems
+    ∙ ap (λ (h : List (List (Entry MsgqOp MsgqReply))). whole_shown [] [] (no_entries s.decls) h signals chans observers) no_msgqs
+    ∙ ap (λ (h : List (List (Entry SignalOp SignalReply))). whole_shown [] [] (no_entries s.decls) (no_entries s.decls) h chans observers) no_signals
+    ∙ ap (λ (h : List (List (Entry ChanOp ChanReply))). whole_shown [] [] (no_entries s.decls) (no_entries s.decls) (no_entries s.decls) h observers) no_chans
+    ∙ ap (whole_shown [] [] (no_entries s.decls) (no_entries s.decls) (no_entries s.decls) (no_entries s.decls)) no_observers
 
 -- one number more
 pub items_more : (decls : List Decl) (n : ℕ) → map (item_number decls) (range_with_len 0 n) ++ item_number decls n ∷ [] ≡ map (item_number decls) (range_with_len 0 (n + 1))

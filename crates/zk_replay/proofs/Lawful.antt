@@ -17,6 +17,10 @@ use Rattle.zk_model_wait.specs.declared.msgq.MsgqOp.{MsgqOp}
 use Rattle.zk_model_wait.specs.declared.msgq.MsgqReply.{MsgqReply}
 use Rattle.zk_model_wait.specs.declared.signal.SignalOp.{SignalOp}
 use Rattle.zk_model_wait.specs.declared.signal.SignalReply.{SignalReply}
+use Rattle.zk_model_bus.specs.declared.channel.ChanOp.{ChanOp}
+use Rattle.zk_model_bus.specs.declared.channel.ChanReply.{ChanReply}
+use Rattle.zk_model_bus.specs.declared.observer.ObsOp.{ObsOp}
+use Rattle.zk_model_bus.specs.declared.observer.ObsReply.{ObsReply}
 use Rattle.zk_worker.specs.Right.{LooksRight}
 use Rattle.zk_trace.specs.Look.{AreRight}
 use Rattle.zk_model_work.specs.declared.ops.WorkOp.{WorkOp}
@@ -70,6 +74,8 @@ known-first s (spots.Clock place) number step is = absurd (cc)
 known-first s (spots.Sem object place) number step is = absurd (none-there step_of s.decls object place (number, step) is)
 known-first s (spots.Msgq object place) number step is = absurd (none-there step_of s.decls object place (number, step) is)
 known-first s (spots.Signal object place) number step is = absurd (none-there step_of s.decls object place (number, step) is)
+known-first s (spots.Chan object place) number step is = absurd (none-there step_of s.decls object place (number, step) is)
+known-first s (spots.Obs object place) number step is = absurd (none-there step_of s.decls object place (number, step) is)
 known-first s (spots.LookItem object flags at) number step is = absurd (cc)
 known-first s (spots.LookSignal object seen) number step is = absurd (cc)
 
@@ -157,11 +163,12 @@ unspent-ending s w never = by_spent (is_spent w) refl
 
 -- whole histories are all that is shown
 whole-same : (work : List (Entry WorkOp WorkReply)) (clock : List (Entry ClockOp ClockReply)) (sems : List (List (Entry SemOp SemReply))) (msgqs : List (List (Entry MsgqOp MsgqReply)))
-    (signals : List (List (Entry SignalOp SignalReply))) (looks : Option (List (List Seen))) (looked : Option ℕ) → looks ≡ None → looked ≡ None →
-    whole_shown work clock sems msgqs signals ≡ (record { work = work; clock = clock; sems = sems; msgqs = msgqs; signals = signals; looks = looks; looked = looked })
-whole-same work clock sems msgqs signals None None whole unlooked = refl
-whole-same work clock sems msgqs signals (Some looks) looked whole unlooked = absurd (cc)
-whole-same work clock sems msgqs signals None (Some looked) whole unlooked = absurd (cc)
+    (signals : List (List (Entry SignalOp SignalReply))) (chans : List (List (Entry ChanOp ChanReply))) (observers : List (List (Entry ObsOp ObsReply))) (looks : Option (List (List Seen))) (looked : Option ℕ) → looks ≡ None → looked ≡ None →
+    whole_shown work clock sems msgqs signals chans observers
+    ≡ (record { work = work; clock = clock; sems = sems; msgqs = msgqs; signals = signals; chans = chans; observers = observers; looks = looks; looked = looked })
+whole-same work clock sems msgqs signals chans observers None None whole unlooked = refl
+whole-same work clock sems msgqs signals chans observers (Some looks) looked whole unlooked = absurd (cc)
+whole-same work clock sems msgqs signals chans observers None (Some looked) whole unlooked = absurd (cc)
 
 module _ (s : Parts) (w : World) (valid : IsValid s) (run : IsRun (machines_of s) s w) where
   known : IsReady s w × AreKnown w
@@ -169,7 +176,7 @@ module _ (s : Parts) (w : World) (valid : IsValid s) (run : IsRun (machines_of s
 
   -- the trace shows what was shown
   shown-same : trace_shown (trace_of s w) ≡ w.shown
-  shown-same = whole-same w.shown.work w.shown.clock w.shown.sems w.shown.msgqs w.shown.signals w.shown.looks w.shown.looked known.0.whole known.0.unlooked
+  shown-same = whole-same w.shown.work w.shown.clock w.shown.sems w.shown.msgqs w.shown.signals w.shown.chans w.shown.observers w.shown.looks w.shown.looked known.0.whole known.0.unlooked
 
   abbrev follows : (number : ℕ) (log : Log) → slice_get (map log_of w.players) number ≡ Some log → Follows s number (trace_shown (trace_of s w)) log
   follows number log is =
@@ -213,7 +220,7 @@ module _ (s : Parts) (w : World) (valid : IsValid s) (run : IsRun (machines_of s
   legal : AreLegal s (trace_of s w)
   legal =
       let shown = run-legal s w valid run in
-      record { work = shown.work; clock = shown.clock; sems = shown.sems; msgqs = shown.msgqs; signals = shown.signals }
+      record { work = shown.work; clock = shown.clock; sems = shown.sems; msgqs = shown.msgqs; signals = shown.signals; chans = shown.chans; observers = shown.observers }
 
   lawful-run : IsLawful s (trace_of s w)
   lawful-run = record {

@@ -19,14 +19,16 @@ use Rattle.zk_line.specs.declared.types.Decl.{Decl}
 use Rattle.zk_model_wait.specs.Msgq.{msgq_machine}
 use Rattle.zk_model_wait.specs.Sem.{sem_machine}
 use Rattle.zk_model_wait.specs.Signal.{signal_machine}
+use Rattle.zk_model_bus.specs.Channel.{chan_machine}
+use Rattle.zk_model_bus.specs.Observer.{obs_machine}
 use Rattle.zk_worker.specs.Ranges.{FramesFit}
 use Rattle.zk_base.proofs.Lists.{All-at}
-use Rattle.zk_worker.specs.Machines.{Machines, machines_of, sem_start, msgq_start, signal_start}
+use Rattle.zk_worker.specs.Machines.{Machines, machines_of, sem_start, msgq_start, signal_start, chan_start, observer_start}
 use Rattle.zk_worker.specs.Single.{answer_in}
 use Rattle.zk_worker.specs.Families.{Family, start_of, no_entries, with_entry, answer_at, takes_at}
 use Rattle.zk_worker.specs.Shown.{Shown, shown_after, IsLater}
 use Rattle.zk_worker.specs.Attempt.{reply_in, takes}
-use Rattle.zk_worker.proofs.Between.{above-work, above-clock, above-sems, above-msgqs, above-signals, log-later}
+use Rattle.zk_worker.proofs.Between.{above-work, above-clock, above-sems, above-msgqs, above-signals, above-chans, above-observers, log-later}
 use Rattle.zk_worker.proofs.Ranges.{ahead-takes}
 use Rattle.zk_worker.proofs.ShownSteps.{made-of}
 use Rattle.zk_worker.proofs.Lists.{none-passes}
@@ -45,6 +47,8 @@ pub record IsLegalShown (m : Machines) (shown : Shown) : Type 0 where
   pub sems : EachLegal m.sems shown.sems
   pub msgqs : EachLegal m.msgqs shown.msgqs
   pub signals : EachLegal m.signals shown.signals
+  pub chans : EachLegal m.chans shown.chans
+  pub observers : EachLegal m.observers shown.observers
 
 module _ {S O R : Type 0} where
   -- nothing that was done is legal
@@ -124,6 +128,8 @@ legal-after m shown who number (steps.Work op) (step_replies.Work reply place) l
       sems = legal.sems;
       msgqs = legal.msgqs;
       signals = legal.signals;
+      chans = legal.chans;
+      observers = legal.observers;
     }
 legal-after m shown who number (steps.Clock op) (step_replies.Clock reply place) legal answered taken later =
     let one = one-answer m.clock m.clock_start shown.clock step_replies.Clock who op (step_replies.Clock reply place) answered in
@@ -134,6 +140,8 @@ legal-after m shown who number (steps.Clock op) (step_replies.Clock reply place)
       sems = legal.sems;
       msgqs = legal.msgqs;
       signals = legal.signals;
+      chans = legal.chans;
+      observers = legal.observers;
     }
 legal-after m shown who number (steps.Sem object op) (step_replies.Sem at reply place) legal answered taken later =
     let one = one-of-many m.sems shown.sems step_replies.Sem who object op (step_replies.Sem at reply place) answered in
@@ -145,6 +153,8 @@ legal-after m shown who number (steps.Sem object op) (step_replies.Sem at reply 
           (λ h there. above-sems shown who.number number object h there later);
       msgqs = legal.msgqs;
       signals = legal.signals;
+      chans = legal.chans;
+      observers = legal.observers;
     }
 legal-after m shown who number (steps.Msgq object op) (step_replies.Msgq at reply place) legal answered taken later =
     let one = one-of-many m.msgqs shown.msgqs step_replies.Msgq who object op (step_replies.Msgq at reply place) answered in
@@ -156,6 +166,8 @@ legal-after m shown who number (steps.Msgq object op) (step_replies.Msgq at repl
       msgqs = entry-legal m.msgqs shown.msgqs (step_replies.Msgq object) who number object op (step_replies.Msgq at reply place) reply one same legal.msgqs taken
           (λ h there. above-msgqs shown who.number number object h there later);
       signals = legal.signals;
+      chans = legal.chans;
+      observers = legal.observers;
     }
 legal-after m shown who number (steps.Signal object op) (step_replies.Signal at reply place) legal answered taken later =
     let one = one-of-many m.signals shown.signals step_replies.Signal who object op (step_replies.Signal at reply place) answered in
@@ -167,9 +179,37 @@ legal-after m shown who number (steps.Signal object op) (step_replies.Signal at 
       msgqs = legal.msgqs;
       signals = entry-legal m.signals shown.signals (step_replies.Signal object) who number object op (step_replies.Signal at reply place) reply one same legal.signals taken
           (λ h there. above-signals shown who.number number object h there later);
+      chans = legal.chans;
+      observers = legal.observers;
+    }
+legal-after m shown who number (steps.Chan object op) (step_replies.Chan at reply place) legal answered taken later =
+    let one = one-of-many m.chans shown.chans step_replies.Chan who object op (step_replies.Chan at reply place) answered in
+    let same : one.reply ≡ reply = let tells = one.tells in cc in
+    record {
+      work = legal.work;
+      clock = legal.clock;
+      sems = legal.sems;
+      msgqs = legal.msgqs;
+      signals = legal.signals;
+      chans = entry-legal m.chans shown.chans (step_replies.Chan object) who number object op (step_replies.Chan at reply place) reply one same legal.chans taken
+          (λ h there. above-chans shown who.number number object h there later);
+      observers = legal.observers;
+    }
+legal-after m shown who number (steps.Obs object op) (step_replies.Obs at reply place) legal answered taken later =
+    let one = one-of-many m.observers shown.observers step_replies.Obs who object op (step_replies.Obs at reply place) answered in
+    let same : one.reply ≡ reply = let tells = one.tells in cc in
+    record {
+      work = legal.work;
+      clock = legal.clock;
+      sems = legal.sems;
+      msgqs = legal.msgqs;
+      signals = legal.signals;
+      chans = legal.chans;
+      observers = entry-legal m.observers shown.observers (step_replies.Obs object) who number object op (step_replies.Obs at reply place) reply one same legal.observers taken
+          (λ h there. above-observers shown who.number number object h there later);
     }
 legal-after m shown who number (steps.LookItem object) (step_replies.Flags flags at) legal answered taken later =
-    record { work = legal.work; clock = legal.clock; sems = legal.sems; msgqs = legal.msgqs; signals = legal.signals }
+    record { work = legal.work; clock = legal.clock; sems = legal.sems; msgqs = legal.msgqs; signals = legal.signals; chans = legal.chans; observers = legal.observers }
 legal-after m shown who number step reply legal answered taken later = legal
 
 -- nothing done is legal
@@ -180,6 +220,8 @@ legal-first s = record {
   sems = none-legal sem_machine sem_start s.decls;
   msgqs = none-legal msgq_machine msgq_start s.decls;
   signals = none-legal signal_machine signal_start s.decls;
+  chans = none-legal chan_machine chan_start s.decls;
+  observers = none-legal obs_machine observer_start s.decls;
 }
 
 -- all that a run of a valid scenario shows is legal

@@ -17,6 +17,10 @@ use Rattle.zk_model_wait.specs.declared.msgq.MsgqOp.{MsgqOp}
 use Rattle.zk_model_wait.specs.declared.msgq.MsgqReply.{MsgqReply}
 use Rattle.zk_model_wait.specs.declared.signal.SignalOp.{SignalOp}
 use Rattle.zk_model_wait.specs.declared.signal.SignalReply.{SignalReply}
+use Rattle.zk_model_bus.specs.declared.channel.ChanOp.{ChanOp}
+use Rattle.zk_model_bus.specs.declared.channel.ChanReply.{ChanReply}
+use Rattle.zk_model_bus.specs.declared.observer.ObsOp.{ObsOp}
+use Rattle.zk_model_bus.specs.declared.observer.ObsReply.{ObsReply}
 use Rattle.zk_model_work.specs.declared.ops.WorkOp.{WorkOp}
 use Rattle.zk_model_work.specs.declared.ops.WorkOp.TheVariants as work_ops
 use Rattle.zk_model_work.specs.declared.ops.WorkReply.{WorkReply}
@@ -75,9 +79,9 @@ flags-told start h items object item word there taken is =
     within = ap (λ (f : WorkOp → Bool). f (work_ops.Remaining item)) (in_range-after start h) ∙ first
 
 module _ (work : List (Entry WorkOp WorkReply)) (clock : List (Entry ClockOp ClockReply)) (sems : List (List (Entry SemOp SemReply))) (msgqs : List (List (Entry MsgqOp MsgqReply)))
-    (signals : List (List (Entry SignalOp SignalReply))) (m : Machines) (who : Who) (number object : ℕ) where
+    (signals : List (List (Entry SignalOp SignalReply))) (chans : List (List (Entry ChanOp ChanReply))) (observers : List (List (Entry ObsOp ObsReply))) (m : Machines) (who : Who) (number object : ℕ) where
   abbrev pub old : Shown
-  old = whole_shown work clock sems msgqs signals
+  old = whole_shown work clock sems msgqs signals chans observers
 
   item-still : (reply : StepReply) → old ≡ shown_after old who number (steps.LookItem object) reply
   item-still (step_replies.Flags flags at) = refl

@@ -21,6 +21,7 @@ use Rattle.zk_worker.specs.Right.{LooksRight}
 use Rattle.zk_worker.specs.Shown.{Shown, shown_after, ShowsLog, AreShort}
 use Rattle.zk_worker.proofs.Families.{each-short}
 use Rattle.zk_worker.proofs.Fits.{after-fits}
+use Rattle.zk_worker.proofs.Replied.{replied-fits}
 use Rattle.zk_worker.proofs.ShownSteps.{made-more, log-answered, log-others, unlooked-after, whole-after}
 use Rattle.zk_worker.proofs.Looking.{looks-stepped, looks-others, reads-whole}
 use Rattle.zk_worker.proofs.Following.{following-still, following-more}
@@ -40,6 +41,8 @@ short-shown s w ready =
       sems = each-short w.shown.sems (2 ^ 32 - 1) (omega (arith, ready.few, ready.counted, most));
       msgqs = each-short w.shown.msgqs (2 ^ 32 - 1) (omega (arith, ready.few, ready.counted, most));
       signals = each-short w.shown.signals (2 ^ 32 - 1) (omega (arith, ready.few, ready.counted, most));
+      chans = each-short w.shown.chans (2 ^ 32 - 1) (omega (arith, ready.few, ready.counted, most));
+      observers = each-short w.shown.observers (2 ^ 32 - 1) (omega (arith, ready.few, ready.counted, most));
     }
 
 unspent-short : (at : At) → is_spent_at at ≡ false → length at.spots < MOST_STEPS
@@ -49,13 +52,11 @@ unspent-short at is = grind (arith, nat_tests)
 record IsOneMore (s : Parts) (at at' : At) : Type 0 where
   who : at'.who ≡ at.who
   count : length at'.spots ≡ length at.spots + 1
-  fits : FramesFit s.decls at.frames → FramesFit s.decls at'.frames
 
 after-one : (s : Parts) (at : At) (step : Step) (reply : StepReply) → IsOneMore s at (after s at step reply)
 after-one s at step reply = record {
   who = refl;
   count = omega (arith, length-append at.spots (spot_of step reply ∷ []));
-  fits = after-fits s at step reply;
 }
 
 shows-after : (m : Machines) (s : Parts) (w : World) (p : ℕ) (at : At) (step : Step) (reply : StepReply) → IsReady s w → slice_get w.players p ≡ Some at → reply_in m w.shown at.who step ≡ Some reply →
@@ -126,7 +127,9 @@ ready-stepped m s w p at made same ready is unspent found =
     let count : At → ℕ = λ at. length at.spots in
     let Short : At → Type 0 = λ at. length at.spots ≤ MOST_STEPS in
     let Fits : At → Type 0 = λ at. FramesFit s.decls at.frames in
+    let told = replied-fits s m w.shown at.who made.0 made.1 ready.valid same found.answered in
     record {
+      valid = ready.valid;
       few = omega (arith, length-set w.players p at', ready.few);
       numbers = numbers-after s w p at at' ready is more;
       shows = shows-after m s w p at made.0 made.1 ready is found.answered;
@@ -136,7 +139,7 @@ ready-stepped m s w p at made same ready is unspent found =
       whole = whole-after w.shown at.who (length at.spots) made.0 made.1 ready.whole;
       unlooked = unlooked-after w.shown at.who (length at.spots) made.0 made.1 ready.unlooked;
       follow = follow-after m s w p at made ready is found;
-      fits = All-set Fits w.players p at' (more.fits (All-at Fits w.players p at ready.fits is)) ready.fits;
+      fits = All-set Fits w.players p at' (after-fits s at made.0 made.1 (All-at Fits w.players p at ready.fits is) told) ready.fits;
     }
 
 -- a step leaves fewer steps

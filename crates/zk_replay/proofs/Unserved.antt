@@ -11,6 +11,10 @@ use Rattle.zk_model_wait.specs.declared.clock.ClockReply.{ClockReply}
 use Rattle.zk_model_wait.specs.declared.sem.SemOp.TheVariants as sem_ops
 use Rattle.zk_model_wait.specs.declared.msgq.MsgqOp.TheVariants as msgq_ops
 use Rattle.zk_model_wait.specs.Clock.{new_clock, clock_reply, clock_machine}
+use Rattle.zk_model_bus.specs.declared.channel.ChanOp.TheVariants as chan_ops
+use Rattle.zk_model_bus.specs.declared.observer.ObsOp.TheVariants as obs_ops
+use Rattle.zk_model_bus.specs.Channel.{Channel}
+use Rattle.zk_model_bus.specs.Observer.{Observer}
 use Rattle.zk_model_wait.specs.Sem.{Sem}
 use Rattle.zk_model_wait.specs.Msgq.{Msgq}
 use Rattle.zk_worker.specs.declared.steps.Step.{Step}
@@ -110,6 +114,14 @@ none_is_served s w run unspent player at is = record {
       subst (λ (x : Msgq). decision_of x.gets at.who.number place ≡ None) (sym stands.4)
       (object-none (machines_of s).msgqs w.shown.msgqs step_replies.Msgq at.who object (msgq_ops.GetEnd place) stands.0 stands.1 stands.2 stands.3
       (impossible (steps.Msgq object (msgq_ops.GetEnd place)) ahead));
+  claims = λ object place channel ahead stands.
+      subst (λ (x : Channel). decision_of x.waits at.who.number place ≡ None) (sym stands.4)
+      (object-none (machines_of s).chans w.shown.chans step_replies.Chan at.who object (chan_ops.ClaimEnd place) stands.0 stands.1 stands.2 stands.3
+      (impossible (steps.Chan object (chan_ops.ClaimEnd place)) ahead));
+  sub_takes = λ object place observer ahead stands.
+      subst (λ (x : Observer). decision_of x.takers at.who.number place ≡ None) (sym stands.4)
+      (object-none (machines_of s).observers w.shown.observers step_replies.Obs at.who object (obs_ops.TakeEnd place) stands.0 stands.1 stands.2 stands.3
+      (impossible (steps.Obs object (obs_ops.TakeEnd place)) ahead));
   sem_polls = λ object place sem ahead stands.
       subst (λ (x : Sem). decision_of x.pollers at.who.number place ≡ None) (sym stands.4)
       (object-none (machines_of s).sems w.shown.sems step_replies.Sem at.who object (sem_ops.PollEnd place) stands.0 stands.1 stands.2 stands.3

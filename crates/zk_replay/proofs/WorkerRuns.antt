@@ -47,30 +47,30 @@ use Rattle.zk_replay.specs.RoundRobin.{World, starts, first, stepped}
 use Rattle.zk_replay.specs.Tending.{IsIdle, IsWorkers, IsScript, Tends, IsTended}
 use Rattle.zk_model_work.proofs.Runs.{IsCalled, idle-called, idle-ended, idle-next, begin-told, homes-next, workers-next}
 use Rattle.zk_model_work.specs.declared.ops.WorkReply.TheVariants as replies
-use Rattle.zk_model_wait.specs.declared.clock.ClockReply.TheVariants as clock_replies
-use Rattle.zk_model_wait.specs.declared.sem.SemReply.TheVariants as sem_replies
-use Rattle.zk_model_wait.specs.declared.msgq.MsgqReply.TheVariants as msgq_replies
+use Rattle.zk_model_bus.specs.declared.channel.ChanOp.TheVariants as chan_ops
 use Rattle.zk_words.specs.declared.timeout.Timeout.{Timeout}
 use Rattle.zk_words.specs.declared.timeout.Timeout.TheVariants.{No, Forever, Ticks}
 use Rattle.zk_worker.specs.declared.frames.Waiting.{Waiting}
-use Rattle.zk_worker.specs.declared.frames.Waiting.TheVariants.{Take, Put, Get}
+use Rattle.zk_worker.specs.declared.frames.Waiting.TheVariants.{Take, Put, Get, Claim, SubWait, Offer, Enter}
 use Rattle.zk_worker.specs.declared.frames.Plan.{Plan}
-use Rattle.zk_worker.specs.declared.frames.Plan.TheVariants.{One, Pair, Twice, Wait, Poll}
-use Rattle.zk_worker.specs.declared.frames.Stage.TheVariants.{Start, Runs, Waits, Halfway, Alarmed, WaitsUntil, Quits, Polls}
+use Rattle.zk_worker.specs.declared.frames.Plan.TheVariants.{One, Pair, Twice, Wait, Poll, Channel}
+use Rattle.zk_worker.specs.declared.frames.Stage.TheVariants.{Start, Runs, Waits, Halfway, Alarmed, WaitsUntil, Quits, Holds, Visits, Reads}
 use Rattle.zk_worker.specs.declared.frames.Mark.{Mark}
 use Rattle.zk_worker.specs.declared.frames.Mark.TheVariants.{Armed}
-use Rattle.zk_worker.specs.declared.frames.Alarm.{Alarm}
-use Rattle.zk_worker.specs.declared.frames.Alarm.TheVariants.{Unset}
 use Rattle.zk_line.specs.declared.events.Event.{Event}
 use Rattle.zk_line.specs.declared.events.Event.TheVariants as sources
 use Rattle.zk_line.specs.declared.types.Ref.TheVariants.{Known}
 use Rattle.zk_model_wait.specs.declared.sem.SemOp.TheVariants as sem_ops
 use Rattle.zk_model_wait.specs.declared.msgq.MsgqOp.TheVariants as msgq_ops
-use Rattle.zk_worker.specs.Polls.{fresh, ask_step, watch_step, drop_step, poll_attempts, alarm_after, marked, event_of, mark_of, poll_answer, is_answered, poll_goes, polled, poll_progress}
+use Rattle.zk_worker.specs.Polls.{ask_step, watch_step, drop_step, poll_attempts}
 use Rattle.zk_worker.proofs.PollSteps.{poll_attempts-each}
 use Rattle.zk_worker.specs.declared.frames.Progress.{Progress}
 use Rattle.zk_worker.specs.declared.frames.Progress.TheVariants.{Goes, Answers, Enters}
-use Rattle.zk_worker.specs.Calls.{plan_of, closing_step, open_step, end_step, quit_step, first_step, wait_attempts, plan_attempts, opening_progress, until, wait_progress, plan_progress}
+use Rattle.zk_worker.specs.Calls.{plan_of, closing_step, plan_attempts, plan_progress}
+use Rattle.zk_worker.specs.Waits.{open_step, end_step, quit_step, first_step, wait_attempts}
+use Rattle.zk_worker.specs.Publishes.{asks_for, use_step, visit_step, channel_attempts}
+use Rattle.zk_worker.specs.declared.frames.Using.{Using}
+use Rattle.zk_worker.specs.declared.frames.Using.TheVariants.{Publish, Notify, Read}
 use Rattle.zk_line.specs.Calls.{word_of}
 use Rattle.zk_worker.specs.Shown.{Shown, shown_after}
 use Rattle.zk_base.specs.Legal.{state_after}
@@ -163,6 +163,7 @@ IsCalledPlan (Pair opening closing) = IsCalledStep opening
 IsCalledPlan (Twice first second) = IsCalledStep first × IsCalledStep second
 IsCalledPlan (Wait waiting timeout) = Unit {0}
 IsCalledPlan (Poll timeout events) = Unit {0}
+IsCalledPlan (Channel chan using_ timeout) = Unit {0}
 
 plan_of-called : (decls : List Decl) (call : Call) → IsCalledPlan (plan_of decls call)
 plan_of-called decls (calls.Tick ticks) = (tt, tt)
@@ -175,16 +176,28 @@ open-called : (waiting : Waiting) (waits : Bool) → IsCalledStep (open_step wai
 open-called (Take object) waits = tt
 open-called (Put object message) waits = tt
 open-called (Get object) waits = tt
+open-called (Claim object) waits = tt
+open-called (SubWait object) waits = tt
+open-called (Offer object message) waits = tt
+open-called (Enter object) waits = tt
 
 end-called : (waiting : Waiting) (place : ℕ) → IsCalledStep (end_step waiting place)
 end-called (Take object) place = tt
 end-called (Put object message) place = tt
 end-called (Get object) place = tt
+end-called (Claim object) place = tt
+end-called (SubWait object) place = tt
+end-called (Offer object message) place = tt
+end-called (Enter object) place = tt
 
 quit-called : (waiting : Waiting) (place : ℕ) → IsCalledStep (quit_step waiting place)
 quit-called (Take object) place = tt
 quit-called (Put object message) place = tt
 quit-called (Get object) place = tt
+quit-called (Claim object) place = tt
+quit-called (SubWait object) place = tt
+quit-called (Offer object message) place = tt
+quit-called (Enter object) place = tt
 
 first-called : (waiting : Waiting) (timeout : Timeout) → IsCalledStep (first_step waiting timeout)
 first-called waiting No = open-called waiting false
@@ -234,6 +247,22 @@ poll-called : (timeout : Timeout) (events : List Event) (stage : Stage) → All 
 poll-called timeout events stage =
     poll_attempts-each IsCalledStep (λ event. Unit {0}) ask-called watch-called drop-called (λ op. tt) timeout events stage (each-event events)
 
+-- nor is what a call does with a channel
+use-called : (chan : ℕ) (using_ : Using) → IsCalledStep (use_step chan using_)
+use-called chan (Publish message) = tt
+use-called chan Notify = tt
+use-called chan Read = tt
+
+visit-called : (chan : ℕ) (left : List ℕ) → IsCalledStep (visit_step chan left)
+visit-called chan [] = tt
+visit-called chan (observer ∷ left) = tt
+
+channel-called : (chan : ℕ) (using_ : Using) (timeout : Timeout) (stage : Stage) → All IsCalledStep (channel_attempts chan using_ timeout stage)
+channel-called chan using_ timeout Holds = one-called (use_step chan using_) (use-called chan using_)
+channel-called chan using_ timeout (Visits left full) = one-called (visit_step chan left) (visit-called chan left)
+channel-called chan using_ timeout (Reads message) = one-called (steps.Chan chan chan_ops.Free) tt
+channel-called chan using_ timeout stage = wait-called (asks_for chan using_) timeout stage
+
 -- and so are all that it attempts
 attempts-called : (plan : Plan) (stage : Stage) → IsCalledPlan plan → All IsCalledStep (plan_attempts plan stage)
 attempts-called (One step) Start called = one-called step called
@@ -243,55 +272,8 @@ attempts-called (Twice first second) Start called = one-called first called.0
 attempts-called (Twice first second) Halfway called = one-called second called.1
 attempts-called (Wait waiting timeout) stage called = wait-called waiting timeout stage
 attempts-called (Poll timeout events) stage called = poll-called timeout events stage
+attempts-called (Channel chan using_ timeout) stage called = channel-called chan using_ timeout stage
 attempts-called plan stage called = All-nil IsCalledStep
-
--- a call goes on or is answered, and enters no script
-abbrev StaysOut : Progress → Type 0
-StaysOut (Goes stage) = Unit {0}
-StaysOut (Answers word answer) = Unit {0}
-StaysOut (Enters owner stage) = ⊥
-
-opening-out : (word : Word) (reply : StepReply) → StaysOut (opening_progress word reply)
-opening-out word (step_replies.Work replies.Wait place) = tt
-opening-out word (step_replies.Work (replies.WaitFor admission) place) = tt
-opening-out word (step_replies.Sem object sem_replies.Wait place) = tt
-opening-out word (step_replies.Msgq object msgq_replies.Wait place) = tt
-opening-out word reply = tt
-
-until-out : (moment : ℕ) (progress : Progress) → StaysOut progress → StaysOut (until moment progress)
-until-out moment (Goes (Waits place)) out = tt
-until-out moment progress out = out
-
-wait-out : (word : Word) (stage : Stage) (reply : StepReply) → StaysOut (wait_progress word stage reply)
-wait-out word Start (step_replies.Clock (clock_replies.At moment) place) = tt
-wait-out word Start reply = opening-out word reply
-wait-out word (Alarmed moment) reply = until-out moment (opening_progress word reply) (opening-out word reply)
-wait-out word (WaitsUntil place moment) (step_replies.Clock reply at) = tt
-wait-out word stage reply = tt
-
-goes-out : (word : Word) (timeout : Timeout) (events : List Event) (alarm : Alarm) (marks : List Mark) → StaysOut (poll_goes word timeout events alarm marks)
-goes-out word timeout events alarm marks =
-    elim (is_answered timeout events alarm marks) as (λ b. StaysOut (cond b (Answers word (poll_answer marks)) (Goes (Polls alarm marks)))) [ true ↦ tt | false ↦ tt ]
-
-polled-out : (word : Word) (timeout : Timeout) (events : List Event) (alarm : Alarm) (marks : List Mark) (made : Step) (reply : StepReply) →
-    StaysOut (polled word timeout events alarm marks made reply)
-polled-out word timeout events alarm marks made reply =
-    goes-out word timeout events (alarm_after alarm reply) (marked marks (event_of events alarm marks made) (mark_of reply))
-
-poll-out : (word : Word) (timeout : Timeout) (events : List Event) (stage : Stage) (made : Step) (reply : StepReply) →
-    StaysOut (poll_progress word timeout events stage made reply)
-poll-out word timeout events Start made (step_replies.Clock (clock_replies.At moment) place) = tt
-poll-out word timeout events Start made reply = polled-out word timeout events Unset fresh made reply
-poll-out word timeout events (Polls alarm marks) made reply = polled-out word timeout events alarm marks made reply
-poll-out word timeout events stage made reply = tt
-
-plan-out : (word : Word) (plan : Plan) (stage : Stage) (step : Step) (reply : StepReply) → StaysOut (plan_progress word plan stage step reply)
-plan-out word (One made) stage step reply = tt
-plan-out word (Pair opening closing) Start step reply = opening-out word reply
-plan-out word (Twice first second) Start step reply = tt
-plan-out word (Wait waiting timeout) stage step reply = wait-out word stage reply
-plan-out word (Poll timeout events) stage step reply = poll-out word timeout events stage step reply
-plan-out word plan stage step reply = tt
 
 -- the scripts of a worker after a step of the innermost one, which leaves the queue idle where a call asks for it
 own-script : (s : Parts) (queue : ℕ) (frame next : Frame) (below : List Frame) (step : Step) (reply : StepReply) (k : ℕ) (call : Option Call) (old new : List Admission) →
@@ -300,7 +282,7 @@ own-script : (s : Parts) (queue : ℕ) (frame next : Frame) (below : List Frame)
     Tends s.decls queue (frames_after s (frame ∷ next ∷ below) (call_progress s.decls call frame.stage step reply)) new
 own-script s queue frame next below step reply k None old new keeps script tends is = absurd (cc)
 own-script s queue frame next below step reply k (Some call) old new keeps script tends is =
-    by_progress (plan_progress (word_of call) (plan_of s.decls call) frame.stage step reply) (plan-out (word_of call) (plan_of s.decls call) frame.stage step reply)
+    by_progress (plan_progress (word_of call) (plan_of s.decls call) frame.stage step reply)
   where
     called : IsCalledStep step
     called = All-at IsCalledStep (plan_attempts (plan_of s.decls call) frame.stage) k step (attempts-called (plan_of s.decls call) frame.stage (plan_of-called s.decls call)) is
@@ -308,10 +290,14 @@ own-script s queue frame next below step reply k (Some call) old new keeps scrip
     kept : Tends s.decls queue (next ∷ below) new
     kept = tends-keep s.decls queue (next ∷ below) old new (keeps called) tends
 
-    by_progress : (progress : Progress) → StaysOut progress → Tends s.decls queue (frames_after s (frame ∷ next ∷ below) progress) new
-    by_progress (Goes stage) out = (script, kept)
-    by_progress (Answers word answer) out = tends-settled s queue (record frame { next = frame.next + 1; stage = Start } ∷ next ∷ below) new (script, kept)
-    by_progress (Enters owner stage) out = absurd out
+    by_progress : (progress : Progress) → Tends s.decls queue (frames_after s (frame ∷ next ∷ below) progress) new
+    by_progress (Goes stage) = (script, kept)
+    by_progress (Answers word answer) = tends-settled s queue (record frame { next = frame.next + 1; stage = Start } ∷ next ∷ below) new (script, kept)
+    by_progress (Enters owner stage) =
+        let frames : List Frame = record frame { stage = stage } ∷ next ∷ below in
+        tends-settled s queue (entered frames owner) new
+        (elim (nat_lt (length frames) MOST_FRAMES) as (λ b. Tends s.decls queue (cond b (first_frame (Script owner) ∷ frames) frames) new)
+        [ true ↦ (tt, (script, kept)) | false ↦ (script, kept) ])
 
 -- the same of the open scripts and the run below
 own-scripts : (s : Parts) (queue : ℕ) (frame next : Frame) (below : List Frame) (step : Step) (reply : StepReply) (k : ℕ) (old new : List Admission) →
@@ -394,6 +380,8 @@ work-stays shown who number (steps.Clock op) (step_replies.Clock reply place) el
 work-stays shown who number (steps.Sem object op) (step_replies.Sem at reply place) elsewhere = refl
 work-stays shown who number (steps.Msgq object op) (step_replies.Msgq at reply place) elsewhere = refl
 work-stays shown who number (steps.Signal object op) (step_replies.Signal at reply place) elsewhere = refl
+work-stays shown who number (steps.Chan object op) (step_replies.Chan at reply place) elsewhere = refl
+work-stays shown who number (steps.Obs object op) (step_replies.Obs at reply place) elsewhere = refl
 work-stays shown who number (steps.LookItem object) (step_replies.Flags flags at) elsewhere = refl
 work-stays shown who number step reply elsewhere = refl
 

@@ -3,20 +3,20 @@ use Rattle.zk_base.specs.declared.ids.Entry.{Entry}
 use Rattle.zk_base.specs.Legal.{state_after}
 use Rattle.zk_base.specs.Waits.{decision_of}
 use Rattle.zk_model_wait.specs.declared.clock.ClockOp.TheVariants as clock_ops
-use Rattle.zk_model_wait.specs.declared.sem.SemOp.{SemOp}
 use Rattle.zk_model_wait.specs.declared.sem.SemOp.TheVariants as sem_ops
-use Rattle.zk_model_wait.specs.declared.sem.SemReply.{SemReply}
-use Rattle.zk_model_wait.specs.declared.msgq.MsgqOp.{MsgqOp}
 use Rattle.zk_model_wait.specs.declared.msgq.MsgqOp.TheVariants as msgq_ops
-use Rattle.zk_model_wait.specs.declared.msgq.MsgqReply.{MsgqReply}
+use Rattle.zk_model_bus.specs.declared.channel.ChanOp.TheVariants as chan_ops
+use Rattle.zk_model_bus.specs.declared.observer.ObsOp.TheVariants as obs_ops
+use Rattle.zk_model_bus.specs.Channel.{Channel}
+use Rattle.zk_model_bus.specs.Observer.{Observer}
 use Rattle.zk_model_wait.specs.declared.signal.SignalOp.{SignalOp}
 use Rattle.zk_model_wait.specs.declared.signal.SignalReply.{SignalReply}
 use Rattle.zk_model_wait.specs.Clock.{new_clock, clock_reply, clock_machine}
-use Rattle.zk_model_wait.specs.Sem.{Sem, sem_machine}
-use Rattle.zk_model_wait.specs.Msgq.{Msgq, msgq_machine}
+use Rattle.zk_model_wait.specs.Sem.{Sem}
+use Rattle.zk_model_wait.specs.Msgq.{Msgq}
 use Rattle.zk_scenario.specs.Parts.{Parts}
 use Rattle.zk_worker.specs.declared.steps.Step.TheVariants as steps
-use Rattle.zk_worker.specs.Families.{start_of}
+use Rattle.zk_worker.specs.Families.{Family, start_of}
 use Rattle.zk_worker.specs.Looks.{seen_after}
 use Rattle.zk_worker.specs.Places.{At}
 use Rattle.zk_worker.specs.Protocol.{IsAhead}
@@ -35,17 +35,27 @@ NoneGoesOn = (s : Parts) (w : World) → IsRun (machines_of s) s w → is_spent 
     (player : ℕ) (at : At) → slice_get w.players player ≡ Some at →
     chosen (machines_of s) s w.shown at ≡ None
 
+-- an object of a kind is in this state as its history leaves it
+abbrev pub StandsIn : {S O R : Type 0} → Family S O R → List (List (Entry O R)) → ℕ → S → Type 0
+StandsIn {S} {O} {R} family histories object state = (start : S) × (h : List (Entry O R)) ×
+    (start_of family object ≡ Some start) × (slice_get histories object ≡ Some h) ×
+    (state ≡ state_after family.machine start h)
+
 -- a semaphore as its history leaves it
 abbrev pub IsSemAt : Parts → World → ℕ → Sem → Type 0
-IsSemAt s w object sem = (start : Sem) × (h : List (Entry SemOp SemReply)) ×
-    (start_of (machines_of s).sems object ≡ Some start) × (slice_get w.shown.sems object ≡ Some h) ×
-    (sem ≡ state_after sem_machine start h)
+IsSemAt s w object sem = StandsIn (machines_of s).sems w.shown.sems object sem
 
 -- a message queue as its history leaves it
 abbrev pub IsMsgqAt : Parts → World → ℕ → Msgq → Type 0
-IsMsgqAt s w object queue = (start : Msgq) × (h : List (Entry MsgqOp MsgqReply)) ×
-    (start_of (machines_of s).msgqs object ≡ Some start) × (slice_get w.shown.msgqs object ≡ Some h) ×
-    (queue ≡ state_after msgq_machine start h)
+IsMsgqAt s w object queue = StandsIn (machines_of s).msgqs w.shown.msgqs object queue
+
+-- a channel as its history leaves it
+abbrev pub IsChanAt : Parts → World → ℕ → Channel → Type 0
+IsChanAt s w object channel = StandsIn (machines_of s).chans w.shown.chans object channel
+
+-- an observer as its history leaves it
+abbrev pub IsObserverAt : Parts → World → ℕ → Observer → Type 0
+IsObserverAt s w object observer = StandsIn (machines_of s).observers w.shown.observers object observer
 
 -- a player that may only end a wait hasn't been served; one that polls hasn't been noted, nor is a signal raised that
 -- it polls; and where it may end an alarm the moment of that hasn't come
@@ -56,6 +66,10 @@ pub record IsUnserved (s : Parts) (w : World) (at : At) : Type 0 where
       IsMsgqAt s w object queue → decision_of queue.puts at.who.number place ≡ None
   pub gets : (object place : ℕ) (queue : Msgq) → IsAhead s at (steps.Msgq object (msgq_ops.GetEnd place)) →
       IsMsgqAt s w object queue → decision_of queue.gets at.who.number place ≡ None
+  pub claims : (object place : ℕ) (channel : Channel) → IsAhead s at (steps.Chan object (chan_ops.ClaimEnd place)) →
+      IsChanAt s w object channel → decision_of channel.waits at.who.number place ≡ None
+  pub sub_takes : (object place : ℕ) (observer : Observer) → IsAhead s at (steps.Obs object (obs_ops.TakeEnd place)) →
+      IsObserverAt s w object observer → decision_of observer.takers at.who.number place ≡ None
   pub sem_polls : (object place : ℕ) (sem : Sem) → IsAhead s at (steps.Sem object (sem_ops.PollEnd place)) →
       IsSemAt s w object sem → decision_of sem.pollers at.who.number place ≡ None
   pub msgq_polls : (object place : ℕ) (queue : Msgq) → IsAhead s at (steps.Msgq object (msgq_ops.PollEnd place)) →

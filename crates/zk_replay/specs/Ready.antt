@@ -2,6 +2,7 @@ use Rattle.std.specs.Prelude.{◌≡◌, ℕ, ◌-◌, ◌≤◌, Some, None, Li
 use Rattle.std.specs.List.{sum_by}
 use Rattle.zk_scenario.specs.Parts.{Parts}
 use Rattle.zk_worker.specs.declared.steps.TheConstants.{MOST_STEPS}
+use Rattle.zk_scenario.specs.Valid.{IsValid}
 use Rattle.zk_worker.specs.Places.{At}
 use Rattle.zk_worker.specs.Follows.{IsFollowing}
 use Rattle.zk_worker.specs.Ranges.{FramesFit}
@@ -20,6 +21,7 @@ all_left players = sum_by left players
 
 -- what holds of every world that a run comes to
 pub record IsReady (s : Parts) (w : World) : Type 0 where
+  pub valid : IsValid s
   pub few : length w.players ≤ 64
   pub numbers : (p : ℕ) (at : At) → slice_get w.players p ≡ Some at → at.who.number ≡ p
   pub shows : (p : ℕ) (at : At) → slice_get w.players p ≡ Some at →

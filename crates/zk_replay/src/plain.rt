@@ -1,6 +1,8 @@
 ghost use Rattle.std.specs.Prelude.{◌≡◌, true, Some, IfOk};
 ghost use Rattle.zk_base.specs.declared.ids.Who.{Who};
+ghost use Rattle.zk_bus.specs.Seen.{chan_start, chan_history};
 ghost use Rattle.zk_poll.specs.Seen.{signal_start, signal_history};
+ghost use Rattle.zk_subq.specs.Seen.{obs_start, obs_history};
 ghost use Rattle.zk_worker.specs.Attempt.{reply_in, takes};
 ghost use Rattle.zk_worker.specs.Looks.{look};
 ghost use Rattle.zk_msgq.specs.Seen.{msgq_start, msgq_history};
@@ -13,6 +15,8 @@ ghost use Rattle.zk_replay.specs.Objects.{starts_of, histories_of};
 use crate::objects::{act_at, histories_of};
 use std::alloc::Global;
 use zk_base::{Entry, Listed, NoMemory, Seen, Service, Who};
+use zk_bus::Channel;
+use zk_model_bus::{ChanOp, ChanReply, ObsOp, ObsReply};
 use zk_model_wait::{
     ClockOp, ClockReply, MsgqOp, MsgqReply, SemOp, SemReply, SignalOp, SignalReply,
 };
@@ -20,6 +24,7 @@ use zk_model_work::{WorkOp, WorkReply};
 use zk_msgq::Msgq;
 use zk_poll::Signal;
 use zk_sem::Sem;
+use zk_subq::Observer;
 use zk_time::Clock;
 use zk_trace::History;
 use zk_work::Work;
@@ -38,6 +43,10 @@ pub struct Histories {
     pub msgqs: Listed<History<MsgqOp, MsgqReply>>,
     /// The writes to each signal, likewise.
     pub signals: Listed<History<SignalOp, SignalReply>>,
+    /// Those of each channel, likewise.
+    pub chans: Listed<History<ChanOp, ChanReply>>,
+    /// Those of each observer, likewise.
+    pub observers: Listed<History<ObsOp, ObsReply>>,
 }
 
 /// The services of one thread, which nobody else uses.
@@ -51,11 +60,13 @@ pub struct Plain {
     sems: Vec<Option<Sem>>,
     msgqs: Vec<Option<Msgq>>,
     signals: Vec<Option<Signal>>,
+    chans: Vec<Option<Channel>>,
+    observers: Vec<Option<Observer>>,
 }
 
 impl Plain {
     /// These services, as far as they have come. By object number: the work service's numbers of the items, the semaphores,
-    /// the message queues and the signals.
+    /// the message queues, the signals, the channels and the observers.
     pub fn new(
         work: Work,
         items: Vec<Option<u32>>,
@@ -63,12 +74,16 @@ impl Plain {
         sems: Vec<Option<Sem>>,
         msgqs: Vec<Option<Msgq>>,
         signals: Vec<Option<Signal>>,
+        chans: Vec<Option<Channel>>,
+        observers: Vec<Option<Observer>>,
     ) -> Plain
         ensures machines { plain_machines result ≡ machines_from (work_start work) items.items (clock_start clock)
-            (starts_of sem_start sems.items) (starts_of msgq_start msgqs.items) (starts_of signal_start signals.items) }
+            (starts_of sem_start sems.items) (starts_of msgq_start msgqs.items) (starts_of signal_start signals.items)
+            (starts_of chan_start chans.items) (starts_of obs_start observers.items) }
         ensures shown { plain_shown result ≡ whole_shown (work_history work) (clock_history clock)
             (histories_of sem_history sems.items) (histories_of msgq_history msgqs.items)
-            (histories_of signal_history signals.items) }
+            (histories_of signal_history signals.items) (histories_of chan_history chans.items)
+            (histories_of obs_history observers.items) }
     {
         Plain {
             work,
@@ -77,6 +92,8 @@ impl Plain {
             sems,
             msgqs,
             signals,
+            chans,
+            observers,
         }
     }
 
@@ -101,6 +118,8 @@ impl Plain {
         ensures sems { IfOk result (λ all. all.sems ≡ (plain_shown self).sems) }
         ensures msgqs { IfOk result (λ all. all.msgqs ≡ (plain_shown self).msgqs) }
         ensures signals { IfOk result (λ all. all.signals ≡ (plain_shown self).signals) }
+        ensures chans { IfOk result (λ all. all.chans ≡ (plain_shown self).chans) }
+        ensures observers { IfOk result (λ all. all.observers ≡ (plain_shown self).observers) }
     {
         let Plain {
             work,
@@ -108,6 +127,8 @@ impl Plain {
             sems,
             msgqs,
             signals,
+            chans,
+            observers,
             ..
         } = self;
         Ok(Histories {
@@ -116,6 +137,8 @@ impl Plain {
             sems: histories_of(alloc, sems)?,
             msgqs: histories_of(alloc, msgqs)?,
             signals: histories_of(alloc, signals)?,
+            chans: histories_of(alloc, chans)?,
+            observers: histories_of(alloc, observers)?,
         })
     }
 
@@ -206,6 +229,18 @@ impl Services for Plain {
             Step::Signal(object, op) => {
                 match act_at(&mut self.signals, *object, who, number, *op)? {
                     Some((reply, place)) => Ok(Some(StepReply::Signal(*object, reply, place))),
+                    None => Ok(None),
+                }
+            }
+            Step::Chan(object, op) => {
+                match act_at(&mut self.chans, *object, who, number, *op)? {
+                    Some((reply, place)) => Ok(Some(StepReply::Chan(*object, reply, place))),
+                    None => Ok(None),
+                }
+            }
+            Step::Obs(object, op) => {
+                match act_at(&mut self.observers, *object, who, number, *op)? {
+                    Some((reply, place)) => Ok(Some(StepReply::Obs(*object, reply, place))),
                     None => Ok(None),
                 }
             }

@@ -1,9 +1,11 @@
 ghost use Rattle.std.specs.Prelude.{◌≡◌, ℕ, ◌+◌, ◌-◌, ◌^◌, ◌<◌, ◌≤◌, true, [], length, map, option_map, IfOk};
 ghost use Rattle.std.specs.List.{list_any, list_all};
 ghost use Rattle.zk_line.specs.Fits.{decl_fits};
+ghost use Rattle.zk_bus.specs.Seen.{chan_start, chan_history};
 ghost use Rattle.zk_msgq.specs.Seen.{msgq_start, msgq_history};
 ghost use Rattle.zk_poll.specs.Seen.{signal_start, signal_history};
 ghost use Rattle.zk_sem.specs.Seen.{sem_start, sem_history};
+ghost use Rattle.zk_subq.specs.Seen.{obs_start, obs_history};
 ghost use Rattle.zk_worker.specs.Families.{no_entries};
 ghost use Rattle.zk_worker.specs.Machines as machines;
 ghost use Rattle.zk_replay.specs.Objects.{starts_of, history_of, histories_of};
@@ -26,10 +28,12 @@ use crate::plain::{Histories, Plain};
 use crate::turns::play_rounds;
 use std::alloc::Global;
 use zk_base::{NewRefused, NoMemory};
+use zk_bus::Channel;
 use zk_msgq::Msgq;
 use zk_poll::Signal;
 use zk_scenario::{Decl, Scenario};
 use zk_sem::Sem;
+use zk_subq::Observer;
 use zk_time::Clock;
 use zk_trace::{Ending, Logs, Trace};
 use zk_work::Work;
@@ -189,6 +193,64 @@ fn first_signals(alloc: Global, decls: &[Decl]) -> Result<Vec<Option<Signal>>, N
     Ok(signals)
 }
 
+/// The channel that a declaration is of, if it is of one, at which nothing was done.
+fn first_chan(alloc: Global, decl: &Decl) -> Result<Option<Channel>, NoMemory>
+    requires { decl_fits decl.now ≡ true }
+    ensures start { IfOk result (λ chan. option_map chan_start chan ≡ machines.chan_start decl.now) }
+    ensures none { IfOk result (λ chan. history_of chan_history chan ≡ []) }
+{
+    match decl {
+        Decl::Chan(_, initial, valid, observers) => {
+            let chan = Channel::new(alloc, *initial, *valid, observers.numbers())?;
+            Ok(Some(chan))
+        }
+        _ => Ok(None),
+    }
+}
+
+/// The channels of a scenario, by object number.
+fn first_chans(alloc: Global, decls: &[Decl]) -> Result<Vec<Option<Channel>>, NoMemory>
+    requires { list_all decl_fits decls.now ≡ true }
+    ensures starts { IfOk result (λ chans. starts_of chan_start chans.items ≡ map machines.chan_start decls.now) }
+    ensures none { IfOk result (λ chans. histories_of chan_history chans.items ≡ no_entries decls.now) }
+{
+    let mut chans = Vec::with_capacity(alloc, decls.len())?;
+    let mut decls = decls;
+    while let [decl, rest @ ..] = decls {
+        chans.push(first_chan(alloc, decl)?)?;
+        decls = rest;
+    }
+    Ok(chans)
+}
+
+/// The listener or subscriber that a declaration is of, if it is of one, at which nothing was done.
+fn first_observer(alloc: Global, decl: &Decl) -> Result<Option<Observer>, NoMemory>
+    requires { decl_fits decl.now ≡ true }
+    ensures start { IfOk result (λ observer. option_map obs_start observer ≡ machines.observer_start decl.now) }
+    ensures none { IfOk result (λ observer. history_of obs_history observer ≡ []) }
+{
+    match decl {
+        Decl::Listener(_) => Ok(Some(Observer::listener(alloc))),
+        Decl::Sub(_, capacity) => Ok(Some(Observer::subscriber(alloc, *capacity)?)),
+        _ => Ok(None),
+    }
+}
+
+/// The listeners and subscribers of a scenario, by object number.
+fn first_observers(alloc: Global, decls: &[Decl]) -> Result<Vec<Option<Observer>>, NoMemory>
+    requires { list_all decl_fits decls.now ≡ true }
+    ensures starts { IfOk result (λ observers. starts_of obs_start observers.items ≡ map machines.observer_start decls.now) }
+    ensures none { IfOk result (λ observers. histories_of obs_history observers.items ≡ no_entries decls.now) }
+{
+    let mut observers = Vec::with_capacity(alloc, decls.len())?;
+    let mut decls = decls;
+    while let [decl, rest @ ..] = decls {
+        observers.push(first_observer(alloc, decl)?)?;
+        decls = rest;
+    }
+    Ok(observers)
+}
+
 /// The services of a scenario, at which nothing was done.
 pub fn first_services(alloc: Global, scenario: &Scenario) -> Result<Plain, NoMemory>
     ensures machines { IfOk result (λ services. plain_machines services ≡ machines_of scenario.now) }
@@ -200,8 +262,10 @@ pub fn first_services(alloc: Global, scenario: &Scenario) -> Result<Plain, NoMem
     let sems = first_sems(alloc, scenario.decls())?;
     let msgqs = first_msgqs(alloc, scenario.decls())?;
     let signals = first_signals(alloc, scenario.decls())?;
+    let chans = first_chans(alloc, scenario.decls())?;
+    let observers = first_observers(alloc, scenario.decls())?;
     let clock = Clock::new(alloc);
-    Ok(Plain::new(work, items, clock, sems, msgqs, signals))
+    Ok(Plain::new(work, items, clock, sems, msgqs, signals, chans, observers))
 }
 
 /// The players of a scenario, none of which has made a step.
@@ -272,6 +336,8 @@ pub fn replay(alloc: Global, scenario: &Scenario) -> Result<Trace, NoMemory>
         sems,
         msgqs,
         signals,
+        chans,
+        observers,
     } = services.into_histories(alloc)?;
     let item_looks = item_looks(alloc, logs.items())?;
     let signal_looks = signal_looks(alloc, signals.items().len(), logs.items())?;
@@ -282,6 +348,8 @@ pub fn replay(alloc: Global, scenario: &Scenario) -> Result<Trace, NoMemory>
         sems,
         msgqs,
         signals,
+        chans,
+        observers,
         item_looks,
         signal_looks,
         logs,

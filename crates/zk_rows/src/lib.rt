@@ -4,6 +4,10 @@
 #![tactic(auto)]
 
 #[cfg(test)]
+mod bus_lines;
+#[cfg(test)]
+mod bus_rows;
+#[cfg(test)]
 mod limit_rows;
 #[cfg(test)]
 mod line_tests;

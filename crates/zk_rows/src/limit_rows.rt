@@ -246,6 +246,117 @@ pub const SIGNALS: [Limit; 6] = [
     ),
 ];
 
+/// How many channels, observers, and observers of a channel; and the longest message.
+pub const BUS: [Limit; 14] = [
+    (
+        &[
+            Once(HEADER),
+            Numbered(16, "listener l", "\n"),
+            Numbered(16, "sub b", " 1\n"),
+            Numbered(16, "chan c", " 1 00 any\n"),
+        ],
+        "read",
+    ),
+    (
+        &[Once(HEADER), Numbered(33, "listener l", "\n")],
+        "34 limit",
+    ),
+    (&[Once(HEADER), Numbered(33, "sub b", " 1\n")], "34 limit"),
+    (
+        &[
+            Once(HEADER),
+            Numbered(16, "sub b", " 1\n"),
+            Numbered(17, "listener l", "\n"),
+        ],
+        "34 limit",
+    ),
+    (
+        &[
+            Once(HEADER),
+            Numbered(31, "listener l", "\n"),
+            Numbered(2, "sub b", " 1\n"),
+        ],
+        "34 limit",
+    ),
+    (
+        &[
+            Once(HEADER),
+            Numbered(32, "listener l", "\n"),
+            Once("sub l0 1\n"),
+        ],
+        "34 name",
+    ),
+    (
+        &[Once(HEADER), Numbered(17, "chan c", " 1 00 any\n")],
+        "18 limit",
+    ),
+    (
+        &[
+            Once(HEADER),
+            Numbered(16, "chan c", " 1 00 any\n"),
+            Once("chan last 2 00 any\n"),
+        ],
+        "18 number",
+    ),
+    (
+        &[
+            Once(HEADER),
+            Numbered(9, "listener l", "\n"),
+            Once("chan c 1 00 any"),
+            Numbered(8, " l", ""),
+            Once("\n"),
+        ],
+        "read",
+    ),
+    (
+        &[
+            Once(HEADER),
+            Numbered(9, "listener l", "\n"),
+            Once("chan c 1 00 any"),
+            Numbered(9, " l", ""),
+            Once("\n"),
+        ],
+        "11 limit",
+    ),
+    (
+        &[
+            Once(HEADER),
+            Numbered(9, "listener l", "\n"),
+            Once("chan c 1 00 any"),
+            Numbered(9, " l", ""),
+            Once(" l8\n"),
+        ],
+        "11 name",
+    ),
+    (
+        &[
+            Once(HEADER),
+            Once("chan c 64 "),
+            Times(64, "0f"),
+            Once(" max:10\n"),
+        ],
+        "read",
+    ),
+    (
+        &[
+            Once(HEADER),
+            Once("chan c 64 "),
+            Times(65, "0f"),
+            Once(" any\n"),
+        ],
+        "2 number",
+    ),
+    (
+        &[
+            Once(HEADER),
+            Once("chan c 65 "),
+            Times(65, "0f"),
+            Once(" any nosuch\n"),
+        ],
+        "2 number",
+    ),
+];
+
 /// How many events of a poll.
 pub const EVENTS: [Limit; 9] = [
     (

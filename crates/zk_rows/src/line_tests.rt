@@ -8,7 +8,7 @@ use zk_scenario::read_scenario;
 use zk_words::{Head, Line, Timeout, Word, line_of, number_of};
 
 /// Lines, and what each is read as.
-const LINES: [(&str, &str); 16] = [
+const LINES: [(&str, &str); 19] = [
     ("thread t -3 super", "declaration"),
     ("thread t -3 user", "unbuilt"),
     ("thread t -03 user", "misspelled"),
@@ -19,7 +19,10 @@ const LINES: [(&str, &str); 16] = [
     ("schedule i q 01", "misspelled"),
     ("schedule i q 99999999999999999999999", "call"),
     ("end", "bracket"),
-    ("chan c", "unbuilt"),
+    ("chan c", "misspelled"),
+    ("chan c 9 00 max:7f l l", "declaration"),
+    ("allow c", "unbuilt"),
+    ("mask c l on", "call"),
     ("sem s 0 1 raw", "unbuilt"),
     ("sem s 0 1", "declaration"),
     ("put m 0g no", "misspelled"),

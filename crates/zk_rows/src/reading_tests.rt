@@ -1,7 +1,8 @@
 //! Texts that are read as scenarios: each is printed again as it stood, or refused at a line for a
 //! reason.
+use crate::bus_lines::{BUS_CALLS, CHANNELS, OBSERVERS};
 use crate::limit_rows::{
-    EVENTS, LENGTHS, Limit, MESSAGES, OBJECTS, SIGNALS as SIGNAL_LIMITS, WAITS as WAIT_LIMITS,
+    BUS, EVENTS, LENGTHS, Limit, MESSAGES, OBJECTS, SIGNALS as SIGNAL_LIMITS, WAITS as WAIT_LIMITS,
 };
 use crate::signal_lines::{LOOKS, MISSPELLED_POLLS, POLLS, SIGNAL_CALLS, SIGNALS};
 use crate::wait_lines::{MISSPELLED_MSGQ_CALLS, MSGQ_CALLS, MSGQS, SEM_CALLS, SEMS, SIZES};
@@ -125,6 +126,9 @@ fn lines_are_read_or_refused(rt: HostRuntime) -> Result<(), Fail> {
         LOOKS.as_slice(),
         POLLS.as_slice(),
         MISSPELLED_POLLS.as_slice(),
+        OBSERVERS.as_slice(),
+        CHANNELS.as_slice(),
+        BUS_CALLS.as_slice(),
     ] {
         for row in rows {
             reads_so(&rt, rt.alloc(), row)?;
@@ -155,6 +159,11 @@ fn limits_of_waits_are_kept(rt: HostRuntime) -> Result<(), NoMemory> {
 #[test]
 fn limits_of_signals_are_kept(rt: HostRuntime) -> Result<(), NoMemory> {
     are_kept(&rt, rt.alloc(), SIGNAL_LIMITS.as_slice())
+}
+
+#[test]
+fn limits_of_channels_are_kept(rt: HostRuntime) -> Result<(), NoMemory> {
+    are_kept(&rt, rt.alloc(), BUS.as_slice())
 }
 
 #[test]

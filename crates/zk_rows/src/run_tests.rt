@@ -1,5 +1,6 @@
 //! Whole runs through the top call over memory: scripts with their traces, other inputs and words,
 //! and each fault of reading and writing in turn.
+use crate::bus_rows::CHANNELS;
 use crate::limit_rows::SIXTEEN_SPACES;
 use crate::object_rows::OBJECTS;
 use crate::reading_tests::Part::{self, Once, Times};
@@ -42,7 +43,7 @@ const CALLS: [(&[&str], &[Part], Status, &str); 13] = [
     (&["replay"], &[], Status::Refused, "refused 1 header\n"),
     (
         &["replay"],
-        &[Once("zk 1\nthread t0 0 super\nsub b0 1\n")],
+        &[Once("zk 1\nthread t0 0 super\nallow t0 t0\n")],
         Status::Refused,
         "refused 3 unbuilt\n",
     ),
@@ -154,6 +155,7 @@ fn rows_print_their_traces(rt: HostRuntime) -> Result<(), Fail> {
         WAITS.as_slice(),
         DELAYS.as_slice(),
         OBJECTS.as_slice(),
+        CHANNELS.as_slice(),
     ] {
         for each in rows {
             row(&rt, each)?;

@@ -245,6 +245,8 @@ fn trace(alloc: Global) -> Result<Trace, Fail> {
         sems: sems(alloc)?,
         msgqs: msgqs(alloc, message)?,
         signals: signals(alloc)?,
+        chans: Listed::new(alloc),
+        observers: Listed::new(alloc),
         item_looks: Listed::from_vec(vec![in alloc;
             item_look(0, 3, 31, 1),
             item_look(1, 1, 0, 2),

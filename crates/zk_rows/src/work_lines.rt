@@ -40,15 +40,15 @@ pub const MISSPELLED: [Row; 8] = [
 pub const MISPLACED: [Row; 11] = [
     (
         HEADER,
-        "thread t 0 user\n|signal s raw\n|claim\n|thread t 0 user|chan",
+        "thread t 0 user\n|signal s raw\n|grant\n|thread t 0 user|allow",
         "2 unbuilt",
     ),
     (
         FRONT,
-        "thread t 16 user\n|thread main 0 user\n|finish q0\n",
+        "thread t 16 user\n|thread main 0 user\n|release q0\n",
         "5 unbuilt",
     ),
-    (BEHIND, "thread t 0 user\n|notify i0\n", "7 unbuilt"),
+    (BEHIND, "thread t 0 user\n|public i0\n", "7 unbuilt"),
     (FRONT, "script i0\nend\nscript i0\n", "7 order"),
     (FRONT, "end\n|submit i0\n|cancel nosuch\n", "5 order"),
     (
@@ -417,7 +417,7 @@ pub const SINGLE: [Row; 15] = [
     ),
     (
         INSIDE,
-        "thread a_1 -16 user\n|chan\n|claim  no\n|user and more\n|grant i q 1\n",
+        "thread a_1 -16 user\n|allow\n|revoke  no\n|user and more\n|grant i q 1\n",
         "6 unbuilt",
     ),
     (FRONT, "script main\nend\n", "read"),

@@ -1,16 +1,17 @@
 -- A line to which no reason applies keeps what was read valid.
-use Rattle.std.proofs.Common.{◌≡◌, ℕ, ◌+◌, ◌<◌, ◌≤◌, Bool, true, false, not, cond, eqb, nat_le, nat_lt, ◌&&◌, ◌||◌, Option, None, Some, List, [], ◌∷◌, ◌++◌, length, slice_get, count_by, is_some, refl, sym, ap, subst, ◌∙◌, ⊎_elim, arith, length-append}
+use Rattle.std.proofs.Common.{◌≡◌, ℕ, ◌+◌, ◌<◌, ◌≤◌, Bool, true, false, not, cond, eqb, nat_le, nat_lt, ◌&&◌, ◌||◌, Option, None, Some, List, [], ◌∷◌, ◌++◌, length, take, slice_get, count_by, is_some, refl, sym, ap, subst, ◌∙◌, ⊎_elim, arith, length-append}
 use Rattle.std.specs.List.{list_all}
 use Rattle.std.specs.Option.{option_map_or, option_map, option_to_list}
 use Rattle.std.specs.Prelude.{option_and_then}
 use Rattle.std.proofs.lemmas.Bool.{and_parts, and_from, cases_order, leb-false, ltb-false, not-false, eq-eqb, ne_eqb, cond-true, cond-false}
-use Rattle.std.proofs.lemmas.List.{append-nil}
+use Rattle.std.proofs.lemmas.List.{append-nil, take-append-le}
+use Rattle.std.proofs.Math.Seq.{take-append_seam}
 use Rattle.std.proofs.lemmas.List.Folds.{list_all-append}
 use Rattle.std.proofs.lemmas.List.Quantifiers.{position-Some}
 use Rattle.std.proofs.lemmas.List.Sums.{sum_by-append}
 use Rattle.std.proofs.lemmas.Option.{none-some, same_Some, slice_get_past, slice_get_within}
 use Rattle.zk_base.proofs.Lists.{none_from_is_some}
-use Rattle.zk_words.specs.declared.kind.Kind.{Kind}
+use Rattle.zk_model_bus.specs.declared.kinds.Kind.{Kind}
 use Rattle.zk_words.specs.declared.slot.Rest.TheVariants.{Nothing}
 use Rattle.zk_words.specs.declared.slot.Slot.TheVariants as slot
 use Rattle.zk_words.specs.declared.word.Word.{Word}
@@ -23,10 +24,10 @@ use Rattle.zk_line.specs.declared.types.Decl.TheVariants as decl
 use Rattle.zk_line.specs.declared.types.Call.{Call}
 use Rattle.zk_line.specs.Args.{args_of}
 use Rattle.zk_line.specs.Calls.{call_of}
-use Rattle.zk_line.specs.Checks.{first_object, message_size, each_in_range, go_together, are_in_range, are_well_named, has_many_events}
+use Rattle.zk_line.specs.Checks.{first_object, message_size, each_in_range, go_together, are_in_range, each_well_named, name_once, are_well_named, has_many_events, has_many_observers}
 use Rattle.zk_line.specs.Decls.{decl_of}
-use Rattle.zk_line.specs.Fits.{call_fits, decl_fits}
-use Rattle.zk_line.specs.Objects.{object_of, kind_of, is_at, names, plays_script, is_thread, is_queue, is_item, is_sem, is_msgq, is_signal, player_count}
+use Rattle.zk_line.specs.Fits.{call_fits, decl_fits, observers_fit, AreObserved}
+use Rattle.zk_line.specs.Objects.{object_of, kind_of, is_at, names, plays_script, is_thread, is_queue, is_item, is_sem, is_msgq, is_signal, is_chan, is_observer, player_count}
 use Rattle.zk_line.proofs.Fits.{call_fits-read, kind_of-read}
 use Rattle.zk_line.proofs.InRange.{decl_fits-read}
 use Rattle.zk_line.proofs.Lists.{slice_get-append_left, slice_get-push, count_by-push, position-push}
@@ -119,23 +120,38 @@ pub record HasRoom (decls : List Decl) : Type 0 where
   pub sems : count_by is_sem decls ≤ 32
   pub msgqs : count_by is_msgq decls ≤ 16
   pub signals : count_by is_signal decls ≤ 32
+  pub chans : count_by is_chan decls ≤ 16
+  pub observers : count_by is_observer decls ≤ 32
 
 room-valid : (p : Parts) → IsValid p → HasRoom p.decls
-room-valid p valid = record { players = valid.players; queues = valid.queues; items = valid.items; sems = valid.sems; msgqs = valid.msgqs; signals = valid.signals }
+room-valid p valid = record { players = valid.players; queues = valid.queues; items = valid.items; sems = valid.sems; msgqs = valid.msgqs; signals = valid.signals; chans = valid.chans; observers = valid.observers }
 
 -- a scenario is valid, by what there is room for and what is said of its scripts
-IsValid-made : (p : Parts) → HasRoom p.decls → call_count p.scripts ≤ 4096 → list_all decl_fits p.decls ≡ true → list_all (script_fits p.decls) p.scripts ≡ true → OneEach p.scripts → IsValid p
-IsValid-made p room calls in_range fit one_each =
-    record { players = room.players; queues = room.queues; items = room.items; sems = room.sems; msgqs = room.msgqs; signals = room.signals; calls = calls; in_range = in_range; fit = fit; one_each = one_each }
+IsValid-made : (p : Parts) → HasRoom p.decls → call_count p.scripts ≤ 4096 → list_all decl_fits p.decls ≡ true → AreObserved p.decls → list_all (script_fits p.decls) p.scripts ≡ true → OneEach p.scripts → IsValid p
+IsValid-made p room calls in_range observed fit one_each =
+    record { players = room.players; queues = room.queues; items = room.items; sems = room.sems; msgqs = room.msgqs; signals = room.signals; chans = room.chans; observers = room.observers; calls = calls; in_range = in_range; observed = observed; fit = fit; one_each = one_each }
+
+-- the observers of each channel are declared before it, with one declaration more
+observed-push : (decls : List Decl) (d : Decl) → AreObserved decls → observers_fit decls d ≡ true → AreObserved (decls ++ d ∷ [])
+observed-push decls d held fits n x e =
+    ⊎_elim
+    (λ at.
+    let here : x ≡ d = cc (slice_get-push decls d, ap (slice_get (decls ++ d ∷ [])) at) in
+    ap (λ k. observers_fit (take k (decls ++ d ∷ [])) x) at ∙ ap (λ ds. observers_fit ds x) (take-append_seam decls (d ∷ [])) ∙ ap (observers_fit decls) here ∙ fits)
+    (⊎_elim
+    (λ below. ap (λ ds. observers_fit ds x) (take-append-le n decls (d ∷ []) (omega arith)) ∙ held n x (sym (slice_get-append_left decls (d ∷ []) n below) ∙ e))
+    (λ above. absurd (none-some x (sym (slice_get_past (decls ++ d ∷ []) n (omega (arith, length-append decls (d ∷ [])))) ∙ e))))
+    (cases_order n (length decls))
 
 -- no script stands yet, so a declaration says nothing of one
-valid-declared : (r : Reading) (d : Decl) → IsValid (parts_of r) → has_begun r ≡ false → HasRoom (r.decls ++ d ∷ []) → decl_fits d ≡ true → IsValid (parts_of (declared r d))
-valid-declared r d valid first room fits =
+valid-declared : (r : Reading) (d : Decl) → IsValid (parts_of r) → has_begun r ≡ false → HasRoom (r.decls ++ d ∷ []) → decl_fits d ≡ true → observers_fit r.decls d ≡ true → IsValid (parts_of (declared r d))
+valid-declared r d valid first room fits observed =
     let nothing = nothing_begun r first in
     let none : all_scripts r ≡ [] = ap (λ o. r.scripts ++ option_to_list o) nothing.1 ∙ append-nil r.scripts ∙ nothing.0 in
     IsValid-made (parts_of (declared r d)) room
     valid.calls
     (all-push decl_fits r.decls d ∙ and_from (list_all decl_fits r.decls) (decl_fits d) valid.in_range fits)
+    (observed-push r.decls d valid.observed observed)
     (ap (list_all (script_fits (r.decls ++ d ∷ []))) none)
     valid.one_each
 
@@ -156,6 +172,7 @@ valid-begun r owner valid none thread fresh =
     IsValid-made (parts_of (begun r s)) (room-valid (parts_of r) valid)
     (omega (arith, call_count-push r.scripts s, ap call_count same, valid.calls))
     valid.in_range
+    valid.observed
     (fit-push r.decls r.scripts s ∙ and_from (list_all (script_fits r.decls) r.scripts) (script_fits r.decls s) (ap (list_all (script_fits r.decls)) (sym same) ∙ valid.fit) (and_from (is_at plays_script r.decls owner) true thread refl))
     (one_each-push r.scripts s (subst OneEach same valid.one_each) fresh)
 
@@ -168,6 +185,7 @@ valid-called decls ss s c valid fits few =
     IsValid-made (record { decls = decls; scripts = ss ++ with_call c s ∷ [] }) (room-valid (record { decls = decls; scripts = ss ++ s ∷ [] }) valid)
     (omega (arith, call_count-push ss s, call_count-push ss (with_call c s), length-append s.calls (c ∷ [])))
     valid.in_range
+    valid.observed
     (fit-push decls ss (with_call c s) ∙ and_from (list_all (script_fits decls) ss) (script_fits decls (with_call c s)) both.0 (and_from (is_at plays_script decls s.owner) (list_all (call_fits decls) (s.calls ++ c ∷ [])) own.0 calls))
     (one_each-push ss (with_call c s) (one_each-left ss s valid.one_each) (one_each-fresh ss s valid.one_each))
 
@@ -194,6 +212,8 @@ room-push decls (decl.Thread name prio user) free room =
       sems = omega (arith, room.sems, count_by-push is_sem decls d);
       msgqs = omega (arith, room.msgqs, count_by-push is_msgq decls d);
       signals = omega (arith, room.signals, count_by-push is_signal decls d);
+      chans = omega (arith, room.chans, count_by-push is_chan decls d);
+      observers = omega (arith, room.observers, count_by-push is_observer decls d);
     }
 room-push decls (decl.Queue name prio on) free room =
     let d = decl.Queue name prio on in
@@ -207,6 +227,8 @@ room-push decls (decl.Queue name prio on) free room =
       sems = omega (arith, room.sems, count_by-push is_sem decls d);
       msgqs = omega (arith, room.msgqs, count_by-push is_msgq decls d);
       signals = omega (arith, room.signals, count_by-push is_signal decls d);
+      chans = omega (arith, room.chans, count_by-push is_chan decls d);
+      observers = omega (arith, room.observers, count_by-push is_observer decls d);
     }
 room-push decls (decl.Item name) free room =
     let d = decl.Item name in
@@ -218,6 +240,8 @@ room-push decls (decl.Item name) free room =
       sems = omega (arith, room.sems, count_by-push is_sem decls d);
       msgqs = omega (arith, room.msgqs, count_by-push is_msgq decls d);
       signals = omega (arith, room.signals, count_by-push is_signal decls d);
+      chans = omega (arith, room.chans, count_by-push is_chan decls d);
+      observers = omega (arith, room.observers, count_by-push is_observer decls d);
     }
 room-push decls (decl.Sem name initial limit) free room =
     let d = decl.Sem name initial limit in
@@ -229,6 +253,8 @@ room-push decls (decl.Sem name initial limit) free room =
       sems = omega (arith, one, count_by-push is_sem decls d);
       msgqs = omega (arith, room.msgqs, count_by-push is_msgq decls d);
       signals = omega (arith, room.signals, count_by-push is_signal decls d);
+      chans = omega (arith, room.chans, count_by-push is_chan decls d);
+      observers = omega (arith, room.observers, count_by-push is_observer decls d);
     }
 room-push decls (decl.Msgq name size capacity) free room =
     let d = decl.Msgq name size capacity in
@@ -240,6 +266,8 @@ room-push decls (decl.Msgq name size capacity) free room =
       sems = omega (arith, room.sems, count_by-push is_sem decls d);
       msgqs = omega (arith, one, count_by-push is_msgq decls d);
       signals = omega (arith, room.signals, count_by-push is_signal decls d);
+      chans = omega (arith, room.chans, count_by-push is_chan decls d);
+      observers = omega (arith, room.observers, count_by-push is_observer decls d);
     }
 room-push decls (decl.Signal name) free room =
     let d = decl.Signal name in
@@ -251,16 +279,58 @@ room-push decls (decl.Signal name) free room =
       sems = omega (arith, room.sems, count_by-push is_sem decls d);
       msgqs = omega (arith, room.msgqs, count_by-push is_msgq decls d);
       signals = omega (arith, one, count_by-push is_signal decls d);
+      chans = omega (arith, room.chans, count_by-push is_chan decls d);
+      observers = omega (arith, room.observers, count_by-push is_observer decls d);
+    }
+room-push decls (decl.Listener name) free room =
+    let d = decl.Listener name in
+    let one = leb-false 32 (count_by is_observer decls) (or_none (nat_le 32 (count_by is_observer decls)) false free).0 in
+    record {
+      players = omega (arith, room.players, count_by-push is_thread decls d, count_by-push is_queue decls d);
+      queues = omega (arith, room.queues, count_by-push is_queue decls d);
+      items = omega (arith, room.items, count_by-push is_item decls d);
+      sems = omega (arith, room.sems, count_by-push is_sem decls d);
+      msgqs = omega (arith, room.msgqs, count_by-push is_msgq decls d);
+      signals = omega (arith, room.signals, count_by-push is_signal decls d);
+      chans = omega (arith, room.chans, count_by-push is_chan decls d);
+      observers = omega (arith, one, count_by-push is_observer decls d);
+    }
+room-push decls (decl.Sub name capacity) free room =
+    let d = decl.Sub name capacity in
+    let one = leb-false 32 (count_by is_observer decls) (or_none (nat_le 32 (count_by is_observer decls)) false free).0 in
+    record {
+      players = omega (arith, room.players, count_by-push is_thread decls d, count_by-push is_queue decls d);
+      queues = omega (arith, room.queues, count_by-push is_queue decls d);
+      items = omega (arith, room.items, count_by-push is_item decls d);
+      sems = omega (arith, room.sems, count_by-push is_sem decls d);
+      msgqs = omega (arith, room.msgqs, count_by-push is_msgq decls d);
+      signals = omega (arith, room.signals, count_by-push is_signal decls d);
+      chans = omega (arith, room.chans, count_by-push is_chan decls d);
+      observers = omega (arith, one, count_by-push is_observer decls d);
+    }
+room-push decls (decl.Chan name message valid own) free room =
+    let d = decl.Chan name message valid own in
+    let one = leb-false 16 (count_by is_chan decls) (or_none (nat_le 16 (count_by is_chan decls)) false free).0 in
+    record {
+      players = omega (arith, room.players, count_by-push is_thread decls d, count_by-push is_queue decls d);
+      queues = omega (arith, room.queues, count_by-push is_queue decls d);
+      items = omega (arith, room.items, count_by-push is_item decls d);
+      sems = omega (arith, room.sems, count_by-push is_sem decls d);
+      msgqs = omega (arith, room.msgqs, count_by-push is_msgq decls d);
+      signals = omega (arith, room.signals, count_by-push is_signal decls d);
+      chans = omega (arith, one, count_by-push is_chan decls d);
+      observers = omega (arith, room.observers, count_by-push is_observer decls d);
     }
 
 -- a declaration to which no reason applies keeps what was read valid
 pub IsValid-declared : (r : Reading) (k : Kind) (parts : List Placed) (d : Decl) → IsForm (head.Declare k) parts → Passes r (head.Declare k) parts → option_and_then (decl_of k) (args_of r.decls parts) ≡ Some d → IsValid (parts_of r)
     → IsValid (parts_of (declared r d))
 IsValid-declared r k parts d form p made valid =
-    let room = room-push r.decls d (ap (is_full r.decls) (kind_of-read r.decls k parts d made) ∙ p.within) (room-valid (parts_of r) valid) in
+    let free = (or_none (is_full r.decls k) (has_many_observers parts) p.within).0 in
+    let room = room-push r.decls d (ap (is_full r.decls) (kind_of-read r.decls k parts d made) ∙ free) (room-valid (parts_of r) valid) in
     let fits = decl_fits-read r.decls k form.words d (sym (ap (are_in_range r.decls (head.Declare k)) form.placed) ∙ p.in_range) (sym (ap (are_well_named r.decls) form.placed) ∙ p.well_named)
     (sym (ap (λ ps. option_and_then (decl_of k) (args_of r.decls ps)) form.placed) ∙ made) in
-    valid-declared r d valid p.placed room fits
+    valid-declared r d valid p.placed room fits.0 fits.1
 
 -- the one word of a script's head names its owner
 owner_of : (r : Reading) (parts : List Placed) (ws : List (List ℕ)) (owner : ℕ) → fits (slot.Owner ∷ []) Nothing ws ≡ true → parts ≡ placed_of (slot.Owner ∷ []) Nothing ws
@@ -268,7 +338,7 @@ owner_of : (r : Reading) (parts : List Placed) (ws : List (List ℕ)) (owner : �
 owner_of r parts [] owner fit is named found = absurd (cc)
 owner_of r parts (w ∷ []) owner fit is named found =
     let said : object_of r.decls w ≡ Some owner = sym (ap (first_object r.decls) is) ∙ found in
-    let plays : names plays_script r.decls w ≡ true = (and_parts (names plays_script r.decls w) true (sym (ap (are_well_named r.decls) is) ∙ named)).0 in
+    let plays : names plays_script r.decls w ≡ true = (and_parts (names plays_script r.decls w) true (and_parts (each_well_named r.decls (placed_of (slot.Owner ∷ []) Nothing (w ∷ []))) true (sym (ap (are_well_named r.decls) is) ∙ named)).0).0 in
     sym (ap (λ o. option_map_or (is_at plays_script r.decls) o false) said) ∙ plays
 owner_of r parts (w ∷ v ∷ ws) owner fit is named found = absurd (cc)
 
@@ -285,7 +355,7 @@ pub IsValid-called : (r : Reading) (w : Word) (parts : List Placed) (c : Call) �
     → IsValid (parts_of (called r c))
 IsValid-called r w parts c form p made valid =
     let ranged = (and_parts (each_in_range (message_size r.decls parts) parts) (go_together (head.Call w) parts) p.in_range).0 in
-    let fitting = call_fits-read r.decls w form.words c (sym (ap (λ ps. each_in_range (message_size r.decls ps) ps) form.placed) ∙ ranged) (sym (ap (are_well_named r.decls) form.placed) ∙ p.well_named) (sym (ap (λ ps. option_and_then (call_of w) (args_of r.decls ps)) form.placed) ∙ made) in
+    let fitting = call_fits-read r.decls w form.words c (sym (ap (λ ps. each_in_range (message_size r.decls ps) ps) form.placed) ∙ ranged) (sym (ap (each_well_named r.decls) form.placed) ∙ (and_parts (each_well_named r.decls parts) (name_once parts) p.well_named).0) (sym (ap (λ ps. option_and_then (call_of w) (args_of r.decls ps)) form.placed) ∙ made) in
     called_fits r c valid p.placed fitting (or_none (nat_le 4096 (call_count (all_scripts r))) (has_many_events parts) p.within).0
 
 -- a line to which no reason applies keeps what was read valid

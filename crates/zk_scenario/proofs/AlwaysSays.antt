@@ -12,13 +12,13 @@ use Rattle.zk_words.specs.Parts.{Placed, fits, parts_of as placed_of}
 use Rattle.zk_words.specs.Table.{row_of}
 use Rattle.zk_line.specs.Args.{args_of}
 use Rattle.zk_line.specs.Calls.{call_of}
-use Rattle.zk_line.specs.Checks.{first_object, message_size, each_in_range, go_together, are_well_named, has_many_events}
+use Rattle.zk_line.specs.Checks.{first_object, message_size, each_in_range, go_together, each_well_named, name_once, are_well_named, has_many_events, has_many_observers}
 use Rattle.zk_line.specs.Decls.{decl_of}
 use Rattle.zk_line.specs.Objects.{object_of, is_at, names, plays_script}
 use Rattle.zk_line.proofs.Makes.{AreRight, are_right, makes_call, makes_decl}
 use Rattle.zk_scenario.specs.Reading.{Reading, all_scripts, declared, called}
 use Rattle.zk_scenario.specs.Valid.{call_count}
-use Rattle.zk_scenario.specs.Verdict.{verdict, opened, after}
+use Rattle.zk_scenario.specs.Verdict.{is_full, verdict, opened, after}
 use Rattle.zk_scenario.proofs.AcceptedLines.{Passes, Passes-verdict, or_none}
 
 some-map : {X Y : Type 0} (f : X → Y) (o : Option X) → IsSome o → IsSome (option_map f o)
@@ -30,7 +30,7 @@ owner-some : (r : Reading) (parts : List Placed) (ws : List (List ℕ)) → fits
     → IsSome (first_object r.decls parts)
 owner-some r parts [] fit is named = absurd (cc)
 owner-some r parts (w ∷ []) fit is named =
-    subst (λ ps. IsSome (first_object r.decls ps)) (sym is) (by_place (object_of r.decls w) (and_parts (names plays_script r.decls w) true (sym (ap (are_well_named r.decls) is) ∙ named)).0) where
+    subst (λ ps. IsSome (first_object r.decls ps)) (sym is) (by_place (object_of r.decls w) (and_parts (names plays_script r.decls w) true (and_parts (each_well_named r.decls (placed_of (slot.Owner ∷ []) Nothing (w ∷ []))) true (sym (ap (are_well_named r.decls) is) ∙ named)).0).0) where
       by_place : (o : Option ℕ) → option_map_or (is_at plays_script r.decls) o false ≡ true → IsSome o
       by_place (Some k) e = refl
       by_place None e = absurd (cc)
@@ -40,14 +40,16 @@ owner-some r parts (w ∷ v ∷ ws) fit is named = absurd (cc)
 right_words : (r : Reading) (h : Head) (parts : List Placed) (form : IsForm h parts) → Passes r h parts → AreRight r.decls (message_size r.decls parts) (placed_of (row_of h).slots (row_of h).rest form.words)
 right_words r h parts form p =
     let size = message_size r.decls parts in
-    subst (AreRight r.decls size) form.placed (are_right r.decls size parts form.spelled (and_parts (each_in_range size parts) (go_together h parts) p.in_range).0 p.well_named)
+    subst (AreRight r.decls size) form.placed (are_right r.decls size parts form.spelled (and_parts (each_in_range size parts) (go_together h parts) p.in_range).0 (and_parts (each_well_named r.decls parts) (name_once parts) p.well_named).0)
 
 pub after-some : (r : Reading) (h : Head) (parts : List Placed) → IsForm h parts → verdict r h parts ≡ None → IsSome (after r h parts)
 after-some r (head.Declare k) parts form e =
     let p = Passes-verdict r (head.Declare k) parts e in
     let right = right_words r (head.Declare k) parts form p in
+    let together = (and_parts (each_in_range (message_size r.decls parts) parts) (go_together (head.Declare k) parts) p.in_range).1 in
+    let few = (or_none (is_full r.decls k) (has_many_observers parts) p.within).1 in
     some-map (declared r) (option_and_then (decl_of k) (args_of r.decls parts))
-    (subst (λ ps. IsSome (option_and_then (decl_of k) (args_of r.decls ps))) (sym form.placed) (makes_decl k r.decls (message_size r.decls parts) form.words form.fitting right))
+    (subst (λ ps. IsSome (option_and_then (decl_of k) (args_of r.decls ps))) (sym form.placed) (makes_decl k r.decls (message_size r.decls parts) form.words form.fitting right (sym (ap (go_together (head.Declare k)) form.placed) ∙ together) (sym (ap has_many_observers form.placed) ∙ few)))
 after-some r head.Script parts form e =
     let p = Passes-verdict r head.Script parts e in
     some-map (opened r) (first_object r.decls parts) (owner-some r parts form.words form.fitting form.placed p.well_named)

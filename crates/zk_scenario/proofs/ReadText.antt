@@ -1,5 +1,5 @@
 -- What is read is spelled so: the text of a scenario that was read is the scenario's text.
-use Rattle.std.proofs.Common.{◌≡◌, ℕ, ◌+◌, Bool, true, false, cond, nat_lt, Option, None, Some, Result, Ok, Err, List, [], ◌∷◌, ◌++◌, map, length, is_some, codes, refl, sym, ap, ◌∙◌, append_assoc}
+use Rattle.std.proofs.Common.{◌≡◌, ℕ, ◌+◌, Bool, true, false, cond, nat_lt, Option, None, Some, Result, Ok, Err, List, [], ◌∷◌, ◌++◌, length, is_some, codes, refl, sym, ap, ◌∙◌, append_assoc}
 use Rattle.std.specs.List.{flat_map, join_with_byte}
 use Rattle.std.specs.Option.{option_map, option_to_list}
 use Rattle.std.specs.Prelude.{option_and_then}
@@ -39,8 +39,9 @@ use Rattle.zk_scenario.specs.declared.refused.ScenarioRefused.TheVariants.{At}
 use Rattle.zk_scenario.specs.Grammar.{told, taken, read_line, at_end, behind, read_lines, behind_header, read_pieces, pieces_of, scenario_of, IsReadable}
 use Rattle.zk_scenario.specs.Parts.{Parts}
 use Rattle.zk_scenario.specs.Reading.{Reading, start, declared, with_call, called, closed}
-use Rattle.zk_scenario.specs.Spelling.{script_line, end_line, begun_lines, script_lines, body_lines, lines_of, lines_text, text_of}
+use Rattle.zk_scenario.specs.Spelling.{decl_lines, script_line, end_line, begun_lines, script_lines, body_lines, lines_of, lines_text, text_of}
 use Rattle.zk_scenario.specs.Verdict.{has_script, opened, verdict, after}
+use Rattle.zk_scenario.proofs.ScenarioLines.{decl_lines-push}
 use Rattle.zk_scenario.proofs.AcceptedLines.{Passes, Passes-verdict, or_none, nothing_begun}
 
 -- the lines of the script that is open
@@ -55,11 +56,11 @@ read_so decls scripts current = body_lines decls scripts ++ open_lines decls cur
 abbrev read_lines_of : Reading → List (List ℕ)
 read_lines_of r = read_so r.decls r.scripts r.current
 
-read-declared : (decls : List Decl) (ss : List Script) (current : Option Script) (d : Decl) → ss ≡ [] → current ≡ None → read_so (decls ++ d ∷ []) ss current ≡ read_so decls ss current ++ decl_line d ∷ []
+read-declared : (decls : List Decl) (ss : List Script) (current : Option Script) (d : Decl) → ss ≡ [] → current ≡ None → read_so (decls ++ d ∷ []) ss current ≡ read_so decls ss current ++ decl_line decls d ∷ []
 read-declared decls ss current d none closed =
     ap (λ xs. read_so (decls ++ d ∷ []) xs current) none ∙ ap (λ o. read_so (decls ++ d ∷ []) [] o) closed
-    ∙ append-nil _ ∙ append-nil _ ∙ map-append decl_line decls (d ∷ [])
-    ∙ sym (ap (λ l. l ++ decl_line d ∷ []) (ap (λ xs. read_so decls xs current) none ∙ ap (λ o. read_so decls [] o) closed ∙ append-nil _ ∙ append-nil _))
+    ∙ append-nil _ ∙ append-nil _ ∙ decl_lines-push decls d
+    ∙ sym (ap (λ l. l ++ decl_line decls d ∷ []) (ap (λ xs. read_so decls xs current) none ∙ ap (λ o. read_so decls [] o) closed ∙ append-nil _ ∙ append-nil _))
 
 read-opened : (decls : List Decl) (ss : List Script) (current : Option Script) (owner : ℕ) → current ≡ None
     → read_so decls ss (Some (record { owner = owner; calls = [] })) ≡ read_so decls ss current ++ script_line decls owner ∷ []
@@ -74,8 +75,8 @@ read-called decls ss current s c inside =
 
 read-closed : (decls : List Decl) (ss : List Script) (s : Script) → read_so decls (ss ++ s ∷ []) None ≡ read_so decls ss (Some s) ++ end_line ∷ []
 read-closed decls ss s =
-    append-nil _ ∙ ap (λ l. map decl_line decls ++ l) (flat_map-append (script_lines decls) ss (s ∷ []) ∙ ap (λ l. flat_map (script_lines decls) ss ++ l) (append-nil (script_lines decls s)))
-    ∙ sym (append_assoc (map decl_line decls) (flat_map (script_lines decls) ss) (begun_lines decls s ++ end_line ∷ []))
+    append-nil _ ∙ ap (λ l. decl_lines [] decls ++ l) (flat_map-append (script_lines decls) ss (s ∷ []) ∙ ap (λ l. flat_map (script_lines decls) ss ++ l) (append-nil (script_lines decls s)))
+    ∙ sym (append_assoc (decl_lines [] decls) (flat_map (script_lines decls) ss) (begun_lines decls s ++ end_line ∷ []))
     ∙ sym (append_assoc (body_lines decls ss) (begun_lines decls s) (end_line ∷ []))
 
 owner_is_line : (decls : List Decl) (parts : List Placed) (owner : ℕ) (words : List (List ℕ)) → fits (slot.Owner ∷ []) Nothing words ≡ true → parts ≡ placed_of (slot.Owner ∷ []) Nothing words

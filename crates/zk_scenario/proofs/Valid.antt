@@ -2,18 +2,18 @@
 use Rattle.std.proofs.Common.{◌≡◌, ℕ, zero, suc, ◌+◌, ◌<◌, ◌≤◌, Bool, true, false, cond, eqb, Option, None, Some, List, [], ◌∷◌, length, take, slice_get, get_or, count_by, refl, ap, ◌∙◌, arith, length-append}
 use Rattle.std.specs.List.{list_all}
 use Rattle.std.specs.Option.{option_map_or}
-use Rattle.std.proofs.lemmas.Bool.{and_parts}
+use Rattle.std.proofs.lemmas.Bool.{and_parts, and_from}
 use Rattle.std.proofs.lemmas.List.Quantifiers.{position-Some}
 use Rattle.std.proofs.lemmas.Option.{slice_get-get_or}
 use Rattle.zk_base.proofs.Lists.{list_all-at}
 use Rattle.zk_line.specs.declared.types.Decl.{Decl}
-use Rattle.zk_line.specs.declared.types.Decl.TheVariants.{Thread, Queue, Item, Sem, Msgq, Signal}
+use Rattle.zk_line.specs.declared.types.Decl.TheVariants.{Thread, Queue, Item, Sem, Msgq, Signal, Listener, Sub, Chan}
 use Rattle.zk_scenario.specs.declared.types.Script.{Script}
-use Rattle.zk_line.specs.Objects.{is_at, plays_script, is_thread, is_queue, is_item, is_sem, is_msgq, is_signal, same_kind, places, number_of, player_count}
+use Rattle.zk_line.specs.Objects.{is_at, plays_script, is_thread, is_queue, is_item, is_sem, is_msgq, is_signal, is_chan, is_observer, same_kind, places, number_of, player_count, observers_of}
 use Rattle.zk_scenario.specs.Parts.{Parts}
 use Rattle.zk_scenario.specs.Players.{players, calls_of}
 use Rattle.zk_scenario.specs.Scripts.{script_of}
-use Rattle.zk_line.specs.Fits.{call_fits}
+use Rattle.zk_line.specs.Fits.{call_fits, decl_fits, observers_fit}
 use Rattle.zk_line.proofs.Lists.{count_by-cons}
 use Rattle.zk_scenario.specs.Valid.{IsValid, script_fits}
 use Rattle.zk_scenario.proofs.ScriptTables.{calls_of-none, calls_of-some}
@@ -24,24 +24,30 @@ pub length-players : (decls : List Decl) → length (players decls) ≡ player_c
 length-players decls = omega (arith, length-append (places is_thread decls) (places is_queue decls), length-places is_thread decls, length-places is_queue decls)
 
 -- each declaration is of one kind
-length-kinds : (ds : List Decl) → length ds ≡ player_count ds + count_by is_item ds + count_by is_sem ds + count_by is_msgq ds + count_by is_signal ds
+length-kinds : (ds : List Decl) → length ds ≡ player_count ds + count_by is_item ds + count_by is_sem ds + count_by is_msgq ds + count_by is_signal ds + count_by is_chan ds + count_by is_observer ds
 length-kinds [] = refl
 length-kinds (Thread name prio user ∷ ds) =
-    let d = Thread name prio user in omega (arith, length-kinds ds, count_by-cons is_thread d ds, count_by-cons is_queue d ds, count_by-cons is_item d ds, count_by-cons is_sem d ds, count_by-cons is_msgq d ds, count_by-cons is_signal d ds)
+    let d = Thread name prio user in omega (arith, length-kinds ds, count_by-cons is_thread d ds, count_by-cons is_queue d ds, count_by-cons is_item d ds, count_by-cons is_sem d ds, count_by-cons is_msgq d ds, count_by-cons is_signal d ds, count_by-cons is_chan d ds, count_by-cons is_observer d ds)
 length-kinds (Queue name prio on ∷ ds) =
-    let d = Queue name prio on in omega (arith, length-kinds ds, count_by-cons is_thread d ds, count_by-cons is_queue d ds, count_by-cons is_item d ds, count_by-cons is_sem d ds, count_by-cons is_msgq d ds, count_by-cons is_signal d ds)
+    let d = Queue name prio on in omega (arith, length-kinds ds, count_by-cons is_thread d ds, count_by-cons is_queue d ds, count_by-cons is_item d ds, count_by-cons is_sem d ds, count_by-cons is_msgq d ds, count_by-cons is_signal d ds, count_by-cons is_chan d ds, count_by-cons is_observer d ds)
 length-kinds (Item name ∷ ds) =
-    let d = Item name in omega (arith, length-kinds ds, count_by-cons is_thread d ds, count_by-cons is_queue d ds, count_by-cons is_item d ds, count_by-cons is_sem d ds, count_by-cons is_msgq d ds, count_by-cons is_signal d ds)
+    let d = Item name in omega (arith, length-kinds ds, count_by-cons is_thread d ds, count_by-cons is_queue d ds, count_by-cons is_item d ds, count_by-cons is_sem d ds, count_by-cons is_msgq d ds, count_by-cons is_signal d ds, count_by-cons is_chan d ds, count_by-cons is_observer d ds)
 length-kinds (Sem name initial limit ∷ ds) =
-    let d = Sem name initial limit in omega (arith, length-kinds ds, count_by-cons is_thread d ds, count_by-cons is_queue d ds, count_by-cons is_item d ds, count_by-cons is_sem d ds, count_by-cons is_msgq d ds, count_by-cons is_signal d ds)
+    let d = Sem name initial limit in omega (arith, length-kinds ds, count_by-cons is_thread d ds, count_by-cons is_queue d ds, count_by-cons is_item d ds, count_by-cons is_sem d ds, count_by-cons is_msgq d ds, count_by-cons is_signal d ds, count_by-cons is_chan d ds, count_by-cons is_observer d ds)
 length-kinds (Msgq name size capacity ∷ ds) =
-    let d = Msgq name size capacity in omega (arith, length-kinds ds, count_by-cons is_thread d ds, count_by-cons is_queue d ds, count_by-cons is_item d ds, count_by-cons is_sem d ds, count_by-cons is_msgq d ds, count_by-cons is_signal d ds)
+    let d = Msgq name size capacity in omega (arith, length-kinds ds, count_by-cons is_thread d ds, count_by-cons is_queue d ds, count_by-cons is_item d ds, count_by-cons is_sem d ds, count_by-cons is_msgq d ds, count_by-cons is_signal d ds, count_by-cons is_chan d ds, count_by-cons is_observer d ds)
 length-kinds (Signal name ∷ ds) =
-    let d = Signal name in omega (arith, length-kinds ds, count_by-cons is_thread d ds, count_by-cons is_queue d ds, count_by-cons is_item d ds, count_by-cons is_sem d ds, count_by-cons is_msgq d ds, count_by-cons is_signal d ds)
+    let d = Signal name in omega (arith, length-kinds ds, count_by-cons is_thread d ds, count_by-cons is_queue d ds, count_by-cons is_item d ds, count_by-cons is_sem d ds, count_by-cons is_msgq d ds, count_by-cons is_signal d ds, count_by-cons is_chan d ds, count_by-cons is_observer d ds)
+length-kinds (Listener name ∷ ds) =
+    let d = Listener name in omega (arith, length-kinds ds, count_by-cons is_thread d ds, count_by-cons is_queue d ds, count_by-cons is_item d ds, count_by-cons is_sem d ds, count_by-cons is_msgq d ds, count_by-cons is_signal d ds, count_by-cons is_chan d ds, count_by-cons is_observer d ds)
+length-kinds (Sub name capacity ∷ ds) =
+    let d = Sub name capacity in omega (arith, length-kinds ds, count_by-cons is_thread d ds, count_by-cons is_queue d ds, count_by-cons is_item d ds, count_by-cons is_sem d ds, count_by-cons is_msgq d ds, count_by-cons is_signal d ds, count_by-cons is_chan d ds, count_by-cons is_observer d ds)
+length-kinds (Chan name message valid own ∷ ds) =
+    let d = Chan name message valid own in omega (arith, length-kinds ds, count_by-cons is_thread d ds, count_by-cons is_queue d ds, count_by-cons is_item d ds, count_by-cons is_sem d ds, count_by-cons is_msgq d ds, count_by-cons is_signal d ds, count_by-cons is_chan d ds, count_by-cons is_observer d ds)
 
--- a valid scenario has at most 400 declarations
-pub length-decls : (p : Parts) → IsValid p → length p.decls ≤ 400
-length-decls p valid = omega (arith, length-kinds p.decls, valid.players, valid.items, valid.sems, valid.msgqs, valid.signals)
+-- a valid scenario has at most 448 declarations
+pub length-decls : (p : Parts) → IsValid p → length p.decls ≤ 448
+length-decls p valid = omega (arith, length-kinds p.decls, valid.players, valid.items, valid.sems, valid.msgqs, valid.signals, valid.chans, valid.observers)
 
 -- an element that passes counts behind those before it
 count_by-take-lt : {X : Type 0} (p : X → Bool) (xs : List X) (k : ℕ) (x : X) → slice_get xs k ≡ Some x → p x ≡ true → count_by p (take k xs) < count_by p xs
@@ -99,6 +105,42 @@ number_of-signal decls object at = below is_signal decls object kind at where
   kind (Signal name) e = refl
   kind d e = absurd (cc)
 
+-- the number of a channel is below the count of the channels
+pub number_of-chan : (decls : List Decl) (object : ℕ) → is_at is_chan decls object ≡ true → number_of decls object < count_by is_chan decls
+number_of-chan decls object at = below is_chan decls object kind at where
+  kind : (d : Decl) → is_chan d ≡ true → same_kind d ≡ is_chan
+  kind (Chan name message valid own) e = refl
+  kind d e = absurd (cc)
+
+-- the number of a subscriber or a listener is below the count of both
+pub number_of-observer : (decls : List Decl) (object : ℕ) → is_at is_observer decls object ≡ true → number_of decls object < count_by is_observer decls
+number_of-observer decls object at = below is_observer decls object kind at where
+  kind : (d : Decl) → is_observer d ≡ true → same_kind d ≡ is_observer
+  kind (Listener name) e = refl
+  kind (Sub name capacity) e = refl
+  kind d e = absurd (cc)
+
+-- what is declared among the first declarations is declared
+is_at-take : (test : Decl → Bool) (decls : List Decl) (n object : ℕ) → is_at test (take n decls) object ≡ true → is_at test decls object ≡ true
+is_at-take test decls zero object at = absurd (cc)
+is_at-take test [] (suc n) object at = absurd (cc)
+is_at-take test (d ∷ decls) (suc n) zero at = at
+is_at-take test (d ∷ decls) (suc n) (suc object) at = is_at-take test decls n object at
+
+all_at-take : (test : Decl → Bool) (decls : List Decl) (n : ℕ) (objects : List ℕ) → list_all (is_at test (take n decls)) objects ≡ true → list_all (is_at test decls) objects ≡ true
+all_at-take test decls n [] all = refl
+all_at-take test decls n (object ∷ objects) all =
+    let both = and_parts (is_at test (take n decls) object) (list_all (is_at test (take n decls)) objects) all in
+    and_from (is_at test decls object) (list_all (is_at test decls) objects) (is_at-take test decls n object both.0) (all_at-take test decls n objects both.1)
+
+-- the observers of a channel are subscribers and listeners that are declared
+pub observers-valid : (p : Parts) (object : ℕ) (d : Decl) → IsValid p → slice_get p.decls object ≡ Some d → observers_fit p.decls d ≡ true
+observers-valid p object d valid e = all_at-take is_observer p.decls object (observers_of d) (valid.observed object d e)
+
+-- each declaration is in range
+pub decl_fits-valid : (p : Parts) (object : ℕ) (d : Decl) → IsValid p → slice_get p.decls object ≡ Some d → decl_fits d ≡ true
+decl_fits-valid p object d valid e = list_all-at decl_fits p.decls object d valid.in_range e
+
 -- each call of an object's script fits
 pub call_fits-calls_of : (p : Parts) (owner : ℕ) → IsValid p → list_all (call_fits p.decls) (calls_of p.scripts owner) ≡ true
 call_fits-calls_of p owner valid = by_place (script_of p.scripts owner) refl where
@@ -111,7 +153,7 @@ call_fits-calls_of p owner valid = by_place (script_of p.scripts owner) refl whe
       let fits = list_all-at (script_fits p.decls) p.scripts k script valid.fit (slice_get-get_or p.scripts k d within) in
       ap (list_all (call_fits p.decls)) (calls_of-some p.scripts owner k d e) ∙ (and_parts (is_at plays_script p.decls script.owner) (list_all (call_fits p.decls) script.calls) fits).1
 
--- each script is played by a thread or an item
+-- each script is played by a thread, an item or a listener
 pub plays_script-owner : (p : Parts) (n : ℕ) (script : Script) → IsValid p → slice_get p.scripts n ≡ Some script → is_at plays_script p.decls script.owner ≡ true
 plays_script-owner p n script valid e =
     (and_parts (is_at plays_script p.decls script.owner) (list_all (call_fits p.decls) script.calls) (list_all-at (script_fits p.decls) p.scripts n script valid.fit e)).0

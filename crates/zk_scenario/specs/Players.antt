@@ -1,7 +1,7 @@
 use Rattle.std.specs.Prelude.{ℕ, ℤ, pos, ◌==◌, Option, List, [], ◌∷◌, ◌++◌, slice_get, option_map, option_and_then, if◌then◌else◌}
 use Rattle.zk_base.specs.declared.ids.Who.{Who}
 use Rattle.zk_line.specs.declared.types.Decl.{Decl}
-use Rattle.zk_line.specs.declared.types.Decl.TheVariants.{Thread, Queue, Item, Sem, Msgq, Signal}
+use Rattle.zk_line.specs.declared.types.Decl.TheVariants.{Thread, Queue, Item, Sem, Msgq, Signal, Listener, Sub, Chan}
 use Rattle.zk_line.specs.declared.types.Call.{Call}
 use Rattle.zk_line.specs.Objects.{places, is_thread, is_queue}
 use Rattle.zk_scenario.specs.declared.types.Script.{Script}
@@ -14,6 +14,9 @@ prio_of (Item name) = pos 0
 prio_of (Sem name initial limit) = pos 0
 prio_of (Msgq name size capacity) = pos 0
 prio_of (Signal name) = pos 0
+prio_of (Listener name) = pos 0
+prio_of (Sub name capacity) = pos 0
+prio_of (Chan name message valid observers) = pos 0
 
 -- the objects of the players: the threads in declared order, then the queues, each for its worker
 abbrev pub players : List Decl → List ℕ

@@ -24,9 +24,14 @@ begun_lines decls script = script_line decls script.owner ∷ map (call_line dec
 abbrev pub script_lines : List Decl → Script → List (List ℕ)
 script_lines decls script = begun_lines decls script ++ end_line ∷ []
 
+-- the lines of declarations behind others, each by what is declared before it
+abbrev pub decl_lines : List Decl → List Decl → List (List ℕ)
+decl_lines before [] = []
+decl_lines before (decl ∷ decls) = decl_line before decl ∷ decl_lines (before ++ decl ∷ []) decls
+
 -- the lines of a scenario behind the header: the declarations, then the scripts
 abbrev pub body_lines : List Decl → List Script → List (List ℕ)
-body_lines decls scripts = map decl_line decls ++ flat_map (script_lines decls) scripts
+body_lines decls scripts = decl_lines [] decls ++ flat_map (script_lines decls) scripts
 
 -- the lines of a scenario
 abbrev pub lines_of : Parts → List (List ℕ)

@@ -1,13 +1,13 @@
 use Rattle.std.specs.Prelude.{◌≡◌, ℕ, ◌≤◌, Bool, true, ◌&&◌, Some, List, length, slice_get, count_by}
 use Rattle.std.specs.List.{list_all, sum_by}
 use Rattle.zk_line.specs.declared.types.Decl.{Decl}
-use Rattle.zk_line.specs.Fits.{call_fits, decl_fits}
-use Rattle.zk_line.specs.Objects.{is_at, plays_script, is_queue, is_item, is_sem, is_msgq, is_signal, player_count}
+use Rattle.zk_line.specs.Fits.{call_fits, decl_fits, AreObserved}
+use Rattle.zk_line.specs.Objects.{is_at, plays_script, is_queue, is_item, is_sem, is_msgq, is_signal, is_chan, is_observer, player_count}
 use Rattle.zk_scenario.specs.declared.types.Script.{Script}
 use Rattle.zk_scenario.specs.Parts.{Parts}
 use Rattle.zk_scenario.specs.Scripts.{script_of}
 
--- whether a thread or a handler plays a script, and each of its calls fits
+-- whether a thread, a handler or a listener plays a script, and each of its calls fits
 abbrev pub script_fits : List Decl → Script → Bool
 script_fits decls script = is_at plays_script decls script.owner && list_all (call_fits decls) script.calls
 
@@ -19,7 +19,8 @@ call_count scripts = sum_by (λ script. length script.calls) scripts
 abbrev pub OneEach : List Script → Type 0
 OneEach scripts = (n : ℕ) (script : Script) → slice_get scripts n ≡ Some script → script_of scripts script.owner ≡ Some n
 
--- within the limits, each declaration is in range, each script fits, and each object has at most one
+-- within the limits, each declaration is in range, the observers of each channel are declared before it, each script
+-- fits, and each object has at most one
 pub record IsValid (p : Parts) : Type 0 where
   pub players : player_count p.decls ≤ 64
   pub queues : count_by is_queue p.decls ≤ 8
@@ -27,7 +28,10 @@ pub record IsValid (p : Parts) : Type 0 where
   pub sems : count_by is_sem p.decls ≤ 32
   pub msgqs : count_by is_msgq p.decls ≤ 16
   pub signals : count_by is_signal p.decls ≤ 32
+  pub chans : count_by is_chan p.decls ≤ 16
+  pub observers : count_by is_observer p.decls ≤ 32
   pub calls : call_count p.scripts ≤ 4096
   pub in_range : list_all decl_fits p.decls ≡ true
+  pub observed : AreObserved p.decls
   pub fit : list_all (script_fits p.decls) p.scripts ≡ true
   pub one_each : OneEach p.scripts

@@ -1,7 +1,7 @@
 use Rattle.std.specs.Prelude.{◌≡◌, ℕ, Bool, false, not, nat_le, nat_lt, ◌&&◌, ◌||◌, Option, None, Some, Result, Ok, Err, List, [], length, count_by, is_some, option_map, option_and_then, if◌then◌else◌}
 use Rattle.std.specs.Option.{option_map_or}
-use Rattle.zk_words.specs.declared.kind.Kind.{Kind}
-use Rattle.zk_words.specs.declared.kind.Kind.TheVariants as kind
+use Rattle.zk_model_bus.specs.declared.kinds.Kind.{Kind}
+use Rattle.zk_model_bus.specs.declared.kinds.Kind.TheVariants as kind
 use Rattle.zk_words.specs.declared.word.Head.{Head}
 use Rattle.zk_words.specs.declared.word.Head.TheVariants.{Declare, Script, End, Call}
 use Rattle.zk_words.specs.Kinds.{makes_player}
@@ -10,9 +10,9 @@ use Rattle.zk_line.specs.declared.types.Arg.{Arg}
 use Rattle.zk_line.specs.declared.types.Decl.{Decl}
 use Rattle.zk_line.specs.Args.{args_of}
 use Rattle.zk_line.specs.Calls.{call_of}
-use Rattle.zk_line.specs.Checks.{first_object, are_in_range, are_well_named, has_many_events}
+use Rattle.zk_line.specs.Checks.{first_object, are_in_range, are_well_named, has_many_events, has_many_observers}
 use Rattle.zk_line.specs.Decls.{decl_of}
-use Rattle.zk_line.specs.Objects.{is_of, player_count}
+use Rattle.zk_line.specs.Objects.{counts_with, player_count}
 use Rattle.zk_scenario.specs.declared.refused.Why.{Why}
 use Rattle.zk_scenario.specs.declared.refused.Why.TheVariants as why
 use Rattle.zk_scenario.specs.Reading.{Reading, all_scripts, declared, begun, called, closed}
@@ -35,7 +35,7 @@ is_misplaced r Script parts = is_some r.current || has_script r (first_object r.
 is_misplaced r End parts = not (is_some r.current)
 is_misplaced r (Call word) parts = not (is_some r.current)
 
--- how many objects of a kind there may be
+-- how many objects of a kind there may be; subscribers and listeners count together
 abbrev pub most : Kind → ℕ
 most kind.Thread = 64
 most kind.Queue = 8
@@ -43,14 +43,18 @@ most kind.Item = 256
 most kind.Sem = 32
 most kind.Msgq = 16
 most kind.Signal = 32
+most kind.Listener = 32
+most kind.Sub = 32
+most kind.Chan = 16
 
 -- whether there may be no further object of a kind
 abbrev pub is_full : List Decl → Kind → Bool
-is_full decls kind = nat_le (most kind) (count_by (is_of kind) decls) || makes_player kind && nat_le 64 (player_count decls)
+is_full decls kind =
+    nat_le (most kind) (count_by (counts_with kind) decls) || makes_player kind && nat_le 64 (player_count decls)
 
 -- whether the line passes a limit
 abbrev pub is_past_limit : Reading → Head → List Placed → Bool
-is_past_limit r (Declare kind) parts = is_full r.decls kind
+is_past_limit r (Declare kind) parts = is_full r.decls kind || has_many_observers parts
 is_past_limit r Script parts = false
 is_past_limit r End parts = false
 is_past_limit r (Call word) parts = nat_le 4096 (call_count (all_scripts r)) || has_many_events parts

@@ -6,7 +6,7 @@ ghost use Rattle.zk_line.specs.Weights.{or_wrong};
 ghost use Rattle.zk_scenario.specs.Grammar.{read_line, told, answered, accepted, unfed};
 ghost use Rattle.zk_scenario.specs.Reading.{start, declared, called, closed, with_call, parts_of};
 ghost use Rattle.zk_scenario.specs.Valid.{IsValid};
-ghost use Rattle.zk_scenario.specs.Verdict.{has_begun, has_script, is_misplaced, most, is_past_limit, verdict, Judges, opened, after};
+ghost use Rattle.zk_scenario.specs.Verdict.{has_begun, has_script, is_misplaced, most, is_full, is_past_limit, verdict, Judges, opened, after};
 
 use crate::refused::Why;
 use crate::scripts::Scripts;
@@ -16,7 +16,7 @@ use std::marker::Model;
 use zk_base::{Listed, NoMemory};
 use zk_line::{
     Arg, Args, Call, Decl, Objects, Ref, Wrong, call_of, decl_of, first_object, has_many_events,
-    weigh,
+    has_many_observers, weigh,
 };
 use zk_words::{Head, Kind, Line, Parts, Word, line_of, makes_player};
 
@@ -89,15 +89,20 @@ impl Reader {
         }
     }
 
+    /// Whether there may be no further object of a kind.
+    fn is_full(&self, kind: Kind) -> bool
+        ensures { result ≡ is_full self.now.decls kind }
+    {
+        most(kind) <= self.objects.count(kind)
+            || makes_player(kind) && MOST_PLAYERS <= self.objects.player_count()
+    }
+
     /// Whether the line passes a limit.
     fn is_past_limit(&self, head: Head, parts: &Parts<'_>) -> bool
         ensures { result ≡ is_past_limit self.now head parts.now }
     {
         match head {
-            Head::Declare(kind) => {
-                most(kind) <= self.objects.count(kind)
-                    || makes_player(kind) && MOST_PLAYERS <= self.objects.player_count()
-            }
+            Head::Declare(kind) => self.is_full(kind) || has_many_observers(parts),
             Head::Script => false,
             Head::End => false,
             Head::Call(_) => MOST_CALLS <= self.calls || has_many_events(parts),
@@ -322,6 +327,9 @@ fn most(kind: Kind) -> usize
         Kind::Sem => 32,
         Kind::Msgq => 16,
         Kind::Signal => 32,
+        Kind::Listener => 32,
+        Kind::Sub => 32,
+        Kind::Chan => 16,
     }
 }
 

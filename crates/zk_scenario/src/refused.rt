@@ -15,9 +15,9 @@ pub enum Why {
     Line,
     /// The line may not stand there.
     Order,
-    /// A number out of its range, or a message that is too long or not of the size of its message queue.
+    /// A number out of its range, or a message that is too long or not of the size of its message queue or channel.
     Number,
-    /// A name that is declared twice, reserved, not declared, or of the wrong kind.
+    /// A name that is declared twice, reserved, not declared, of the wrong kind, or an observer's that is given twice.
     Name,
     /// A limit is passed by this line.
     Limit,

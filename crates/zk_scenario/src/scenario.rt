@@ -1,7 +1,7 @@
 ghost use Rattle.std.specs.Prelude.{◌≡◌, ℕ, ◌++◌, length, slice_get};
 ghost use Rattle.zk_scenario.specs.Grammar.{IsReadable};
 ghost use Rattle.zk_scenario.specs.Parts.{Parts};
-ghost use Rattle.zk_line.specs.Objects.{is_thread, is_queue, is_item, is_sem, is_msgq, is_signal, places, number_of};
+ghost use Rattle.zk_line.specs.Objects.{is_thread, is_queue, is_item, is_sem, is_msgq, is_signal, is_chan, is_observer, places, number_of};
 ghost use Rattle.zk_scenario.specs.Players.{prio_of, players, who_of, calls_of};
 ghost use Rattle.zk_scenario.specs.Valid.{IsValid};
 
@@ -99,7 +99,22 @@ impl Scenario {
         self.objects.signals()
     }
 
-    /// The number of an object among those of its kind, from 0 in declared order.
+    /// The objects of the channels, in declared order.
+    pub fn chans(&self) -> &[u32]
+        ensures { result.now ≡ places is_chan self.now.decls }
+    {
+        self.objects.chans()
+    }
+
+    /// The objects of the observers, subscribers and listeners together, in declared order.
+    pub fn observers(&self) -> &[u32]
+        ensures { result.now ≡ places is_observer self.now.decls }
+    {
+        self.objects.observers()
+    }
+
+    /// The number of an object among those of its kind, from 0 in declared order; subscribers and listeners are
+    /// counted together.
     pub fn number(&self, object: u32) -> u32
         ensures { result ≡ number_of self.now.decls object }
     {
@@ -155,5 +170,8 @@ fn prio_of(decl: &Decl) -> i8
         Decl::Sem(..) => 0,
         Decl::Msgq(..) => 0,
         Decl::Signal(_) => 0,
+        Decl::Listener(_) => 0,
+        Decl::Sub(..) => 0,
+        Decl::Chan(..) => 0,
     }
 }

@@ -2,7 +2,7 @@ ghost use Rattle.std.specs.Prelude.{◌≡◌, ◌∷◌, ◌++◌, [], IfOk, On
 ghost use Rattle.std.specs.List.{flat_map};
 ghost use Rattle.zk_line.specs.Text.{decl_line, call_line};
 ghost use Rattle.zk_scenario.specs.Grammar.{IsReadable};
-ghost use Rattle.zk_scenario.specs.Spelling.{script_line, end_line, script_lines, fed, lines_text, text_of};
+ghost use Rattle.zk_scenario.specs.Spelling.{decl_lines, script_line, end_line, script_lines, fed, lines_text, text_of};
 
 use crate::{Scenario, Script};
 use std::alloc::Global;
@@ -31,11 +31,10 @@ fn put_scenario(out: &mut Vec<u8>, scenario: &Scenario) -> Result<(), NoMemory>
 }
 
 fn put_decls(out: &mut Vec<u8>, decls: &[Decl]) -> Result<(), NoMemory>
-    ensures { OnOk result
-        (out.new.items ≡ out.old.items ++ flat_map (λ decl. fed (decl_line decl)) decls.now) }
+    ensures { OnOk result (out.new.items ≡ out.old.items ++ lines_text (decl_lines [] decls.now)) }
 {
-    for decl in decls {
-        put_fed_decl(out, decl)?;
+    for (object, decl) in decls.iter().enumerate() {
+        put_fed_decl(out, &decls[..object], decl)?;
     }
     Ok(())
 }
@@ -88,10 +87,10 @@ fn put_calls(out: &mut Vec<u8>, decls: &[Decl], calls: &[Call]) -> Result<(), No
     Ok(())
 }
 
-fn put_fed_decl(out: &mut Vec<u8>, decl: &Decl) -> Result<(), NoMemory>
-    ensures { OnOk result (out.new.items ≡ out.old.items ++ fed (decl_line decl.now)) }
+fn put_fed_decl(out: &mut Vec<u8>, before: &[Decl], decl: &Decl) -> Result<(), NoMemory>
+    ensures { OnOk result (out.new.items ≡ out.old.items ++ fed (decl_line before.now decl.now)) }
 {
-    put_decl(out, decl)?;
+    put_decl(out, before, decl)?;
     put(out, b"\n")
 }
 

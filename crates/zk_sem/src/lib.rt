@@ -1,7 +1,6 @@
 //! The semaphore service.
 #![tactic(auto)]
 
-mod engine;
 mod sem;
 
 pub use sem::Sem;

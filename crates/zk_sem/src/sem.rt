@@ -2,15 +2,14 @@ ghost use Rattle.std.specs.Prelude.{◌≡◌, ◌<◌, ◌⊎◌, ◌↔◌, []
 ghost use Rattle.zk_model_wait.specs.Sem.{new_sem};
 ghost use Rattle.zk_sem.specs.Seen.{sem_start, sem_history};
 
-use crate::engine::SemEngine;
 use std::alloc::Global;
-use zk_base::{Entry, Errno, NoMemory, Recorded, Service, Who};
-use zk_model_wait::{SemOp, SemReply, SemState};
+use zk_base::{Entry, Errno, NoMemory, PlainEngine, Recorded, Service, Who};
+use zk_model_wait::{SemOp, SemReply, SemState, SemStore};
 
 /// A semaphore, with its history. Zephyr's `k_sem`.
 #[derive(Drop)]
 pub struct Sem {
-    inner: Recorded<SemEngine>,
+    inner: Recorded<PlainEngine<SemStore>>,
 }
 
 impl Sem {
@@ -28,7 +27,7 @@ impl Sem {
             return Err(Errno::Inval);
         }
         let start = SemState::new(alloc, initial, limit);
-        let engine = SemEngine::new(alloc, initial, limit);
+        let engine = PlainEngine::new(SemStore::new(alloc, initial, limit));
         Ok(Sem {
             inner: Recorded::new(alloc, start, engine),
         })
@@ -43,8 +42,7 @@ impl Service for Sem {
     type State = SemState;
 
     ghost use Rattle.std.specs.Prelude.{false};
-    ghost use Rattle.zk_model_wait.specs.Sem.{sem_machine};
-    ghost use Rattle.zk_sem.specs.Owed.{sem_closes};
+    ghost use Rattle.zk_model_wait.specs.Sem.{sem_closes, sem_machine};
     ghost use Rattle.zk_sem.specs.Seen.{sem_start, sem_history};
 
     ghost machine = { sem_machine };

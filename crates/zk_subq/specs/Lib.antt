@@ -1,4 +1,2 @@
-pub mod Laws
-pub mod Owed
 pub mod Seen
 pub mod Sizes

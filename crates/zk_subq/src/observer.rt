@@ -1,26 +1,29 @@
-ghost use Rattle.std.specs.Prelude.{◌≡◌, ◌≤◌, true, None, Some, [], IfOk, IfSome};
+ghost use Rattle.std.specs.Prelude.{◌≡◌, true, None, Some, [], IfOk};
 ghost use Rattle.zk_model_bus.specs.Observer.{new_obs};
 ghost use Rattle.zk_subq.specs.Seen.{obs_start, obs_history};
 ghost use Rattle.zk_subq.specs.Sizes.{is_capacity};
 
-use crate::engine::ObsEngine;
 use std::alloc::Global;
-use zk_base::{Entry, NoMemory, Recorded, Service, Who};
-use zk_model_bus::{ObsOp, ObsReply, ObsState};
+use zk_base::{Entry, NoMemory, PlainEngine, Recorded, Service, Who};
+use zk_model_bus::{ObsOp, ObsReply, ObsState, ObsStore};
 
 /// An observer of channels, with its history: a listener or a subscriber. Zephyr's `zbus_observer`.
 #[derive(Drop)]
 pub struct Observer {
-    inner: Recorded<ObsEngine>,
+    inner: Recorded<PlainEngine<ObsStore>>,
 }
 
 impl Observer {
-    /// A listener before the first entry. Zephyr's `ZBUS_LISTENER_DEFINE`.
-    pub fn listener(alloc: Global) -> Result<Observer, NoMemory>
-        ensures start { IfOk result (λ observer. obs_start observer ≡ new_obs None) }
-        ensures history { IfOk result (λ observer. obs_history observer ≡ []) }
+    /// A listener before the first entry. Zephyr's `ZBUS_LISTENER_DEFINE`. It takes no memory.
+    pub fn listener(alloc: Global) -> Observer
+        ensures start { obs_start result ≡ new_obs None }
+        ensures history { obs_history result ≡ [] }
     {
-        made(alloc, None)
+        let start = ObsState::listener(alloc);
+        let engine = PlainEngine::new(ObsStore::listener(alloc));
+        Observer {
+            inner: Recorded::new(alloc, start, engine),
+        }
     }
 
     /// A subscriber before the first entry, whose list has room for so many channels, 1 to 256. Zephyr's
@@ -30,21 +33,12 @@ impl Observer {
         ensures start { IfOk result (λ observer. obs_start observer ≡ new_obs (Some capacity)) }
         ensures history { IfOk result (λ observer. obs_history observer ≡ []) }
     {
-        made(alloc, Some(capacity))
+        let start = ObsState::subscriber(alloc, capacity)?;
+        let engine = PlainEngine::new(ObsStore::subscriber(alloc, capacity)?);
+        Ok(Observer {
+            inner: Recorded::new(alloc, start, engine),
+        })
     }
-}
-
-/// An observer before the first entry.
-fn made(alloc: Global, capacity: Option<u32>) -> Result<Observer, NoMemory>
-    requires { IfSome capacity (λ most. most ≤ 256) }
-    ensures start { IfOk result (λ observer. obs_start observer ≡ new_obs capacity) }
-    ensures history { IfOk result (λ observer. obs_history observer ≡ []) }
-{
-    let start = ObsState::new(alloc, capacity)?;
-    let engine = ObsEngine::new(alloc, capacity)?;
-    Ok(Observer {
-        inner: Recorded::new(alloc, start, engine),
-    })
 }
 
 impl Service for Observer {
@@ -55,8 +49,7 @@ impl Service for Observer {
     type State = ObsState;
 
     ghost use Rattle.std.specs.Prelude.{false};
-    ghost use Rattle.zk_model_bus.specs.Observer.{obs_machine};
-    ghost use Rattle.zk_subq.specs.Owed.{obs_closes};
+    ghost use Rattle.zk_model_bus.specs.Observer.{obs_closes, obs_machine};
     ghost use Rattle.zk_subq.specs.Seen.{obs_start, obs_history};
 
     ghost machine = { obs_machine };

@@ -1,5 +1,3 @@
-pub mod ClockOwed
-pub mod ClockLaws
 pub mod ClockSeen
 pub mod Deltas
 pub mod Timeouts

@@ -2,15 +2,14 @@ ghost use Rattle.std.specs.Prelude.{◌≡◌, []};
 ghost use Rattle.zk_model_wait.specs.Clock.{new_clock};
 ghost use Rattle.zk_time.specs.ClockSeen.{clock_start, clock_history};
 
-use crate::clock_engine::ClockEngine;
 use std::alloc::Global;
-use zk_base::{Entry, NoMemory, Recorded, Service, Who};
-use zk_model_wait::{ClockOp, ClockReply, ClockState};
+use zk_base::{Entry, NoMemory, PlainEngine, Recorded, Service, Who};
+use zk_model_wait::{ClockOp, ClockReply, ClockState, ClockStore};
 
 /// The clock service: the time of a scenario, and who waits for which moment, with its history.
 #[derive(Drop)]
 pub struct Clock {
-    inner: Recorded<ClockEngine>,
+    inner: Recorded<PlainEngine<ClockStore>>,
 }
 
 impl Clock {
@@ -20,7 +19,7 @@ impl Clock {
         ensures history { clock_history result ≡ [] }
     {
         let start = ClockState::new(alloc);
-        let engine = ClockEngine::new(alloc);
+        let engine = PlainEngine::new(ClockStore::new(alloc));
         Clock {
             inner: Recorded::new(alloc, start, engine),
         }
@@ -35,8 +34,7 @@ impl Service for Clock {
     type State = ClockState;
 
     ghost use Rattle.std.specs.Prelude.{false};
-    ghost use Rattle.zk_model_wait.specs.Clock.{clock_machine};
-    ghost use Rattle.zk_time.specs.ClockOwed.{clock_closes};
+    ghost use Rattle.zk_model_wait.specs.Clock.{clock_closes, clock_machine};
     ghost use Rattle.zk_time.specs.ClockSeen.{clock_start, clock_history};
 
     ghost machine = { clock_machine };

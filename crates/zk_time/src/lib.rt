@@ -3,7 +3,6 @@
 
 mod arm;
 mod clock;
-mod clock_engine;
 mod deltas;
 mod timeout;
 mod timeout_list;

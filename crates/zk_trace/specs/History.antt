@@ -25,3 +25,5 @@ pub record AreLegal (s : Parts) (t : Trace) : Type 0 where
   pub sems : EachLegal (machines_of s).sems t.sems
   pub msgqs : EachLegal (machines_of s).msgqs t.msgqs
   pub signals : EachLegal (machines_of s).signals t.signals
+  pub chans : EachLegal (machines_of s).chans t.chans
+  pub observers : EachLegal (machines_of s).observers t.observers

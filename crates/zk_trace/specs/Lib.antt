@@ -6,6 +6,8 @@ pub mod Clock
 pub mod Sem
 pub mod Msgq
 pub mod Signal
+pub mod Chan
+pub mod Obs
 pub mod Looks
 pub mod Looked
 pub mod Text

@@ -10,6 +10,8 @@ trace_shown t = record {
   sems = t.sems;
   msgqs = t.msgqs;
   signals = t.signals;
+  chans = t.chans;
+  observers = t.observers;
   looks = None;
   looked = None;
 }

@@ -19,6 +19,8 @@ use Rattle.zk_trace.specs.Clock as clock
 use Rattle.zk_trace.specs.Sem as sem
 use Rattle.zk_trace.specs.Msgq as msgq
 use Rattle.zk_trace.specs.Signal as signal
+use Rattle.zk_trace.specs.Chan as chan
+use Rattle.zk_trace.specs.Obs as obs
 
 -- one line: its words and a line feed
 abbrev pub line : List (List ℕ) → List ℕ
@@ -99,7 +101,8 @@ player_sections decls player [] = []
 player_sections decls player (log ∷ logs) =
     player_section decls player log ++ player_sections decls (player + 1) logs
 
--- the sections of the services: of those of which there is one, of the semaphores, the message queues and the signals
+-- the sections of the services: of those of which there is one, of the semaphores, the message queues, the signals, the
+-- channels and the observers
 abbrev pub service_sections : Parts → Trace → List ℕ
 service_sections s t =
     looked_section work.op_words work.reply_words item_look_line s.decls (codes "work") t.work t.item_looks
@@ -107,6 +110,8 @@ service_sections s t =
     ++ object_sections sem.op_words sem.reply_words s.decls 0 t.sems
     ++ object_sections msgq.op_words msgq.reply_words s.decls 0 t.msgqs
     ++ looked_sections signal.op_words signal.reply_words signal_look_line s.decls t.signal_looks 0 t.signals
+    ++ object_sections chan.op_words chan.reply_words s.decls 0 t.chans
+    ++ object_sections obs.op_words obs.reply_words s.decls 0 t.observers
 
 -- the trace part of the output: its head, the ending, the services and the players
 abbrev pub trace_text : Parts → Trace → List ℕ

@@ -1,11 +1,13 @@
 //! The trace of a run, and its text.
 #![tactic(auto)]
 
+mod chan;
 mod clock;
 mod lined;
 mod looks;
 mod msgq;
 mod names;
+mod obs;
 mod parts;
 mod print;
 mod sections;

@@ -5,12 +5,12 @@ ghost use Rattle.zk_trace.specs.Names.{target_name};
 ghost use Rattle.zk_trace.specs.Parts.{fixed_word, part_word, answer_part, each_behind};
 
 use crate::looks::put_seen;
-use crate::names::{item_name, queue_name, target_name};
+use crate::names::{item_name, name_at, put_names, queue_name, target_name};
 use crate::words::{
     errno_word, put_admission, put_flags, put_hex, put_ready, truth_word, wait_word,
 };
 use std::marker::Model;
-use zk_base::{Errno, Msg, NoMemory, put, put_decimal};
+use zk_base::{Errno, Few, Msg, NoMemory, put, put_decimal};
 use zk_scenario::Scenario;
 use zk_words::{Choice, choice_text};
 use zk_worker::{Answer, Positions};
@@ -24,6 +24,10 @@ pub enum Part<'a> {
     Queue(u32),
     /// The queue that a submission names: its name, and a dash for none.
     Target(Option<u32>),
+    /// An object of any kind, by its number among all: its name.
+    Object(u32),
+    /// Objects of any kind, by their numbers among all: their names, and a dash for none.
+    Objects(Named<'a>),
     /// A number below 2^32, in decimal.
     Narrow(u32),
     /// A number below 2^64, in decimal.
@@ -34,6 +38,8 @@ pub enum Part<'a> {
     Admission(u64),
     /// Whether a drain plugs its queue.
     Plug(bool),
+    /// Whether something is on: `on` or `off`.
+    State(bool),
     /// The busy flags of an item, below 32: their letters.
     Flags(u8),
     /// A truth value.
@@ -73,7 +79,7 @@ pub enum FixedWord {
     At,
     /// An alarm has ended.
     Due,
-    /// A semaphore was taken.
+    /// A semaphore was taken, or a channel was got.
     Got,
     /// What was asked for an event is ready.
     Ready,
@@ -85,6 +91,14 @@ pub enum FixedWord {
     Noted,
     /// A registration was given up, and wasn't noted.
     Plain,
+    /// An observer is disabled.
+    Off,
+    /// A listener's script runs.
+    Run,
+    /// A subscriber has the channel.
+    Pushed,
+    /// A subscriber's list is full.
+    Full,
 }
 
 /// The text of a fixed word.
@@ -107,6 +121,10 @@ fn fixed_word(fixed: FixedWord) -> &'static [u8]
         FixedWord::Armed => b"armed",
         FixedWord::Noted => b"noted",
         FixedWord::Plain => b"plain",
+        FixedWord::Off => b"off",
+        FixedWord::Run => b"run",
+        FixedWord::Pushed => b"pushed",
+        FixedWord::Full => b"full",
     }
 }
 
@@ -122,6 +140,7 @@ pub fn answer_part(answer: &Answer) -> Part<'_>
         Answer::Bytes(message) => Part::Bytes(Lent::of(message)),
         Answer::Signal(raised, value) => Part::Seen(*raised, *value),
         Answer::Ready(positions) => Part::Ready(*positions),
+        Answer::Channel(channel) => Part::Object(*channel),
     }
 }
 
@@ -151,6 +170,35 @@ impl<'a> Lent<'a> {
         ensures { result.now ≡ self.now }
     {
         self.message.bytes()
+    }
+}
+
+/// The numbers of objects where they stand, which are as long as a short message.
+#[derive(Drop)]
+pub struct Named<'a> {
+    objects: &'a Few,
+}
+
+impl<'a> Model for Named<'a> {
+    ghost use Rattle.std.specs.Prelude.{ℕ, List};
+
+    ghost Value = { List ℕ };
+
+    ghost view = { λ n. n.objects.now };
+}
+
+impl<'a> Named<'a> {
+    /// The objects whose numbers stand there.
+    pub fn of(objects: &'a Few) -> Named<'a>
+        ensures { result ≡ objects.now }
+    {
+        Named { objects }
+    }
+
+    fn numbers(&self) -> &[u32]
+        ensures { result.now ≡ self.now }
+    {
+        self.objects.numbers()
     }
 }
 
@@ -289,11 +337,14 @@ fn put_word(out: &mut Vec<u8>, scenario: &Scenario, part: &Part<'_>) -> Result<(
         Part::Item(item) => put(out, item_name(scenario, *item)),
         Part::Queue(queue) => put(out, queue_name(scenario, *queue)),
         Part::Target(queue) => put(out, target_name(scenario, *queue)),
+        Part::Object(object) => put(out, name_at(scenario.decls(), *object as usize)),
+        Part::Objects(objects) => put_names(out, scenario, objects.numbers()),
         Part::Narrow(number) => put_decimal(out, u64::from(*number)),
         Part::Wide(number) => put_decimal(out, *number),
         Part::Place(place) => put_decimal(out, *place),
         Part::Admission(number) => put_admission(out, *number),
         Part::Plug(plug) => put(out, choice_text(Choice::Drain, *plug)),
+        Part::State(on) => put(out, choice_text(Choice::State, *on)),
         Part::Flags(flags) => put_flags(out, *flags),
         Part::Truth(truth) => put(out, truth_word(*truth)),
         Part::Bytes(message) => put_hex(out, message.bytes()),

@@ -53,7 +53,9 @@ fn put_services(out: &mut Vec<u8>, scenario: &Scenario, trace: &Trace) -> Result
         scenario,
         trace.signals.items(),
         trace.signal_looks.items(),
-    )
+    )?;
+    put_objects(out, scenario, trace.chans.items())?;
+    put_objects(out, scenario, trace.observers.items())
 }
 
 /// The scenario's text and then the trace part.

@@ -1,5 +1,6 @@
 use crate::looks::{ItemLooks, SignalLooks};
 use zk_base::{Entry, Listed};
+use zk_model_bus::{ChanOp, ChanReply, ObsOp, ObsReply};
 use zk_model_wait::{
     ClockOp, ClockReply, MsgqOp, MsgqReply, SemOp, SemReply, SignalOp, SignalReply,
 };
@@ -41,6 +42,10 @@ pub struct Trace {
     pub msgqs: Histories<MsgqOp, MsgqReply>,
     /// The writes to the signals.
     pub signals: Histories<SignalOp, SignalReply>,
+    /// The histories of the channels.
+    pub chans: Histories<ChanOp, ChanReply>,
+    /// The histories of the observers: the listeners and the subscribers.
+    pub observers: Histories<ObsOp, ObsReply>,
     /// The looks at items.
     pub item_looks: ItemLooks,
     /// The looks at signals.

@@ -34,7 +34,7 @@ low_half : (high low : ℕ) → low < 16 → (high * 16 + low) % 16 ≡ low
 low_half high low small = omega arith
 
 -- the two digits of the byte that they spell
-byte-is : (high low : ℕ) → is_digit high ≡ true → is_digit low ≡ true → byte_text (digit_value high * 16 + digit_value low) ≡ high ∷ low ∷ []
+pub byte-is : (high low : ℕ) → is_digit high ≡ true → is_digit low ≡ true → byte_text (digit_value high * 16 + digit_value low) ≡ high ∷ low ∷ []
 byte-is high low first second =
     let h = digit-is high first in
     let l = digit-is low second in

@@ -5,4 +5,5 @@ pub mod HexText
 pub mod Numerals
 pub mod Placed
 pub mod Spellings
+pub mod ValidatorText
 pub mod Waits

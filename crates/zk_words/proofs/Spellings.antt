@@ -5,7 +5,7 @@ use Rattle.std.proofs.Math.Bool.{or-false}
 use Rattle.zk_words.specs.declared.slot.Slot.{Slot}
 use Rattle.zk_words.specs.declared.slot.Slot.TheVariants.{Event}
 use Rattle.zk_words.specs.declared.slot.Rest.{Rest}
-use Rattle.zk_words.specs.declared.slot.Rest.TheVariants.{Events}
+use Rattle.zk_words.specs.declared.slot.Rest.TheVariants.{Many, Events}
 use Rattle.zk_words.specs.declared.spelled.Spelling.TheVariants.{Wrong}
 use Rattle.zk_words.specs.Events.{asks, is_event}
 use Rattle.zk_words.specs.Parts.{placed, parts_of, fits}
@@ -24,6 +24,16 @@ pub spelling_next : (later : Bool) (slot : Slot) (slots : List Slot) (rest : Res
     → spelling_of later (slot ∷ slots) rest (word ∷ words) ≡ cond (is_spelled_in slot word) (spelling_of (later || is_later_in slot word) slots rest words) Wrong
 spelling_next later slot slots rest word words =
     spelling-step (fits slots rest words) (is_spelled_in slot word) (list_all part_is_spelled (parts_of slots rest words)) later (is_later_in slot word) (list_any part_is_later (parts_of slots rest words))
+
+-- the same of words that are all in one slot
+pub many_next : (later : Bool) (slot : Slot) (word : List ℕ) (words : List (List ℕ))
+    → spelling_of later [] (Many slot) (word ∷ words) ≡ cond (is_spelled_in slot word) (spelling_of (later || is_later_in slot word) [] (Many slot) words) Wrong
+many_next later slot word words =
+    spelling-step true (is_spelled_in slot word) (list_all part_is_spelled (map (placed slot) words)) later (is_later_in slot word) (list_any part_is_later (map (placed slot) words))
+
+-- and of none
+pub many_none : (later : Bool) (slot : Slot) → spelling_of later [] (Many slot) [] ≡ right later
+many_none later slot = ap right (or-false later)
 
 -- each event is spelled by itself, and the program can play each
 events_all : (words : List (List ℕ)) → list_all part_is_spelled (map (placed Event) words) ≡ list_all is_event words

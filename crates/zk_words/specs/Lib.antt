@@ -11,3 +11,4 @@ pub mod Table
 pub mod Text
 pub mod Timeouts
 pub mod Unbuilt
+pub mod Validators

@@ -3,7 +3,7 @@ use Rattle.std.specs.List.{list_any}
 use Rattle.zk_words.specs.declared.slot.Slot.{Slot}
 use Rattle.zk_words.specs.declared.slot.Slot.TheVariants.{Event}
 use Rattle.zk_words.specs.declared.slot.Rest.{Rest}
-use Rattle.zk_words.specs.declared.slot.Rest.TheVariants.{Nothing, Maybe, Events}
+use Rattle.zk_words.specs.declared.slot.Rest.TheVariants.{Nothing, Maybe, Many, Events}
 use Rattle.zk_words.specs.Events.{asks}
 
 -- a word of a line, and the slot that it stands in
@@ -20,6 +20,7 @@ abbrev pub rest_parts : Rest → List (List ℕ) → List Placed
 rest_parts Nothing words = []
 rest_parts (Maybe slot) [] = []
 rest_parts (Maybe slot) (word ∷ words) = placed slot word ∷ []
+rest_parts (Many slot) words = map (placed slot) words
 rest_parts Events words = map (placed Event) words
 
 -- the words of a line, each in its slot, from the left as far as there are slots
@@ -35,6 +36,7 @@ rest_fits Nothing (word ∷ words) = false
 rest_fits (Maybe slot) [] = true
 rest_fits (Maybe slot) (word ∷ []) = true
 rest_fits (Maybe slot) (word ∷ more ∷ words) = false
+rest_fits (Many slot) words = true
 rest_fits Events words = list_any asks words
 
 -- whether there is a word for each slot, and a slot for each word

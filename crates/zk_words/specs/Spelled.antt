@@ -6,7 +6,7 @@ use Rattle.zk_words.specs.declared.slot.Choice.{Choice}
 use Rattle.zk_words.specs.declared.slot.Choice.TheVariants.{Mode, State, Drain}
 use Rattle.zk_words.specs.declared.slot.Rest.{Rest}
 use Rattle.zk_words.specs.declared.slot.Slot.{Slot}
-use Rattle.zk_words.specs.declared.slot.Slot.TheVariants.{New, Owner, Object, Number, Priority, Either, Hex, Wait, Event, Raw}
+use Rattle.zk_words.specs.declared.slot.Slot.TheVariants.{New, Owner, Object, Number, Priority, Either, Hex, Wait, Event, Valid, Raw}
 use Rattle.zk_words.specs.declared.spelled.Spelling.{Spelling}
 use Rattle.zk_words.specs.declared.spelled.Spelling.TheVariants.{Wrong, Later, Right}
 use Rattle.zk_words.specs.Events.{is_event}
@@ -14,6 +14,7 @@ use Rattle.zk_words.specs.Hex.{is_hex}
 use Rattle.zk_words.specs.Numbers.{is_number, priority_of}
 use Rattle.zk_words.specs.Parts.{Placed, parts_of, fits}
 use Rattle.zk_words.specs.Timeouts.{is_wait}
+use Rattle.zk_words.specs.Validators.{validator_of}
 
 -- one of the two words of a choice: the first is true
 abbrev pub choice_text : Choice → Bool → List ℕ
@@ -42,6 +43,7 @@ is_spelled_in (Either choice) word = bytes_eq word (choice_text choice true) || 
 is_spelled_in Hex word = is_hex word
 is_spelled_in Wait word = is_wait word
 is_spelled_in Event word = is_event word
+is_spelled_in Valid word = is_some (validator_of word)
 is_spelled_in Raw word = bytes_eq word (codes "raw")
 
 -- whether the word of a part is

@@ -1,15 +1,15 @@
 use Rattle.std.specs.Prelude.{ℕ, List, [], ◌∷◌, codes}
-use Rattle.zk_words.specs.declared.kind.Kind.{Kind}
-use Rattle.zk_words.specs.declared.kind.Kind.TheVariants as kind
-use Rattle.zk_words.specs.declared.kind.Need.TheVariants as need
+use Rattle.zk_model_bus.specs.declared.kinds.Kind.{Kind}
+use Rattle.zk_model_bus.specs.declared.kinds.Kind.TheVariants as kind
+use Rattle.zk_model_bus.specs.declared.kinds.Need.TheVariants as need
 use Rattle.zk_words.specs.declared.word.Word.{Word}
 use Rattle.zk_words.specs.declared.word.Word.TheVariants as word
 use Rattle.zk_words.specs.declared.word.Head.{Head}
 use Rattle.zk_words.specs.declared.word.Head.TheVariants.{Declare, Script, End, Call}
 use Rattle.zk_words.specs.declared.slot.Choice.TheVariants.{Mode, State, Drain}
 use Rattle.zk_words.specs.declared.slot.Slot.{Slot}
-use Rattle.zk_words.specs.declared.slot.Slot.TheVariants.{New, Owner, Object, Number, Priority, Either, Hex, Wait, Raw}
-use Rattle.zk_words.specs.declared.slot.Rest.TheVariants.{Nothing, Maybe, Events}
+use Rattle.zk_words.specs.declared.slot.Slot.TheVariants.{New, Owner, Object, Number, Priority, Either, Hex, Wait, Valid, Raw}
+use Rattle.zk_words.specs.declared.slot.Rest.TheVariants.{Nothing, Maybe, Many, Events}
 use Rattle.zk_words.specs.Rows.{Form}
 
 -- a work item
@@ -32,6 +32,18 @@ msgq = Object need.Msgq
 abbrev pub signal : Slot
 signal = Object need.Signal
 
+-- a channel
+abbrev pub channel : Slot
+channel = Object need.Chan
+
+-- a subscriber
+abbrev pub subscriber : Slot
+subscriber = Object need.Sub
+
+-- an observer: a subscriber or a listener
+abbrev pub observer : Slot
+observer = Object need.Obs
+
 -- a delay in ticks
 abbrev pub delay : Slot
 delay = Number 0 1000000
@@ -52,11 +64,11 @@ initial = Number 0 1000000
 abbrev pub limit : Slot
 limit = Number 1 1000000
 
--- how many bytes each message of a message queue has
+-- how many bytes each message of a message queue or a channel has
 abbrev pub size : Slot
 size = Number 1 64
 
--- how many messages a message queue has room for
+-- how many messages a message queue has room for, or of how many a subscriber is told
 abbrev pub capacity : Slot
 capacity = Number 1 256
 
@@ -72,6 +84,10 @@ exactly first slots = record { first = first; slots = slots; rest = Nothing }
 abbrev pub perhaps : List ℕ → List Slot → Slot → Form
 perhaps first slots last = record { first = first; slots = slots; rest = Maybe last }
 
+-- a line of these slots, and any number of words in one slot more
+abbrev pub and_many : List ℕ → List Slot → Slot → Form
+and_many first slots more = record { first = first; slots = slots; rest = Many more }
+
 -- a line of these slots, and the events of a poll
 abbrev pub polling : List ℕ → List Slot → Form
 polling first slots = record { first = first; slots = slots; rest = Events }
@@ -84,6 +100,9 @@ kind_row kind.Item = exactly (codes "item") (New ∷ [])
 kind_row kind.Sem = perhaps (codes "sem") (New ∷ initial ∷ limit ∷ []) Raw
 kind_row kind.Msgq = perhaps (codes "msgq") (New ∷ size ∷ capacity ∷ []) Raw
 kind_row kind.Signal = perhaps (codes "signal") (New ∷ []) Raw
+kind_row kind.Listener = exactly (codes "listener") (New ∷ [])
+kind_row kind.Sub = exactly (codes "sub") (New ∷ capacity ∷ [])
+kind_row kind.Chan = and_many (codes "chan") (New ∷ size ∷ Hex ∷ Valid ∷ []) observer
 
 -- the calls
 abbrev pub call_row : Word → Form
@@ -114,6 +133,14 @@ call_row word.Raise = exactly (codes "raise") (signal ∷ result ∷ [])
 call_row word.Clear = exactly (codes "clear") (signal ∷ [])
 call_row word.Check = exactly (codes "check") (signal ∷ [])
 call_row word.Poll = polling (codes "poll") (Wait ∷ [])
+call_row word.Claim = exactly (codes "claim") (channel ∷ Wait ∷ [])
+call_row word.Finish = exactly (codes "finish") (channel ∷ [])
+call_row word.Publish = exactly (codes "publish") (channel ∷ Hex ∷ Wait ∷ [])
+call_row word.Notify = exactly (codes "notify") (channel ∷ Wait ∷ [])
+call_row word.Read = exactly (codes "read") (channel ∷ Wait ∷ [])
+call_row word.Mask = exactly (codes "mask") (channel ∷ observer ∷ Either State ∷ [])
+call_row word.Enable = exactly (codes "enable") (observer ∷ Either State ∷ [])
+call_row word.SubWait = exactly (codes "subwait") (subscriber ∷ Wait ∷ [])
 
 -- the table: the form of each line behind the first
 abbrev pub row_of : Head → Form
@@ -126,10 +153,13 @@ row_of (Call word) = call_row word
 abbrev pub heads : List Head
 heads =
     Declare kind.Thread ∷ Declare kind.Queue ∷ Declare kind.Item
-    ∷ Declare kind.Sem ∷ Declare kind.Msgq ∷ Declare kind.Signal ∷ Script ∷ End
+    ∷ Declare kind.Sem ∷ Declare kind.Msgq ∷ Declare kind.Signal
+    ∷ Declare kind.Listener ∷ Declare kind.Sub ∷ Declare kind.Chan ∷ Script ∷ End
     ∷ Call word.Submit ∷ Call word.Cancel ∷ Call word.CancelSync ∷ Call word.Flush
     ∷ Call word.Schedule ∷ Call word.Reschedule ∷ Call word.Remaining ∷ Call word.Busy
     ∷ Call word.Start ∷ Call word.Drain ∷ Call word.Unplug ∷ Call word.Tick
     ∷ Call word.Take ∷ Call word.Give ∷ Call word.Reset ∷ Call word.Count
     ∷ Call word.Put ∷ Call word.Get ∷ Call word.Peek ∷ Call word.PeekAt ∷ Call word.Purge ∷ Call word.Used ∷ Call word.Free
-    ∷ Call word.Raise ∷ Call word.Clear ∷ Call word.Check ∷ Call word.Poll ∷ []
+    ∷ Call word.Raise ∷ Call word.Clear ∷ Call word.Check ∷ Call word.Poll
+    ∷ Call word.Claim ∷ Call word.Finish ∷ Call word.Publish ∷ Call word.Notify ∷ Call word.Read
+    ∷ Call word.Mask ∷ Call word.Enable ∷ Call word.SubWait ∷ []

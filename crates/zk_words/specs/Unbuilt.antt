@@ -5,9 +5,7 @@ use Rattle.std.specs.Str.{bytes_eq}
 -- the first words of the grammar that have no row yet: declarations, then calls, service by service
 abbrev pub unbuilt : List (List ℕ)
 unbuilt =
-    codes "listener" ∷ codes "sub" ∷ codes "chan" ∷ codes "allow"
-    ∷ codes "claim" ∷ codes "finish" ∷ codes "publish" ∷ codes "notify" ∷ codes "read" ∷ codes "mask" ∷ codes "enable"
-    ∷ codes "subwait"
+    codes "allow"
     ∷ codes "grant" ∷ codes "release" ∷ codes "revoke" ∷ codes "public" ∷ codes "init" ∷ codes "user" ∷ []
 
 -- a first word of the grammar that has no row yet

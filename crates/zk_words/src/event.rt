@@ -1,8 +1,8 @@
 ghost use Rattle.std.specs.Prelude.{◌≡◌, None, Some, true, false, length, drop, MatchOption};
 ghost use Rattle.zk_words.specs.Events.{begins, event_named, is_event, is_ignore, need_of, source_text};
 
-use crate::kind::Need;
 use zk_base::is_spelled;
+use zk_model_bus::Need;
 
 /// What a poll can wait for.
 #[derive(Clone, Copy, Debug)]
@@ -76,7 +76,7 @@ pub fn event_named(word: &[u8]) -> Option<Asked<'_>>
 }
 
 /// What stands behind a front, if the word begins with it.
-fn behind<'a>(front: &[u8], word: &'a [u8]) -> Option<&'a [u8]>
+pub fn behind<'a>(front: &[u8], word: &'a [u8]) -> Option<&'a [u8]>
     ensures { MatchOption result (begins front.now word.now ≡ false)
         (λ rest. (begins front.now word.now ≡ true) × (rest.now ≡ drop (length front.now) word.now)) }
 {

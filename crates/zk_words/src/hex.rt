@@ -17,7 +17,8 @@ fn are_digits(word: &[u8]) -> bool
     word.iter().all(|b| is_digit(*b))
 }
 
-fn is_digit(byte: u8) -> bool
+/// Whether a byte is a lower-case hexadecimal digit.
+pub fn is_digit(byte: u8) -> bool
     ensures { result ≡ is_digit byte }
 {
     b'0' <= byte && byte <= b'9' || b'a' <= byte && byte <= b'f'
@@ -42,7 +43,8 @@ pub fn msg_of(word: &[u8]) -> Option<Msg>
     Msg::new(&bytes[..len])
 }
 
-fn digit_value(digit: u8) -> u8
+/// What a digit is worth.
+pub fn digit_value(digit: u8) -> u8
     requires { is_digit digit ≡ true }
     ensures value { result ≡ digit_value digit }
     ensures small { result < 16 }
@@ -64,7 +66,8 @@ pub fn put_hex(out: &mut Vec<u8>, bytes: &[u8]) -> Result<(), NoMemory>
     Ok(())
 }
 
-fn put_byte(out: &mut Vec<u8>, byte: u8) -> Result<(), NoMemory>
+/// Appends the two digits of a byte.
+pub fn put_byte(out: &mut Vec<u8>, byte: u8) -> Result<(), NoMemory>
     ensures { OnOk result (out.new.items ≡ out.old.items ++ byte_text byte) }
 {
     out.push(digit_of(byte / 16))?;

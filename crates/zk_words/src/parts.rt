@@ -73,6 +73,7 @@ impl<'a> Parts<'a> {
                     self.rest = Rest::Nothing;
                     Some(Part { slot, text })
                 }
+                Rest::Many(slot) => Some(Part { slot, text }),
                 Rest::Events => Some(Part {
                     slot: Slot::Event,
                     text,

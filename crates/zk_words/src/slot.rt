@@ -1,4 +1,4 @@
-use crate::kind::Need;
+use zk_model_bus::Need;
 
 /// One of two words, the first of which is true.
 #[derive(Clone, Copy, Debug)]
@@ -32,6 +32,8 @@ pub enum Slot {
     Wait,
     /// What a poll waits for: `ignore`, or `sem:`, `msgq:` or `sig:` and the name of an object of that kind.
     Event,
+    /// What messages a channel takes: `any`, or `max:` and the greatest first byte in two hexadecimal digits.
+    Valid,
     /// The word `raw`, of an object that isn't initialised. The program can't play it yet.
     Raw,
 }
@@ -42,6 +44,8 @@ pub enum Rest {
     Nothing,
     /// One word or none.
     Maybe(Slot),
+    /// Any number of words, each of which stands for the same.
+    Many(Slot),
     /// The events of a poll: one or more, of which one at least isn't `ignore`.
     Events,
 }

@@ -10,6 +10,7 @@ use crate::pieces::Words;
 use crate::slot::{Choice, Rest, Slot};
 use crate::table::Row;
 use crate::timeout::is_wait;
+use crate::validator::validator_of;
 use zk_base::is_spelled;
 
 /// One of the two words of a choice; the first is true.
@@ -90,6 +91,7 @@ fn rest_spelling(later: bool, rest: Rest, words: Words<'_>) -> Spelling
             }
             right(later || is_later_in(slot, word))
         }
+        Rest::Many(slot) => many_spelling(later, slot, words),
         Rest::Events => {
             if any_asks(words.again()) && are_events(words) {
                 right(later)
@@ -98,6 +100,22 @@ fn rest_spelling(later: bool, rest: Rest, words: Words<'_>) -> Spelling
             }
         }
     }
+}
+
+/// How words stand that are all in one slot.
+#[tactic(auto, using(crate::proofs::Spellings::many_next, crate::proofs::Spellings::many_none))]
+fn many_spelling(later: bool, slot: Slot, words: Words<'_>) -> Spelling
+    ensures { result ≡ spelling_of later [] (Rest.Many slot) words.entry }
+{
+    let mut words = words;
+    let mut later = later;
+    while let Some(word) = words.next() {
+        if !is_spelled_in(slot, word) {
+            return Spelling::Wrong;
+        }
+        later = later || is_later_in(slot, word);
+    }
+    right(later)
 }
 
 /// Whether one of the words of events asks for something.
@@ -151,6 +169,7 @@ fn is_spelled_in(slot: Slot, word: &[u8]) -> bool
         Slot::Hex => is_hex(word),
         Slot::Wait => is_wait(word),
         Slot::Event => is_event(word),
+        Slot::Valid => validator_of(word).is_some(),
         Slot::Raw => word == b"raw".as_slice(),
     }
 }

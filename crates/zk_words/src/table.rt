@@ -1,12 +1,12 @@
 ghost use Rattle.std.specs.Prelude.{◌≡◌};
 ghost use Rattle.std.specs.Str.{bytes_eq};
 ghost use Rattle.zk_words.specs.Lines.{head_of};
-ghost use Rattle.zk_words.specs.Table.{exactly, perhaps, polling, row_of, call_row, kind_row};
+ghost use Rattle.zk_words.specs.Table.{exactly, perhaps, and_many, polling, row_of, call_row, kind_row};
 
-use crate::kind::{Kind, Need};
 use crate::slot::{Choice, Rest, Slot};
 use crate::word::{Head, Word};
 use std::marker::Model;
+use zk_model_bus::{Kind, Need};
 
 /// A form of a line: its first word, the slots behind that, and what may stand behind those.
 #[derive(Debug, Drop)]
@@ -33,6 +33,12 @@ const SEM: Slot = Slot::Object(Need::Sem);
 const MSGQ: Slot = Slot::Object(Need::Msgq);
 
 const SIGNAL: Slot = Slot::Object(Need::Signal);
+
+const CHANNEL: Slot = Slot::Object(Need::Chan);
+
+const SUBSCRIBER: Slot = Slot::Object(Need::Sub);
+
+const OBSERVER: Slot = Slot::Object(Need::Obs);
 
 const DELAY: Slot = Slot::Number(0, 1_000_000);
 
@@ -82,6 +88,16 @@ fn perhaps(first: &'static [u8], slots: &'static [Slot], last: Slot) -> Row
     }
 }
 
+fn and_many(first: &'static [u8], slots: &'static [Slot], more: Slot) -> Row
+    ensures { result ≡ and_many first.now slots.now more }
+{
+    Row {
+        first,
+        slots,
+        rest: Rest::Many(more),
+    }
+}
+
 fn polling(first: &'static [u8], slots: &'static [Slot]) -> Row
     ensures { result ≡ polling first.now slots.now }
 {
@@ -108,6 +124,13 @@ fn kind_row(kind: Kind) -> Row
         Kind::Sem => perhaps(b"sem", &[Slot::New, INITIAL, LIMIT], Slot::Raw),
         Kind::Msgq => perhaps(b"msgq", &[Slot::New, SIZE, CAPACITY], Slot::Raw),
         Kind::Signal => perhaps(b"signal", &[Slot::New], Slot::Raw),
+        Kind::Listener => exactly(b"listener", &[Slot::New]),
+        Kind::Sub => exactly(b"sub", &[Slot::New, CAPACITY]),
+        Kind::Chan => and_many(
+            b"chan",
+            &[Slot::New, SIZE, Slot::Hex, Slot::Valid],
+            OBSERVER,
+        ),
     }
 }
 
@@ -142,6 +165,14 @@ fn call_row(word: Word) -> Row
         Word::Clear => exactly(b"clear", &[SIGNAL]),
         Word::Check => exactly(b"check", &[SIGNAL]),
         Word::Poll => polling(b"poll", &[Slot::Wait]),
+        Word::Claim => exactly(b"claim", &[CHANNEL, Slot::Wait]),
+        Word::Finish => exactly(b"finish", &[CHANNEL]),
+        Word::Publish => exactly(b"publish", &[CHANNEL, Slot::Hex, Slot::Wait]),
+        Word::Notify => exactly(b"notify", &[CHANNEL, Slot::Wait]),
+        Word::Read => exactly(b"read", &[CHANNEL, Slot::Wait]),
+        Word::Mask => exactly(b"mask", &[CHANNEL, OBSERVER, Slot::Either(Choice::State)]),
+        Word::Enable => exactly(b"enable", &[OBSERVER, Slot::Either(Choice::State)]),
+        Word::SubWait => exactly(b"subwait", &[SUBSCRIBER, Slot::Wait]),
     }
 }
 
@@ -169,6 +200,9 @@ pub fn head_of(first: &[u8]) -> Option<Head>
         Head::Declare(Kind::Sem),
         Head::Declare(Kind::Msgq),
         Head::Declare(Kind::Signal),
+        Head::Declare(Kind::Listener),
+        Head::Declare(Kind::Sub),
+        Head::Declare(Kind::Chan),
         Head::Script,
         Head::End,
         Head::Call(Word::Submit),
@@ -198,6 +232,14 @@ pub fn head_of(first: &[u8]) -> Option<Head>
         Head::Call(Word::Clear),
         Head::Call(Word::Check),
         Head::Call(Word::Poll),
+        Head::Call(Word::Claim),
+        Head::Call(Word::Finish),
+        Head::Call(Word::Publish),
+        Head::Call(Word::Notify),
+        Head::Call(Word::Read),
+        Head::Call(Word::Mask),
+        Head::Call(Word::Enable),
+        Head::Call(Word::SubWait),
     );
     None
 }

@@ -21,23 +21,6 @@ fn unbuilt() -> &'static [&'static [u8]]
     ensures { map (λ text. text.now) result.now ≡ unbuilt }
 {
     &[
-        b"listener",
-        b"sub",
-        b"chan",
-        b"allow",
-        b"claim",
-        b"finish",
-        b"publish",
-        b"notify",
-        b"read",
-        b"mask",
-        b"enable",
-        b"subwait",
-        b"grant",
-        b"release",
-        b"revoke",
-        b"public",
-        b"init",
-        b"user",
+        b"allow", b"grant", b"release", b"revoke", b"public", b"init", b"user",
     ]
 }

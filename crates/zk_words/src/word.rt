@@ -1,4 +1,4 @@
-use crate::kind::Kind;
+use zk_model_bus::Kind;
 
 /// The call that a line makes.
 #[derive(Clone, Copy, Debug, PartialEq, Eq)]
@@ -30,6 +30,14 @@ pub enum Word {
     Clear,
     Check,
     Poll,
+    Claim,
+    Finish,
+    Publish,
+    Notify,
+    Read,
+    Mask,
+    Enable,
+    SubWait,
 }
 
 /// What a line's first word says that the line is.

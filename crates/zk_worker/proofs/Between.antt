@@ -10,6 +10,10 @@ use Rattle.zk_base.specs.declared.seen.Seen.{Seen}
 use Rattle.zk_base.specs.History.{IsAbove}
 use Rattle.zk_base.proofs.Lists.{All-at}
 use Rattle.zk_line.specs.declared.types.Decl.{Decl}
+use Rattle.zk_model_bus.specs.declared.channel.ChanOp.{ChanOp}
+use Rattle.zk_model_bus.specs.declared.channel.ChanReply.{ChanReply}
+use Rattle.zk_model_bus.specs.declared.observer.ObsOp.{ObsOp}
+use Rattle.zk_model_bus.specs.declared.observer.ObsReply.{ObsReply}
 use Rattle.zk_model_wait.specs.declared.msgq.MsgqOp.{MsgqOp}
 use Rattle.zk_model_wait.specs.declared.msgq.MsgqReply.{MsgqReply}
 use Rattle.zk_model_wait.specs.declared.sem.SemOp.{SemOp}
@@ -146,6 +150,8 @@ between-none false number shown = record {
   sems = grew-none_each number shown.sems;
   msgqs = grew-none_each number shown.msgqs;
   signals = grew-none_each number shown.signals;
+  chans = grew-none_each number shown.chans;
+  observers = grew-none_each number shown.observers;
   looks = looks-none shown.looks;
   looked = refl;
 }
@@ -159,6 +165,8 @@ between-both false number old mid new first then_ = record {
   sems = grew-both_each number old.sems mid.sems new.sems first.sems then_.sems;
   msgqs = grew-both_each number old.msgqs mid.msgqs new.msgqs first.msgqs then_.msgqs;
   signals = grew-both_each number old.signals mid.signals new.signals first.signals then_.signals;
+  chans = grew-both_each number old.chans mid.chans new.chans first.chans then_.chans;
+  observers = grew-both_each number old.observers mid.observers new.observers first.observers then_.observers;
   looks = looks-both old.looks mid.looks new.looks first.looks then_.looks;
   looked = then_.looked ∙ first.looked;
 }
@@ -178,6 +186,10 @@ shown-longer number old new (spots.Msgq object place) b grew is =
     entry-longer_each number step_of old.msgqs new.msgqs object place b grew.msgqs is
 shown-longer number old new (spots.Signal object place) b grew is =
     entry-longer_each number step_of old.signals new.signals object place b grew.signals is
+shown-longer number old new (spots.Chan object place) b grew is =
+    entry-longer_each number step_of old.chans new.chans object place b grew.chans is
+shown-longer number old new (spots.Obs object place) b grew is =
+    entry-longer_each number step_of old.observers new.observers object place b grew.observers is
 shown-longer number old new (spots.LookItem object flags at) b grew is = is
 shown-longer number old new (spots.LookSignal object seen) b grew is = is
 
@@ -197,6 +209,12 @@ stands-longer number old new grew (spots.Msgq object place) made is =
 stands-longer number old new grew (spots.Signal object place) made is =
     entry-longer_each number
     (λ e. (steps.Signal object e.op, step_replies.Signal object e.reply place)) old.signals new.signals object place made grew.signals is
+stands-longer number old new grew (spots.Chan object place) made is =
+    entry-longer_each number
+    (λ e. (steps.Chan object e.op, step_replies.Chan object e.reply place)) old.chans new.chans object place made grew.chans is
+stands-longer number old new grew (spots.Obs object place) made is =
+    entry-longer_each number
+    (λ e. (steps.Obs object e.op, step_replies.Obs object e.reply place)) old.observers new.observers object place made grew.observers is
 stands-longer number old new grew (spots.LookItem object flags at) made is = is
 stands-longer number old new grew (spots.LookSignal object seen) made is = is
 
@@ -210,6 +228,10 @@ shown-back number step old new (spots.Msgq object place) grew is =
     entry-back_each number step old.msgqs new.msgqs object place grew.msgqs is
 shown-back number step old new (spots.Signal object place) grew is =
     entry-back_each number step old.signals new.signals object place grew.signals is
+shown-back number step old new (spots.Chan object place) grew is =
+    entry-back_each number step old.chans new.chans object place grew.chans is
+shown-back number step old new (spots.Obs object place) grew is =
+    entry-back_each number step old.observers new.observers object place grew.observers is
 shown-back number step old new (spots.LookItem object flags at) grew is = is
 shown-back number step old new (spots.LookSignal object seen) grew is = is
 
@@ -250,6 +272,8 @@ log-none decls number [] none = record {
     nothing_there step (spots.Sem object place) is = none-there step_of decls object place (number, step) is
     nothing_there step (spots.Msgq object place) is = none-there step_of decls object place (number, step) is
     nothing_there step (spots.Signal object place) is = none-there step_of decls object place (number, step) is
+    nothing_there step (spots.Chan object place) is = none-there step_of decls object place (number, step) is
+    nothing_there step (spots.Obs object place) is = none-there step_of decls object place (number, step) is
     nothing_there step (spots.LookItem object flags at) is = cc
     nothing_there step (spots.LookSignal object seen) is = cc
 log-none decls number (spot ∷ log) none = absurd (cc)
@@ -275,3 +299,13 @@ pub above-signals : (shown : Shown) (number next object : ℕ) (h : List (Entry 
     slice_get shown.signals object ≡ Some h → IsLater shown number next → IsAbove h number next
 above-signals shown number next object h there later =
     above-each number shown.signals object next h there (λ place step is. later.entries step (spots.Signal object place) is)
+
+pub above-chans : (shown : Shown) (number next object : ℕ) (h : List (Entry ChanOp ChanReply)) →
+    slice_get shown.chans object ≡ Some h → IsLater shown number next → IsAbove h number next
+above-chans shown number next object h there later =
+    above-each number shown.chans object next h there (λ place step is. later.entries step (spots.Chan object place) is)
+
+pub above-observers : (shown : Shown) (number next object : ℕ) (h : List (Entry ObsOp ObsReply)) →
+    slice_get shown.observers object ≡ Some h → IsLater shown number next → IsAbove h number next
+above-observers shown number next object h there later =
+    above-each number shown.observers object next h there (λ place step is. later.entries step (spots.Obs object place) is)

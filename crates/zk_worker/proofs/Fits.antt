@@ -1,5 +1,5 @@
--- The attempts of a player name items, queues, semaphores, message queues and signals that are declared.
-use Rattle.std.proofs.Common.{◌≡◌, ℕ, zero, suc, ◌+◌, Bool, true, false, Option, Some, None, is_some, List, [], ◌∷◌, length, map, All, refl, ap, subst, arith, nat_lt, ◌&&◌}
+-- The attempts of a player name items, queues, semaphores, message queues, signals, channels and observers that are declared.
+use Rattle.std.proofs.Common.{◌≡◌, ℕ, zero, suc, ◌+◌, Bool, true, false, Option, Some, None, is_some, List, [], ◌∷◌, length, All, refl, ap, subst, arith, nat_lt, ◌&&◌}
 use Rattle.std.specs.Option.{option_map, option_map_or}
 use Rattle.std.specs.List.{slice_get, list_all}
 use Rattle.std.proofs.lemmas.Bool.{and_parts, and_from, lt-ltb}
@@ -11,9 +11,11 @@ use Rattle.zk_line.specs.declared.types.Decl.TheVariants as decl_kinds
 use Rattle.zk_line.specs.declared.types.Ref.TheVariants.{Known}
 use Rattle.zk_line.specs.declared.types.Call.{Call}
 use Rattle.zk_line.specs.declared.types.Call.TheVariants as calls
-use Rattle.zk_line.specs.Objects.{places, is_queue, is_item, is_sem, is_msgq, is_signal, number_of, is_at, size_at}
+use Rattle.zk_line.specs.Objects.{places, is_queue, is_item, is_sem, is_msgq, is_signal, is_chan, is_observer, is_met, number_of, is_at, size_at}
 use Rattle.zk_scenario.specs.Players.{players, calls_of}
+use Rattle.zk_model_bus.specs.declared.kinds.Need.TheVariants as need
 use Rattle.zk_scenario.specs.Parts.{Parts}
+use Rattle.zk_model_bus.specs.declared.channel.ChanOp.TheVariants as chan_ops
 use Rattle.zk_model_wait.specs.declared.clock.ClockOp.TheVariants as clock_ops
 use Rattle.zk_model_work.specs.declared.ops.WorkOp.TheVariants as ops
 use Rattle.zk_words.specs.Numbers.{is_between}
@@ -22,12 +24,10 @@ use Rattle.zk_words.specs.declared.timeout.Timeout.TheVariants.{No, Forever, Tic
 use Rattle.zk_words.specs.Timeouts.{wait_fits}
 use Rattle.zk_line.specs.declared.events.Event.{Event}
 use Rattle.zk_line.specs.declared.events.Event.TheVariants as events
-use Rattle.zk_line.specs.declared.types.Arg.TheVariants as args
-use Rattle.zk_words.specs.declared.slot.Slot.TheVariants as slots
-use Rattle.zk_line.specs.Calls.{said_of}
-use Rattle.zk_line.specs.Checks.{is_size, size_said}
-use Rattle.zk_line.specs.Fits.{event_fits, fits_in, call_fits}
+use Rattle.zk_line.specs.Checks.{is_size}
+use Rattle.zk_line.specs.Fits.{event_fits, call_fits}
 use Rattle.zk_scenario.specs.Valid.{IsValid}
+use Rattle.zk_line.proofs.Fits.{poll_fits}
 use Rattle.zk_line.proofs.Tables.{length-places}
 use Rattle.zk_scenario.proofs.Valid.{number_of-item, number_of-queue, call_fits-calls_of}
 use Rattle.zk_worker.specs.declared.steps.TheConstants.{MOST_STEPS}
@@ -38,23 +38,28 @@ use Rattle.zk_worker.specs.declared.frames.Frame.{Frame}
 use Rattle.zk_worker.specs.declared.frames.Closing.{Closing}
 use Rattle.zk_worker.specs.declared.frames.Closing.TheVariants as closings
 use Rattle.zk_worker.specs.declared.frames.Plan.{Plan}
-use Rattle.zk_worker.specs.declared.frames.Plan.TheVariants.{One, Pair, Twice, Wait, Poll}
+use Rattle.zk_worker.specs.declared.frames.Plan.TheVariants.{One, Pair, Twice, Wait, Poll, Channel}
+use Rattle.zk_worker.specs.declared.frames.Using.{Using}
+use Rattle.zk_worker.specs.declared.frames.Using.TheVariants.{Publish, Notify, Read}
 use Rattle.zk_worker.specs.declared.frames.Waiting.{Waiting}
-use Rattle.zk_worker.specs.declared.frames.Waiting.TheVariants.{Take, Put, Get}
+use Rattle.zk_worker.specs.declared.frames.Waiting.TheVariants.{Take, Put, Get, Claim, SubWait, Offer, Enter}
 use Rattle.zk_worker.specs.declared.frames.Stage.{Stage}
 use Rattle.zk_worker.specs.declared.frames.Stage.TheVariants as stages
 use Rattle.zk_worker.specs.declared.frames.Role.{Role}
 use Rattle.zk_worker.specs.declared.frames.Role.TheVariants as roles
 use Rattle.zk_worker.specs.declared.frames.Progress.{Progress}
 use Rattle.zk_worker.specs.declared.frames.Progress.TheVariants.{Goes, Answers, Enters}
-use Rattle.zk_worker.specs.Calls.{plan_of, closing_step, open_step, end_step, quit_step, first_step, wait_attempts, plan_attempts}
+use Rattle.zk_worker.specs.Calls.{plan_of, closing_step, plan_attempts}
+use Rattle.zk_worker.specs.Publishes.{asks_for, use_step, visit_step, channel_attempts}
+use Rattle.zk_worker.specs.Waits.{open_step, end_step, quit_step, first_step, wait_attempts}
 use Rattle.zk_worker.specs.Places.{At}
 use Rattle.zk_worker.specs.Polls.{poll_attempts}
 use Rattle.zk_worker.specs.Protocol.{worker_attempts, call_attempts, role_attempts, frames_attempts, IsAhead, after, frames_after, frames_progress, entered, first_frame, role_at, starting, start_at}
 use Rattle.zk_worker.specs.Families.{is_declared}
-use Rattle.zk_worker.specs.Machines.{sem_start, msgq_start, signal_start}
-use Rattle.zk_worker.specs.Ranges.{step_fits, role_fits, FramesFit}
+use Rattle.zk_worker.specs.Machines.{sem_start, msgq_start, signal_start, chan_start, observer_start}
+use Rattle.zk_worker.specs.Ranges.{step_fits, role_fits, AreObservers, StageFits, FrameFits, FramesFit, ReplyFits}
 use Rattle.zk_worker.proofs.PollSteps.{is_source, poll_attempts-fit}
+use Rattle.zk_worker.proofs.StageFits.{ProgressFits, frames_progress-fits}
 use Rattle.zk_worker.proofs.Limits.{settled-all, entered-all}
 
 -- an item that a call names is one of the items
@@ -80,6 +85,10 @@ waiting_fits : List Decl → Waiting → Bool
 waiting_fits decls (Take object) = is_declared sem_start decls object
 waiting_fits decls (Put object message) = is_declared msgq_start decls object
 waiting_fits decls (Get object) = is_declared msgq_start decls object
+waiting_fits decls (Claim object) = is_declared chan_start decls object
+waiting_fits decls (SubWait object) = is_declared observer_start decls object
+waiting_fits decls (Offer object message) = is_declared chan_start decls object
+waiting_fits decls (Enter object) = is_declared chan_start decls object
 
 -- the steps that a fitting call makes fit
 PlanFits : List Decl → Plan → Type 0
@@ -88,6 +97,7 @@ PlanFits decls (Pair opening closing) = step_fits decls opening ≡ true
 PlanFits decls (Twice first second) = (step_fits decls first ≡ true) × (step_fits decls second ≡ true)
 PlanFits decls (Wait waiting timeout) = waiting_fits decls waiting ≡ true
 PlanFits decls (Poll timeout events) = All (λ event. is_source decls event ≡ true) events
+PlanFits decls (Channel chan using timeout) = is_declared chan_start decls chan ≡ true
 
 -- a call of one object, an item or a queue
 item-alone : (decls : List Decl) (item : ℕ) → (is_at is_item decls item && true) ≡ true → nat_lt (number_of decls item) (length (places is_item decls)) ≡ true
@@ -132,6 +142,33 @@ msgq-declared decls queue more fits =
     starts (decl_kinds.Msgq name size capacity) is = refl
     starts decl is = absurd (cc)
 
+chan-declared : (decls : List Decl) (chan : ℕ) (more : Bool) → (is_at is_chan decls chan && more) ≡ true →
+    is_declared chan_start decls chan ≡ true
+chan-declared decls chan more fits = declared-at chan_start is_chan decls chan starts (and_parts (is_at is_chan decls chan) more fits).0
+  where
+    starts : (decl : Decl) → is_chan decl ≡ true → is_some (chan_start decl) ≡ true
+    starts (decl_kinds.Chan name message valid observers) is = refl
+    starts decl is = absurd (cc)
+
+observer-declared : (decls : List Decl) (observer : ℕ) (more : Bool) → (is_at is_observer decls observer && more) ≡ true →
+    is_declared observer_start decls observer ≡ true
+observer-declared decls observer more fits =
+    declared-at observer_start is_observer decls observer starts (and_parts (is_at is_observer decls observer) more fits).0
+  where
+    starts : (decl : Decl) → is_observer decl ≡ true → is_some (observer_start decl) ≡ true
+    starts (decl_kinds.Listener name) is = refl
+    starts (decl_kinds.Sub name capacity) is = refl
+    starts decl is = absurd (cc)
+
+sub-declared : (decls : List Decl) (sub : ℕ) (more : Bool) → (is_at (is_met need.Sub) decls sub && more) ≡ true →
+    is_declared observer_start decls sub ≡ true
+sub-declared decls sub more fits =
+    declared-at observer_start (is_met need.Sub) decls sub starts (and_parts (is_at (is_met need.Sub) decls sub) more fits).0
+  where
+    starts : (decl : Decl) → is_met need.Sub decl ≡ true → is_some (observer_start decl) ≡ true
+    starts (decl_kinds.Sub name capacity) is = refl
+    starts decl is = absurd (cc)
+
 signal-declared : (decls : List Decl) (signal : ℕ) (more : Bool) → (is_at is_signal decls signal && more) ≡ true →
     is_declared signal_start decls signal ≡ true
 signal-declared decls signal more fits =
@@ -148,13 +185,13 @@ event-source decls (events.Sem (Known sem)) fits = sem-declared decls sem true (
 event-source decls (events.Msgq (Known queue)) fits = msgq-declared decls queue true (and_from (is_at is_msgq decls queue) true fits refl)
 event-source decls (events.Sig (Known signal)) fits = signal-declared decls signal true (and_from (is_at is_signal decls signal) true fits refl)
 
-events-sources : (decls : List Decl) (size : Option ℕ) (list : List Event) → list_all (fits_in decls size slots.Event) (map args.Event list) ≡ true →
+events-sources : (decls : List Decl) (list : List Event) → list_all (event_fits decls) list ≡ true →
     All (λ event. is_source decls event ≡ true) list
-events-sources decls size [] fits = let P : Event → Type 0 = λ event. is_source decls event ≡ true in All-nil P
-events-sources decls size (event ∷ more) fits =
+events-sources decls [] fits = let P : Event → Type 0 = λ event. is_source decls event ≡ true in All-nil P
+events-sources decls (event ∷ more) fits =
     let P : Event → Type 0 = λ event. is_source decls event ≡ true in
-    let both = and_parts (event_fits decls event) (list_all (fits_in decls size slots.Event) (map args.Event more)) fits in
-    All-cons P event more (event-source decls event both.0) (events-sources decls size more both.1)
+    let both = and_parts (event_fits decls event) (list_all (event_fits decls) more) fits in
+    All-cons P event more (event-source decls event both.0) (events-sources decls more both.1)
 
 plan_of-fits : (decls : List Decl) (call : Call) → call_fits decls call ≡ true → PlanFits decls (plan_of decls call)
 unfolding PlanFits waiting_fits
@@ -189,10 +226,16 @@ plan_of-fits decls (calls.Free (Known queue)) fits = msgq-declared decls queue t
 plan_of-fits decls (calls.Raise (Known signal) value) fits = signal-declared decls signal (is_between 0 65535 value && true) fits
 plan_of-fits decls (calls.Clear (Known signal)) fits = signal-declared decls signal true fits
 plan_of-fits decls (calls.Check (Known signal)) fits = signal-declared decls signal true fits
-plan_of-fits decls (calls.Poll timeout list) fits =
-    let said = said_of (calls.Poll timeout list) in
-    let size = size_said decls said.args in
-    events-sources decls size list (and_parts (wait_fits timeout) (list_all (fits_in decls size slots.Event) (map args.Event list)) fits).1
+plan_of-fits decls (calls.Claim (Known chan) timeout) fits = chan-declared decls chan (wait_fits timeout && true) fits
+plan_of-fits decls (calls.Finish (Known chan)) fits = chan-declared decls chan true fits
+plan_of-fits decls (calls.Mask (Known chan) (Known observer) on) fits = chan-declared decls chan (is_at is_observer decls observer && true) fits
+plan_of-fits decls (calls.Enable (Known observer) on) fits = observer-declared decls observer true fits
+plan_of-fits decls (calls.SubWait (Known sub) timeout) fits = sub-declared decls sub (wait_fits timeout && true) fits
+plan_of-fits decls (calls.Publish (Known chan) message timeout) fits =
+    chan-declared decls chan (is_size (size_at decls chan) (length message) && (wait_fits timeout && true)) fits
+plan_of-fits decls (calls.Notify (Known chan) timeout) fits = chan-declared decls chan (wait_fits timeout && true) fits
+plan_of-fits decls (calls.Read (Known chan) timeout) fits = chan-declared decls chan (wait_fits timeout && true) fits
+plan_of-fits decls (calls.Poll timeout list) fits = events-sources decls list (poll_fits decls timeout list fits).1
 
 -- the steps of a wait are at its object
 open-fits : (decls : List Decl) (waiting : Waiting) (waits : Bool) → waiting_fits decls waiting ≡ true →
@@ -201,6 +244,10 @@ unfolding waiting_fits
 open-fits decls (Take object) waits fits = fits
 open-fits decls (Put object message) waits fits = fits
 open-fits decls (Get object) waits fits = fits
+open-fits decls (Claim object) waits fits = fits
+open-fits decls (SubWait object) waits fits = fits
+open-fits decls (Offer object message) waits fits = fits
+open-fits decls (Enter object) waits fits = fits
 
 end-fits : (decls : List Decl) (waiting : Waiting) (place : ℕ) → waiting_fits decls waiting ≡ true →
     step_fits decls (end_step waiting place) ≡ true
@@ -208,6 +255,10 @@ unfolding waiting_fits
 end-fits decls (Take object) place fits = fits
 end-fits decls (Put object message) place fits = fits
 end-fits decls (Get object) place fits = fits
+end-fits decls (Claim object) place fits = fits
+end-fits decls (SubWait object) place fits = fits
+end-fits decls (Offer object message) place fits = fits
+end-fits decls (Enter object) place fits = fits
 
 quit-fits : (decls : List Decl) (waiting : Waiting) (place : ℕ) → waiting_fits decls waiting ≡ true →
     step_fits decls (quit_step waiting place) ≡ true
@@ -215,6 +266,10 @@ unfolding waiting_fits
 quit-fits decls (Take object) place fits = fits
 quit-fits decls (Put object message) place fits = fits
 quit-fits decls (Get object) place fits = fits
+quit-fits decls (Claim object) place fits = fits
+quit-fits decls (SubWait object) place fits = fits
+quit-fits decls (Offer object message) place fits = fits
+quit-fits decls (Enter object) place fits = fits
 
 first-fits : (decls : List Decl) (waiting : Waiting) (timeout : Timeout) → waiting_fits decls waiting ≡ true →
     step_fits decls (first_step waiting timeout) ≡ true
@@ -249,28 +304,56 @@ wait_attempts-fit decls waiting timeout (stages.Quits place) k step fits is =
     one-fits decls (quit_step waiting place) k step (quit-fits decls waiting place fits) is
 wait_attempts-fit decls waiting timeout stage k step fits is = absurd (cc)
 
+-- what a call does with its channel is at that channel, and its visits are at observers
+asks-fits : (decls : List Decl) (chan : ℕ) (using : Using) → is_declared chan_start decls chan ≡ true → waiting_fits decls (asks_for chan using) ≡ true
+unfolding waiting_fits
+asks-fits decls chan (Publish message) fits = fits
+asks-fits decls chan Notify fits = fits
+asks-fits decls chan Read fits = fits
+
+use-fits : (decls : List Decl) (chan : ℕ) (using : Using) → is_declared chan_start decls chan ≡ true → step_fits decls (use_step chan using) ≡ true
+use-fits decls chan (Publish message) fits = fits
+use-fits decls chan Notify fits = fits
+use-fits decls chan Read fits = fits
+
+visit-fits : (decls : List Decl) (chan : ℕ) (left : List ℕ) → is_declared chan_start decls chan ≡ true → AreObservers decls left →
+    step_fits decls (visit_step chan left) ≡ true
+visit-fits decls chan [] fits are = fits
+visit-fits decls chan (observer ∷ left) fits are = All-head (λ o. is_declared observer_start decls o ≡ true) observer left are
+
+channel_attempts-fit : (decls : List Decl) (chan : ℕ) (using : Using) (timeout : Timeout) (stage : Stage) (k : ℕ) (step : Step) →
+    is_declared chan_start decls chan ≡ true → StageFits decls stage → slice_get (channel_attempts chan using timeout stage) k ≡ Some step →
+    step_fits decls step ≡ true
+channel_attempts-fit decls chan using timeout stages.Holds k step fits at is = one-fits decls (use_step chan using) k step (use-fits decls chan using fits) is
+channel_attempts-fit decls chan using timeout (stages.Visits left full) k step fits at is =
+    one-fits decls (visit_step chan left) k step (visit-fits decls chan left fits at) is
+channel_attempts-fit decls chan using timeout (stages.Reads message) k step fits at is = one-fits decls (steps.Chan chan chan_ops.Free) k step fits is
+channel_attempts-fit decls chan using timeout stage k step fits at is =
+    wait_attempts-fit decls (asks_for chan using) timeout stage k step (asks-fits decls chan using fits) is
+
 -- all that a plan tries fits
 plan_attempts-fit : (decls : List Decl) (plan : Plan) (stage : Stage) (k : ℕ) (step : Step) →
-    PlanFits decls plan → slice_get (plan_attempts plan stage) k ≡ Some step → step_fits decls step ≡ true
+    PlanFits decls plan → StageFits decls stage → slice_get (plan_attempts plan stage) k ≡ Some step → step_fits decls step ≡ true
 unfolding PlanFits
-plan_attempts-fit decls (One first) stages.Start k step fits is = one-fits decls first k step fits is
-plan_attempts-fit decls (One first) stage k step fits is = absurd (cc)
-plan_attempts-fit decls (Pair opening closing) stages.Start k step fits is = one-fits decls opening k step fits is
-plan_attempts-fit decls (Pair opening closing) (stages.Waits place) k step fits is =
+plan_attempts-fit decls (One first) stages.Start k step fits at is = one-fits decls first k step fits is
+plan_attempts-fit decls (One first) stage k step fits at is = absurd (cc)
+plan_attempts-fit decls (Pair opening closing) stages.Start k step fits at is = one-fits decls opening k step fits is
+plan_attempts-fit decls (Pair opening closing) (stages.Waits place) k step fits at is =
     one-fits decls (closing_step closing place) k step (closing-fits decls closing place) is
-plan_attempts-fit decls (Pair opening closing) stage k step fits is = absurd (cc)
-plan_attempts-fit decls (Twice first second) stages.Start k step fits is = one-fits decls first k step fits.0 is
-plan_attempts-fit decls (Twice first second) stages.Halfway k step fits is = one-fits decls second k step fits.1 is
-plan_attempts-fit decls (Twice first second) stage k step fits is = absurd (cc)
-plan_attempts-fit decls (Wait waiting timeout) stage k step fits is = wait_attempts-fit decls waiting timeout stage k step fits is
-plan_attempts-fit decls (Poll timeout list) stage k step fits is =
+plan_attempts-fit decls (Pair opening closing) stage k step fits at is = absurd (cc)
+plan_attempts-fit decls (Twice first second) stages.Start k step fits at is = one-fits decls first k step fits.0 is
+plan_attempts-fit decls (Twice first second) stages.Halfway k step fits at is = one-fits decls second k step fits.1 is
+plan_attempts-fit decls (Twice first second) stage k step fits at is = absurd (cc)
+plan_attempts-fit decls (Wait waiting timeout) stage k step fits at is = wait_attempts-fit decls waiting timeout stage k step fits is
+plan_attempts-fit decls (Poll timeout list) stage k step fits at is =
     let P : Step → Type 0 = λ s. step_fits decls s ≡ true in
     All-at P (poll_attempts timeout list stage) k step (poll_attempts-fit decls timeout list stage fits) is
+plan_attempts-fit decls (Channel chan using timeout) stage k step fits at is = channel_attempts-fit decls chan using timeout stage k step fits at is
 
 call_attempts-fit : (decls : List Decl) (call : Option Call) (stage : Stage) (k : ℕ) (step : Step) →
-    option_map_or (call_fits decls) call true ≡ true → slice_get (call_attempts decls call stage) k ≡ Some step → step_fits decls step ≡ true
-call_attempts-fit decls None stage k step fits is = absurd (cc)
-call_attempts-fit decls (Some call) stage k step fits is = plan_attempts-fit decls (plan_of decls call) stage k step (plan_of-fits decls call fits) is
+    option_map_or (call_fits decls) call true ≡ true → StageFits decls stage → slice_get (call_attempts decls call stage) k ≡ Some step → step_fits decls step ≡ true
+call_attempts-fit decls None stage k step fits at is = absurd (cc)
+call_attempts-fit decls (Some call) stage k step fits at is = plan_attempts-fit decls (plan_of decls call) stage k step (plan_of-fits decls call fits) at is
 
 call-fits : (decls : List Decl) (calls : List Call) (next : ℕ) (call : Option Call) → slice_get calls next ≡ call →
     list_all (call_fits decls) calls ≡ true → option_map_or (call_fits decls) call true ≡ true
@@ -284,19 +367,19 @@ worker_attempts-fit decls queue stages.Runs k step fits is = one-fits decls (ste
 worker_attempts-fit decls queue stage k step fits is = absurd (cc)
 
 role_attempts-fit : (s : Parts) (role : Role) (next : ℕ) (stage : Stage) (k : ℕ) (step : Step) → IsValid s →
-    role_fits s.decls role ≡ true → slice_get (role_attempts s role next stage) k ≡ Some step → step_fits s.decls step ≡ true
-role_attempts-fit s (roles.Script owner) next stage k step valid fits is =
+    role_fits s.decls role ≡ true → StageFits s.decls stage → slice_get (role_attempts s role next stage) k ≡ Some step → step_fits s.decls step ≡ true
+role_attempts-fit s (roles.Script owner) next stage k step valid fits at is =
     call_attempts-fit s.decls (slice_get (calls_of s.scripts owner) next) stage k step
-    (call-fits s.decls (calls_of s.scripts owner) next (slice_get (calls_of s.scripts owner) next) refl (call_fits-calls_of s owner valid)) is
-role_attempts-fit s (roles.Worker queue) next stage k step valid fits is =
+    (call-fits s.decls (calls_of s.scripts owner) next (slice_get (calls_of s.scripts owner) next) refl (call_fits-calls_of s owner valid)) at is
+role_attempts-fit s (roles.Worker queue) next stage k step valid fits at is =
     worker_attempts-fit s.decls (number_of s.decls queue) stage k step (queue-fits s.decls queue fits) is
 
 frames_attempts-fit : (s : Parts) (frames : List Frame) (k : ℕ) (step : Step) → IsValid s →
     FramesFit s.decls frames → slice_get (frames_attempts s frames) k ≡ Some step → step_fits s.decls step ≡ true
 frames_attempts-fit s [] k step valid fits is = absurd (cc)
 frames_attempts-fit s (frame ∷ below) k step valid fits is =
-    let P : Frame → Type 0 = λ f. role_fits s.decls f.role ≡ true in
-    role_attempts-fit s frame.role frame.next frame.stage k step valid (All-head P frame below fits) is
+    let here = All-head (FrameFits s.decls) frame below fits in
+    role_attempts-fit s frame.role frame.next frame.stage k step valid here.0 here.1 is
 
 -- each attempt of a player of a valid scenario names what is declared
 pub ahead-fits : (s : Parts) (at : At) (step : Step) → IsValid s → FramesFit s.decls at.frames → IsAhead s at step → step_fits s.decls step ≡ true
@@ -304,25 +387,27 @@ ahead-fits s at step valid fits ahead =
     frames_attempts-fit s at.frames ahead.0 step valid fits
     (cond_nil-at (nat_lt (length at.spots) MOST_STEPS) (frames_attempts s at.frames) ahead.0 step ahead.1).1
 
-frames_after-fit : (s : Parts) (frames : List Frame) (progress : Progress) → FramesFit s.decls frames → FramesFit s.decls (frames_after s frames progress)
-frames_after-fit s [] progress fits = fits
-frames_after-fit s (frame ∷ below) progress fits =
-    let P : Frame → Type 0 = λ f. role_fits s.decls f.role ≡ true in
-    let here = All-head P frame below fits in
-    let there = All-tail P frame below fits in
-    elim progress as (λ p. All P (frames_after s (frame ∷ below) p)) [
-      | Goes stage ↦ All-cons P (record frame { stage = stage }) below here there
-      | Answers word answer ↦
-          let next = record frame { next = frame.next + 1; stage = stages.Start } in
-          settled-all P s (next ∷ below) (All-cons P next below here there)
-      | Enters owner stage ↦
-          let next = record frame { stage = stage } in
-          settled-all P s (entered (next ∷ below) owner) (entered-all P (next ∷ below) owner refl (All-cons P next below here there))
-    ]
+frames_after-fit : (s : Parts) (frames : List Frame) (progress : Progress) → FramesFit s.decls frames → ProgressFits s.decls progress →
+    FramesFit s.decls (frames_after s frames progress)
+frames_after-fit s [] progress fits more = fits
+frames_after-fit s (frame ∷ below) (Goes stage) fits more =
+    let F : Frame → Type 0 = FrameFits s.decls in
+    All-cons F (record frame { stage = stage }) below ((All-head F frame below fits).0, more) (All-tail F frame below fits)
+frames_after-fit s (frame ∷ below) (Answers word answer) fits more =
+    let F : Frame → Type 0 = FrameFits s.decls in
+    let next = record frame { next = frame.next + 1; stage = stages.Start } in
+    settled-all F s (next ∷ below) (All-cons F next below ((All-head F frame below fits).0, tt) (All-tail F frame below fits))
+frames_after-fit s (frame ∷ below) (Enters owner stage) fits more =
+    let F : Frame → Type 0 = FrameFits s.decls in
+    let next = record frame { stage = stage } in
+    settled-all F s (entered (next ∷ below) owner) (entered-all F (next ∷ below) owner (refl, tt)
+    (All-cons F next below ((All-head F frame below fits).0, more) (All-tail F frame below fits)))
 
--- a step keeps the queues of the open runs
-pub after-fits : (s : Parts) (at : At) (made : Step) (reply : StepReply) → FramesFit s.decls at.frames → FramesFit s.decls (after s at made reply).frames
-after-fits s at made reply fits = frames_after-fit s at.frames (frames_progress s at.frames made reply) fits
+-- a step keeps what fits, where its reply tells only of observers
+pub after-fits : (s : Parts) (at : At) (made : Step) (reply : StepReply) → FramesFit s.decls at.frames → ReplyFits s.decls reply →
+    FramesFit s.decls (after s at made reply).frames
+after-fits s at made reply fits told =
+    frames_after-fit s at.frames (frames_progress s at.frames made reply) fits (frames_progress-fits s at.frames made reply fits told)
 
 role_at-fits : (decls : List Decl) (object : ℕ) (decl : Decl) → slice_get decls object ≡ Some decl → role_fits decls (role_at decl object) ≡ true
 role_at-fits decls object (decl_kinds.Thread name prio user) is = refl
@@ -331,9 +416,9 @@ role_at-fits decls object decl is = refl
 
 starting-fits : (s : Parts) (number object : ℕ) (decl : Decl) → slice_get s.decls object ≡ Some decl → FramesFit s.decls (starting s number object decl).frames
 starting-fits s number object decl is =
-    let P : Frame → Type 0 = λ f. role_fits s.decls f.role ≡ true in
+    let F : Frame → Type 0 = FrameFits s.decls in
     let first = first_frame (role_at decl object) in
-    settled-all P s (first ∷ []) (All-cons P first [] (role_at-fits s.decls object decl is) (All-nil P))
+    settled-all F s (first ∷ []) (All-cons F first [] (role_at-fits s.decls object decl is, tt) (All-nil F))
 
 -- a player that has made no step has its queue, where it is a worker
 pub start_at-fits : (s : Parts) (number : ℕ) (at : At) → start_at s number ≡ Some at → FramesFit s.decls at.frames

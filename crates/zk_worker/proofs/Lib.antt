@@ -11,6 +11,7 @@ pub mod PollLaws
 pub mod PollTells
 pub mod PollLogs
 pub mod PollServed
+pub mod StageFits
 pub mod Fits
 pub mod Ranges
 pub mod Families
@@ -18,5 +19,14 @@ pub mod Between
 pub mod ShownSteps
 pub mod Looking
 pub mod SignalWrites
+pub mod Replied
 pub mod Following
 pub mod Trying
+pub mod ChannelAnswers
+pub mod OpenScripts
+pub mod OwnEntries
+pub mod HeldCalls
+pub mod OtherCalls
+pub mod ScriptsEntered
+pub mod LogsPlayed
+pub mod Visits

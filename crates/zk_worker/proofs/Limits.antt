@@ -18,12 +18,15 @@ use Rattle.zk_worker.specs.declared.frames.Progress.TheVariants.{Goes, Answers, 
 use Rattle.zk_worker.specs.declared.frames.Role.{Role}
 use Rattle.zk_worker.specs.declared.frames.Role.TheVariants.{Script, Worker}
 use Rattle.zk_worker.specs.declared.frames.Stage.{Stage}
-use Rattle.zk_worker.specs.declared.frames.Stage.TheVariants.{Start, Runs, Waits, Halfway, Alarmed, WaitsUntil, Quits}
+use Rattle.zk_worker.specs.declared.frames.Stage.TheVariants.{Start, Runs, Waits, Halfway, Alarmed, WaitsUntil, Quits, Holds, Visits, Reads}
 use Rattle.zk_worker.specs.declared.frames.Plan.{Plan}
-use Rattle.zk_worker.specs.declared.frames.Plan.TheVariants.{One, Pair, Twice, Wait, Poll}
+use Rattle.zk_worker.specs.declared.frames.Plan.TheVariants.{One, Pair, Twice, Wait, Poll, Channel}
+use Rattle.zk_worker.specs.declared.frames.Using.{Using}
 use Rattle.zk_worker.specs.declared.frames.Waiting.{Waiting}
 use Rattle.zk_worker.specs.Places.{At}
-use Rattle.zk_worker.specs.Calls.{plan_of, wait_attempts, plan_attempts}
+use Rattle.zk_worker.specs.Calls.{plan_of, plan_attempts}
+use Rattle.zk_worker.specs.Publishes.{asks_for, channel_attempts}
+use Rattle.zk_worker.specs.Waits.{wait_attempts}
 use Rattle.zk_line.specs.declared.types.Call.{Call}
 use Rattle.zk_scenario.specs.Players.{calls_of}
 use Rattle.zk_worker.specs.Protocol.{attempts, IsAhead, is_over, settled, entered, first_frame, frames_after, answers_after, frames_attempts, role_attempts, call_attempts}
@@ -121,6 +124,13 @@ wait_attempts-few waiting timeout (WaitsUntil place moment) = omega arith
 wait_attempts-few waiting timeout (Quits place) = omega arith
 wait_attempts-few waiting timeout stage = omega arith
 
+-- and so has one that uses a channel
+channel_attempts-few : (chan : ℕ) (using : Using) (timeout : Timeout) (stage : Stage) → length (channel_attempts chan using timeout stage) ≤ 2
+channel_attempts-few chan using timeout Holds = omega arith
+channel_attempts-few chan using timeout (Visits left full) = omega arith
+channel_attempts-few chan using timeout (Reads message) = omega arith
+channel_attempts-few chan using timeout stage = wait_attempts-few (asks_for chan using) timeout stage
+
 plan_attempts-few : (plan : Plan) (stage : Stage) → length (plan_attempts plan stage) ≤ 9
 plan_attempts-few (One step) Start = omega arith
 plan_attempts-few (One step) stage = omega arith
@@ -132,6 +142,7 @@ plan_attempts-few (Twice first second) Halfway = omega arith
 plan_attempts-few (Twice first second) stage = omega arith
 plan_attempts-few (Wait waiting timeout) stage = omega (arith, wait_attempts-few waiting timeout stage)
 plan_attempts-few (Poll timeout events) stage = poll_attempts-few timeout events stage
+plan_attempts-few (Channel chan using timeout) stage = omega (arith, channel_attempts-few chan using timeout stage)
 
 frames_attempts-few : (s : Parts) (frames : List Frame) → length (frames_attempts s frames) ≤ 9
 frames_attempts-few s [] = omega arith

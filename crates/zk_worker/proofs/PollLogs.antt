@@ -11,6 +11,8 @@ use Rattle.zk_line.specs.Calls.{word_of}
 use Rattle.zk_line.specs.Objects.{places, is_item}
 use Rattle.zk_scenario.specs.Parts.{Parts}
 use Rattle.zk_scenario.specs.Players.{players, calls_of}
+use Rattle.zk_model_bus.specs.declared.channel.ChanReply.TheVariants as chan_replies
+use Rattle.zk_model_bus.specs.declared.observer.ObsReply.TheVariants as obs_replies
 use Rattle.zk_model_wait.specs.declared.clock.ClockReply.TheVariants as clock_replies
 use Rattle.zk_model_wait.specs.declared.msgq.MsgqReply.TheVariants as msgq_replies
 use Rattle.zk_model_wait.specs.declared.sem.SemReply.TheVariants as sem_replies
@@ -26,44 +28,48 @@ use Rattle.zk_worker.specs.declared.frames.Frame.{Frame}
 use Rattle.zk_worker.specs.declared.frames.TheConstants.{MOST_FRAMES}
 use Rattle.zk_worker.specs.declared.frames.Mark.{Mark}
 use Rattle.zk_worker.specs.declared.frames.Plan.{Plan}
-use Rattle.zk_worker.specs.declared.frames.Plan.TheVariants.{One, Pair, Twice, Wait, Poll}
+use Rattle.zk_worker.specs.declared.frames.Plan.TheVariants.{One, Pair, Twice, Wait, Poll, Channel}
 use Rattle.zk_worker.specs.declared.frames.Progress.{Progress}
 use Rattle.zk_worker.specs.declared.frames.Progress.TheVariants.{Goes, Answers, Enters}
 use Rattle.zk_worker.specs.declared.frames.Role.{Role}
 use Rattle.zk_worker.specs.declared.frames.Role.TheVariants.{Script, Worker}
 use Rattle.zk_worker.specs.declared.frames.Stage.{Stage}
 use Rattle.zk_worker.specs.declared.frames.Stage.TheVariants.{Start, Polls, Waits, Alarmed, WaitsUntil}
+use Rattle.zk_worker.specs.declared.frames.Stage.TheVariants as stages
 use Rattle.zk_worker.specs.declared.steps.TheConstants.{MOST_STEPS}
 use Rattle.zk_worker.specs.declared.steps.Step.{Step}
 use Rattle.zk_worker.specs.declared.steps.StepReply.{StepReply}
 use Rattle.zk_worker.specs.declared.steps.StepReply.TheVariants as step_replies
-use Rattle.zk_worker.specs.Calls.{plan_of, opening_progress, until, wait_progress, plan_progress}
+use Rattle.zk_worker.specs.Calls.{plan_of, plan_progress}
 use Rattle.zk_worker.specs.Follows.{IsPlayed}
 use Rattle.zk_worker.specs.Places.{At}
 use Rattle.zk_worker.specs.Polls.{poll_answer, is_answered, poll_goes, poll_progress, event_of, marked, mark_of, alarm_after, fresh}
 use Rattle.zk_worker.specs.PollLaws.{Made, Leads, LeadsOn, IsAnswered}
 use Rattle.zk_worker.specs.PollLogs.{IsPollOf, EachPollIsPlayed}
+use Rattle.zk_worker.specs.Publishes.{holds_progress, visit_progress, asking_progress, channel_progress}
+use Rattle.zk_worker.specs.Waits.{opening_progress, until, wait_progress}
 use Rattle.zk_worker.specs.Protocol.{spot_of, call_attempts, role_attempts, frames_attempts, IsAhead, call_progress, worker_progress, run_progress, role_progress, is_over, settled, first_frame, frames_progress, frames_after, answers_after, after, starting, start_at, role_at}
 use Rattle.zk_base.proofs.Lists.{cond_nil-at}
 
--- what a step does to a call: it goes on, or is answered as the call that it is; it enters no script
+-- where a step answers a call, it answers it as the call that it is
 abbrev OfCall : Word → Progress → Type 0
-OfCall word (Goes stage) = Unit {0}
 OfCall word (Answers answered answer) = answered ≡ word
-OfCall word (Enters owner stage) = ⊥
+OfCall word progress = Unit {0}
 
 opening-call : (word : Word) (reply : StepReply) → OfCall word (opening_progress word reply)
 opening-call word (step_replies.Work replies.Wait place) = tt
 opening-call word (step_replies.Work (replies.WaitFor admission) place) = tt
 opening-call word (step_replies.Sem object sem_replies.Wait place) = tt
 opening-call word (step_replies.Msgq object msgq_replies.Wait place) = tt
+opening-call word (step_replies.Chan object chan_replies.Wait place) = tt
+opening-call word (step_replies.Obs object obs_replies.Wait place) = tt
 opening-call word reply = refl
 
 until-call : (word : Word) (moment : ℕ) (progress : Progress) → OfCall word progress → OfCall word (until moment progress)
 until-call word moment (Goes (Waits place)) is = tt
 until-call word moment (Goes stage) is = tt
 until-call word moment (Answers answered answer) is = is
-until-call word moment (Enters owner stage) is = is
+until-call word moment (Enters owner stage) is = tt
 
 wait-call : (word : Word) (stage : Stage) (reply : StepReply) → OfCall word (wait_progress word stage reply)
 wait-call word Start (step_replies.Clock (clock_replies.At moment) place) = tt
@@ -84,6 +90,27 @@ poll-call word timeout events Start made reply = goes-call word timeout events (
 poll-call word timeout events (Polls alarm marks) made reply = goes-call word timeout events (alarm_after alarm reply) (marked marks (event_of events alarm marks made) (mark_of reply))
 poll-call word timeout events stage made reply = tt
 
+visit-call : (word : Word) (left : List ℕ) (full : Bool) (reply : StepReply) → OfCall word (visit_progress word left full reply)
+visit-call word left full (step_replies.Obs observer obs_replies.Run place) = tt
+visit-call word left full (step_replies.Obs observer obs_replies.Full place) = tt
+visit-call word left full (step_replies.Obs observer reply place) = tt
+visit-call word left full reply = refl
+
+holds-call : (word : Word) (reply : StepReply) → OfCall word (holds_progress word reply)
+holds-call word (step_replies.Chan chan (chan_replies.Observers told) place) = tt
+holds-call word (step_replies.Chan chan (chan_replies.Bytes message) place) = tt
+holds-call word reply = refl
+
+asking-call : (word : Word) (stage : Stage) (reply : StepReply) → OfCall word (asking_progress word stage reply)
+asking-call word stage (step_replies.Chan chan chan_replies.Got place) = tt
+asking-call word stage reply = wait-call word stage reply
+
+channel-call : (word : Word) (stage : Stage) (reply : StepReply) → OfCall word (channel_progress word stage reply)
+channel-call word stages.Holds reply = holds-call word reply
+channel-call word (stages.Visits left full) reply = visit-call word left full reply
+channel-call word (stages.Reads message) reply = refl
+channel-call word stage reply = asking-call word stage reply
+
 plan-call : (word : Word) (plan : Plan) (stage : Stage) (made : Step) (reply : StepReply) → OfCall word (plan_progress word plan stage made reply)
 plan-call word (One step) stage made reply = refl
 plan-call word (Pair opening closing) Start made reply = opening-call word reply
@@ -92,6 +119,24 @@ plan-call word (Twice first second) Start made reply = tt
 plan-call word (Twice first second) stage made reply = refl
 plan-call word (Wait waiting timeout) stage made reply = wait-call word stage reply
 plan-call word (Poll timeout events) stage made reply = poll-call word timeout events stage made reply
+plan-call word (Channel chan using timeout) stage made reply = channel-call word stage reply
+
+-- a poll enters no script
+abbrev EntersNone : Progress → Type 0
+EntersNone (Enters owner stage) = ⊥
+EntersNone progress = Unit {0}
+
+goes-enters : (word : Word) (timeout : Timeout) (events : List Event) (alarm : Alarm) (marks : List Mark) → EntersNone (poll_goes word timeout events alarm marks)
+goes-enters word timeout events alarm marks = by (is_answered timeout events alarm marks) where
+  by : (b : Bool) → EntersNone (cond b (Answers word (poll_answer marks)) (Goes (Polls alarm marks)))
+  by true = tt
+  by false = tt
+
+poll-enters : (word : Word) (timeout : Timeout) (events : List Event) (stage : Stage) (made : Step) (reply : StepReply) → EntersNone (poll_progress word timeout events stage made reply)
+poll-enters word timeout events Start made (step_replies.Clock (clock_replies.At moment) place) = tt
+poll-enters word timeout events Start made reply = goes-enters word timeout events (alarm_after Unset reply) (marked fresh (event_of events Unset fresh made) (mark_of reply))
+poll-enters word timeout events (Polls alarm marks) made reply = goes-enters word timeout events (alarm_after alarm reply) (marked marks (event_of events alarm marks made) (mark_of reply))
+poll-enters word timeout events stage made reply = tt
 
 -- a call of this word is a poll
 poll-word : (call : Call) → word_of call ≡ words.Poll → (timeout : Timeout) × (events : List Event) × (call ≡ calls.Poll timeout events)
@@ -110,42 +155,41 @@ abbrev PlaysOn : Parts → List Made → Role → ℕ → Stage → Type 0
 PlaysOn s made (Worker queue) next stage = Unit {0}
 PlaysOn s made (Script owner) next stage = (timeout : Timeout) (events : List Event) → slice_get (calls_of s.scripts owner) next ≡ Some (calls.Poll timeout events) → PlayTo timeout events made stage
 
-abbrev IsWorker : Role → Type 0
-IsWorker (Worker queue) = Unit {0}
-IsWorker (Script owner) = ⊥
+-- what isn't at a poll: the run of a worker, and a script at another call
+abbrev IsAtNone : Parts → Role → ℕ → Type 0
+IsAtNone s (Worker queue) next = Unit {0}
+IsAtNone s (Script owner) next = (timeout : Timeout) (events : List Event) → slice_get (calls_of s.scripts owner) next ≡ Some (calls.Poll timeout events) → ⊥
 
-abbrev AreWorkers : List Frame → Type 0
-AreWorkers [] = Unit {0}
-AreWorkers (frame ∷ below) = IsWorker frame.role × AreWorkers below
+abbrev AreAtNone : Parts → List Frame → Type 0
+AreAtNone s [] = Unit {0}
+AreAtNone s (frame ∷ below) = IsAtNone s frame.role frame.next × AreAtNone s below
 
--- and behind the innermost only runs of workers are open
+-- and behind the innermost nothing that is open is at a poll
 abbrev AreOpen : Parts → List Made → List Frame → Type 0
 AreOpen s made [] = Unit {0}
-AreOpen s made (frame ∷ below) = PlaysOn s made frame.role frame.next frame.stage × AreWorkers below
+AreOpen s made (frame ∷ below) = PlaysOn s made frame.role frame.next frame.stage × AreAtNone s below
 
 plays-fresh : (s : Parts) (made : List Made) (role : Role) (next : ℕ) → PlaysOn s made role next Start
 plays-fresh s made (Worker queue) next = tt
 plays-fresh s made (Script owner) next = λ timeout events call. record { before = made; play = []; whole = sym (append-nil made); led = refl }
 
-worker-plays : (s : Parts) (made : List Made) (role : Role) (next : ℕ) (stage : Stage) → IsWorker role → PlaysOn s made role next stage
-worker-plays s made (Worker queue) next stage is = tt
-worker-plays s made (Script owner) next stage is = absurd is
+none-plays : (s : Parts) (made : List Made) (role : Role) (next : ℕ) (stage : Stage) → IsAtNone s role next → PlaysOn s made role next stage
+none-plays s made (Worker queue) next stage none = tt
+none-plays s made (Script owner) next stage none = λ timeout events call. absurd (none timeout events call)
 
-worker-goes : (s : Parts) (role : Role) (next : ℕ) → IsWorker role → is_over s role next ≡ false
-worker-goes s (Worker queue) next is = refl
-worker-goes s (Script owner) next is = absurd is
+settled-by : (s : Parts) (made : List Made) (frame : Frame) (below : List Frame) → PlaysOn s made frame.role frame.next frame.stage → AreAtNone s below → AreOpen s made (settled s below) →
+    (b : Bool) → AreOpen s made (cond b (settled s below) (frame ∷ below))
+settled-by s made frame below plays none rest true = rest
+settled-by s made frame below plays none rest false = (plays, none)
 
-workers-settled : (s : Parts) (made : List Made) (frames : List Frame) → AreWorkers frames → AreOpen s made (settled s frames)
-workers-settled s made [] are = tt
-workers-settled s made (frame ∷ below) are =
-    subst (λ (b : Bool). AreOpen s made (cond b (settled s below) (frame ∷ below))) (sym (worker-goes s frame.role frame.next are.0))
-    (worker-plays s made frame.role frame.next frame.stage are.0, are.1)
+none-settled : (s : Parts) (made : List Made) (frames : List Frame) → AreAtNone s frames → AreOpen s made (settled s frames)
+none-settled s made [] none = tt
+none-settled s made (frame ∷ below) none =
+    settled-by s made frame below (none-plays s made frame.role frame.next frame.stage none.0) none.1 (none-settled s made below none.1)
+    (is_over s frame.role frame.next)
 
-open-settled : (s : Parts) (made : List Made) (frame : Frame) (below : List Frame) → PlaysOn s made frame.role frame.next frame.stage → AreWorkers below → AreOpen s made (settled s (frame ∷ below))
-open-settled s made frame below plays workers = by (is_over s frame.role frame.next) where
-  by : (b : Bool) → AreOpen s made (cond b (settled s below) (frame ∷ below))
-  by true = workers-settled s made below workers
-  by false = (plays, workers)
+open-settled : (s : Parts) (made : List Made) (frame : Frame) (below : List Frame) → PlaysOn s made frame.role frame.next frame.stage → AreAtNone s below → AreOpen s made (settled s (frame ∷ below))
+open-settled s made frame below plays none = settled-by s made frame below plays none (none-settled s made below none) (is_over s frame.role frame.next)
 
 led-more : (word : Word) (timeout : Timeout) (events : List Event) (stage : Stage) (play : List Made) (middle : Stage) (made : Made) (end : Stage) →
     LeadsOn word timeout events stage play middle → Leads word timeout events middle made (Goes end) → LeadsOn word timeout events stage (play ++ made ∷ []) end
@@ -181,13 +225,13 @@ role-goes s made m (Script owner) next stage end index plays ahead comes = λ ti
       led = led-more words.Poll timeout events Start old.play stage m end old.led (poll-leads s owner next stage m index (Goes end) timeout events call ahead comes);
     }
 
--- a script enters no other
+-- what enters a script isn't at a poll
 role-enters : (s : Parts) (m : Made) (role : Role) (next : ℕ) (stage : Stage) (index owner : ℕ) (end : Stage) →
-    slice_get (role_attempts s role next stage) index ≡ Some m.0 → role_progress s role next stage m.0 m.1 ≡ Enters owner end → IsWorker role
+    slice_get (role_attempts s role next stage) index ≡ Some m.0 → role_progress s role next stage m.0 m.1 ≡ Enters owner end → IsAtNone s role next
 role-enters s m (Worker queue) next stage index owner end ahead comes = tt
-role-enters s m (Script at) next stage index owner end ahead comes =
-    let so = script-call s stage m index (slice_get (calls_of s.scripts at) next) ahead in
-    absurd (subst (λ (p : Progress). OfCall (word_of so.0) p) comes so.2)
+role-enters s m (Script at) next stage index owner end ahead comes = λ timeout events call.
+    let leads = poll-leads s at next stage m index (Enters owner end) timeout events call ahead comes in
+    subst EntersNone leads.comes (poll-enters words.Poll timeout events stage m.0 m.1)
 
 run-answers : (owner : Option ℕ) (word : Word) (answer : Answer) → run_progress owner ≡ Answers word answer → ⊥
 run-answers None word answer is = cc
@@ -239,9 +283,9 @@ open-step s made m (frame ∷ below) index are ahead = by (role_progress s frame
   longer : List Made
   longer = made ++ m ∷ []
 
-  entering : (next : Frame) (owner : ℕ) → IsWorker next.role → (b : Bool) → AreOpen s longer (settled s (cond b (first_frame (Script owner) ∷ next ∷ below) (next ∷ below)))
-  entering next owner worker true = open-settled s longer (first_frame (Script owner)) (next ∷ below) (plays-fresh s longer (Script owner) 0) (worker, are.1)
-  entering next owner worker false = workers-settled s longer (next ∷ below) (worker, are.1)
+  entering : (next : Frame) (owner : ℕ) → IsAtNone s next.role next.next → (b : Bool) → AreOpen s longer (settled s (cond b (first_frame (Script owner) ∷ next ∷ below) (next ∷ below)))
+  entering next owner none true = open-settled s longer (first_frame (Script owner)) (next ∷ below) (plays-fresh s longer (Script owner) 0) (none, are.1)
+  entering next owner none false = none-settled s longer (next ∷ below) (none, are.1)
 
   by : (p : Progress) → role_progress s frame.role frame.next frame.stage m.0 m.1 ≡ p → AreOpen s longer (frames_after s (frame ∷ below) p)
   by (Goes stage) comes = (role-goes s made m frame.role frame.next frame.stage stage index are.0 ahead comes, are.1)

@@ -1,16 +1,24 @@
 -- Over legal histories the plays of polls are served, and so keep their laws.
-use Rattle.std.proofs.Common.{◌≡◌, ℕ, zero, suc, Bool, true, false, Option, Some, None, List, [], ◌∷◌, ◌++◌, length, take, slice_get, option_map, All, refl, sym, ap, subst, ◌∙◌, append_assoc}
+use Rattle.std.proofs.Common.{◌≡◌, ◌≤◌, ℕ, zero, suc, Bool, true, false, Option, Some, None, List, [], ◌∷◌, ◌++◌, length, take, slice_get, option_map, All, refl, sym, ap, subst, ◌∙◌, append_assoc}
 use Rattle.std.specs.List.{AllZip}
 use Rattle.std.specs.Option.{option_and_then}
 use Rattle.std.proofs.lemmas.List.{take_at, append_cancel_left}
 use Rattle.std.proofs.lemmas.List.Elements.{All-nil, All-cons, All-head, All-tail, All-append, All-weaker}
+use Rattle.std.proofs.lemmas.Bool.{and_parts}
 use Rattle.std.proofs.lemmas.Option.{same_Some, some_pair_parts}
 use Rattle.zk_base.specs.declared.ids.Entry.{Entry}
 use Rattle.zk_base.specs.History.{IsEntry}
 use Rattle.zk_base.specs.Legal.{Replays, state_after}
 use Rattle.zk_base.proofs.Histories.{Replays-rest}
-use Rattle.zk_base.proofs.Lists.{All-at, All-front, All-back}
+use Rattle.zk_base.proofs.Lists.{All-at, All-front, All-back, list_all-at}
 use Rattle.zk_line.specs.declared.events.Event.{Event}
+use Rattle.zk_line.specs.declared.events.TheConstants.{MOST_EVENTS}
+use Rattle.zk_line.specs.declared.types.Call.TheVariants as calls
+use Rattle.zk_line.specs.Calls.{said_of}
+use Rattle.zk_line.specs.Checks.{size_said}
+use Rattle.zk_line.specs.Few.{is_few}
+use Rattle.zk_line.specs.Fits.{call_fits, args_fit}
+use Rattle.zk_words.specs.Table.{call_row}
 use Rattle.zk_model_wait.specs.declared.msgq.MsgqOp.{MsgqOp}
 use Rattle.zk_model_wait.specs.declared.msgq.MsgqOp.TheVariants as msgq_ops
 use Rattle.zk_model_wait.specs.declared.msgq.MsgqReply.{MsgqReply}
@@ -23,6 +31,9 @@ use Rattle.zk_model_wait.specs.Clock.{new_clock, clock_machine}
 use Rattle.zk_model_wait.specs.MsgqLaws.{polls as polls_msgq}
 use Rattle.zk_model_wait.specs.SemLaws.{polls as polls_sem}
 use Rattle.zk_scenario.specs.Parts.{Parts}
+use Rattle.zk_scenario.specs.Players.{calls_of}
+use Rattle.zk_scenario.specs.Valid.{IsValid}
+use Rattle.zk_scenario.proofs.Valid.{call_fits-calls_of}
 use Rattle.zk_words.specs.declared.timeout.Timeout.{Timeout}
 use Rattle.zk_words.specs.declared.word.Word.{Word}
 use Rattle.zk_words.specs.declared.word.Word.TheVariants as words
@@ -50,7 +61,7 @@ use Rattle.zk_worker.specs.Refs.{ref_object}
 use Rattle.zk_worker.proofs.PollLaws.{poll_laws}
 use Rattle.zk_worker.proofs.PollLogs.{each_poll_is_played}
 use Rattle.zk_worker.proofs.PollPlays.{Apart}
-use Rattle.zk_worker.proofs.PollSteps.{poll_attempts-all}
+use Rattle.zk_worker.proofs.PollSteps.{poll_attempts-all, few_events}
 use Rattle.zk_worker.proofs.PollTells.{sem_tells_polls, msgq_tells_polls, clock_tells_polls}
 
 -- a step that a poll may make
@@ -150,6 +161,12 @@ stands-served shown (spots.Msgq object place) made legal stands of =
 stands-served shown (spots.Signal object place) made legal stands of =
     let at = mapped (λ e. (steps.Signal object e.op, step_replies.Signal object e.reply place)) (entry_at shown.signals object place) made stands in
     let never : false ≡ true = ap (λ (m : Made). is_of_poll m.0) at.2 ∙ of in absurd (cc)
+stands-served shown (spots.Chan object place) made legal stands of =
+    let at = mapped (λ e. (steps.Chan object e.op, step_replies.Chan object e.reply place)) (entry_at shown.chans object place) made stands in
+    let never : false ≡ true = ap (λ (m : Made). is_of_poll m.0) at.2 ∙ of in absurd (cc)
+stands-served shown (spots.Obs object place) made legal stands of =
+    let at = mapped (λ e. (steps.Obs object e.op, step_replies.Obs object e.reply place)) (entry_at shown.observers object place) made stands in
+    let never : false ≡ true = ap (λ (m : Made). is_of_poll m.0) at.2 ∙ of in absurd (cc)
 stands-served shown (spots.LookItem object flags at) made legal stands of =
     let never : false ≡ true = ap (λ (m : Made). is_of_poll m.0) (sym stands) ∙ of in absurd (cc)
 stands-served shown (spots.LookSignal object seen) made legal stands of = ap may_reply stands.1
@@ -178,6 +195,12 @@ stands-spot shown (spots.Msgq object place) made spot stands is =
     (msgq-spot object place from.0.op from.0.reply spot (ap registered_at from.2 ∙ is), refl)
 stands-spot shown (spots.Signal object place) made spot stands is =
     let from = mapped (λ e. (steps.Signal object e.op, step_replies.Signal object e.reply place)) (entry_at shown.signals object place) made stands in
+    let none : None ≡ Some spot = ap registered_at from.2 ∙ is in absurd (cc)
+stands-spot shown (spots.Chan object place) made spot stands is =
+    let from = mapped (λ e. (steps.Chan object e.op, step_replies.Chan object e.reply place)) (entry_at shown.chans object place) made stands in
+    let none : None ≡ Some spot = ap registered_at from.2 ∙ is in absurd (cc)
+stands-spot shown (spots.Obs object place) made spot stands is =
+    let from = mapped (λ e. (steps.Obs object e.op, step_replies.Obs object e.reply place)) (entry_at shown.observers object place) made stands in
     let none : None ≡ Some spot = ap registered_at from.2 ∙ is in absurd (cc)
 stands-spot shown (spots.LookItem object flags at) made spot stands is =
     let none : None ≡ Some spot = ap registered_at (sym stands) ∙ is in absurd (cc)
@@ -250,10 +273,21 @@ play-served s number shown log made a all shows legal of =
       apart = apart-within of.before of.play of.rest (subst Apart of.whole (shown-apart shown number log made all shows));
     }
 
+-- a poll of a valid scenario has eight events at most
+few-of : (s : Parts) (made : List Made) (a : Answered) (of : IsPollOf s made a) → IsValid s → length of.events ≤ MOST_EVENTS
+few-of s made a of valid =
+    let said = said_of (calls.Poll of.timeout of.events) in
+    let form = call_row said.word in
+    let fits = list_all-at (call_fits s.decls) (calls_of s.scripts of.owner) of.next (calls.Poll of.timeout of.events) (call_fits-calls_of s of.owner valid) of.call in
+    few_events of.events (and_parts (is_few of.events) (args_fit s.decls (size_said s.decls said.args) form.slots form.rest said.args) fits).0
+
 pub each_poll_keeps_its_laws : EachPollKeepsItsLaws
-each_poll_keeps_its_laws s number shown at is shows legal =
+each_poll_keeps_its_laws s number shown at is valid shows legal =
     All-weaker (λ a. a.word ≡ words.Poll → IsPollOf s is.made a) (λ a. a.word ≡ words.Poll → IsLawfulPollOf s is.made a)
     (λ a played poll.
     let of = played poll in
-    record { of = of; laws = λ few. poll_laws a.word of.timeout of.events few of.play a.answer of.answered (play-served s number shown at.spots is.made a is.stands shows legal of) })
+    record {
+      of = of;
+      laws = poll_laws a.word of.timeout of.events (few-of s is.made a of valid) of.play a.answer of.answered (play-served s number shown at.spots is.made a is.stands shows legal of);
+    })
     at.answers (each_poll_is_played s number shown at is)

@@ -9,6 +9,8 @@ use Rattle.zk_line.specs.declared.types.Decl.{Decl}
 use Rattle.zk_scenario.specs.Parts.{Parts}
 use Rattle.zk_scenario.specs.Valid.{IsValid}
 use Rattle.zk_line.specs.Objects.{places, number_of, is_at, is_thread, is_queue, is_item}
+use Rattle.zk_model_bus.specs.Channel.{chan_machine}
+use Rattle.zk_model_bus.specs.Observer.{obs_machine}
 use Rattle.zk_model_wait.specs.Msgq.{msgq_machine}
 use Rattle.zk_model_wait.specs.Sem.{sem_machine}
 use Rattle.zk_model_wait.specs.Signal.{signal_machine}
@@ -19,7 +21,7 @@ use Rattle.zk_worker.specs.declared.steps.Step.TheVariants as steps
 use Rattle.zk_worker.specs.Places.{At}
 use Rattle.zk_worker.specs.Protocol.{IsAhead}
 use Rattle.zk_worker.specs.Ranges.{FramesFit, step_fits}
-use Rattle.zk_worker.specs.Machines.{Machines, machines_of, workers, is_on, item_number, items_of, sem_start, msgq_start, signal_start}
+use Rattle.zk_worker.specs.Machines.{Machines, machines_of, workers, is_on, item_number, items_of, sem_start, msgq_start, signal_start, chan_start, observer_start}
 use Rattle.zk_worker.specs.Attempt.{takes}
 use Rattle.zk_worker.specs.Families.{is_declared}
 use Rattle.zk_worker.proofs.Fits.{ahead-fits, item-fits}
@@ -72,6 +74,8 @@ takes-declared s (steps.Clock op) fits = refl
 takes-declared s (steps.Sem object op) fits = takes-declared_one sem_machine sem_start s.decls object op (λ start. refl) fits
 takes-declared s (steps.Msgq object op) fits = takes-declared_one msgq_machine msgq_start s.decls object op (λ start. refl) fits
 takes-declared s (steps.Signal object op) fits = takes-declared_one signal_machine signal_start s.decls object op (λ start. refl) fits
+takes-declared s (steps.Chan object op) fits = takes-declared_one chan_machine chan_start s.decls object op (λ start. refl) fits
+takes-declared s (steps.Obs object op) fits = takes-declared_one obs_machine observer_start s.decls object op (λ start. refl) fits
 takes-declared s (steps.LookItem object) fits =
     ap (λ (item : Option ℕ). option_map_or (λ item. nat_lt item (length (places is_item s.decls))) item false)
     (ap (option_and_then (λ (item : Option ℕ). item)) (item-there s.decls object (is_at-below is_item s.decls object fits)) ∙ number-there s.decls object fits)

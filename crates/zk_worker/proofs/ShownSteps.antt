@@ -9,6 +9,10 @@ use Rattle.zk_base.specs.declared.seen.Seen.{Seen}
 use Rattle.zk_base.specs.History.{entry}
 use Rattle.zk_base.specs.Legal.{state_after}
 use Rattle.zk_scenario.specs.Parts.{Parts}
+use Rattle.zk_model_bus.specs.declared.channel.ChanOp.{ChanOp}
+use Rattle.zk_model_bus.specs.declared.channel.ChanReply.{ChanReply}
+use Rattle.zk_model_bus.specs.declared.observer.ObsOp.{ObsOp}
+use Rattle.zk_model_bus.specs.declared.observer.ObsReply.{ObsReply}
 use Rattle.zk_model_wait.specs.declared.clock.ClockOp.{ClockOp}
 use Rattle.zk_model_wait.specs.declared.clock.ClockReply.{ClockReply}
 use Rattle.zk_model_wait.specs.declared.msgq.MsgqOp.{MsgqOp}
@@ -202,6 +206,16 @@ signals-elsewhere : (shown : Shown) (hs : List (List (Entry SignalOp SignalReply
 signals-elsewhere shown hs (spots.Signal object place) = inl ((object, place), refl)
 signals-elsewhere shown hs at = inr (refl, refl)
 
+chans-elsewhere : (shown : Shown) (hs : List (List (Entry ChanOp ChanReply))) (at : Spot) →
+    Elsewhere {P = ℕ × ℕ} (λ p. spots.Chan p.0 p.1) shown (record shown { chans = hs }) at
+chans-elsewhere shown hs (spots.Chan object place) = inl ((object, place), refl)
+chans-elsewhere shown hs at = inr (refl, refl)
+
+observers-elsewhere : (shown : Shown) (hs : List (List (Entry ObsOp ObsReply))) (at : Spot) →
+    Elsewhere {P = ℕ × ℕ} (λ p. spots.Obs p.0 p.1) shown (record shown { observers = hs }) at
+observers-elsewhere shown hs (spots.Obs object place) = inl ((object, place), refl)
+observers-elsewhere shown hs at = inr (refl, refl)
+
 -- a look adds no entry
 look-more : (old new : Shown) (spot : Spot) (step : ℕ × ℕ) (made : Step × StepReply) → is_look spot ≡ true → Stands new spot made →
     ((at : Spot) → (shown_at new at ≡ shown_at old at) × (made_at new at ≡ made_at old at)) → entry_count new ≤ entry_count old + 1 → IsMore old new spot step made
@@ -290,6 +304,26 @@ made-more m shown who number (steps.Signal object op) reply answered =
     (signals-elsewhere shown (with_entry shown.signals object e))
     (object, length h) who number op r (histories-with shown.signals object h e there)
     (omega (arith, with-count shown.signals object e h there)))
+made-more m shown who number (steps.Chan object op) reply answered =
+    at-more shown who number (steps.Chan object op) step_replies.Chan m.chans shown.chans object op reply answered (λ h r there.
+    let e = entry who number op r in
+    object-more {P = ℕ × ℕ} (λ p. spots.Chan p.0 p.1) (λ p. steps.Chan p.0) (λ p r. step_replies.Chan p.0 r p.1) shown
+    (record shown { chans = with_entry shown.chans object e })
+    (λ p. entry_at shown.chans p.0 p.1) (λ p. entry_at (with_entry shown.chans object e) p.0 p.1)
+    (record { seen = λ p. refl; made = λ p. refl; entry = λ p x is. is }) (record { seen = λ p. refl; made = λ p. refl; entry = λ p x is. is })
+    (chans-elsewhere shown (with_entry shown.chans object e))
+    (object, length h) who number op r (histories-with shown.chans object h e there)
+    (omega (arith, with-count shown.chans object e h there)))
+made-more m shown who number (steps.Obs object op) reply answered =
+    at-more shown who number (steps.Obs object op) step_replies.Obs m.observers shown.observers object op reply answered (λ h r there.
+    let e = entry who number op r in
+    object-more {P = ℕ × ℕ} (λ p. spots.Obs p.0 p.1) (λ p. steps.Obs p.0) (λ p r. step_replies.Obs p.0 r p.1) shown
+    (record shown { observers = with_entry shown.observers object e })
+    (λ p. entry_at shown.observers p.0 p.1) (λ p. entry_at (with_entry shown.observers object e) p.0 p.1)
+    (record { seen = λ p. refl; made = λ p. refl; entry = λ p x is. is }) (record { seen = λ p. refl; made = λ p. refl; entry = λ p x is. is })
+    (observers-elsewhere shown (with_entry shown.observers object e))
+    (object, length h) who number op r (histories-with shown.observers object h e there)
+    (omega (arith, with-count shown.observers object e h there)))
 made-more m shown who number (steps.LookItem object) reply answered =
     answered-more shown who number (steps.LookItem object) (λ flags. step_replies.Flags flags (length shown.work)) (flags_after m shown.work object) reply answered (λ flags.
     let looked = option_map (λ n. number + 1) shown.looked in

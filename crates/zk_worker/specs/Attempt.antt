@@ -25,6 +25,10 @@ reply_in m shown who (steps.Msgq object op) =
     answer_at m.msgqs shown.msgqs step_replies.Msgq who object op
 reply_in m shown who (steps.Signal object op) =
     answer_at m.signals shown.signals step_replies.Signal who object op
+reply_in m shown who (steps.Chan object op) =
+    answer_at m.chans shown.chans step_replies.Chan who object op
+reply_in m shown who (steps.Obs object op) =
+    answer_at m.observers shown.observers step_replies.Obs who object op
 reply_in m shown who (steps.LookItem object) =
     option_map (λ flags. step_replies.Flags flags (length shown.work))
     (flags_after m shown.work object)
@@ -38,6 +42,8 @@ takes m (steps.Clock op) = m.clock.in_range m.clock_start op
 takes m (steps.Sem object op) = takes_at m.sems object op
 takes m (steps.Msgq object op) = takes_at m.msgqs object op
 takes m (steps.Signal object op) = takes_at m.signals object op
+takes m (steps.Chan object op) = takes_at m.chans object op
+takes m (steps.Obs object op) = takes_at m.observers object op
 takes m (steps.LookItem object) =
     option_map_or (λ item. m.work.in_range m.work_start (work_ops.Remaining item)) (item_of m object) false
 takes m (steps.LookSignal object must) = is_some (start_of m.signals object)
@@ -61,6 +67,8 @@ KeepsElsewhere (steps.Clock op) old new = new ≡ record old { clock = new.clock
 KeepsElsewhere (steps.Sem object op) old new = new ≡ record old { sems = new.sems }
 KeepsElsewhere (steps.Msgq object op) old new = new ≡ record old { msgqs = new.msgqs }
 KeepsElsewhere (steps.Signal object op) old new = new ≡ record old { signals = new.signals }
+KeepsElsewhere (steps.Chan object op) old new = new ≡ record old { chans = new.chans }
+KeepsElsewhere (steps.Obs object op) old new = new ≡ record old { observers = new.observers }
 KeepsElsewhere (steps.LookItem object) old new =
     new ≡ record old { work = new.work; looked = new.looked }
 KeepsElsewhere (steps.LookSignal object must) old new =

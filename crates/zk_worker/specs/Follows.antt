@@ -73,6 +73,12 @@ made_at shown (spots.Msgq object place) =
 made_at shown (spots.Signal object place) =
     option_map (λ e. (steps.Signal object e.op, step_replies.Signal object e.reply place))
     (entry_at shown.signals object place)
+made_at shown (spots.Chan object place) =
+    option_map (λ e. (steps.Chan object e.op, step_replies.Chan object e.reply place))
+    (entry_at shown.chans object place)
+made_at shown (spots.Obs object place) =
+    option_map (λ e. (steps.Obs object e.op, step_replies.Obs object e.reply place))
+    (entry_at shown.observers object place)
 made_at shown (spots.LookItem object flags at) = None
 made_at shown (spots.LookSignal object seen) = None
 

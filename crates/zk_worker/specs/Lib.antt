@@ -13,9 +13,15 @@ pub mod PollReplies
 pub mod Polls
 pub mod Positions
 pub mod Protocol
+pub mod Publishes
 pub mod Ranges
 pub mod Refs
+pub mod Replies
 pub mod Right
 pub mod Shown
 pub mod Single
+pub mod StackLaws
+pub mod StackLogs
 pub mod Stacks
+pub mod VisitLaws
+pub mod Waits

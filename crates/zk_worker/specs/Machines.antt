@@ -7,6 +7,12 @@ use Rattle.zk_line.specs.declared.types.Decl.{Decl}
 use Rattle.zk_line.specs.declared.types.Decl.TheVariants as decls
 use Rattle.zk_scenario.specs.Parts.{Parts}
 use Rattle.zk_line.specs.Objects.{places, number_of, is_at, is_thread, is_queue, is_item}
+use Rattle.zk_model_bus.specs.declared.channel.ChanOp.{ChanOp}
+use Rattle.zk_model_bus.specs.declared.channel.ChanReply.{ChanReply}
+use Rattle.zk_model_bus.specs.declared.observer.ObsOp.{ObsOp}
+use Rattle.zk_model_bus.specs.declared.observer.ObsReply.{ObsReply}
+use Rattle.zk_model_bus.specs.Channel.{Channel, new_chan, chan_machine}
+use Rattle.zk_model_bus.specs.Observer.{Observer, new_obs, obs_machine}
 use Rattle.zk_model_wait.specs.declared.clock.ClockOp.{ClockOp}
 use Rattle.zk_model_wait.specs.declared.clock.ClockReply.{ClockReply}
 use Rattle.zk_model_wait.specs.Clock.{Clock, new_clock, clock_machine}
@@ -68,6 +74,17 @@ abbrev pub signal_start : Decl → Option Signal
 signal_start (decls.Signal name) = Some new_signal
 signal_start decl = None
 
+-- the state that a declaration starts a channel in, if it declares one
+abbrev pub chan_start : Decl → Option Channel
+chan_start (decls.Chan name message valid observers) = Some (new_chan message valid observers)
+chan_start decl = None
+
+-- the state that a declaration starts an observer in, if it declares one: a listener or a subscriber
+abbrev pub observer_start : Decl → Option Observer
+observer_start (decls.Listener name) = Some (new_obs None)
+observer_start (decls.Sub name capacity) = Some (new_obs (Some capacity))
+observer_start decl = None
+
 -- the machine of each service, and the state that it starts in; and by object number the number of each item at the work service
 pub record Machines : Type 0 where
   pub work : Machine State WorkOp WorkReply
@@ -78,6 +95,8 @@ pub record Machines : Type 0 where
   pub sems : Family Sem SemOp SemReply
   pub msgqs : Family Msgq MsgqOp MsgqReply
   pub signals : Family Signal SignalOp SignalReply
+  pub chans : Family Channel ChanOp ChanReply
+  pub observers : Family Observer ObsOp ObsReply
 
 -- the number of an item at the work service, by its object number
 abbrev pub item_of : Machines → ℕ → Option ℕ
@@ -99,4 +118,6 @@ machines_of s = record {
   sems = record { machine = sem_machine; starts = map sem_start s.decls };
   msgqs = record { machine = msgq_machine; starts = map msgq_start s.decls };
   signals = record { machine = signal_machine; starts = map signal_start s.decls };
+  chans = record { machine = chan_machine; starts = map chan_start s.decls };
+  observers = record { machine = obs_machine; starts = map observer_start s.decls };
 }

@@ -1,7 +1,6 @@
 use Rattle.std.specs.Prelude.{◌≡◌, ℕ, ◌+◌, ◌≤◌, Some, List, ◌++◌, length, slice_get, All}
 use Rattle.zk_line.specs.declared.events.Event.{Event}
 use Rattle.zk_line.specs.declared.types.Call.TheVariants as calls
-use Rattle.zk_line.specs.declared.events.TheConstants.{MOST_EVENTS}
 use Rattle.zk_base.specs.Legal.{IsLegal}
 use Rattle.zk_model_wait.specs.Clock.{new_clock, clock_machine}
 use Rattle.zk_model_wait.specs.Msgq.{new_msgq, msgq_machine}
@@ -10,6 +9,7 @@ use Rattle.zk_model_wait.specs.Sem.{new_sem, sem_machine}
 use Rattle.zk_model_wait.specs.SemLaws.{SemHistory}
 use Rattle.zk_scenario.specs.Parts.{Parts}
 use Rattle.zk_scenario.specs.Players.{calls_of}
+use Rattle.zk_scenario.specs.Valid.{IsValid}
 use Rattle.zk_words.specs.declared.timeout.Timeout.{Timeout}
 use Rattle.zk_words.specs.declared.word.Word.TheVariants as words
 use Rattle.zk_worker.specs.declared.answers.Answered.{Answered}
@@ -45,13 +45,13 @@ pub record ShowsLegal (shown : Shown) : Type 0 where
   pub msgqs : (object : ℕ) (h : MsgqHistory) → slice_get shown.msgqs object ≡ Some h →
       (most : ℕ) × IsLegal msgq_machine (new_msgq most) h
 
--- such a poll keeps the laws of polls, as it has eight events at most
+-- such a poll keeps the laws of polls
 pub record IsLawfulPollOf (s : Parts) (made : List Made) (a : Answered) : Type 0 where
   pub of : IsPollOf s made a
-  pub laws : length of.events ≤ MOST_EVENTS → KeepsPollLaws of.timeout of.events of.play a.answer
+  pub laws : KeepsPollLaws of.timeout of.events of.play a.answer
 
--- each poll that a player answered does so, where its steps are shown among legal histories
+-- each poll that a player of a valid scenario answered does so, where its steps are shown among legal histories
 abbrev pub EachPollKeepsItsLaws : Type 0
 EachPollKeepsItsLaws = (s : Parts) (number : ℕ) (shown : Shown) (at : At) (is : IsFollowing s number shown at) →
-    ShowsLog shown number at.spots → ShowsLegal shown →
+    IsValid s → ShowsLog shown number at.spots → ShowsLegal shown →
     All (λ a. a.word ≡ words.Poll → IsLawfulPollOf s is.made a) at.answers

@@ -130,6 +130,8 @@ place_of (step_replies.Clock reply place) = place
 place_of (step_replies.Sem object reply place) = place
 place_of (step_replies.Msgq object reply place) = place
 place_of (step_replies.Signal object reply place) = place
+place_of (step_replies.Chan object reply place) = place
+place_of (step_replies.Obs object reply place) = place
 place_of (step_replies.Flags flags at) = at
 place_of (step_replies.Seen seen) = seen.stamp
 
@@ -150,6 +152,8 @@ spot_of (steps.Clock op) reply = spots.Clock (place_of reply)
 spot_of (steps.Sem object op) reply = spots.Sem object (place_of reply)
 spot_of (steps.Msgq object op) reply = spots.Msgq object (place_of reply)
 spot_of (steps.Signal object op) reply = spots.Signal object (place_of reply)
+spot_of (steps.Chan object op) reply = spots.Chan object (place_of reply)
+spot_of (steps.Obs object op) reply = spots.Obs object (place_of reply)
 spot_of (steps.LookItem object) reply = spots.LookItem object (found_flags reply) (place_of reply)
 spot_of (steps.LookSignal object must) reply = spots.LookSignal object (found_seen reply)
 

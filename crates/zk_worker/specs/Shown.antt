@@ -5,6 +5,10 @@ use Rattle.zk_base.specs.declared.ids.Entry.{Entry}
 use Rattle.zk_base.specs.declared.seen.Seen.{Seen}
 use Rattle.zk_base.specs.History.{entry}
 use Rattle.zk_line.specs.declared.types.Decl.{Decl}
+use Rattle.zk_model_bus.specs.declared.channel.ChanOp.{ChanOp}
+use Rattle.zk_model_bus.specs.declared.channel.ChanReply.{ChanReply}
+use Rattle.zk_model_bus.specs.declared.observer.ObsOp.{ObsOp}
+use Rattle.zk_model_bus.specs.declared.observer.ObsReply.{ObsReply}
 use Rattle.zk_model_wait.specs.declared.clock.ClockOp.{ClockOp}
 use Rattle.zk_model_wait.specs.declared.clock.ClockReply.{ClockReply}
 use Rattle.zk_model_wait.specs.declared.msgq.MsgqOp.{MsgqOp}
@@ -25,15 +29,17 @@ use Rattle.zk_worker.specs.Single.{step_of, OthersGrew}
 use Rattle.zk_worker.specs.Families.{no_entries, entry_at, with_entry, EachGrew}
 use Rattle.zk_worker.specs.Looks.{LooksGrew, LookedBelow}
 
--- what the services show: the history of each, and by object number that of each semaphore, of each message queue and
--- of each signal; the looks of this player at each signal, where signals are shared without a turn; and, where looks
--- at items are shown, the first number above those of this player's
+-- what the services show: the history of each, and by object number that of each semaphore, of each message queue, of
+-- each signal, of each channel and of each observer; the looks of this player at each signal, where signals are shared
+-- without a turn; and, where looks at items are shown, the first number above those of this player's
 pub record Shown : Type 0 where
   pub work : List (Entry WorkOp WorkReply)
   pub clock : List (Entry ClockOp ClockReply)
   pub sems : List (List (Entry SemOp SemReply))
   pub msgqs : List (List (Entry MsgqOp MsgqReply))
   pub signals : List (List (Entry SignalOp SignalReply))
+  pub chans : List (List (Entry ChanOp ChanReply))
+  pub observers : List (List (Entry ObsOp ObsReply))
   pub looks : Option (List (List Seen))
   pub looked : Option ℕ
 
@@ -41,7 +47,7 @@ pub record Shown : Type 0 where
 abbrev pub entry_count : Shown → ℕ
 entry_count shown =
     length shown.work + length shown.clock + sum_by length shown.sems + sum_by length shown.msgqs
-    + sum_by length shown.signals
+    + sum_by length shown.signals + sum_by length shown.chans + sum_by length shown.observers
 
 -- nothing was shown of the services of these declarations, which show whole histories
 abbrev pub nothing_shown : List Decl → Shown
@@ -51,6 +57,8 @@ nothing_shown decls = record {
   sems = no_entries decls;
   msgqs = no_entries decls;
   signals = no_entries decls;
+  chans = no_entries decls;
+  observers = no_entries decls;
   looks = None;
   looked = None;
 }
@@ -67,6 +75,10 @@ shown_after shown who number (steps.Msgq object op) (step_replies.Msgq at reply 
     record shown { msgqs = with_entry shown.msgqs object (entry who number op reply) }
 shown_after shown who number (steps.Signal object op) (step_replies.Signal at reply place) =
     record shown { signals = with_entry shown.signals object (entry who number op reply) }
+shown_after shown who number (steps.Chan object op) (step_replies.Chan at reply place) =
+    record shown { chans = with_entry shown.chans object (entry who number op reply) }
+shown_after shown who number (steps.Obs object op) (step_replies.Obs at reply place) =
+    record shown { observers = with_entry shown.observers object (entry who number op reply) }
 shown_after shown who number (steps.LookItem object) (step_replies.Flags flags at) =
     record shown { looked = option_map (λ n. number + 1) shown.looked }
 shown_after shown who number step reply = shown
@@ -78,6 +90,8 @@ shown_at shown (spots.Clock place) = option_map step_of (slice_get shown.clock p
 shown_at shown (spots.Sem object place) = option_map step_of (entry_at shown.sems object place)
 shown_at shown (spots.Msgq object place) = option_map step_of (entry_at shown.msgqs object place)
 shown_at shown (spots.Signal object place) = option_map step_of (entry_at shown.signals object place)
+shown_at shown (spots.Chan object place) = option_map step_of (entry_at shown.chans object place)
+shown_at shown (spots.Obs object place) = option_map step_of (entry_at shown.observers object place)
 shown_at shown (spots.LookItem object flags at) = None
 shown_at shown (spots.LookSignal object seen) = None
 
@@ -107,6 +121,8 @@ pub record AreShort (shown : Shown) : Type 0 where
   pub sems : All (λ h. length h < 2 ^ 32 - 1) shown.sems
   pub msgqs : All (λ h. length h < 2 ^ 32 - 1) shown.msgqs
   pub signals : All (λ h. length h < 2 ^ 32 - 1) shown.signals
+  pub chans : All (λ h. length h < 2 ^ 32 - 1) shown.chans
+  pub observers : All (λ h. length h < 2 ^ 32 - 1) shown.observers
 
 -- each history grew by entries of other players than the one of this number, and looks at signals at most were added
 pub record AllGrew (number : ℕ) (old new : Shown) : Type 0 where
@@ -115,6 +131,8 @@ pub record AllGrew (number : ℕ) (old new : Shown) : Type 0 where
   pub sems : EachGrew number old.sems new.sems
   pub msgqs : EachGrew number old.msgqs new.msgqs
   pub signals : EachGrew number old.signals new.signals
+  pub chans : EachGrew number old.chans new.chans
+  pub observers : EachGrew number old.observers new.observers
   pub looks : LooksGrew old.looks new.looks
   pub looked : new.looked ≡ old.looked
 

@@ -8,7 +8,8 @@ pub enum Answer {
     /// A number. Of a submission 0 where the item was queued already, 1 where it was admitted, and 2 where it was admitted
     /// while it runs. Of a delayed submission the same, and 1 where the item is delayed. Of a drain 0 where it didn't have to
     /// wait, and 1 where it did. Of a question for the rest of a delay so many ticks. Of a question for a semaphore's count,
-    /// or for how many messages a queue has or has room for, that number. Of a write to a signal 0.
+    /// or for how many messages a queue has or has room for, that number. Of a write to a signal 0, and of a call of zbus
+    /// that is done.
     Number(u64),
     /// The busy flags of an item, below 32.
     Flags(u8),
@@ -16,12 +17,14 @@ pub enum Answer {
     Truth(bool),
     /// A refusal, with its name.
     Refused(Errno),
-    /// The message that a queue gave or showed.
+    /// The message that a queue gave or showed, or that was read of a channel.
     Bytes(Msg),
     /// Whether a signal is raised, and with which result. The result of one that isn't is 0.
     Signal(bool, u16),
     /// The positions of the events of a poll that are ready.
     Ready(Positions),
+    /// The object number of the channel that a subscriber was told of.
+    Channel(u32),
 }
 
 /// A call that has its answer.

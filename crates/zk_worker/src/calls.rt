@@ -1,18 +1,17 @@
 ghost use Rattle.std.specs.Prelude.{◌≡◌, slice_get, option_map};
-ghost use Rattle.zk_worker.specs.Calls.{plan_of};
+ghost use Rattle.zk_worker.specs.Calls.{plan_of, closing_step, plan_attempts, plan_progress};
 ghost use Rattle.zk_worker.specs.Refs.{ref_object};
-ghost use Rattle.zk_worker.specs.Calls.{submission_answer, work_answer, sem_answer, msgq_answer, answer_of};
-ghost use Rattle.zk_worker.specs.Calls.{closing_step, open_step, end_step, quit_step, first_step, wait_attempts, plan_attempts};
-ghost use Rattle.zk_worker.specs.Calls.{opening_progress, until, wait_progress, plan_progress};
 
 use crate::polls::{poll_ahead, poll_progress};
+use crate::publishes::{channel_ahead, channel_progress};
 use crate::refs::{queue_number, ref_number, ref_object};
-use crate::{Answer, Closing, Plan, Progress, Stage, Step, StepReply, Waiting, Word};
-use zk_base::Errno;
-use zk_model_wait::{ClockOp, ClockReply, MsgqOp, MsgqReply, SemOp, SemReply, SignalOp};
-use zk_model_work::{Submitted, WorkOp, WorkReply};
+use crate::replies::answer_of;
+use crate::waits::{opening_progress, wait_ahead, wait_progress};
+use crate::{Closing, Plan, Progress, Stage, Step, StepReply, Using, Waiting, Word};
+use zk_model_bus::{ChanOp, ObsOp};
+use zk_model_wait::{ClockOp, MsgqOp, SemOp, SignalOp};
+use zk_model_work::WorkOp;
 use zk_scenario::{Call, Ref, Scenario};
-use zk_words::Timeout;
 
 /// One step at the work service.
 fn one(op: WorkOp) -> Plan
@@ -78,6 +77,20 @@ fn at_signal(signal: Ref, op: SignalOp) -> Plan
     Plan::One(Step::Signal(ref_object(signal), op))
 }
 
+/// One step at a channel.
+fn at_chan(chan: Ref, op: ChanOp) -> Plan
+    ensures { result ≡ Plan.One (Step.Chan (ref_object chan) op) }
+{
+    Plan::One(Step::Chan(ref_object(chan), op))
+}
+
+/// One step at an observer.
+fn at_observer(observer: Ref, op: ObsOp) -> Plan
+    ensures { result ≡ Plan.One (Step.Obs (ref_object observer) op) }
+{
+    Plan::One(Step::Obs(ref_object(observer), op))
+}
+
 /// How a call goes.
 // In line, so that nothing is made of a plan that its caller doesn't ask for.
 #[inline(always)]
@@ -125,68 +138,16 @@ pub fn plan_of(scenario: &Scenario, call: &Call) -> Plan
         Call::Clear(signal) => at_signal(*signal, SignalOp::Clear),
         Call::Check(signal) => Plan::One(Step::LookSignal(ref_object(*signal), false)),
         Call::Poll(timeout, events) => Plan::Poll(*timeout, *events),
-    }
-}
-
-fn submission_answer(submitted: Submitted) -> Answer
-    ensures { result ≡ submission_answer submitted }
-{
-    match submitted {
-        Submitted::Already => Answer::Number(0),
-        Submitted::Fresh(_, _) => Answer::Number(1),
-        Submitted::Rerun(_, _) => Answer::Number(2),
-        Submitted::Refused(errno) => Answer::Refused(errno),
-    }
-}
-
-fn work_answer(reply: &WorkReply) -> Answer
-    ensures { result ≡ work_answer reply.now }
-{
-    match reply {
-        WorkReply::Sub(submitted) => submission_answer(*submitted),
-        WorkReply::Armed => Answer::Number(1),
-        WorkReply::Flags(flags) => Answer::Flags(*flags),
-        WorkReply::Truth(truth) => Answer::Truth(*truth),
-        WorkReply::Number(number) => Answer::Number(*number),
-        WorkReply::Already => Answer::Refused(Errno::Already),
-        _ => Answer::Number(0),
-    }
-}
-
-fn sem_answer(reply: &SemReply) -> Answer
-    ensures { result ≡ sem_answer reply.now }
-{
-    match reply {
-        SemReply::Busy => Answer::Refused(Errno::Busy),
-        SemReply::Again => Answer::Refused(Errno::Again),
-        SemReply::Number(number) => Answer::Number(u64::from(*number)),
-        _ => Answer::Number(0),
-    }
-}
-
-fn msgq_answer(reply: &MsgqReply) -> Answer
-    ensures { result ≡ msgq_answer reply.now }
-{
-    match reply {
-        MsgqReply::NoMsg => Answer::Refused(Errno::NoMsg),
-        MsgqReply::Again => Answer::Refused(Errno::Again),
-        MsgqReply::Bytes(message) => Answer::Bytes(*message),
-        MsgqReply::Number(number) => Answer::Number(u64::from(*number)),
-        _ => Answer::Number(0),
-    }
-}
-
-fn answer_of(reply: &StepReply) -> Answer
-    ensures { result ≡ answer_of reply.now }
-{
-    match reply {
-        StepReply::Work(reply, _) => work_answer(reply),
-        StepReply::Clock(_, _) => Answer::Number(0),
-        StepReply::Sem(_, reply, _) => sem_answer(reply),
-        StepReply::Msgq(_, reply, _) => msgq_answer(reply),
-        StepReply::Signal(_, _, _) => Answer::Number(0),
-        StepReply::Flags(flags, _) => Answer::Flags(*flags),
-        StepReply::Seen(seen) => Answer::Signal(seen.raised, seen.result),
+        Call::Claim(chan, timeout) => Plan::Wait(Waiting::Claim(ref_object(*chan)), *timeout),
+        Call::Finish(chan) => at_chan(*chan, ChanOp::Finish),
+        Call::Mask(chan, observer, on) => at_chan(*chan, ChanOp::Mask(ref_object(*observer), *on)),
+        Call::Enable(observer, on) => at_observer(*observer, ObsOp::Enable(*on)),
+        Call::SubWait(sub, timeout) => Plan::Wait(Waiting::SubWait(ref_object(*sub)), *timeout),
+        Call::Publish(chan, message, timeout) => {
+            Plan::Channel(ref_object(*chan), Using::Publish(*message), *timeout)
+        }
+        Call::Notify(chan, timeout) => Plan::Channel(ref_object(*chan), Using::Notify, *timeout),
+        Call::Read(chan, timeout) => Plan::Channel(ref_object(*chan), Using::Read, *timeout),
     }
 }
 
@@ -198,65 +159,6 @@ fn closing_step(closing: Closing, place: u64) -> Step
         Closing::Cancel => Step::Work(WorkOp::CancelDone(place)),
         Closing::Flush => Step::Work(WorkOp::FlushDone(place)),
         Closing::Drain => Step::Work(WorkOp::DrainDone(place)),
-    }
-}
-
-/// The step that opens a wait, by whether its call waits where it isn't served at once.
-fn open_step(waiting: &Waiting, waits: bool) -> Step
-    ensures { result ≡ open_step waiting.now waits }
-{
-    match waiting {
-        Waiting::Take(object) => Step::Sem(*object, SemOp::Take(waits)),
-        Waiting::Put(object, message) => Step::Msgq(*object, MsgqOp::Put(*message, waits)),
-        Waiting::Get(object) => Step::Msgq(*object, MsgqOp::Get(waits)),
-    }
-}
-
-/// The step that ends the wait begun by the entry of this place.
-fn end_step(waiting: &Waiting, place: u64) -> Step
-    ensures { result ≡ end_step waiting.now place }
-{
-    match waiting {
-        Waiting::Take(object) => Step::Sem(*object, SemOp::TakeEnd(place)),
-        Waiting::Put(object, _) => Step::Msgq(*object, MsgqOp::PutEnd(place)),
-        Waiting::Get(object) => Step::Msgq(*object, MsgqOp::GetEnd(place)),
-    }
-}
-
-/// The step that gives that wait up.
-fn quit_step(waiting: &Waiting, place: u64) -> Step
-    ensures { result ≡ quit_step waiting.now place }
-{
-    match waiting {
-        Waiting::Take(object) => Step::Sem(*object, SemOp::TakeQuit(place)),
-        Waiting::Put(object, _) => Step::Msgq(*object, MsgqOp::PutQuit(place)),
-        Waiting::Get(object) => Step::Msgq(*object, MsgqOp::GetQuit(place)),
-    }
-}
-
-/// The first step of a call that may wait.
-fn first_step(waiting: &Waiting, timeout: Timeout) -> Step
-    ensures { result ≡ first_step waiting.now timeout }
-{
-    match timeout {
-        Timeout::No => open_step(waiting, false),
-        Timeout::Forever => open_step(waiting, true),
-        Timeout::Ticks(ticks) => Step::Clock(ClockOp::Alarm(ticks)),
-    }
-}
-
-/// The attempt of this index among the next attempts of such a call.
-fn wait_ahead(waiting: &Waiting, timeout: Timeout, stage: &Stage, index: u32) -> Option<Step>
-    ensures { result ≡ slice_get (wait_attempts waiting.now timeout stage.now) index }
-{
-    match stage {
-        Stage::Start if index == 0 => Some(first_step(waiting, timeout)),
-        Stage::Alarmed(_) if index == 0 => Some(open_step(waiting, true)),
-        Stage::Waits(place) if index == 0 => Some(end_step(waiting, *place)),
-        Stage::WaitsUntil(place, _) if index == 0 => Some(end_step(waiting, *place)),
-        Stage::WaitsUntil(_, moment) if index == 1 => Some(Step::Clock(ClockOp::AlarmEnd(*moment))),
-        Stage::Quits(place) if index == 0 => Some(quit_step(waiting, *place)),
-        _ => None,
     }
 }
 
@@ -274,47 +176,10 @@ pub fn plan_ahead(plan: &Plan, stage: &Stage, index: u32) -> Option<Step>
         (Plan::Twice(_, second), Stage::Halfway) if index == 0 => Some(*second),
         (Plan::Wait(waiting, timeout), stage) => wait_ahead(waiting, *timeout, stage, index),
         (Plan::Poll(timeout, events), stage) => poll_ahead(*timeout, events, stage, index),
+        (Plan::Channel(chan, usage, timeout), stage) => {
+            channel_ahead(*chan, usage, *timeout, stage, index)
+        }
         _ => None,
-    }
-}
-
-/// What the reply to the step that may begin a wait does to its call.
-fn opening_progress(word: Word, reply: &StepReply) -> Progress
-    ensures { result ≡ opening_progress word reply.now }
-{
-    match reply {
-        StepReply::Work(WorkReply::Wait, place) => Progress::Goes(Stage::Waits(*place)),
-        StepReply::Work(WorkReply::WaitFor(_), place) => Progress::Goes(Stage::Waits(*place)),
-        StepReply::Sem(_, SemReply::Wait, place) => Progress::Goes(Stage::Waits(*place)),
-        StepReply::Msgq(_, MsgqReply::Wait, place) => Progress::Goes(Stage::Waits(*place)),
-        _ => Progress::Answers(word, answer_of(reply)),
-    }
-}
-
-/// A call that has set an alarm and waits, waits until the moment of its alarm.
-fn until(moment: u64, progress: Progress) -> Progress
-    ensures { result ≡ until moment progress }
-{
-    match progress {
-        Progress::Goes(Stage::Waits(place)) => Progress::Goes(Stage::WaitsUntil(place, moment)),
-        progress => progress,
-    }
-}
-
-/// What the reply to a step does to a call that may wait.
-fn wait_progress(word: Word, stage: &Stage, reply: &StepReply) -> Progress
-    ensures { result ≡ wait_progress word stage.now reply.now }
-{
-    match (stage, reply) {
-        (Stage::Start, StepReply::Clock(ClockReply::At(moment), _)) => {
-            Progress::Goes(Stage::Alarmed(*moment))
-        }
-        (Stage::Start, _) => opening_progress(word, reply),
-        (Stage::Alarmed(moment), _) => until(*moment, opening_progress(word, reply)),
-        (Stage::WaitsUntil(place, _), StepReply::Clock(_, _)) => {
-            Progress::Goes(Stage::Quits(*place))
-        }
-        _ => Progress::Answers(word, answer_of(reply)),
     }
 }
 
@@ -335,6 +200,7 @@ pub fn plan_progress(
         (Plan::Poll(timeout, events), _) => {
             poll_progress(word, *timeout, events, stage, made, reply)
         }
+        (Plan::Channel(_, _, _), _) => channel_progress(word, stage, reply),
         _ => Progress::Answers(word, answer_of(reply)),
     }
 }

@@ -1,5 +1,5 @@
 use crate::{Answer, Step, Word};
-use zk_base::Msg;
+use zk_base::{Few, Msg};
 use zk_line::{Events, MOST_EVENTS};
 use zk_words::Timeout;
 
@@ -21,6 +21,20 @@ pub enum Plan {
     /// A poll of this length at most for these events: it asks for each, waits, and gives up what it has registered. With
     /// ticks, an alarm is set before.
     Poll(Timeout, Events),
+    /// The use of the channel of this object number, for which it waits so long at most: it asks for it, uses it, visits the
+    /// observers of which the channel tells it, and frees it. With ticks, an alarm is set before.
+    Channel(u32, Using, Timeout),
+}
+
+/// What a call does with the channel that it has got.
+#[derive(Clone, Copy, Debug)]
+pub enum Using {
+    /// It puts this message in, and visits the observers. Zephyr's `zbus_chan_pub`.
+    Publish(Msg),
+    /// It visits the observers. Zephyr's `zbus_chan_notify`.
+    Notify,
+    /// It reads the message. Zephyr's `zbus_chan_read`.
+    Read,
 }
 
 /// What a call waits for, at the object of this number.
@@ -32,6 +46,14 @@ pub enum Waiting {
     Put(u32, Msg),
     /// Getting a message out of a queue.
     Get(u32),
+    /// Claiming a channel.
+    Claim(u32),
+    /// Taking the oldest channel of a subscriber.
+    SubWait(u32),
+    /// Getting a channel for this message.
+    Offer(u32, Msg),
+    /// Getting a channel, to notify its observers or to read it.
+    Enter(u32),
 }
 
 /// The step that ends a wait, by the place of the entry that began it.
@@ -88,6 +110,12 @@ pub enum Stage {
     Quits(u64),
     /// A poll with this alarm, and how far each of its events is.
     Polls(Alarm, [Mark; MOST_EVENTS]),
+    /// A call has got its channel, and has yet to use it.
+    Holds,
+    /// A call holds its channel and visits observers: those that are left, in order, and whether one was full.
+    Visits(Few, bool),
+    /// A call has read this message, and has yet to free its channel.
+    Reads(Msg),
 }
 
 /// What is played.

@@ -2,7 +2,7 @@ ghost use Rattle.std.specs.Prelude.{◌≡◌, ℕ, ◌<◌, ◌≤◌, Bool, sl
 ghost use Rattle.zk_scenario.specs.Players.{players, prio_of};
 ghost use Rattle.zk_worker.specs.Protocol.{attempts, after, spot_of, start_at, starting, role_at, IsAhead};
 ghost use Rattle.zk_worker.specs.Follows.{state_at, log_of, is_done, is_through, is_between, is_spent_at, StandsMore, IsFollowing};
-ghost use Rattle.zk_worker.specs.Ranges.{FramesFit};
+ghost use Rattle.zk_worker.specs.Ranges.{FramesFit, ReplyFits};
 ghost use Rattle.zk_worker.specs.Machines.{Machines};
 ghost use Rattle.zk_worker.specs.Shown.{Shown, ShowsLog};
 ghost use Rattle.zk_worker.specs.Right.{LooksRight};
@@ -10,7 +10,7 @@ ghost use Rattle.zk_worker.specs.Attempt.{IsMade};
 
 use crate::frames::MOST_FRAMES;
 use crate::protocol::spot_of;
-use crate::stack::{first_frame, frames_ahead, frames_progress, move_frames, put_answer, settle};
+use crate::stack::{frames_ahead, frames_progress, move_frames, open_frame, put_answer, settle};
 use crate::steps::MOST_STEPS;
 use crate::{
     Answered, Answers, Frame, Log, PlayerState, Role, Spot, Spots, Stage, Step, StepReply,
@@ -81,6 +81,9 @@ fn prio_of(decl: &Decl) -> i8
         Decl::Sem(_, _, _) => 0,
         Decl::Msgq(_, _, _) => 0,
         Decl::Signal(_) => 0,
+        Decl::Listener(_) => 0,
+        Decl::Sub(_, _) => 0,
+        Decl::Chan(_, _, _, _) => 0,
     }
 }
 
@@ -139,7 +142,7 @@ impl Player {
         };
         let who = who_at(number, decl);
         let mut stack = Vec::with_capacity(alloc, MOST_FRAMES)?;
-        push_within(&mut stack, first_frame(role_at(decl, object)));
+        open_frame(&mut stack, role_at(decl, object));
         settle(scenario, &mut stack);
         Ok(Player {
             who,
@@ -167,7 +170,7 @@ impl Player {
         // What `step` asks for stays, where services made this step.
         // It follows the scenario still, where this step is shown too.
         ensures fits { FramesFit scenario.now.decls self.old.frames →
-            FramesFit scenario.now.decls self.new.frames }
+            ReplyFits scenario.now.decls reply.now → FramesFit scenario.now.decls self.new.frames }
         ensures looks { (alone : Bool) (m : Machines) (old new : Shown) →
             ShowsLog old self.old.who.number self.old.spots →
             IsMade alone m self.old.who (length self.old.spots) step.now reply.now old new →

@@ -120,6 +120,8 @@ fn place_of(reply: &StepReply) -> u64
         StepReply::Sem(_, _, place) => *place,
         StepReply::Msgq(_, _, place) => *place,
         StepReply::Signal(_, _, place) => *place,
+        StepReply::Chan(_, _, place) => *place,
+        StepReply::Obs(_, _, place) => *place,
         StepReply::Flags(_, at) => *at,
         StepReply::Seen(seen) => u64::from(seen.stamp),
     }
@@ -157,6 +159,8 @@ pub fn spot_of(made: &Step, reply: &StepReply) -> Spot
         Step::Sem(object, _) => Spot::Sem(*object, place_of(reply)),
         Step::Msgq(object, _) => Spot::Msgq(*object, place_of(reply)),
         Step::Signal(object, _) => Spot::Signal(*object, place_of(reply)),
+        Step::Chan(object, _) => Spot::Chan(*object, place_of(reply)),
+        Step::Obs(object, _) => Spot::Obs(*object, place_of(reply)),
         Step::LookItem(object) => Spot::LookItem(*object, found_flags(reply), place_of(reply)),
         Step::LookSignal(object, _) => Spot::LookSignal(*object, found_seen(reply)),
     }

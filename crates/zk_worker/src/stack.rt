@@ -11,12 +11,20 @@ use zk_scenario::Scenario;
 
 // The innermost frame is the last of the stack.
 
-fn put_frame(stack: &mut Vec<Frame>, frame: Frame)
+/// One script or run more is open, of which nothing was played.
+pub fn open_frame(stack: &mut Vec<Frame>, role: Role)
     requires { vec_len stack.old < vec_capacity stack.old }
-    ensures frames { reverse stack.new.items ≡ frame ∷ reverse stack.old.items }
+    ensures frames { reverse stack.new.items ≡ first_frame role ∷ reverse stack.old.items }
     ensures capacity { vec_capacity stack.old ≤ vec_capacity stack.new }
 {
-    push_within(stack, frame);
+    push_within(
+        stack,
+        Frame {
+            role,
+            next: 0,
+            stage: Stage::Start,
+        },
+    );
 }
 
 fn pop_frame(stack: &mut Vec<Frame>) -> Option<Frame>
@@ -83,18 +91,7 @@ fn enter(stack: &mut Vec<Frame>, owner: u32)
     ensures capacity { vec_capacity stack.old ≤ vec_capacity stack.new }
 {
     if stack.len() < MOST_FRAMES {
-        put_frame(stack, first_frame(Role::Script(owner)));
-    }
-}
-
-/// What is played from its start.
-pub fn first_frame(role: Role) -> Frame
-    ensures { result ≡ first_frame role }
-{
-    Frame {
-        role,
-        next: 0,
-        stage: Stage::Start,
+        open_frame(stack, Role::Script(owner));
     }
 }
 

@@ -1,4 +1,5 @@
 use zk_base::{Listed, Seen};
+use zk_model_bus::{ChanOp, ChanReply, ObsOp, ObsReply};
 use zk_model_wait::{
     ClockOp, ClockReply, MsgqOp, MsgqReply, SemOp, SemReply, SignalOp, SignalReply,
 };
@@ -23,6 +24,10 @@ pub enum Step {
     Msgq(u32, MsgqOp),
     /// A write to the signal of this object number.
     Signal(u32, SignalOp),
+    /// An operation of the channel of this object number.
+    Chan(u32, ChanOp),
+    /// An operation of the observer of this object number: a listener or a subscriber.
+    Obs(u32, ObsOp),
     /// A look at the busy flags of the item of this object number. It makes no entry.
     LookItem(u32),
     /// A look at the signal of this object number, and whether it is possible only where the signal is raised. It makes no
@@ -43,6 +48,10 @@ pub enum StepReply {
     Msgq(u32, MsgqReply, u64),
     /// The object number of the signal, its reply, and the place of the entry in its history, from 0.
     Signal(u32, SignalReply, u64),
+    /// The object number of the channel, its reply, and the place of the entry in its history, from 0.
+    Chan(u32, ChanReply, u64),
+    /// The object number of the observer, its reply, and the place of the entry in its history, from 0.
+    Obs(u32, ObsReply, u64),
     /// The busy flags that a look at an item found, below 32, and after how many entries of the work service it found them.
     Flags(u8, u64),
     /// What a look at a signal found.
@@ -62,6 +71,10 @@ pub enum Spot {
     Msgq(u32, u64),
     /// The object number of a signal, and the place of the entry in its history.
     Signal(u32, u64),
+    /// The object number of a channel, and the place of the entry in its history.
+    Chan(u32, u64),
+    /// The object number of an observer, and the place of the entry in its history.
+    Obs(u32, u64),
     /// A look, which has no entry: the object number of the item, its busy flags, and after how many entries of the work
     /// service they were found.
     LookItem(u32, u8, u64),

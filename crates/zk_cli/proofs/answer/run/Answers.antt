@@ -8,6 +8,10 @@ use Rattle.zk_model_wait.specs.SemLaws.{KeepsSemLaws}
 use Rattle.zk_model_wait.specs.Msgq.{Msgq, new_msgq, msgq_machine}
 use Rattle.zk_model_wait.specs.MsgqLaws.{KeepsMsgqLaws}
 use Rattle.zk_model_wait.specs.Signal.{new_signal, signal_machine}
+use Rattle.zk_model_bus.specs.Channel.{Channel, new_chan, chan_machine}
+use Rattle.zk_model_bus.specs.ChannelLaws.{KeepsChannelLaws}
+use Rattle.zk_model_bus.specs.Observer.{Observer, new_obs, obs_machine}
+use Rattle.zk_model_bus.specs.ObserverLaws.{KeepsObserverLaws}
 use Rattle.zk_model_work.specs.Machine.{work_machine}
 use Rattle.zk_worker.specs.Machines.{work_start_of, machines_of}
 use Rattle.zk_trace.specs.Text.{trace_text}
@@ -16,7 +20,9 @@ use Rattle.zk_model_work.proofs.Drains.{undrained-fresh}
 use Rattle.zk_cli.specs.Answer.{IsOutput}
 use Rattle.zk_cli.proofs.Outcomes.{output-run}
 use Rattle.zk_cli.proofs.PollsKept.{polls-kept}
-use Rattle.zk_cli.proofs.Starts.{sem-starts, msgq-starts, signal-starts}
+use Rattle.zk_cli.proofs.PublishesKept.{publishes-kept}
+use Rattle.zk_cli.proofs.ScriptsKept.{scripts-kept}
+use Rattle.zk_cli.proofs.Starts.{sem-starts, msgq-starts, signal-starts, chan-starts, observer-starts}
 use Rattle.zk_cli.proofs.answer.run.Goals as goal
 
 pub returns : goal.returns
@@ -59,7 +65,23 @@ returns c =
           let began = starts ∙ ap Some (signal-starts c.args.scenario.now.decls object start starts) in
           let legal = legal-one signal_machine (machines_of c.args.scenario.now).signals.starts trace.signals object new_signal h c.in_ok-trace.ensures.lawful.history.signals began there in
           c.keeps_signal_laws.ensures front (IsLegal-front signal_machine new_signal front rest (subst (IsLegal signal_machine new_signal) parts legal));
+      channel_laws = λ object start h starts there front rest parts.
+          let from = chan-starts c.args.scenario.now.decls object start starts in
+          let first = new_chan from.message from.valid from.observers in
+          let legal = legal-one chan_machine (machines_of c.args.scenario.now).chans.starts trace.chans object first h c.in_ok-trace.ensures.lawful.history.chans (starts ∙ ap Some from.is_new) there in
+          subst (λ (s : Channel). KeepsChannelLaws s front) (sym from.is_new)
+          (c.keeps_channel_laws.ensures from.message from.valid from.observers front
+          (IsLegal-front chan_machine first front rest (subst (IsLegal chan_machine first) parts legal)));
+      observer_laws = λ object start h starts there front rest parts.
+          let from = observer-starts c.args.scenario.now.decls object start starts in
+          let first = new_obs from.capacity in
+          let legal = legal-one obs_machine (machines_of c.args.scenario.now).observers.starts trace.observers object first h c.in_ok-trace.ensures.lawful.history.observers (starts ∙ ap Some from.is_new) there in
+          subst (λ (s : Observer). KeepsObserverLaws s front) (sym from.is_new)
+          (c.keeps_observer_laws.ensures from.capacity front
+          (IsLegal-front obs_machine first front rest (subst (IsLegal obs_machine first) parts legal)));
       polls = polls-kept c.args.scenario.now trace c.replay.ensures.valid c.in_ok-trace.ensures.lawful;
+      scripts = scripts-kept c.args.scenario.now trace c.replay.ensures.valid c.in_ok-trace.ensures.lawful;
+      publishes = publishes-kept c.args.scenario.now trace c.replay.ensures.valid c.in_ok-trace.ensures.lawful;
       over = c.in_ok-trace.ensures.over;
       ends = refl;
       printed = c.in_ok-put_trace.ensures.text ∙ ap (λ (text : List ℕ). text ++ trace_text c.args.scenario.now trace) c.requires.spelled;

@@ -50,10 +50,12 @@ returns-clause-replay c =
     let so_far = c.in_ok-play_rounds.ensures.rounds in
     let all = c.in_ok-work in
     replayed s old new c.ending_of-ending.result all.field-0.work all.field-0.clock all.field-0.sems all.field-0.msgqs all.field-0.signals
+    all.field-0.chans all.field-0.observers
     c.in_ok-item_looks.item_looks c.in_ok-signal_looks.signal_looks c.in_ok-logs.logs c.first_services.ensures.valid
     (world-first s (plain_shown c.in_ok-services.services) c.in_ok-players.players.items c.in_ok-services.ensures.shown c.in_ok-players.ensures)
     so_far.0 so_far.1 c.in_ok-play_rounds.ensures.over
     (c.ending_of-ending.ensures ∙ ap ending_by c.deref.ensures.value) all.ensures.work all.ensures.clock all.ensures.sems all.ensures.msgqs all.ensures.signals
+    all.ensures.chans all.ensures.observers
     (c.in_ok-item_looks.ensures ∙ ap item_looks_of c.items.ensures)
     (c.in_ok-signal_looks.ensures ∙ ap (λ (h : List (List (Entry SignalOp SignalReply))). signal_looks_of (length h) c.items-3.result.now) c.items-2.ensures
     ∙ ap (signal_looks_of (length all.field-0.signals)) c.items-3.ensures) c.in_ok-logs.ensures

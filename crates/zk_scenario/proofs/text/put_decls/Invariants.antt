@@ -1,9 +1,7 @@
-use Rattle.std.proofs.Common.{◌≡◌, ◌++◌, take}
-use Rattle.std.specs.List.{flat_map}
-use Rattle.zk_line.specs.Text.{decl_line}
-use Rattle.zk_scenario.specs.Spelling.{fed}
+use Rattle.std.proofs.Common.{◌≡◌, ◌++◌, [], take}
+use Rattle.zk_scenario.specs.Spelling.{decl_lines, lines_text}
 use Rattle.zk_scenario.proofs.text.put_decls.Given as goal
 
-abbrev pub invariant-loop-decl : goal.invariant-loop-decl
-invariant-loop-decl l =
-    l.out.items ≡ l.initial.out.items ++ flat_map (λ decl. fed (decl_line decl)) (take l.decl-index l.decls)
+abbrev pub invariant-loop-object : goal.invariant-loop-object
+invariant-loop-object l =
+    l.out.items ≡ l.initial.out.items ++ lines_text (decl_lines [] (take l.object l.decls))

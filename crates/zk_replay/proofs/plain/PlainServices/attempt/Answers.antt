@@ -8,8 +8,14 @@ use Rattle.zk_model_wait.specs.declared.msgq.MsgqOp.{MsgqOp}
 use Rattle.zk_model_wait.specs.declared.msgq.MsgqReply.{MsgqReply}
 use Rattle.zk_model_wait.specs.declared.signal.SignalOp.{SignalOp}
 use Rattle.zk_model_wait.specs.declared.signal.SignalReply.{SignalReply}
+use Rattle.zk_model_bus.specs.declared.channel.ChanOp.{ChanOp}
+use Rattle.zk_model_bus.specs.declared.channel.ChanReply.{ChanReply}
+use Rattle.zk_model_bus.specs.declared.observer.ObsOp.{ObsOp}
+use Rattle.zk_model_bus.specs.declared.observer.ObsReply.{ObsReply}
 use Rattle.zk_poll.specs.Seen.{signal_history}
-use Rattle.zk_worker.proofs.Between.{above-work, above-clock, above-sems, above-msgqs, above-signals}
+use Rattle.zk_bus.specs.Seen.{chan_history}
+use Rattle.zk_subq.specs.Seen.{obs_history}
+use Rattle.zk_worker.proofs.Between.{above-work, above-clock, above-sems, above-msgqs, above-signals, above-chans, above-observers}
 use Rattle.zk_worker.specs.declared.steps.Step.TheVariants as steps
 use Rattle.zk_worker.specs.declared.steps.StepReply.TheVariants as step_replies
 use Rattle.zk_msgq.specs.Seen.{msgq_history}
@@ -113,14 +119,72 @@ returns-in-None-3-clause-attempted c =
     (histories_of signal_history c.act_at-in-Signal.new.objects.items) made.field-0 _ _ (made.ensures.made step_replies.Signal) made.ensures.entry c.in-Signal.is
     (ap (option_map (λ made. step_replies.Signal object made.0 made.1)) c.in-None-3.is)
 
+pub act_at-requires-in-Chan-clause-later : goal.act_at-requires-in-Chan-clause-later
+act_at-requires-in-Chan-clause-later c = λ h there.
+    above-chans (plain_shown c.args.self.now) c.args.who.number c.args.number c.in-Chan.object h there c.requires.later
+
+pub act_at-requires-in-Chan-clause-short : goal.act_at-requires-in-Chan-clause-short
+act_at-requires-in-Chan-clause-short c = λ h there.
+    let P : List (Entry ChanOp ChanReply) → Type 0 = λ h. length h < 2 ^ 32 - 1 in
+    All-at P (plain_shown c.args.self.now).chans c.in-Chan.object h (c.requires.short refl).chans there
+
+pub returns-in-Some-4-clause-attempted : goal.returns-in-Some-4-clause-attempted
+returns-in-Some-4-clause-attempted c =
+    let old = plain_shown c.args.self.now in
+    let object = c.in-Chan.object in
+    let made = c.in_ok-reply-in-Chan in
+    attempted-at (plain_machines c.args.self.now) c.args.who c.args.number object c.in-Chan.op (steps.Chan object c.in-Chan.op) (step_replies.Chan object) old
+    (λ hs. record old { chans = hs }) old.chans refl refl (λ r place. refl)
+    (histories_of chan_history c.act_at-in-Chan.new.objects.items) made.field-0 _ _ (made.ensures.made step_replies.Chan) made.ensures.entry c.in-Chan.is
+    (ap (option_map (λ made. step_replies.Chan object made.0 made.1)) c.in-Some-4.is)
+
+pub returns-in-None-4-clause-attempted : goal.returns-in-None-4-clause-attempted
+returns-in-None-4-clause-attempted c =
+    let old = plain_shown c.args.self.now in
+    let object = c.in-Chan.object in
+    let made = c.in_ok-reply-in-Chan in
+    attempted-at (plain_machines c.args.self.now) c.args.who c.args.number object c.in-Chan.op (steps.Chan object c.in-Chan.op) (step_replies.Chan object) old
+    (λ hs. record old { chans = hs }) old.chans refl refl (λ r place. refl)
+    (histories_of chan_history c.act_at-in-Chan.new.objects.items) made.field-0 _ _ (made.ensures.made step_replies.Chan) made.ensures.entry c.in-Chan.is
+    (ap (option_map (λ made. step_replies.Chan object made.0 made.1)) c.in-None-4.is)
+
+pub act_at-requires-in-Obs-clause-later : goal.act_at-requires-in-Obs-clause-later
+act_at-requires-in-Obs-clause-later c = λ h there.
+    above-observers (plain_shown c.args.self.now) c.args.who.number c.args.number c.in-Obs.object h there c.requires.later
+
+pub act_at-requires-in-Obs-clause-short : goal.act_at-requires-in-Obs-clause-short
+act_at-requires-in-Obs-clause-short c = λ h there.
+    let P : List (Entry ObsOp ObsReply) → Type 0 = λ h. length h < 2 ^ 32 - 1 in
+    All-at P (plain_shown c.args.self.now).observers c.in-Obs.object h (c.requires.short refl).observers there
+
+pub returns-in-Some-5-clause-attempted : goal.returns-in-Some-5-clause-attempted
+returns-in-Some-5-clause-attempted c =
+    let old = plain_shown c.args.self.now in
+    let object = c.in-Obs.object in
+    let made = c.in_ok-reply-in-Obs in
+    attempted-at (plain_machines c.args.self.now) c.args.who c.args.number object c.in-Obs.op (steps.Obs object c.in-Obs.op) (step_replies.Obs object) old
+    (λ hs. record old { observers = hs }) old.observers refl refl (λ r place. refl)
+    (histories_of obs_history c.act_at-in-Obs.new.objects.items) made.field-0 _ _ (made.ensures.made step_replies.Obs) made.ensures.entry c.in-Obs.is
+    (ap (option_map (λ made. step_replies.Obs object made.0 made.1)) c.in-Some-5.is)
+
+pub returns-in-None-5-clause-attempted : goal.returns-in-None-5-clause-attempted
+returns-in-None-5-clause-attempted c =
+    let old = plain_shown c.args.self.now in
+    let object = c.in-Obs.object in
+    let made = c.in_ok-reply-in-Obs in
+    attempted-at (plain_machines c.args.self.now) c.args.who c.args.number object c.in-Obs.op (steps.Obs object c.in-Obs.op) (step_replies.Obs object) old
+    (λ hs. record old { observers = hs }) old.observers refl refl (λ r place. refl)
+    (histories_of obs_history c.act_at-in-Obs.new.objects.items) made.field-0 _ _ (made.ensures.made step_replies.Obs) made.ensures.entry c.in-Obs.is
+    (ap (option_map (λ made. step_replies.Obs object made.0 made.1)) c.in-None-5.is)
+
 pub returns-in-LookItem-clause-attempted : goal.returns-in-LookItem-clause-attempted
 returns-in-LookItem-clause-attempted c =
     let old = plain_shown c.args.self.now in
-    item-looked old.work old.clock old.sems old.msgqs old.signals (plain_machines c.args.self.now) c.args.who c.args.number c.in-LookItem.object _ c.look_at_item.result
+    item-looked old.work old.clock old.sems old.msgqs old.signals old.chans old.observers (plain_machines c.args.self.now) c.args.who c.args.number c.in-LookItem.object _ c.look_at_item.result
     (c.look_at_item.ensures c.args.who) c.in-LookItem.is
 
 pub returns-in-LookSignal-clause-attempted : goal.returns-in-LookSignal-clause-attempted
 returns-in-LookSignal-clause-attempted c =
     let old = plain_shown c.args.self.now in
-    signal-looked old.work old.clock old.sems old.msgqs old.signals (plain_machines c.args.self.now) c.args.who c.args.number c.in-LookSignal.object c.in-LookSignal.must _ c.look_at_signal.result
+    signal-looked old.work old.clock old.sems old.msgqs old.signals old.chans old.observers (plain_machines c.args.self.now) c.args.who c.args.number c.in-LookSignal.object c.in-LookSignal.must _ c.look_at_signal.result
     (c.look_at_signal.ensures c.args.who) c.in-LookSignal.is

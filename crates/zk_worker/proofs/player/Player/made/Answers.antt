@@ -28,8 +28,8 @@ returns-clause-next c = search rules
 pub returns-clause-fits : goal.returns-clause-fits
 returns-clause-fits c =
     let s = c.args.scenario.now in
-    λ fits. subst (λ (at : At). FramesFit s.decls at.frames) (sym (returns-clause-next c))
-    (after-fits s c.args.self.now c.args.step.now c.args.reply.now fits)
+    λ fits told. subst (λ (at : At). FramesFit s.decls at.frames) (sym (returns-clause-next c))
+    (after-fits s c.args.self.now c.args.step.now c.args.reply.now fits told)
 
 pub returns-clause-follows : goal.returns-clause-follows
 returns-clause-follows c =

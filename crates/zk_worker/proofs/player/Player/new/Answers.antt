@@ -1,8 +1,9 @@
-use Rattle.std.proofs.Common.{◌≡◌, ◌<◌, ◌∙◌, Some, List, [], ◌∷◌, ◌++◌, length, reverse, refl, sym, ap, subst}
+use Rattle.std.proofs.Common.{◌≡◌, ◌<◌, ◌∙◌, Some, List, [], ◌∷◌, length, reverse, refl, sym, ap, subst}
 use Rattle.std.specs.List.{slice_get}
 use Rattle.std.proofs.lemmas.Option.{slice_get_read}
 use Rattle.zk_line.specs.declared.types.Decl.{Decl}
 use Rattle.zk_worker.specs.declared.frames.Frame.{Frame}
+use Rattle.zk_worker.specs.declared.frames.Role.{Role}
 use Rattle.zk_worker.specs.Places.{At}
 use Rattle.zk_worker.specs.Protocol.{settled, first_frame, role_at}
 use Rattle.zk_worker.proofs.DeclaredObjects.{players-below}
@@ -29,10 +30,10 @@ returns-clause-start c =
     let declared : slice_get s.decls object ≡ Some decl =
     subst (λ (l : List Decl). slice_get l object ≡ Some decl) c.decls.ensures.all
     (slice_get_read c.decls.result.now (length c.decls.result.now) object decl refl within c.in-Some-get.ensures.lookup.1) in
-    let frame : c.first_frame.result ≡ first_frame (role_at decl object) = c.first_frame.ensures ∙ ap first_frame c.role_at.ensures in
-    let stack : c.push_within.new.items.items ≡ first_frame (role_at decl object) ∷ [] =
-    c.push_within.ensures.items ∙ ap (λ (l : List Frame). l ++ c.first_frame.result ∷ []) c.in_ok-stack.ensures.items ∙ ap (λ (f : Frame). f ∷ []) frame in
-    let frames = c.settle.ensures.frames ∙ ap (λ (l : List Frame). settled s (reverse l)) stack in
+    let stack : reverse c.open_frame.new.stack.items ≡ first_frame (role_at decl object) ∷ [] =
+    c.open_frame.ensures.frames ∙ ap (λ (l : List Frame). first_frame c.role_at.result ∷ reverse l) c.in_ok-stack.ensures.items
+    ∙ ap (λ (r : Role). first_frame r ∷ []) c.role_at.ensures in
+    let frames = c.settle.ensures.frames ∙ ap (λ (l : List Frame). settled s l) stack in
     let made = At-same _ _ _ _ _ _ _ _ (sym c.who_at-who.ensures) (sym frames)
     (sym c.in_ok-with_capacity.ensures.items) (sym c.in_ok-with_capacity-2.ensures.items) in
     start_at-found s c.args.number object decl (sym c.in-Some.ensures) declared ∙ ap (λ (x : At). Some x) made

@@ -3,6 +3,7 @@ use Rattle.zk_worker.proofs.Between.{log-still}
 use Rattle.zk_worker.proofs.ShownSteps.{log-stepped}
 use Rattle.zk_worker.proofs.Looking.{looks-still, looks-stepped}
 use Rattle.zk_worker.proofs.Following.{following-between, stands-made}
+use Rattle.zk_worker.proofs.Replied.{replied-fits}
 use Rattle.zk_worker.proofs.Trying.{tried-some, tried-none}
 use Rattle.zk_worker.proofs.player.Player.step.Goals as goal
 
@@ -28,7 +29,10 @@ returns-in-Some-clause-follows g c =
     (following-between _ _ number _ _ _ _ first.made.since is)
 
 pub returns-in-Some-clause-fits : goal.returns-in-Some-clause-fits
-returns-in-Some-clause-fits g c = c.made.ensures.fits c.requires.fits
+returns-in-Some-clause-fits g c =
+    let first = tried-some _ _ _ _ _ c.in-Some.step c.in-Some.reply _ _ _ _ _ c.in_ok-step.ensures.tried c.in-Some.is in
+    c.made.ensures.fits c.requires.fits
+    (replied-fits c.args.scenario.now _ first.made.found _ c.in-Some.step c.in-Some.reply c.requires.valid c.requires.machines first.made.replied)
 
 pub returns-in-None-clause-log : goal.returns-in-None-clause-log
 returns-in-None-clause-log g c =

@@ -1,0 +1,113 @@
+ghost use Rattle.std.specs.Prelude.{◌≡◌};
+ghost use Rattle.zk_trace.specs.Chan.{verb_word, said_of, op_words, reply_parts, reply_words};
+
+use crate::parts::{FixedWord, Lent, Named, Part, PartList, put_parts, put_said};
+use crate::spelled::Spelled;
+use zk_base::{Errno, NoMemory};
+use zk_model_bus::{ChanOp, ChanReply};
+use zk_scenario::Scenario;
+
+/// The verbs of a channel's operations.
+#[derive(Clone, Copy)]
+pub enum Verb {
+    /// Of `ChanOp::Offer`.
+    Offer,
+    /// Of `ChanOp::Enter`.
+    Enter,
+    /// Of `ChanOp::Claim`.
+    Claim,
+    /// Of `ChanOp::ClaimEnd`.
+    ClaimEnd,
+    /// Of `ChanOp::ClaimQuit`.
+    ClaimQuit,
+    /// Of `ChanOp::Set`.
+    Set,
+    /// Of `ChanOp::List`.
+    List,
+    /// Of `ChanOp::Get`.
+    Get,
+    /// Of `ChanOp::Free`.
+    Free,
+    /// Of `ChanOp::Finish`.
+    Finish,
+    /// Of `ChanOp::Mask`.
+    Mask,
+}
+
+/// The word of a verb.
+fn verb_word(verb: Verb) -> &'static [u8]
+    ensures { result.now ≡ verb_word verb }
+{
+    match verb {
+        Verb::Offer => b"offer",
+        Verb::Enter => b"enter",
+        Verb::Claim => b"claim",
+        Verb::ClaimEnd => b"claimend",
+        Verb::ClaimQuit => b"claimquit",
+        Verb::Set => b"set",
+        Verb::List => b"list",
+        Verb::Get => b"get",
+        Verb::Free => b"free",
+        Verb::Finish => b"finish",
+        Verb::Mask => b"mask",
+    }
+}
+
+/// An operation as it is written: its verb, and what stands behind that.
+fn said_of(op: &ChanOp) -> (Verb, PartList<'_>)
+    ensures { result ≡ said_of op.now }
+{
+    match op {
+        ChanOp::Offer(message, waits) => (
+            Verb::Offer,
+            PartList::two(Part::Bytes(Lent::of(message)), Part::Waits(*waits)),
+        ),
+        ChanOp::Enter(waits) => (Verb::Enter, PartList::one(Part::Waits(*waits))),
+        ChanOp::Claim(waits) => (Verb::Claim, PartList::one(Part::Waits(*waits))),
+        ChanOp::ClaimEnd(place) => (Verb::ClaimEnd, PartList::one(Part::Place(*place))),
+        ChanOp::ClaimQuit(place) => (Verb::ClaimQuit, PartList::one(Part::Place(*place))),
+        ChanOp::Set(message) => (Verb::Set, PartList::one(Part::Bytes(Lent::of(message)))),
+        ChanOp::List => (Verb::List, PartList::none()),
+        ChanOp::Get => (Verb::Get, PartList::none()),
+        ChanOp::Free => (Verb::Free, PartList::none()),
+        ChanOp::Finish => (Verb::Finish, PartList::none()),
+        ChanOp::Mask(observer, on) => (
+            Verb::Mask,
+            PartList::two(Part::Object(*observer), Part::State(*on)),
+        ),
+    }
+}
+
+/// The parts of a reply.
+fn reply_parts(reply: &ChanReply) -> PartList<'_>
+    ensures { result ≡ reply_parts reply.now }
+{
+    match reply {
+        ChanReply::Got => PartList::one(Part::Fixed(FixedWord::Got)),
+        ChanReply::Busy => PartList::one(Part::Refusal(Errno::Busy)),
+        ChanReply::Wait => PartList::one(Part::Fixed(FixedWord::Wait)),
+        ChanReply::Again => PartList::one(Part::Refusal(Errno::Again)),
+        ChanReply::NoMsg => PartList::one(Part::Refusal(Errno::NoMsg)),
+        ChanReply::Observers(told) => PartList::one(Part::Objects(Named::of(told))),
+        ChanReply::Bytes(message) => PartList::one(Part::Bytes(Lent::of(message))),
+        ChanReply::Done => PartList::one(Part::Fixed(FixedWord::Done)),
+        ChanReply::Inval => PartList::one(Part::Refusal(Errno::Inval)),
+    }
+}
+
+impl Spelled for ChanOp {
+    ghost words = { op_words };
+
+    fn put_words(&self, out: &mut Vec<u8>, scenario: &Scenario) -> Result<(), NoMemory> {
+        let (verb, parts) = said_of(self);
+        put_said(out, scenario, verb_word(verb), &parts)
+    }
+}
+
+impl Spelled for ChanReply {
+    ghost words = { reply_words };
+
+    fn put_words(&self, out: &mut Vec<u8>, scenario: &Scenario) -> Result<(), NoMemory> {
+        put_parts(out, scenario, b' ', &reply_parts(self))
+    }
+}

@@ -1,0 +1,122 @@
+ghost use Rattle.std.specs.Prelude.{◌≡◌, slice_get};
+ghost use Rattle.zk_worker.specs.Waits.{open_step, end_step, quit_step, first_step, wait_attempts, opening_progress, until, wait_progress};
+
+use crate::replies::answer_of;
+use crate::{Progress, Stage, Step, StepReply, Waiting, Word};
+use zk_model_bus::{ChanOp, ChanReply, ObsOp, ObsReply};
+use zk_model_wait::{ClockOp, ClockReply, MsgqOp, MsgqReply, SemOp, SemReply};
+use zk_model_work::WorkReply;
+use zk_words::Timeout;
+
+/// The step that opens a wait, by whether its call waits where it isn't served at once.
+fn open_step(waiting: &Waiting, waits: bool) -> Step
+    ensures { result ≡ open_step waiting.now waits }
+{
+    match waiting {
+        Waiting::Take(object) => Step::Sem(*object, SemOp::Take(waits)),
+        Waiting::Put(object, message) => Step::Msgq(*object, MsgqOp::Put(*message, waits)),
+        Waiting::Get(object) => Step::Msgq(*object, MsgqOp::Get(waits)),
+        Waiting::Claim(object) => Step::Chan(*object, ChanOp::Claim(waits)),
+        Waiting::SubWait(object) => Step::Obs(*object, ObsOp::Take(waits)),
+        Waiting::Offer(object, message) => Step::Chan(*object, ChanOp::Offer(*message, waits)),
+        Waiting::Enter(object) => Step::Chan(*object, ChanOp::Enter(waits)),
+    }
+}
+
+/// The step that ends the wait begun by the entry of this place.
+fn end_step(waiting: &Waiting, place: u64) -> Step
+    ensures { result ≡ end_step waiting.now place }
+{
+    match waiting {
+        Waiting::Take(object) => Step::Sem(*object, SemOp::TakeEnd(place)),
+        Waiting::Put(object, _) => Step::Msgq(*object, MsgqOp::PutEnd(place)),
+        Waiting::Get(object) => Step::Msgq(*object, MsgqOp::GetEnd(place)),
+        Waiting::Claim(object) => Step::Chan(*object, ChanOp::ClaimEnd(place)),
+        Waiting::SubWait(object) => Step::Obs(*object, ObsOp::TakeEnd(place)),
+        Waiting::Offer(object, _) => Step::Chan(*object, ChanOp::ClaimEnd(place)),
+        Waiting::Enter(object) => Step::Chan(*object, ChanOp::ClaimEnd(place)),
+    }
+}
+
+/// The step that gives that wait up.
+fn quit_step(waiting: &Waiting, place: u64) -> Step
+    ensures { result ≡ quit_step waiting.now place }
+{
+    match waiting {
+        Waiting::Take(object) => Step::Sem(*object, SemOp::TakeQuit(place)),
+        Waiting::Put(object, _) => Step::Msgq(*object, MsgqOp::PutQuit(place)),
+        Waiting::Get(object) => Step::Msgq(*object, MsgqOp::GetQuit(place)),
+        Waiting::Claim(object) => Step::Chan(*object, ChanOp::ClaimQuit(place)),
+        Waiting::SubWait(object) => Step::Obs(*object, ObsOp::TakeQuit(place)),
+        Waiting::Offer(object, _) => Step::Chan(*object, ChanOp::ClaimQuit(place)),
+        Waiting::Enter(object) => Step::Chan(*object, ChanOp::ClaimQuit(place)),
+    }
+}
+
+/// The first step of a call that may wait.
+fn first_step(waiting: &Waiting, timeout: Timeout) -> Step
+    ensures { result ≡ first_step waiting.now timeout }
+{
+    match timeout {
+        Timeout::No => open_step(waiting, false),
+        Timeout::Forever => open_step(waiting, true),
+        Timeout::Ticks(ticks) => Step::Clock(ClockOp::Alarm(ticks)),
+    }
+}
+
+/// The attempt of this index among the next attempts of such a call.
+pub fn wait_ahead(waiting: &Waiting, timeout: Timeout, stage: &Stage, index: u32) -> Option<Step>
+    ensures { result ≡ slice_get (wait_attempts waiting.now timeout stage.now) index }
+{
+    match stage {
+        Stage::Start if index == 0 => Some(first_step(waiting, timeout)),
+        Stage::Alarmed(_) if index == 0 => Some(open_step(waiting, true)),
+        Stage::Waits(place) if index == 0 => Some(end_step(waiting, *place)),
+        Stage::WaitsUntil(place, _) if index == 0 => Some(end_step(waiting, *place)),
+        Stage::WaitsUntil(_, moment) if index == 1 => Some(Step::Clock(ClockOp::AlarmEnd(*moment))),
+        Stage::Quits(place) if index == 0 => Some(quit_step(waiting, *place)),
+        _ => None,
+    }
+}
+
+/// What the reply to the step that may begin a wait does to its call.
+pub fn opening_progress(word: Word, reply: &StepReply) -> Progress
+    ensures { result ≡ opening_progress word reply.now }
+{
+    match reply {
+        StepReply::Work(WorkReply::Wait, place) => Progress::Goes(Stage::Waits(*place)),
+        StepReply::Work(WorkReply::WaitFor(_), place) => Progress::Goes(Stage::Waits(*place)),
+        StepReply::Sem(_, SemReply::Wait, place) => Progress::Goes(Stage::Waits(*place)),
+        StepReply::Msgq(_, MsgqReply::Wait, place) => Progress::Goes(Stage::Waits(*place)),
+        StepReply::Chan(_, ChanReply::Wait, place) => Progress::Goes(Stage::Waits(*place)),
+        StepReply::Obs(_, ObsReply::Wait, place) => Progress::Goes(Stage::Waits(*place)),
+        _ => Progress::Answers(word, answer_of(reply)),
+    }
+}
+
+/// A call that has set an alarm and waits, waits until the moment of its alarm.
+fn until(moment: u64, progress: Progress) -> Progress
+    ensures { result ≡ until moment progress }
+{
+    match progress {
+        Progress::Goes(Stage::Waits(place)) => Progress::Goes(Stage::WaitsUntil(place, moment)),
+        progress => progress,
+    }
+}
+
+/// What the reply to a step does to a call that may wait.
+pub fn wait_progress(word: Word, stage: &Stage, reply: &StepReply) -> Progress
+    ensures { result ≡ wait_progress word stage.now reply.now }
+{
+    match (stage, reply) {
+        (Stage::Start, StepReply::Clock(ClockReply::At(moment), _)) => {
+            Progress::Goes(Stage::Alarmed(*moment))
+        }
+        (Stage::Start, _) => opening_progress(word, reply),
+        (Stage::Alarmed(moment), _) => until(*moment, opening_progress(word, reply)),
+        (Stage::WaitsUntil(place, _), StepReply::Clock(_, _)) => {
+            Progress::Goes(Stage::Quits(*place))
+        }
+        _ => Progress::Answers(word, answer_of(reply)),
+    }
+}
