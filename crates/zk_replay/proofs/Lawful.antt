@@ -5,26 +5,11 @@ use Rattle.std.specs.Option.{option_map, option_and_then}
 use Rattle.std.proofs.lemmas.Bool.{or_parts}
 use Rattle.std.proofs.lemmas.List.{length-map, length-set}
 use Rattle.std.proofs.lemmas.Option.{slice_get-map, slice_get_within}
-use Rattle.zk_base.specs.declared.ids.Entry.{Entry}
 use Rattle.zk_base.specs.declared.seen.Seen.{Seen}
 use Rattle.zk_base.proofs.Lists.{All-at}
 use Rattle.zk_base.specs.Legal.{state_after}
-use Rattle.zk_model_wait.specs.declared.clock.ClockOp.{ClockOp}
-use Rattle.zk_model_wait.specs.declared.clock.ClockReply.{ClockReply}
-use Rattle.zk_model_wait.specs.declared.sem.SemOp.{SemOp}
-use Rattle.zk_model_wait.specs.declared.sem.SemReply.{SemReply}
-use Rattle.zk_model_wait.specs.declared.msgq.MsgqOp.{MsgqOp}
-use Rattle.zk_model_wait.specs.declared.msgq.MsgqReply.{MsgqReply}
-use Rattle.zk_model_wait.specs.declared.signal.SignalOp.{SignalOp}
-use Rattle.zk_model_wait.specs.declared.signal.SignalReply.{SignalReply}
-use Rattle.zk_model_bus.specs.declared.channel.ChanOp.{ChanOp}
-use Rattle.zk_model_bus.specs.declared.channel.ChanReply.{ChanReply}
-use Rattle.zk_model_bus.specs.declared.observer.ObsOp.{ObsOp}
-use Rattle.zk_model_bus.specs.declared.observer.ObsReply.{ObsReply}
 use Rattle.zk_worker.specs.Right.{LooksRight}
 use Rattle.zk_trace.specs.Look.{AreRight}
-use Rattle.zk_model_work.specs.declared.ops.WorkOp.{WorkOp}
-use Rattle.zk_model_work.specs.declared.ops.WorkReply.{WorkReply}
 use Rattle.zk_model_work.specs.Machine.{work_machine}
 use Rattle.zk_scenario.specs.Parts.{Parts}
 use Rattle.zk_scenario.specs.Players.{players}
@@ -44,7 +29,6 @@ use Rattle.zk_worker.specs.Shown.{Shown, shown_at, shown_after}
 use Rattle.zk_worker.specs.Single.{step_of}
 use Rattle.zk_worker.proofs.Families.{none-there}
 use Rattle.zk_worker.proofs.Lists.{none-passes, there-mapped}
-use Rattle.zk_replay.specs.Alone.{whole_shown}
 use Rattle.zk_worker.proofs.ShownSteps.{IsMore, made-more}
 use Rattle.zk_trace.specs.declared.trace.Ending.TheVariants.{Ended, Stuck, Spent}
 use Rattle.zk_trace.specs.declared.trace.Trace.{Trace}
@@ -61,7 +45,7 @@ use Rattle.zk_replay.proofs.StillRounds.{first_possible-is, rounds-keep}
 use Rattle.zk_replay.proofs.Readiness.{ready-stepped}
 use Rattle.zk_replay.proofs.Beginning.{ready-first, first-players}
 use Rattle.zk_replay.proofs.Endings.{there-is}
-use Rattle.zk_replay.proofs.Legality.{run-legal}
+use Rattle.zk_replay.proofs.Legality.{run-legal, Work, Clock, Sems, Msgqs, Signals, Chans, Observers}
 use Rattle.zk_replay.proofs.OneRun.{none_goes_on}
 
 -- each entry is of a player that is there
@@ -162,13 +146,10 @@ unspent-ending s w never = by_spent (is_spent w) refl
     by_spent false none = none
 
 -- whole histories are all that is shown
-whole-same : (work : List (Entry WorkOp WorkReply)) (clock : List (Entry ClockOp ClockReply)) (sems : List (List (Entry SemOp SemReply))) (msgqs : List (List (Entry MsgqOp MsgqReply)))
-    (signals : List (List (Entry SignalOp SignalReply))) (chans : List (List (Entry ChanOp ChanReply))) (observers : List (List (Entry ObsOp ObsReply))) (looks : Option (List (List Seen))) (looked : Option ℕ) → looks ≡ None → looked ≡ None →
-    whole_shown work clock sems msgqs signals chans observers
-    ≡ (record { work = work; clock = clock; sems = sems; msgqs = msgqs; signals = signals; chans = chans; observers = observers; looks = looks; looked = looked })
-whole-same work clock sems msgqs signals chans observers None None whole unlooked = refl
-whole-same work clock sems msgqs signals chans observers (Some looks) looked whole unlooked = absurd (cc)
-whole-same work clock sems msgqs signals chans observers None (Some looked) whole unlooked = absurd (cc)
+whole-same : (shown : Shown) → shown.looks ≡ None → shown.looked ≡ None → (record shown { looks = None; looked = None }) ≡ shown
+whole-same shown whole unlooked =
+    ap (λ (looks : Option (List (List Seen))). record shown { looks = looks; looked = None }) (sym whole)
+    ∙ ap (λ (looked : Option ℕ). record shown { looked = looked }) (sym unlooked)
 
 module _ (s : Parts) (w : World) (valid : IsValid s) (run : IsRun (machines_of s) s w) where
   known : IsReady s w × AreKnown w
@@ -176,7 +157,7 @@ module _ (s : Parts) (w : World) (valid : IsValid s) (run : IsRun (machines_of s
 
   -- the trace shows what was shown
   shown-same : trace_shown (trace_of s w) ≡ w.shown
-  shown-same = whole-same w.shown.work w.shown.clock w.shown.sems w.shown.msgqs w.shown.signals w.shown.chans w.shown.observers w.shown.looks w.shown.looked known.0.whole known.0.unlooked
+  shown-same = whole-same w.shown known.0.whole known.0.unlooked
 
   abbrev follows : (number : ℕ) (log : Log) → slice_get (map log_of w.players) number ≡ Some log → Follows s number (trace_shown (trace_of s w)) log
   follows number log is =
@@ -220,7 +201,7 @@ module _ (s : Parts) (w : World) (valid : IsValid s) (run : IsRun (machines_of s
   legal : AreLegal s (trace_of s w)
   legal =
       let shown = run-legal s w valid run in
-      record { work = shown.work; clock = shown.clock; sems = shown.sems; msgqs = shown.msgqs; signals = shown.signals; chans = shown.chans; observers = shown.observers }
+      record { work = shown Work; clock = shown Clock; sems = shown Sems; msgqs = shown Msgqs; signals = shown Signals; chans = shown Chans; observers = shown Observers }
 
   lawful-run : IsLawful s (trace_of s w)
   lawful-run = record {

@@ -24,7 +24,7 @@ ghost use Rattle.zk_replay.specs.Ending.{ending_by};
 ghost use Rattle.zk_replay.specs.Over.{IsOver};
 
 use crate::looks::{item_looks, signal_looks};
-use crate::plain::{Histories, Plain};
+use crate::plain::Plain;
 use crate::turns::play_rounds;
 use std::alloc::Global;
 use zk_base::{NewRefused, NoMemory};
@@ -257,15 +257,16 @@ pub fn first_services(alloc: Global, scenario: &Scenario) -> Result<Plain, NoMem
     ensures shown { IfOk result (λ services. plain_shown services ≡ nothing_shown scenario.now.decls) }
     ensures valid { IsValid scenario.now }
 {
-    let work = first_work(alloc, scenario)?;
-    let items = item_numbers(alloc, scenario)?;
-    let sems = first_sems(alloc, scenario.decls())?;
-    let msgqs = first_msgqs(alloc, scenario.decls())?;
-    let signals = first_signals(alloc, scenario.decls())?;
-    let chans = first_chans(alloc, scenario.decls())?;
-    let observers = first_observers(alloc, scenario.decls())?;
-    let clock = Clock::new(alloc);
-    Ok(Plain::new(work, items, clock, sems, msgqs, signals, chans, observers))
+    Ok(Plain {
+        work: first_work(alloc, scenario)?,
+        items: item_numbers(alloc, scenario)?,
+        clock: Clock::new(alloc),
+        sems: first_sems(alloc, scenario.decls())?,
+        msgqs: first_msgqs(alloc, scenario.decls())?,
+        signals: first_signals(alloc, scenario.decls())?,
+        chans: first_chans(alloc, scenario.decls())?,
+        observers: first_observers(alloc, scenario.decls())?,
+    })
 }
 
 /// The players of a scenario, none of which has made a step.
@@ -330,26 +331,18 @@ pub fn replay(alloc: Global, scenario: &Scenario) -> Result<Trace, NoMemory>
     play_rounds(&mut services, scenario, &mut players)?;
     let ending = ending_of(&players);
     let logs = logs_of(alloc, players)?;
-    let Histories {
-        work,
-        clock,
-        sems,
-        msgqs,
-        signals,
-        chans,
-        observers,
-    } = services.into_histories(alloc)?;
+    let all = services.into_histories(alloc)?;
     let item_looks = item_looks(alloc, logs.items())?;
-    let signal_looks = signal_looks(alloc, signals.items().len(), logs.items())?;
+    let signal_looks = signal_looks(alloc, all.signals.items().len(), logs.items())?;
     Ok(Trace {
         ending,
-        work,
-        clock,
-        sems,
-        msgqs,
-        signals,
-        chans,
-        observers,
+        work: all.work,
+        clock: all.clock,
+        sems: all.sems,
+        msgqs: all.msgqs,
+        signals: all.signals,
+        chans: all.chans,
+        observers: all.observers,
         item_looks,
         signal_looks,
         logs,
