@@ -289,9 +289,9 @@ few-of s made a of valid =
 
 pub each_poll_keeps_its_laws : EachPollKeepsItsLaws
 each_poll_keeps_its_laws s number shown at is valid shows legal =
-    All-weaker (λ a. a.word ≡ words.Poll → IsPollOf s is.made a) (λ a. a.word ≡ words.Poll → IsLawfulPollOf s is.made a)
-    (λ a played poll.
-    let of = played poll in
+    All-weaker (λ a. a.word ≡ words.Poll → is_oops a.answer ≡ false → IsPollOf s is.made a) (λ a. a.word ≡ words.Poll → is_oops a.answer ≡ false → IsLawfulPollOf s is.made a)
+    (λ a played poll passed.
+    let of = played poll passed in
     record {
       of = of;
       laws = poll_laws a.word of.timeout of.events (few-of s is.made a of valid) of.play a.answer of.answered (play-served s number shown at.spots is.made a is.stands shows legal of);

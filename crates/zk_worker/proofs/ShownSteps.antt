@@ -41,6 +41,7 @@ use Rattle.zk_worker.specs.Attempt.{reply_in, IsMade}
 use Rattle.zk_worker.proofs.Lists.{at-end, there-longer, there-behind}
 use Rattle.zk_worker.proofs.Families.{with-here, with-longer, with-back, with-count, answered-at}
 use Rattle.zk_worker.proofs.Between.{log-still}
+use Rattle.zk_worker.proofs.CheckedSteps.{after-spots}
 
 -- what is mapped to something is there
 pub made-of : {A B : Type 0} (f : A → B) (o : Option A) (b : B) → option_map f o ≡ Some b → (a : A) × (o ≡ Some a) × (f a ≡ b)
@@ -426,5 +427,8 @@ pub log-stepped : (alone : Bool) (m : Machines) (s : Parts) (at at' : At) (step 
     IsMade alone m at.who (length at.spots) step reply old new → at' ≡ after s at step reply → ShowsLog new at'.who.number at'.spots
 log-stepped alone m s at at' step reply old new shows made next =
     let found = log-still alone at.who.number at.spots old made.found shows made.since in
+    let later = after-spots s at step reply in
     subst (λ (a : At). ShowsLog new a.who.number a.spots) (sym next)
-    (subst (λ (x : Shown). ShowsLog x at.who.number (at.spots ++ spot_of step reply ∷ [])) (sym made.shown) (log-answered m made.found at.who at.spots step reply found made.replied))
+    (subst (λ (w : Who). ShowsLog new w.number (after s at step reply).spots) (sym later.0)
+    (subst (λ (l : List Spot). ShowsLog new at.who.number l) (sym later.1)
+    (subst (λ (x : Shown). ShowsLog x at.who.number (at.spots ++ spot_of step reply ∷ [])) (sym made.shown) (log-answered m made.found at.who at.spots step reply found made.replied))))

@@ -9,7 +9,8 @@ use zk_base::Seen;
 use zk_model_work::{WorkOp, WorkReply};
 use zk_scenario::{Call, Scenario, word_of};
 
-fn call_at(scenario: &Scenario, owner: u32, next: u32) -> Option<&Call>
+/// The call of this number in an object's script.
+pub fn call_at(scenario: &Scenario, owner: u32, next: u32) -> Option<&Call>
     ensures { option_copied result ≡ slice_get (calls_of scenario.now.scripts owner) next }
 {
     scenario.calls(owner).get(next as usize)
