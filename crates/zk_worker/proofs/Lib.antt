@@ -13,6 +13,7 @@ pub mod PollLogs
 pub mod PollServed
 pub mod StageFits
 pub mod Fits
+pub mod TableRanges
 pub mod Ranges
 pub mod Families
 pub mod Between

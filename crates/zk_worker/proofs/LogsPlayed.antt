@@ -317,6 +317,9 @@ module _ (s : Parts) (shown : Shown) (number : ℕ) (player : Who) (is_player : 
   is-next i (spots.Work place) made there stands =
       let from = made-of _ _ made stands in
       subst (λ (m : Made). IsNext s shown.chans number i m.0 m.1) from.2 (elsewhere i (spots.Work place) _ _ there (λ object at same. cc) refl refl)
+  is-next i (spots.Table place) made there stands =
+      let from = made-of _ _ made stands in
+      subst (λ (m : Made). IsNext s shown.chans number i m.0 m.1) from.2 (elsewhere i (spots.Table place) _ _ there (λ object at same. cc) refl refl)
   is-next i (spots.Clock place) made there stands =
       let from = made-of (λ (e : Entry ClockOp ClockReply). (steps.Clock e.op, step_replies.Clock e.reply place)) (slice_get shown.clock place) made stands in
       subst (λ (m : Made). IsNext s shown.chans number i m.0 m.1) from.2

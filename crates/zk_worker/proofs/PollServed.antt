@@ -139,6 +139,9 @@ stands-served : (shown : Shown) (spot : Spot) (made : Made) → ShowsLegal shown
 stands-served shown (spots.Work place) made legal stands of =
     let at = mapped (λ e. (steps.Work e.op, step_replies.Work e.reply place)) (slice_get shown.work place) made stands in
     let never : false ≡ true = ap (λ (m : Made). is_of_poll m.0) at.2 ∙ of in absurd (cc)
+stands-served shown (spots.Table place) made legal stands of =
+    let at = mapped (λ e. (steps.Table e.op, step_replies.Table e.reply place)) (slice_get shown.table place) made stands in
+    let never : false ≡ true = ap (λ (m : Made). is_of_poll m.0) at.2 ∙ of in absurd (cc)
 stands-served shown (spots.Clock place) made legal stands of =
     let at = mapped (λ e. (steps.Clock e.op, step_replies.Clock e.reply place)) (slice_get shown.clock place) made stands in
     let e = at.0 in
@@ -183,6 +186,9 @@ msgq-spot object place op reply spot is = absurd (cc)
 stands-spot : (shown : Shown) (at : Spot) (made : Made) (spot : Spot) → Stands shown at made → registered_at made ≡ Some spot → (at ≡ spot) × (is_look at ≡ false)
 stands-spot shown (spots.Work place) made spot stands is =
     let from = mapped (λ e. (steps.Work e.op, step_replies.Work e.reply place)) (slice_get shown.work place) made stands in
+    let none : None ≡ Some spot = ap registered_at from.2 ∙ is in absurd (cc)
+stands-spot shown (spots.Table place) made spot stands is =
+    let from = mapped (λ e. (steps.Table e.op, step_replies.Table e.reply place)) (slice_get shown.table place) made stands in
     let none : None ≡ Some spot = ap registered_at from.2 ∙ is in absurd (cc)
 stands-spot shown (spots.Clock place) made spot stands is =
     let from = mapped (λ e. (steps.Clock e.op, step_replies.Clock e.reply place)) (slice_get shown.clock place) made stands in

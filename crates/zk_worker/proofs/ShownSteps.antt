@@ -190,6 +190,10 @@ clock-elsewhere : (shown : Shown) (h : List (Entry ClockOp ClockReply)) (at : Sp
 clock-elsewhere shown h (spots.Clock p) = inl (p, refl)
 clock-elsewhere shown h at = inr (refl, refl)
 
+table-elsewhere : (shown : Shown) (h : List (Entry TableOp TableReply)) (at : Spot) → Elsewhere spots.Table shown (record shown { table = h }) at
+table-elsewhere shown h (spots.Table p) = inl (p, refl)
+table-elsewhere shown h at = inr (refl, refl)
+
 -- the spot of an object of a kind is one of an object and a place
 sems-elsewhere : (shown : Shown) (hs : List (List (Entry SemOp SemReply))) (at : Spot) →
     Elsewhere {P = ℕ × ℕ} (λ p. spots.Sem p.0 p.1) shown (record shown { sems = hs }) at
@@ -274,6 +278,12 @@ made-more m shown who number (steps.Clock op) reply answered =
     object-more spots.Clock (λ p. steps.Clock) (λ p r. step_replies.Clock r p) shown (record shown { clock = shown.clock ++ e ∷ [] }) (slice_get shown.clock) (slice_get (shown.clock ++ e ∷ []))
     (record { seen = λ p. refl; made = λ p. refl; entry = λ p x is. is }) (record { seen = λ p. refl; made = λ p. refl; entry = λ p x is. is }) (clock-elsewhere shown (shown.clock ++ e ∷ []))
     (length shown.clock) who number op r (history-with shown.clock e) (omega (arith, length-append shown.clock (e ∷ []))))
+made-more m shown who number (steps.Table op) reply answered =
+    answered-more shown who number (steps.Table op) (λ r. step_replies.Table r (length shown.table)) (m.table.reply_of (state_after m.table m.table_start shown.table) who op) reply answered (λ r.
+    let e = entry who number op r in
+    object-more spots.Table (λ p. steps.Table) (λ p r. step_replies.Table r p) shown (record shown { table = shown.table ++ e ∷ [] }) (slice_get shown.table) (slice_get (shown.table ++ e ∷ []))
+    (record { seen = λ p. refl; made = λ p. refl; entry = λ p x is. is }) (record { seen = λ p. refl; made = λ p. refl; entry = λ p x is. is }) (table-elsewhere shown (shown.table ++ e ∷ []))
+    (length shown.table) who number op r (history-with shown.table e) (omega (arith, length-append shown.table (e ∷ []))))
 made-more m shown who number (steps.Sem object op) reply answered =
     at-more shown who number (steps.Sem object op) step_replies.Sem m.sems shown.sems object op reply answered (λ h r there.
     let e = entry who number op r in

@@ -64,6 +64,9 @@ made_at shown (spots.Work place) =
 made_at shown (spots.Clock place) =
     option_map (λ e. (steps.Clock e.op, step_replies.Clock e.reply place))
     (slice_get shown.clock place)
+made_at shown (spots.Table place) =
+    option_map (λ e. (steps.Table e.op, step_replies.Table e.reply place))
+    (slice_get shown.table place)
 made_at shown (spots.Sem object place) =
     option_map (λ e. (steps.Sem object e.op, step_replies.Sem object e.reply place))
     (entry_at shown.sems object place)

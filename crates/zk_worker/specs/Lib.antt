@@ -23,5 +23,6 @@ pub mod Single
 pub mod StackLaws
 pub mod StackLogs
 pub mod Stacks
+pub mod TableSetup
 pub mod VisitLaws
 pub mod Waits

@@ -127,6 +127,7 @@ answers_after answers number progress = answers
 abbrev pub place_of : StepReply → ℕ
 place_of (step_replies.Work reply place) = place
 place_of (step_replies.Clock reply place) = place
+place_of (step_replies.Table reply place) = place
 place_of (step_replies.Sem object reply place) = place
 place_of (step_replies.Msgq object reply place) = place
 place_of (step_replies.Signal object reply place) = place
@@ -149,6 +150,7 @@ found_seen reply = clear_at 0
 abbrev pub spot_of : Step → StepReply → Spot
 spot_of (steps.Work op) reply = spots.Work (place_of reply)
 spot_of (steps.Clock op) reply = spots.Clock (place_of reply)
+spot_of (steps.Table op) reply = spots.Table (place_of reply)
 spot_of (steps.Sem object op) reply = spots.Sem object (place_of reply)
 spot_of (steps.Msgq object op) reply = spots.Msgq object (place_of reply)
 spot_of (steps.Signal object op) reply = spots.Signal object (place_of reply)

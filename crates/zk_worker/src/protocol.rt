@@ -117,6 +117,7 @@ fn place_of(reply: &StepReply) -> u64
     match reply {
         StepReply::Work(_, place) => *place,
         StepReply::Clock(_, place) => *place,
+        StepReply::Table(_, place) => *place,
         StepReply::Sem(_, _, place) => *place,
         StepReply::Msgq(_, _, place) => *place,
         StepReply::Signal(_, _, place) => *place,
@@ -156,6 +157,7 @@ pub fn spot_of(made: &Step, reply: &StepReply) -> Spot
     match made {
         Step::Work(_) => Spot::Work(place_of(reply)),
         Step::Clock(_) => Spot::Clock(place_of(reply)),
+        Step::Table(_) => Spot::Table(place_of(reply)),
         Step::Sem(object, _) => Spot::Sem(*object, place_of(reply)),
         Step::Msgq(object, _) => Spot::Msgq(*object, place_of(reply)),
         Step::Signal(object, _) => Spot::Signal(*object, place_of(reply)),
