@@ -26,8 +26,11 @@ pub mod Trying
 pub mod ChannelAnswers
 pub mod OpenScripts
 pub mod OwnEntries
+pub mod ChannelSteps
 pub mod HeldCalls
 pub mod OtherCalls
 pub mod ScriptsEntered
 pub mod LogsPlayed
+pub mod ChannelCalls
+pub mod ChannelsFreed
 pub mod Visits
