@@ -18,9 +18,9 @@ abbrev pub kind_of : Decl → Kind
 kind_of (Thread name prio user) = kind.Thread
 kind_of (Queue name prio on) = kind.Queue
 kind_of (Item name) = kind.Item
-kind_of (Sem name initial limit) = kind.Sem
-kind_of (Msgq name size capacity) = kind.Msgq
-kind_of (Signal name) = kind.Signal
+kind_of (Sem name initial limit raw) = kind.Sem
+kind_of (Msgq name size capacity raw) = kind.Msgq
+kind_of (Signal name raw) = kind.Signal
 kind_of (Listener name) = kind.Listener
 kind_of (Sub name capacity) = kind.Sub
 kind_of (Chan name message valid observers) = kind.Chan
@@ -30,9 +30,9 @@ abbrev pub name_of : Decl → List ℕ
 name_of (Thread name prio user) = name
 name_of (Queue name prio on) = name
 name_of (Item name) = name
-name_of (Sem name initial limit) = name
-name_of (Msgq name size capacity) = name
-name_of (Signal name) = name
+name_of (Sem name initial limit raw) = name
+name_of (Msgq name size capacity raw) = name
+name_of (Signal name raw) = name
 name_of (Listener name) = name
 name_of (Sub name capacity) = name
 name_of (Chan name message valid observers) = name
@@ -95,6 +95,17 @@ same_kind decl = counts_with (kind_of decl)
 abbrev pub plays_script : Decl → Bool
 plays_script decl = kinds.plays_script (kind_of decl)
 
+-- whether what is declared can be declared as not initialised
+abbrev pub can_be_raw : Decl → Bool
+can_be_raw decl = kinds.can_be_raw (kind_of decl)
+
+-- whether what is declared isn't initialised
+abbrev pub is_raw : Decl → Bool
+is_raw (Sem name initial limit raw) = raw
+is_raw (Msgq name size capacity raw) = raw
+is_raw (Signal name raw) = raw
+is_raw decl = false
+
 -- the observers of a channel, as object numbers
 abbrev pub observers_of : Decl → List ℕ
 observers_of (Chan name message valid observers) = observers
@@ -135,7 +146,7 @@ names test decls name = option_map_or (is_at test decls) (object_of decls name) 
 
 -- how many bytes each message of what is declared has, if it has messages
 abbrev pub size_of : Decl → Option ℕ
-size_of (Msgq name size capacity) = Some size
+size_of (Msgq name size capacity raw) = Some size
 size_of (Chan name message valid observers) = Some (length message)
 size_of decl = None
 
@@ -148,9 +159,9 @@ abbrev pub own_list : Decl → List ℕ → List ℕ → List ℕ → List ℕ �
 own_list (Thread name prio user) threads queues items sems msgqs signals chans observers = threads
 own_list (Queue name prio on) threads queues items sems msgqs signals chans observers = queues
 own_list (Item name) threads queues items sems msgqs signals chans observers = items
-own_list (Sem name initial limit) threads queues items sems msgqs signals chans observers = sems
-own_list (Msgq name size capacity) threads queues items sems msgqs signals chans observers = msgqs
-own_list (Signal name) threads queues items sems msgqs signals chans observers = signals
+own_list (Sem name initial limit raw) threads queues items sems msgqs signals chans observers = sems
+own_list (Msgq name size capacity raw) threads queues items sems msgqs signals chans observers = msgqs
+own_list (Signal name raw) threads queues items sems msgqs signals chans observers = signals
 own_list (Listener name) threads queues items sems msgqs signals chans observers = observers
 own_list (Sub name capacity) threads queues items sems msgqs signals chans observers = observers
 own_list (Chan name message valid own) threads queues items sems msgqs signals chans observers = chans

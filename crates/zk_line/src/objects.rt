@@ -289,7 +289,7 @@ fn enlist(
         Decl::Item(_) => put_counted(items, object),
         Decl::Sem(..) => put_counted(sems, object),
         Decl::Msgq(..) => put_counted(msgqs, object),
-        Decl::Signal(_) => put_counted(signals, object),
+        Decl::Signal(..) => put_counted(signals, object),
         Decl::Listener(_) => put_counted(observers, object),
         Decl::Sub(..) => put_counted(observers, object),
         Decl::Chan(..) => put_counted(chans, object),
