@@ -88,9 +88,9 @@ pub length-own_list : (ds : List Decl) (d : Decl) → length (own_list d (places
 length-own_list ds (Thread name prio user) = length-places is_thread ds
 length-own_list ds (Queue name prio on) = length-places is_queue ds
 length-own_list ds (Item name) = length-places is_item ds
-length-own_list ds (Sem name initial limit) = length-places is_sem ds
-length-own_list ds (Msgq name size capacity) = length-places is_msgq ds
-length-own_list ds (Signal name) = length-places is_signal ds
+length-own_list ds (Sem name initial limit raw) = length-places is_sem ds
+length-own_list ds (Msgq name size capacity raw) = length-places is_msgq ds
+length-own_list ds (Signal name raw) = length-places is_signal ds
 length-own_list ds (Listener name) = length-places is_observer ds
 length-own_list ds (Sub name capacity) = length-places is_observer ds
 length-own_list ds (Chan name message valid own) = length-places is_chan ds

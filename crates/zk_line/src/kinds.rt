@@ -1,8 +1,8 @@
 ghost use Rattle.std.specs.Prelude.{◌≡◌};
-ghost use Rattle.zk_line.specs.Objects.{kind_of, name_of, is_at, is_met, name_at, plays_script, can_be_raw, size_at};
+ghost use Rattle.zk_line.specs.Objects.{kind_of, name_of, is_at, is_listener, is_met, name_at, plays_script, can_be_raw, size_at};
 
 use crate::types::Decl;
-use zk_words::{Kind, Need, can_be_raw, plays_script};
+use zk_words::{Kind, Need, can_be_raw, plays_script, same_kind};
 
 /// The kind of what is declared.
 pub fn kind_of(decl: &Decl) -> Kind
@@ -54,6 +54,16 @@ pub fn plays_at(decls: &[Decl], object: u32) -> bool
 {
     match decls.get(object as usize) {
         Some(decl) => plays_script(kind_of(decl)),
+        None => false,
+    }
+}
+
+/// Whether an object is declared, and is a listener.
+pub fn is_listener_at(decls: &[Decl], object: u32) -> bool
+    ensures { result ≡ is_at is_listener decls.now object }
+{
+    match decls.get(object as usize) {
+        Some(decl) => same_kind(kind_of(decl), Kind::Listener),
         None => false,
     }
 }

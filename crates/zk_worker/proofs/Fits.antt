@@ -11,7 +11,7 @@ use Rattle.zk_line.specs.declared.types.Decl.TheVariants as decl_kinds
 use Rattle.zk_line.specs.declared.types.Ref.TheVariants.{Known}
 use Rattle.zk_line.specs.declared.types.Call.{Call}
 use Rattle.zk_line.specs.declared.types.Call.TheVariants as calls
-use Rattle.zk_line.specs.Objects.{places, is_queue, is_item, is_sem, is_msgq, is_signal, is_chan, is_observer, is_met, number_of, is_at, size_at}
+use Rattle.zk_line.specs.Objects.{places, is_queue, is_item, is_sem, is_msgq, is_signal, is_chan, is_observer, is_met, can_be_raw, number_of, is_at, size_at}
 use Rattle.zk_scenario.specs.Players.{players, calls_of}
 use Rattle.zk_model_bus.specs.declared.kinds.Need.TheVariants as need
 use Rattle.zk_scenario.specs.Parts.{Parts}
@@ -56,6 +56,7 @@ use Rattle.zk_worker.specs.Places.{At}
 use Rattle.zk_worker.specs.Polls.{poll_attempts}
 use Rattle.zk_worker.specs.Protocol.{worker_attempts, call_attempts, role_attempts, frames_attempts, IsAhead, after, frames_after, frames_progress, entered, first_frame, role_at, starting, start_at}
 use Rattle.zk_worker.specs.Families.{is_declared}
+use Rattle.zk_worker.specs.TableSetup.{is_object}
 use Rattle.zk_worker.specs.Machines.{sem_start, msgq_start, signal_start, chan_start, observer_start}
 use Rattle.zk_worker.specs.Ranges.{step_fits, role_fits, AreObservers, StageFits, FrameFits, FramesFit, ReplyFits}
 use Rattle.zk_worker.proofs.PollSteps.{is_source, poll_attempts-fit}
@@ -130,7 +131,7 @@ sem-declared : (decls : List Decl) (sem : ℕ) (more : Bool) → (is_at is_sem d
 sem-declared decls sem more fits = declared-at sem_start is_sem decls sem starts (and_parts (is_at is_sem decls sem) more fits).0
   where
     starts : (decl : Decl) → is_sem decl ≡ true → is_some (sem_start decl) ≡ true
-    starts (decl_kinds.Sem name initial limit) is = refl
+    starts (decl_kinds.Sem name initial limit raw) is = refl
     starts decl is = absurd (cc)
 
 msgq-declared : (decls : List Decl) (queue : ℕ) (more : Bool) → (is_at is_msgq decls queue && more) ≡ true →
@@ -139,7 +140,7 @@ msgq-declared decls queue more fits =
     declared-at msgq_start is_msgq decls queue starts (and_parts (is_at is_msgq decls queue) more fits).0
   where
     starts : (decl : Decl) → is_msgq decl ≡ true → is_some (msgq_start decl) ≡ true
-    starts (decl_kinds.Msgq name size capacity) is = refl
+    starts (decl_kinds.Msgq name size capacity raw) is = refl
     starts decl is = absurd (cc)
 
 chan-declared : (decls : List Decl) (chan : ℕ) (more : Bool) → (is_at is_chan decls chan && more) ≡ true →
@@ -175,7 +176,7 @@ signal-declared decls signal more fits =
     declared-at signal_start is_signal decls signal starts (and_parts (is_at is_signal decls signal) more fits).0
   where
     starts : (decl : Decl) → is_signal decl ≡ true → is_some (signal_start decl) ≡ true
-    starts (decl_kinds.Signal name) is = refl
+    starts (decl_kinds.Signal name raw) is = refl
     starts decl is = absurd (cc)
 
 -- what an event of a fitting call names is declared as what it names
@@ -192,6 +193,19 @@ events-sources decls (event ∷ more) fits =
     let P : Event → Type 0 = λ event. is_source decls event ≡ true in
     let both = and_parts (event_fits decls event) (list_all (event_fits decls) more) fits in
     All-cons P event more (event-source decls event both.0) (events-sources decls more both.1)
+
+-- a thread, and an object for it
+thread-object : (decls : List Decl) (thread object : ℕ) → (is_at (is_met need.Thread) decls thread && (is_object decls object && true)) ≡ true →
+    (is_at (is_met need.Thread) decls thread && is_object decls object) ≡ true
+thread-object decls thread object fits =
+    let both = and_parts (is_at (is_met need.Thread) decls thread) (is_object decls object && true) fits in
+    and_from (is_at (is_met need.Thread) decls thread) (is_object decls object) both.0 (and_parts (is_object decls object) true both.1).0
+
+-- what is declared as one of a kind is declared
+at-any : (test : Decl → Bool) (decls : List Decl) (object : ℕ) → is_at test decls object ≡ true → is_object decls object ≡ true
+at-any test [] object is = absurd (cc)
+at-any test (d ∷ ds) zero is = refl
+at-any test (d ∷ ds) (suc object) is = at-any test ds object is
 
 plan_of-fits : (decls : List Decl) (call : Call) → call_fits decls call ≡ true → PlanFits decls (plan_of decls call)
 unfolding PlanFits waiting_fits
@@ -235,6 +249,11 @@ plan_of-fits decls (calls.Publish (Known chan) message timeout) fits =
     chan-declared decls chan (is_size (size_at decls chan) (length message) && (wait_fits timeout && true)) fits
 plan_of-fits decls (calls.Notify (Known chan) timeout) fits = chan-declared decls chan (wait_fits timeout && true) fits
 plan_of-fits decls (calls.Read (Known chan) timeout) fits = chan-declared decls chan (wait_fits timeout && true) fits
+plan_of-fits decls (calls.Grant (Known thread) (Known object)) fits = thread-object decls thread object fits
+plan_of-fits decls (calls.Release (Known object)) fits = (and_parts (is_object decls object) true fits).0
+plan_of-fits decls (calls.Revoke (Known thread) (Known object)) fits = thread-object decls thread object fits
+plan_of-fits decls (calls.Public (Known object)) fits = (and_parts (is_object decls object) true fits).0
+plan_of-fits decls (calls.Init (Known object)) fits = at-any can_be_raw decls object (and_parts (is_at can_be_raw decls object) true fits).0
 plan_of-fits decls (calls.Poll timeout list) fits = events-sources decls list (poll_fits decls timeout list fits).1
 
 -- the steps of a wait are at its object

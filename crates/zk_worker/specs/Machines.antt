@@ -65,17 +65,17 @@ items_of decls = map (item_number decls) (range_with_len 0 (length decls))
 
 -- the state that a declaration starts a semaphore in, if it declares one
 abbrev pub sem_start : Decl → Option Sem
-sem_start (decls.Sem name initial limit) = Some (new_sem initial limit)
+sem_start (decls.Sem name initial limit raw) = Some (new_sem initial limit)
 sem_start decl = None
 
 -- the state that a declaration starts a message queue in, if it declares one
 abbrev pub msgq_start : Decl → Option Msgq
-msgq_start (decls.Msgq name size capacity) = Some (new_msgq capacity)
+msgq_start (decls.Msgq name size capacity raw) = Some (new_msgq capacity)
 msgq_start decl = None
 
 -- the state that a declaration starts a signal in, if it declares one
 abbrev pub signal_start : Decl → Option Signal
-signal_start (decls.Signal name) = Some new_signal
+signal_start (decls.Signal name raw) = Some new_signal
 signal_start decl = None
 
 -- the state that a declaration starts a channel in, if it declares one
