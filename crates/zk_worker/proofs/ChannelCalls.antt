@@ -221,7 +221,7 @@ module _ (s : Parts) (done : List Made) (made : Made) where
   }
 
   through-more : (a : Answered) → UsesOrIsRefused s done a → UsesOrIsRefused s (done ++ made ∷ []) a
-  through-more a was = (λ publish. visited (was.0 publish), λ read. has_read (was.1 read))
+  through-more a was = λ passed. let now = was passed in (λ publish. visited (now.0 publish), λ read. has_read (now.1 read))
     where
       visited : HasVisited s done a ⊎ WasRefused s done a → HasVisited s (done ++ made ∷ []) a ⊎ WasRefused s (done ++ made ∷ []) a
       visited (inl v) = inl (record { used = used-longer a v.used; told = v.told; tells = v.tells; visits = v.visits; answer = v.answer })
@@ -286,7 +286,7 @@ module _ (s : Parts) (chans : ChanHistories) (who : Who) (done : List Made) (num
   -- it is refused its channel
   was-refused : (op : ChanOp) (r : ChanReply) (place : ℕ) → asks_chan op ≡ true → refuses r ≡ true →
       UsesOrIsRefused s (done ++ (steps.Chan here.chan op, step_replies.Chan here.chan r place) ∷ []) (record { step = number; word = word_of here.call; answer = chan_answer r })
-  was-refused op r place asks refusing = (λ publish. inr refused, λ read. inr refused)
+  was-refused op r place asks refusing = λ passed. (λ publish. inr refused, λ read. inr refused)
     where
       refused : WasRefused s (done ++ (steps.Chan here.chan op, step_replies.Chan here.chan r place) ∷ []) (record { step = number; word = word_of here.call; answer = chan_answer r })
       refused = record {
@@ -447,7 +447,7 @@ module _ (s : Parts) (chans : ChanHistories) (who : Who) (done : List Made) (num
 
   -- it has visited all
   frees : (full : Bool) (r : ChanReply) (place : ℕ) → IsVisiting here.chan here.using_ done [] full → After (stages.Visits [] full) (steps.Chan here.chan ops.Free) (step_replies.Chan here.chan r place)
-  frees full r place v =
+  frees full r place v = λ passed.
       let word = visit-word s.decls here.call here.chan here.using_ here.timeout here.is_plan v.reads_not in (
         λ publish. inl (record {
           used = has-used r place (visits_answer full) v.use_ v.visited v.gained v.uses;
@@ -461,7 +461,7 @@ module _ (s : Parts) (chans : ChanHistories) (who : Who) (done : List Made) (num
 
   -- it has read
   frees-read : (message : List ℕ) (r : ChanReply) (place : ℕ) → Before (stages.Reads message) → After (stages.Reads message) (steps.Chan here.chan ops.Free) (step_replies.Chan here.chan r place)
-  frees-read message r place v =
+  frees-read message r place v = λ passed.
       let word = read-word s.decls here.call here.chan here.using_ here.timeout here.is_plan v.reads in (
         λ publish. absurd (cc),
         λ read. inl (record {

@@ -40,6 +40,13 @@ use Rattle.zk_worker.specs.Protocol.{call_attempts, call_progress, role_attempts
 use Rattle.zk_worker.specs.Publishes.{asks_for, use_step, visits_answer, visit_progress, channel_attempts, channel_progress}
 use Rattle.zk_worker.specs.StackLaws.{ChanHistories, IsReplied}
 use Rattle.zk_worker.specs.VisitLaws.{used_chan, is_free, is_publish, is_read, IsAnswered}
+use Rattle.zk_model_bus.specs.declared.table.OopsWhy.{OopsWhy}
+use Rattle.zk_worker.specs.declared.answers.Answer.TheVariants.{Oops}
+use Rattle.zk_worker.specs.declared.checks.Check.{Check}
+use Rattle.zk_worker.specs.declared.steps.Spot.{Spot}
+use Rattle.zk_worker.specs.Checks.{oops_in}
+use Rattle.zk_worker.specs.Protocol.{after_by, checked, spot_of}
+use Rattle.zk_worker.proofs.CheckedSteps.{check_at}
 use Rattle.zk_worker.proofs.OtherCalls.{is_channel, wait-calm, call-calm}
 use Rattle.zk_worker.proofs.OwnEntries.{told-by}
 
@@ -138,8 +145,17 @@ after-still answers number (Answers word answer) n was = record {
 after-still answers number (Goes stage) n was = was
 after-still answers number (Enters owner stage) n was = was
 
+answered-more : (s : Parts) (at : At) (step : Step) (reply : StepReply) (n : ℕ) → IsAnswered at.answers n → IsAnswered (after s at step reply).answers n
+answered-more s at step reply n was = by (check_at s at) where
+  by_why : (word : Word) (why : Option OopsWhy) (spot : Spot) → IsAnswered (checked at word why spot).answers n
+  by_why word None spot = was
+  by_why word (Some why) spot = after-still at.answers (length at.spots) (Answers word (Oops why)) n was
+
+  by : (check : Option Check) → IsAnswered (after_by s at step reply check).answers n
+  by (Some check) = by_why check.word (oops_in reply) (spot_of step reply)
+  by None = after-still at.answers (length at.spots) (frames_progress s at.frames step reply) n was
+
 pub answered-still : (s : Parts) (at end : At) (made : List Made) (n : ℕ) → IsPlayed s at made end → IsAnswered at.answers n → IsAnswered end.answers n
 answered-still s at end [] n plays was = subst (λ (x : At). IsAnswered x.answers n) plays was
 answered-still s at end (made ∷ more) n plays was =
-    answered-still s (after s at made.0 made.1) end more n plays.1
-    (after-still at.answers (length at.spots) (frames_progress s at.frames made.0 made.1) n was)
+    answered-still s (after s at made.0 made.1) end more n plays.1 (answered-more s at made.0 made.1 n was)

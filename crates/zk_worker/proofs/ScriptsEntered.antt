@@ -49,7 +49,7 @@ use Rattle.zk_worker.specs.StackLaws.{ChanHistories, IsReplied, chans_after, IsP
 use Rattle.zk_model_bus.specs.declared.table.OopsWhy.{OopsWhy}
 use Rattle.zk_worker.specs.Checks.{check_step, oops_in}
 use Rattle.zk_worker.specs.Protocol.{IsAhead, checked, spot_of}
-use Rattle.zk_worker.proofs.CheckedSteps.{IsCheck, turn, check-apart}
+use Rattle.zk_worker.proofs.CheckedSteps.{IsCheck, turn, check-apart, after-spots}
 use Rattle.zk_worker.proofs.HeldCalls.{channel-kept}
 use Rattle.zk_worker.proofs.OpenScripts.{plan_got, plan_waits, of_call, frame_got, frame_waits, got, is_worker, AreLayered, IsHeld, HoldsAll, IsKept, IsKeptBy, AreKept, kept-among, length-one, layered-length}
 use Rattle.zk_worker.proofs.OwnEntries.{or-behind}
@@ -418,7 +418,7 @@ start-kept s chans number at is =
         subst (λ (a : At). AreKept s chans a.who.number a.frames) (same_Some (starting s number object decl) at made) (first-kept s chans number (role_at decl object))
 
 -- a check uses no channel, and leaves what is open, or nothing
-kept-more : (s : Parts) (chans : ChanHistories) (who : Who) (at : At) (step : Step) (reply : StepReply) → IsAhead s at step → IsReplied s chans who step reply →
+pub kept-more : (s : Parts) (chans : ChanHistories) (who : Who) (at : At) (step : Step) (reply : StepReply) → IsAhead s at step → IsReplied s chans who step reply →
     AreKept s chans who.number at.frames → AreKept s (chans_after chans who (length at.spots) step reply) who.number (after s at step reply).frames
 kept-more s chans who at step reply ahead replied kept =
     turn (λ (a : At). AreKept s later who.number a.frames) s at step reply ahead (λ is. by_why is (oops_in reply)) (λ is.
@@ -445,7 +445,8 @@ always-room s chans at (made ∷ more) valid kept plays =
     let next = kept-more s found who at made.0 made.1 plays.4 plays.5 (subst (λ (k : ℕ). AreKept s found k at.frames) (sym own) now) in (
       room-now s found at.who.number at.frames made.0 made.1 valid now,
       always-room s (chans_after found who (length at.spots) made.0 made.1) (after s at made.0 made.1) more valid
-          (subst (λ (k : ℕ). AreKept s (chans_after found who (length at.spots) made.0 made.1) k (after s at made.0 made.1).frames) own next) plays.6,
+          (subst (λ (k : ℕ). AreKept s (chans_after found who (length at.spots) made.0 made.1) k (after s at made.0 made.1).frames)
+          (own ∙ ap (λ (w : Who). w.number) (sym (after-spots s at made.0 made.1).0)) next) plays.6,
     )
 
 -- however a player of a valid scenario plays, and whatever comes to the channels meanwhile: each script that it is to enter is entered

@@ -45,7 +45,13 @@ use Rattle.zk_worker.proofs.LogsPlayed.{cuts, start-of, log-played}
 use Rattle.zk_worker.proofs.OpenScripts.{plan_got, of_call, frame_got, got, AreKept, kept-among}
 use Rattle.zk_worker.proofs.OtherCalls.{is_channel, is_with_channel, GoesWith, plan-goes, call-calm}
 use Rattle.zk_worker.proofs.OwnEntries.{or-behind, not-again}
-use Rattle.zk_worker.proofs.ScriptsEntered.{frames-kept, start-kept, worker-never}
+use Rattle.zk_model_bus.specs.declared.table.OopsWhy.{OopsWhy}
+use Rattle.zk_worker.specs.declared.answers.Answer.TheVariants.{Oops}
+use Rattle.zk_worker.specs.declared.steps.Spot.{Spot}
+use Rattle.zk_worker.specs.Checks.{oops_in}
+use Rattle.zk_worker.specs.Protocol.{checked, moved, IsAhead}
+use Rattle.zk_worker.proofs.CheckedSteps.{IsCheck, IsOwn, turn, after-spots}
+use Rattle.zk_worker.proofs.ScriptsEntered.{kept-more, start-kept, worker-never}
 
 -- What is known of the open scripts.
 
@@ -81,7 +87,7 @@ module _ (s : Parts) (done : List Made) (number owner next : ℕ) (call : Call) 
 
   by_progress : (progress : Progress) → GoesWith (CallVisits s done owner next) UsesNoChannel progress → VisitsBy s done owner next number progress
   by_progress (Goes stage) goes = goes
-  by_progress (Answers word answer) none = let visits = none.0 in let reads = none.1 in (λ publish. absurd (cc), λ read. absurd (cc))
+  by_progress (Answers word answer) none = λ passed. let visits = none.0 in let reads = none.1 in (λ publish. absurd (cc), λ read. absurd (cc))
   by_progress (Enters object stage) goes = absurd goes
 
   pub other-visits : (stage : Stage) (step : Step) (reply : StepReply) →
@@ -280,6 +286,43 @@ module _ (s : Parts) (chans : ChanHistories) (who : Who) (done : List Made) (num
           worker-after s later number answers (all-through-more s done (step, reply) answers was.1) below more
           queue frame.next frame.stage (worker_progress s.decls frame.stage reply) (λ word answer is. worker-never s.decls frame.stage reply word answer is)
 
+-- a check uses no channel
+step-visits : (s : Parts) (chans : ChanHistories) (who : Who) (done : List Made) (at : At) → length at.spots ≡ length done → (step : Step) (reply : StepReply) → IsAhead s at step → IsReplied s chans who step reply →
+    AreKept s chans who.number at.frames → AllVisit s done at.frames at.answers →
+    AllVisit s (done ++ (step, reply) ∷ []) (after s at step reply).frames (after s at step reply).answers × IsOwned done (step, reply)
+step-visits s chans who done at long step reply ahead replied kept was = turn P s at step reply ahead (λ is. by_why is (oops_in reply)) by_own where
+  later : List Made
+  later = done ++ (step, reply) ∷ []
+
+  P : At → Type 0
+  P a = AllVisit s later a.frames a.answers × IsOwned done (step, reply)
+
+  never : {A : Type 0} (is : IsCheck s at step) (chan : ℕ) → used_chan step ≡ Some chan → A
+  never is chan used = absurd (let none : None ≡ Some chan = ap used_chan is.is_step ∙ used in cc)
+
+  told : All (UsesOrIsRefused s later) at.answers
+  told = all-through-more s done (step, reply) at.answers was.1
+
+  by_why : (is : IsCheck s at step) (why : Option OopsWhy) → P (checked at is.check.word why (spot_of step reply))
+  by_why is None = ((frames-more s done (step, reply) at.frames (λ chan among. none-used is chan) was.0, told), λ chan used. never is chan used)
+    where
+      none-used : (is : IsCheck s at step) (chan : ℕ) → is_use chan (step, reply) ≡ false
+      none-used is chan = ap (λ (x : Step). is_use chan (x, reply)) (sym is.is_step)
+  by_why is (Some why) =
+      let new : Answered = record { step = length at.spots; word = is.check.word; answer = Oops why } in
+      ((All-nil (FrameVisits s later), All-append (UsesOrIsRefused s later) at.answers (new ∷ []) told
+      (All-cons (UsesOrIsRefused s later) new [] (λ passed. absurd (cc)) (All-nil (UsesOrIsRefused s later)))), λ chan used. never is chan used)
+
+  by_own : IsOwn s at step → P (moved s at step (frames_progress s at.frames step reply) (spot_of step reply))
+  by_own is = frames-visit s chans who done (length at.spots) long step reply at.frames is.index at.answers is.ahead replied kept was
+
+-- and frees none
+step-answers : (s : Parts) (chans : ChanHistories) (who : Who) (at : At) (step : Step) (reply : StepReply) → IsAhead s at step → is_free (step, reply) ≡ true → IsReplied s chans who step reply →
+    IsAnswered (after s at step reply).answers (length at.spots)
+step-answers s chans who at step reply ahead frees replied = turn (λ (a : At). IsAnswered a.answers (length at.spots)) s at step reply ahead
+    (λ is. absurd (let freed : false ≡ true = ap (λ (x : Step). is_free (x, reply)) is.is_step ∙ frees in cc))
+    (λ is. free-answers s chans who step reply frees replied at.frames is.index at.answers (length at.spots) is.ahead)
+
 -- A player from its start.
 
 played-visits : (s : Parts) (chans : ChanHistories) (at end : At) (made done : List Made) → AreKept s chans at.who.number at.frames → IsPlayedAmong s chans at made → IsPlayed s at made end →
@@ -291,20 +334,19 @@ played-visits s chans at end (made ∷ more) done kept plays ends long was =
     let who = plays.1 in
     let own = plays.2 in
     let now = subst (λ (n : ℕ). AreKept s found n at.frames) (sym own) (kept-among s at.who.number chans found at.frames plays.3 kept) in
-    let ahead = plays.4 in
-    let there = (cond_nil-at (nat_lt (length at.spots) MOST_STEPS) (frames_attempts s at.frames) ahead.0 made.0 ahead.1).1 in
-    let next = frames-kept s found who (length at.spots) at.frames ahead.0 made.0 made.1 there plays.5 now in
-    let visit = frames-visit s found who done (length at.spots) long made.0 made.1 at.frames ahead.0 at.answers there plays.5 now was in
+    let next = kept-more s found who at made.0 made.1 plays.4 plays.5 now in
+    let visit = step-visits s found who done at long made.0 made.1 plays.4 plays.5 now was in
     let further = played-visits s (chans_after found who (length at.spots) made.0 made.1) (after s at made.0 made.1) end more (done ++ made ∷ [])
-        (subst (λ (n : ℕ). AreKept s (chans_after found who (length at.spots) made.0 made.1) n (after s at made.0 made.1).frames) own next) plays.6 ends.1
-        (let spots = length-append at.spots (spot_of made.0 made.1 ∷ []) in let all = length-append done (made ∷ []) in omega arith) visit.0 in
+        (subst (λ (n : ℕ). AreKept s (chans_after found who (length at.spots) made.0 made.1) n (after s at made.0 made.1).frames)
+        (own ∙ ap (λ (w : Who). w.number) (sym (after-spots s at made.0 made.1).0)) next) plays.6 ends.1
+        (ap (λ (l : List Spot). length l) (after-spots s at made.0 made.1).1 ∙ (let spots = length-append at.spots (spot_of made.0 made.1 ∷ []) in let all = length-append done (made ∷ []) in omega arith)) visit.0 in
     let count : length done + 1 ≡ length (done ++ made ∷ []) = (let all = length-append done (made ∷ []) in omega arith) in (
       subst (λ (l : List Made). All (UsesOrIsRefused s l) end.answers) (append_assoc done (made ∷ []) more) further.0,
       (visit.1, further.1),
       (
         λ frees. answered-still s (after s at made.0 made.1) end more (length done) ends.1
         (subst (λ (n : ℕ). IsAnswered (after s at made.0 made.1).answers n) long
-        (free-answers s found who made.0 made.1 frees plays.5 at.frames ahead.0 at.answers (length at.spots) there)),
+        (step-answers s found who at made.0 made.1 plays.4 frees plays.5)),
         subst (λ (n : ℕ). AreAnswered end.answers n more) (sym count) further.2,
       ),
     )

@@ -23,6 +23,7 @@ use Rattle.zk_worker.specs.declared.steps.Step.{Step}
 use Rattle.zk_worker.specs.declared.steps.Step.TheVariants as steps
 use Rattle.zk_worker.specs.declared.steps.StepReply.TheVariants as step_replies
 use Rattle.zk_worker.specs.Calls.{plan_of}
+use Rattle.zk_worker.specs.Checks.{is_oops}
 use Rattle.zk_worker.specs.Follows.{IsFollowing}
 use Rattle.zk_worker.specs.Places.{At}
 use Rattle.zk_worker.specs.PollLaws.{Made}
@@ -178,9 +179,9 @@ VisitsOrIsRefused s made a = is_publish a.word ≡ true → HasVisited s made a 
 abbrev pub ReadsOrIsRefused : Parts → List Made → Answered → Type 0
 ReadsOrIsRefused s made a = is_read a.word ≡ true → HasRead s made a ⊎ WasRefused s made a
 
--- both
+-- both, where its checks were passed
 abbrev pub UsesOrIsRefused : Parts → List Made → Answered → Type 0
-UsesOrIsRefused s made a = VisitsOrIsRefused s made a × ReadsOrIsRefused s made a
+UsesOrIsRefused s made a = is_oops a.answer ≡ false → VisitsOrIsRefused s made a × ReadsOrIsRefused s made a
 
 -- at the step of this number one of these calls was answered
 pub record IsAnswered (answers : List Answered) (number : ℕ) : Type 0 where
