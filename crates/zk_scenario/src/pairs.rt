@@ -1,4 +1,4 @@
-ghost use Rattle.std.specs.Prelude.{◌≡◌, ℕ, ◌^◌, ◌<◌, true, false, ◌==◌, ◌&&◌, if◌then◌else◌, OnOk, OnErr};
+ghost use Rattle.std.specs.Prelude.{◌≡◌, ℕ, ◌+◌, ◌*◌, ◌^◌, ◌<◌, true, false, ◌==◌, ◌&&◌, if◌then◌else◌, OnOk, OnErr};
 ghost use Rattle.zk_scenario.specs.Written.{has_pair};
 
 use std::alloc::Global;

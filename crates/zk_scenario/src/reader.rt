@@ -341,7 +341,7 @@ impl Reader {
 
     /// One permission more.
     fn allow(&mut self, thread: u32, object: u32) -> Result<(), NoMemory>
-        requires valid { IsValid (parts_of (permitted self.old thread object)) }
+        requires { IsValid (parts_of (permitted self.old thread object)) }
         ensures ok { OnOk result (self.new ≡ permitted self.old thread object) }
         ensures unchanged { OnErr result (self.new ≡ self.old) }
     {

@@ -15,6 +15,7 @@ pub mod PollServed
 pub mod StageFits
 pub mod Fits
 pub mod TableRanges
+pub mod TableSetups
 pub mod Ranges
 pub mod Families
 pub mod Between
