@@ -48,6 +48,7 @@ use Rattle.zk_worker.specs.declared.steps.Step.{Step}
 use Rattle.zk_worker.specs.declared.steps.Step.TheVariants as steps
 use Rattle.zk_worker.specs.declared.steps.StepReply.TheVariants as step_replies
 use Rattle.zk_worker.specs.Families.{entry_at}
+use Rattle.zk_worker.specs.Checks.{is_oops}
 use Rattle.zk_worker.specs.Follows.{Stands}
 use Rattle.zk_worker.specs.declared.frames.Progress.TheVariants.{Goes, Answers}
 use Rattle.zk_worker.specs.Polls.{poll_attempts, ask_step, watch_step, drop_step}
