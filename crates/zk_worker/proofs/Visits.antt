@@ -1,5 +1,5 @@
 -- A publish or notify that came to its end has visited the observers that it was told, and a read has read; no step uses a channel that its player doesn't own, and each freeing ends such a call.
-use Rattle.std.proofs.Common.{◌≡◌, ℕ, ◌+◌, Bool, true, false, eqb, ◌||◌, cond, nat_lt, Option, Some, None, option_to_list, List, [], ◌∷◌, ◌++◌, length, length-append, append_assoc, append-nil, All, refl, sym, ap, subst, ◌∙◌, arith}
+use Rattle.std.proofs.Common.{◌≡◌, ℕ, ◌+◌, Bool, true, false, eqb, ◌||◌, nat_lt, Option, Some, None, option_to_list, List, [], ◌∷◌, ◌++◌, length, length-append, append_assoc, append-nil, All, refl, sym, ap, subst, ◌∙◌, arith}
 use Rattle.std.specs.List.{slice_get, list_any, IsDistinct}
 use Rattle.std.specs.Option.{option_map, option_map_or, option_and_then}
 use Rattle.std.proofs.lemmas.Bool.Decides.{nat_tests}
@@ -37,7 +37,7 @@ use Rattle.zk_worker.specs.Places.{At}
 use Rattle.zk_worker.specs.PollLaws.{Made}
 use Rattle.zk_worker.specs.Protocol.{call_attempts, call_progress, role_attempts, role_progress, frames_attempts, frames_progress, frames_after, answers_after, worker_attempts, worker_progress, settled, entered, first_frame, role_at, spot_of, starting, start_at, after}
 use Rattle.zk_worker.specs.StackLaws.{ChanHistories, IsReplied, chans_after, IsPlayedAmong}
-use Rattle.zk_worker.specs.VisitLaws.{used_chan, is_use, is_free, OwnsChan, IsOwned, AreOwned, CallsChannel, is_publish, is_read, UsesOrIsRefused, IsAnswered, AreAnswered, EachPublishVisits}
+use Rattle.zk_worker.specs.VisitLaws.{used_chan, is_use, OwnsChan, IsOwned, AreOwned, CallsChannel, is_publish, is_read, UsesOrIsRefused, IsAnswered, AreAnswered, EachPublishVisits}
 use Rattle.zk_worker.proofs.ChannelCalls.{CallVisits, VisitsBy, has-still, has-owns, used-got, all-through-more, channel-visits}
 use Rattle.zk_worker.proofs.ChannelsFreed.{free-answers, answered-still}
 use Rattle.zk_worker.proofs.Limits.{settled-all, entered-all}
@@ -181,7 +181,7 @@ got-calls s owner next by stage with_ =
 role-more : (s : Parts) (done : List Made) (made : Made) (role : Role) (next : ℕ) (stage : Stage) →
     ((chan : ℕ) → of_call plan_got s role next stage ≡ Some chan → is_use chan made ≡ false) → RoleVisits s done role next stage → RoleVisits s (done ++ made ∷ []) role next stage
 role-more s done made (Script owner) next stage none v = λ by.
-    has-still by.chan done made by.using_ stage (λ with_. none by.chan (got-calls s owner next by stage with_)) (v by)
+    has-still by.chan by.using_ done made stage (λ with_. none by.chan (got-calls s owner next by stage with_)) (v by)
 role-more s done made (Worker queue) next stage none v = tt
 
 among-behind : (chan : ℕ) (o : Option ℕ) (below : List ℕ) → list_any (eqb chan) below ≡ true → list_any (eqb chan) (option_to_list o ++ below) ≡ true
@@ -296,15 +296,15 @@ played-visits s chans at end (made ∷ more) done kept plays ends long was =
     let next = frames-kept s found who (length at.spots) at.frames ahead.0 made.0 made.1 there plays.5 now in
     let visit = frames-visit s found who done (length at.spots) long made.0 made.1 at.frames ahead.0 at.answers there plays.5 now was in
     let further = played-visits s (chans_after found who (length at.spots) made.0 made.1) (after s at made.0 made.1) end more (done ++ made ∷ [])
-        (subst (λ (n : ℕ). AreKept s (chans_after found who (length at.spots) made.0 made.1) n (after s at made.0 made.1).frames) own next) plays.6 ends.1
-        (let spots = length-append at.spots (spot_of made.0 made.1 ∷ []) in let all = length-append done (made ∷ []) in omega arith) visit.0 in
+    (subst (λ (n : ℕ). AreKept s (chans_after found who (length at.spots) made.0 made.1) n (after s at made.0 made.1).frames) own next) plays.6 ends.1
+    (let spots = length-append at.spots (spot_of made.0 made.1 ∷ []) in let all = length-append done (made ∷ []) in omega arith) visit.0 in
     let count : length done + 1 ≡ length (done ++ made ∷ []) = (let all = length-append done (made ∷ []) in omega arith) in (
       subst (λ (l : List Made). All (UsesOrIsRefused s l) end.answers) (append_assoc done (made ∷ []) more) further.0,
       (visit.1, further.1),
       (
         λ frees. answered-still s (after s at made.0 made.1) end more (length done) ends.1
-        (subst (λ (n : ℕ). IsAnswered (after s at made.0 made.1).answers n) long
-        (free-answers s found who made.0 made.1 frees plays.5 at.frames ahead.0 at.answers (length at.spots) there)),
+            (subst (λ (n : ℕ). IsAnswered (after s at made.0 made.1).answers n) long
+            (free-answers s found who made.0 made.1 frees plays.5 at.frames ahead.0 at.answers (length at.spots) there)),
         subst (λ (n : ℕ). AreAnswered end.answers n more) (sym count) further.2,
       ),
     )
