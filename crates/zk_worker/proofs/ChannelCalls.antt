@@ -1,10 +1,10 @@
 -- A call that uses a channel: what it has done with it at each stage, and what it has done when it is answered.
-use Rattle.std.proofs.Common.{◌≡◌, ◌⊎◌, inl, inr, ℕ, Bool, true, false, eqb, ◌&&◌, ◌||◌, cond, Option, Some, None, List, [], ◌∷◌, ◌++◌, map, length, append_assoc, append-nil, All, refl, sym, ap, subst, ◌∙◌, arith}
-use Rattle.std.specs.List.{slice_get, list_any, filter}
+use Rattle.std.proofs.Common.{◌≡◌, ◌⊎◌, inl, inr, ℕ, Bool, true, false, eqb, ◌||◌, cond, Option, Some, List, [], ◌∷◌, ◌++◌, map, length, append_assoc, append-nil, All, refl, sym, ap, subst, ◌∙◌, arith}
+use Rattle.std.specs.List.{slice_get, list_any, Contains}
 use Rattle.std.specs.Option.{option_map_or}
 use Rattle.std.proofs.lemmas.Bool.Decides.{nat_tests}
 use Rattle.std.proofs.lemmas.List.{map-append}
-use Rattle.std.proofs.lemmas.List.Elements.{All-weaker, filter-append}
+use Rattle.std.proofs.lemmas.List.Elements.{All-weaker, filter-append, Contains-append_left, Contains-append_right}
 use Rattle.std.proofs.lemmas.List.Folds.{list_any-append}
 use Rattle.std.proofs.lemmas.Option.{same_Some}
 use Rattle.zk_base.specs.declared.ids.Who.{Who}
@@ -44,14 +44,15 @@ use Rattle.zk_worker.specs.PollLaws.{Made}
 use Rattle.zk_worker.specs.Publishes.{asks_for, use_step, visit_step, visits_answer, channel_attempts, channel_progress}
 use Rattle.zk_worker.specs.Replies.{chan_answer}
 use Rattle.zk_worker.specs.StackLaws.{ChanHistories, IsReplied, clock_may_tell}
-use Rattle.zk_worker.specs.VisitLaws.{used_chan, is_use, is_free, is_full, visit_of, HasGained, OwnsChan, CallsChannel, asks_chan, refuses, HasUsed, HasVisited, HasRead, WasRefused, is_publish, is_read, UsesOrIsRefused}
+use Rattle.zk_worker.specs.Waits.{open_step}
+use Rattle.zk_worker.specs.VisitLaws.{used_chan, is_use, is_free, is_full, visit_of, HasWaited, Asks, HasGained, OwnsChan, CallsChannel, refuses, HasUsed, HasVisited, HasRead, WasRefused, is_publish, is_read, UsesOrIsRefused}
 use Rattle.zk_worker.proofs.ChannelAnswers.{ended-gives, quit-gives, enter-replies, offer-replies, is_call_reply, is_quit_reply, set-tells, list-tells, get-tells}
-use Rattle.zk_worker.proofs.ChannelSteps.{asking_op, use_op, EachStep, each-step}
+use Rattle.zk_worker.proofs.ChannelSteps.{asking_op, use_op, asks-so, ends-so, quits-so, EachStep, each-step}
 use Rattle.zk_worker.proofs.OpenScripts.{plan_got}
 use Rattle.zk_worker.proofs.OtherCalls.{is_with_channel, wait-calm}
 use Rattle.zk_worker.proofs.OwnEntries.{HasReplied, answers-so}
 
--- What is known of a call that has its channel.
+-- What is known of a call that waits for its channel, or has it.
 
 abbrev pub is_reading : Using → Bool
 is_reading Read = true
@@ -61,7 +62,7 @@ is_reading using_ = false
 pub record IsVisiting (chan : ℕ) (using_ : Using) (done : List Made) (left : List ℕ) (full : Bool) : Type 0 where
   pub use_ : Made
   pub visited : List Made
-  pub gained : HasGained chan done (use_ ∷ visited)
+  pub gained : HasGained chan using_ done (use_ ∷ visited)
   pub uses : use_.0 ≡ use_step chan using_
   pub told : List ℕ
   pub tells : (place : ℕ) × (use_.1 ≡ step_replies.Chan chan (replies.Observers told) place)
@@ -73,15 +74,18 @@ pub record IsVisiting (chan : ℕ) (using_ : Using) (done : List Made) (left : L
 -- it has got this message
 pub record IsReading (chan : ℕ) (using_ : Using) (done : List Made) (message : List ℕ) : Type 0 where
   pub use_ : Made
-  pub gained : HasGained chan done (use_ ∷ [])
+  pub gained : HasGained chan using_ done (use_ ∷ [])
   pub uses : use_.0 ≡ use_step chan using_
   pub tells : (place : ℕ) × (use_.1 ≡ step_replies.Chan chan (replies.Bytes message) place)
   pub reads : is_reading using_ ≡ true
   pub unfreed : list_any is_free (use_ ∷ []) ≡ false
 
--- what it has done with it at a stage
+-- what it has done for it and with it at a stage
 abbrev pub CallHas : ℕ → Using → List Made → Stage → Type 0
-CallHas chan using_ done stages.Holds = HasGained chan done []
+CallHas chan using_ done (stages.Waits place) = HasWaited chan using_ done place
+CallHas chan using_ done (stages.WaitsUntil place moment) = HasWaited chan using_ done place
+CallHas chan using_ done (stages.Quits place) = HasWaited chan using_ done place
+CallHas chan using_ done stages.Holds = HasGained chan using_ done []
 CallHas chan using_ done (stages.Visits left full) = IsVisiting chan using_ done left full
 CallHas chan using_ done (stages.Reads message) = IsReading chan using_ done message
 CallHas chan using_ done stage = Unit {0}
@@ -103,37 +107,49 @@ eqb-itself a = grind (arith, nat_tests)
 pub is-use : (chan : ℕ) (made : Made) → used_chan made.0 ≡ Some chan → is_use chan made ≡ true
 is-use chan made is = ap (λ (o : Option ℕ). option_map_or (λ used. eqb used chan) o false) is ∙ eqb-itself chan
 
-module _ (chan : ℕ) (done : List Made) (made : Made) where
-  gained-more : (uses more : List Made) → cond (is_use chan made) (made ∷ []) [] ≡ more → HasGained chan done uses → HasGained chan (done ++ made ∷ []) (uses ++ more)
+module _ (chan : ℕ) (using_ : Using) (done : List Made) (made : Made) where
+  gained-more : (uses more : List Made) → cond (is_use chan made) (made ∷ []) [] ≡ more → HasGained chan using_ done uses → HasGained chan using_ (done ++ made ∷ []) (uses ++ more)
   gained-more uses more is was = record {
     before = was.before;
     gained = was.gained;
     since = was.since ++ made ∷ [];
     whole = ap (λ (l : List Made). l ++ made ∷ []) was.whole ∙ append_assoc was.before (was.gained ∷ was.since) (made ∷ []);
+    asks = was.asks;
     got = was.got;
     used = filter-append (is_use chan) was.since (made ∷ []) ∙ ap (λ (l : List Made). l ++ cond (is_use chan made) (made ∷ []) []) was.used
         ∙ ap (λ (l : List Made). uses ++ l) is;
   }
 
   -- a step that uses the channel
-  gained-used : (uses : List Made) → used_chan made.0 ≡ Some chan → HasGained chan done uses → HasGained chan (done ++ made ∷ []) (uses ++ made ∷ [])
+  gained-used : (uses : List Made) → used_chan made.0 ≡ Some chan → HasGained chan using_ done uses → HasGained chan using_ (done ++ made ∷ []) (uses ++ made ∷ [])
   gained-used uses is was = gained-more uses (made ∷ []) (ap (λ (b : Bool). cond b (made ∷ []) []) (is-use chan made is)) was
 
   -- one that doesn't
-  gained-still : (uses : List Made) → is_use chan made ≡ false → HasGained chan done uses → HasGained chan (done ++ made ∷ []) uses
+  gained-still : (uses : List Made) → is_use chan made ≡ false → HasGained chan using_ done uses → HasGained chan using_ (done ++ made ∷ []) uses
   gained-still uses isnt was =
-      subst (λ (l : List Made). HasGained chan (done ++ made ∷ []) l) (append-nil uses)
+      subst (λ (l : List Made). HasGained chan using_ (done ++ made ∷ []) l) (append-nil uses)
       (gained-more uses [] (ap (λ (b : Bool). cond b (made ∷ []) []) isnt) was)
 
   -- one by which the channel is given
-  gained-now : (place : ℕ) → made.1 ≡ step_replies.Chan chan replies.Got place → HasGained chan (done ++ made ∷ []) []
-  gained-now place got = record { before = done; gained = made; since = []; whole = refl; got = (place, got); used = refl }
+  gained-now : (place : ℕ) → Asks chan using_ done made.0 → made.1 ≡ step_replies.Chan chan replies.Got place → HasGained chan using_ (done ++ made ∷ []) []
+  gained-now place asks got = record { before = done; gained = made; since = []; whole = refl; asks = asks; got = (place, got); used = refl }
+
+  -- one by which a wait begins, and one since
+  waits-now : (waits : Bool) (place : ℕ) → made ≡ (open_step (asks_for chan using_) waits, step_replies.Chan chan replies.Wait place) → HasWaited chan using_ (done ++ made ∷ []) place
+  waits-now waits place is = (waits, subst (λ (m : Made). Contains (done ++ made ∷ []) m) is (Contains-append_right done (made ∷ []) made (0, omega arith, refl)))
+
+  waits-still : (place : ℕ) → HasWaited chan using_ done place → HasWaited chan using_ (done ++ made ∷ []) place
+  waits-still place was =
+      (was.0, Contains-append_left done (made ∷ []) (open_step (asks_for chan using_) was.0, step_replies.Chan chan replies.Wait place) was.1)
 
   -- what a call has done with its channel behind a step that doesn't use it
-  pub has-still : (using_ : Using) (stage : Stage) → (is_with_channel stage ≡ true → is_use chan made ≡ false) → CallHas chan using_ done stage →
+  pub has-still : (stage : Stage) → (is_with_channel stage ≡ true → is_use chan made ≡ false) → CallHas chan using_ done stage →
       CallHas chan using_ (done ++ made ∷ []) stage
-  has-still using_ stages.Holds isnt was = gained-still [] (isnt refl) was
-  has-still using_ (stages.Visits left full) isnt was = record {
+  has-still (stages.Waits place) isnt was = waits-still place was
+  has-still (stages.WaitsUntil place moment) isnt was = waits-still place was
+  has-still (stages.Quits place) isnt was = waits-still place was
+  has-still stages.Holds isnt was = gained-still [] (isnt refl) was
+  has-still (stages.Visits left full) isnt was = record {
     use_ = was.use_;
     visited = was.visited;
     gained = gained-still (was.use_ ∷ was.visited) (isnt refl) was.gained;
@@ -145,7 +161,7 @@ module _ (chan : ℕ) (done : List Made) (made : Made) where
     unfreed = was.unfreed;
     full_is = was.full_is;
   }
-  has-still using_ (stages.Reads message) isnt was = record {
+  has-still (stages.Reads message) isnt was = record {
     use_ = was.use_;
     gained = gained-still (was.use_ ∷ []) (isnt refl) was.gained;
     uses = was.uses;
@@ -153,13 +169,13 @@ module _ (chan : ℕ) (done : List Made) (made : Made) where
     reads = was.reads;
     unfreed = was.unfreed;
   }
-  has-still using_ stage isnt was = tt
+  has-still stage isnt was = tt
 
 -- a call owns the channel that it has
 pub has-owns : (chan : ℕ) (using_ : Using) (done : List Made) (stage : Stage) → is_with_channel stage ≡ true → CallHas chan using_ done stage → OwnsChan chan done
-has-owns chan using_ done stages.Holds is was = ([], was, refl)
-has-owns chan using_ done (stages.Visits left full) is was = (was.use_ ∷ was.visited, was.gained, was.unfreed)
-has-owns chan using_ done (stages.Reads message) is was = (was.use_ ∷ [], was.gained, was.unfreed)
+has-owns chan using_ done stages.Holds is was = (using_, [], was, refl)
+has-owns chan using_ done (stages.Visits left full) is was = (using_, was.use_ ∷ was.visited, was.gained, was.unfreed)
+has-owns chan using_ done (stages.Reads message) is was = (using_, was.use_ ∷ [], was.gained, was.unfreed)
 has-owns chan using_ done stage is was = absurd (cc)
 
 use-used : (chan : ℕ) (using_ : Using) → used_chan (use_step chan using_) ≡ Some chan
@@ -216,6 +232,7 @@ module _ (s : Parts) (done : List Made) (made : Made) where
     rest = r.rest ++ made ∷ [];
     whole = longer r.front r.step r.rest r.whole;
     last = r.last;
+    asks = r.asks;
     refused = r.refused;
     answer = r.answer;
   }
@@ -252,14 +269,6 @@ visit-word decls (calls.Read channel wait) chan u timeout is reads_not =
     let reads : is_reading u ≡ true = ap is_reading (sym (using-of _ chan _ u wait timeout is)) in absurd (cc)
 visit-word decls call chan u timeout is reads_not = refl
 
-and-all : (a b c : Bool) → a ≡ true → b ≡ true → c ≡ true → (a && b && c) ≡ true
-and-all a b c a-is b-is c-is = cc
-
-asking-asks : (u : Using) (waits : Bool) → asks_chan (asking_op u waits) ≡ true
-asking-asks (Publish message) waits = refl
-asking-asks Notify waits = refl
-asking-asks Read waits = refl
-
 -- one more at the end of a list that is tested
 any-more : (test : Made → Bool) (list : List Made) (made : Made) (was is now : Bool) → list_any test list ≡ was → test made ≡ is → (was || is) ≡ now → list_any test (list ++ made ∷ []) ≡ now
 any-more test list made was is now was-so is-so sum =
@@ -284,7 +293,7 @@ module _ (s : Parts) (chans : ChanHistories) (who : Who) (done : List Made) (num
   After stage step reply = Has (done ++ (step, reply) ∷ []) (channel_progress (word_of here.call) stage reply)
 
   -- it is refused its channel
-  was-refused : (op : ChanOp) (r : ChanReply) (place : ℕ) → asks_chan op ≡ true → refuses r ≡ true →
+  was-refused : (op : ChanOp) (r : ChanReply) (place : ℕ) → Asks here.chan here.using_ done (steps.Chan here.chan op) → refuses r ≡ true →
       UsesOrIsRefused s (done ++ (steps.Chan here.chan op, step_replies.Chan here.chan r place) ∷ []) (record { step = number; word = word_of here.call; answer = chan_answer r })
   was-refused op r place asks refusing = λ passed. (λ publish. inr refused, λ read. inr refused)
     where
@@ -299,13 +308,31 @@ module _ (s : Parts) (chans : ChanHistories) (who : Who) (done : List Made) (num
         rest = [];
         whole = refl;
         last = long;
-        refused = and-all (eqb here.chan here.chan) (asks_chan op) (refuses r) (eqb-itself here.chan) asks refusing;
+        asks = asks;
+        refused = (r, place, refl, refusing);
         answer = refl;
       }
 
   -- it is given it
-  is-given : (op : ChanOp) (place : ℕ) → HasGained here.chan (done ++ (steps.Chan here.chan op, step_replies.Chan here.chan replies.Got place) ∷ []) []
-  is-given op place = gained-now here.chan done (steps.Chan here.chan op, step_replies.Chan here.chan replies.Got place) place refl
+  is-given : (op : ChanOp) (place : ℕ) → Asks here.chan here.using_ done (steps.Chan here.chan op) →
+      HasGained here.chan here.using_ (done ++ (steps.Chan here.chan op, step_replies.Chan here.chan replies.Got place) ∷ []) []
+  is-given op place asks = gained-now here.chan here.using_ done (steps.Chan here.chan op, step_replies.Chan here.chan replies.Got place) place asks refl
+
+  -- it has to wait
+  has-waited : (waits : Bool) (place : ℕ) → HasWaited here.chan here.using_ (done ++ (steps.Chan here.chan (asking_op here.using_ waits), step_replies.Chan here.chan replies.Wait place) ∷ []) place
+  has-waited waits place =
+      let m : Made = (steps.Chan here.chan (asking_op here.using_ waits), step_replies.Chan here.chan replies.Wait place) in
+      waits-now here.chan here.using_ done m waits place (ap (λ (x : Step). (x, step_replies.Chan here.chan replies.Wait place)) (asks-so here.chan here.using_ waits))
+
+  -- the steps by which it asks
+  opens : (waits : Bool) → Asks here.chan here.using_ done (steps.Chan here.chan (asking_op here.using_ waits))
+  opens waits = inl (waits, asks-so here.chan here.using_ waits)
+
+  ends : (p : ℕ) → HasWaited here.chan here.using_ done p → Asks here.chan here.using_ done (steps.Chan here.chan (ops.ClaimEnd p))
+  ends p was = inr (p, was, inl (ends-so here.chan here.using_ p))
+
+  quits : (p : ℕ) → HasWaited here.chan here.using_ done p → Asks here.chan here.using_ done (steps.Chan here.chan (ops.ClaimQuit p))
+  quits p was = inr (p, was, inr (quits-so here.chan here.using_ p))
 
   -- a call for the channel: it is given it, waits, or is refused
   asked : (u : Using) (waits : Bool) (r : ChanReply) (place : ℕ) → HasReplied s chans who here.chan (asking_op u waits) (step_replies.Chan here.chan r place) → is_call_reply r ≡ true
@@ -313,20 +340,20 @@ module _ (s : Parts) (chans : ChanHistories) (who : Who) (done : List Made) (num
   asked Notify waits r place told = enter-replies told.state who waits r (answers-so s chans who here.chan (ops.Enter waits) r place told)
   asked Read waits r place told = enter-replies told.state who waits r (answers-so s chans who here.chan (ops.Enter waits) r place told)
 
-  asks-at_start : (op : ChanOp) (r : ChanReply) (place : ℕ) → asks_chan op ≡ true → is_call_reply r ≡ true → After stages.Start (steps.Chan here.chan op) (step_replies.Chan here.chan r place)
-  asks-at_start op replies.Got place asks may = is-given op place
-  asks-at_start op replies.Wait place asks may = tt
-  asks-at_start op replies.Busy place asks may = was-refused op replies.Busy place asks refl
-  asks-at_start op replies.NoMsg place asks may = was-refused op replies.NoMsg place asks refl
-  asks-at_start op r place asks may = absurd (cc)
+  asks-at_start : (waits : Bool) (r : ChanReply) (place : ℕ) → is_call_reply r ≡ true → After stages.Start (steps.Chan here.chan (asking_op here.using_ waits)) (step_replies.Chan here.chan r place)
+  asks-at_start waits replies.Got place may = is-given (asking_op here.using_ waits) place (opens waits)
+  asks-at_start waits replies.Wait place may = has-waited waits place
+  asks-at_start waits replies.Busy place may = was-refused (asking_op here.using_ waits) replies.Busy place (opens waits) refl
+  asks-at_start waits replies.NoMsg place may = was-refused (asking_op here.using_ waits) replies.NoMsg place (opens waits) refl
+  asks-at_start waits r place may = absurd (cc)
 
-  asks-alarmed : (moment : ℕ) (op : ChanOp) (r : ChanReply) (place : ℕ) → asks_chan op ≡ true → is_call_reply r ≡ true →
-      After (stages.Alarmed moment) (steps.Chan here.chan op) (step_replies.Chan here.chan r place)
-  asks-alarmed moment op replies.Got place asks may = is-given op place
-  asks-alarmed moment op replies.Wait place asks may = tt
-  asks-alarmed moment op replies.Busy place asks may = was-refused op replies.Busy place asks refl
-  asks-alarmed moment op replies.NoMsg place asks may = was-refused op replies.NoMsg place asks refl
-  asks-alarmed moment op r place asks may = absurd (cc)
+  asks-alarmed : (moment : ℕ) (r : ChanReply) (place : ℕ) → is_call_reply r ≡ true →
+      After (stages.Alarmed moment) (steps.Chan here.chan (asking_op here.using_ true)) (step_replies.Chan here.chan r place)
+  asks-alarmed moment replies.Got place may = is-given (asking_op here.using_ true) place (opens true)
+  asks-alarmed moment replies.Wait place may = has-waited true place
+  asks-alarmed moment replies.Busy place may = was-refused (asking_op here.using_ true) replies.Busy place (opens true) refl
+  asks-alarmed moment replies.NoMsg place may = was-refused (asking_op here.using_ true) replies.NoMsg place (opens true) refl
+  asks-alarmed moment r place may = absurd (cc)
 
   sets-alarm : (ticks : ℕ) (r : ClockReply) (place : ℕ) → clock_may_tell (clock_ops.Alarm ticks) r ≡ true →
       After stages.Start (steps.Clock (clock_ops.Alarm ticks)) (step_replies.Clock r place)
@@ -334,33 +361,35 @@ module _ (s : Parts) (chans : ChanHistories) (who : Who) (done : List Made) (num
   sets-alarm ticks r place may = absurd (cc)
 
   -- its wait ends, or is given up
-  ends-wait : (p : ℕ) (r : ChanReply) (place : ℕ) → HasReplied s chans who here.chan (ops.ClaimEnd p) (step_replies.Chan here.chan r place) →
+  ends-wait : (p : ℕ) (r : ChanReply) (place : ℕ) → HasWaited here.chan here.using_ done p → HasReplied s chans who here.chan (ops.ClaimEnd p) (step_replies.Chan here.chan r place) →
       After (stages.Waits p) (steps.Chan here.chan (ops.ClaimEnd p)) (step_replies.Chan here.chan r place)
-  ends-wait p r place told =
+  ends-wait p r place was told =
       let got = ended-gives told.state who p r told.gives (answers-so s chans who here.chan (ops.ClaimEnd p) r place told) in
-      subst (λ (x : ChanReply). After (stages.Waits p) (steps.Chan here.chan (ops.ClaimEnd p)) (step_replies.Chan here.chan x place)) (sym got) (is-given (ops.ClaimEnd p) place)
+      subst (λ (x : ChanReply). After (stages.Waits p) (steps.Chan here.chan (ops.ClaimEnd p)) (step_replies.Chan here.chan x place)) (sym got)
+      (is-given (ops.ClaimEnd p) place (ends p was))
 
-  ends-until : (p moment : ℕ) (r : ChanReply) (place : ℕ) → HasReplied s chans who here.chan (ops.ClaimEnd p) (step_replies.Chan here.chan r place) →
+  ends-until : (p moment : ℕ) (r : ChanReply) (place : ℕ) → HasWaited here.chan here.using_ done p → HasReplied s chans who here.chan (ops.ClaimEnd p) (step_replies.Chan here.chan r place) →
       After (stages.WaitsUntil p moment) (steps.Chan here.chan (ops.ClaimEnd p)) (step_replies.Chan here.chan r place)
-  ends-until p moment r place told =
+  ends-until p moment r place was told =
       let got = ended-gives told.state who p r told.gives (answers-so s chans who here.chan (ops.ClaimEnd p) r place told) in
       subst (λ (x : ChanReply). After (stages.WaitsUntil p moment) (steps.Chan here.chan (ops.ClaimEnd p)) (step_replies.Chan here.chan x place)) (sym got)
-      (is-given (ops.ClaimEnd p) place)
+      (is-given (ops.ClaimEnd p) place (ends p was))
 
-  quits-wait : (p : ℕ) (r : ChanReply) (place : ℕ) → is_quit_reply r ≡ true → After (stages.Quits p) (steps.Chan here.chan (ops.ClaimQuit p)) (step_replies.Chan here.chan r place)
-  quits-wait p replies.Got place may = is-given (ops.ClaimQuit p) place
-  quits-wait p replies.Again place may = was-refused (ops.ClaimQuit p) replies.Again place refl refl
-  quits-wait p r place may = absurd (cc)
+  quits-wait : (p : ℕ) (r : ChanReply) (place : ℕ) → HasWaited here.chan here.using_ done p → is_quit_reply r ≡ true →
+      After (stages.Quits p) (steps.Chan here.chan (ops.ClaimQuit p)) (step_replies.Chan here.chan r place)
+  quits-wait p replies.Got place was may = is-given (ops.ClaimQuit p) place (quits p was)
+  quits-wait p replies.Again place was may = was-refused (ops.ClaimQuit p) replies.Again place (quits p was) refl
+  quits-wait p r place was may = absurd (cc)
 
   -- it uses its channel, and is told observers
   is-told : (op : ChanOp) (told : List ℕ) (place : ℕ) → steps.Chan here.chan op ≡ use_step here.chan here.using_ → is_reading here.using_ ≡ false → is_free (steps.Chan here.chan op, step_replies.Chan here.chan (replies.Observers told) place) ≡ false →
-      HasGained here.chan done [] → IsVisiting here.chan here.using_ (done ++ (steps.Chan here.chan op, step_replies.Chan here.chan (replies.Observers told) place) ∷ []) told false
+      HasGained here.chan here.using_ done [] → IsVisiting here.chan here.using_ (done ++ (steps.Chan here.chan op, step_replies.Chan here.chan (replies.Observers told) place) ∷ []) told false
   is-told op told place is reads_not unfreed was =
       let m : Made = (steps.Chan here.chan op, step_replies.Chan here.chan (replies.Observers told) place) in
       record {
         use_ = m;
         visited = [];
-        gained = gained-used here.chan done m [] (ap used_chan is ∙ use-used here.chan here.using_) was;
+        gained = gained-used here.chan here.using_ done m [] (ap used_chan is ∙ use-used here.chan here.using_) was;
         uses = is;
         told = told;
         tells = (place, refl);
@@ -370,13 +399,13 @@ module _ (s : Parts) (chans : ChanHistories) (who : Who) (done : List Made) (num
         full_is = refl;
       }
 
-  is-read : (message : List ℕ) (place : ℕ) → steps.Chan here.chan ops.Get ≡ use_step here.chan here.using_ → is_reading here.using_ ≡ true → HasGained here.chan done [] →
+  is-read : (message : List ℕ) (place : ℕ) → steps.Chan here.chan ops.Get ≡ use_step here.chan here.using_ → is_reading here.using_ ≡ true → HasGained here.chan here.using_ done [] →
       IsReading here.chan here.using_ (done ++ (steps.Chan here.chan ops.Get, step_replies.Chan here.chan (replies.Bytes message) place) ∷ []) message
   is-read message place is reads was =
       let m : Made = (steps.Chan here.chan ops.Get, step_replies.Chan here.chan (replies.Bytes message) place) in
-      record { use_ = m; gained = gained-used here.chan done m [] refl was; uses = is; tells = (place, refl); reads = reads; unfreed = refl }
+      record { use_ = m; gained = gained-used here.chan here.using_ done m [] refl was; uses = is; tells = (place, refl); reads = reads; unfreed = refl }
 
-  uses : (u : Using) → u ≡ here.using_ → (r : ChanReply) (place : ℕ) → HasGained here.chan done [] → HasReplied s chans who here.chan (use_op u) (step_replies.Chan here.chan r place) →
+  uses : (u : Using) → u ≡ here.using_ → (r : ChanReply) (place : ℕ) → HasGained here.chan here.using_ done [] → HasReplied s chans who here.chan (use_op u) (step_replies.Chan here.chan r place) →
       After stages.Holds (steps.Chan here.chan (use_op u)) (step_replies.Chan here.chan r place)
   uses (Publish message) is r place was told =
       let tells = set-tells told.state who message r (answers-so s chans who here.chan (ops.Set message) r place told) in
@@ -400,7 +429,7 @@ module _ (s : Parts) (chans : ChanHistories) (who : Who) (done : List Made) (num
       record {
         use_ = v.use_;
         visited = v.visited ++ m ∷ [];
-        gained = gained-used here.chan done m (v.use_ ∷ v.visited) refl v.gained;
+        gained = gained-used here.chan here.using_ done m (v.use_ ∷ v.visited) refl v.gained;
         uses = v.uses;
         told = v.told;
         tells = v.tells;
@@ -426,7 +455,7 @@ module _ (s : Parts) (chans : ChanHistories) (who : Who) (done : List Made) (num
   visits observer left full at r place v = visited-more observer left full false full (step_replies.Obs at r place) refl (or-false full) v
 
   -- it frees its channel
-  abbrev has-used : (r : ChanReply) (place : ℕ) (answer : Answer) (use_ : Made) (others : List Made) → HasGained here.chan done (use_ ∷ others) → use_.0 ≡ use_step here.chan here.using_ →
+  abbrev has-used : (r : ChanReply) (place : ℕ) (answer : Answer) (use_ : Made) (others : List Made) → HasGained here.chan here.using_ done (use_ ∷ others) → use_.0 ≡ use_step here.chan here.using_ →
       HasUsed s (done ++ (steps.Chan here.chan ops.Free, step_replies.Chan here.chan r place) ∷ []) (record { step = number; word = word_of here.call; answer = answer })
   has-used r place answer use_ others gained uses = record {
     owner = owner;
@@ -475,13 +504,13 @@ module _ (s : Parts) (chans : ChanHistories) (who : Who) (done : List Made) (num
 
   each : EachStep s chans who here.chan here.using_ Before After
   each = record {
-    asks = λ waits r place was told. asks-at_start (asking_op here.using_ waits) r place (asking-asks here.using_ waits) (asked here.using_ waits r place told);
+    asks = λ waits r place was told. asks-at_start waits r place (asked here.using_ waits r place told);
     sets_alarm = λ ticks r place was may. sets-alarm ticks r place may;
-    asks_alarmed = λ moment r place was told. asks-alarmed moment (asking_op here.using_ true) r place (asking-asks here.using_ true) (asked here.using_ true r place told);
-    ends_wait = λ p r place was told. ends-wait p r place told;
-    ends_until = λ p moment r place was told. ends-until p moment r place told;
-    ends_alarm = λ p moment r place was. tt;
-    quits_wait = λ p r place was told. quits-wait p r place (quit-gives told.state who p r told.gives (answers-so s chans who here.chan (ops.ClaimQuit p) r place told));
+    asks_alarmed = λ moment r place was told. asks-alarmed moment r place (asked here.using_ true r place told);
+    ends_wait = ends-wait;
+    ends_until = ends-until;
+    ends_alarm = λ p moment r place was. waits-still here.chan here.using_ done (steps.Clock (clock_ops.AlarmEnd moment), step_replies.Clock r place) p was;
+    quits_wait = λ p r place was told. quits-wait p r place was (quit-gives told.state who p r told.gives (answers-so s chans who here.chan (ops.ClaimQuit p) r place told));
     uses = λ r place was told. uses here.using_ refl r place was told;
     visits = visits;
     frees = λ full r place was told. frees full r place was;

@@ -1,5 +1,5 @@
 -- Each step of a call that uses a channel, by the stage that it is made at and what it is replied.
-use Rattle.std.proofs.Common.{◌≡◌, ◌≢◌, ℕ, zero, suc, Bool, true, false, Some, List, [], ◌∷◌, refl, subst, ◌∙◌}
+use Rattle.std.proofs.Common.{◌≡◌, ℕ, zero, suc, Bool, true, false, Some, List, [], ◌∷◌, refl, subst, ◌∙◌}
 use Rattle.std.specs.List.{slice_get}
 use Rattle.zk_base.specs.declared.ids.Who.{Who}
 use Rattle.zk_base.proofs.Lists.{slice_get-one}
@@ -39,17 +39,17 @@ use_op (Publish message) = ops.Set message
 use_op Notify = ops.List
 use_op Read = ops.Get
 
-asks-so : (chan : ℕ) (using_ : Using) (waits : Bool) → steps.Chan chan (asking_op using_ waits) ≡ open_step (asks_for chan using_) waits
+pub asks-so : (chan : ℕ) (using_ : Using) (waits : Bool) → steps.Chan chan (asking_op using_ waits) ≡ open_step (asks_for chan using_) waits
 asks-so chan (Publish message) waits = refl
 asks-so chan Notify waits = refl
 asks-so chan Read waits = refl
 
-ends-so : (chan : ℕ) (using_ : Using) (place : ℕ) → steps.Chan chan (ops.ClaimEnd place) ≡ end_step (asks_for chan using_) place
+pub ends-so : (chan : ℕ) (using_ : Using) (place : ℕ) → steps.Chan chan (ops.ClaimEnd place) ≡ end_step (asks_for chan using_) place
 ends-so chan (Publish message) place = refl
 ends-so chan Notify place = refl
 ends-so chan Read place = refl
 
-quits-so : (chan : ℕ) (using_ : Using) (place : ℕ) → steps.Chan chan (ops.ClaimQuit place) ≡ quit_step (asks_for chan using_) place
+pub quits-so : (chan : ℕ) (using_ : Using) (place : ℕ) → steps.Chan chan (ops.ClaimQuit place) ≡ quit_step (asks_for chan using_) place
 quits-so chan (Publish message) place = refl
 quits-so chan Notify place = refl
 quits-so chan Read place = refl

@@ -1,5 +1,5 @@
 -- A publish or notify that came to its end has visited the observers that it was told, and a read has read; no step uses a channel that its player doesn't own, and each freeing ends such a call.
-use Rattle.std.proofs.Common.{◌≡◌, ℕ, ◌+◌, Bool, true, false, eqb, ◌||◌, cond, nat_lt, Option, Some, None, option_to_list, List, [], ◌∷◌, ◌++◌, length, length-append, append_assoc, append-nil, All, refl, sym, ap, subst, ◌∙◌, arith}
+use Rattle.std.proofs.Common.{◌≡◌, ℕ, ◌+◌, Bool, true, false, eqb, ◌||◌, nat_lt, Option, Some, None, option_to_list, List, [], ◌∷◌, ◌++◌, length, length-append, append_assoc, append-nil, All, refl, sym, ap, subst, ◌∙◌, arith}
 use Rattle.std.specs.List.{slice_get, list_any, IsDistinct}
 use Rattle.std.specs.Option.{option_map, option_map_or, option_and_then}
 use Rattle.std.proofs.lemmas.Bool.Decides.{nat_tests}
@@ -37,7 +37,7 @@ use Rattle.zk_worker.specs.Places.{At}
 use Rattle.zk_worker.specs.PollLaws.{Made}
 use Rattle.zk_worker.specs.Protocol.{call_attempts, call_progress, role_attempts, role_progress, frames_attempts, frames_progress, frames_after, answers_after, worker_attempts, worker_progress, settled, entered, first_frame, role_at, spot_of, starting, start_at, after}
 use Rattle.zk_worker.specs.StackLaws.{ChanHistories, IsReplied, chans_after, IsPlayedAmong}
-use Rattle.zk_worker.specs.VisitLaws.{used_chan, is_use, is_free, OwnsChan, IsOwned, AreOwned, CallsChannel, is_publish, is_read, UsesOrIsRefused, IsAnswered, AreAnswered, EachPublishVisits}
+use Rattle.zk_worker.specs.VisitLaws.{used_chan, is_use, OwnsChan, IsOwned, AreOwned, CallsChannel, is_publish, is_read, UsesOrIsRefused, IsAnswered, AreAnswered, EachPublishVisits}
 use Rattle.zk_worker.proofs.ChannelCalls.{CallVisits, VisitsBy, has-still, has-owns, used-got, all-through-more, channel-visits}
 use Rattle.zk_worker.proofs.ChannelsFreed.{free-answers, answered-still}
 use Rattle.zk_worker.proofs.Limits.{settled-all, entered-all}
@@ -187,7 +187,7 @@ got-calls s owner next by stage with_ =
 role-more : (s : Parts) (done : List Made) (made : Made) (role : Role) (next : ℕ) (stage : Stage) →
     ((chan : ℕ) → of_call plan_got s role next stage ≡ Some chan → is_use chan made ≡ false) → RoleVisits s done role next stage → RoleVisits s (done ++ made ∷ []) role next stage
 role-more s done made (Script owner) next stage none v = λ by.
-    has-still by.chan done made by.using_ stage (λ with_. none by.chan (got-calls s owner next by stage with_)) (v by)
+    has-still by.chan by.using_ done made stage (λ with_. none by.chan (got-calls s owner next by stage with_)) (v by)
 role-more s done made (Worker queue) next stage none v = tt
 
 among-behind : (chan : ℕ) (o : Option ℕ) (below : List ℕ) → list_any (eqb chan) below ≡ true → list_any (eqb chan) (option_to_list o ++ below) ≡ true

@@ -1,9 +1,8 @@
-use Rattle.std.specs.Prelude.{◌≡◌, ◌⊎◌, ℕ, ◌+◌, ◌&&◌, ◌||◌, Bool, true, false, ◌==◌, Option, Some, None, List, [], ◌∷◌, ◌++◌, map, length, slice_get, All}
+use Rattle.std.specs.Prelude.{◌≡◌, ◌⊎◌, ℕ, ◌+◌, ◌||◌, Bool, true, false, ◌==◌, Option, Some, None, List, [], ◌∷◌, ◌++◌, map, length, slice_get, All}
 use Rattle.std.specs.List.{Contains, filter, list_any}
 use Rattle.std.specs.Option.{option_map_or}
 use Rattle.zk_line.specs.Calls.{word_of}
 use Rattle.zk_line.specs.declared.types.Call.{Call}
-use Rattle.zk_model_bus.specs.declared.channel.ChanOp.{ChanOp}
 use Rattle.zk_model_bus.specs.declared.channel.ChanOp.TheVariants as chan_ops
 use Rattle.zk_model_bus.specs.declared.channel.ChanReply.{ChanReply}
 use Rattle.zk_model_bus.specs.declared.channel.ChanReply.TheVariants as chan_replies
@@ -27,10 +26,11 @@ use Rattle.zk_worker.specs.Checks.{is_oops}
 use Rattle.zk_worker.specs.Follows.{IsFollowing}
 use Rattle.zk_worker.specs.Places.{At}
 use Rattle.zk_worker.specs.PollLaws.{Made}
-use Rattle.zk_worker.specs.Publishes.{use_step, visits_answer}
+use Rattle.zk_worker.specs.Publishes.{asks_for, use_step, visits_answer}
 use Rattle.zk_worker.specs.Replies.{answer_of}
 use Rattle.zk_worker.specs.Shown.{Shown, ShowsLog}
 use Rattle.zk_worker.specs.StackLogs.{ShowsLegalClock, ShowsLegalChans}
+use Rattle.zk_worker.specs.Waits.{open_step, end_step, quit_step}
 
 -- the channel that a step uses: it sets, lists, gets or frees it, or visits an observer for it
 abbrev pub used_chan : Step → Option ℕ
@@ -59,18 +59,32 @@ is_full made = false
 abbrev pub visit_of : ℕ → ℕ → Step
 visit_of chan observer = steps.Obs observer (obs_ops.Visit chan)
 
--- among the steps that were made a channel was given, and since then these used it
-pub record HasGained (chan : ℕ) (made uses : List Made) : Type 0 where
+-- a call that uses a channel so asked for it, and was told to wait, by the entry of this place
+abbrev pub HasWaited : ℕ → Using → List Made → ℕ → Type 0
+HasWaited chan using_ made place =
+    (waits : Bool) × Contains made (open_step (asks_for chan using_) waits, step_replies.Chan chan chan_replies.Wait place)
+
+-- behind these steps, this one asks for a channel as a call that uses it so does, or ends such a wait, or gives it up
+abbrev pub Asks : ℕ → Using → List Made → Step → Type 0
+Asks chan using_ made step =
+    ((waits : Bool) × (step ≡ open_step (asks_for chan using_) waits))
+    ⊎ ((place : ℕ) × HasWaited chan using_ made place
+    × ((step ≡ end_step (asks_for chan using_) place) ⊎ (step ≡ quit_step (asks_for chan using_) place)))
+
+-- among the steps that were made a channel was given for such a use, and since then these used it
+pub record HasGained (chan : ℕ) (using_ : Using) (made uses : List Made) : Type 0 where
   pub before : List Made
   pub gained : Made
   pub since : List Made
   pub whole : made ≡ before ++ gained ∷ since
+  pub asks : Asks chan using_ before gained.0
   pub got : (place : ℕ) × (gained.1 ≡ step_replies.Chan chan chan_replies.Got place)
   pub used : filter (is_use chan) since ≡ uses
 
--- behind these steps their player owns the channel: it was given it, and hasn't freed it since
+-- behind these steps their player owns the channel: it was given it for some use, and hasn't freed it since
 abbrev pub OwnsChan : ℕ → List Made → Type 0
-OwnsChan chan made = (uses : List Made) × HasGained chan made uses × (list_any is_free uses ≡ false)
+OwnsChan chan made =
+    (using_ : Using) × (uses : List Made) × HasGained chan using_ made uses × (list_any is_free uses ≡ false)
 
 -- the step uses no channel but one that its player owns
 abbrev pub IsOwned : List Made → Made → Type 0
@@ -106,7 +120,7 @@ pub record HasUsed (s : Parts) (made : List Made) (a : Answered) : Type 0 where
   -- what it used the channel for
   pub use_ : Made
   pub others : List Made
-  pub gained : HasGained by.chan front (use_ ∷ others)
+  pub gained : HasGained by.chan by.using_ front (use_ ∷ others)
   pub uses : use_.0 ≡ use_step by.chan by.using_
 
 -- a call that visited just the observers that its set or list was told, in that order, each once: it was answered fault where one
@@ -126,26 +140,14 @@ pub record HasRead (s : Parts) (made : List Made) (a : Answered) : Type 0 where
   pub alone : used.others ≡ []
   pub answer : a.answer ≡ answers.Bytes message
 
--- a step that asks a channel for the channel, or gives the wait for it up, and isn't given it
-abbrev pub asks_chan : ChanOp → Bool
-asks_chan (chan_ops.Offer message waits) = true
-asks_chan (chan_ops.Enter waits) = true
-asks_chan (chan_ops.ClaimQuit place) = true
-asks_chan op = false
-
--- the replies that refuse it
+-- the replies of a channel that refuse it
 abbrev pub refuses : ChanReply → Bool
 refuses chan_replies.Busy = true
 refuses chan_replies.NoMsg = true
 refuses chan_replies.Again = true
 refuses reply = false
 
--- the step is such a refusal by the channel
-abbrev pub is_refusal : ℕ → Made → Bool
-is_refusal chan (steps.Chan at op, step_replies.Chan by reply place) = at == chan && asks_chan op && refuses reply
-is_refusal chan made = false
-
--- a call that wasn't given its channel: the step that was answered is the refusal, and the call answered what that replied
+-- a call that wasn't given its channel: the step that was answered asks for it and is refused, and the call answered why
 pub record WasRefused (s : Parts) (made : List Made) (a : Answered) : Type 0 where
   pub owner : ℕ
   pub next : ℕ
@@ -157,7 +159,8 @@ pub record WasRefused (s : Parts) (made : List Made) (a : Answered) : Type 0 whe
   pub rest : List Made
   pub whole : made ≡ front ++ step ∷ rest
   pub last : a.step ≡ length front
-  pub refused : is_refusal by.chan step ≡ true
+  pub asks : Asks by.chan by.using_ front step.0
+  pub refused : (r : ChanReply) × (place : ℕ) × (step.1 ≡ step_replies.Chan by.chan r place) × (refuses r ≡ true)
   pub answer : a.answer ≡ answer_of step.1
 
 -- the call publishes or notifies
