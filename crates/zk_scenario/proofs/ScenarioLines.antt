@@ -1,5 +1,5 @@
 -- The lines of a scenario, part by part.
-use Rattle.std.proofs.Common.{◌≡◌, ℕ, zero, suc, ◌<◌, ◌≤◌, not, nat_lt, ◌&&◌, Some, List, [], ◌∷◌, ◌++◌, map, length, take, slice_get, codes, refl, sym, ap, ◌∙◌, append_assoc, arith}
+use Rattle.std.proofs.Common.{◌≡◌, ℕ, zero, suc, ◌<◌, ◌≤◌, not, nat_lt, ◌&&◌, Some, List, [], ◌∷◌, ◌++◌, map, length, take, slice_get, codes, refl, sym, ap, ◌∙◌, arith}
 use Rattle.std.specs.Option.{option_map_or}
 use Rattle.std.proofs.lemmas.Bool.{and_parts, eqb-true, ltb-true}
 use Rattle.std.specs.List.{flat_map}
