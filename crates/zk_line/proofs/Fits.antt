@@ -21,7 +21,8 @@ use Rattle.zk_words.specs.declared.event.Source.{Source}
 use Rattle.zk_words.specs.declared.event.Source.TheVariants as source
 use Rattle.zk_words.specs.Events.{event_named, is_ignore, need_of}
 use Rattle.zk_words.specs.Parts.{Placed, placed, parts_of}
-use Rattle.zk_words.specs.Table.{call_row, thread, object}
+use Rattle.zk_words.specs.Table.{call_row}
+use Rattle.zk_words.specs.Table as table
 use Rattle.zk_words.specs.Timeouts.{wait_of, wait_fits}
 use Rattle.zk_words.specs.Validators.{validator_of}
 use Rattle.zk_words.proofs.HexText.{msg_spelled}
@@ -174,14 +175,14 @@ pub poll_few : (decls : List Decl) (wait : Timeout) (events : List PollEvent) �
 poll_few decls wait events fits = (and_parts (is_few events) (wait_fits wait && list_all (fits_in decls None slot.Event) (map arg.Event events)) fits).0
 
 -- a permission whose words are well named is of a thread on an object that is declared
-pub permission_fits-read : (decls : List Decl) (size : Option ℕ) (ws : List (List ℕ)) (player own : ℕ) → each_in_range size (parts_of (thread ∷ object ∷ []) Nothing ws) ≡ true
-    → each_well_named decls (parts_of (thread ∷ object ∷ []) Nothing ws) ≡ true → option_and_then permission_of (args_of decls (parts_of (thread ∷ object ∷ []) Nothing ws)) ≡ Some (player, own)
+pub permission_fits-read : (decls : List Decl) (size : Option ℕ) (ws : List (List ℕ)) (player own : ℕ) → each_in_range size (parts_of (table.thread ∷ table.object ∷ []) Nothing ws) ≡ true
+    → each_well_named decls (parts_of (table.thread ∷ table.object ∷ []) Nothing ws) ≡ true → option_and_then permission_of (args_of decls (parts_of (table.thread ∷ table.object ∷ []) Nothing ws)) ≡ Some (player, own)
     → (is_at is_thread decls player ≡ true) × (is_at (is_met need.Any) decls own ≡ true)
 permission_fits-read decls size ws player own ranged named made =
-    option_and_then_some permission_of (args_of decls (parts_of (thread ∷ object ∷ []) Nothing ws)) (player, own) made
+    option_and_then_some permission_of (args_of decls (parts_of (table.thread ∷ table.object ∷ []) Nothing ws)) (player, own) made
     (λ args is_args given.
-    let fit = args_fit-read decls size (thread ∷ object ∷ []) Nothing ws args ranged named is_args in
-    let both = and_parts (is_at is_thread decls player) (is_at (is_met need.Any) decls own && true) (ap (args_fit decls size (thread ∷ object ∷ []) Nothing) (sym (permission-is args (player, own) given)) ∙ fit) in
+    let fit = args_fit-read decls size (table.thread ∷ table.object ∷ []) Nothing ws args ranged named is_args in
+    let both = and_parts (is_at is_thread decls player) (is_at (is_met need.Any) decls own && true) (ap (args_fit decls size (table.thread ∷ table.object ∷ []) Nothing) (sym (permission-is args (player, own) given)) ∙ fit) in
     (both.0, (and_parts (is_at (is_met need.Any) decls own) true both.1).0))
 
 -- the kind of what a line declares

@@ -25,7 +25,8 @@ use Rattle.zk_words.specs.Hex.{is_hex, bytes_of, msg_of}
 use Rattle.zk_words.specs.Numbers.{number_in, priority_of}
 use Rattle.zk_words.specs.Parts.{Placed, placed, parts_of, fits}
 use Rattle.zk_words.specs.Spelled.{choice_text, is_spelled_in, part_is_spelled}
-use Rattle.zk_words.specs.Table.{call_row, kind_row, thread, object, item, queue, sem, msgq, signal, delay, ticks, index, initial, limit, size, capacity, channel, observer, result}
+use Rattle.zk_words.specs.Table.{call_row, kind_row, item, queue, sem, msgq, signal, delay, ticks, index, initial, limit, size, capacity, channel, observer, result}
+use Rattle.zk_words.specs.Table as table
 use Rattle.zk_words.specs.Timeouts.{wait_of}
 use Rattle.zk_words.specs.Validators.{validator_of}
 use Rattle.zk_words.specs.declared.word.Head.TheVariants.{Declare}
@@ -315,8 +316,8 @@ one_signal f = by_line (signal ∷ []) Nothing (one as_object) f (one-line signa
 one_chan : (f : Ref → Call) → Makes (channel ∷ []) Nothing (λ args. option_map f (one as_object args))
 one_chan f = by_line (channel ∷ []) Nothing (one as_object) f (one-line channel as_object (object-made need.Chan))
 
-one_any : (f : Ref → Call) → Makes (object ∷ []) Nothing (λ args. option_map f (one as_object args))
-one_any f = by_line (object ∷ []) Nothing (one as_object) f (one-line object as_object (object-made need.Any))
+one_any : (f : Ref → Call) → Makes (table.object ∷ []) Nothing (λ args. option_map f (one as_object args))
+one_any f = by_line (table.object ∷ []) Nothing (one as_object) f (one-line table.object as_object (object-made need.Any))
 
 -- the lines of an object and of how long is waited for it
 waiting : (n : Need) (f : Ref × Timeout → Call) → Makes (slot.Object n ∷ slot.Wait ∷ []) Nothing (λ args. option_map f (two as_object as_wait args))
@@ -327,8 +328,8 @@ sending : (n : Need) (f : Ref × List ℕ × Timeout → Call) → Makes (slot.O
 sending n f = by_line (slot.Object n ∷ slot.Hex ∷ slot.Wait ∷ []) Nothing (three as_object as_bytes as_wait) f (three-line (slot.Object n) as_object slot.Hex as_bytes slot.Wait as_wait (object-made n) bytes-made wait-made)
 
 -- the lines of a thread and an object
-permitting : {C : Type 0} (f : Ref × Ref → C) → Makes (thread ∷ object ∷ []) Nothing (λ args. option_map f (two as_object as_object args))
-permitting f = by_line (thread ∷ object ∷ []) Nothing (two as_object as_object) f (two-line thread as_object object as_object (object-made need.Thread) (object-made need.Any))
+permitting : {C : Type 0} (f : Ref × Ref → C) → Makes (table.thread ∷ table.object ∷ []) Nothing (λ args. option_map f (two as_object as_object args))
+permitting f = by_line (table.thread ∷ table.object ∷ []) Nothing (two as_object as_object) f (two-line table.thread as_object table.object as_object (object-made need.Thread) (object-made need.Any))
 
 -- the lines of an item, a queue and a delay
 delayed : IsLine (item ∷ queue ∷ delay ∷ []) Nothing (three as_object as_object as_number)
@@ -490,8 +491,8 @@ makes_decl kind.Chan decls bytes ws fit right together few = chan-made decls byt
 makes_decl k decls bytes ws fit right together few = makes_other_decl k refl decls bytes ws fit right
 
 -- a right line of a permission says it
-pub makes_permission : (decls : List Decl) (bytes : Option ℕ) (ws : List (List ℕ)) → fits (thread ∷ object ∷ []) Nothing ws ≡ true → AreRight decls bytes (parts_of (thread ∷ object ∷ []) Nothing ws)
-    → IsSome (option_and_then permission_of (args_of decls (parts_of (thread ∷ object ∷ []) Nothing ws)))
+pub makes_permission : (decls : List Decl) (bytes : Option ℕ) (ws : List (List ℕ)) → fits (table.thread ∷ table.object ∷ []) Nothing ws ≡ true → AreRight decls bytes (parts_of (table.thread ∷ table.object ∷ []) Nothing ws)
+    → IsSome (option_and_then permission_of (args_of decls (parts_of (table.thread ∷ table.object ∷ []) Nothing ws)))
 makes_permission decls bytes ws fit right =
-    let m = two-line thread as_known object as_known (known-made need.Thread) (known-made need.Any) decls bytes ws fit right in
+    let m = two-line table.thread as_known table.object as_known (known-made need.Thread) (known-made need.Any) decls bytes ws fit right in
     ap (λ o. is_some (option_and_then permission_of o)) m.1 ∙ m.2

@@ -8,6 +8,7 @@ use Rattle.zk_model_bus.specs.declared.kinds.Need.{Need}
 use Rattle.zk_model_bus.specs.declared.kinds.Need.TheVariants as need
 use Rattle.zk_model_bus.specs.Table as tables
 use Rattle.zk_words.specs.Kinds as kinds
+use Rattle.zk_line.specs.declared.kind_lists.Lists.{Lists}
 use Rattle.zk_line.specs.declared.names.Names.{Names}
 use Rattle.zk_line.specs.declared.types.Decl.{Decl}
 use Rattle.zk_line.specs.declared.types.Decl.TheVariants.{Thread, Queue, Item, Sem, Msgq, Signal, Listener, Sub, Chan}
@@ -154,37 +155,21 @@ size_of decl = None
 abbrev pub size_at : List Decl → ℕ → Option ℕ
 size_at decls object = option_and_then size_of (slice_get decls object)
 
--- the list of a declaration's kind, among those of all kinds
-abbrev pub own_list : Decl → List ℕ → List ℕ → List ℕ → List ℕ → List ℕ → List ℕ → List ℕ → List ℕ → List ℕ
-own_list (Thread name prio user) threads queues items sems msgqs signals chans observers = threads
-own_list (Queue name prio on) threads queues items sems msgqs signals chans observers = queues
-own_list (Item name) threads queues items sems msgqs signals chans observers = items
-own_list (Sem name initial limit raw) threads queues items sems msgqs signals chans observers = sems
-own_list (Msgq name size capacity raw) threads queues items sems msgqs signals chans observers = msgqs
-own_list (Signal name raw) threads queues items sems msgqs signals chans observers = signals
-own_list (Listener name) threads queues items sems msgqs signals chans observers = observers
-own_list (Sub name capacity) threads queues items sems msgqs signals chans observers = observers
-own_list (Chan name message valid own) threads queues items sems msgqs signals chans observers = chans
-
 -- a list of objects after one more declaration, which stands in it where it passes the list's test
 abbrev pub grown : (Decl → Bool) → Decl → ℕ → List ℕ → List ℕ
 grown test d object list = (if test d then list ++ object ∷ [] else list)
 
--- a list of this length and capacity has room for one more, and its length fits a number
-abbrev pub HasRoom : ℕ → ℕ → Type 0
-HasRoom len capacity = (len < capacity) × (len < 2 ^ 32)
-
 -- the tables say what the declarations say
-pub record IsTabled (decls : List Decl) (threads queues items sems msgqs signals chans observers numbers : List ℕ) (names : Names) : Type 0 where
+pub record IsTabled (decls : List Decl) (lists : Lists) (numbers : List ℕ) (names : Names) : Type 0 where
   pub few : length decls < 2 ^ 32
-  pub each_thread : threads ≡ places is_thread decls
-  pub each_queue : queues ≡ places is_queue decls
-  pub each_item : items ≡ places is_item decls
-  pub each_sem : sems ≡ places is_sem decls
-  pub each_msgq : msgqs ≡ places is_msgq decls
-  pub each_signal : signals ≡ places is_signal decls
-  pub each_chan : chans ≡ places is_chan decls
-  pub each_observer : observers ≡ places is_observer decls
+  pub each_thread : lists.threads.items ≡ places is_thread decls
+  pub each_queue : lists.queues.items ≡ places is_queue decls
+  pub each_item : lists.items.items ≡ places is_item decls
+  pub each_sem : lists.sems.items ≡ places is_sem decls
+  pub each_msgq : lists.msgqs.items ≡ places is_msgq decls
+  pub each_signal : lists.signals.items ≡ places is_signal decls
+  pub each_chan : lists.chans.items ≡ places is_chan decls
+  pub each_observer : lists.observers.items ≡ places is_observer decls
   pub long : length numbers ≡ length decls
   pub each_number : (object : ℕ) → unwrap_or (slice_get numbers object) 0 ≡ number_of decls object
   pub each_name : (name : List ℕ) → by_name names name ≡ object_of decls name

@@ -103,7 +103,8 @@ one_raw f (a ∷ args) = both (f a) (raw_of args)
 one_raw f args = None
 
 -- three, and perhaps `raw` behind them
-abbrev pub three_raw : {A B C : Type 0} → (Arg → Option A) → (Arg → Option B) → (Arg → Option C) → List Arg → Option (A × B × C × Bool)
+abbrev pub three_raw : {A B C : Type 0} → (Arg → Option A) → (Arg → Option B) → (Arg → Option C) → List Arg
+    → Option (A × B × C × Bool)
 three_raw f g h (a ∷ b ∷ c ∷ args) = all_four (f a) (g b) (h c) (raw_of args)
 three_raw f g h args = None
 

@@ -6,6 +6,7 @@ mod calls;
 mod checks;
 mod decls;
 mod events;
+mod kind_lists;
 mod kinds;
 mod names;
 mod needs;

@@ -1,5 +1,5 @@
 -- A line to which no reason applies keeps what was read valid.
-use Rattle.std.proofs.Common.{◌≡◌, ℕ, ◌+◌, ◌<◌, ◌≤◌, Bool, true, false, not, cond, eqb, nat_le, nat_lt, ◌&&◌, ◌||◌, Option, None, Some, List, [], ◌∷◌, ◌++◌, length, take, slice_get, count_by, is_some, refl, sym, ap, subst, ◌∙◌, ⊎_elim, arith, length-append}
+use Rattle.std.proofs.Common.{◌≡◌, ℕ, ◌+◌, ◌<◌, ◌≤◌, Bool, true, false, not, cond, eqb, nat_le, nat_lt, ◌&&◌, Option, None, Some, List, [], ◌∷◌, ◌++◌, length, take, slice_get, is_some, refl, sym, ap, subst, ◌∙◌, ⊎_elim, arith, length-append}
 use Rattle.std.specs.List.{list_all}
 use Rattle.std.specs.Option.{option_map_or, option_map, option_to_list}
 use Rattle.std.specs.Prelude.{option_and_then}
@@ -29,10 +29,10 @@ use Rattle.zk_line.specs.Calls.{call_of}
 use Rattle.zk_line.specs.Checks.{first_object, message_size, each_in_range, go_together, are_in_range, each_well_named, name_once, are_well_named, has_many_events, has_many_observers}
 use Rattle.zk_line.specs.Decls.{decl_of, permission_of}
 use Rattle.zk_line.specs.Fits.{call_fits, decl_fits, observers_fit, AreObserved}
-use Rattle.zk_line.specs.Objects.{object_of, kind_of, is_at, is_met, names, plays_script}
+use Rattle.zk_line.specs.Objects.{object_of, is_at, is_met, names, plays_script}
 use Rattle.zk_line.proofs.Fits.{call_fits-read, permission_fits-read, kind_of-read}
 use Rattle.zk_line.proofs.InRange.{decl_fits-read}
-use Rattle.zk_line.proofs.Lists.{slice_get-append_left, slice_get-push, count_by-push, position-push}
+use Rattle.zk_line.proofs.Lists.{slice_get-append_left, slice_get-push, position-push}
 use Rattle.zk_line.proofs.Makes.{is_some-some}
 use Rattle.zk_line.proofs.Options.{one_part}
 use Rattle.zk_scenario.specs.declared.types.Script.{Script}

@@ -1,8 +1,8 @@
 -- The lines among the declarations, with one line more.
-use Rattle.std.proofs.Common.{◌≡◌, ℕ, zero, suc, ◌+◌, ◌<◌, ◌≤◌, ◌^◌, Bool, true, false, not, cond, eqb, nat_lt, ◌&&◌, ◌||◌, Option, None, Some, List, [], ◌∷◌, ◌++◌, length, take, drop, slice_get, count_by, map, refl, sym, ap, subst, ◌∙◌, ⊎_elim, arith, length-append}
+use Rattle.std.proofs.Common.{◌≡◌, ℕ, zero, suc, ◌<◌, ◌≤◌, ◌^◌, Bool, true, false, not, cond, eqb, nat_lt, ◌&&◌, ◌||◌, Option, None, Some, List, [], ◌∷◌, ◌++◌, length, take, drop, slice_get, count_by, refl, sym, ap, ◌∙◌, ⊎_elim, arith, length-append}
 use Rattle.std.specs.List.{list_any}
 use Rattle.std.specs.Option.{option_map_or}
-use Rattle.std.proofs.lemmas.Bool.{and_parts, and_from, cases_order, cases_Bool, cond-true, cond-false, eq-eqb, eqb-true, ltb-true, lt-ltb}
+use Rattle.std.proofs.lemmas.Bool.{and_parts, and_from, cases_order, eq-eqb, ltb-true, lt-ltb}
 use Rattle.std.proofs.lemmas.List.{take-append-drop, take-append-le}
 use Rattle.std.proofs.lemmas.List.Sums.{sum_by-append}
 use Rattle.std.proofs.lemmas.Option.{none-some, slice_get_past, slice_get_within}
@@ -41,6 +41,14 @@ is_at-take test (d ∷ decls) (suc n) (suc object) at = is_at-take test decls n 
 pub objects_in-take : (written : List Declared) (n : ℕ) → objects_in (take n written) ≤ objects_in written
 objects_in-take written n =
     omega (arith, ap objects_in (take-append-drop n written), sum_by-append (λ line. cond (is_object line) 1 0) (take n written) (drop n written))
+
+-- a permission is of a thread on an object that are declared
+pub permission-declared : (decls : List Decl) (written : List Declared) (n thread object : ℕ) → AreInOrder decls written → slice_get written n ≡ Some (Allow thread object) → (is_at is_thread decls thread ≡ true) × (object < length decls)
+permission-declared decls written n thread object held e =
+    let before = objects_in (take n written) in
+    let fits = and_parts (is_at is_thread (take before decls) thread && nat_lt object before) (not (is_allowed (take n written) thread object)) (held.each n (Allow thread object) e) in
+    let both = and_parts (is_at is_thread (take before decls) thread) (nat_lt object before) fits.0 in
+    (is_at-take is_thread decls before thread both.0, omega (arith, ltb-true object before both.1, held.all, objects_in-take written n))
 
 -- what follows from declarations follows from these and further ones, where its line stands behind no more objects
 follows-more : (decls : List Decl) (d : Decl) (before : List Declared) (line : Declared) → objects_in before ≤ length decls → follows decls before line ≡ true → follows (decls ++ d ∷ []) before line ≡ true

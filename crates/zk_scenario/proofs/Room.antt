@@ -1,5 +1,5 @@
 -- How many declarations there may be, with one more where its kind isn't full.
-use Rattle.std.proofs.Common.{◌≡◌, ◌+◌, ◌<◌, ◌≤◌, ℕ, Bool, true, false, cond, nat_le, ◌&&◌, ◌||◌, List, [], ◌∷◌, ◌++◌, count_by, refl, sym, ap, ◌∙◌, arith, inl, inr}
+use Rattle.std.proofs.Common.{◌≡◌, ◌<◌, ◌≤◌, ℕ, Bool, true, false, cond, nat_le, ◌&&◌, ◌||◌, List, [], ◌∷◌, ◌++◌, count_by, refl, sym, ap, ◌∙◌, arith, inl, inr}
 use Rattle.std.proofs.lemmas.Bool.{leb-false, or_cases}
 use Rattle.zk_model_bus.specs.declared.kinds.Kind.{Kind}
 use Rattle.zk_model_bus.specs.declared.kinds.Kind.TheVariants as kind

@@ -1,7 +1,7 @@
 -- The lines of a scenario, part by part.
-use Rattle.std.proofs.Common.{◌≡◌, ℕ, zero, suc, ◌<◌, ◌≤◌, not, nat_lt, ◌&&◌, Some, List, [], ◌∷◌, ◌++◌, map, length, take, slice_get, codes, refl, sym, ap, ◌∙◌, append_assoc, arith}
+use Rattle.std.proofs.Common.{◌≡◌, ℕ, zero, suc, ◌<◌, ◌≤◌, not, nat_lt, ◌&&◌, Some, List, [], ◌∷◌, ◌++◌, map, length, take, slice_get, codes, refl, sym, ap, ◌∙◌, arith}
 use Rattle.std.specs.Option.{option_map_or}
-use Rattle.std.proofs.lemmas.Bool.{and_parts, eqb-true, ltb-true}
+use Rattle.std.proofs.lemmas.Bool.{eqb-true}
 use Rattle.std.specs.List.{flat_map}
 use Rattle.std.proofs.lemmas.List.{append-nil, map-append, take-append-le}
 use Rattle.std.proofs.Math.Seq.{take-append_seam}
@@ -16,7 +16,7 @@ use Rattle.zk_line.proofs.Lists.{slice_get-append_left, slice_get-push}
 use Rattle.zk_scenario.specs.declared.types.Script.{Script}
 use Rattle.zk_line.specs.Text.{decl_line, call_line}
 use Rattle.zk_scenario.specs.Written.{is_object, objects_in, is_allowed, AreInOrder}
-use Rattle.zk_scenario.proofs.InOrder.{objects_in-take, is_at-within, is_at-take, count_by-take-lt}
+use Rattle.zk_scenario.proofs.InOrder.{permission-declared, is_at-within, count_by-take-lt}
 use Rattle.zk_scenario.specs.Spelling.{object_line, declared_line, script_line, end_line, script_lines, body_lines, fed, lines_text}
 
 lines_text-flat_map : (decls : List Decl) (ss : List Script) → lines_text (flat_map (script_lines decls) ss) ≡ flat_map (λ s. lines_text (script_lines decls s)) ss
@@ -56,14 +56,9 @@ declared_line-push decls written d n (Object object) held e =
     let at = eqb-true object (objects_in (take n written)) (held.each n (Object object) e) in
     object_line-push decls d object (omega (arith, at, held.all, count_by-take-lt is_object written n (Object object) e refl))
 declared_line-push decls written d n (Allow thread object) held e =
-    let before = objects_in (take n written) in
-    let few : before ≤ length decls = omega (arith, held.all, objects_in-take written n) in
-    let fits = and_parts (is_at is_thread (take before decls) thread && nat_lt object before) (not (is_allowed (take n written) thread object)) (held.each n (Allow thread object) e) in
-    let both = and_parts (is_at is_thread (take before decls) thread) (nat_lt object before) fits.0 in
-    let own = ltb-true object before both.1 in
-    let player = is_at-within is_thread decls thread (is_at-take is_thread decls before thread both.0) in
-    ap (λ name. line_text (codes "allow" ∷ name ∷ name_at (decls ++ d ∷ []) object ∷ [])) (name_at-push decls d thread player)
-    ∙ ap (λ name. line_text (codes "allow" ∷ name_at decls thread ∷ name ∷ [])) (name_at-push decls d object (omega arith))
+    let both = permission-declared decls written n thread object held e in
+    ap (λ name. line_text (codes "allow" ∷ name ∷ name_at (decls ++ d ∷ []) object ∷ [])) (name_at-push decls d thread (is_at-within is_thread decls thread both.0))
+    ∙ ap (λ name. line_text (codes "allow" ∷ name_at decls thread ∷ name ∷ [])) (name_at-push decls d object both.1)
 
 -- the lines of declarations, with one more
 pub written_lines-declared : (decls : List Decl) (written : List Declared) (d : Decl) → AreInOrder decls written

@@ -1,5 +1,5 @@
 -- What a valid scenario gives: its size, the numbers of its objects, and that each call fits.
-use Rattle.std.proofs.Common.{◌≡◌, ℕ, zero, suc, ◌+◌, ◌<◌, ◌≤◌, Bool, true, false, cond, eqb, Option, None, Some, List, [], ◌∷◌, length, take, slice_get, get_or, count_by, refl, ap, ◌∙◌, arith, length-append}
+use Rattle.std.proofs.Common.{◌≡◌, ℕ, ◌+◌, ◌<◌, ◌≤◌, Bool, true, false, eqb, Option, None, Some, List, [], ◌∷◌, length, take, slice_get, get_or, count_by, refl, ap, ◌∙◌, arith, length-append}
 use Rattle.std.specs.List.{list_all}
 use Rattle.std.specs.Option.{option_map_or}
 use Rattle.std.proofs.lemmas.Bool.{and_parts, and_from}
@@ -7,6 +7,7 @@ use Rattle.std.proofs.lemmas.List.Quantifiers.{position-Some}
 use Rattle.std.proofs.lemmas.Option.{slice_get-get_or}
 use Rattle.zk_base.proofs.Lists.{list_all-at}
 use Rattle.zk_line.specs.declared.types.Decl.{Decl}
+use Rattle.zk_line.specs.declared.types.Declared.TheVariants.{Allow}
 use Rattle.zk_line.specs.declared.types.Decl.TheVariants.{Thread, Queue, Item, Sem, Msgq, Signal, Listener, Sub, Chan}
 use Rattle.zk_scenario.specs.declared.types.Script.{Script}
 use Rattle.zk_line.specs.Objects.{is_at, plays_script, is_thread, is_queue, is_item, is_sem, is_msgq, is_signal, is_chan, is_observer, same_kind, places, number_of, player_count, observers_of}
@@ -16,7 +17,7 @@ use Rattle.zk_scenario.specs.Scripts.{script_of}
 use Rattle.zk_line.specs.Fits.{call_fits, decl_fits, observers_fit}
 use Rattle.zk_line.proofs.Lists.{count_by-cons}
 use Rattle.zk_scenario.specs.Valid.{IsValid, script_fits}
-use Rattle.zk_scenario.proofs.InOrder.{count_by-take-lt, is_at-take}
+use Rattle.zk_scenario.proofs.InOrder.{count_by-take-lt, is_at-take, permission-declared}
 use Rattle.zk_scenario.proofs.ScriptTables.{calls_of-none, calls_of-some}
 use Rattle.zk_line.proofs.Tables.{length-places}
 
@@ -122,6 +123,10 @@ all_at-take test decls n (object ∷ objects) all =
 -- the observers of a channel are subscribers and listeners that are declared
 pub observers-valid : (p : Parts) (object : ℕ) (d : Decl) → IsValid p → slice_get p.decls object ≡ Some d → observers_fit p.decls d ≡ true
 observers-valid p object d valid e = all_at-take is_observer p.decls object (observers_of d) (valid.observed object d e)
+
+-- each permission is of a thread on an object that are declared
+pub permission-valid : (p : Parts) (n thread object : ℕ) → IsValid p → slice_get p.written n ≡ Some (Allow thread object) → (is_at is_thread p.decls thread ≡ true) × (object < length p.decls)
+permission-valid p n thread object valid e = permission-declared p.decls p.written n thread object valid.in_order e
 
 -- each declaration is in range
 pub decl_fits-valid : (p : Parts) (object : ℕ) (d : Decl) → IsValid p → slice_get p.decls object ≡ Some d → decl_fits d ≡ true

@@ -30,11 +30,7 @@ fn put_scenario(out: &mut Vec<u8>, scenario: &Scenario) -> Result<(), NoMemory>
     put_scripts(out, decls, scenario.scripts())
 }
 
-fn put_declarations(
-    out: &mut Vec<u8>,
-    decls: &[Decl],
-    written: &[Declared],
-) -> Result<(), NoMemory>
+fn put_declarations(out: &mut Vec<u8>, decls: &[Decl], written: &[Declared]) -> Result<(), NoMemory>
     ensures { OnOk result (out.new.items
         ≡ out.old.items ++ flat_map (λ line. fed (declared_line decls.now line)) written.now) }
 {

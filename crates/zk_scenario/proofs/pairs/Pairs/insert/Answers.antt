@@ -1,4 +1,4 @@
-use Rattle.std.proofs.Common.{◌+◌, ◌*◌, ◌^◌, true, cond, eqb, ap, arith, ◌∙◌}
+use Rattle.std.proofs.Common.{◌+◌, ◌*◌, ◌^◌, true, cond, eqb, ap, ◌∙◌}
 use Rattle.zk_scenario.specs.Written.{has_pair}
 use Rattle.zk_scenario.proofs.PairKeys.{eqb-keys}
 use Rattle.zk_scenario.proofs.pairs.Pairs.insert.Goals as goal
