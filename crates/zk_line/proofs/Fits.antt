@@ -1,12 +1,14 @@
 -- A call that is made of well named words fits, and a declaration that is made of them has a new name.
-use Rattle.std.proofs.Common.{◌≡◌, ℕ, ◌*◌, ◌/◌, nat_le, length, arith, Bool, true, false, not, cond, ◌&&◌, ◌||◌, List, [], ◌∷◌, map, Option, Some, None, is_some, refl, sym, ap, ◌∙◌}
+use Rattle.std.proofs.Common.{◌≡◌, ℕ, ◌*◌, ◌/◌, nat_le, length, codes, arith, Bool, true, false, not, cond, ◌&&◌, ◌||◌, List, [], ◌∷◌, map, Option, Some, None, is_some, refl, sym, ap, ◌∙◌}
 use Rattle.std.specs.Prelude.{option_map, option_and_then}
 use Rattle.std.specs.List.{list_all}
 use Rattle.std.specs.Option.{option_map_or, option_flatten}
+use Rattle.std.specs.Str.{bytes_eq}
 use Rattle.std.proofs.lemmas.Bool.{and_parts, and_from}
 use Rattle.std.proofs.lemmas.Option.{cond_some, option_and_then_some, same_Some}
 use Rattle.zk_base.specs.Names.{is_name}
 use Rattle.zk_model_bus.specs.declared.kinds.Kind.{Kind}
+use Rattle.zk_model_bus.specs.declared.kinds.Need.TheVariants as need
 use Rattle.zk_words.specs.declared.slot.Slot.{Slot}
 use Rattle.zk_words.specs.declared.slot.Slot.TheVariants as slot
 use Rattle.zk_words.specs.declared.slot.Rest.{Rest}
@@ -20,6 +22,7 @@ use Rattle.zk_words.specs.declared.event.Source.TheVariants as source
 use Rattle.zk_words.specs.Events.{event_named, is_ignore, need_of}
 use Rattle.zk_words.specs.Parts.{Placed, placed, parts_of}
 use Rattle.zk_words.specs.Table.{call_row}
+use Rattle.zk_words.specs.Table as table
 use Rattle.zk_words.specs.Timeouts.{wait_of, wait_fits}
 use Rattle.zk_words.specs.Validators.{validator_of}
 use Rattle.zk_words.proofs.HexText.{msg_spelled}
@@ -38,11 +41,11 @@ use Rattle.zk_line.specs.declared.types.Call.TheVariants as call
 use Rattle.zk_line.specs.Args.{truth_of, ref_of, event_of, arg_of, args_of}
 use Rattle.zk_line.specs.Calls.{call_of, said_of}
 use Rattle.zk_line.specs.Checks.{size_named, size_said, message_size, is_size, is_in_range, each_in_range, is_well_named, each_well_named}
-use Rattle.zk_line.specs.Decls.{decl_of, decl_args}
+use Rattle.zk_line.specs.Decls.{decl_of, decl_args, permission_of}
 use Rattle.zk_line.specs.Few.{is_few, event_at}
 use Rattle.zk_line.specs.Fits.{ref_fits, event_fits, fits_in, rest_fit, args_fit, has_few_events, call_fits}
-use Rattle.zk_line.specs.Objects.{object_of, kind_of, name_of, is_at, is_met, names}
-use Rattle.zk_line.proofs.Inverse.{said_of-call_of, few-call, written_of-decl_of}
+use Rattle.zk_line.specs.Objects.{object_of, kind_of, name_of, is_at, is_thread, can_be_raw, is_met, names}
+use Rattle.zk_line.proofs.Inverse.{said_of-call_of, few-call, written_of-decl_of, permission-is}
 use Rattle.zk_line.proofs.Options.{one_part}
 
 -- half as many bytes as digits
@@ -73,6 +76,10 @@ arg_fits decls size (slot.Object need) w a ranged named said =
     let object = one_part arg.Object (ref_of decls w) a said in
     let known = one_part Known (object_of decls w) object.0 object.1 in
     ap (fits_in decls size (slot.Object need)) (sym object.2 ∙ ap arg.Object (sym known.2)) ∙ sym (ap (λ o. option_map_or (is_at (is_met need) decls) o false) known.1) ∙ named
+arg_fits decls size slot.Rawable w a ranged named said =
+    let object = one_part arg.Object (ref_of decls w) a said in
+    let known = one_part Known (object_of decls w) object.0 object.1 in
+    ap (fits_in decls size slot.Rawable) (sym object.2 ∙ ap arg.Object (sym known.2)) ∙ sym (ap (λ o. option_map_or (is_at can_be_raw decls) o false) known.1) ∙ named
 arg_fits decls size (slot.Number least most) w a ranged named said =
     let number = one_part arg.Number (number_in least most w) a said in
     ap (fits_in decls size (slot.Number least most)) (sym number.2) ∙ (number_in_spelled least most w number.0 number.1).1
@@ -167,6 +174,17 @@ poll_fits decls wait events fits =
 pub poll_few : (decls : List Decl) (wait : Timeout) (events : List PollEvent) → call_fits decls (call.Poll wait events) ≡ true → is_few events ≡ true
 poll_few decls wait events fits = (and_parts (is_few events) (wait_fits wait && list_all (fits_in decls None slot.Event) (map arg.Event events)) fits).0
 
+-- a permission whose words are well named is of a thread on an object that is declared
+pub permission_fits-read : (decls : List Decl) (size : Option ℕ) (ws : List (List ℕ)) (player own : ℕ) → each_in_range size (parts_of (table.thread ∷ table.object ∷ []) Nothing ws) ≡ true
+    → each_well_named decls (parts_of (table.thread ∷ table.object ∷ []) Nothing ws) ≡ true → option_and_then permission_of (args_of decls (parts_of (table.thread ∷ table.object ∷ []) Nothing ws)) ≡ Some (player, own)
+    → (is_at is_thread decls player ≡ true) × (is_at (is_met need.Any) decls own ≡ true)
+permission_fits-read decls size ws player own ranged named made =
+    option_and_then_some permission_of (args_of decls (parts_of (table.thread ∷ table.object ∷ []) Nothing ws)) (player, own) made
+    (λ args is_args given.
+    let fit = args_fit-read decls size (table.thread ∷ table.object ∷ []) Nothing ws args ranged named is_args in
+    let both = and_parts (is_at is_thread decls player) (is_at (is_met need.Any) decls own && true) (ap (args_fit decls size (table.thread ∷ table.object ∷ []) Nothing) (sym (permission-is args (player, own) given)) ∙ fit) in
+    (both.0, (and_parts (is_at (is_met need.Any) decls own) true both.1).0))
+
 -- the kind of what a line declares
 pub kind_of-read : (decls : List Decl) (k : Kind) (parts : List Placed) (d : Decl) → option_and_then (decl_of k) (args_of decls parts) ≡ Some d → kind_of d ≡ k
 kind_of-read decls k parts d made =
@@ -182,6 +200,7 @@ fresh decls slot.New w name named said =
       none (Some k) e = absurd (cc)
 fresh decls slot.Owner w name named said = let part = one_part arg.Object (ref_of decls w) (arg.Name name) said in absurd (cc part.2)
 fresh decls (slot.Object need) w name named said = let part = one_part arg.Object (ref_of decls w) (arg.Name name) said in absurd (cc part.2)
+fresh decls slot.Rawable w name named said = let part = one_part arg.Object (ref_of decls w) (arg.Name name) said in absurd (cc part.2)
 fresh decls (slot.Number least most) w name named said = let part = one_part arg.Number (number_in least most w) (arg.Name name) said in absurd (cc part.2)
 fresh decls slot.Priority w name named said = let part = one_part arg.Priority (option_flatten (priority_of w)) (arg.Name name) said in absurd (cc part.2)
 fresh decls (slot.Either choice) w name named said = let part = one_part (arg.Truth choice) (truth_of choice w) (arg.Name name) said in absurd (cc part.2)
@@ -189,16 +208,16 @@ fresh decls slot.Hex w name named said = let part = one_part arg.Bytes (msg_of w
 fresh decls slot.Wait w name named said = let part = one_part arg.Wait (wait_of w) (arg.Name name) said in absurd (cc part.2)
 fresh decls slot.Event w name named said = let part = one_part arg.Event (event_of decls w) (arg.Name name) said in absurd (cc part.2)
 fresh decls slot.Valid w name named said = let part = one_part arg.Valid (validator_of w) (arg.Name name) said in absurd (cc part.2)
-fresh decls slot.Raw w name named said = absurd (cc)
+fresh decls slot.Raw w name named said = let is : ◌≡◌ {A = Arg} arg.Raw (arg.Name name) = (cond_some (bytes_eq w (codes "raw")) arg.Raw (arg.Name name) said).1 in absurd (cc)
 
 -- the first that is written of a declaration is its name
 first_name : (d : Decl) → (more : List Arg) × (decl_args d ≡ arg.Name (name_of d) ∷ more)
 first_name (decl.Thread name prio user) = (_, refl)
 first_name (decl.Queue name prio on) = (_, refl)
 first_name (decl.Item name) = (_, refl)
-first_name (decl.Sem name initial limit) = (_, refl)
-first_name (decl.Msgq name size capacity) = (_, refl)
-first_name (decl.Signal name) = (_, refl)
+first_name (decl.Sem name initial limit raw) = (_, refl)
+first_name (decl.Msgq name size capacity raw) = (_, refl)
+first_name (decl.Signal name raw) = (_, refl)
 first_name (decl.Listener name) = (_, refl)
 first_name (decl.Sub name capacity) = (_, refl)
 first_name (decl.Chan name message valid observers) = (_, refl)

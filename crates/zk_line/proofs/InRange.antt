@@ -26,8 +26,8 @@ use Rattle.zk_line.specs.declared.types.Arg.TheVariants.{Name, Object, Number, B
 use Rattle.zk_line.specs.declared.types.Ref.TheVariants.{Known}
 use Rattle.zk_line.specs.Args.{ref_of, arg_of, args_of}
 use Rattle.zk_line.specs.Checks.{message_size, each_in_range, is_up_to, go_together, are_in_range, each_well_named, names_observer, name_once, are_well_named}
-use Rattle.zk_line.specs.Decls.{decl_of, decl_args, objects_said}
-use Rattle.zk_line.specs.Fits.{fits_in, args_fit, all_different, decl_fits, observers_fit}
+use Rattle.zk_line.specs.Decls.{decl_of, decl_args, objects_said, raw_said}
+use Rattle.zk_line.specs.Fits.{fits_in, rest_fit, args_fit, all_different, decl_fits, observers_fit}
 use Rattle.zk_line.specs.Objects.{object_of, name_at, kind_of, is_at, is_observer}
 use Rattle.zk_line.proofs.Fits.{args_fit-read}
 use Rattle.zk_line.proofs.Inverse.{written_of-decl_of, few-channel}
@@ -63,19 +63,19 @@ number-is decls least most word n said =
     let same : part.0 ≡ n = cc part.2 in part.1 ∙ ap Some same
 
 -- a semaphore begins with a count up to its limit
-counts-read : (decls : List Decl) (ws : List (List ℕ)) (name : List ℕ) (n most : ℕ) → args_of decls (parts_of (slot.New ∷ initial ∷ limit ∷ []) (Maybe slot.Raw) ws) ≡ Some (Name name ∷ Number n ∷ Number most ∷ [])
+counts-read : (decls : List Decl) (ws : List (List ℕ)) (name : List ℕ) (n most : ℕ) (more : List Arg) → args_of decls (parts_of (slot.New ∷ initial ∷ limit ∷ []) (Maybe slot.Raw) ws) ≡ Some (Name name ∷ Number n ∷ Number most ∷ more)
     → go_together (Declare kind.Sem) (parts_of (slot.New ∷ initial ∷ limit ∷ []) (Maybe slot.Raw) ws) ≡ true → nat_le n most ≡ true
-counts-read decls [] name n most said up = absurd (cc)
-counts-read decls (w ∷ []) name n most said up =
-    let one = args-uncons decls (placed slot.New w) [] (Name name) (Number n ∷ Number most ∷ []) said in absurd (cc one.1)
-counts-read decls (w ∷ v ∷ []) name n most said up =
-    let one = args-uncons decls (placed slot.New w) (placed initial v ∷ []) (Name name) (Number n ∷ Number most ∷ []) said in
-    let two = args-uncons decls (placed initial v) [] (Number n) (Number most ∷ []) one.1 in absurd (cc two.1)
-counts-read decls (w ∷ v ∷ u ∷ ws) name n most said up =
+counts-read decls [] name n most more said up = absurd (cc)
+counts-read decls (w ∷ []) name n most more said up =
+    let one = args-uncons decls (placed slot.New w) [] (Name name) (Number n ∷ Number most ∷ more) said in absurd (cc one.1)
+counts-read decls (w ∷ v ∷ []) name n most more said up =
+    let one = args-uncons decls (placed slot.New w) (placed initial v ∷ []) (Name name) (Number n ∷ Number most ∷ more) said in
+    let two = args-uncons decls (placed initial v) [] (Number n) (Number most ∷ more) one.1 in absurd (cc two.1)
+counts-read decls (w ∷ v ∷ u ∷ ws) name n most more said up =
     let rest = parts_of [] (Maybe slot.Raw) ws in
-    let one = args-uncons decls (placed slot.New w) (placed initial v ∷ placed limit u ∷ rest) (Name name) (Number n ∷ Number most ∷ []) said in
-    let two = args-uncons decls (placed initial v) (placed limit u ∷ rest) (Number n) (Number most ∷ []) one.1 in
-    let three = args-uncons decls (placed limit u) rest (Number most) [] two.1 in
+    let one = args-uncons decls (placed slot.New w) (placed initial v ∷ placed limit u ∷ rest) (Name name) (Number n ∷ Number most ∷ more) said in
+    let two = args-uncons decls (placed initial v) (placed limit u ∷ rest) (Number n) (Number most ∷ more) one.1 in
+    let three = args-uncons decls (placed limit u) rest (Number most) more two.1 in
     up_to-is v u n most (number-is decls 0 1000000 v n two.0) (number-is decls 1 1000000 u most three.0) up
 
 -- an observer that is named says its object
@@ -159,13 +159,15 @@ by_kind : (decls : List Decl) (bytes : Option ℕ) (ws : List (List ℕ)) (d : D
 by_kind decls bytes ws (decl.Thread name prio user) fit made said together once = (refl, refl)
 by_kind decls bytes ws (decl.Queue name prio on) fit made said together once = (refl, refl)
 by_kind decls bytes ws (decl.Item name) fit made said together once = (refl, refl)
-by_kind decls bytes ws (decl.Sem name n most) fit made said together once =
-    let numbers = and_parts (is_between 0 1000000 n) (is_between 1 1000000 most && true) fit in
-    (and_from (is_between 1 1000000 most) (nat_le n most) (and_parts (is_between 1 1000000 most) true numbers.1).0 (counts-read decls ws name n most said together), refl)
-by_kind decls bytes ws (decl.Msgq name long capacity) fit made said together once =
-    let numbers = and_parts (is_between 1 64 long) (is_between 1 256 capacity && true) fit in
-    (and_from (is_between 1 64 long) (is_between 1 256 capacity) numbers.0 (and_parts (is_between 1 256 capacity) true numbers.1).0, refl)
-by_kind decls bytes ws (decl.Signal name) fit made said together once = (refl, refl)
+by_kind decls bytes ws (decl.Sem name n most raw) fit made said together once =
+    let last = rest_fit decls bytes (Maybe slot.Raw) (raw_said raw) in
+    let numbers = and_parts (is_between 0 1000000 n) (is_between 1 1000000 most && last) fit in
+    (and_from (is_between 1 1000000 most) (nat_le n most) (and_parts (is_between 1 1000000 most) last numbers.1).0 (counts-read decls ws name n most (raw_said raw) said together), refl)
+by_kind decls bytes ws (decl.Msgq name long capacity raw) fit made said together once =
+    let last = rest_fit decls bytes (Maybe slot.Raw) (raw_said raw) in
+    let numbers = and_parts (is_between 1 64 long) (is_between 1 256 capacity && last) fit in
+    (and_from (is_between 1 64 long) (is_between 1 256 capacity) numbers.0 (and_parts (is_between 1 256 capacity) last numbers.1).0, refl)
+by_kind decls bytes ws (decl.Signal name raw) fit made said together once = (refl, refl)
 by_kind decls bytes ws (decl.Listener name) fit made said together once = (refl, refl)
 by_kind decls bytes ws (decl.Sub name capacity) fit made said together once = ((and_parts (is_between 1 256 capacity) true fit).0, refl)
 by_kind decls bytes ws (decl.Chan name message valid observers) fit made said together once =

@@ -18,19 +18,19 @@ use Rattle.zk_words.specs.Spelled.{same_choice}
 use Rattle.zk_line.specs.declared.types.Ref.{Ref}
 use Rattle.zk_line.specs.declared.types.Ref.TheVariants.{Known}
 use Rattle.zk_line.specs.declared.types.Arg.{Arg}
-use Rattle.zk_line.specs.declared.types.Arg.TheVariants.{Name, Object, Number, Priority, Truth, Bytes, Wait, Event, Valid as ValidArg}
+use Rattle.zk_line.specs.declared.types.Arg.TheVariants.{Name, Object, Number, Priority, Truth, Bytes, Wait, Event, Valid as ValidArg, Raw}
 use Rattle.zk_line.specs.declared.events.Event.{Event as PollEvent}
 use Rattle.zk_line.specs.declared.types.Call.{Call}
 use Rattle.zk_line.specs.declared.types.Call.TheVariants as call
 use Rattle.zk_line.specs.declared.types.Decl.{Decl}
 use Rattle.zk_line.specs.declared.types.Decl.TheVariants as decl
 use Rattle.zk_line.specs.Calls.{saying, call_of, said_of}
-use Rattle.zk_line.specs.Decls.{decl_of, decl_args, objects_said, written, written_of}
+use Rattle.zk_line.specs.Decls.{decl_of, decl_args, objects_said, raw_said, permission_of, permission_said, written, written_of}
 use Rattle.zk_line.specs.Few.{is_few}
 use Rattle.zk_line.specs.Fits.{has_few_events}
 use Rattle.zk_line.specs.Objects.{kind_of}
 use Rattle.zk_line.proofs.Options.{one_part}
-use Rattle.zk_line.specs.Shapes.{as_name, as_object, as_number, as_result, as_priority, as_truth, as_bytes, as_wait, as_event, as_known, all_objects, few_objects, objects_of, channel_parts, all_events, few_events, events_of, wait_events, both, all_three, one, two, three, one_or_two}
+use Rattle.zk_line.specs.Shapes.{as_name, as_object, as_number, as_result, as_priority, as_truth, as_bytes, as_wait, as_event, as_known, all_objects, few_objects, objects_of, channel_parts, all_events, few_events, events_of, wait_events, both, all_three, all_four, raw_of, one, two, three, one_raw, three_raw, one_or_two}
 
 -- an argument is read from just the one that is written of it
 abbrev pub IsPart : {A : Type 0} → (Arg → Option A) → (A → Arg) → Type 0
@@ -192,6 +192,15 @@ three_are : {A B C : Type 0} (a : Option A) (b : Option B) (c : Option C) (p : A
 three_are (Some a) (Some b) (Some c) p e = let is = same_Some _ _ e in (ap (λ q. Some q.0) is, ap (λ q. Some q.1) is, ap (λ q. Some q.2) is)
 three_are a b c p e = absurd (cc)
 
+four_are : {A B C D : Type 0} (a : Option A) (b : Option B) (c : Option C) (d : Option D) (p : A × B × C × D) → all_four a b c d ≡ Some p → (a ≡ Some p.0) × (b ≡ Some p.1) × (c ≡ Some p.2) × (d ≡ Some p.3)
+four_are (Some a) (Some b) (Some c) (Some d) p e = let is = same_Some _ _ e in (ap (λ q. Some q.0) is, ap (λ q. Some q.1) is, ap (λ q. Some q.2) is, ap (λ q. Some q.3) is)
+four_are a b c d p e = absurd (cc)
+
+raw-is : IsShape raw_of raw_said
+raw-is [] x e = ap raw_said (same_Some false x e)
+raw-is (Raw ∷ []) x e = ap raw_said (same_Some true x e)
+raw-is args x e = absurd (cc)
+
 one-is : {A : Type 0} (f : Arg → Option A) (p : A → Arg) → IsPart f p → IsShape (one f) (λ x. p x ∷ [])
 one-is f p is (a ∷ []) x e = ap (λ b. b ∷ []) (is a x e)
 one-is f p is args x e = absurd (cc)
@@ -220,6 +229,27 @@ one_or_two-is {B = B} f p g q is js (a ∷ b ∷ []) x e = by_second (g b) refl 
       ∙ ap (λ o. p x.0 ∷ option_to_list (option_map q o)) (same_Some _ _ here)
 one_or_two-is f p g q is js args x e = absurd (cc)
 
+one_raw-is : {A : Type 0} (f : Arg → Option A) (p : A → Arg) → IsPart f p → IsShape (one_raw f) (λ x. p x.0 ∷ raw_said x.1)
+one_raw-is f p is (a ∷ args) x e =
+    let parts = both_is (f a) (raw_of args) x e in ap (λ c. c ∷ args) (is a x.0 parts.0) ∙ ap (λ cs. p x.0 ∷ cs) (raw-is args x.1 parts.1)
+one_raw-is f p is [] x e = absurd (cc)
+
+three_raw-is : {A B C : Type 0} (f : Arg → Option A) (p : A → Arg) (g : Arg → Option B) (q : B → Arg) (h : Arg → Option C) (r : C → Arg)
+    → IsPart f p → IsPart g q → IsPart h r → IsShape (three_raw f g h) (λ x. p x.0 ∷ q x.1 ∷ r x.2 ∷ raw_said x.3)
+three_raw-is f p g q h r is js ks (a ∷ b ∷ c ∷ args) x e =
+    let parts = four_are (f a) (g b) (h c) (raw_of args) x e in
+    ap (λ d. d ∷ b ∷ c ∷ args) (is a x.0 parts.0) ∙ ap (λ d. p x.0 ∷ d ∷ c ∷ args) (js b x.1 parts.1) ∙ ap (λ d. p x.0 ∷ q x.1 ∷ d ∷ args) (ks c x.2 parts.2)
+    ∙ ap (λ ds. p x.0 ∷ q x.1 ∷ r x.2 ∷ ds) (raw-is args x.3 parts.3)
+three_raw-is f p g q h r is js ks args x e = absurd (cc)
+
+-- a permission is read from just what is written of it
+pub permission-is : (args : List Arg) (x : ℕ × ℕ) → permission_of args ≡ Some x → args ≡ permission_said x.0 x.1
+permission-is = two-is as_known (λ object. Object (Known object)) as_known (λ object. Object (Known object)) known-is known-is
+
+-- and what is written of it says it
+pub permission_of-said : (thread object : ℕ) → permission_of (permission_said thread object) ≡ Some (thread, object)
+permission_of-said thread object = refl
+
 -- what is made of arguments of a shape is written as they are
 by_shape : {X C D : Type 0} (shape : List Arg → Option X) (back : X → List Arg) (make : X → C) (say : C → D) (tell : List Arg → D) → IsShape shape back → ((x : X) → say (make x) ≡ tell (back x))
     → (args : List Arg) (c : C) → option_map make (shape args) ≡ Some c → say c ≡ tell args
@@ -231,6 +261,10 @@ by_shape {X} shape back make say tell is says args c said = by_read (shape args)
 -- the words of one object alone
 one_object : (w : Word) (f : Ref → Call) → ((x : Ref) → said_of (f x) ≡ saying w (Object x ∷ [])) → (args : List Arg) (c : Call) → option_map f (one as_object args) ≡ Some c → said_of c ≡ saying w args
 one_object w f says = by_shape (one as_object) _ f said_of (saying w) (one-is as_object Object object-is) says
+
+-- the words of two objects
+two_objects : (w : Word) (f : Ref × Ref → Call) → ((x : Ref × Ref) → said_of (f x) ≡ saying w (Object x.0 ∷ Object x.1 ∷ [])) → (args : List Arg) (c : Call) → option_map f (two as_object as_object args) ≡ Some c → said_of c ≡ saying w args
+two_objects w f says = by_shape (two as_object as_object) _ f said_of (saying w) (two-is as_object Object as_object Object object-is object-is) says
 
 -- the words of an item, a queue and a delay
 delayed : (w : Word) (f : Ref × Ref × ℕ → Call) → ((x : Ref × Ref × ℕ) → said_of (f x) ≡ saying w (Object x.0 ∷ Object x.1 ∷ Number x.2 ∷ [])) → (args : List Arg) (c : Call)
@@ -283,6 +317,11 @@ said_of-call_of word.Read = waiting word.Read (λ p. call.Read p.0 p.1) (λ x. r
 said_of-call_of word.Mask = by_shape (three as_object as_object (as_truth State)) _ (λ p. call.Mask p.0 p.1 p.2) said_of (saying word.Mask) (three-is as_object Object as_object Object (as_truth State) (Truth State) object-is object-is (truth-is State)) (λ x. refl)
 said_of-call_of word.Enable = by_shape (two as_object (as_truth State)) _ (λ p. call.Enable p.0 p.1) said_of (saying word.Enable) (two-is as_object Object (as_truth State) (Truth State) object-is (truth-is State)) (λ x. refl)
 said_of-call_of word.SubWait = waiting word.SubWait (λ p. call.SubWait p.0 p.1) (λ x. refl)
+said_of-call_of word.Grant = two_objects word.Grant (λ p. call.Grant p.0 p.1) (λ x. refl)
+said_of-call_of word.Release = one_object word.Release call.Release (λ x. refl)
+said_of-call_of word.Revoke = two_objects word.Revoke (λ p. call.Revoke p.0 p.1) (λ x. refl)
+said_of-call_of word.Public = one_object word.Public call.Public (λ x. refl)
+said_of-call_of word.Init = one_object word.Init call.Init (λ x. refl)
 
 -- a call can be kept: the result of a signal is a number of 16 bits, and a poll has 1 to 8 events
 abbrev pub IsKept : Call → Type 0
@@ -330,6 +369,11 @@ call_of-said_of (call.Read channel wait) kept = refl
 call_of-said_of (call.Mask channel observer on) kept = refl
 call_of-said_of (call.Enable observer on) kept = refl
 call_of-said_of (call.SubWait sub wait) kept = refl
+call_of-said_of (call.Grant thread object) kept = refl
+call_of-said_of (call.Release object) kept = refl
+call_of-said_of (call.Revoke thread object) kept = refl
+call_of-said_of (call.Public object) kept = refl
+call_of-said_of (call.Init object) kept = refl
 
 -- what is made a call can be kept: the events of a poll are few
 few-poll : (args : List Arg) (wait : Timeout) (events : List PollEvent) → call_of word.Poll args ≡ Some (call.Poll wait events) → is_few events ≡ true
@@ -357,19 +401,19 @@ playing : (k : Kind) (choice : Choice) (f : List ℕ × ℤ × Bool → Decl) �
 playing k choice f says =
     by_shape (three as_name as_priority (as_truth choice)) _ f written_of (written k) (three-is as_name Name as_priority Priority (as_truth choice) (Truth choice) name-is priority-is (truth-is choice)) says
 
--- the kinds of a name and two numbers
-numbered : (k : Kind) (f : List ℕ × ℕ × ℕ → Decl) → ((x : List ℕ × ℕ × ℕ) → written_of (f x) ≡ written k (Name x.0 ∷ Number x.1 ∷ Number x.2 ∷ [])) → (args : List Arg) (d : Decl)
-    → option_map f (three as_name as_number as_number args) ≡ Some d → written_of d ≡ written k args
-numbered k f says = by_shape (three as_name as_number as_number) _ f written_of (written k) (three-is as_name Name as_number Number as_number Number name-is number-is number-is) says
+-- the kinds of a name and two numbers, behind which `raw` may stand
+numbered : (k : Kind) (f : List ℕ × ℕ × ℕ × Bool → Decl) → ((x : List ℕ × ℕ × ℕ × Bool) → written_of (f x) ≡ written k (Name x.0 ∷ Number x.1 ∷ Number x.2 ∷ raw_said x.3)) → (args : List Arg) (d : Decl)
+    → option_map f (three_raw as_name as_number as_number args) ≡ Some d → written_of d ≡ written k args
+numbered k f says = by_shape (three_raw as_name as_number as_number) _ f written_of (written k) (three_raw-is as_name Name as_number Number as_number Number name-is number-is number-is) says
 
 -- what is made a declaration is written so
 pub written_of-decl_of : (k : Kind) (args : List Arg) (d : Decl) → decl_of k args ≡ Some d → written_of d ≡ written k args
 written_of-decl_of kind.Thread = playing kind.Thread Mode (λ p. decl.Thread p.0 p.1 p.2) (λ x. refl)
 written_of-decl_of kind.Queue = playing kind.Queue State (λ p. decl.Queue p.0 p.1 p.2) (λ x. refl)
 written_of-decl_of kind.Item = by_shape (one as_name) _ decl.Item written_of (written kind.Item) (one-is as_name Name name-is) (λ x. refl)
-written_of-decl_of kind.Sem = numbered kind.Sem (λ p. decl.Sem p.0 p.1 p.2) (λ x. refl)
-written_of-decl_of kind.Msgq = numbered kind.Msgq (λ p. decl.Msgq p.0 p.1 p.2) (λ x. refl)
-written_of-decl_of kind.Signal = by_shape (one as_name) _ decl.Signal written_of (written kind.Signal) (one-is as_name Name name-is) (λ x. refl)
+written_of-decl_of kind.Sem = numbered kind.Sem (λ p. decl.Sem p.0 p.1 p.2 p.3) (λ x. refl)
+written_of-decl_of kind.Msgq = numbered kind.Msgq (λ p. decl.Msgq p.0 p.1 p.2 p.3) (λ x. refl)
+written_of-decl_of kind.Signal = by_shape (one_raw as_name) _ (λ p. decl.Signal p.0 p.1) written_of (written kind.Signal) (one_raw-is as_name Name name-is) (λ x. refl)
 written_of-decl_of kind.Listener = by_shape (one as_name) _ decl.Listener written_of (written kind.Listener) (one-is as_name Name name-is) (λ x. refl)
 written_of-decl_of kind.Sub = by_shape (two as_name as_number) _ (λ p. decl.Sub p.0 p.1) written_of (written kind.Sub) (two-is as_name Name as_number Number name-is number-is) (λ x. refl)
 written_of-decl_of kind.Chan = by_shape channel_parts _ (λ p. decl.Chan p.0 p.1 p.2 p.3) written_of (written kind.Chan) channel_parts-is (λ x. refl)
@@ -384,9 +428,12 @@ pub decl_of-decl_args : (d : Decl) → IsKeptDecl d → decl_of (kind_of d) (dec
 decl_of-decl_args (decl.Thread name prio user) kept = refl
 decl_of-decl_args (decl.Queue name prio on) kept = refl
 decl_of-decl_args (decl.Item name) kept = refl
-decl_of-decl_args (decl.Sem name initial limit) kept = refl
-decl_of-decl_args (decl.Msgq name size capacity) kept = refl
-decl_of-decl_args (decl.Signal name) kept = refl
+decl_of-decl_args (decl.Sem name initial limit true) kept = refl
+decl_of-decl_args (decl.Sem name initial limit false) kept = refl
+decl_of-decl_args (decl.Msgq name size capacity true) kept = refl
+decl_of-decl_args (decl.Msgq name size capacity false) kept = refl
+decl_of-decl_args (decl.Signal name true) kept = refl
+decl_of-decl_args (decl.Signal name false) kept = refl
 decl_of-decl_args (decl.Listener name) kept = refl
 decl_of-decl_args (decl.Sub name capacity) kept = refl
 decl_of-decl_args (decl.Chan name message valid observers) few =

@@ -1,5 +1,5 @@
 -- A line of right words makes its call or its declaration.
-use Rattle.std.proofs.Common.{◌≡◌, ℕ, ◌≤◌, ◌/◌, Bool, true, false, cond, eqb, nat_le, nat_lt, ◌&&◌, ◌||◌, List, [], ◌∷◌, map, count_by, length, Option, Some, None, is_some, arith, refl, sym, ap, subst, ◌∙◌}
+use Rattle.std.proofs.Common.{◌≡◌, ℕ, ◌≤◌, ◌/◌, Bool, true, false, cond, eqb, nat_le, nat_lt, ◌&&◌, ◌||◌, List, [], ◌∷◌, map, count_by, length, codes, Option, Some, None, is_some, arith, refl, sym, ap, subst, ◌∙◌}
 use Rattle.std.specs.Prelude.{option_map, option_and_then, IsSome, bytes_eq}
 use Rattle.std.specs.List.{list_all, list_any}
 use Rattle.std.specs.Option.{option_map_or, option_flatten}
@@ -26,6 +26,7 @@ use Rattle.zk_words.specs.Numbers.{number_in, priority_of}
 use Rattle.zk_words.specs.Parts.{Placed, placed, parts_of, fits}
 use Rattle.zk_words.specs.Spelled.{choice_text, is_spelled_in, part_is_spelled}
 use Rattle.zk_words.specs.Table.{call_row, kind_row, item, queue, sem, msgq, signal, delay, ticks, index, initial, limit, size, capacity, channel, observer, result}
+use Rattle.zk_words.specs.Table as table
 use Rattle.zk_words.specs.Timeouts.{wait_of}
 use Rattle.zk_words.specs.Validators.{validator_of}
 use Rattle.zk_words.specs.declared.word.Head.TheVariants.{Declare}
@@ -36,7 +37,7 @@ use Rattle.zk_line.specs.declared.types.Decl.TheVariants as decl
 use Rattle.zk_line.specs.declared.types.Ref.{Ref}
 use Rattle.zk_line.specs.declared.types.Ref.TheVariants.{Known}
 use Rattle.zk_line.specs.declared.types.Arg.{Arg}
-use Rattle.zk_line.specs.declared.types.Arg.TheVariants.{Name, Object, Number, Priority, Truth, Bytes, Wait, Event, Valid as ValidArg}
+use Rattle.zk_line.specs.declared.types.Arg.TheVariants.{Name, Object, Number, Priority, Truth, Bytes, Wait, Event, Valid as ValidArg, Raw}
 use Rattle.zk_line.specs.declared.events.Event.{Event as PollEvent}
 use Rattle.zk_line.specs.declared.events.Event.TheVariants as event
 use Rattle.zk_line.specs.declared.types.Call.{Call}
@@ -44,13 +45,13 @@ use Rattle.zk_line.specs.declared.types.Call.TheVariants as call
 use Rattle.zk_line.specs.Args.{truth_of, ref_of, arg_of, args_of}
 use Rattle.zk_line.specs.Calls.{call_of}
 use Rattle.zk_line.specs.Checks.{is_size, is_in_range, each_in_range, is_well_named, each_well_named, is_event_slot, has_many_events, go_together, is_observer_slot, has_many_observers}
-use Rattle.zk_line.specs.Decls.{decl_of, objects_said}
+use Rattle.zk_line.specs.Decls.{decl_of, objects_said, permission_of}
 use Rattle.zk_line.specs.Few.{is_few, event_at}
-use Rattle.zk_line.specs.Objects.{object_of, is_at, is_met, names}
+use Rattle.zk_line.specs.Objects.{object_of, is_at, can_be_raw, is_met, names}
 use Rattle.zk_line.proofs.Fits.{half}
 use Rattle.zk_line.proofs.Inverse.{events_of-map, objects_of-said, ChannelParts}
 use Rattle.zk_line.proofs.Lists.{count_by-cons}
-use Rattle.zk_line.specs.Shapes.{as_name, as_object, as_number, as_result, as_priority, as_truth, as_bytes, as_wait, both, all_three, one, two, three, one_or_two, objects_of}
+use Rattle.zk_line.specs.Shapes.{as_name, as_object, as_number, as_result, as_priority, as_truth, as_bytes, as_wait, as_known, both, all_three, all_four, one, two, three, one_raw, three_raw, one_or_two, objects_of}
 
 -- a word is spelled, in range and well named, in a line whose messages have so many bytes
 pub record IsRight (decls : List Decl) (bytes : Option ℕ) (s : Slot) (w : List ℕ) : Type 0 where
@@ -89,6 +90,18 @@ object-made n decls bytes w right = by_place (object_of decls w) refl where
   by_place : (o : Option ℕ) → object_of decls w ≡ o → (arg : Arg) × (arg_of decls (slot.Object n) w ≡ Some arg) × IsSome (as_object arg)
   by_place (Some k) same = (Object (Known k), ap (λ o. option_map Object (option_map Known o)) same, refl)
   by_place None same = let none : false ≡ true = sym (ap (λ o. option_map_or (is_at (is_met n) decls) o false) same) ∙ right.named in absurd (cc)
+
+known-made : (n : Need) → IsMade (slot.Object n) as_known
+known-made n decls bytes w right = by_place (object_of decls w) refl where
+  by_place : (o : Option ℕ) → object_of decls w ≡ o → (arg : Arg) × (arg_of decls (slot.Object n) w ≡ Some arg) × IsSome (as_known arg)
+  by_place (Some k) same = (Object (Known k), ap (λ o. option_map Object (option_map Known o)) same, refl)
+  by_place None same = let none : false ≡ true = sym (ap (λ o. option_map_or (is_at (is_met n) decls) o false) same) ∙ right.named in absurd (cc)
+
+rawable-made : IsMade slot.Rawable as_object
+rawable-made decls bytes w right = by_place (object_of decls w) refl where
+  by_place : (o : Option ℕ) → object_of decls w ≡ o → (arg : Arg) × (arg_of decls slot.Rawable w ≡ Some arg) × IsSome (as_object arg)
+  by_place (Some k) same = (Object (Known k), ap (λ o. option_map Object (option_map Known o)) same, refl)
+  by_place None same = let none : false ≡ true = sym (ap (λ o. option_map_or (is_at can_be_raw decls) o false) same) ∙ right.named in absurd (cc)
 
 number-made : (least most : ℕ) → IsMade (slot.Number least most) as_number
 number-made least most decls bytes w right = let n = is_some-some (number_in least most w) right.in_range in (Number n.0, ap (option_map Number) n.1, refl)
@@ -175,18 +188,43 @@ three-line s f t g r h made also third decls bytes (w ∷ v ∷ u ∷ []) fit ri
     )
 three-line s f t g r h made also third decls bytes (w ∷ v ∷ u ∷ x ∷ ws) fit right = absurd (cc)
 
--- the same, where `raw` may stand behind: no right line has it
-three_maybe_raw-line : {A B C : Type 0} (s : Slot) (f : Arg → Option A) (t : Slot) (g : Arg → Option B) (r : Slot) (h : Arg → Option C) → IsMade s f → IsMade t g → IsMade r h → IsLine (s ∷ t ∷ r ∷ []) (Maybe slot.Raw) (three f g h)
-three_maybe_raw-line s f t g r h made also third decls bytes [] fit right = absurd (cc)
-three_maybe_raw-line s f t g r h made also third decls bytes (w ∷ []) fit right = absurd (cc)
-three_maybe_raw-line s f t g r h made also third decls bytes (w ∷ v ∷ []) fit right = absurd (cc)
-three_maybe_raw-line s f t g r h made also third decls bytes (w ∷ v ∷ u ∷ []) fit right = three-line s f t g r h made also third decls bytes (w ∷ v ∷ u ∷ []) refl right
-three_maybe_raw-line s f t g r h made also third decls bytes (w ∷ v ∷ u ∷ x ∷ ws) fit right = let none : false ≡ true = right.1.1.1.0.named in absurd (cc)
+-- a right `raw` says itself
+raw-made : (decls : List Decl) (bytes : Option ℕ) (w : List ℕ) → IsRight decls bytes slot.Raw w → args_of decls (placed slot.Raw w ∷ []) ≡ Some (Raw ∷ [])
+raw-made decls bytes w right = args-cons decls slot.Raw w [] Raw [] (cond-true (bytes_eq w (codes "raw")) (Some Raw) None right.spelled) refl
 
-one_maybe_raw-line : {A : Type 0} (s : Slot) (f : Arg → Option A) → IsMade s f → IsLine (s ∷ []) (Maybe slot.Raw) (one f)
-one_maybe_raw-line s f made decls bytes [] fit right = absurd (cc)
-one_maybe_raw-line s f made decls bytes (w ∷ []) fit right = one-line s f made decls bytes (w ∷ []) refl right
-one_maybe_raw-line s f made decls bytes (w ∷ v ∷ ws) fit right = let none : false ≡ true = right.1.0.named in absurd (cc)
+one_raw-line : {A : Type 0} (s : Slot) (f : Arg → Option A) → IsMade s f → IsLine (s ∷ []) (Maybe slot.Raw) (one_raw f)
+one_raw-line s f made decls bytes [] fit right = absurd (cc)
+one_raw-line s f made decls bytes (w ∷ []) fit right =
+    let m = made decls bytes w right.0 in (m.0 ∷ [], args-cons decls s w [] m.0 [] m.1 refl, both-some (f m.0) (Some false) m.2 refl)
+one_raw-line s f made decls bytes (w ∷ v ∷ []) fit right =
+    let m = made decls bytes w right.0 in
+    (m.0 ∷ Raw ∷ [], args-cons decls s w (placed slot.Raw v ∷ []) m.0 (Raw ∷ []) m.1 (raw-made decls bytes v right.1.0), both-some (f m.0) (Some true) m.2 refl)
+one_raw-line s f made decls bytes (w ∷ v ∷ u ∷ ws) fit right = absurd (cc)
+
+four-some : {A B C : Type 0} (x : Option A) (y : Option B) (z : Option C) (raw : Bool) → IsSome x → IsSome y → IsSome z → IsSome (all_four x y z (Some raw))
+four-some (Some a) (Some b) (Some c) raw e h k = refl
+four-some None y z raw e h k = absurd (cc)
+four-some (Some a) None z raw e h k = absurd (cc)
+four-some (Some a) (Some b) None raw e h k = absurd (cc)
+
+three_raw-line : {A B C : Type 0} (s : Slot) (f : Arg → Option A) (t : Slot) (g : Arg → Option B) (r : Slot) (h : Arg → Option C) → IsMade s f → IsMade t g → IsMade r h → IsLine (s ∷ t ∷ r ∷ []) (Maybe slot.Raw) (three_raw f g h)
+three_raw-line s f t g r h made also third decls bytes [] fit right = absurd (cc)
+three_raw-line s f t g r h made also third decls bytes (w ∷ []) fit right = absurd (cc)
+three_raw-line s f t g r h made also third decls bytes (w ∷ v ∷ []) fit right = absurd (cc)
+three_raw-line s f t g r h made also third decls bytes (w ∷ v ∷ u ∷ []) fit right =
+    let m = made decls bytes w right.0 in let n = also decls bytes v right.1.0 in let o = third decls bytes u right.1.1.0 in (
+      m.0 ∷ n.0 ∷ o.0 ∷ [],
+      args-cons decls s w (placed t v ∷ placed r u ∷ []) m.0 (n.0 ∷ o.0 ∷ []) m.1 (args-cons decls t v (placed r u ∷ []) n.0 (o.0 ∷ []) n.1 (args-cons decls r u [] o.0 [] o.1 refl)),
+      four-some (f m.0) (g n.0) (h o.0) false m.2 n.2 o.2,
+    )
+three_raw-line s f t g r h made also third decls bytes (w ∷ v ∷ u ∷ x ∷ []) fit right =
+    let m = made decls bytes w right.0 in let n = also decls bytes v right.1.0 in let o = third decls bytes u right.1.1.0 in
+    let raw = placed slot.Raw x ∷ [] in (
+      m.0 ∷ n.0 ∷ o.0 ∷ Raw ∷ [],
+      args-cons decls s w (placed t v ∷ placed r u ∷ raw) m.0 (n.0 ∷ o.0 ∷ Raw ∷ []) m.1 (args-cons decls t v (placed r u ∷ raw) n.0 (o.0 ∷ Raw ∷ []) n.1 (args-cons decls r u raw o.0 (Raw ∷ []) o.1 (raw-made decls bytes x right.1.1.1.0))),
+      four-some (f m.0) (g n.0) (h o.0) true m.2 n.2 o.2,
+    )
+three_raw-line s f t g r h made also third decls bytes (w ∷ v ∷ u ∷ x ∷ y ∷ ws) fit right = absurd (cc)
 
 one_or_two-line : {A B : Type 0} (s : Slot) (f : Arg → Option A) (t : Slot) (g : Arg → Option B) → IsMade s f → IsMade t g → IsLine (s ∷ []) (Maybe t) (one_or_two f g)
 one_or_two-line s f t g made also decls bytes [] fit right = absurd (cc)
@@ -278,6 +316,9 @@ one_signal f = by_line (signal ∷ []) Nothing (one as_object) f (one-line signa
 one_chan : (f : Ref → Call) → Makes (channel ∷ []) Nothing (λ args. option_map f (one as_object args))
 one_chan f = by_line (channel ∷ []) Nothing (one as_object) f (one-line channel as_object (object-made need.Chan))
 
+one_any : (f : Ref → Call) → Makes (table.object ∷ []) Nothing (λ args. option_map f (one as_object args))
+one_any f = by_line (table.object ∷ []) Nothing (one as_object) f (one-line table.object as_object (object-made need.Any))
+
 -- the lines of an object and of how long is waited for it
 waiting : (n : Need) (f : Ref × Timeout → Call) → Makes (slot.Object n ∷ slot.Wait ∷ []) Nothing (λ args. option_map f (two as_object as_wait args))
 waiting n f = by_line (slot.Object n ∷ slot.Wait ∷ []) Nothing (two as_object as_wait) f (two-line (slot.Object n) as_object slot.Wait as_wait (object-made n) wait-made)
@@ -285,6 +326,10 @@ waiting n f = by_line (slot.Object n ∷ slot.Wait ∷ []) Nothing (two as_objec
 -- the lines of an object, of a message for it, and of how long is waited for it
 sending : (n : Need) (f : Ref × List ℕ × Timeout → Call) → Makes (slot.Object n ∷ slot.Hex ∷ slot.Wait ∷ []) Nothing (λ args. option_map f (three as_object as_bytes as_wait args))
 sending n f = by_line (slot.Object n ∷ slot.Hex ∷ slot.Wait ∷ []) Nothing (three as_object as_bytes as_wait) f (three-line (slot.Object n) as_object slot.Hex as_bytes slot.Wait as_wait (object-made n) bytes-made wait-made)
+
+-- the lines of a thread and an object
+permitting : {C : Type 0} (f : Ref × Ref → C) → Makes (table.thread ∷ table.object ∷ []) Nothing (λ args. option_map f (two as_object as_object args))
+permitting f = by_line (table.thread ∷ table.object ∷ []) Nothing (two as_object as_object) f (two-line table.thread as_object table.object as_object (object-made need.Thread) (object-made need.Any))
 
 -- the lines of an item, a queue and a delay
 delayed : IsLine (item ∷ queue ∷ delay ∷ []) Nothing (three as_object as_object as_number)
@@ -331,6 +376,11 @@ makes_other word.Read other = waiting need.Chan (λ p. call.Read p.0 p.1)
 makes_other word.Mask other = by_line (channel ∷ observer ∷ slot.Either State ∷ []) Nothing (three as_object as_object (as_truth State)) (λ p. call.Mask p.0 p.1 p.2) (three-line channel as_object observer as_object (slot.Either State) (as_truth State) (object-made need.Chan) (object-made need.Obs) (truth-made State))
 makes_other word.Enable other = by_line (observer ∷ slot.Either State ∷ []) Nothing (two as_object (as_truth State)) (λ p. call.Enable p.0 p.1) (two-line observer as_object (slot.Either State) (as_truth State) (object-made need.Obs) (truth-made State))
 makes_other word.SubWait other = waiting need.Sub (λ p. call.SubWait p.0 p.1)
+makes_other word.Grant other = permitting (λ p. call.Grant p.0 p.1)
+makes_other word.Release other = one_any call.Release
+makes_other word.Revoke other = permitting (λ p. call.Revoke p.0 p.1)
+makes_other word.Public other = one_any call.Public
+makes_other word.Init other = by_line (slot.Rawable ∷ []) Nothing (one as_object) call.Init (one-line slot.Rawable as_object rawable-made)
 
 -- a right line of a call word makes its call, where it hasn't too many events
 pub makes_call : (w : Word) (decls : List Decl) (bytes : Option ℕ) (ws : List (List ℕ)) → fits (call_row w).slots (call_row w).rest ws ≡ true → AreRight decls bytes (parts_of (call_row w).slots (call_row w).rest ws)
@@ -343,9 +393,9 @@ playing : (choice : Choice) → IsLine (slot.New ∷ slot.Priority ∷ slot.Eith
 playing choice = three-line slot.New as_name slot.Priority as_priority (slot.Either choice) (as_truth choice) name-made priority-made (truth-made choice)
 
 -- the lines of a name and two numbers, behind which `raw` may stand
-numbered : (least most low high : ℕ) → IsLine (slot.New ∷ slot.Number least most ∷ slot.Number low high ∷ []) (Maybe slot.Raw) (three as_name as_number as_number)
+numbered : (least most low high : ℕ) → IsLine (slot.New ∷ slot.Number least most ∷ slot.Number low high ∷ []) (Maybe slot.Raw) (three_raw as_name as_number as_number)
 numbered least most low high =
-    three_maybe_raw-line slot.New as_name (slot.Number least most) as_number (slot.Number low high) as_number name-made (number-made least most) (number-made low high)
+    three_raw-line slot.New as_name (slot.Number least most) as_number (slot.Number low high) as_number name-made (number-made least most) (number-made low high)
 
 -- right observers say their objects
 objects-made : (decls : List Decl) (bytes : Option ℕ) (ws : List (List ℕ)) → AreRight decls bytes (map (placed observer) ws)
@@ -426,9 +476,9 @@ makes_other_decl : (k : Kind) → is_channel k ≡ false → Makes (kind_row k).
 makes_other_decl kind.Thread other = by_line (slot.New ∷ slot.Priority ∷ slot.Either Mode ∷ []) Nothing (three as_name as_priority (as_truth Mode)) (λ p. decl.Thread p.0 p.1 p.2) (playing Mode)
 makes_other_decl kind.Queue other = by_line (slot.New ∷ slot.Priority ∷ slot.Either State ∷ []) Nothing (three as_name as_priority (as_truth State)) (λ p. decl.Queue p.0 p.1 p.2) (playing State)
 makes_other_decl kind.Item other = by_line (slot.New ∷ []) Nothing (one as_name) decl.Item (one-line slot.New as_name name-made)
-makes_other_decl kind.Sem other = by_line (slot.New ∷ initial ∷ limit ∷ []) (Maybe slot.Raw) (three as_name as_number as_number) (λ p. decl.Sem p.0 p.1 p.2) (numbered 0 1000000 1 1000000)
-makes_other_decl kind.Msgq other = by_line (slot.New ∷ size ∷ capacity ∷ []) (Maybe slot.Raw) (three as_name as_number as_number) (λ p. decl.Msgq p.0 p.1 p.2) (numbered 1 64 1 256)
-makes_other_decl kind.Signal other = by_line (slot.New ∷ []) (Maybe slot.Raw) (one as_name) decl.Signal (one_maybe_raw-line slot.New as_name name-made)
+makes_other_decl kind.Sem other = by_line (slot.New ∷ initial ∷ limit ∷ []) (Maybe slot.Raw) (three_raw as_name as_number as_number) (λ p. decl.Sem p.0 p.1 p.2 p.3) (numbered 0 1000000 1 1000000)
+makes_other_decl kind.Msgq other = by_line (slot.New ∷ size ∷ capacity ∷ []) (Maybe slot.Raw) (three_raw as_name as_number as_number) (λ p. decl.Msgq p.0 p.1 p.2 p.3) (numbered 1 64 1 256)
+makes_other_decl kind.Signal other = by_line (slot.New ∷ []) (Maybe slot.Raw) (one_raw as_name) (λ p. decl.Signal p.0 p.1) (one_raw-line slot.New as_name name-made)
 makes_other_decl kind.Listener other = by_line (slot.New ∷ []) Nothing (one as_name) decl.Listener (one-line slot.New as_name name-made)
 makes_other_decl kind.Sub other = by_line (slot.New ∷ capacity ∷ []) Nothing (two as_name as_number) (λ p. decl.Sub p.0 p.1) (two-line slot.New as_name capacity as_number name-made (number-made 1 256))
 makes_other_decl kind.Chan other = absurd (cc)
@@ -439,3 +489,10 @@ pub makes_decl : (k : Kind) (decls : List Decl) (bytes : Option ℕ) (ws : List 
     → IsSome (option_and_then (decl_of k) (args_of decls (parts_of (kind_row k).slots (kind_row k).rest ws)))
 makes_decl kind.Chan decls bytes ws fit right together few = chan-made decls bytes ws fit right together few
 makes_decl k decls bytes ws fit right together few = makes_other_decl k refl decls bytes ws fit right
+
+-- a right line of a permission says it
+pub makes_permission : (decls : List Decl) (bytes : Option ℕ) (ws : List (List ℕ)) → fits (table.thread ∷ table.object ∷ []) Nothing ws ≡ true → AreRight decls bytes (parts_of (table.thread ∷ table.object ∷ []) Nothing ws)
+    → IsSome (option_and_then permission_of (args_of decls (parts_of (table.thread ∷ table.object ∷ []) Nothing ws)))
+makes_permission decls bytes ws fit right =
+    let m = two-line table.thread as_known table.object as_known (known-made need.Thread) (known-made need.Any) decls bytes ws fit right in
+    ap (λ o. is_some (option_and_then permission_of o)) m.1 ∙ m.2

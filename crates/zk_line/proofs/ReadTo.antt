@@ -30,6 +30,7 @@ first_in_range decls slot.Hex word = ap (λ size. is_in_range size slot.Hex word
 first_in_range decls slot.New word = refl
 first_in_range decls slot.Owner word = refl
 first_in_range decls (slot.Object need) word = refl
+first_in_range decls slot.Rawable word = refl
 first_in_range decls (slot.Number least most) word = refl
 first_in_range decls slot.Priority word = refl
 first_in_range decls (slot.Either choice) word = refl

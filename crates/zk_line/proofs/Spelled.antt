@@ -36,17 +36,17 @@ use Rattle.zk_line.specs.declared.types.Decl.TheVariants as decl
 use Rattle.zk_line.specs.declared.types.Ref.{Ref}
 use Rattle.zk_line.specs.declared.types.Ref.TheVariants.{Known}
 use Rattle.zk_line.specs.declared.types.Arg.{Arg}
-use Rattle.zk_line.specs.declared.types.Arg.TheVariants.{Name, Object, Number, Priority, Truth, Bytes, Wait, Event, Valid}
+use Rattle.zk_line.specs.declared.types.Arg.TheVariants.{Name, Object, Number, Priority, Truth, Bytes, Wait, Event, Valid, Raw}
 use Rattle.zk_line.specs.declared.events.Event.{Event as PollEvent}
 use Rattle.zk_line.specs.declared.events.Event.TheVariants as event
 use Rattle.zk_line.specs.declared.types.Call.{Call}
 use Rattle.zk_line.specs.Args.{truth_of, ref_of, event_of, arg_of, args_of, ref_name, event_text, arg_text}
 use Rattle.zk_line.specs.Calls.{call_of}
-use Rattle.zk_line.specs.Decls.{decl_of}
+use Rattle.zk_line.specs.Decls.{decl_of, permission_of}
 use Rattle.zk_line.specs.Few.{event_at}
 use Rattle.zk_line.specs.Objects.{object_of, name_of, name_at}
-use Rattle.zk_line.specs.Text.{said_line, decl_line, call_line}
-use Rattle.zk_line.proofs.Inverse.{said_of-call_of, written_of-decl_of}
+use Rattle.zk_line.specs.Text.{said_line, decl_line, allow_line, call_line}
+use Rattle.zk_line.proofs.Inverse.{said_of-call_of, written_of-decl_of, permission-is}
 use Rattle.zk_line.proofs.Options.{one_part}
 
 -- the name of an object that is found by it
@@ -122,6 +122,8 @@ arg_spelled decls slot.Owner word arg said =
     let part = one_part Object (ref_of decls word) arg said in ref_spelled decls word part.0 part.1 ∙ ap (arg_text decls) part.2
 arg_spelled decls (slot.Object need) word arg said =
     let part = one_part Object (ref_of decls word) arg said in ref_spelled decls word part.0 part.1 ∙ ap (arg_text decls) part.2
+arg_spelled decls slot.Rawable word arg said =
+    let part = one_part Object (ref_of decls word) arg said in ref_spelled decls word part.0 part.1 ∙ ap (arg_text decls) part.2
 arg_spelled decls (slot.Number least most) word arg said =
     let part = one_part Number (number_in least most word) arg said in (number_in_spelled least most word part.0 part.1).0 ∙ ap (arg_text decls) part.2
 arg_spelled decls slot.Priority word arg said =
@@ -136,7 +138,9 @@ arg_spelled decls slot.Event word arg said =
     let part = one_part Event (event_of decls word) arg said in event_spelled decls word part.0 part.1 ∙ ap (arg_text decls) part.2
 arg_spelled decls slot.Valid word arg said =
     let part = one_part Valid (validator_of word) arg said in validator_spelled word part.0 part.1 ∙ ap (arg_text decls) part.2
-arg_spelled decls slot.Raw word arg said = absurd (cc)
+arg_spelled decls slot.Raw word arg said =
+    let part = cond_some (bytes_eq word (codes "raw")) Raw arg said in
+    (bytes_decides word (codes "raw")).0 part.0 ∙ ap (arg_text decls) part.1
 
 -- the words of a line that says something throughout are the texts of that
 args_spelled : (decls : List Decl) (parts : List Placed) (args : List Arg) → args_of decls parts ≡ Some args → map (λ p. p.text) parts ≡ map (arg_text decls) args
@@ -155,6 +159,15 @@ decl_is_line decls k parts d made =
     (λ args is_args given.
     ap (λ w. said_line decls (head.Declare w.kind) w.args) (written_of-decl_of k args d given)
     ∙ ap (λ ws. line_text ((row_of (head.Declare k)).first ∷ ws)) (sym (args_spelled decls parts args is_args)))
+
+-- a line that says a permission is the permission's line
+pub allow_is_line : (decls : List Decl) (parts : List Placed) (thread object : ℕ) → option_and_then permission_of (args_of decls parts) ≡ Some (thread, object)
+    → allow_line decls thread object ≡ line_text (form_words head.Allow parts)
+allow_is_line decls parts thread object made =
+    option_and_then_some permission_of (args_of decls parts) (thread, object) made
+    (λ args is_args given.
+    ap (said_line decls head.Allow) (sym (permission-is args (thread, object) given))
+    ∙ ap (λ ws. line_text ((row_of head.Allow).first ∷ ws)) (sym (args_spelled decls parts args is_args)))
 
 -- a line that makes a call is the call's line
 pub call_is_line : (decls : List Decl) (w : Word) (parts : List Placed) (c : Call) → option_and_then (call_of w) (args_of decls parts) ≡ Some c → call_line decls c ≡ line_text (form_words (head.Call w) parts)

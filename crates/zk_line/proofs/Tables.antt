@@ -6,14 +6,13 @@ use Rattle.std.specs.Cmp.Lexicographic.{bytes_decides}
 use Rattle.std.proofs.lemmas.Bool.{cases_Bool, cases_order, cond-true, cond-false}
 use Rattle.std.proofs.lemmas.List.{take-append-le}
 use Rattle.std.proofs.lemmas.List.Recursion.{is_count_by}
-use Rattle.std.proofs.lemmas.List.Sums.{count_by-le-length}
 use Rattle.std.proofs.lemmas.Option.{slice_get_past}
 use Rattle.std.proofs.Math.Seq.{take-append_seam}
+use Rattle.zk_line.specs.declared.kind_lists.Lists.{Lists}
 use Rattle.zk_line.specs.declared.names.Names.{Names}
 use Rattle.zk_line.specs.declared.types.Decl.{Decl}
-use Rattle.zk_line.specs.declared.types.Decl.TheVariants.{Thread, Queue, Item, Sem, Msgq, Signal, Listener, Sub, Chan}
 use Rattle.zk_line.specs.ByName.{by_name}
-use Rattle.zk_line.specs.Objects.{object_of, own_list, grown, IsTabled, is_thread, is_queue, is_item, is_sem, is_msgq, is_signal, is_chan, is_observer, name_of, same_kind, places, places_from, number_of}
+use Rattle.zk_line.specs.Objects.{object_of, grown, IsTabled, is_thread, is_queue, is_item, is_sem, is_msgq, is_signal, is_chan, is_observer, name_of, same_kind, places, places_from, number_of}
 use Rattle.zk_line.proofs.Lists.{slice_get-append_left, slice_get-push, position-push}
 
 -- the places of what passes, with one declaration more
@@ -83,67 +82,36 @@ object_of-push ds d name fresh =
       kept None = refl
       kept (Some k) = refl
 
--- the number of a new object: how many of its kind there are
-pub length-own_list : (ds : List Decl) (d : Decl) → length (own_list d (places is_thread ds) (places is_queue ds) (places is_item ds) (places is_sem ds) (places is_msgq ds) (places is_signal ds) (places is_chan ds) (places is_observer ds)) ≡ count_by (same_kind d) ds
-length-own_list ds (Thread name prio user) = length-places is_thread ds
-length-own_list ds (Queue name prio on) = length-places is_queue ds
-length-own_list ds (Item name) = length-places is_item ds
-length-own_list ds (Sem name initial limit) = length-places is_sem ds
-length-own_list ds (Msgq name size capacity) = length-places is_msgq ds
-length-own_list ds (Signal name) = length-places is_signal ds
-length-own_list ds (Listener name) = length-places is_observer ds
-length-own_list ds (Sub name capacity) = length-places is_observer ds
-length-own_list ds (Chan name message valid own) = length-places is_chan ds
+-- a list of the objects that pass a test, with one declaration more
+list-push : (test : Decl → Bool) (ds : List Decl) (d : Decl) (list after : List ℕ) → list ≡ places test ds → after ≡ grown test d (length ds) list → after ≡ places test (ds ++ d ∷ [])
+list-push test ds d list after is put = put ∙ ap (grown test d (length ds)) is ∙ sym (places-push test ds d)
+
+-- the lists with one object more, of this declaration
+pub record AreGrown (d : Decl) (object : ℕ) (lists after : Lists) : Type 0 where
+  pub threads : after.threads.items ≡ grown is_thread d object lists.threads.items
+  pub queues : after.queues.items ≡ grown is_queue d object lists.queues.items
+  pub items : after.items.items ≡ grown is_item d object lists.items.items
+  pub sems : after.sems.items ≡ grown is_sem d object lists.sems.items
+  pub msgqs : after.msgqs.items ≡ grown is_msgq d object lists.msgqs.items
+  pub signals : after.signals.items ≡ grown is_signal d object lists.signals.items
+  pub chans : after.chans.items ≡ grown is_chan d object lists.chans.items
+  pub observers : after.observers.items ≡ grown is_observer d object lists.observers.items
 
 -- the tables, with one declaration more of a new name
-pub IsTabled-push : (ds : List Decl) (d : Decl) (threads queues items sems msgqs signals chans observers numbers : List ℕ) (n : ℕ) (names after : Names) → IsTabled ds threads queues items sems msgqs signals chans observers numbers names
-    → length ds + 1 < 2 ^ 32 → object_of ds (name_of d) ≡ None → n ≡ length (own_list d threads queues items sems msgqs signals chans observers)
-    → ((other : List ℕ) → by_name after other ≡ cond (bytes_eq (name_of d) other) (Some (length ds)) (by_name names other))
-    → IsTabled (ds ++ d ∷ []) (grown is_thread d (length ds) threads) (grown is_queue d (length ds) queues) (grown is_item d (length ds) items) (grown is_sem d (length ds) sems) (grown is_msgq d (length ds) msgqs) (grown is_signal d (length ds) signals) (grown is_chan d (length ds) chans) (grown is_observer d (length ds) observers)
-    (numbers ++ n ∷ []) after
-IsTabled-push ds d threads queues items sems msgqs signals chans observers numbers n names after held few fresh number put =
-    record {
-      few = omega (arith, length-append ds (d ∷ []));
-      each_thread = ap (grown is_thread d (length ds)) held.each_thread ∙ sym (places-push is_thread ds d);
-      each_queue = ap (grown is_queue d (length ds)) held.each_queue ∙ sym (places-push is_queue ds d);
-      each_item = ap (grown is_item d (length ds)) held.each_item ∙ sym (places-push is_item ds d);
-      each_sem = ap (grown is_sem d (length ds)) held.each_sem ∙ sym (places-push is_sem ds d);
-      each_msgq = ap (grown is_msgq d (length ds)) held.each_msgq ∙ sym (places-push is_msgq ds d);
-      each_signal = ap (grown is_signal d (length ds)) held.each_signal ∙ sym (places-push is_signal ds d);
-      each_chan = ap (grown is_chan d (length ds)) held.each_chan ∙ sym (places-push is_chan ds d);
-      each_observer = ap (grown is_observer d (length ds)) held.each_observer ∙ sym (places-push is_observer ds d);
-      long = length-append numbers (n ∷ []) ∙ ap (λ k. k + 1) held.long ∙ sym (length-append ds (d ∷ []));
-      each_number = numbers-push ds d numbers n held.long held.each_number (number ∙ own ∙ length-own_list ds d);
-      each_name = λ name. put name ∙ ap (λ o. cond (bytes_eq (name_of d) name) (Some (length ds)) o) (held.each_name name) ∙ sym (object_of-push ds d name fresh);
-    } where
-      own : length (own_list d threads queues items sems msgqs signals chans observers) ≡ length (own_list d (places is_thread ds) (places is_queue ds) (places is_item ds) (places is_sem ds) (places is_msgq ds) (places is_signal ds) (places is_chan ds) (places is_observer ds))
-      own = cc
-
--- a list of objects is no longer than the declarations
-pub length-kind : (test : Decl → Bool) (ds : List Decl) (list after : List ℕ) → length ds < 2 ^ 32 → list ≡ places test ds → after ≡ list → length after < 2 ^ 32
-length-kind test ds list after few are same = omega (arith, ap length same, ap length are, length-places test ds, count_by-le-length test ds)
-
--- the same, where the tables after are given by equations
-pub IsTabled-after : (ds : List Decl) (d : Decl) (threads queues items sems msgqs signals chans observers numbers : List ℕ) (n : ℕ) (names after : Names) → IsTabled ds threads queues items sems msgqs signals chans observers numbers names
-    → length ds + 1 < 2 ^ 32 → object_of ds (name_of d) ≡ None → n ≡ length (own_list d threads queues items sems msgqs signals chans observers)
-    → ((other : List ℕ) → by_name after other ≡ cond (bytes_eq (name_of d) other) (Some (length ds)) (by_name names other))
-    → (ds' : List Decl) (threads' queues' items' sems' msgqs' signals' chans' observers' numbers' : List ℕ) → ds' ≡ ds ++ d ∷ [] → threads' ≡ grown is_thread d (length ds) threads → queues' ≡ grown is_queue d (length ds) queues
-    → items' ≡ grown is_item d (length ds) items → sems' ≡ grown is_sem d (length ds) sems → msgqs' ≡ grown is_msgq d (length ds) msgqs → signals' ≡ grown is_signal d (length ds) signals
-    → chans' ≡ grown is_chan d (length ds) chans → observers' ≡ grown is_observer d (length ds) observers
-    → numbers' ≡ numbers ++ n ∷ [] → IsTabled ds' threads' queues' items' sems' msgqs' signals' chans' observers' numbers' after
-IsTabled-after ds d threads queues items sems msgqs signals chans observers numbers n names after held few fresh number put ds' threads' queues' items' sems' msgqs' signals' chans' observers' numbers' all are_threads are_queues are_items are_sems are_msgqs are_signals are_chans are_observers are_numbers =
-    let made = IsTabled-push ds d threads queues items sems msgqs signals chans observers numbers n names after held few fresh number put in
-    record {
-      few = omega (arith, made.few, ap length all);
-      each_thread = are_threads ∙ made.each_thread ∙ ap (places is_thread) (sym all);
-      each_queue = are_queues ∙ made.each_queue ∙ ap (places is_queue) (sym all);
-      each_item = are_items ∙ made.each_item ∙ ap (places is_item) (sym all);
-      each_sem = are_sems ∙ made.each_sem ∙ ap (places is_sem) (sym all);
-      each_msgq = are_msgqs ∙ made.each_msgq ∙ ap (places is_msgq) (sym all);
-      each_signal = are_signals ∙ made.each_signal ∙ ap (places is_signal) (sym all);
-      each_chan = are_chans ∙ made.each_chan ∙ ap (places is_chan) (sym all);
-      each_observer = are_observers ∙ made.each_observer ∙ ap (places is_observer) (sym all);
-      long = ap length are_numbers ∙ made.long ∙ ap length (sym all);
-      each_number = λ object. ap (λ l. unwrap_or (slice_get l object) 0) are_numbers ∙ made.each_number object ∙ ap (λ l. number_of l object) (sym all);
-      each_name = λ name. made.each_name name ∙ ap (λ l. object_of l name) (sym all);
-    }
+pub IsTabled-push : (ds : List Decl) (d : Decl) (lists grown : Lists) (numbers : List ℕ) (n : ℕ) (names after : Names) → IsTabled ds lists numbers names → length ds + 1 < 2 ^ 32 → object_of ds (name_of d) ≡ None
+    → AreGrown d (length ds) lists grown → n ≡ count_by (same_kind d) ds → ((other : List ℕ) → by_name after other ≡ cond (bytes_eq (name_of d) other) (Some (length ds)) (by_name names other))
+    → IsTabled (ds ++ d ∷ []) grown (numbers ++ n ∷ []) after
+IsTabled-push ds d lists grown numbers n names after held few fresh more number put = record {
+  few = omega (arith, length-append ds (d ∷ []));
+  each_thread = list-push is_thread ds d lists.threads.items grown.threads.items held.each_thread more.threads;
+  each_queue = list-push is_queue ds d lists.queues.items grown.queues.items held.each_queue more.queues;
+  each_item = list-push is_item ds d lists.items.items grown.items.items held.each_item more.items;
+  each_sem = list-push is_sem ds d lists.sems.items grown.sems.items held.each_sem more.sems;
+  each_msgq = list-push is_msgq ds d lists.msgqs.items grown.msgqs.items held.each_msgq more.msgqs;
+  each_signal = list-push is_signal ds d lists.signals.items grown.signals.items held.each_signal more.signals;
+  each_chan = list-push is_chan ds d lists.chans.items grown.chans.items held.each_chan more.chans;
+  each_observer = list-push is_observer ds d lists.observers.items grown.observers.items held.each_observer more.observers;
+  long = length-append numbers (n ∷ []) ∙ ap (λ k. k + 1) held.long ∙ sym (length-append ds (d ∷ []));
+  each_number = numbers-push ds d numbers n held.long held.each_number number;
+  each_name = λ name. put name ∙ ap (λ o. cond (bytes_eq (name_of d) name) (Some (length ds)) o) (held.each_name name) ∙ sym (object_of-push ds d name fresh);
+}

@@ -18,7 +18,7 @@ use Rattle.zk_line.specs.declared.types.Decl.{Decl}
 use Rattle.zk_line.specs.declared.types.Ref.{Ref}
 use Rattle.zk_line.specs.declared.types.Ref.TheVariants.{Known}
 use Rattle.zk_line.specs.declared.types.Arg.{Arg}
-use Rattle.zk_line.specs.declared.types.Arg.TheVariants.{Name, Object, Number, Priority, Truth, Bytes, Wait, Event, Valid}
+use Rattle.zk_line.specs.declared.types.Arg.TheVariants.{Name, Object, Number, Priority, Truth, Bytes, Wait, Event, Valid, Raw}
 use Rattle.zk_line.specs.declared.events.Event.{Event as PollEvent}
 use Rattle.zk_line.specs.declared.events.Event.TheVariants as event
 use Rattle.zk_line.specs.Few.{event_at}
@@ -45,6 +45,7 @@ abbrev pub arg_of : List Decl → Slot → List ℕ → Option Arg
 arg_of decls slot.New word = (if is_name word then Some (Name word) else None)
 arg_of decls slot.Owner word = option_map Object (ref_of decls word)
 arg_of decls (slot.Object need) word = option_map Object (ref_of decls word)
+arg_of decls slot.Rawable word = option_map Object (ref_of decls word)
 arg_of decls (slot.Number least most) word = option_map Number (number_in least most word)
 arg_of decls slot.Priority word = option_map Priority (option_flatten (priority_of word))
 arg_of decls (slot.Either choice) word = option_map (Truth choice) (truth_of choice word)
@@ -52,7 +53,7 @@ arg_of decls slot.Hex word = option_map Bytes (msg_of word)
 arg_of decls slot.Wait word = option_map Wait (wait_of word)
 arg_of decls slot.Event word = option_map Event (event_of decls word)
 arg_of decls slot.Valid word = option_map Valid (validator_of word)
-arg_of decls slot.Raw word = None
+arg_of decls slot.Raw word = (if bytes_eq word (codes "raw") then Some Raw else None)
 
 -- what all words of a line say, where each says something
 abbrev pub args_of : List Decl → List Placed → Option (List Arg)
@@ -82,3 +83,4 @@ arg_text decls (Bytes message) = hex_text message
 arg_text decls (Wait wait) = wait_text wait
 arg_text decls (Event event) = event_text decls event
 arg_text decls (Valid valid) = validator_text valid
+arg_text decls Raw = codes "raw"

@@ -55,6 +55,11 @@ call_of word.Read args = option_map (λ p. call.Read p.0 p.1) (two as_object as_
 call_of word.Mask args = option_map (λ p. call.Mask p.0 p.1 p.2) (three as_object as_object (as_truth State) args)
 call_of word.Enable args = option_map (λ p. call.Enable p.0 p.1) (two as_object (as_truth State) args)
 call_of word.SubWait args = option_map (λ p. call.SubWait p.0 p.1) (two as_object as_wait args)
+call_of word.Grant args = option_map (λ p. call.Grant p.0 p.1) (two as_object as_object args)
+call_of word.Release args = option_map call.Release (one as_object args)
+call_of word.Revoke args = option_map (λ p. call.Revoke p.0 p.1) (two as_object as_object args)
+call_of word.Public args = option_map call.Public (one as_object args)
+call_of word.Init args = option_map call.Init (one as_object args)
 
 -- how a call is written
 abbrev pub said_of : Call → Saying
@@ -93,6 +98,11 @@ said_of (call.Read channel wait) = saying word.Read (Object channel ∷ Wait wai
 said_of (call.Mask channel observer on) = saying word.Mask (Object channel ∷ Object observer ∷ Truth State on ∷ [])
 said_of (call.Enable observer on) = saying word.Enable (Object observer ∷ Truth State on ∷ [])
 said_of (call.SubWait sub wait) = saying word.SubWait (Object sub ∷ Wait wait ∷ [])
+said_of (call.Grant thread object) = saying word.Grant (Object thread ∷ Object object ∷ [])
+said_of (call.Release object) = saying word.Release (Object object ∷ [])
+said_of (call.Revoke thread object) = saying word.Revoke (Object thread ∷ Object object ∷ [])
+said_of (call.Public object) = saying word.Public (Object object ∷ [])
+said_of (call.Init object) = saying word.Init (Object object ∷ [])
 
 -- the word of a call
 abbrev pub word_of : Call → Word

@@ -6,7 +6,7 @@ use Rattle.zk_base.specs.Names.{is_name}
 use Rattle.zk_model_bus.specs.declared.kinds.Kind.TheVariants as kind
 use Rattle.zk_model_bus.specs.declared.kinds.Need.TheVariants as need
 use Rattle.zk_words.specs.declared.slot.Slot.{Slot}
-use Rattle.zk_words.specs.declared.slot.Slot.TheVariants.{New, Owner, Object, Number, Priority, Hex, Wait, Event, Raw}
+use Rattle.zk_words.specs.declared.slot.Slot.TheVariants.{New, Owner, Object, Rawable, Number, Priority, Hex, Wait, Event}
 use Rattle.zk_words.specs.declared.word.Head.{Head}
 use Rattle.zk_words.specs.declared.word.Head.TheVariants.{Declare}
 use Rattle.zk_words.specs.Events.{event_named, is_ignore, need_of}
@@ -18,7 +18,7 @@ use Rattle.zk_line.specs.declared.types.Arg.TheVariants as arg
 use Rattle.zk_line.specs.declared.types.Decl.{Decl}
 use Rattle.zk_line.specs.declared.types.Ref.TheVariants.{Known}
 use Rattle.zk_line.specs.Args.{arg_of}
-use Rattle.zk_line.specs.Objects.{object_of, names, plays_script, is_met, size_at}
+use Rattle.zk_line.specs.Objects.{object_of, names, plays_script, can_be_raw, is_met, size_at}
 
 -- the object that the first word behind a head names, if it names one
 abbrev pub first_object : List Decl → List Placed → Option ℕ
@@ -76,16 +76,15 @@ go_together head parts = true
 abbrev pub are_in_range : List Decl → Head → List Placed → Bool
 are_in_range decls head parts = each_in_range (message_size decls parts) parts && go_together head parts
 
--- whether a word is a name that may stand in its slot: a new one, or that of an object of the right kind;
--- nothing that isn't initialised is built yet
+-- whether a word is a name that may stand in its slot: a new one, or that of an object of the right kind
 abbrev pub is_well_named : List Decl → Slot → List ℕ → Bool
 is_well_named decls New word = is_name word && not (is_some (object_of decls word))
 is_well_named decls Owner word = names plays_script decls word
 is_well_named decls (Object need) word = names (is_met need) decls word
+is_well_named decls Rawable word = names can_be_raw decls word
 is_well_named decls Event word =
     is_ignore word
     || option_map_or (λ asked. names (is_met (need_of asked.source)) decls asked.name) (event_named word) false
-is_well_named decls Raw word = false
 is_well_named decls slot word = true
 
 -- whether each word of a line is

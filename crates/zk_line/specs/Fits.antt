@@ -24,11 +24,15 @@ use Rattle.zk_line.specs.declared.types.Call.TheVariants as call
 use Rattle.zk_line.specs.Calls.{said_of}
 use Rattle.zk_line.specs.Checks.{size_said, is_size}
 use Rattle.zk_line.specs.Few.{is_few}
-use Rattle.zk_line.specs.Objects.{is_at, is_met, is_observer, observers_of}
+use Rattle.zk_line.specs.Objects.{is_at, is_met, can_be_raw, is_observer, observers_of}
 
 -- whether an object is declared and meets a need
 abbrev pub ref_fits : List Decl → Need → Ref → Bool
 ref_fits decls need (Known object) = is_at (is_met need) decls object
+
+-- whether an object is declared and can be declared as not initialised
+abbrev pub rawable_fits : List Decl → Ref → Bool
+rawable_fits decls (Known object) = is_at can_be_raw decls object
 
 -- whether an event asks for nothing, or for an object that is declared and of its kind
 abbrev pub event_fits : List Decl → Event → Bool
@@ -40,6 +44,7 @@ event_fits decls (event.Sig object) = ref_fits decls need.Signal object
 -- whether what stands in a slot fits it: an object that meets the need, a number in the range, a message of the size
 abbrev pub fits_in : List Decl → Option ℕ → Slot → Arg → Bool
 fits_in decls size (slot.Object need) (arg.Object object) = ref_fits decls need object
+fits_in decls size slot.Rawable (arg.Object object) = rawable_fits decls object
 fits_in decls size (slot.Number least most) (arg.Number number) = is_between least most number
 fits_in decls size slot.Hex (arg.Bytes message) = is_size size (length message)
 fits_in decls size slot.Wait (arg.Wait wait) = wait_fits wait
@@ -80,8 +85,8 @@ all_different (n ∷ ns) = not (list_any (λ m. m == n) ns) && all_different ns
 -- whether what is declared is in range: a semaphore's first count and limit, a message queue's size and room, what a
 -- subscriber has room for, the length of a channel's message; and a channel's observers are few and different
 abbrev pub decl_fits : Decl → Bool
-decl_fits (Sem name initial limit) = is_between 1 1000000 limit && nat_le initial limit
-decl_fits (Msgq name size capacity) = is_between 1 64 size && is_between 1 256 capacity
+decl_fits (Sem name initial limit raw) = is_between 1 1000000 limit && nat_le initial limit
+decl_fits (Msgq name size capacity raw) = is_between 1 64 size && is_between 1 256 capacity
 decl_fits (Sub name capacity) = is_between 1 256 capacity
 decl_fits (Chan name message valid observers) = is_message message && fews.is_few observers && all_different observers
 decl_fits decl = true

@@ -6,6 +6,7 @@ pub mod Decls
 pub mod Few
 pub mod Filling
 pub mod Fits
+pub mod Needs
 pub mod Objects
 pub mod Shapes
 pub mod Text

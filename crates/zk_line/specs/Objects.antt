@@ -8,6 +8,7 @@ use Rattle.zk_model_bus.specs.declared.kinds.Need.{Need}
 use Rattle.zk_model_bus.specs.declared.kinds.Need.TheVariants as need
 use Rattle.zk_model_bus.specs.Table as tables
 use Rattle.zk_words.specs.Kinds as kinds
+use Rattle.zk_line.specs.declared.kind_lists.Lists.{Lists}
 use Rattle.zk_line.specs.declared.names.Names.{Names}
 use Rattle.zk_line.specs.declared.types.Decl.{Decl}
 use Rattle.zk_line.specs.declared.types.Decl.TheVariants.{Thread, Queue, Item, Sem, Msgq, Signal, Listener, Sub, Chan}
@@ -18,9 +19,9 @@ abbrev pub kind_of : Decl → Kind
 kind_of (Thread name prio user) = kind.Thread
 kind_of (Queue name prio on) = kind.Queue
 kind_of (Item name) = kind.Item
-kind_of (Sem name initial limit) = kind.Sem
-kind_of (Msgq name size capacity) = kind.Msgq
-kind_of (Signal name) = kind.Signal
+kind_of (Sem name initial limit raw) = kind.Sem
+kind_of (Msgq name size capacity raw) = kind.Msgq
+kind_of (Signal name raw) = kind.Signal
 kind_of (Listener name) = kind.Listener
 kind_of (Sub name capacity) = kind.Sub
 kind_of (Chan name message valid observers) = kind.Chan
@@ -30,9 +31,9 @@ abbrev pub name_of : Decl → List ℕ
 name_of (Thread name prio user) = name
 name_of (Queue name prio on) = name
 name_of (Item name) = name
-name_of (Sem name initial limit) = name
-name_of (Msgq name size capacity) = name
-name_of (Signal name) = name
+name_of (Sem name initial limit raw) = name
+name_of (Msgq name size capacity raw) = name
+name_of (Signal name raw) = name
 name_of (Listener name) = name
 name_of (Sub name capacity) = name
 name_of (Chan name message valid observers) = name
@@ -95,6 +96,17 @@ same_kind decl = counts_with (kind_of decl)
 abbrev pub plays_script : Decl → Bool
 plays_script decl = kinds.plays_script (kind_of decl)
 
+-- whether what is declared can be declared as not initialised
+abbrev pub can_be_raw : Decl → Bool
+can_be_raw decl = kinds.can_be_raw (kind_of decl)
+
+-- whether what is declared isn't initialised
+abbrev pub is_raw : Decl → Bool
+is_raw (Sem name initial limit raw) = raw
+is_raw (Msgq name size capacity raw) = raw
+is_raw (Signal name raw) = raw
+is_raw decl = false
+
 -- the observers of a channel, as object numbers
 abbrev pub observers_of : Decl → List ℕ
 observers_of (Chan name message valid observers) = observers
@@ -135,7 +147,7 @@ names test decls name = option_map_or (is_at test decls) (object_of decls name) 
 
 -- how many bytes each message of what is declared has, if it has messages
 abbrev pub size_of : Decl → Option ℕ
-size_of (Msgq name size capacity) = Some size
+size_of (Msgq name size capacity raw) = Some size
 size_of (Chan name message valid observers) = Some (length message)
 size_of decl = None
 
@@ -143,37 +155,21 @@ size_of decl = None
 abbrev pub size_at : List Decl → ℕ → Option ℕ
 size_at decls object = option_and_then size_of (slice_get decls object)
 
--- the list of a declaration's kind, among those of all kinds
-abbrev pub own_list : Decl → List ℕ → List ℕ → List ℕ → List ℕ → List ℕ → List ℕ → List ℕ → List ℕ → List ℕ
-own_list (Thread name prio user) threads queues items sems msgqs signals chans observers = threads
-own_list (Queue name prio on) threads queues items sems msgqs signals chans observers = queues
-own_list (Item name) threads queues items sems msgqs signals chans observers = items
-own_list (Sem name initial limit) threads queues items sems msgqs signals chans observers = sems
-own_list (Msgq name size capacity) threads queues items sems msgqs signals chans observers = msgqs
-own_list (Signal name) threads queues items sems msgqs signals chans observers = signals
-own_list (Listener name) threads queues items sems msgqs signals chans observers = observers
-own_list (Sub name capacity) threads queues items sems msgqs signals chans observers = observers
-own_list (Chan name message valid own) threads queues items sems msgqs signals chans observers = chans
-
 -- a list of objects after one more declaration, which stands in it where it passes the list's test
 abbrev pub grown : (Decl → Bool) → Decl → ℕ → List ℕ → List ℕ
 grown test d object list = (if test d then list ++ object ∷ [] else list)
 
--- a list of this length and capacity has room for one more, and its length fits a number
-abbrev pub HasRoom : ℕ → ℕ → Type 0
-HasRoom len capacity = (len < capacity) × (len < 2 ^ 32)
-
 -- the tables say what the declarations say
-pub record IsTabled (decls : List Decl) (threads queues items sems msgqs signals chans observers numbers : List ℕ) (names : Names) : Type 0 where
+pub record IsTabled (decls : List Decl) (lists : Lists) (numbers : List ℕ) (names : Names) : Type 0 where
   pub few : length decls < 2 ^ 32
-  pub each_thread : threads ≡ places is_thread decls
-  pub each_queue : queues ≡ places is_queue decls
-  pub each_item : items ≡ places is_item decls
-  pub each_sem : sems ≡ places is_sem decls
-  pub each_msgq : msgqs ≡ places is_msgq decls
-  pub each_signal : signals ≡ places is_signal decls
-  pub each_chan : chans ≡ places is_chan decls
-  pub each_observer : observers ≡ places is_observer decls
+  pub each_thread : lists.threads.items ≡ places is_thread decls
+  pub each_queue : lists.queues.items ≡ places is_queue decls
+  pub each_item : lists.items.items ≡ places is_item decls
+  pub each_sem : lists.sems.items ≡ places is_sem decls
+  pub each_msgq : lists.msgqs.items ≡ places is_msgq decls
+  pub each_signal : lists.signals.items ≡ places is_signal decls
+  pub each_chan : lists.chans.items ≡ places is_chan decls
+  pub each_observer : lists.observers.items ≡ places is_observer decls
   pub long : length numbers ≡ length decls
   pub each_number : (object : ℕ) → unwrap_or (slice_get numbers object) 0 ≡ number_of decls object
   pub each_name : (name : List ℕ) → by_name names name ≡ object_of decls name

@@ -1,4 +1,4 @@
-use Rattle.std.specs.Prelude.{ℕ, ℤ, Bool, nat_lt, ◌==◌, List, [], ◌∷◌, length, Option, Some, None, option_map, option_and_then, if◌then◌else◌}
+use Rattle.std.specs.Prelude.{ℕ, ℤ, Bool, true, false, nat_lt, ◌==◌, List, [], ◌∷◌, length, Option, Some, None, option_map, option_and_then, if◌then◌else◌}
 use Rattle.zk_base.specs.Fews as fews
 use Rattle.zk_model_bus.specs.declared.channel.Valid.{Valid}
 use Rattle.zk_words.specs.declared.slot.Choice.{Choice}
@@ -8,7 +8,7 @@ use Rattle.zk_line.specs.declared.types.Ref.{Ref}
 use Rattle.zk_line.specs.declared.types.Ref.TheVariants.{Known}
 use Rattle.zk_line.specs.declared.events.Event.{Event as PollEvent}
 use Rattle.zk_line.specs.declared.types.Arg.{Arg}
-use Rattle.zk_line.specs.declared.types.Arg.TheVariants.{Name, Object, Number, Priority, Truth, Bytes, Wait, Event, Valid as ValidArg}
+use Rattle.zk_line.specs.declared.types.Arg.TheVariants.{Name, Object, Number, Priority, Truth, Bytes, Wait, Event, Valid as ValidArg, Raw}
 use Rattle.zk_line.specs.Few.{is_few}
 
 -- the name that an argument is, if it is one
@@ -71,6 +71,17 @@ abbrev pub all_three : {A B C : Type 0} → Option A → Option B → Option C �
 all_three (Some a) (Some b) (Some c) = Some (a, b, c)
 all_three a b c = None
 
+-- four parts, where each is one
+abbrev pub all_four : {A B C D : Type 0} → Option A → Option B → Option C → Option D → Option (A × B × C × D)
+all_four (Some a) (Some b) (Some c) (Some d) = Some (a, b, c, d)
+all_four a b c d = None
+
+-- whether `raw` is what stands there; nothing may stand there too
+abbrev pub raw_of : List Arg → Option Bool
+raw_of [] = Some false
+raw_of (Raw ∷ []) = Some true
+raw_of args = None
+
 -- one argument of such a kind
 abbrev pub one : {A : Type 0} → (Arg → Option A) → List Arg → Option A
 one f (a ∷ []) = f a
@@ -85,6 +96,17 @@ two f g args = None
 abbrev pub three : {A B C : Type 0} → (Arg → Option A) → (Arg → Option B) → (Arg → Option C) → List Arg → Option (A × B × C)
 three f g h (a ∷ b ∷ c ∷ []) = all_three (f a) (g b) (h c)
 three f g h args = None
+
+-- one, and perhaps `raw` behind it
+abbrev pub one_raw : {A : Type 0} → (Arg → Option A) → List Arg → Option (A × Bool)
+one_raw f (a ∷ args) = both (f a) (raw_of args)
+one_raw f args = None
+
+-- three, and perhaps `raw` behind them
+abbrev pub three_raw : {A B C : Type 0} → (Arg → Option A) → (Arg → Option B) → (Arg → Option C) → List Arg
+    → Option (A × B × C × Bool)
+three_raw f g h (a ∷ b ∷ c ∷ args) = all_four (f a) (g b) (h c) (raw_of args)
+three_raw f g h args = None
 
 -- one, and perhaps another
 abbrev pub one_or_two : {A B : Type 0} → (Arg → Option A) → (Arg → Option B) → List Arg → Option (A × Option B)

@@ -8,7 +8,7 @@ use Rattle.zk_line.specs.declared.types.Arg.{Arg}
 use Rattle.zk_line.specs.declared.types.Call.{Call}
 use Rattle.zk_line.specs.Args.{arg_text}
 use Rattle.zk_line.specs.Calls.{said_of}
-use Rattle.zk_line.specs.Decls.{written_of}
+use Rattle.zk_line.specs.Decls.{permission_said, written_of}
 
 -- the line of a head and what stands behind it
 abbrev pub said_line : List Decl → Head → List Arg → List ℕ
@@ -17,6 +17,10 @@ said_line decls head args = line_text ((row_of head).first ∷ map (arg_text dec
 -- the line of a declaration, which may name objects that are declared
 abbrev pub decl_line : List Decl → Decl → List ℕ
 decl_line decls decl = let said = written_of decl in said_line decls (head.Declare said.kind) said.args
+
+-- the line of a permission
+abbrev pub allow_line : List Decl → ℕ → ℕ → List ℕ
+allow_line decls thread object = said_line decls head.Allow (permission_said thread object)
 
 -- the line of a call
 abbrev pub call_line : List Decl → Call → List ℕ

@@ -4,7 +4,7 @@ ghost use Rattle.zk_line.specs.Calls.{saying, call_of, said_of, word_of};
 use crate::events::Events;
 use crate::shapes::{
     object_bytes_wait, object_maybe, object_number, object_result, object_truth, object_wait,
-    one_number, one_object, two_objects_number, two_objects_truth, wait_events,
+    one_number, one_object, two_objects, two_objects_number, two_objects_truth, wait_events,
 };
 use crate::types::{Arg, Call, Ref};
 use std::marker::Model;
@@ -70,6 +70,11 @@ pub fn call_of(word: Word, args: &[Arg]) -> Option<Call>
         Word::Mask => two_objects_truth(Choice::State, args).map(|p| Call::Mask(p.0, p.1, p.2)),
         Word::Enable => object_truth(Choice::State, args).map(|p| Call::Enable(p.0, p.1)),
         Word::SubWait => object_wait(args).map(|p| Call::SubWait(p.0, p.1)),
+        Word::Grant => two_objects(args).map(|p| Call::Grant(p.0, p.1)),
+        Word::Release => one_object(args).map(Call::Release),
+        Word::Revoke => two_objects(args).map(|p| Call::Revoke(p.0, p.1)),
+        Word::Public => one_object(args).map(Call::Public),
+        Word::Init => one_object(args).map(Call::Init),
     }
 }
 
@@ -122,6 +127,11 @@ pub fn said_of(call: &Call) -> Said
             Arg::Truth(Choice::State, *on),
         ),
         Call::SubWait(sub, wait) => of_two(Word::SubWait, object(sub), Arg::Wait(*wait)),
+        Call::Grant(thread, other) => of_two(Word::Grant, object(thread), object(other)),
+        Call::Release(other) => of_one(Word::Release, object(other)),
+        Call::Revoke(thread, other) => of_two(Word::Revoke, object(thread), object(other)),
+        Call::Public(other) => of_one(Word::Public, object(other)),
+        Call::Init(other) => of_one(Word::Init, object(other)),
     }
 }
 

@@ -46,6 +46,7 @@ fn message_size(objects: &Objects, parts: &Parts<'_>) -> Option<usize>
     match part.slot {
         Slot::Owner => size_at(objects.decls(), objects.find(part.text)?),
         Slot::Object(_) => size_at(objects.decls(), objects.find(part.text)?),
+        Slot::Rawable => size_at(objects.decls(), objects.find(part.text)?),
         _ => None,
     }
 }

@@ -1,7 +1,10 @@
-ghost use Rattle.std.specs.Prelude.{◌≡◌, [], ◌∷◌};
-ghost use Rattle.zk_line.specs.Decls.{decl_of, written, written_of};
+ghost use Rattle.std.specs.Prelude.{◌≡◌, [], ◌∷◌, option_to_list};
+ghost use Rattle.zk_line.specs.Decls.{decl_of, permission_of, raw_said, written, written_of};
 
-use crate::shapes::{channel_parts, name_number, name_priority_truth, name_two_numbers, one_name};
+use crate::shapes::{
+    channel_parts, name_number, name_priority_truth, name_raw, name_two_numbers_raw, one_name,
+    two_known,
+};
 use crate::types::{Arg, Decl};
 use std::marker::Model;
 use zk_base::{Few, Msg, Name};
@@ -23,7 +26,7 @@ pub struct Channel {
 pub struct Written {
     pub kind: Kind,
     // From the left as many as there are.
-    pub args: [Option<Arg>; 3],
+    pub args: [Option<Arg>; 4],
     // Behind those.
     pub channel: Option<Channel>,
 }
@@ -48,13 +51,20 @@ pub fn decl_of(kind: Kind, args: &[Arg]) -> Option<Decl>
         }
         Kind::Queue => name_priority_truth(Choice::State, args).map(|p| Decl::Queue(p.0, p.1, p.2)),
         Kind::Item => one_name(args).map(Decl::Item),
-        Kind::Sem => name_two_numbers(args).map(|p| Decl::Sem(p.0, p.1, p.2)),
-        Kind::Msgq => name_two_numbers(args).map(|p| Decl::Msgq(p.0, p.1, p.2)),
-        Kind::Signal => one_name(args).map(Decl::Signal),
+        Kind::Sem => name_two_numbers_raw(args).map(|p| Decl::Sem(p.0, p.1, p.2, p.3)),
+        Kind::Msgq => name_two_numbers_raw(args).map(|p| Decl::Msgq(p.0, p.1, p.2, p.3)),
+        Kind::Signal => name_raw(args).map(|p| Decl::Signal(p.0, p.1)),
         Kind::Listener => one_name(args).map(Decl::Listener),
         Kind::Sub => name_number(args).map(|p| Decl::Sub(p.0, p.1)),
         Kind::Chan => channel_parts(args).map(|p| Decl::Chan(p.0, p.1, p.2, p.3)),
     }
+}
+
+/// The thread and the object that a permission is of, by what stands behind `allow`.
+pub fn permission_of(args: &[Arg]) -> Option<(u32, u32)>
+    ensures { result ≡ permission_of args.now }
+{
+    two_known(args)
 }
 
 /// How a declaration is written.
@@ -65,18 +75,31 @@ pub fn written_of(decl: &Decl) -> Written
         Decl::Thread(name, prio, user) => playing(Kind::Thread, name, *prio, Choice::Mode, *user),
         Decl::Queue(name, prio, on) => playing(Kind::Queue, name, *prio, Choice::State, *on),
         Decl::Item(name) => named(Kind::Item, name),
-        Decl::Sem(name, initial, limit) => numbered(Kind::Sem, name, *initial, *limit),
-        Decl::Msgq(name, size, capacity) => numbered(Kind::Msgq, name, *size, *capacity),
-        Decl::Signal(name) => named(Kind::Signal, name),
+        Decl::Sem(name, initial, limit, raw) => {
+            numbered(Kind::Sem, name, *initial, *limit, *raw)
+        }
+        Decl::Msgq(name, size, capacity, raw) => {
+            numbered(Kind::Msgq, name, *size, *capacity, *raw)
+        }
+        Decl::Signal(name, raw) => Written {
+            kind: Kind::Signal,
+            args: [Some(Arg::Name(*name)), raw_said(*raw), None, None],
+            channel: None,
+        },
         Decl::Listener(name) => named(Kind::Listener, name),
         Decl::Sub(name, capacity) => Written {
             kind: Kind::Sub,
-            args: [Some(Arg::Name(*name)), Some(Arg::Number(*capacity)), None],
+            args: [
+                Some(Arg::Name(*name)),
+                Some(Arg::Number(*capacity)),
+                None,
+                None,
+            ],
             channel: None,
         },
         Decl::Chan(name, message, valid, observers) => Written {
             kind: Kind::Chan,
-            args: [Some(Arg::Name(*name)), None, None],
+            args: [Some(Arg::Name(*name)), None, None, None],
             channel: Some(Channel {
                 message: *message,
                 valid: *valid,
@@ -91,7 +114,7 @@ fn named(kind: Kind, name: &Name) -> Written
 {
     Written {
         kind,
-        args: [Some(Arg::Name(*name)), None, None],
+        args: [Some(Arg::Name(*name)), None, None, None],
         channel: None,
     }
 }
@@ -106,14 +129,15 @@ fn playing(kind: Kind, name: &Name, prio: i8, choice: Choice, first: bool) -> Wr
             Some(Arg::Name(*name)),
             Some(Arg::Priority(prio)),
             Some(Arg::Truth(choice, first)),
+            None,
         ],
         channel: None,
     }
 }
 
-fn numbered(kind: Kind, name: &Name, first: u32, second: u32) -> Written
+fn numbered(kind: Kind, name: &Name, first: u32, second: u32, raw: bool) -> Written
     ensures { result ≡ written kind
-        (Arg.Name name.now ∷ Arg.Number first ∷ Arg.Number second ∷ []) }
+        (Arg.Name name.now ∷ Arg.Number first ∷ Arg.Number second ∷ raw_said raw) }
 {
     Written {
         kind,
@@ -121,7 +145,14 @@ fn numbered(kind: Kind, name: &Name, first: u32, second: u32) -> Written
             Some(Arg::Name(*name)),
             Some(Arg::Number(first)),
             Some(Arg::Number(second)),
+            raw_said(raw),
         ],
         channel: None,
     }
+}
+
+fn raw_said(raw: bool) -> Option<Arg>
+    ensures { option_to_list result ≡ raw_said raw }
+{
+    if raw { Some(Arg::Raw) } else { None }
 }

@@ -1,8 +1,8 @@
 ghost use Rattle.std.specs.Prelude.{◌≡◌};
-ghost use Rattle.zk_line.specs.Objects.{kind_of, name_of, is_at, is_met, name_at, plays_script, size_at};
+ghost use Rattle.zk_line.specs.Objects.{kind_of, name_of, is_at, is_listener, is_met, name_at, plays_script, can_be_raw, size_at};
 
 use crate::types::Decl;
-use zk_words::{Kind, Need, plays_script};
+use zk_words::{Kind, Need, can_be_raw, plays_script, same_kind};
 
 /// The kind of what is declared.
 pub fn kind_of(decl: &Decl) -> Kind
@@ -14,7 +14,7 @@ pub fn kind_of(decl: &Decl) -> Kind
         Decl::Item(_) => Kind::Item,
         Decl::Sem(..) => Kind::Sem,
         Decl::Msgq(..) => Kind::Msgq,
-        Decl::Signal(_) => Kind::Signal,
+        Decl::Signal(..) => Kind::Signal,
         Decl::Listener(_) => Kind::Listener,
         Decl::Sub(..) => Kind::Sub,
         Decl::Chan(..) => Kind::Chan,
@@ -29,9 +29,9 @@ pub fn name_of(decl: &Decl) -> &[u8]
         Decl::Thread(name, _, _) => name.bytes(),
         Decl::Queue(name, _, _) => name.bytes(),
         Decl::Item(name) => name.bytes(),
-        Decl::Sem(name, _, _) => name.bytes(),
-        Decl::Msgq(name, _, _) => name.bytes(),
-        Decl::Signal(name) => name.bytes(),
+        Decl::Sem(name, _, _, _) => name.bytes(),
+        Decl::Msgq(name, _, _, _) => name.bytes(),
+        Decl::Signal(name, _) => name.bytes(),
         Decl::Listener(name) => name.bytes(),
         Decl::Sub(name, _) => name.bytes(),
         Decl::Chan(name, _, _, _) => name.bytes(),
@@ -58,6 +58,26 @@ pub fn plays_at(decls: &[Decl], object: u32) -> bool
     }
 }
 
+/// Whether an object is declared, and is a listener.
+pub fn is_listener_at(decls: &[Decl], object: u32) -> bool
+    ensures { result ≡ is_at is_listener decls.now object }
+{
+    match decls.get(object as usize) {
+        Some(decl) => same_kind(kind_of(decl), Kind::Listener),
+        None => false,
+    }
+}
+
+/// Whether an object is declared, and can be declared as not initialised.
+pub fn can_be_raw_at(decls: &[Decl], object: u32) -> bool
+    ensures { result ≡ is_at can_be_raw decls.now object }
+{
+    match decls.get(object as usize) {
+        Some(decl) => can_be_raw(kind_of(decl)),
+        None => false,
+    }
+}
+
 /// Whether an object is declared, and meets a need.
 pub fn meets_at(need: Need, decls: &[Decl], object: u32) -> bool
     ensures { result ≡ is_at (is_met need) decls.now object }
@@ -73,7 +93,7 @@ pub fn size_at(decls: &[Decl], object: u32) -> Option<usize>
     ensures { result ≡ size_at decls.now object }
 {
     match decls.get(object as usize) {
-        Some(Decl::Msgq(_, size, _)) => Some(*size as usize),
+        Some(Decl::Msgq(_, size, _, _)) => Some(*size as usize),
         Some(Decl::Chan(_, message, _, _)) => Some(message.bytes().len()),
         _ => None,
     }

@@ -3,7 +3,7 @@ ghost use Rattle.std.specs.Fmt.{signed_decimal};
 ghost use Rattle.zk_line.specs.Args.{arg_text, event_text, ref_name};
 ghost use Rattle.zk_line.specs.Calls.{standing, events_said};
 ghost use Rattle.zk_line.specs.Decls.{channel_said, objects_said};
-ghost use Rattle.zk_line.specs.Text.{said_line, decl_line, call_line, behind};
+ghost use Rattle.zk_line.specs.Text.{said_line, decl_line, allow_line, call_line, behind};
 ghost use Rattle.zk_words.specs.Events.{source_text};
 ghost use Rattle.zk_words.specs.Table.{row_of};
 ghost use Rattle.zk_words.specs.Timeouts.{wait_text};
@@ -25,6 +25,20 @@ pub fn put_decl(out: &mut Vec<u8>, decls: &[Decl], decl: &Decl) -> Result<(), No
     let written = written_of(decl);
     put_said(out, decls, Head::Declare(written.kind), &written.args)?;
     put_channel(out, decls, &written.channel)
+}
+
+/// The line of a permission: of a thread on an object, by their numbers.
+pub fn put_allow(
+    out: &mut Vec<u8>,
+    decls: &[Decl],
+    thread: u32,
+    object: u32,
+) -> Result<(), NoMemory>
+    ensures { OnOk result (out.new.items ≡ out.old.items ++ allow_line decls.now thread object) }
+{
+    let thread = Arg::Object(Ref::Known(thread));
+    let object = Arg::Object(Ref::Known(object));
+    put_said(out, decls, Head::Allow, &[Some(thread), Some(object)])
 }
 
 /// The line of a call.
@@ -94,6 +108,7 @@ fn put_arg(out: &mut Vec<u8>, decls: &[Decl], arg: &Arg) -> Result<(), NoMemory>
         Arg::Wait(wait) => put_wait(out, *wait),
         Arg::Event(event) => put_event(out, decls, event),
         Arg::Valid(valid) => put_validator(out, *valid),
+        Arg::Raw => put(out, b"raw"),
     }
 }
 

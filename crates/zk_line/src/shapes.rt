@@ -1,5 +1,5 @@
 ghost use Rattle.std.specs.Prelude.{◌≡◌};
-ghost use Rattle.zk_line.specs.Shapes.{as_name, as_object, as_number, as_result, as_priority, as_truth, as_bytes, as_wait, as_event, as_known, events_of, wait_events, objects_of, channel_parts, one, two, three, one_or_two};
+ghost use Rattle.zk_line.specs.Shapes.{as_name, as_object, as_number, as_result, as_priority, as_truth, as_bytes, as_wait, as_event, as_known, events_of, wait_events, objects_of, channel_parts, raw_of, one, two, three, one_raw, three_raw, one_or_two};
 
 use crate::events::{Event, Events, MOST_EVENTS};
 use crate::types::{Arg, Ref};
@@ -22,6 +22,16 @@ pub fn one_number(args: &[Arg]) -> Option<u32>
 {
     match args {
         [Arg::Number(number)] => Some(*number),
+        _ => None,
+    }
+}
+
+/// Two objects.
+pub fn two_objects(args: &[Arg]) -> Option<(Ref, Ref)>
+    ensures { result ≡ two as_object as_object args.now }
+{
+    match args {
+        [Arg::Object(first), Arg::Object(second)] => Some((*first, *second)),
         _ => None,
     }
 }
@@ -205,14 +215,44 @@ pub fn name_priority_truth(choice: Choice, args: &[Arg]) -> Option<(Name, i8, bo
     }
 }
 
-/// A name and two numbers.
-pub fn name_two_numbers(args: &[Arg]) -> Option<(Name, u32, u32)>
-    ensures { result ≡ three as_name as_number as_number args.now }
+/// A name, and perhaps `raw`.
+pub fn name_raw(args: &[Arg]) -> Option<(Name, bool)>
+    ensures { result ≡ one_raw as_name args.now }
 {
     match args {
-        [Arg::Name(name), Arg::Number(first), Arg::Number(second)] => Some((
-            *name, *first, *second,
-        )),
+        [Arg::Name(name), behind @ ..] => match raw_of(behind) {
+            Some(raw) => Some((*name, raw)),
+            None => None,
+        },
+        _ => None,
+    }
+}
+
+/// A name, two numbers, and perhaps `raw`.
+pub fn name_two_numbers_raw(args: &[Arg]) -> Option<(Name, u32, u32, bool)>
+    ensures { result ≡ three_raw as_name as_number as_number args.now }
+{
+    match args {
+        [
+            Arg::Name(name),
+            Arg::Number(first),
+            Arg::Number(second),
+            behind @ ..,
+        ] => match raw_of(behind) {
+            Some(raw) => Some((*name, *first, *second, raw)),
+            None => None,
+        },
+        _ => None,
+    }
+}
+
+/// Whether `raw` is what stands there; nothing may stand there too.
+fn raw_of(args: &[Arg]) -> Option<bool>
+    ensures { result ≡ raw_of args.now }
+{
+    match args {
+        [] => Some(false),
+        [Arg::Raw] => Some(true),
         _ => None,
     }
 }
@@ -275,6 +315,19 @@ fn as_known(arg: &Arg) -> Option<u32>
 {
     match arg {
         Arg::Object(Ref::Known(object)) => Some(*object),
+        _ => None,
+    }
+}
+
+/// Two declared objects, by their numbers.
+pub fn two_known(args: &[Arg]) -> Option<(u32, u32)>
+    ensures { result ≡ two as_known as_known args.now }
+{
+    match args {
+        [
+            Arg::Object(Ref::Known(first)),
+            Arg::Object(Ref::Known(second)),
+        ] => Some((*first, *second)),
         _ => None,
     }
 }

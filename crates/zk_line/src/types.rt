@@ -11,12 +11,14 @@ pub enum Decl {
     Queue(Name, i8, bool),
     /// A work item.
     Item(Name),
-    /// A semaphore, the count that it begins with (up to its limit), and its limit, 1 to 1,000,000.
-    Sem(Name, u32, u32),
-    /// A message queue, the size of each message in bytes (1 to 64), and how many it has room for (1 to 256).
-    Msgq(Name, u32, u32),
-    /// A signal.
-    Signal(Name),
+    /// A semaphore, the count that it begins with (up to its limit), its limit, 1 to 1,000,000, and whether it isn't
+    /// initialised.
+    Sem(Name, u32, u32, bool),
+    /// A message queue, the size of each message in bytes (1 to 64), how many it has room for (1 to 256), and whether it
+    /// isn't initialised.
+    Msgq(Name, u32, u32, bool),
+    /// A signal, and whether it isn't initialised.
+    Signal(Name, bool),
     /// A listener. Zephyr's `ZBUS_LISTENER_DEFINE`.
     Listener(Name),
     /// A subscriber, and of how many messages it is told that it hasn't taken (1 to 256). Zephyr's `ZBUS_SUBSCRIBER_DEFINE`.
@@ -24,6 +26,15 @@ pub enum Decl {
     /// A channel, the message that it has at first, what messages it takes, and the object numbers of its
     /// observers: subscribers and listeners that are declared before it, each once. Zephyr's `ZBUS_CHAN_DEFINE`.
     Chan(Name, Msg, Valid, Few),
+}
+
+/// One line among the declarations.
+#[derive(Clone, Copy, Debug)]
+pub enum Declared {
+    /// The declaration of an object, by its number.
+    Object(u32),
+    /// A thread may use an object from the start: the numbers of both. Zephyr's `K_THREAD_ACCESS_GRANT`.
+    Allow(u32, u32),
 }
 
 /// An object as a call names it.
@@ -47,6 +58,8 @@ pub enum Arg {
     Event(Event),
     /// What messages a channel takes.
     Valid(Valid),
+    /// That an object isn't initialised.
+    Raw,
 }
 
 /// What stands in a list's places that nothing fills.
@@ -130,4 +143,14 @@ pub enum Call {
     Enable(Ref, bool),
     /// A subscriber. Zephyr's `zbus_sub_wait`.
     SubWait(Ref, Timeout),
+    /// A thread, and an object that it may use from then on. Zephyr's `k_object_access_grant`.
+    Grant(Ref, Ref),
+    /// An object that the caller may no longer use. Zephyr's `k_object_release`.
+    Release(Ref),
+    /// A thread, and an object that it may no longer use. Zephyr's `k_object_access_revoke`.
+    Revoke(Ref, Ref),
+    /// An object that all threads may use from then on. Zephyr's `k_object_access_all_grant`.
+    Public(Ref),
+    /// An object that is initialised from then on: a semaphore, message queue or signal. Zephyr's `k_object_init`.
+    Init(Ref),
 }

@@ -13,7 +13,7 @@ ghost use Rattle.zk_line.specs.Weights.{Weighs, or_wrong};
 use crate::arg_list::Args;
 use crate::checks::{are_in_range, go_together, hex_in_range, name_once, size_named};
 use crate::events::{Event, event_at};
-use crate::kinds::{meets_at, plays_at};
+use crate::kinds::{can_be_raw_at, meets_at, plays_at};
 use crate::objects::Objects;
 use crate::types::{Arg, Ref};
 use zk_base::{Name, NoMemory};
@@ -85,6 +85,7 @@ fn worth_of(objects: &Objects, said: &[Arg], slot: Slot, word: &[u8]) -> Result<
         Slot::New => new_name(objects, word),
         Slot::Owner => owner(objects, word),
         Slot::Object(need) => object(objects, need, word),
+        Slot::Rawable => rawable(objects, word),
         Slot::Number(least, most) => number(least, most, word),
         Slot::Priority => priority(word),
         Slot::Either(choice) => Ok(Arg::Truth(choice, truth(choice, word))),
@@ -92,7 +93,7 @@ fn worth_of(objects: &Objects, said: &[Arg], slot: Slot, word: &[u8]) -> Result<
         Slot::Wait => wait(word),
         Slot::Event => event(objects, word),
         Slot::Valid => validator(word),
-        Slot::Raw => Err(Wrong::Misnamed),
+        Slot::Raw => raw(word),
     }
 }
 
@@ -132,6 +133,20 @@ fn object(objects: &Objects, need: Need, word: &[u8]) -> Result<Arg, Wrong>
         return Err(Wrong::Misnamed);
     };
     if meets_at(need, objects.decls(), object) {
+        Ok(Arg::Object(Ref::Known(object)))
+    } else {
+        Err(Wrong::Misnamed)
+    }
+}
+
+fn rawable(objects: &Objects, word: &[u8]) -> Result<Arg, Wrong>
+    ensures { Weighs true
+        (is_well_named objects.now Slot.Rawable word.now) (arg_of objects.now Slot.Rawable word.now) result }
+{
+    let Some(object) = objects.find(word) else {
+        return Err(Wrong::Misnamed);
+    };
+    if can_be_raw_at(objects.decls(), object) {
         Ok(Arg::Object(Ref::Known(object)))
     } else {
         Err(Wrong::Misnamed)
@@ -217,6 +232,17 @@ fn validator(word: &[u8]) -> Result<Arg, Wrong>
     match validator_of(word) {
         Some(valid) => Ok(Arg::Valid(valid)),
         None => Err(Wrong::Misnamed),
+    }
+}
+
+fn raw(word: &[u8]) -> Result<Arg, Wrong>
+    requires { is_spelled_in Slot.Raw word.now ≡ true }
+    ensures { Weighs true true (arg_of [] Slot.Raw word.now) result }
+{
+    if word == b"raw".as_slice() {
+        Ok(Arg::Raw)
+    } else {
+        Err(Wrong::Misnamed)
     }
 }
 

@@ -1,9 +1,9 @@
 -- A line to which no reason applies keeps what was read valid.
-use Rattle.std.proofs.Common.{◌≡◌, ℕ, ◌+◌, ◌<◌, ◌≤◌, Bool, true, false, not, cond, eqb, nat_le, nat_lt, ◌&&◌, ◌||◌, Option, None, Some, List, [], ◌∷◌, ◌++◌, length, take, slice_get, count_by, is_some, refl, sym, ap, subst, ◌∙◌, ⊎_elim, arith, length-append}
+use Rattle.std.proofs.Common.{◌≡◌, ℕ, ◌+◌, ◌<◌, ◌≤◌, Bool, true, false, not, cond, eqb, nat_le, nat_lt, ◌&&◌, Option, None, Some, List, [], ◌∷◌, ◌++◌, length, take, slice_get, is_some, refl, sym, ap, subst, ◌∙◌, ⊎_elim, arith, length-append}
 use Rattle.std.specs.List.{list_all}
 use Rattle.std.specs.Option.{option_map_or, option_map, option_to_list}
 use Rattle.std.specs.Prelude.{option_and_then}
-use Rattle.std.proofs.lemmas.Bool.{and_parts, and_from, cases_order, leb-false, ltb-false, not-false, eq-eqb, ne_eqb, cond-true, cond-false}
+use Rattle.std.proofs.lemmas.Bool.{and_parts, and_from, cases_order, leb-false, ltb-false, not-true, not-false, eq-eqb, ne_eqb, cond-true, cond-false}
 use Rattle.std.proofs.lemmas.List.{append-nil, take-append-le}
 use Rattle.std.proofs.Math.Seq.{take-append_seam}
 use Rattle.std.proofs.lemmas.List.Folds.{list_all-append}
@@ -12,6 +12,7 @@ use Rattle.std.proofs.lemmas.List.Sums.{sum_by-append}
 use Rattle.std.proofs.lemmas.Option.{none-some, same_Some, slice_get_past, slice_get_within}
 use Rattle.zk_base.proofs.Lists.{none_from_is_some}
 use Rattle.zk_model_bus.specs.declared.kinds.Kind.{Kind}
+use Rattle.zk_model_bus.specs.declared.kinds.Need.TheVariants as need
 use Rattle.zk_words.specs.declared.slot.Rest.TheVariants.{Nothing}
 use Rattle.zk_words.specs.declared.slot.Slot.TheVariants as slot
 use Rattle.zk_words.specs.declared.word.Word.{Word}
@@ -20,27 +21,31 @@ use Rattle.zk_words.specs.declared.word.Head.TheVariants as head
 use Rattle.zk_words.specs.Lines.{IsForm}
 use Rattle.zk_words.specs.Parts.{Placed, fits, parts_of as placed_of}
 use Rattle.zk_line.specs.declared.types.Decl.{Decl}
-use Rattle.zk_line.specs.declared.types.Decl.TheVariants as decl
+use Rattle.zk_line.specs.declared.types.Declared.{Declared}
+use Rattle.zk_line.specs.declared.types.Arg.{Arg}
 use Rattle.zk_line.specs.declared.types.Call.{Call}
 use Rattle.zk_line.specs.Args.{args_of}
 use Rattle.zk_line.specs.Calls.{call_of}
 use Rattle.zk_line.specs.Checks.{first_object, message_size, each_in_range, go_together, are_in_range, each_well_named, name_once, are_well_named, has_many_events, has_many_observers}
-use Rattle.zk_line.specs.Decls.{decl_of}
+use Rattle.zk_line.specs.Decls.{decl_of, permission_of}
 use Rattle.zk_line.specs.Fits.{call_fits, decl_fits, observers_fit, AreObserved}
-use Rattle.zk_line.specs.Objects.{object_of, kind_of, is_at, names, plays_script, is_thread, is_queue, is_item, is_sem, is_msgq, is_signal, is_chan, is_observer, player_count}
-use Rattle.zk_line.proofs.Fits.{call_fits-read, kind_of-read}
+use Rattle.zk_line.specs.Objects.{object_of, is_at, is_met, names, plays_script}
+use Rattle.zk_line.proofs.Fits.{call_fits-read, permission_fits-read, kind_of-read}
 use Rattle.zk_line.proofs.InRange.{decl_fits-read}
-use Rattle.zk_line.proofs.Lists.{slice_get-append_left, slice_get-push, count_by-push, position-push}
+use Rattle.zk_line.proofs.Lists.{slice_get-append_left, slice_get-push, position-push}
 use Rattle.zk_line.proofs.Makes.{is_some-some}
 use Rattle.zk_line.proofs.Options.{one_part}
 use Rattle.zk_scenario.specs.declared.types.Script.{Script}
 use Rattle.zk_scenario.specs.declared.refused.Why.{Why}
 use Rattle.zk_scenario.specs.declared.refused.Why.TheVariants as why
 use Rattle.zk_scenario.specs.Parts.{Parts}
-use Rattle.zk_scenario.specs.Reading.{Reading, all_scripts, declared, begun, with_call, called, parts_of}
+use Rattle.zk_scenario.specs.Reading.{Reading, all_scripts, declared, permitted, begun, with_call, called, parts_of}
 use Rattle.zk_scenario.specs.Scripts.{script_of}
 use Rattle.zk_scenario.specs.Valid.{IsValid, OneEach, script_fits, call_count}
-use Rattle.zk_scenario.specs.Verdict.{has_begun, has_script, is_misplaced, is_full, is_past_limit, verdict, opened, after}
+use Rattle.zk_scenario.specs.Verdict.{has_begun, has_script, is_barred, is_misplaced, is_full, is_past_limit, is_said_before, are_named, verdict, opened, after}
+use Rattle.zk_scenario.specs.Written.{is_allowed, AreInOrder}
+use Rattle.zk_scenario.proofs.InOrder.{in_order-declared, in_order-permitted, is_at-within}
+use Rattle.zk_scenario.proofs.Room.{HasRoom, or_none, room-push}
 use Rattle.zk_scenario.proofs.ScriptTables.{script_of-push}
 
 -- no reason applies: none of the tests says so
@@ -48,6 +53,7 @@ pub record Passes (r : Reading) (h : Head) (parts : List Placed) : Type 0 where
   pub placed : is_misplaced r h parts ≡ false
   pub in_range : are_in_range r.decls h parts ≡ true
   pub well_named : are_well_named r.decls parts ≡ true
+  pub new : option_map_or (is_said_before r h) (args_of r.decls parts) false ≡ false
   pub within : is_past_limit r h parts ≡ false
 
 drop_test : (b : Bool) (reason : Why) (rest : Option Why) → cond b (Some reason) rest ≡ None → (b ≡ false) × (rest ≡ None)
@@ -58,13 +64,11 @@ pub Passes-verdict : (r : Reading) (h : Head) (parts : List Placed) → verdict 
 Passes-verdict r h parts e =
     let one = drop_test (is_misplaced r h parts) why.Order _ e in
     let two = drop_test (not (are_in_range r.decls h parts)) why.Number _ one.1 in
-    let three = drop_test (not (are_well_named r.decls parts)) why.Name _ two.1 in
+    let three = drop_test (not (are_named r h parts)) why.Name _ two.1 in
     let four = drop_test (is_past_limit r h parts) why.Limit _ three.1 in
-    record { placed = one.0; in_range = not-false _ two.0; well_named = not-false _ three.0; within = four.0 }
-
-pub or_none : (a b : Bool) → (a || b) ≡ false → (a ≡ false) × (b ≡ false)
-or_none true b e = absurd (cc)
-or_none false b e = (refl, e)
+    let again = option_map_or (is_said_before r h) (args_of r.decls parts) false in
+    let named = and_parts (are_well_named r.decls parts) (not again) (not-false _ three.0) in
+    record { placed = one.0; in_range = not-false _ two.0; well_named = named.0; new = not-true again named.1; within = four.0 }
 
 one_each-left : (ss : List Script) (s : Script) → OneEach (ss ++ s ∷ []) → OneEach ss
 one_each-left ss s held n x e =
@@ -112,24 +116,13 @@ all-push test xs x = list_all-append test xs (x ∷ []) ∙ ap (λ b. list_all t
   and-true true = refl
   and-true false = refl
 
--- there are no more declarations of a kind than there may be
-pub record HasRoom (decls : List Decl) : Type 0 where
-  pub players : player_count decls ≤ 64
-  pub queues : count_by is_queue decls ≤ 8
-  pub items : count_by is_item decls ≤ 256
-  pub sems : count_by is_sem decls ≤ 32
-  pub msgqs : count_by is_msgq decls ≤ 16
-  pub signals : count_by is_signal decls ≤ 32
-  pub chans : count_by is_chan decls ≤ 16
-  pub observers : count_by is_observer decls ≤ 32
-
 room-valid : (p : Parts) → IsValid p → HasRoom p.decls
 room-valid p valid = record { players = valid.players; queues = valid.queues; items = valid.items; sems = valid.sems; msgqs = valid.msgqs; signals = valid.signals; chans = valid.chans; observers = valid.observers }
 
 -- a scenario is valid, by what there is room for and what is said of its scripts
-IsValid-made : (p : Parts) → HasRoom p.decls → call_count p.scripts ≤ 4096 → list_all decl_fits p.decls ≡ true → AreObserved p.decls → list_all (script_fits p.decls) p.scripts ≡ true → OneEach p.scripts → IsValid p
-IsValid-made p room calls in_range observed fit one_each =
-    record { players = room.players; queues = room.queues; items = room.items; sems = room.sems; msgqs = room.msgqs; signals = room.signals; chans = room.chans; observers = room.observers; calls = calls; in_range = in_range; observed = observed; fit = fit; one_each = one_each }
+IsValid-made : (p : Parts) → HasRoom p.decls → call_count p.scripts ≤ 4096 → list_all decl_fits p.decls ≡ true → AreObserved p.decls → AreInOrder p.decls p.written → list_all (script_fits p.decls) p.scripts ≡ true → OneEach p.scripts → IsValid p
+IsValid-made p room calls in_range observed in_order fit one_each =
+    record { players = room.players; queues = room.queues; items = room.items; sems = room.sems; msgqs = room.msgqs; signals = room.signals; chans = room.chans; observers = room.observers; calls = calls; in_range = in_range; observed = observed; in_order = in_order; fit = fit; one_each = one_each }
 
 -- the observers of each channel are declared before it, with one declaration more
 observed-push : (decls : List Decl) (d : Decl) → AreObserved decls → observers_fit decls d ≡ true → AreObserved (decls ++ d ∷ [])
@@ -152,6 +145,7 @@ valid-declared r d valid first room fits observed =
     valid.calls
     (all-push decl_fits r.decls d ∙ and_from (list_all decl_fits r.decls) (decl_fits d) valid.in_range fits)
     (observed-push r.decls d valid.observed observed)
+    (in_order-declared r.decls r.written d valid.in_order)
     (ap (list_all (script_fits (r.decls ++ d ∷ []))) none)
     valid.one_each
 
@@ -173,19 +167,21 @@ valid-begun r owner valid none thread fresh =
     (omega (arith, call_count-push r.scripts s, ap call_count same, valid.calls))
     valid.in_range
     valid.observed
+    valid.in_order
     (fit-push r.decls r.scripts s ∙ and_from (list_all (script_fits r.decls) r.scripts) (script_fits r.decls s) (ap (list_all (script_fits r.decls)) (sym same) ∙ valid.fit) (and_from (is_at plays_script r.decls owner) true thread refl))
     (one_each-push r.scripts s (subst OneEach same valid.one_each) fresh)
 
-valid-called : (decls : List Decl) (ss : List Script) (s : Script) (c : Call) → IsValid (record { decls = decls; scripts = ss ++ s ∷ [] }) → call_fits decls c ≡ true → call_count (ss ++ s ∷ []) < 4096
-    → IsValid (record { decls = decls; scripts = ss ++ with_call c s ∷ [] })
-valid-called decls ss s c valid fits few =
+valid-called : (decls : List Decl) (written : List Declared) (ss : List Script) (s : Script) (c : Call) → IsValid (record { decls = decls; written = written; scripts = ss ++ s ∷ [] }) → call_fits decls c ≡ true → call_count (ss ++ s ∷ []) < 4096
+    → IsValid (record { decls = decls; written = written; scripts = ss ++ with_call c s ∷ [] })
+valid-called decls written ss s c valid fits few =
     let both = and_parts (list_all (script_fits decls) ss) (script_fits decls s) (sym (fit-push decls ss s) ∙ valid.fit) in
     let own = and_parts (is_at plays_script decls s.owner) (list_all (call_fits decls) s.calls) both.1 in
     let calls = list_all-append (call_fits decls) s.calls (c ∷ []) ∙ and_from (list_all (call_fits decls) s.calls) (call_fits decls c && true) own.1 (and_from (call_fits decls c) true fits refl) in
-    IsValid-made (record { decls = decls; scripts = ss ++ with_call c s ∷ [] }) (room-valid (record { decls = decls; scripts = ss ++ s ∷ [] }) valid)
+    IsValid-made (record { decls = decls; written = written; scripts = ss ++ with_call c s ∷ [] }) (room-valid (record { decls = decls; written = written; scripts = ss ++ s ∷ [] }) valid)
     (omega (arith, call_count-push ss s, call_count-push ss (with_call c s), length-append s.calls (c ∷ [])))
     valid.in_range
     valid.observed
+    valid.in_order
     (fit-push decls ss (with_call c s) ∙ and_from (list_all (script_fits decls) ss) (script_fits decls (with_call c s)) both.0 (and_from (is_at plays_script decls s.owner) (list_all (call_fits decls) (s.calls ++ c ∷ [])) own.0 calls))
     (one_each-push ss (with_call c s) (one_each-left ss s valid.one_each) (one_each-fresh ss s valid.one_each))
 
@@ -193,134 +189,12 @@ valid-called decls ss s c valid fits few =
 pub fresh-closed : (r : Reading) (s : Script) → IsValid (parts_of r) → r.current ≡ Some s → script_of r.scripts s.owner ≡ None
 fresh-closed r s valid e = one_each-fresh r.scripts s (subst (λ o. OneEach (r.scripts ++ option_to_list o)) e valid.one_each)
 
-called_fits : (r : Reading) (c : Call) → IsValid (parts_of r) → not (is_some r.current) ≡ false → call_fits r.decls c ≡ true → nat_le 4096 (call_count (all_scripts r)) ≡ false → IsValid (parts_of (called r c))
-called_fits r c valid placed fits few =
-    let s = is_some-some r.current (not-false (is_some r.current) placed) in
-    subst (λ o. IsValid (record { decls = r.decls; scripts = r.scripts ++ option_to_list (option_map (with_call c) o) })) (sym s.1)
-    (valid-called r.decls r.scripts s.0 c (subst (λ o. IsValid (record { decls = r.decls; scripts = r.scripts ++ option_to_list o })) s.1 valid) fits
+called_fits : (r : Reading) (c : Call) → IsValid (parts_of r) → is_some r.current ≡ true → call_fits r.decls c ≡ true → nat_le 4096 (call_count (all_scripts r)) ≡ false → IsValid (parts_of (called r c))
+called_fits r c valid inside fits few =
+    let s = is_some-some r.current inside in
+    subst (λ o. IsValid (record { decls = r.decls; written = r.written; scripts = r.scripts ++ option_to_list (option_map (with_call c) o) })) (sym s.1)
+    (valid-called r.decls r.written r.scripts s.0 c (subst (λ o. IsValid (record { decls = r.decls; written = r.written; scripts = r.scripts ++ option_to_list o })) s.1 valid) fits
     (subst (λ o. call_count (r.scripts ++ option_to_list o) < 4096) s.1 (leb-false 4096 (call_count (all_scripts r)) few)))
-
--- where a kind isn't full, there may be one more of it
-room-push : (decls : List Decl) (d : Decl) → is_full decls (kind_of d) ≡ false → HasRoom decls → HasRoom (decls ++ d ∷ [])
-room-push decls (decl.Thread name prio user) free room =
-    let d = decl.Thread name prio user in
-    let more = leb-false 64 (player_count decls) (or_none (nat_le 64 (count_by is_thread decls)) (nat_le 64 (player_count decls)) free).1 in
-    record {
-      players = omega (arith, more, count_by-push is_thread decls d, count_by-push is_queue decls d);
-      queues = omega (arith, room.queues, count_by-push is_queue decls d);
-      items = omega (arith, room.items, count_by-push is_item decls d);
-      sems = omega (arith, room.sems, count_by-push is_sem decls d);
-      msgqs = omega (arith, room.msgqs, count_by-push is_msgq decls d);
-      signals = omega (arith, room.signals, count_by-push is_signal decls d);
-      chans = omega (arith, room.chans, count_by-push is_chan decls d);
-      observers = omega (arith, room.observers, count_by-push is_observer decls d);
-    }
-room-push decls (decl.Queue name prio on) free room =
-    let d = decl.Queue name prio on in
-    let both = or_none (nat_le 8 (count_by is_queue decls)) (nat_le 64 (player_count decls)) free in
-    let one = leb-false 8 (count_by is_queue decls) both.0 in
-    let more = leb-false 64 (player_count decls) both.1 in
-    record {
-      players = omega (arith, more, count_by-push is_thread decls d, count_by-push is_queue decls d);
-      queues = omega (arith, one, count_by-push is_queue decls d);
-      items = omega (arith, room.items, count_by-push is_item decls d);
-      sems = omega (arith, room.sems, count_by-push is_sem decls d);
-      msgqs = omega (arith, room.msgqs, count_by-push is_msgq decls d);
-      signals = omega (arith, room.signals, count_by-push is_signal decls d);
-      chans = omega (arith, room.chans, count_by-push is_chan decls d);
-      observers = omega (arith, room.observers, count_by-push is_observer decls d);
-    }
-room-push decls (decl.Item name) free room =
-    let d = decl.Item name in
-    let one = leb-false 256 (count_by is_item decls) (or_none (nat_le 256 (count_by is_item decls)) false free).0 in
-    record {
-      players = omega (arith, room.players, count_by-push is_thread decls d, count_by-push is_queue decls d);
-      queues = omega (arith, room.queues, count_by-push is_queue decls d);
-      items = omega (arith, one, count_by-push is_item decls d);
-      sems = omega (arith, room.sems, count_by-push is_sem decls d);
-      msgqs = omega (arith, room.msgqs, count_by-push is_msgq decls d);
-      signals = omega (arith, room.signals, count_by-push is_signal decls d);
-      chans = omega (arith, room.chans, count_by-push is_chan decls d);
-      observers = omega (arith, room.observers, count_by-push is_observer decls d);
-    }
-room-push decls (decl.Sem name initial limit) free room =
-    let d = decl.Sem name initial limit in
-    let one = leb-false 32 (count_by is_sem decls) (or_none (nat_le 32 (count_by is_sem decls)) false free).0 in
-    record {
-      players = omega (arith, room.players, count_by-push is_thread decls d, count_by-push is_queue decls d);
-      queues = omega (arith, room.queues, count_by-push is_queue decls d);
-      items = omega (arith, room.items, count_by-push is_item decls d);
-      sems = omega (arith, one, count_by-push is_sem decls d);
-      msgqs = omega (arith, room.msgqs, count_by-push is_msgq decls d);
-      signals = omega (arith, room.signals, count_by-push is_signal decls d);
-      chans = omega (arith, room.chans, count_by-push is_chan decls d);
-      observers = omega (arith, room.observers, count_by-push is_observer decls d);
-    }
-room-push decls (decl.Msgq name size capacity) free room =
-    let d = decl.Msgq name size capacity in
-    let one = leb-false 16 (count_by is_msgq decls) (or_none (nat_le 16 (count_by is_msgq decls)) false free).0 in
-    record {
-      players = omega (arith, room.players, count_by-push is_thread decls d, count_by-push is_queue decls d);
-      queues = omega (arith, room.queues, count_by-push is_queue decls d);
-      items = omega (arith, room.items, count_by-push is_item decls d);
-      sems = omega (arith, room.sems, count_by-push is_sem decls d);
-      msgqs = omega (arith, one, count_by-push is_msgq decls d);
-      signals = omega (arith, room.signals, count_by-push is_signal decls d);
-      chans = omega (arith, room.chans, count_by-push is_chan decls d);
-      observers = omega (arith, room.observers, count_by-push is_observer decls d);
-    }
-room-push decls (decl.Signal name) free room =
-    let d = decl.Signal name in
-    let one = leb-false 32 (count_by is_signal decls) (or_none (nat_le 32 (count_by is_signal decls)) false free).0 in
-    record {
-      players = omega (arith, room.players, count_by-push is_thread decls d, count_by-push is_queue decls d);
-      queues = omega (arith, room.queues, count_by-push is_queue decls d);
-      items = omega (arith, room.items, count_by-push is_item decls d);
-      sems = omega (arith, room.sems, count_by-push is_sem decls d);
-      msgqs = omega (arith, room.msgqs, count_by-push is_msgq decls d);
-      signals = omega (arith, one, count_by-push is_signal decls d);
-      chans = omega (arith, room.chans, count_by-push is_chan decls d);
-      observers = omega (arith, room.observers, count_by-push is_observer decls d);
-    }
-room-push decls (decl.Listener name) free room =
-    let d = decl.Listener name in
-    let one = leb-false 32 (count_by is_observer decls) (or_none (nat_le 32 (count_by is_observer decls)) false free).0 in
-    record {
-      players = omega (arith, room.players, count_by-push is_thread decls d, count_by-push is_queue decls d);
-      queues = omega (arith, room.queues, count_by-push is_queue decls d);
-      items = omega (arith, room.items, count_by-push is_item decls d);
-      sems = omega (arith, room.sems, count_by-push is_sem decls d);
-      msgqs = omega (arith, room.msgqs, count_by-push is_msgq decls d);
-      signals = omega (arith, room.signals, count_by-push is_signal decls d);
-      chans = omega (arith, room.chans, count_by-push is_chan decls d);
-      observers = omega (arith, one, count_by-push is_observer decls d);
-    }
-room-push decls (decl.Sub name capacity) free room =
-    let d = decl.Sub name capacity in
-    let one = leb-false 32 (count_by is_observer decls) (or_none (nat_le 32 (count_by is_observer decls)) false free).0 in
-    record {
-      players = omega (arith, room.players, count_by-push is_thread decls d, count_by-push is_queue decls d);
-      queues = omega (arith, room.queues, count_by-push is_queue decls d);
-      items = omega (arith, room.items, count_by-push is_item decls d);
-      sems = omega (arith, room.sems, count_by-push is_sem decls d);
-      msgqs = omega (arith, room.msgqs, count_by-push is_msgq decls d);
-      signals = omega (arith, room.signals, count_by-push is_signal decls d);
-      chans = omega (arith, room.chans, count_by-push is_chan decls d);
-      observers = omega (arith, one, count_by-push is_observer decls d);
-    }
-room-push decls (decl.Chan name message valid own) free room =
-    let d = decl.Chan name message valid own in
-    let one = leb-false 16 (count_by is_chan decls) (or_none (nat_le 16 (count_by is_chan decls)) false free).0 in
-    record {
-      players = omega (arith, room.players, count_by-push is_thread decls d, count_by-push is_queue decls d);
-      queues = omega (arith, room.queues, count_by-push is_queue decls d);
-      items = omega (arith, room.items, count_by-push is_item decls d);
-      sems = omega (arith, room.sems, count_by-push is_sem decls d);
-      msgqs = omega (arith, room.msgqs, count_by-push is_msgq decls d);
-      signals = omega (arith, room.signals, count_by-push is_signal decls d);
-      chans = omega (arith, one, count_by-push is_chan decls d);
-      observers = omega (arith, room.observers, count_by-push is_observer decls d);
-    }
 
 -- a declaration to which no reason applies keeps what was read valid
 pub IsValid-declared : (r : Reading) (k : Kind) (parts : List Placed) (d : Decl) → IsForm (head.Declare k) parts → Passes r (head.Declare k) parts → option_and_then (decl_of k) (args_of r.decls parts) ≡ Some d → IsValid (parts_of r)
@@ -331,6 +205,32 @@ IsValid-declared r k parts d form p made valid =
     let fits = decl_fits-read r.decls k form.words d (sym (ap (are_in_range r.decls (head.Declare k)) form.placed) ∙ p.in_range) (sym (ap (are_well_named r.decls) form.placed) ∙ p.well_named)
     (sym (ap (λ ps. option_and_then (decl_of k) (args_of r.decls ps)) form.placed) ∙ made) in
     valid-declared r d valid p.placed room fits.0 fits.1
+
+-- a permission that is said isn't said before
+new_permission : (r : Reading) (parts : List Placed) (thread object : ℕ) → option_and_then permission_of (args_of r.decls parts) ≡ Some (thread, object) → option_map_or (is_said_before r head.Allow) (args_of r.decls parts) false ≡ false
+    → is_allowed r.written thread object ≡ false
+new_permission r parts thread object made new = by_args (args_of r.decls parts) made new where
+  by_args : (o : Option (List Arg)) → option_and_then permission_of o ≡ Some (thread, object) → option_map_or (is_said_before r head.Allow) o false ≡ false → is_allowed r.written thread object ≡ false
+  by_args None said none = absurd (cc)
+  by_args (Some args) said none = sym (ap (λ o. option_map_or (λ pair. is_allowed r.written pair.0 pair.1) o false) said) ∙ none
+
+-- a permission to which no reason applies keeps what was read valid
+pub IsValid-permitted : (r : Reading) (parts : List Placed) (thread object : ℕ) → IsForm head.Allow parts → Passes r head.Allow parts → option_and_then permission_of (args_of r.decls parts) ≡ Some (thread, object) → IsValid (parts_of r)
+    → IsValid (parts_of (permitted r thread object))
+IsValid-permitted r parts thread object form p made valid =
+    let size = message_size r.decls parts in
+    let ranged = (and_parts (each_in_range size parts) (go_together head.Allow parts) p.in_range).0 in
+    let named = (and_parts (each_well_named r.decls parts) (name_once parts) p.well_named).0 in
+    let fits = permission_fits-read r.decls size form.words thread object (sym (ap (each_in_range size) form.placed) ∙ ranged) (sym (ap (each_well_named r.decls) form.placed) ∙ named)
+    (sym (ap (λ ps. option_and_then permission_of (args_of r.decls ps)) form.placed) ∙ made) in
+    let below = is_at-within (is_met need.Any) r.decls object fits.1 in
+    IsValid-made (parts_of (permitted r thread object)) (room-valid (parts_of r) valid)
+    valid.calls
+    valid.in_range
+    valid.observed
+    (in_order-permitted r.decls r.written thread object valid.in_order fits.0 below (new_permission r parts thread object made p.new))
+    valid.fit
+    valid.one_each
 
 -- the one word of a script's head names its owner
 owner_of : (r : Reading) (parts : List Placed) (ws : List (List ℕ)) (owner : ℕ) → fits (slot.Owner ∷ []) Nothing ws ≡ true → parts ≡ placed_of (slot.Owner ∷ []) Nothing ws
@@ -350,33 +250,45 @@ IsValid-opened r parts owner form p found valid =
     let fresh = none_from_is_some (script_of r.scripts owner) (sym (ap (has_script r) found) ∙ both.1) in
     valid-begun r owner valid (none_from_is_some r.current both.0) (owner_of r parts form.words owner form.fitting form.placed p.well_named found) fresh
 
+-- a call to which no reason applies stands in a script
+pub call_inside : (r : Reading) (w : Word) (parts : List Placed) → Passes r (head.Call w) parts → is_some r.current ≡ true
+call_inside r w parts p = not-false (is_some r.current) (or_none (not (is_some r.current)) (is_barred r w) p.placed).0
+
 -- a call to which no reason applies keeps what was read valid
 pub IsValid-called : (r : Reading) (w : Word) (parts : List Placed) (c : Call) → IsForm (head.Call w) parts → Passes r (head.Call w) parts → option_and_then (call_of w) (args_of r.decls parts) ≡ Some c → IsValid (parts_of r)
     → IsValid (parts_of (called r c))
 IsValid-called r w parts c form p made valid =
     let ranged = (and_parts (each_in_range (message_size r.decls parts) parts) (go_together (head.Call w) parts) p.in_range).0 in
     let fitting = call_fits-read r.decls w form.words c (sym (ap (λ ps. each_in_range (message_size r.decls ps) ps) form.placed) ∙ ranged) (sym (ap (each_well_named r.decls) form.placed) ∙ (and_parts (each_well_named r.decls parts) (name_once parts) p.well_named).0) (sym (ap (λ ps. option_and_then (call_of w) (args_of r.decls ps)) form.placed) ∙ made) in
-    called_fits r c valid p.placed fitting (or_none (nat_le 4096 (call_count (all_scripts r))) (has_many_events parts) p.within).0
+    called_fits r c valid (call_inside r w parts p) fitting (or_none (nat_le 4096 (call_count (all_scripts r))) (has_many_events parts) p.within).0
 
 -- a line to which no reason applies keeps what was read valid
 pub IsValid-after : (r s : Reading) (h : Head) (parts : List Placed) → IsForm h parts → verdict r h parts ≡ None → after r h parts ≡ Some s → IsValid (parts_of r) → IsValid (parts_of s)
 IsValid-after r s (head.Declare k) parts form e made valid =
     let d = one_part (declared r) (option_and_then (decl_of k) (args_of r.decls parts)) s made in
     subst (λ x. IsValid (parts_of x)) d.2 (IsValid-declared r k parts d.0 form (Passes-verdict r (head.Declare k) parts e) d.1 valid)
+IsValid-after r s head.Allow parts form e made valid =
+    let pair = one_part (λ (x : ℕ × ℕ). permitted r x.0 x.1) (option_and_then permission_of (args_of r.decls parts)) s made in
+    subst (λ x. IsValid (parts_of x)) pair.2 (IsValid-permitted r parts pair.0.0 pair.0.1 form (Passes-verdict r head.Allow parts e) pair.1 valid)
 IsValid-after r s head.Script parts form e made valid =
     let o = one_part (opened r) (first_object r.decls parts) s made in
     subst (λ x. IsValid (parts_of x)) o.2 (IsValid-opened r parts o.0 form (Passes-verdict r head.Script parts e) o.1 valid)
 IsValid-after r s head.End parts form e made valid =
-    subst (λ x. IsValid (parts_of x)) (same_Some _ _ made) (subst (λ ss. IsValid (record { decls = r.decls; scripts = ss })) (sym (append-nil (all_scripts r))) valid)
+    subst (λ x. IsValid (parts_of x)) (same_Some _ _ made) (subst (λ ss. IsValid (record { decls = r.decls; written = r.written; scripts = ss })) (sym (append-nil (all_scripts r))) valid)
 IsValid-after r s (head.Call w) parts form e made valid =
     let c = one_part (called r) (option_and_then (call_of w) (args_of r.decls parts)) s made in
     subst (λ x. IsValid (parts_of x)) c.2 (IsValid-called r w parts c.0 form (Passes-verdict r (head.Call w) parts e) c.1 valid)
 
--- the same three, where what was read is given by an equation
+-- the same four, where what was read is given by an equation
 pub IsValid-declared-is : (before now : Reading) (k : Kind) (parts : List Placed) (d : Decl) → before ≡ now → IsValid (parts_of before) → IsForm (head.Declare k) parts → verdict now (head.Declare k) parts ≡ None
     → option_and_then (decl_of k) (args_of now.decls parts) ≡ Some d → IsValid (parts_of (declared now d))
 IsValid-declared-is before now k parts d view valid form e made =
     IsValid-declared now k parts d form (Passes-verdict now (head.Declare k) parts e) made (subst (λ r. IsValid (parts_of r)) view valid)
+
+pub IsValid-permitted-is : (before now : Reading) (parts : List Placed) (thread object : ℕ) → before ≡ now → IsValid (parts_of before) → IsForm head.Allow parts → verdict now head.Allow parts ≡ None
+    → option_and_then permission_of (args_of now.decls parts) ≡ Some (thread, object) → IsValid (parts_of (permitted now thread object))
+IsValid-permitted-is before now parts thread object view valid form e made =
+    IsValid-permitted now parts thread object form (Passes-verdict now head.Allow parts e) made (subst (λ r. IsValid (parts_of r)) view valid)
 
 pub IsValid-opened-is : (before now : Reading) (parts : List Placed) (owner : ℕ) → before ≡ now → IsValid (parts_of before) → IsForm head.Script parts → verdict now head.Script parts ≡ None
     → first_object now.decls parts ≡ Some owner → IsValid (parts_of (opened now owner))

@@ -13,13 +13,14 @@ use Rattle.zk_words.specs.Table.{row_of}
 use Rattle.zk_line.specs.Args.{args_of}
 use Rattle.zk_line.specs.Calls.{call_of}
 use Rattle.zk_line.specs.Checks.{first_object, message_size, each_in_range, go_together, each_well_named, name_once, are_well_named, has_many_events, has_many_observers}
-use Rattle.zk_line.specs.Decls.{decl_of}
+use Rattle.zk_line.specs.Decls.{decl_of, permission_of}
 use Rattle.zk_line.specs.Objects.{object_of, is_at, names, plays_script}
-use Rattle.zk_line.proofs.Makes.{AreRight, are_right, makes_call, makes_decl}
-use Rattle.zk_scenario.specs.Reading.{Reading, all_scripts, declared, called}
+use Rattle.zk_line.proofs.Makes.{AreRight, are_right, makes_call, makes_decl, makes_permission}
+use Rattle.zk_scenario.specs.Reading.{Reading, all_scripts, declared, permitted, called}
 use Rattle.zk_scenario.specs.Valid.{call_count}
 use Rattle.zk_scenario.specs.Verdict.{is_full, verdict, opened, after}
-use Rattle.zk_scenario.proofs.AcceptedLines.{Passes, Passes-verdict, or_none}
+use Rattle.zk_scenario.proofs.AcceptedLines.{Passes, Passes-verdict}
+use Rattle.zk_scenario.proofs.Room.{or_none}
 
 some-map : {X Y : Type 0} (f : X → Y) (o : Option X) → IsSome o → IsSome (option_map f o)
 some-map f (Some x) e = refl
@@ -50,6 +51,11 @@ after-some r (head.Declare k) parts form e =
     let few = (or_none (is_full r.decls k) (has_many_observers parts) p.within).1 in
     some-map (declared r) (option_and_then (decl_of k) (args_of r.decls parts))
     (subst (λ ps. IsSome (option_and_then (decl_of k) (args_of r.decls ps))) (sym form.placed) (makes_decl k r.decls (message_size r.decls parts) form.words form.fitting right (sym (ap (go_together (head.Declare k)) form.placed) ∙ together) (sym (ap has_many_observers form.placed) ∙ few)))
+after-some r head.Allow parts form e =
+    let p = Passes-verdict r head.Allow parts e in
+    let size = message_size r.decls parts in
+    some-map (λ (x : ℕ × ℕ). permitted r x.0 x.1) (option_and_then permission_of (args_of r.decls parts))
+    (subst (λ ps. IsSome (option_and_then permission_of (args_of r.decls ps))) (sym form.placed) (makes_permission r.decls size form.words form.fitting (right_words r head.Allow parts form p)))
 after-some r head.Script parts form e =
     let p = Passes-verdict r head.Script parts e in
     some-map (opened r) (first_object r.decls parts) (owner-some r parts form.words form.fitting form.placed p.well_named)

@@ -1,7 +1,10 @@
 pub mod AcceptedLines
 pub mod AlwaysSays
+pub mod InOrder
+pub mod PairKeys
 pub mod ReadIsValid
 pub mod ReadText
+pub mod Room
 pub mod ScenarioLines
 pub mod ScriptTables
 pub mod Valid

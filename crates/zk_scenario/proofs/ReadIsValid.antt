@@ -12,7 +12,7 @@ use Rattle.zk_scenario.specs.declared.refused.ScenarioRefused.TheVariants.{At}
 use Rattle.zk_words.specs.Lines.{line_of}
 use Rattle.zk_words.specs.Parts.{Placed}
 use Rattle.zk_words.proofs.Formed.{line_is_form}
-use Rattle.zk_scenario.specs.Grammar.{told, taken, read_line, at_end, behind, read_lines, behind_header, read_pieces, pieces_of, scenario_of, IsReadable}
+use Rattle.zk_scenario.specs.Grammar.{told, taken, read_line, ended_parts, at_end, behind, read_lines, behind_header, read_pieces, pieces_of, scenario_of, IsReadable}
 use Rattle.zk_scenario.specs.Parts.{Parts}
 use Rattle.zk_scenario.specs.Reading.{Reading, start, parts_of}
 use Rattle.zk_scenario.specs.Spelling.{text_of}
@@ -20,7 +20,7 @@ use Rattle.zk_scenario.specs.Valid.{IsValid}
 use Rattle.zk_scenario.specs.Verdict.{verdict, after}
 use Rattle.zk_scenario.proofs.AcceptedLines.{IsValid-after, all_scripts-none}
 
-valid-line : (r s : Reading) (text : List ℕ) → read_line r text ≡ Ok s → IsValid (parts_of r) → IsValid (parts_of s)
+pub valid-line : (r s : Reading) (text : List ℕ) → read_line r text ≡ Ok s → IsValid (parts_of r) → IsValid (parts_of s)
 valid-line r s text e valid = by_line (line_of text) refl e where
   by_next : (h : Head) (parts : List Placed) → line_of text ≡ line.Formed h parts → verdict r h parts ≡ None → (o : Option Reading) → after r h parts ≡ o → told None o ≡ Ok s → IsValid (parts_of s)
   by_next h parts same passes None made here = absurd (cc)
@@ -38,11 +38,10 @@ valid-line r s text e valid = by_line (line_of text) refl e where
 
 valid-at_end : (n : ℕ) (r : Reading) (p : Parts) (piece : List ℕ) → at_end n r piece ≡ Ok p → IsValid (parts_of r) → IsValid p
 valid-at_end n r p [] e valid = by_current r.current refl e where
-  by_current : (o : Option Script) → r.current ≡ o → cond (is_some o) (Err (At n why.Order)) (Ok (record { decls = r.decls; scripts = r.scripts })) ≡ Ok p → IsValid p
+  by_current : (o : Option Script) → r.current ≡ o → cond (is_some o) (Err (At n why.Order)) (Ok (ended_parts r)) ≡ Ok p → IsValid p
   by_current None none here =
-      let P : Parts = record { decls = r.decls; scripts = r.scripts } in
-      let same : P ≡ p = cc in
-      subst IsValid same (subst (λ ss. IsValid (record { decls = r.decls; scripts = ss })) (all_scripts-none r none) valid)
+      let same : ended_parts r ≡ p = cc in
+      subst IsValid same (subst (λ ss. IsValid (record { decls = r.decls; written = r.written; scripts = ss })) (all_scripts-none r none) valid)
   by_current (Some script) none here = absurd (cc)
 valid-at_end n r p (b ∷ bs) e valid = absurd (cc)
 
@@ -54,8 +53,8 @@ valid-rest n r p piece (next ∷ more) e valid = by_result (read_line r piece) r
   by_result (Ok s) same here rest = rest s here (valid-line r s piece same valid)
   by_result (Err reason) same here rest = absurd (cc)
 
-valid-start : IsValid (parts_of start)
-valid-start = record { players = omega arith; queues = omega arith; items = omega arith; sems = omega arith; msgqs = omega arith; signals = omega arith; chans = omega arith; observers = omega arith; calls = omega arith; in_range = refl; observed = λ object d e. absurd (cc); fit = refl; one_each = λ n script e. absurd (cc) }
+pub valid-start : IsValid (parts_of start)
+valid-start = record { players = omega arith; queues = omega arith; items = omega arith; sems = omega arith; msgqs = omega arith; signals = omega arith; chans = omega arith; observers = omega arith; calls = omega arith; in_range = refl; observed = λ object d e. absurd (cc); in_order = record { all = refl; each = λ n line e. absurd (cc) }; fit = refl; one_each = λ n script e. absurd (cc) }
 
 valid-pieces : (p : Parts) (pieces : List (List ℕ)) → read_pieces pieces ≡ Ok p → IsValid p
 valid-pieces p [] e = absurd (cc)

@@ -1,5 +1,5 @@
 -- What a valid scenario gives: its size, the numbers of its objects, and that each call fits.
-use Rattle.std.proofs.Common.{◌≡◌, ℕ, zero, suc, ◌+◌, ◌<◌, ◌≤◌, Bool, true, false, cond, eqb, Option, None, Some, List, [], ◌∷◌, length, take, slice_get, get_or, count_by, refl, ap, ◌∙◌, arith, length-append}
+use Rattle.std.proofs.Common.{◌≡◌, ℕ, ◌+◌, ◌<◌, ◌≤◌, Bool, true, false, eqb, Option, None, Some, List, [], ◌∷◌, length, take, slice_get, get_or, count_by, refl, ap, ◌∙◌, arith, length-append}
 use Rattle.std.specs.List.{list_all}
 use Rattle.std.specs.Option.{option_map_or}
 use Rattle.std.proofs.lemmas.Bool.{and_parts, and_from}
@@ -7,6 +7,7 @@ use Rattle.std.proofs.lemmas.List.Quantifiers.{position-Some}
 use Rattle.std.proofs.lemmas.Option.{slice_get-get_or}
 use Rattle.zk_base.proofs.Lists.{list_all-at}
 use Rattle.zk_line.specs.declared.types.Decl.{Decl}
+use Rattle.zk_line.specs.declared.types.Declared.TheVariants.{Allow}
 use Rattle.zk_line.specs.declared.types.Decl.TheVariants.{Thread, Queue, Item, Sem, Msgq, Signal, Listener, Sub, Chan}
 use Rattle.zk_scenario.specs.declared.types.Script.{Script}
 use Rattle.zk_line.specs.Objects.{is_at, plays_script, is_thread, is_queue, is_item, is_sem, is_msgq, is_signal, is_chan, is_observer, same_kind, places, number_of, player_count, observers_of}
@@ -16,6 +17,7 @@ use Rattle.zk_scenario.specs.Scripts.{script_of}
 use Rattle.zk_line.specs.Fits.{call_fits, decl_fits, observers_fit}
 use Rattle.zk_line.proofs.Lists.{count_by-cons}
 use Rattle.zk_scenario.specs.Valid.{IsValid, script_fits}
+use Rattle.zk_scenario.proofs.InOrder.{count_by-take-lt, is_at-take, permission-declared}
 use Rattle.zk_scenario.proofs.ScriptTables.{calls_of-none, calls_of-some}
 use Rattle.zk_line.proofs.Tables.{length-places}
 
@@ -32,12 +34,12 @@ length-kinds (Queue name prio on ∷ ds) =
     let d = Queue name prio on in omega (arith, length-kinds ds, count_by-cons is_thread d ds, count_by-cons is_queue d ds, count_by-cons is_item d ds, count_by-cons is_sem d ds, count_by-cons is_msgq d ds, count_by-cons is_signal d ds, count_by-cons is_chan d ds, count_by-cons is_observer d ds)
 length-kinds (Item name ∷ ds) =
     let d = Item name in omega (arith, length-kinds ds, count_by-cons is_thread d ds, count_by-cons is_queue d ds, count_by-cons is_item d ds, count_by-cons is_sem d ds, count_by-cons is_msgq d ds, count_by-cons is_signal d ds, count_by-cons is_chan d ds, count_by-cons is_observer d ds)
-length-kinds (Sem name initial limit ∷ ds) =
-    let d = Sem name initial limit in omega (arith, length-kinds ds, count_by-cons is_thread d ds, count_by-cons is_queue d ds, count_by-cons is_item d ds, count_by-cons is_sem d ds, count_by-cons is_msgq d ds, count_by-cons is_signal d ds, count_by-cons is_chan d ds, count_by-cons is_observer d ds)
-length-kinds (Msgq name size capacity ∷ ds) =
-    let d = Msgq name size capacity in omega (arith, length-kinds ds, count_by-cons is_thread d ds, count_by-cons is_queue d ds, count_by-cons is_item d ds, count_by-cons is_sem d ds, count_by-cons is_msgq d ds, count_by-cons is_signal d ds, count_by-cons is_chan d ds, count_by-cons is_observer d ds)
-length-kinds (Signal name ∷ ds) =
-    let d = Signal name in omega (arith, length-kinds ds, count_by-cons is_thread d ds, count_by-cons is_queue d ds, count_by-cons is_item d ds, count_by-cons is_sem d ds, count_by-cons is_msgq d ds, count_by-cons is_signal d ds, count_by-cons is_chan d ds, count_by-cons is_observer d ds)
+length-kinds (Sem name initial limit raw ∷ ds) =
+    let d = Sem name initial limit raw in omega (arith, length-kinds ds, count_by-cons is_thread d ds, count_by-cons is_queue d ds, count_by-cons is_item d ds, count_by-cons is_sem d ds, count_by-cons is_msgq d ds, count_by-cons is_signal d ds, count_by-cons is_chan d ds, count_by-cons is_observer d ds)
+length-kinds (Msgq name size capacity raw ∷ ds) =
+    let d = Msgq name size capacity raw in omega (arith, length-kinds ds, count_by-cons is_thread d ds, count_by-cons is_queue d ds, count_by-cons is_item d ds, count_by-cons is_sem d ds, count_by-cons is_msgq d ds, count_by-cons is_signal d ds, count_by-cons is_chan d ds, count_by-cons is_observer d ds)
+length-kinds (Signal name raw ∷ ds) =
+    let d = Signal name raw in omega (arith, length-kinds ds, count_by-cons is_thread d ds, count_by-cons is_queue d ds, count_by-cons is_item d ds, count_by-cons is_sem d ds, count_by-cons is_msgq d ds, count_by-cons is_signal d ds, count_by-cons is_chan d ds, count_by-cons is_observer d ds)
 length-kinds (Listener name ∷ ds) =
     let d = Listener name in omega (arith, length-kinds ds, count_by-cons is_thread d ds, count_by-cons is_queue d ds, count_by-cons is_item d ds, count_by-cons is_sem d ds, count_by-cons is_msgq d ds, count_by-cons is_signal d ds, count_by-cons is_chan d ds, count_by-cons is_observer d ds)
 length-kinds (Sub name capacity ∷ ds) =
@@ -48,14 +50,6 @@ length-kinds (Chan name message valid own ∷ ds) =
 -- a valid scenario has at most 448 declarations
 pub length-decls : (p : Parts) → IsValid p → length p.decls ≤ 448
 length-decls p valid = omega (arith, length-kinds p.decls, valid.players, valid.items, valid.sems, valid.msgqs, valid.signals, valid.chans, valid.observers)
-
--- an element that passes counts behind those before it
-count_by-take-lt : {X : Type 0} (p : X → Bool) (xs : List X) (k : ℕ) (x : X) → slice_get xs k ≡ Some x → p x ≡ true → count_by p (take k xs) < count_by p xs
-count_by-take-lt p [] k x e yep = absurd (cc)
-count_by-take-lt p (y ∷ xs) zero x e yep =
-    let same : p y ≡ true = ap (λ o. option_map_or p o false) e ∙ yep in
-    omega (arith, count_by-cons p y xs, ap {B = ℕ} (λ b. cond b 1 0) same)
-count_by-take-lt p (y ∷ xs) (suc k) x e yep = omega (arith, count_by-take-lt p xs k x e yep, count_by-cons p y xs, count_by-cons p y (take k xs))
 
 below : (test : Decl → Bool) (decls : List Decl) (object : ℕ) → ((d : Decl) → test d ≡ true → same_kind d ≡ test) → is_at test decls object ≡ true → number_of decls object < count_by test decls
 below test decls object kind at = at_some (slice_get decls object) refl at where
@@ -88,21 +82,21 @@ number_of-thread decls object at = below is_thread decls object kind at where
 pub number_of-sem : (decls : List Decl) (object : ℕ) → is_at is_sem decls object ≡ true → number_of decls object < count_by is_sem decls
 number_of-sem decls object at = below is_sem decls object kind at where
   kind : (d : Decl) → is_sem d ≡ true → same_kind d ≡ is_sem
-  kind (Sem name initial limit) e = refl
+  kind (Sem name initial limit raw) e = refl
   kind d e = absurd (cc)
 
 -- the number of a message queue is below the count of the message queues
 pub number_of-msgq : (decls : List Decl) (object : ℕ) → is_at is_msgq decls object ≡ true → number_of decls object < count_by is_msgq decls
 number_of-msgq decls object at = below is_msgq decls object kind at where
   kind : (d : Decl) → is_msgq d ≡ true → same_kind d ≡ is_msgq
-  kind (Msgq name size capacity) e = refl
+  kind (Msgq name size capacity raw) e = refl
   kind d e = absurd (cc)
 
 -- the number of a signal is below the count of the signals
 pub number_of-signal : (decls : List Decl) (object : ℕ) → is_at is_signal decls object ≡ true → number_of decls object < count_by is_signal decls
 number_of-signal decls object at = below is_signal decls object kind at where
   kind : (d : Decl) → is_signal d ≡ true → same_kind d ≡ is_signal
-  kind (Signal name) e = refl
+  kind (Signal name raw) e = refl
   kind d e = absurd (cc)
 
 -- the number of a channel is below the count of the channels
@@ -120,13 +114,6 @@ number_of-observer decls object at = below is_observer decls object kind at wher
   kind (Sub name capacity) e = refl
   kind d e = absurd (cc)
 
--- what is declared among the first declarations is declared
-is_at-take : (test : Decl → Bool) (decls : List Decl) (n object : ℕ) → is_at test (take n decls) object ≡ true → is_at test decls object ≡ true
-is_at-take test decls zero object at = absurd (cc)
-is_at-take test [] (suc n) object at = absurd (cc)
-is_at-take test (d ∷ decls) (suc n) zero at = at
-is_at-take test (d ∷ decls) (suc n) (suc object) at = is_at-take test decls n object at
-
 all_at-take : (test : Decl → Bool) (decls : List Decl) (n : ℕ) (objects : List ℕ) → list_all (is_at test (take n decls)) objects ≡ true → list_all (is_at test decls) objects ≡ true
 all_at-take test decls n [] all = refl
 all_at-take test decls n (object ∷ objects) all =
@@ -136,6 +123,10 @@ all_at-take test decls n (object ∷ objects) all =
 -- the observers of a channel are subscribers and listeners that are declared
 pub observers-valid : (p : Parts) (object : ℕ) (d : Decl) → IsValid p → slice_get p.decls object ≡ Some d → observers_fit p.decls d ≡ true
 observers-valid p object d valid e = all_at-take is_observer p.decls object (observers_of d) (valid.observed object d e)
+
+-- each permission is of a thread on an object that are declared
+pub permission-valid : (p : Parts) (n thread object : ℕ) → IsValid p → slice_get p.written n ≡ Some (Allow thread object) → (is_at is_thread p.decls thread ≡ true) × (object < length p.decls)
+permission-valid p n thread object valid e = permission-declared p.decls p.written n thread object valid.in_order e
 
 -- each declaration is in range
 pub decl_fits-valid : (p : Parts) (object : ℕ) (d : Decl) → IsValid p → slice_get p.decls object ≡ Some d → decl_fits d ≡ true

@@ -45,9 +45,13 @@ unfed line.Unbuilt = why.Unbuilt
 unfed line.Misspelled = why.Line
 unfed (line.Formed head parts) = why.Line
 
+-- the scenario of what was read, where no script is open
+abbrev pub ended_parts : Reading → Parts
+ended_parts r = record { decls = r.decls; written = r.written; scripts = r.scripts }
+
 -- the end of the input behind a line feed; n is the number after the last line
 abbrev pub ended : ℕ → Reading → Result Parts ScenarioRefused
-ended n r = (if is_some r.current then Err (At n why.Order) else Ok (record { decls = r.decls; scripts = r.scripts }))
+ended n r = (if is_some r.current then Err (At n why.Order) else Ok (ended_parts r))
 
 -- what stands behind the last line feed: nothing, or a line without its feed
 abbrev pub at_end : ℕ → Reading → List ℕ → Result Parts ScenarioRefused
@@ -90,7 +94,7 @@ Answers (Err NoMemory) said = Unit {0}
 
 -- what was read to the end as the grammar says, or want of memory
 abbrev pub AnswersReading : Result Reading ScenarioRefused → Result Parts ScenarioRefused → Type 0
-AnswersReading (Ok r) said = said ≡ Ok (record { decls = r.decls; scripts = r.scripts })
+AnswersReading (Ok r) said = said ≡ Ok (ended_parts r)
 AnswersReading (Err (At n reason)) said = said ≡ Err (At n reason)
 AnswersReading (Err NoMemory) said = Unit {0}
 

@@ -7,3 +7,4 @@ pub mod Scripts
 pub mod Spelling
 pub mod Valid
 pub mod Verdict
+pub mod Written

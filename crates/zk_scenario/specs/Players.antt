@@ -11,9 +11,9 @@ abbrev pub prio_of : Decl → ℤ
 prio_of (Thread name prio user) = prio
 prio_of (Queue name prio on) = prio
 prio_of (Item name) = pos 0
-prio_of (Sem name initial limit) = pos 0
-prio_of (Msgq name size capacity) = pos 0
-prio_of (Signal name) = pos 0
+prio_of (Sem name initial limit raw) = pos 0
+prio_of (Msgq name size capacity raw) = pos 0
+prio_of (Signal name raw) = pos 0
 prio_of (Listener name) = pos 0
 prio_of (Sub name capacity) = pos 0
 prio_of (Chan name message valid observers) = pos 0

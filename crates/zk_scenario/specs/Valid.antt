@@ -6,6 +6,7 @@ use Rattle.zk_line.specs.Objects.{is_at, plays_script, is_queue, is_item, is_sem
 use Rattle.zk_scenario.specs.declared.types.Script.{Script}
 use Rattle.zk_scenario.specs.Parts.{Parts}
 use Rattle.zk_scenario.specs.Scripts.{script_of}
+use Rattle.zk_scenario.specs.Written.{AreInOrder}
 
 -- whether a thread, a handler or a listener plays a script, and each of its calls fits
 abbrev pub script_fits : List Decl → Script → Bool
@@ -19,8 +20,8 @@ call_count scripts = sum_by (λ script. length script.calls) scripts
 abbrev pub OneEach : List Script → Type 0
 OneEach scripts = (n : ℕ) (script : Script) → slice_get scripts n ≡ Some script → script_of scripts script.owner ≡ Some n
 
--- within the limits, each declaration is in range, the observers of each channel are declared before it, each script
--- fits, and each object has at most one
+-- within the limits, each declaration is in range, the observers of each channel are declared before it, the lines of
+-- objects and permissions are in order, each script fits, and each object has at most one
 pub record IsValid (p : Parts) : Type 0 where
   pub players : player_count p.decls ≤ 64
   pub queues : count_by is_queue p.decls ≤ 8
@@ -33,5 +34,6 @@ pub record IsValid (p : Parts) : Type 0 where
   pub calls : call_count p.scripts ≤ 4096
   pub in_range : list_all decl_fits p.decls ≡ true
   pub observed : AreObserved p.decls
+  pub in_order : AreInOrder p.decls p.written
   pub fit : list_all (script_fits p.decls) p.scripts ≡ true
   pub one_each : OneEach p.scripts

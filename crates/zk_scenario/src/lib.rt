@@ -2,6 +2,7 @@
 #![tactic(auto)]
 
 mod laws;
+mod pairs;
 mod read;
 mod reader;
 mod refused;
@@ -16,5 +17,5 @@ pub use refused::{ScenarioRefused, Why};
 pub use scenario::Scenario;
 pub use text::print_scenario;
 pub use types::Script;
-pub use zk_line::{Call, Decl, Event, Events, Ref, word_of};
+pub use zk_line::{Call, Decl, Declared, Event, Events, Ref, word_of};
 pub use zk_words::Word;

@@ -26,8 +26,8 @@ pub fn read_scenario(alloc: Global, text: &[u8]) -> Result<Scenario, ScenarioRef
     let mut lines = Lines::of(text);
     match read_pieces(alloc, &mut lines) {
         Ok(reader) => {
-            let (objects, scripts) = reader.into_parts();
-            Ok(Scenario::of(objects, scripts))
+            let (objects, written, scripts) = reader.into_parts();
+            Ok(Scenario::of(objects, written, scripts))
         }
         Err(refused) => Err(refused),
     }

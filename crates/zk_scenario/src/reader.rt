@@ -4,19 +4,20 @@ ghost use Rattle.zk_line.specs.Args.{args_of};
 ghost use Rattle.zk_line.specs.Objects.{object_of, name_of};
 ghost use Rattle.zk_line.specs.Weights.{or_wrong};
 ghost use Rattle.zk_scenario.specs.Grammar.{read_line, told, answered, accepted, unfed};
-ghost use Rattle.zk_scenario.specs.Reading.{start, declared, called, closed, with_call, parts_of};
+ghost use Rattle.zk_scenario.specs.Reading.{start, declared, permitted, called, closed, with_call, parts_of};
 ghost use Rattle.zk_scenario.specs.Valid.{IsValid};
-ghost use Rattle.zk_scenario.specs.Verdict.{has_begun, has_script, is_misplaced, most, is_full, is_past_limit, verdict, Judges, opened, after};
+ghost use Rattle.zk_scenario.specs.Verdict.{has_begun, has_script, is_supervisors, is_barred, is_misplaced, most, is_full, is_past_limit, is_said_before, verdict, Judges, opened, after};
 
+use crate::pairs::Pairs;
 use crate::refused::Why;
 use crate::scripts::Scripts;
 use crate::types::Script;
 use std::alloc::Global;
 use std::marker::Model;
-use zk_base::{Listed, NoMemory};
+use zk_base::{Listed, NoMemory, make_room_for_one, push_within};
 use zk_line::{
-    Arg, Args, Call, Decl, Objects, Ref, Wrong, call_of, decl_of, first_object, has_many_events,
-    has_many_observers, weigh,
+    Arg, Args, Call, Decl, Declared, Objects, Ref, Wrong, call_of, decl_of, first_object,
+    has_many_events, has_many_observers, is_listener_at, permission_of, weigh,
 };
 use zk_words::{Head, Kind, Line, Parts, Word, line_of, makes_player};
 
@@ -28,6 +29,10 @@ const MOST_CALLS: u32 = 4096;
 #[derive(Drop)]
 pub struct Reader {
     objects: Objects,
+    // The lines among the declarations, of objects and of permissions.
+    written: Vec<Declared>,
+    // The permissions among them: the numbers of the thread and of the object.
+    permissions: Pairs,
     // The scripts that have ended.
     scripts: Scripts,
     // The script that is open.
@@ -41,10 +46,19 @@ impl Model for Reader {
 
     ghost Value = { Reading };
 
-    ghost view = { λ a. record { decls = a.objects; scripts = a.scripts; current = a.current } };
+    ghost view = { λ a. record {
+      decls = a.objects;
+      written = a.written.items;
+      scripts = a.scripts;
+      current = a.current;
+    } };
 
-    ghost invariant = { λ a.
-        IsCounted (record { decls = a.objects; scripts = a.scripts; current = a.current }) a.calls };
+    ghost invariant = { λ a. IsCounted (record {
+      decls = a.objects;
+      written = a.written.items;
+      scripts = a.scripts;
+      current = a.current;
+    }) a.calls a.permissions };
 }
 
 impl Reader {
@@ -54,6 +68,8 @@ impl Reader {
     {
         Reader {
             objects: Objects::new(alloc),
+            written: Vec::new(alloc),
+            permissions: Pairs::new(alloc),
             scripts: Scripts::new(alloc),
             current: None,
             calls: 0,
@@ -75,17 +91,29 @@ impl Reader {
         }
     }
 
+    /// Whether a call is one that may not stand in the open script.
+    fn is_barred(&self, word: Word) -> bool
+        ensures { result ≡ is_barred self.now word }
+    {
+        is_supervisors(word)
+            && match &self.current {
+                Some(script) => is_listener_at(self.objects.decls(), script.owner),
+                None => false,
+            }
+    }
+
     /// Whether the line may not stand there.
     fn is_misplaced(&self, head: Head, parts: &Parts<'_>) -> bool
         ensures { result ≡ is_misplaced self.now head parts.now }
     {
         match head {
             Head::Declare(_) => self.has_begun(),
+            Head::Allow => self.has_begun(),
             Head::Script => {
                 self.current.is_some() || self.has_script(first_object(&self.objects, parts))
             }
             Head::End => !self.current.is_some(),
-            Head::Call(_) => !self.current.is_some(),
+            Head::Call(word) => !self.current.is_some() || self.is_barred(word),
         }
     }
 
@@ -103,6 +131,7 @@ impl Reader {
     {
         match head {
             Head::Declare(kind) => self.is_full(kind) || has_many_observers(parts),
+            Head::Allow => false,
             Head::Script => false,
             Head::End => false,
             Head::Call(_) => MOST_CALLS <= self.calls || has_many_events(parts),
@@ -123,12 +152,27 @@ impl Reader {
             Some(Wrong::OutOfRange) => Ok(Some(Why::Number)),
             Some(Wrong::Misnamed) => Ok(Some(Why::Name)),
             None => {
-                if self.is_past_limit(head, parts) {
+                if self.is_said_before(head, args.items()) {
+                    Ok(Some(Why::Name))
+                } else if self.is_past_limit(head, parts) {
                     Ok(Some(Why::Limit))
                 } else {
                     Ok(None)
                 }
             }
+        }
+    }
+
+    /// Whether a line says a permission that was said before.
+    fn is_said_before(&self, head: Head, args: &[Arg]) -> bool
+        ensures { result ≡ is_said_before self.now head args.now }
+    {
+        match head {
+            Head::Allow => match permission_of(args) {
+                Some((thread, object)) => self.permissions.has(thread, object),
+                None => false,
+            },
+            _ => false,
         }
     }
 
@@ -171,18 +215,21 @@ impl Reader {
         }
     }
 
-    /// The declarations and the scripts that have ended.
-    pub fn into_parts(self) -> (Objects, Scripts)
+    /// The objects, the lines of their declarations and of permissions, and the scripts that have ended.
+    pub fn into_parts(self) -> (Objects, Vec<Declared>, Scripts)
         ensures objects { result.0 ≡ self.decls }
-        ensures scripts { result.1 ≡ self.scripts }
+        ensures written { result.1.items ≡ self.written }
+        ensures scripts { result.2 ≡ self.scripts }
     {
         let Reader {
             objects,
+            written,
+            permissions: _,
             scripts,
             current: _,
             calls: _,
         } = self;
-        (objects, scripts)
+        (objects, written, scripts)
     }
 
     /// Whether a script is open.
@@ -207,6 +254,7 @@ impl Reader {
     {
         match head {
             Head::Declare(kind) => self.accept_decl(alloc, kind, parts, args),
+            Head::Allow => self.accept_allow(parts, args),
             Head::Script => Ok(self.accept_script(alloc, parts)),
             Head::End => {
                 self.end()?;
@@ -233,6 +281,20 @@ impl Reader {
             return Ok(false);
         };
         self.declare(alloc, decl)?;
+        Ok(true)
+    }
+
+    fn accept_allow(&mut self, parts: &Parts<'_>, args: &[Arg]) -> Result<bool, NoMemory>
+        requires form { IsForm Head.Allow parts.now }
+        requires passes { verdict self.old Head.Allow parts.now ≡ None }
+        requires said { args_of self.old.decls parts.now ≡ Some args.now }
+        ensures { IfOk result (λ done. after self.old Head.Allow parts.now ≡ accepted done self.new) }
+    {
+        let _valid = &self.calls;
+        let Some((thread, object)) = permission_of(args) else {
+            return Ok(false);
+        };
+        self.allow(thread, object)?;
         Ok(true)
     }
 
@@ -270,7 +332,23 @@ impl Reader {
         ensures ok { OnOk result (self.new ≡ declared self.old decl) }
         ensures unchanged { OnErr result (self.new ≡ self.old) }
     {
-        self.objects.push(alloc, decl)
+        make_room_for_one(&mut self.written)?;
+        let object = self.objects.decls().len() as u32;
+        self.objects.push(alloc, decl)?;
+        push_within(&mut self.written, Declared::Object(object));
+        Ok(())
+    }
+
+    /// One permission more.
+    fn allow(&mut self, thread: u32, object: u32) -> Result<(), NoMemory>
+        requires { IsValid (parts_of (permitted self.old thread object)) }
+        ensures ok { OnOk result (self.new ≡ permitted self.old thread object) }
+        ensures unchanged { OnErr result (self.new ≡ self.old) }
+    {
+        make_room_for_one(&mut self.written)?;
+        self.permissions.insert(thread, object)?;
+        push_within(&mut self.written, Declared::Allow(thread, object));
+        Ok(())
     }
 
     /// A script begins.
@@ -353,5 +431,17 @@ fn push_call(current: &mut Option<Script>, call: Call) -> Result<(), NoMemory>
     match current {
         Some(script) => script.calls.push(call),
         None => Ok(()),
+    }
+}
+
+/// Whether a call is one that a listener doesn't make: it takes a permission away, gives one to all, or initialises.
+fn is_supervisors(word: Word) -> bool
+    ensures { result ≡ is_supervisors word }
+{
+    match word {
+        Word::Revoke => true,
+        Word::Public => true,
+        Word::Init => true,
+        _ => false,
     }
 }

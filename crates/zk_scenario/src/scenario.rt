@@ -9,7 +9,7 @@ use crate::Script;
 use crate::scripts::Scripts;
 use std::marker::Model;
 use zk_base::Who;
-use zk_line::{Call, Decl, Objects};
+use zk_line::{Call, Decl, Declared, Objects};
 
 /// A scenario: declarations, and scripts over them. There is none but what has a text in the grammar.
 ///
@@ -17,6 +17,7 @@ use zk_line::{Call, Decl, Objects};
 #[derive(Drop)]
 pub struct Scenario {
     objects: Objects,
+    written: Vec<Declared>,
     scripts: Scripts,
 }
 
@@ -27,27 +28,39 @@ impl Model for Scenario {
 
     ghost Value = { Parts };
 
-    ghost view = { λ a. record { decls = a.objects; scripts = a.scripts } };
+    ghost view = { λ a. record { decls = a.objects; written = a.written.items; scripts = a.scripts } };
 
-    ghost invariant = { λ a. IsReadable (record { decls = a.objects; scripts = a.scripts }) };
+    ghost invariant = { λ a.
+        IsReadable (record { decls = a.objects; written = a.written.items; scripts = a.scripts }) };
 }
 
 impl Scenario {
     /// The scenario of what was read.
-    pub fn of(objects: Objects, scripts: Scripts) -> Scenario
-        requires { IsReadable (record { decls = objects; scripts = scripts }) }
-        ensures { result ≡ record { decls = objects; scripts = scripts } }
+    pub fn of(objects: Objects, written: Vec<Declared>, scripts: Scripts) -> Scenario
+        requires { IsReadable (record { decls = objects; written = written.items; scripts = scripts }) }
+        ensures { result ≡ record { decls = objects; written = written.items; scripts = scripts } }
     {
-        Scenario { objects, scripts }
+        Scenario {
+            objects,
+            written,
+            scripts,
+        }
     }
 
-    /// The declarations, in the written order.
+    /// The declarations of objects, in the written order.
     pub fn decls(&self) -> &[Decl]
         ensures all { result.now ≡ self.now.decls }
         ensures valid { IsValid self.now }
         ensures readable { IsReadable self.now }
     {
         self.objects.decls()
+    }
+
+    /// The lines among the declarations, of objects and of permissions, in the written order.
+    pub fn written(&self) -> &[Declared]
+        ensures { result.now ≡ self.now.written }
+    {
+        &self.written
     }
 
     /// The scripts, in the written order.
@@ -169,7 +182,7 @@ fn prio_of(decl: &Decl) -> i8
         Decl::Item(_) => 0,
         Decl::Sem(..) => 0,
         Decl::Msgq(..) => 0,
-        Decl::Signal(_) => 0,
+        Decl::Signal(..) => 0,
         Decl::Listener(_) => 0,
         Decl::Sub(..) => 0,
         Decl::Chan(..) => 0,

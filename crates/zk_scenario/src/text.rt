@@ -1,13 +1,13 @@
-ghost use Rattle.std.specs.Prelude.{◌≡◌, ◌∷◌, ◌++◌, [], IfOk, OnOk};
+ghost use Rattle.std.specs.Prelude.{◌≡◌, ◌++◌, IfOk, OnOk};
 ghost use Rattle.std.specs.List.{flat_map};
-ghost use Rattle.zk_line.specs.Text.{decl_line, call_line};
+ghost use Rattle.zk_line.specs.Text.{call_line};
 ghost use Rattle.zk_scenario.specs.Grammar.{IsReadable};
-ghost use Rattle.zk_scenario.specs.Spelling.{decl_lines, script_line, end_line, script_lines, fed, lines_text, text_of};
+ghost use Rattle.zk_scenario.specs.Spelling.{object_line, declared_line, script_line, end_line, script_lines, fed, lines_text, text_of};
 
 use crate::{Scenario, Script};
 use std::alloc::Global;
 use zk_base::{NoMemory, put};
-use zk_line::{Arg, Call, Decl, Ref, put_call, put_decl, put_said};
+use zk_line::{Arg, Call, Decl, Declared, Ref, put_allow, put_call, put_decl, put_said};
 use zk_words::Head;
 
 /// The text of a scenario. What is read from it is the scenario again.
@@ -26,17 +26,38 @@ fn put_scenario(out: &mut Vec<u8>, scenario: &Scenario) -> Result<(), NoMemory>
 {
     let decls = scenario.decls();
     put(out, b"zk 1\n")?;
-    put_decls(out, decls)?;
+    put_declarations(out, decls, scenario.written())?;
     put_scripts(out, decls, scenario.scripts())
 }
 
-fn put_decls(out: &mut Vec<u8>, decls: &[Decl]) -> Result<(), NoMemory>
-    ensures { OnOk result (out.new.items ≡ out.old.items ++ lines_text (decl_lines [] decls.now)) }
+fn put_declarations(out: &mut Vec<u8>, decls: &[Decl], written: &[Declared]) -> Result<(), NoMemory>
+    ensures { OnOk result (out.new.items
+        ≡ out.old.items ++ flat_map (λ line. fed (declared_line decls.now line)) written.now) }
 {
-    for (object, decl) in decls.iter().enumerate() {
-        put_fed_decl(out, &decls[..object], decl)?;
+    for line in written {
+        put_declared(out, decls, line)?;
     }
     Ok(())
+}
+
+fn put_declared(out: &mut Vec<u8>, decls: &[Decl], line: &Declared) -> Result<(), NoMemory>
+    ensures { OnOk result (out.new.items ≡ out.old.items ++ fed (declared_line decls.now line.now)) }
+{
+    match line {
+        Declared::Object(object) => put_object(out, decls, *object)?,
+        Declared::Allow(thread, object) => put_allow(out, decls, *thread, *object)?,
+    }
+    put(out, b"\n")
+}
+
+fn put_object(out: &mut Vec<u8>, decls: &[Decl], object: u32) -> Result<(), NoMemory>
+    ensures { OnOk result (out.new.items ≡ out.old.items ++ object_line decls.now object) }
+{
+    let object = object as usize;
+    match decls.get(object) {
+        Some(decl) => put_decl(out, &decls[..object], decl),
+        None => Ok(()),
+    }
 }
 
 fn put_scripts(out: &mut Vec<u8>, decls: &[Decl], scripts: &[Script]) -> Result<(), NoMemory>
@@ -85,13 +106,6 @@ fn put_calls(out: &mut Vec<u8>, decls: &[Decl], calls: &[Call]) -> Result<(), No
         put_fed_call(out, decls, call)?;
     }
     Ok(())
-}
-
-fn put_fed_decl(out: &mut Vec<u8>, before: &[Decl], decl: &Decl) -> Result<(), NoMemory>
-    ensures { OnOk result (out.new.items ≡ out.old.items ++ fed (decl_line before.now decl.now)) }
-{
-    put_decl(out, before, decl)?;
-    put(out, b"\n")
 }
 
 fn put_fed_call(out: &mut Vec<u8>, decls: &[Decl], call: &Call) -> Result<(), NoMemory>

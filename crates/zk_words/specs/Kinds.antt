@@ -25,3 +25,15 @@ makes_player Signal = false
 makes_player Listener = false
 makes_player Sub = false
 makes_player Chan = false
+
+-- whether an object of a kind can be declared as not initialised
+abbrev pub can_be_raw : Kind → Bool
+can_be_raw Thread = false
+can_be_raw Queue = false
+can_be_raw Item = false
+can_be_raw Sem = true
+can_be_raw Msgq = true
+can_be_raw Signal = true
+can_be_raw Listener = false
+can_be_raw Sub = false
+can_be_raw Chan = false

@@ -6,7 +6,7 @@ use Rattle.zk_words.specs.declared.slot.Choice.{Choice}
 use Rattle.zk_words.specs.declared.slot.Choice.TheVariants.{Mode, State, Drain}
 use Rattle.zk_words.specs.declared.slot.Rest.{Rest}
 use Rattle.zk_words.specs.declared.slot.Slot.{Slot}
-use Rattle.zk_words.specs.declared.slot.Slot.TheVariants.{New, Owner, Object, Number, Priority, Either, Hex, Wait, Event, Valid, Raw}
+use Rattle.zk_words.specs.declared.slot.Slot.TheVariants.{New, Owner, Object, Rawable, Number, Priority, Either, Hex, Wait, Event, Valid, Raw}
 use Rattle.zk_words.specs.declared.spelled.Spelling.{Spelling}
 use Rattle.zk_words.specs.declared.spelled.Spelling.TheVariants.{Wrong, Later, Right}
 use Rattle.zk_words.specs.Events.{is_event}
@@ -37,6 +37,7 @@ abbrev pub is_spelled_in : Slot → List ℕ → Bool
 is_spelled_in New word = is_spelled word
 is_spelled_in Owner word = is_spelled word
 is_spelled_in (Object need) word = is_spelled word
+is_spelled_in Rawable word = is_spelled word
 is_spelled_in (Number least most) word = is_number word
 is_spelled_in Priority word = is_some (priority_of word)
 is_spelled_in (Either choice) word = bytes_eq word (choice_text choice true) || bytes_eq word (choice_text choice false)
@@ -50,11 +51,9 @@ is_spelled_in Raw word = bytes_eq word (codes "raw")
 abbrev pub part_is_spelled : Placed → Bool
 part_is_spelled part = is_spelled_in part.slot part.text
 
--- whether the grammar has the word in its slot, and the program can't play it yet: a thread that is a
--- user, and an object that isn't initialised
+-- whether the grammar has the word in its slot, and the program can't play it yet: a thread that is a user
 abbrev pub is_later_in : Slot → List ℕ → Bool
 is_later_in (Either Mode) word = bytes_eq word (choice_text Mode true)
-is_later_in Raw word = true
 is_later_in slot word = false
 
 -- whether the word of a part is such a one

@@ -5,12 +5,20 @@ use Rattle.zk_model_bus.specs.declared.kinds.Need.TheVariants as need
 use Rattle.zk_words.specs.declared.word.Word.{Word}
 use Rattle.zk_words.specs.declared.word.Word.TheVariants as word
 use Rattle.zk_words.specs.declared.word.Head.{Head}
-use Rattle.zk_words.specs.declared.word.Head.TheVariants.{Declare, Script, End, Call}
+use Rattle.zk_words.specs.declared.word.Head.TheVariants.{Declare, Allow, Script, End, Call}
 use Rattle.zk_words.specs.declared.slot.Choice.TheVariants.{Mode, State, Drain}
 use Rattle.zk_words.specs.declared.slot.Slot.{Slot}
-use Rattle.zk_words.specs.declared.slot.Slot.TheVariants.{New, Owner, Object, Number, Priority, Either, Hex, Wait, Valid, Raw}
+use Rattle.zk_words.specs.declared.slot.Slot.TheVariants.{New, Owner, Object, Rawable, Number, Priority, Either, Hex, Wait, Valid, Raw}
 use Rattle.zk_words.specs.declared.slot.Rest.TheVariants.{Nothing, Maybe, Many, Events}
 use Rattle.zk_words.specs.Rows.{Form}
+
+-- a thread
+abbrev pub thread : Slot
+thread = Object need.Thread
+
+-- an object of any kind
+abbrev pub object : Slot
+object = Object need.Any
 
 -- a work item
 abbrev pub item : Slot
@@ -141,10 +149,16 @@ call_row word.Read = exactly (codes "read") (channel ∷ Wait ∷ [])
 call_row word.Mask = exactly (codes "mask") (channel ∷ observer ∷ Either State ∷ [])
 call_row word.Enable = exactly (codes "enable") (observer ∷ Either State ∷ [])
 call_row word.SubWait = exactly (codes "subwait") (subscriber ∷ Wait ∷ [])
+call_row word.Grant = exactly (codes "grant") (thread ∷ object ∷ [])
+call_row word.Release = exactly (codes "release") (object ∷ [])
+call_row word.Revoke = exactly (codes "revoke") (thread ∷ object ∷ [])
+call_row word.Public = exactly (codes "public") (object ∷ [])
+call_row word.Init = exactly (codes "init") (Rawable ∷ [])
 
 -- the table: the form of each line behind the first
 abbrev pub row_of : Head → Form
 row_of (Declare kind) = kind_row kind
+row_of Allow = exactly (codes "allow") (thread ∷ object ∷ [])
 row_of Script = exactly (codes "script") (Owner ∷ [])
 row_of End = exactly (codes "end") []
 row_of (Call word) = call_row word
@@ -154,7 +168,7 @@ abbrev pub heads : List Head
 heads =
     Declare kind.Thread ∷ Declare kind.Queue ∷ Declare kind.Item
     ∷ Declare kind.Sem ∷ Declare kind.Msgq ∷ Declare kind.Signal
-    ∷ Declare kind.Listener ∷ Declare kind.Sub ∷ Declare kind.Chan ∷ Script ∷ End
+    ∷ Declare kind.Listener ∷ Declare kind.Sub ∷ Declare kind.Chan ∷ Allow ∷ Script ∷ End
     ∷ Call word.Submit ∷ Call word.Cancel ∷ Call word.CancelSync ∷ Call word.Flush
     ∷ Call word.Schedule ∷ Call word.Reschedule ∷ Call word.Remaining ∷ Call word.Busy
     ∷ Call word.Start ∷ Call word.Drain ∷ Call word.Unplug ∷ Call word.Tick
@@ -162,4 +176,5 @@ heads =
     ∷ Call word.Put ∷ Call word.Get ∷ Call word.Peek ∷ Call word.PeekAt ∷ Call word.Purge ∷ Call word.Used ∷ Call word.Free
     ∷ Call word.Raise ∷ Call word.Clear ∷ Call word.Check ∷ Call word.Poll
     ∷ Call word.Claim ∷ Call word.Finish ∷ Call word.Publish ∷ Call word.Notify ∷ Call word.Read
-    ∷ Call word.Mask ∷ Call word.Enable ∷ Call word.SubWait ∷ []
+    ∷ Call word.Mask ∷ Call word.Enable ∷ Call word.SubWait
+    ∷ Call word.Grant ∷ Call word.Release ∷ Call word.Revoke ∷ Call word.Public ∷ Call word.Init ∷ []

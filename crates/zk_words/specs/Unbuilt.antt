@@ -2,11 +2,9 @@ use Rattle.std.specs.Prelude.{ℕ, Bool, List, [], ◌∷◌, codes}
 use Rattle.std.specs.List.{list_any}
 use Rattle.std.specs.Str.{bytes_eq}
 
--- the first words of the grammar that have no row yet: declarations, then calls, service by service
+-- the first words of the grammar that have no row yet
 abbrev pub unbuilt : List (List ℕ)
-unbuilt =
-    codes "allow"
-    ∷ codes "grant" ∷ codes "release" ∷ codes "revoke" ∷ codes "public" ∷ codes "init" ∷ codes "user" ∷ []
+unbuilt = codes "user" ∷ []
 
 -- a first word of the grammar that has no row yet
 abbrev pub is_unbuilt : List ℕ → Bool

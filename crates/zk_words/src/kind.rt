@@ -1,5 +1,5 @@
 ghost use Rattle.std.specs.Prelude.{◌≡◌};
-ghost use Rattle.zk_words.specs.Kinds.{plays_script, makes_player};
+ghost use Rattle.zk_words.specs.Kinds.{plays_script, makes_player, can_be_raw};
 
 use zk_model_bus::Kind;
 
@@ -31,6 +31,23 @@ pub fn makes_player(kind: Kind) -> bool
         Kind::Sem => false,
         Kind::Msgq => false,
         Kind::Signal => false,
+        Kind::Listener => false,
+        Kind::Sub => false,
+        Kind::Chan => false,
+    }
+}
+
+/// Whether an object of a kind can be declared as not initialised.
+pub fn can_be_raw(kind: Kind) -> bool
+    ensures { result ≡ can_be_raw kind }
+{
+    match kind {
+        Kind::Thread => false,
+        Kind::Queue => false,
+        Kind::Item => false,
+        Kind::Sem => true,
+        Kind::Msgq => true,
+        Kind::Signal => true,
         Kind::Listener => false,
         Kind::Sub => false,
         Kind::Chan => false,

@@ -18,7 +18,7 @@ mod word;
 
 pub use event::{Asked, Source, event_named, is_ignore, need_of, source_text};
 pub use hex::{is_hex, msg_of, put_hex};
-pub use kind::{makes_player, plays_script};
+pub use kind::{can_be_raw, makes_player, plays_script};
 pub use line::{Line, line_of};
 pub use numbers::{number_in, number_of, priority_of};
 pub use parts::{Part, Parts};

@@ -20,6 +20,8 @@ pub enum Slot {
     Owner,
     /// The name of an object that meets the need.
     Object(Need),
+    /// The name of an object of a kind that can be declared as not initialised.
+    Rawable,
     /// A number from the first to the second.
     Number(u32, u32),
     /// A priority, from -16 to 15.
@@ -34,7 +36,7 @@ pub enum Slot {
     Event,
     /// What messages a channel takes: `any`, or `max:` and the greatest first byte in two hexadecimal digits.
     Valid,
-    /// The word `raw`, of an object that isn't initialised. The program can't play it yet.
+    /// The word `raw`, of an object that isn't initialised.
     Raw,
 }
 

@@ -161,6 +161,7 @@ fn is_spelled_in(slot: Slot, word: &[u8]) -> bool
         Slot::New => is_spelled(word),
         Slot::Owner => is_spelled(word),
         Slot::Object(_) => is_spelled(word),
+        Slot::Rawable => is_spelled(word),
         Slot::Number(_, _) => is_number(word),
         Slot::Priority => priority_of(word).is_some(),
         Slot::Either(choice) => {
@@ -179,7 +180,6 @@ fn is_later_in(slot: Slot, word: &[u8]) -> bool
 {
     match slot {
         Slot::Either(Choice::Mode) => word == choice_text(Choice::Mode, true),
-        Slot::Raw => true,
         _ => false,
     }
 }

@@ -24,6 +24,10 @@ impl Model for Row {
     ghost view = { λ r. record { first = r.first.now; slots = r.slots.now; rest = r.rest } };
 }
 
+const THREAD: Slot = Slot::Object(Need::Thread);
+
+const ANY: Slot = Slot::Object(Need::Any);
+
 const ITEM: Slot = Slot::Object(Need::Item);
 
 const QUEUE: Slot = Slot::Object(Need::Queue);
@@ -62,6 +66,7 @@ pub fn row_of(head: Head) -> Row
 {
     match head {
         Head::Declare(kind) => kind_row(kind),
+        Head::Allow => exactly(b"allow", &[THREAD, ANY]),
         Head::Script => exactly(b"script", &[Slot::Owner]),
         Head::End => exactly(b"end", &[]),
         Head::Call(word) => call_row(word),
@@ -173,6 +178,11 @@ fn call_row(word: Word) -> Row
         Word::Mask => exactly(b"mask", &[CHANNEL, OBSERVER, Slot::Either(Choice::State)]),
         Word::Enable => exactly(b"enable", &[OBSERVER, Slot::Either(Choice::State)]),
         Word::SubWait => exactly(b"subwait", &[SUBSCRIBER, Slot::Wait]),
+        Word::Grant => exactly(b"grant", &[THREAD, ANY]),
+        Word::Release => exactly(b"release", &[ANY]),
+        Word::Revoke => exactly(b"revoke", &[THREAD, ANY]),
+        Word::Public => exactly(b"public", &[ANY]),
+        Word::Init => exactly(b"init", &[Slot::Rawable]),
     }
 }
 
@@ -203,6 +213,7 @@ pub fn head_of(first: &[u8]) -> Option<Head>
         Head::Declare(Kind::Listener),
         Head::Declare(Kind::Sub),
         Head::Declare(Kind::Chan),
+        Head::Allow,
         Head::Script,
         Head::End,
         Head::Call(Word::Submit),
@@ -240,6 +251,11 @@ pub fn head_of(first: &[u8]) -> Option<Head>
         Head::Call(Word::Mask),
         Head::Call(Word::Enable),
         Head::Call(Word::SubWait),
+        Head::Call(Word::Grant),
+        Head::Call(Word::Release),
+        Head::Call(Word::Revoke),
+        Head::Call(Word::Public),
+        Head::Call(Word::Init),
     );
     None
 }

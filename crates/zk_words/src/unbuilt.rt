@@ -20,7 +20,5 @@ fn is_one_of(word: &[u8], texts: &[&[u8]]) -> bool
 fn unbuilt() -> &'static [&'static [u8]]
     ensures { map (λ text. text.now) result.now ≡ unbuilt }
 {
-    &[
-        b"allow", b"grant", b"release", b"revoke", b"public", b"init", b"user",
-    ]
+    &[b"user"]
 }

@@ -38,6 +38,11 @@ pub enum Word {
     Mask,
     Enable,
     SubWait,
+    Grant,
+    Release,
+    Revoke,
+    Public,
+    Init,
 }
 
 /// What a line's first word says that the line is.
@@ -45,6 +50,8 @@ pub enum Word {
 pub enum Head {
     /// The declaration of an object of this kind.
     Declare(Kind),
+    /// A permission that a thread has from the start.
+    Allow,
     /// The head of a script.
     Script,
     /// The end of the open script.

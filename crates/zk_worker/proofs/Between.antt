@@ -147,6 +147,7 @@ between-none true number shown = refl
 between-none false number shown = record {
   work = grew-none number shown.work;
   clock = grew-none number shown.clock;
+  table = grew-none number shown.table;
   sems = grew-none_each number shown.sems;
   msgqs = grew-none_each number shown.msgqs;
   signals = grew-none_each number shown.signals;
@@ -162,6 +163,7 @@ between-both true number old mid new first then_ = then_ ∙ first
 between-both false number old mid new first then_ = record {
   work = grew-both number old.work mid.work new.work first.work then_.work;
   clock = grew-both number old.clock mid.clock new.clock first.clock then_.clock;
+  table = grew-both number old.table mid.table new.table first.table then_.table;
   sems = grew-both_each number old.sems mid.sems new.sems first.sems then_.sems;
   msgqs = grew-both_each number old.msgqs mid.msgqs new.msgqs first.msgqs then_.msgqs;
   signals = grew-both_each number old.signals mid.signals new.signals first.signals then_.signals;
@@ -180,6 +182,7 @@ short-still false number old new short others is = absurd (cc)
 shown-longer : (number : ℕ) (old new : Shown) (spot : Spot) (b : ℕ × ℕ) → AllGrew number old new → shown_at old spot ≡ Some b → shown_at new spot ≡ Some b
 shown-longer number old new (spots.Work place) b grew is = entry-longer number step_of old.work new.work place b grew.work is
 shown-longer number old new (spots.Clock place) b grew is = entry-longer number step_of old.clock new.clock place b grew.clock is
+shown-longer number old new (spots.Table place) b grew is = entry-longer number step_of old.table new.table place b grew.table is
 shown-longer number old new (spots.Sem object place) b grew is =
     entry-longer_each number step_of old.sems new.sems object place b grew.sems is
 shown-longer number old new (spots.Msgq object place) b grew is =
@@ -200,6 +203,8 @@ stands-longer number old new grew (spots.Work place) made is =
     entry-longer number (λ e. (steps.Work e.op, step_replies.Work e.reply place)) old.work new.work place made grew.work is
 stands-longer number old new grew (spots.Clock place) made is =
     entry-longer number (λ e. (steps.Clock e.op, step_replies.Clock e.reply place)) old.clock new.clock place made grew.clock is
+stands-longer number old new grew (spots.Table place) made is =
+    entry-longer number (λ e. (steps.Table e.op, step_replies.Table e.reply place)) old.table new.table place made grew.table is
 stands-longer number old new grew (spots.Sem object place) made is =
     entry-longer_each number
     (λ e. (steps.Sem object e.op, step_replies.Sem object e.reply place)) old.sems new.sems object place made grew.sems is
@@ -222,6 +227,7 @@ stands-longer number old new grew (spots.LookSignal object seen) made is = is
 shown-back : (number step : ℕ) (old new : Shown) (spot : Spot) → AllGrew number old new → shown_at new spot ≡ Some (number, step) → shown_at old spot ≡ Some (number, step)
 shown-back number step old new (spots.Work place) grew is = entry-back number step old.work new.work place grew.work is
 shown-back number step old new (spots.Clock place) grew is = entry-back number step old.clock new.clock place grew.clock is
+shown-back number step old new (spots.Table place) grew is = entry-back number step old.table new.table place grew.table is
 shown-back number step old new (spots.Sem object place) grew is =
     entry-back_each number step old.sems new.sems object place grew.sems is
 shown-back number step old new (spots.Msgq object place) grew is =
@@ -269,6 +275,7 @@ log-none decls number [] none = record {
     nothing_there : (step : ℕ) (spot : Spot) → shown_at (nothing_shown decls) spot ≡ Some (number, step) → ⊥
     nothing_there step (spots.Work place) is = cc
     nothing_there step (spots.Clock place) is = cc
+    nothing_there step (spots.Table place) is = cc
     nothing_there step (spots.Sem object place) is = none-there step_of decls object place (number, step) is
     nothing_there step (spots.Msgq object place) is = none-there step_of decls object place (number, step) is
     nothing_there step (spots.Signal object place) is = none-there step_of decls object place (number, step) is
@@ -284,6 +291,9 @@ above-work shown number next later = above-all number shown.work next (λ place 
 
 pub above-clock : (shown : Shown) (number next : ℕ) → IsLater shown number next → IsAbove shown.clock number next
 above-clock shown number next later = above-all number shown.clock next (λ place step is. later.entries step (spots.Clock place) is)
+
+pub above-table : (shown : Shown) (number next : ℕ) → IsLater shown number next → IsAbove shown.table number next
+above-table shown number next later = above-all number shown.table next (λ place step is. later.entries step (spots.Table place) is)
 
 pub above-sems : (shown : Shown) (number next object : ℕ) (h : List (Entry SemOp SemReply)) →
     slice_get shown.sems object ≡ Some h → IsLater shown number next → IsAbove h number next

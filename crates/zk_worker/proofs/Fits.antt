@@ -1,17 +1,17 @@
 -- The attempts of a player name items, queues, semaphores, message queues, signals, channels and observers that are declared.
-use Rattle.std.proofs.Common.{◌≡◌, ℕ, zero, suc, ◌+◌, Bool, true, false, Option, Some, None, is_some, List, [], ◌∷◌, length, All, refl, ap, subst, arith, nat_lt, ◌&&◌}
-use Rattle.std.specs.Option.{option_map, option_map_or}
+use Rattle.std.proofs.Common.{◌≡◌, ◌⊎◌, inl, inr, ℕ, zero, suc, ◌+◌, Bool, true, false, Option, Some, None, is_some, List, [], ◌∷◌, length, All, refl, ap, subst, arith, nat_lt, ◌&&◌}
+use Rattle.std.specs.Option.{option_map, option_map_or, option_and_then}
 use Rattle.std.specs.List.{slice_get, list_all}
 use Rattle.std.proofs.lemmas.Bool.{and_parts, and_from, lt-ltb}
 use Rattle.std.proofs.lemmas.List.Elements.{All-nil, All-cons, All-head, All-tail}
-use Rattle.std.proofs.lemmas.Option.{option_and_then_some}
+use Rattle.std.proofs.lemmas.Option.{option_and_then_some, same_Some}
 use Rattle.zk_base.proofs.Lists.{slice_get-one, cond_nil-at, list_all-at, All-at}
 use Rattle.zk_line.specs.declared.types.Decl.{Decl}
 use Rattle.zk_line.specs.declared.types.Decl.TheVariants as decl_kinds
 use Rattle.zk_line.specs.declared.types.Ref.TheVariants.{Known}
 use Rattle.zk_line.specs.declared.types.Call.{Call}
 use Rattle.zk_line.specs.declared.types.Call.TheVariants as calls
-use Rattle.zk_line.specs.Objects.{places, is_queue, is_item, is_sem, is_msgq, is_signal, is_chan, is_observer, is_met, number_of, is_at, size_at}
+use Rattle.zk_line.specs.Objects.{places, is_queue, is_item, is_sem, is_msgq, is_signal, is_chan, is_observer, is_met, can_be_raw, number_of, is_at, size_at}
 use Rattle.zk_scenario.specs.Players.{players, calls_of}
 use Rattle.zk_model_bus.specs.declared.kinds.Need.TheVariants as need
 use Rattle.zk_scenario.specs.Parts.{Parts}
@@ -55,7 +55,23 @@ use Rattle.zk_worker.specs.Waits.{open_step, end_step, quit_step, first_step, wa
 use Rattle.zk_worker.specs.Places.{At}
 use Rattle.zk_worker.specs.Polls.{poll_attempts}
 use Rattle.zk_worker.specs.Protocol.{worker_attempts, call_attempts, role_attempts, frames_attempts, IsAhead, after, frames_after, frames_progress, entered, first_frame, role_at, starting, start_at}
+use Rattle.zk_line.proofs.NeedsThere.{at-any, needs-there}
+use Rattle.zk_line.specs.Needs.{needs_of, is_there, IsThere}
+use Rattle.zk_line.specs.declared.needs.Needed.{Needed}
+use Rattle.zk_line.specs.declared.types.Ref.{Ref}
+use Rattle.zk_model_bus.specs.declared.kinds.Need.{Need}
+use Rattle.zk_model_bus.specs.declared.table.OopsWhy.{OopsWhy}
+use Rattle.zk_model_bus.specs.declared.table.TableOp.TheVariants as table_ops
+use Rattle.zk_words.specs.declared.word.Word.{Word}
+use Rattle.zk_worker.specs.declared.checks.Check.{Check}
+use Rattle.zk_worker.specs.declared.steps.Spot.{Spot}
+use Rattle.zk_worker.specs.Checks.{check_of, call_check, role_check, top_check, check_step, oops_in}
+use Rattle.zk_worker.specs.Protocol.{after_by, checked, spot_of}
+use Rattle.zk_worker.specs.Refs.{ref_declared}
+use Rattle.zk_worker.specs.TableSetup.{names_declared}
+use Rattle.zk_worker.proofs.CheckedSteps.{IsCheck, IsOwn, one-or-other, check_at, check-of-top}
 use Rattle.zk_worker.specs.Families.{is_declared}
+use Rattle.zk_worker.specs.TableSetup.{is_object}
 use Rattle.zk_worker.specs.Machines.{sem_start, msgq_start, signal_start, chan_start, observer_start}
 use Rattle.zk_worker.specs.Ranges.{step_fits, role_fits, AreObservers, StageFits, FrameFits, FramesFit, ReplyFits}
 use Rattle.zk_worker.proofs.PollSteps.{is_source, poll_attempts-fit}
@@ -130,7 +146,7 @@ sem-declared : (decls : List Decl) (sem : ℕ) (more : Bool) → (is_at is_sem d
 sem-declared decls sem more fits = declared-at sem_start is_sem decls sem starts (and_parts (is_at is_sem decls sem) more fits).0
   where
     starts : (decl : Decl) → is_sem decl ≡ true → is_some (sem_start decl) ≡ true
-    starts (decl_kinds.Sem name initial limit) is = refl
+    starts (decl_kinds.Sem name initial limit raw) is = refl
     starts decl is = absurd (cc)
 
 msgq-declared : (decls : List Decl) (queue : ℕ) (more : Bool) → (is_at is_msgq decls queue && more) ≡ true →
@@ -139,7 +155,7 @@ msgq-declared decls queue more fits =
     declared-at msgq_start is_msgq decls queue starts (and_parts (is_at is_msgq decls queue) more fits).0
   where
     starts : (decl : Decl) → is_msgq decl ≡ true → is_some (msgq_start decl) ≡ true
-    starts (decl_kinds.Msgq name size capacity) is = refl
+    starts (decl_kinds.Msgq name size capacity raw) is = refl
     starts decl is = absurd (cc)
 
 chan-declared : (decls : List Decl) (chan : ℕ) (more : Bool) → (is_at is_chan decls chan && more) ≡ true →
@@ -175,7 +191,7 @@ signal-declared decls signal more fits =
     declared-at signal_start is_signal decls signal starts (and_parts (is_at is_signal decls signal) more fits).0
   where
     starts : (decl : Decl) → is_signal decl ≡ true → is_some (signal_start decl) ≡ true
-    starts (decl_kinds.Signal name) is = refl
+    starts (decl_kinds.Signal name raw) is = refl
     starts decl is = absurd (cc)
 
 -- what an event of a fitting call names is declared as what it names
@@ -192,6 +208,13 @@ events-sources decls (event ∷ more) fits =
     let P : Event → Type 0 = λ event. is_source decls event ≡ true in
     let both = and_parts (event_fits decls event) (list_all (event_fits decls) more) fits in
     All-cons P event more (event-source decls event both.0) (events-sources decls more both.1)
+
+-- a thread, and an object for it
+thread-object : (decls : List Decl) (thread object : ℕ) → (is_at (is_met need.Thread) decls thread && (is_object decls object && true)) ≡ true →
+    (is_at (is_met need.Thread) decls thread && is_object decls object) ≡ true
+thread-object decls thread object fits =
+    let both = and_parts (is_at (is_met need.Thread) decls thread) (is_object decls object && true) fits in
+    and_from (is_at (is_met need.Thread) decls thread) (is_object decls object) both.0 (and_parts (is_object decls object) true both.1).0
 
 plan_of-fits : (decls : List Decl) (call : Call) → call_fits decls call ≡ true → PlanFits decls (plan_of decls call)
 unfolding PlanFits waiting_fits
@@ -235,6 +258,11 @@ plan_of-fits decls (calls.Publish (Known chan) message timeout) fits =
     chan-declared decls chan (is_size (size_at decls chan) (length message) && (wait_fits timeout && true)) fits
 plan_of-fits decls (calls.Notify (Known chan) timeout) fits = chan-declared decls chan (wait_fits timeout && true) fits
 plan_of-fits decls (calls.Read (Known chan) timeout) fits = chan-declared decls chan (wait_fits timeout && true) fits
+plan_of-fits decls (calls.Grant (Known thread) (Known object)) fits = thread-object decls thread object fits
+plan_of-fits decls (calls.Release (Known object)) fits = (and_parts (is_object decls object) true fits).0
+plan_of-fits decls (calls.Revoke (Known thread) (Known object)) fits = thread-object decls thread object fits
+plan_of-fits decls (calls.Public (Known object)) fits = (and_parts (is_object decls object) true fits).0
+plan_of-fits decls (calls.Init (Known object)) fits = at-any can_be_raw decls object (and_parts (is_at can_be_raw decls object) true fits).0
 plan_of-fits decls (calls.Poll timeout list) fits = events-sources decls list (poll_fits decls timeout list fits).1
 
 -- the steps of a wait are at its object
@@ -381,11 +409,38 @@ frames_attempts-fit s (frame ∷ below) k step valid fits is =
     let here = All-head (FrameFits s.decls) frame below fits in
     role_attempts-fit s frame.role frame.next frame.stage k step valid here.0 here.1 is
 
+-- a check is of what is declared
+pub check-fits : (s : Parts) (passed : ℕ) (frames : List Frame) (check : Check) → IsValid s → top_check s passed frames ≡ Some check → step_fits s.decls (check_step check) ≡ true
+check-fits s passed [] check valid is = absurd (cc)
+check-fits s passed (frame ∷ below) check valid is = by_role frame.role frame.stage is where
+  of_needed : (call : Call) (n : Needed) → IsThere s.decls n → step_fits s.decls (check_step (check_of call n)) ≡ true
+  of_needed call n there = by n.object n.need there where
+    by : (object : Ref) (need : Need) → is_there s.decls object ≡ true → names_declared s.decls (table_ops.Check (ref_declared object) need) ≡ true
+    by (Known object) need there = there
+
+  by_call : (call : Option Call) → option_map_or (call_fits s.decls) call true ≡ true → option_and_then (call_check passed) call ≡ Some check → step_fits s.decls (check_step check) ≡ true
+  by_call None fits is = absurd (cc)
+  by_call (Some call) fits is = by_need (slice_get (needs_of call) passed) refl is where
+    by_need : (o : Option Needed) → slice_get (needs_of call) passed ≡ o → option_map (check_of call) o ≡ Some check → step_fits s.decls (check_step check) ≡ true
+    by_need None at is = absurd (cc)
+    by_need (Some n) at is = subst (λ (c : Check). step_fits s.decls (check_step c) ≡ true) (same_Some (check_of call n) check is)
+        (of_needed call n (All-at (IsThere s.decls) (needs_of call) passed n (needs-there s.decls call fits) at))
+
+  by_role : (role : Role) (stage : Stage) → role_check s passed role frame.next stage ≡ Some check → step_fits s.decls (check_step check) ≡ true
+  by_role (roles.Script owner) stages.Start is =
+      by_call (slice_get (calls_of s.scripts owner) frame.next)
+      (call-fits s.decls (calls_of s.scripts owner) frame.next (slice_get (calls_of s.scripts owner) frame.next) refl (call_fits-calls_of s owner valid)) is
+  by_role role stage is = absurd (cc)
+
 -- each attempt of a player of a valid scenario names what is declared
 pub ahead-fits : (s : Parts) (at : At) (step : Step) → IsValid s → FramesFit s.decls at.frames → IsAhead s at step → step_fits s.decls step ≡ true
 ahead-fits s at step valid fits ahead =
-    frames_attempts-fit s at.frames ahead.0 step valid fits
-    (cond_nil-at (nat_lt (length at.spots) MOST_STEPS) (frames_attempts s at.frames) ahead.0 step ahead.1).1
+    by (one-or-other s at step ahead)
+  where
+    by : IsCheck s at step ⊎ IsOwn s at step → step_fits s.decls step ≡ true
+    by (inl is) = subst (λ (x : Step). step_fits s.decls x ≡ true) is.is_step
+        (check-fits s at.passed at.frames is.check valid (check-of-top s at.mode at.passed at.frames is.check is.comes))
+    by (inr is) = frames_attempts-fit s at.frames is.index step valid fits is.ahead
 
 frames_after-fit : (s : Parts) (frames : List Frame) (progress : Progress) → FramesFit s.decls frames → ProgressFits s.decls progress →
     FramesFit s.decls (frames_after s frames progress)
@@ -406,8 +461,14 @@ frames_after-fit s (frame ∷ below) (Enters owner stage) fits more =
 -- a step keeps what fits, where its reply tells only of observers
 pub after-fits : (s : Parts) (at : At) (made : Step) (reply : StepReply) → FramesFit s.decls at.frames → ReplyFits s.decls reply →
     FramesFit s.decls (after s at made reply).frames
-after-fits s at made reply fits told =
-    frames_after-fit s at.frames (frames_progress s at.frames made reply) fits (frames_progress-fits s at.frames made reply fits told)
+after-fits s at made reply fits told = by (check_at s at) where
+  by_why : (word : Word) (why : Option OopsWhy) (spot : Spot) → FramesFit s.decls (checked at word why spot).frames
+  by_why word None spot = fits
+  by_why word (Some why) spot = All-nil (FrameFits s.decls)
+
+  by : (check : Option Check) → FramesFit s.decls (after_by s at made reply check).frames
+  by (Some check) = by_why check.word (oops_in reply) (spot_of made reply)
+  by None = frames_after-fit s at.frames (frames_progress s at.frames made reply) fits (frames_progress-fits s at.frames made reply fits told)
 
 role_at-fits : (decls : List Decl) (object : ℕ) (decl : Decl) → slice_get decls object ≡ Some decl → role_fits decls (role_at decl object) ≡ true
 role_at-fits decls object (decl_kinds.Thread name prio user) is = refl

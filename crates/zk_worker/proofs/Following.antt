@@ -15,6 +15,7 @@ use Rattle.zk_worker.proofs.Lists.{zip-weaker, zip-push}
 use Rattle.zk_worker.proofs.Starts.{start_at-fresh}
 use Rattle.zk_worker.proofs.Between.{stands-longer}
 use Rattle.zk_worker.proofs.ShownSteps.{made-more}
+use Rattle.zk_worker.proofs.CheckedSteps.{after-spots}
 
 played-more : (s : Parts) (start : At) (made : List (Step × StepReply)) (at : At) (new : Step × StepReply) →
     IsPlayed s start made at → IsAhead s at new.0 → IsPlayed s start (made ++ new ∷ []) (after s at new.0 new.1)
@@ -52,8 +53,9 @@ following-more s number old new at step reply more ahead is = record {
   start = is.start;
   made = is.made ++ (step, reply) ∷ [];
   starts = is.starts;
-  stands = zip-push (Stands new) at.spots is.made (spot_of step reply) (step, reply)
-      (zip-weaker (Stands old) (Stands new) at.spots is.made more.still is.stands) more.here;
+  stands = subst (λ (l : List Spot). AllZip (Stands new) l (is.made ++ (step, reply) ∷ [])) (sym (after-spots s at step reply).1)
+      (zip-push (Stands new) at.spots is.made (spot_of step reply) (step, reply)
+      (zip-weaker (Stands old) (Stands new) at.spots is.made more.still is.stands) more.here);
   played = played-more s is.start is.made at (step, reply) is.played ahead;
 }
 

@@ -1,5 +1,6 @@
 pub mod DeclaredObjects
 pub mod Lists
+pub mod CheckedSteps
 pub mod Limits
 pub mod Starts
 pub mod PollSteps
@@ -13,6 +14,8 @@ pub mod PollLogs
 pub mod PollServed
 pub mod StageFits
 pub mod Fits
+pub mod TableRanges
+pub mod TableSetups
 pub mod Ranges
 pub mod Families
 pub mod Between
@@ -25,8 +28,11 @@ pub mod Trying
 pub mod ChannelAnswers
 pub mod OpenScripts
 pub mod OwnEntries
+pub mod ChannelSteps
 pub mod HeldCalls
 pub mod OtherCalls
 pub mod ScriptsEntered
 pub mod LogsPlayed
+pub mod ChannelCalls
+pub mod ChannelsFreed
 pub mod Visits

@@ -29,14 +29,16 @@ use Rattle.zk_worker.specs.Publishes.{asks_for, channel_attempts}
 use Rattle.zk_worker.specs.Waits.{wait_attempts}
 use Rattle.zk_line.specs.declared.types.Call.{Call}
 use Rattle.zk_scenario.specs.Players.{calls_of}
-use Rattle.zk_worker.specs.Protocol.{attempts, IsAhead, is_over, settled, entered, first_frame, frames_after, answers_after, frames_attempts, role_attempts, call_attempts}
+use Rattle.zk_worker.specs.Protocol.{attempts, checks_first, IsAhead, is_over, settled, entered, first_frame, frames_after, answers_after, frames_attempts, role_attempts, call_attempts}
 use Rattle.zk_worker.specs.Stacks.{IsRoomy}
+use Rattle.zk_worker.proofs.CheckedSteps.{check_at, checks_first-few}
 use Rattle.zk_worker.proofs.PollSteps.{poll_attempts-few}
 
 -- a player with a next attempt has made fewer steps than it may
 pub ahead_short : (s : Parts) (at : At) (step : Step) → IsAhead s at step → length at.spots < MOST_STEPS
 ahead_short s at step ahead =
-    ltb-true (length at.spots) MOST_STEPS (cond_nil-at (nat_lt (length at.spots) MOST_STEPS) (frames_attempts s at.frames) ahead.0 step ahead.1).0
+    ltb-true (length at.spots) MOST_STEPS
+    (cond_nil-at (nat_lt (length at.spots) MOST_STEPS) (checks_first (check_at s at) (frames_attempts s at.frames)) ahead.0 step ahead.1).0
 
 -- what holds of each frame holds of those that are left
 pub settled-all : (P : Frame → Type 0) (s : Parts) (frames : List Frame) → All P frames → All P (settled s frames)
@@ -95,25 +97,57 @@ answers_after-length answers number (Answers word answer) =
 answers_after-length answers number (Enters owner stage) = omega arith
 
 -- the limits are kept by a step of a player that has made fewer steps than it may
-pub IsRoomy-moved : (s : Parts) (frames frames' : List Frame) (answers answers' : List Answered) (spots spots' : List Spot) (spot : Spot) (number : ℕ) (progress : Progress) (a b c a' b' c' : ℕ) →
-    IsRoomy frames answers spots a b c → length spots < MOST_STEPS →
+pub IsRoomy-moved : (s : Parts) (frames frames' : List Frame) (answers answers' : List Answered) (spots spots' : List Spot) (spot : Spot) (number : ℕ) (progress : Progress) (passed a b c a' b' c' : ℕ) →
+    IsRoomy passed frames answers spots a b c → length spots < MOST_STEPS →
     frames' ≡ frames_after s frames progress → answers' ≡ answers_after answers number progress → spots' ≡ spots ++ spot ∷ [] →
-    a ≤ a' → b ≤ b' → c ≤ c' → IsRoomy frames' answers' spots' a' b' c'
-IsRoomy-moved s frames frames' answers answers' spots spots' spot number progress a b c a' b' c' was short frames_are answers_are spots_are for_a for_b for_c =
+    a ≤ a' → b ≤ b' → c ≤ c' → IsRoomy 0 frames' answers' spots' a' b' c'
+IsRoomy-moved s frames frames' answers answers' spots spots' spot number progress passed a b c a' b' c' was short frames_are answers_are spots_are for_a for_b for_c =
     let long : length (spots ++ spot ∷ []) ≡ length spots + 1 = omega (arith, length-append spots (spot ∷ [])) in
-    let here : IsRoomy (frames_after s frames progress) (answers_after answers number progress) (spots ++ spot ∷ []) a' b' c' = record {
+    let here : IsRoomy 0 (frames_after s frames progress) (answers_after answers number progress) (spots ++ spot ∷ []) a' b' c' = record {
       few_frames = frames_after-length s frames progress was.few_frames;
       few_answers = omega (arith, was.few_answers, answers_after-length answers number progress);
       few_spots = omega arith;
       nexts = subst (λ (n : ℕ). All (λ frame. frame.next ≤ n) (frames_after s frames progress)) (sym long)
           (frames_after-nexts s (length spots) frames progress was.nexts);
+      few_passed = omega arith;
       for_frames = omega (arith, was.for_frames);
       for_answers = omega (arith, was.for_answers);
       for_spots = omega (arith, was.for_spots);
     } in
-    subst (λ (f : List Frame). IsRoomy f answers' spots' a' b' c') (sym frames_are)
-    (subst (λ (n : List Answered). IsRoomy (frames_after s frames progress) n spots' a' b' c') (sym answers_are)
-    (subst (λ (p : List Spot). IsRoomy (frames_after s frames progress) (answers_after answers number progress) p a' b' c') (sym spots_are) here))
+    subst (λ (f : List Frame). IsRoomy 0 f answers' spots' a' b' c') (sym frames_are)
+    (subst (λ (n : List Answered). IsRoomy 0 (frames_after s frames progress) n spots' a' b' c') (sym answers_are)
+    (subst (λ (p : List Spot). IsRoomy 0 (frames_after s frames progress) (answers_after answers number progress) p a' b' c') (sym spots_are) here))
+
+-- and by a check: one that is passed is counted, and one that fails leaves nothing open
+pub IsRoomy-passed : (frames : List Frame) (answers : List Answered) (spots : List Spot) (spot : Spot) (passed a b c c' : ℕ) →
+    IsRoomy passed frames answers spots a b c → length spots < MOST_STEPS → c ≤ c' → IsRoomy (passed + 1) frames answers (spots ++ spot ∷ []) a b c'
+IsRoomy-passed frames answers spots spot passed a b c c' was short for_c =
+    let long : length (spots ++ spot ∷ []) ≡ length spots + 1 = omega (arith, length-append spots (spot ∷ [])) in record {
+      few_frames = was.few_frames;
+      few_answers = omega (arith, long, was.few_answers);
+      few_spots = omega (arith, long);
+      nexts = All-weaker (λ (f : Frame). f.next ≤ length spots) (λ (f : Frame). f.next ≤ length (spots ++ spot ∷ [])) (λ f le. omega (arith, le, long)) frames was.nexts;
+      few_passed = omega (arith, long, was.few_passed);
+      for_frames = was.for_frames;
+      for_answers = was.for_answers;
+      for_spots = omega (arith, was.for_spots);
+    }
+
+pub IsRoomy-ended : (frames : List Frame) (answers : List Answered) (answered : Answered) (spots : List Spot) (spot : Spot) (passed a b c a' b' c' : ℕ) →
+    IsRoomy passed frames answers spots a b c → length spots < MOST_STEPS → a ≤ a' → b ≤ b' → c ≤ c' →
+    IsRoomy 0 [] (answers ++ answered ∷ []) (spots ++ spot ∷ []) a' b' c'
+IsRoomy-ended frames answers answered spots spot passed a b c a' b' c' was short for_a for_b for_c =
+    let long : length (spots ++ spot ∷ []) ≡ length spots + 1 = omega (arith, length-append spots (spot ∷ [])) in
+    let more : length (answers ++ answered ∷ []) ≡ length answers + 1 = omega (arith, length-append answers (answered ∷ [])) in record {
+      few_frames = omega arith;
+      few_answers = omega (arith, long, more, was.few_answers);
+      few_spots = omega (arith, long);
+      nexts = All-nil (λ (f : Frame). f.next ≤ length (spots ++ spot ∷ []));
+      few_passed = omega arith;
+      for_frames = omega (arith, was.for_frames);
+      for_answers = omega (arith, was.for_answers);
+      for_spots = omega (arith, was.for_spots);
+    }
 
 -- a call that may wait has at most two attempts at a time: the end of its wait, and that of its alarm
 wait_attempts-few : (waiting : Waiting) (timeout : Timeout) (stage : Stage) → length (wait_attempts waiting timeout stage) ≤ 2
@@ -161,5 +195,5 @@ frames_attempts-few s (frame ∷ below) = role_few s frame.role frame.next frame
 -- a player has few attempts at a time
 pub attempts-few : (s : Parts) (at : At) → length (attempts s at) ≤ MOST_ATTEMPTS
 attempts-few s at =
-    elim (nat_lt (length at.spots) MOST_STEPS) as (λ b. length (cond b (frames_attempts s at.frames) []) ≤ MOST_ATTEMPTS)
-    [ true ↦ omega (arith, frames_attempts-few s at.frames) | false ↦ omega arith ]
+    elim (nat_lt (length at.spots) MOST_STEPS) as (λ b. length (cond b (checks_first (check_at s at) (frames_attempts s at.frames)) []) ≤ MOST_ATTEMPTS)
+    [ true ↦ checks_first-few MOST_ATTEMPTS (check_at s at) (frames_attempts s at.frames) (omega arith) (omega (arith, frames_attempts-few s at.frames)) | false ↦ omega arith ]

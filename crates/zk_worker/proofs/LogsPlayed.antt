@@ -40,6 +40,7 @@ use Rattle.zk_model_wait.specs.Clock.{Clock, new_clock, clock_machine, clock_rep
 use Rattle.zk_base.proofs.Lists.{cond_chosen}
 use Rattle.zk_worker.specs.StackLaws.{clock_may_tell, ChanHistories, IsReplied, chans_after, IsPlayedAmong}
 use Rattle.zk_worker.specs.StackLogs.{ShowsLegalClock, ShowsLegalChans, EachLogEntersItsScripts}
+use Rattle.zk_worker.proofs.CheckedSteps.{after-spots}
 use Rattle.zk_worker.proofs.Between.{grew-none}
 use Rattle.zk_worker.proofs.ScriptsEntered.{each_script_is_entered}
 use Rattle.zk_worker.proofs.ShownSteps.{made-of}
@@ -317,6 +318,9 @@ module _ (s : Parts) (shown : Shown) (number : ℕ) (player : Who) (is_player : 
   is-next i (spots.Work place) made there stands =
       let from = made-of _ _ made stands in
       subst (λ (m : Made). IsNext s shown.chans number i m.0 m.1) from.2 (elsewhere i (spots.Work place) _ _ there (λ object at same. cc) refl refl)
+  is-next i (spots.Table place) made there stands =
+      let from = made-of _ _ made stands in
+      subst (λ (m : Made). IsNext s shown.chans number i m.0 m.1) from.2 (elsewhere i (spots.Table place) _ _ there (λ object at same. cc) refl refl)
   is-next i (spots.Clock place) made there stands =
       let from = made-of (λ (e : Entry ClockOp ClockReply). (steps.Clock e.op, step_replies.Clock e.reply place)) (slice_get shown.clock place) made stands in
       subst (λ (m : Made). IsNext s shown.chans number i m.0 m.1) from.2
@@ -349,14 +353,15 @@ module _ (s : Parts) (shown : Shown) (number : ℕ) (player : Who) (is_player : 
   played-among i chans at end (spot ∷ rest) (m ∷ more) own long among stands played grew =
       let here : slice_get log i ≡ Some spot = (let same : i + 0 ≡ i = omega arith in ap (slice_get log) (sym same) ∙ among 0 spot refl) in
       let next = is-next i spot m here stands.0 in
-      let later : length (after s at m.0 m.1).spots ≡ i + 1 = (let more = length-append at.spots (spot_made at m ∷ []) in omega arith) in (
+      let stays = after-spots s at m.0 m.1 in
+      let later : length (after s at m.0 m.1).spots ≡ i + 1 = ap (λ (l : List Spot). length l) stays.1 ∙ (let more = length-append at.spots (spot_made at m ∷ []) in omega arith) in (
         cuts number i shown.chans,
         next.who,
         next.own ∙ sym own,
         subst (λ (k : ℕ). EachGrew k chans (cuts number i shown.chans)) (sym own) grew,
         played.0,
         next.replied,
-        played-among (i + 1) (chans_after (cuts number i shown.chans) next.who (length at.spots) m.0 m.1) (after s at m.0 m.1) end rest more own later
+        played-among (i + 1) (chans_after (cuts number i shown.chans) next.who (length at.spots) m.0 m.1) (after s at m.0 m.1) end rest more (ap (λ (w : Who). w.number) stays.0 ∙ own) later
             (λ k spot' there. (let same : i + 1 + k ≡ i + suc k = omega arith in ap (slice_get log) same ∙ among (suc k) spot' there)) stands.1 played.1
             (subst (λ (k : ℕ). EachGrew number (chans_after (cuts number i shown.chans) next.who k m.0 m.1) (cuts number (i + 1) shown.chans)) (sym long) next.grew),
       )

@@ -36,6 +36,7 @@ use Rattle.zk_worker.proofs.Lists.{at-end, at-front, there-longer, known-there}
 use Rattle.zk_worker.proofs.Between.{longer-none, longer-none_each, looks-none, log-still}
 use Rattle.zk_worker.proofs.Families.{answered-at}
 use Rattle.zk_worker.proofs.ShownSteps.{made-of, HasLooked, look-answered}
+use Rattle.zk_worker.proofs.CheckedSteps.{after-spots}
 
 abbrev Writes : Type 0
 Writes = List (Entry SignalOp SignalReply)
@@ -274,7 +275,8 @@ looks-stepped alone m m' s at at' step reply old new same shows right made next 
     let answered = looks-answered m made.found at.who at.spots step reply found still made.replied made.read_at in
     subst (λ (x : Machines). LooksRight x new at'.spots) (sym same)
     (subst (λ (a : At). LooksRight m new a.spots) (sym next)
-    (subst (λ (x : Shown). LooksRight m x (at.spots ++ spot_of step reply ∷ [])) (sym made.shown) answered))
+    (subst (λ (l : List Spot). LooksRight m new l) (sym (after-spots s at step reply).1)
+    (subst (λ (x : Shown). LooksRight m x (at.spots ++ spot_of step reply ∷ [])) (sym made.shown) answered)))
 
 -- and when another player has made one, on services that nobody else uses
 pub looks-others : (m : Machines) (shown : Shown) (who : Who) (number : ℕ) (step : Step) (reply : StepReply) (log : List Spot) →

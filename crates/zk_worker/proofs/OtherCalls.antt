@@ -1,5 +1,5 @@
 -- A step of a call that gets no channel for itself: it frees none and enters no script.
-use Rattle.std.proofs.Common.{◌≡◌, ◌≢◌, ℕ, zero, suc, Bool, true, false, not, ◌&&◌, cond, Option, Some, None, List, [], ◌∷◌, All, refl, subst}
+use Rattle.std.proofs.Common.{◌≡◌, ◌≢◌, ℕ, zero, suc, Bool, true, false, not, ◌&&◌, cond, Option, Some, None, is_some, List, [], ◌∷◌, All, refl, subst}
 use Rattle.std.specs.List.{slice_get}
 use Rattle.std.proofs.lemmas.Bool.{and_parts}
 use Rattle.std.proofs.lemmas.List.Elements.{All-nil, All-cons}
@@ -13,7 +13,6 @@ use Rattle.zk_line.specs.declared.types.Decl.{Decl}
 use Rattle.zk_model_bus.specs.declared.channel.ChanOp.{ChanOp}
 use Rattle.zk_model_bus.specs.declared.channel.ChanOp.TheVariants as ops
 use Rattle.zk_model_bus.specs.declared.channel.ChanReply.TheVariants as chan_replies
-use Rattle.zk_model_bus.specs.declared.observer.ObsOp.TheVariants as obs_ops
 use Rattle.zk_model_bus.specs.declared.observer.ObsReply.TheVariants as obs_replies
 use Rattle.zk_model_wait.specs.declared.clock.ClockOp.TheVariants as clock_ops
 use Rattle.zk_model_wait.specs.declared.clock.ClockReply.TheVariants as clock_replies
@@ -47,22 +46,21 @@ use Rattle.zk_worker.specs.Waits.{open_step, end_step, quit_step, first_step, wa
 use Rattle.zk_worker.specs.Polls.{poll_attempts, poll_progress, poll_goes, poll_answer, is_answered, ask_step, watch_step, drop_step, fresh, alarm_after, marked, event_of, mark_of}
 use Rattle.zk_worker.specs.Publishes.{channel_progress}
 use Rattle.zk_worker.specs.StackLaws.{ChanHistories, IsReplied, chans_after}
+use Rattle.zk_worker.specs.VisitLaws.{used_chan}
 use Rattle.zk_worker.proofs.OpenScripts.{plan_got, plan_waits, IsHeld, IsKept, IsKeptBy}
 use Rattle.zk_worker.proofs.OwnEntries.{has-replied, held-after, kept-quiet}
 use Rattle.zk_worker.proofs.PollSteps.{poll_attempts-each}
 
--- a step that only a call with a channel makes: it frees the channel, or visits an observer for it
-abbrev pub frees_or_visits : Step → Bool
-frees_or_visits (steps.Chan object ops.Free) = true
-frees_or_visits (steps.Obs object (obs_ops.Visit chan)) = true
-frees_or_visits step = false
+-- a step that only a call with a channel makes: it uses the channel
+abbrev pub uses_channel : Step → Bool
+uses_channel step = is_some (used_chan step)
 
-not-free : (object : ℕ) (op : ChanOp) → frees_or_visits (steps.Chan object op) ≡ false → op ≢ ops.Free
+not-free : (object : ℕ) (op : ChanOp) → uses_channel (steps.Chan object op) ≡ false → op ≢ ops.Free
 not-free object ops.Free frees = absurd (cc)
 not-free object op frees = λ same. cc
 
 -- what a player holds it holds after each step of its own that frees no channel
-pub held-step : (s : Parts) (chans : ChanHistories) (who : Who) (n : ℕ) (step : Step) (reply : StepReply) → frees_or_visits step ≡ false → IsReplied s chans who step reply →
+pub held-step : (s : Parts) (chans : ChanHistories) (who : Who) (n : ℕ) (step : Step) (reply : StepReply) → uses_channel step ≡ false → IsReplied s chans who step reply →
     (chan : ℕ) → IsHeld s chans who.number chan → IsHeld s (chans_after chans who n step reply) who.number chan
 held-step s chans who n (steps.Chan object op) reply frees is chan held =
     let told = has-replied s chans who object op reply is in
@@ -71,31 +69,31 @@ held-step s chans who n (steps.Chan object op) reply frees is chan held =
 held-step s chans who n step reply frees is chan held = held
 
 -- what holds of one attempt
-of-one : (only : Step) (k : ℕ) (step : Step) → frees_or_visits only ≡ false → slice_get (only ∷ []) k ≡ Some step → frees_or_visits step ≡ false
-of-one only k step calm is = subst (λ (x : Step). frees_or_visits x ≡ false) (slice_get-one only step k is) calm
+of-one : (only : Step) (k : ℕ) (step : Step) → uses_channel only ≡ false → slice_get (only ∷ []) k ≡ Some step → uses_channel step ≡ false
+of-one only k step calm is = subst (λ (x : Step). uses_channel x ≡ false) (slice_get-one only step k is) calm
 
-open-calm : (waiting : Waiting) (waits : Bool) → frees_or_visits (open_step waiting waits) ≡ false
+open-calm : (waiting : Waiting) (waits : Bool) → uses_channel (open_step waiting waits) ≡ false
 open-calm (waitings.Take object) waits = refl
 open-calm waiting waits = refl
 
-end-calm : (waiting : Waiting) (place : ℕ) → frees_or_visits (end_step waiting place) ≡ false
+end-calm : (waiting : Waiting) (place : ℕ) → uses_channel (end_step waiting place) ≡ false
 end-calm (waitings.Take object) place = refl
 end-calm waiting place = refl
 
-quit-calm : (waiting : Waiting) (place : ℕ) → frees_or_visits (quit_step waiting place) ≡ false
+quit-calm : (waiting : Waiting) (place : ℕ) → uses_channel (quit_step waiting place) ≡ false
 quit-calm (waitings.Take object) place = refl
 quit-calm waiting place = refl
 
-closing-calm : (closing : Closing) (place : ℕ) → frees_or_visits (closing_step closing place) ≡ false
+closing-calm : (closing : Closing) (place : ℕ) → uses_channel (closing_step closing place) ≡ false
 closing-calm closings.Cancel place = refl
 closing-calm closing place = refl
 
-first-calm : (waiting : Waiting) (timeout : Timeout) → frees_or_visits (first_step waiting timeout) ≡ false
+first-calm : (waiting : Waiting) (timeout : Timeout) → uses_channel (first_step waiting timeout) ≡ false
 first-calm waiting No = open-calm waiting false
 first-calm waiting Forever = open-calm waiting true
 first-calm waiting (Ticks ticks) = refl
 
-pub wait-calm : (waiting : Waiting) (timeout : Timeout) (stage : Stage) (k : ℕ) (step : Step) → slice_get (wait_attempts waiting timeout stage) k ≡ Some step → frees_or_visits step ≡ false
+pub wait-calm : (waiting : Waiting) (timeout : Timeout) (stage : Stage) (k : ℕ) (step : Step) → slice_get (wait_attempts waiting timeout stage) k ≡ Some step → uses_channel step ≡ false
 wait-calm waiting timeout stages.Start k step is = of-one (first_step waiting timeout) k step (first-calm waiting timeout) is
 wait-calm waiting timeout (stages.Alarmed moment) k step is = of-one (open_step waiting true) k step (open-calm waiting true) is
 wait-calm waiting timeout (stages.Waits place) k step is = of-one (end_step waiting place) k step (end-calm waiting place) is
@@ -105,19 +103,19 @@ wait-calm waiting timeout (stages.Quits place) k step is = of-one (quit_step wai
 wait-calm waiting timeout stage k step is = absurd (cc)
 
 -- the steps of a poll are at semaphores, message queues and signals
-ask-calm : (registers : Bool) (event : Event) (step : Step) → Unit {0} → ask_step registers event ≡ Some step → frees_or_visits step ≡ false
+ask-calm : (registers : Bool) (event : Event) (step : Step) → Unit {0} → ask_step registers event ≡ Some step → uses_channel step ≡ false
 ask-calm registers events.Ignore step any is = absurd (cc)
 ask-calm registers (events.Sem sem) step any is = cc
 ask-calm registers (events.Msgq queue) step any is = cc
 ask-calm registers (events.Sig signal) step any is = cc
 
-watch-calm : (event : Event) (mark : Mark) (step : Step) → Unit {0} → watch_step event mark ≡ Some step → frees_or_visits step ≡ false
+watch-calm : (event : Event) (mark : Mark) (step : Step) → Unit {0} → watch_step event mark ≡ Some step → uses_channel step ≡ false
 watch-calm (events.Sem sem) (Armed place) step any is = cc
 watch-calm (events.Msgq queue) (Armed place) step any is = cc
 watch-calm (events.Sig signal) mark step any is = cc
 watch-calm event mark step any is = absurd (cc)
 
-drop-calm : (event : Event) (mark : Mark) (step : Step) → Unit {0} → drop_step event mark ≡ Some step → frees_or_visits step ≡ false
+drop-calm : (event : Event) (mark : Mark) (step : Step) → Unit {0} → drop_step event mark ≡ Some step → uses_channel step ≡ false
 drop-calm (events.Sem sem) (Armed place) step any is = cc
 drop-calm (events.Msgq queue) (Armed place) step any is = cc
 drop-calm event mark step any is = absurd (cc)
@@ -127,11 +125,11 @@ abbrev pub is_channel : Plan → Bool
 is_channel (plans.Channel chan using_ timeout) = true
 is_channel plan = false
 
--- the steps that a plan is made of free no channel
+-- the steps that a plan is made of use no channel
 is_calm : Plan → Bool
-is_calm (plans.One step) = not (frees_or_visits step)
-is_calm (plans.Pair opening closing) = not (frees_or_visits opening)
-is_calm (plans.Twice first second) = not (frees_or_visits first) && not (frees_or_visits second)
+is_calm (plans.One step) = not (uses_channel step)
+is_calm (plans.Pair opening closing) = not (uses_channel opening)
+is_calm (plans.Twice first second) = not (uses_channel first) && not (uses_channel second)
 is_calm plan = true
 
 plan_of-calm : (decls : List Decl) (call : Call) → is_calm (plan_of decls call) ≡ true
@@ -144,29 +142,29 @@ not-so true is = absurd (cc)
 not-so false is = refl
 
 plan-calm : (plan : Plan) (stage : Stage) (k : ℕ) (step : Step) → is_channel plan ≡ false → is_calm plan ≡ true → slice_get (plan_attempts plan stage) k ≡ Some step →
-    frees_or_visits step ≡ false
+    uses_channel step ≡ false
 unfolding is_calm
-plan-calm (plans.One first) stages.Start k step other calm is = of-one first k step (not-so (frees_or_visits first) calm) is
+plan-calm (plans.One first) stages.Start k step other calm is = of-one first k step (not-so (uses_channel first) calm) is
 plan-calm (plans.One first) stage k step other calm is = absurd (cc)
-plan-calm (plans.Pair opening closing) stages.Start k step other calm is = of-one opening k step (not-so (frees_or_visits opening) calm) is
+plan-calm (plans.Pair opening closing) stages.Start k step other calm is = of-one opening k step (not-so (uses_channel opening) calm) is
 plan-calm (plans.Pair opening closing) (stages.Waits place) k step other calm is = of-one (closing_step closing place) k step (closing-calm closing place) is
 plan-calm (plans.Pair opening closing) stage k step other calm is = absurd (cc)
 plan-calm (plans.Twice first second) stages.Start k step other calm is =
-    of-one first k step (not-so (frees_or_visits first) (and_parts (not (frees_or_visits first)) (not (frees_or_visits second)) calm).0) is
+    of-one first k step (not-so (uses_channel first) (and_parts (not (uses_channel first)) (not (uses_channel second)) calm).0) is
 plan-calm (plans.Twice first second) stages.Halfway k step other calm is =
-    of-one second k step (not-so (frees_or_visits second) (and_parts (not (frees_or_visits first)) (not (frees_or_visits second)) calm).1) is
+    of-one second k step (not-so (uses_channel second) (and_parts (not (uses_channel first)) (not (uses_channel second)) calm).1) is
 plan-calm (plans.Twice first second) stage k step other calm is = absurd (cc)
 plan-calm (plans.Wait waiting timeout) stage k step other calm is = wait-calm waiting timeout stage k step is
 plan-calm (plans.Poll timeout list) stage k step other calm is =
-    let P : Step → Type 0 = λ x. frees_or_visits x ≡ false in
+    let P : Step → Type 0 = λ x. uses_channel x ≡ false in
     All-at P (poll_attempts timeout list stage) k step (poll-all timeout list stage) is
   where
     every : (list : List Event) → All (λ (event : Event). Unit {0}) list
     every [] = All-nil (λ (event : Event). Unit {0})
     every (event ∷ more) = All-cons (λ (event : Event). Unit {0}) event more tt (every more)
 
-    poll-all : (timeout : Timeout) (list : List Event) (stage : Stage) → All (λ (x : Step). frees_or_visits x ≡ false) (poll_attempts timeout list stage)
-    poll-all timeout list stage = poll_attempts-each (λ x. frees_or_visits x ≡ false) (λ event. Unit {0}) ask-calm watch-calm drop-calm (λ op. refl) timeout list stage (every list)
+    poll-all : (timeout : Timeout) (list : List Event) (stage : Stage) → All (λ (x : Step). uses_channel x ≡ false) (poll_attempts timeout list stage)
+    poll-all timeout list stage = poll_attempts-each (λ x. uses_channel x ≡ false) (λ event. Unit {0}) ask-calm watch-calm drop-calm (λ op. refl) timeout list stage (every list)
 plan-calm (plans.Channel chan using_ timeout) stage k step other calm is = absurd (cc)
 
 -- A reply by which no script is entered.
@@ -239,7 +237,7 @@ plan-plain word plan stage made reply other = plan-goes (λ stage. Unit {0}) (λ
 
 -- the attempts of a call that uses no channel of its own are no such steps
 pub call-calm : (decls : List Decl) (call : Call) (stage : Stage) (k : ℕ) (step : Step) → is_channel (plan_of decls call) ≡ false → slice_get (plan_attempts (plan_of decls call) stage) k ≡ Some step →
-    frees_or_visits step ≡ false
+    uses_channel step ≡ false
 call-calm decls call stage k step other there = plan-calm (plan_of decls call) stage k step other (plan_of-calm decls call) there
 
 -- such a call holds no channel and waits for none

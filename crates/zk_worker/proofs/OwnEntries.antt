@@ -1,5 +1,5 @@
 -- What a player's own entry at a channel does to what it holds and waits for.
-use Rattle.std.proofs.Common.{◌≡◌, ◌≢◌, ◌⊎◌, inl, inr, ℕ, zero, suc, ◌+◌, ◌<◌, Bool, true, false, eqb, ◌||◌, Option, Some, None, option_to_list, List, [], ◌∷◌, ◌++◌, map, length, refl, sym, ap, subst, ◌∙◌, arith}
+use Rattle.std.proofs.Common.{◌≡◌, ◌≢◌, ◌⊎◌, inl, inr, ℕ, zero, suc, ◌<◌, Bool, true, false, eqb, ◌||◌, Option, Some, None, option_to_list, List, [], ◌∷◌, ◌++◌, map, length, refl, sym, ap, subst, ◌∙◌, arith}
 use Rattle.std.specs.List.{slice_get, list_any, IsDistinct, AllByRecursion}
 use Rattle.std.specs.Option.{option_map, option_and_then}
 use Rattle.std.proofs.lemmas.Bool.{or_parts}
@@ -86,6 +86,19 @@ has-replied s chans who object op told is =
       counted = (let count = counted-after start h in let none = (starts-placed s.decls object start started).1 in omega arith);
       gives = given-after start h (starts-placed s.decls object start started).2;
     }
+
+-- what holds of each reply of a channel holds of what was replied
+pub told-by : (s : Parts) (chans : ChanHistories) (who : Who) (object : ℕ) (op : ChanOp) (P : StepReply → Type 0) →
+    ((r : ChanReply) (place : ℕ) → HasReplied s chans who object op (step_replies.Chan object r place) → P (step_replies.Chan object r place)) →
+    (told : StepReply) → answer_at (machines_of s).chans chans step_replies.Chan who object op ≡ Some told → P told
+told-by s chans who object op P each told is =
+    let had = has-replied s chans who object op told is in
+    subst P had.tells (each had.reply (length had.history) (subst (λ (x : StepReply). HasReplied s chans who object op x) (sym had.tells) had))
+
+-- it is what its machine answers there
+pub answers-so : (s : Parts) (chans : ChanHistories) (who : Who) (object : ℕ) (op : ChanOp) (r : ChanReply) (place : ℕ) (had : HasReplied s chans who object op (step_replies.Chan object r place)) →
+    chan_reply had.state who op ≡ Some r
+answers-so s chans who object op r place had = had.answers ∙ ap Some (cc (had.tells))
 
 here-with : (hs : ChanHistories) (object : ℕ) (e : Entry ChanOp ChanReply) (h : ChanHistory) → slice_get hs object ≡ Some h → slice_get (with_entry hs object e) object ≡ Some (h ++ e ∷ [])
 here-with [] object e h there = absurd (cc)

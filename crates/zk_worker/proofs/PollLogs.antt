@@ -49,7 +49,12 @@ use Rattle.zk_worker.specs.PollLogs.{IsPollOf, EachPollIsPlayed}
 use Rattle.zk_worker.specs.Publishes.{holds_progress, visit_progress, asking_progress, channel_progress}
 use Rattle.zk_worker.specs.Waits.{opening_progress, until, wait_progress}
 use Rattle.zk_worker.specs.Protocol.{spot_of, call_attempts, role_attempts, frames_attempts, IsAhead, call_progress, worker_progress, run_progress, role_progress, is_over, settled, first_frame, frames_progress, frames_after, answers_after, after, starting, start_at, role_at}
-use Rattle.zk_base.proofs.Lists.{cond_nil-at}
+use Rattle.zk_model_bus.specs.declared.table.OopsWhy.{OopsWhy}
+use Rattle.zk_worker.specs.declared.answers.Answer.TheVariants.{Oops}
+use Rattle.zk_worker.specs.declared.checks.Check.{Check}
+use Rattle.zk_worker.specs.Checks.{is_oops, oops_in, top_check}
+use Rattle.zk_worker.specs.Protocol.{checked, moved}
+use Rattle.zk_worker.proofs.CheckedSteps.{IsCheck, IsOwn, turn, check-of-top, check-starts}
 
 -- where a step answers a call, it answers it as the call that it is
 abbrev OfCall : Word → Progress → Type 0
@@ -310,7 +315,12 @@ poll-longer s made more a of = record {
 }
 
 abbrev Polled : Parts → List Made → Answered → Type 0
-Polled s made a = a.word ≡ words.Poll → IsPollOf s made a
+Polled s made a = a.word ≡ words.Poll → is_oops a.answer ≡ false → IsPollOf s made a
+
+-- what was answered before still is
+still-polled : (s : Parts) (made : List Made) (m : Made) (answers : List Answered) → All (Polled s made) answers → All (Polled s (made ++ m ∷ [])) answers
+still-polled s made m answers all =
+    All-weaker (Polled s made) (Polled s (made ++ m ∷ [])) (λ a polled is passed. poll-longer s made (m ∷ []) a (polled is passed)) answers all
 
 answers-step : (s : Parts) (made : List Made) (m : Made) (frames : List Frame) (index number : ℕ) (answers : List Answered) → AreOpen s made frames →
     slice_get (frames_attempts s frames) index ≡ Some m.0 → number ≡ length made → All (Polled s made) answers →
@@ -318,14 +328,14 @@ answers-step : (s : Parts) (made : List Made) (m : Made) (frames : List Frame) (
 answers-step s made m [] index number answers are ahead many all = absurd (cc)
 answers-step s made m (frame ∷ below) index number answers are ahead many all = by (role_progress s frame.role frame.next frame.stage m.0 m.1) refl where
   still : All (Polled s (made ++ m ∷ [])) answers
-  still = All-weaker (Polled s made) (Polled s (made ++ m ∷ [])) (λ a polled is. poll-longer s made (m ∷ []) a (polled is)) answers all
+  still = still-polled s made m answers all
 
   by : (p : Progress) → role_progress s frame.role frame.next frame.stage m.0 m.1 ≡ p → All (Polled s (made ++ m ∷ [])) (answers_after answers number p)
   by (Goes stage) comes = still
   by (Enters owner stage) comes = still
   by (Answers word answer) comes =
       All-push (Polled s (made ++ m ∷ [])) answers (record { step = number; word = word; answer = answer }) still
-      (λ poll. role-answers s made m frame.role frame.next frame.stage index number word answer are.0 ahead comes many poll)
+      (λ poll passed. role-answers s made m frame.role frame.next frame.stage index number word answer are.0 ahead comes many poll)
 
 -- what holds of a player with these steps
 record Holds (s : Parts) (made : List Made) (at : At) : Type 0 where
@@ -333,14 +343,42 @@ record Holds (s : Parts) (made : List Made) (at : At) : Type 0 where
   many : length at.spots ≡ length made
   answered : All (Polled s made) at.answers
 
+-- a call that is at its checks has made no step of its own
+open-checked : (s : Parts) (made : List Made) (passed : ℕ) (frames : List Frame) (check : Check) → top_check s passed frames ≡ Some check → AreOpen s made frames → (longer : List Made) →
+    AreOpen s longer frames
+open-checked s made passed [] check is are longer = tt
+open-checked s made passed (frame ∷ below) check is are longer = (
+    subst (λ (stage : Stage). PlaysOn s longer frame.role frame.next stage) (sym (check-starts s passed frame.role frame.next frame.stage check is)) (plays-fresh s longer frame.role frame.next),
+    are.1,
+  )
+
 holds-step : (s : Parts) (made : List Made) (m : Made) (at : At) → Holds s made at → IsAhead s at m.0 → Holds s (made ++ m ∷ []) (after s at m.0 m.1)
-holds-step s made m at holds ahead =
-    let attempt = (cond_nil-at (nat_lt (length at.spots) MOST_STEPS) (frames_attempts s at.frames) ahead.0 m.0 ahead.1).1 in
-    record {
-      frames = open-step s made m at.frames ahead.0 holds.frames attempt;
-      many = length_push at.spots (spot_of m.0 m.1) ∙ ap (λ (n : ℕ). n + 1) holds.many ∙ sym (length_push made m);
-      answered = answers-step s made m at.frames ahead.0 (length at.spots) at.answers holds.frames attempt holds.many holds.answered;
-    }
+holds-step s made m at holds ahead = turn (Holds s longer) s at m.0 m.1 ahead (λ is. by_check is (oops_in m.1)) by_own where
+  longer : List Made
+  longer = made ++ m ∷ []
+
+  count : length (at.spots ++ spot_of m.0 m.1 ∷ []) ≡ length longer
+  count = length_push at.spots (spot_of m.0 m.1) ∙ ap (λ (n : ℕ). n + 1) holds.many ∙ sym (length_push made m)
+
+  by_check : (is : IsCheck s at m.0) (why : Option OopsWhy) → Holds s longer (checked at is.check.word why (spot_of m.0 m.1))
+  by_check is None = record {
+    frames = open-checked s made at.passed at.frames is.check (check-of-top s at.mode at.passed at.frames is.check is.comes) holds.frames longer;
+    many = count;
+    answered = still-polled s made m at.answers holds.answered;
+  }
+  by_check is (Some why) = record {
+    frames = tt;
+    many = count;
+    answered = All-push (Polled s longer) at.answers (record { step = length at.spots; word = is.check.word; answer = Oops why }) (still-polled s made m at.answers holds.answered)
+        (λ poll passed. absurd (cc));
+  }
+
+  by_own : IsOwn s at m.0 → Holds s longer (moved s at m.0 (frames_progress s at.frames m.0 m.1) (spot_of m.0 m.1))
+  by_own is = record {
+    frames = open-step s made m at.frames is.index holds.frames is.ahead;
+    many = count;
+    answered = answers-step s made m at.frames is.index (length at.spots) at.answers holds.frames is.ahead holds.many holds.answered;
+  }
 
 holds-played : (s : Parts) (more made : List Made) (at end : At) → Holds s made at → IsPlayed s at more end → Holds s (made ++ more) end
 holds-played s [] made at end holds played =

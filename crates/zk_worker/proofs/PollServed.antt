@@ -48,6 +48,7 @@ use Rattle.zk_worker.specs.declared.steps.Step.{Step}
 use Rattle.zk_worker.specs.declared.steps.Step.TheVariants as steps
 use Rattle.zk_worker.specs.declared.steps.StepReply.TheVariants as step_replies
 use Rattle.zk_worker.specs.Families.{entry_at}
+use Rattle.zk_worker.specs.Checks.{is_oops}
 use Rattle.zk_worker.specs.Follows.{Stands}
 use Rattle.zk_worker.specs.declared.frames.Progress.TheVariants.{Goes, Answers}
 use Rattle.zk_worker.specs.Polls.{poll_attempts, ask_step, watch_step, drop_step}
@@ -139,6 +140,9 @@ stands-served : (shown : Shown) (spot : Spot) (made : Made) → ShowsLegal shown
 stands-served shown (spots.Work place) made legal stands of =
     let at = mapped (λ e. (steps.Work e.op, step_replies.Work e.reply place)) (slice_get shown.work place) made stands in
     let never : false ≡ true = ap (λ (m : Made). is_of_poll m.0) at.2 ∙ of in absurd (cc)
+stands-served shown (spots.Table place) made legal stands of =
+    let at = mapped (λ e. (steps.Table e.op, step_replies.Table e.reply place)) (slice_get shown.table place) made stands in
+    let never : false ≡ true = ap (λ (m : Made). is_of_poll m.0) at.2 ∙ of in absurd (cc)
 stands-served shown (spots.Clock place) made legal stands of =
     let at = mapped (λ e. (steps.Clock e.op, step_replies.Clock e.reply place)) (slice_get shown.clock place) made stands in
     let e = at.0 in
@@ -183,6 +187,9 @@ msgq-spot object place op reply spot is = absurd (cc)
 stands-spot : (shown : Shown) (at : Spot) (made : Made) (spot : Spot) → Stands shown at made → registered_at made ≡ Some spot → (at ≡ spot) × (is_look at ≡ false)
 stands-spot shown (spots.Work place) made spot stands is =
     let from = mapped (λ e. (steps.Work e.op, step_replies.Work e.reply place)) (slice_get shown.work place) made stands in
+    let none : None ≡ Some spot = ap registered_at from.2 ∙ is in absurd (cc)
+stands-spot shown (spots.Table place) made spot stands is =
+    let from = mapped (λ e. (steps.Table e.op, step_replies.Table e.reply place)) (slice_get shown.table place) made stands in
     let none : None ≡ Some spot = ap registered_at from.2 ∙ is in absurd (cc)
 stands-spot shown (spots.Clock place) made spot stands is =
     let from = mapped (λ e. (steps.Clock e.op, step_replies.Clock e.reply place)) (slice_get shown.clock place) made stands in
@@ -283,9 +290,9 @@ few-of s made a of valid =
 
 pub each_poll_keeps_its_laws : EachPollKeepsItsLaws
 each_poll_keeps_its_laws s number shown at is valid shows legal =
-    All-weaker (λ a. a.word ≡ words.Poll → IsPollOf s is.made a) (λ a. a.word ≡ words.Poll → IsLawfulPollOf s is.made a)
-    (λ a played poll.
-    let of = played poll in
+    All-weaker (λ a. a.word ≡ words.Poll → is_oops a.answer ≡ false → IsPollOf s is.made a) (λ a. a.word ≡ words.Poll → is_oops a.answer ≡ false → IsLawfulPollOf s is.made a)
+    (λ a played poll passed.
+    let of = played poll passed in
     record {
       of = of;
       laws = poll_laws a.word of.timeout of.events (few-of s is.made a of valid) of.play a.answer of.answered (play-served s number shown at.spots is.made a is.stands shows legal of);

@@ -26,6 +26,7 @@ use Rattle.zk_worker.specs.Attempt.{takes}
 use Rattle.zk_worker.specs.Families.{is_declared}
 use Rattle.zk_worker.proofs.Fits.{ahead-fits, item-fits}
 use Rattle.zk_worker.proofs.Families.{takes-declared_one}
+use Rattle.zk_worker.proofs.TableRanges.{names-declared}
 
 length-fresh_queues : (workers : List ℕ) (started : List Bool) → length workers ≡ length started → length (fresh_queues workers started) ≡ length workers
 length-fresh_queues [] started same = refl
@@ -71,6 +72,7 @@ takes-declared s (steps.Work op) fits =
     ∙ length-range_with_len (length (places is_thread s.decls)) (length (places is_queue s.decls)) in
     subst (λ (n : ℕ). is_among (length (places is_item s.decls)) n op ≡ true) (sym long) fits
 takes-declared s (steps.Clock op) fits = refl
+takes-declared s (steps.Table op) fits = names-declared s op fits
 takes-declared s (steps.Sem object op) fits = takes-declared_one sem_machine sem_start s.decls object op (λ start. refl) fits
 takes-declared s (steps.Msgq object op) fits = takes-declared_one msgq_machine msgq_start s.decls object op (λ start. refl) fits
 takes-declared s (steps.Signal object op) fits = takes-declared_one signal_machine signal_start s.decls object op (λ start. refl) fits

@@ -114,6 +114,10 @@ replied-fits s m shown who step reply valid same is = by_step step (subst (λ (n
         let m = machines_of s in
         let from = made-of (λ r. step_replies.Clock r (length shown.clock)) (m.clock.reply_of (state_after m.clock m.clock_start shown.clock) who op) reply is in
         other-fits s.decls (step_replies.Clock from.0 (length shown.clock)) reply from.2 tt
+    by_step (steps.Table op) is =
+        let m = machines_of s in
+        let from = made-of (λ r. step_replies.Table r (length shown.table)) (m.table.reply_of (state_after m.table m.table_start shown.table) who op) reply is in
+        other-fits s.decls (step_replies.Table from.0 (length shown.table)) reply from.2 tt
     by_step (steps.Sem object op) is =
         let from = answered-at (machines_of s).sems shown.sems step_replies.Sem who object op reply is in
         other-fits s.decls (step_replies.Sem object from.reply (length from.history)) reply from.tells tt

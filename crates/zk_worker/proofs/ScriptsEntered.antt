@@ -46,6 +46,10 @@ use Rattle.zk_worker.specs.Places.{At}
 use Rattle.zk_worker.specs.PollLaws.{Made}
 use Rattle.zk_worker.specs.Protocol.{call_attempts, call_progress, role_attempts, role_progress, worker_progress, run_progress, frames_attempts, frames_progress, is_over, settled, entered, first_frame, frames_after, after, role_at, starting, start_at}
 use Rattle.zk_worker.specs.StackLaws.{ChanHistories, IsReplied, chans_after, IsPlayedAmong, HasRoomFor, AlwaysHasRoom, EachScriptIsEntered}
+use Rattle.zk_model_bus.specs.declared.table.OopsWhy.{OopsWhy}
+use Rattle.zk_worker.specs.Checks.{check_step, oops_in}
+use Rattle.zk_worker.specs.Protocol.{IsAhead, checked, spot_of}
+use Rattle.zk_worker.proofs.CheckedSteps.{IsCheck, turn, check-apart, after-spots}
 use Rattle.zk_worker.proofs.HeldCalls.{channel-kept}
 use Rattle.zk_worker.proofs.OpenScripts.{plan_got, plan_waits, of_call, frame_got, frame_waits, got, is_worker, AreLayered, IsHeld, HoldsAll, IsKept, IsKeptBy, AreKept, kept-among, length-one, layered-length}
 use Rattle.zk_worker.proofs.OwnEntries.{or-behind}
@@ -413,6 +417,23 @@ start-kept s chans number at is =
     from_decl s chans number object (Some decl) at made =
         subst (λ (a : At). AreKept s chans a.who.number a.frames) (same_Some (starting s number object decl) at made) (first-kept s chans number (role_at decl object))
 
+-- a check uses no channel, and leaves what is open, or nothing
+pub kept-more : (s : Parts) (chans : ChanHistories) (who : Who) (at : At) (step : Step) (reply : StepReply) → IsAhead s at step → IsReplied s chans who step reply →
+    AreKept s chans who.number at.frames → AreKept s (chans_after chans who (length at.spots) step reply) who.number (after s at step reply).frames
+kept-more s chans who at step reply ahead replied kept =
+    turn (λ (a : At). AreKept s later who.number a.frames) s at step reply ahead (λ is. by_why is (oops_in reply)) (λ is.
+    frames-kept s chans who (length at.spots) at.frames is.index step reply is.ahead replied kept)
+  where
+    later : ChanHistories
+    later = chans_after chans who (length at.spots) step reply
+
+    same : IsCheck s at step → later ≡ chans
+    same is = ap (λ (x : Step). chans_after chans who (length at.spots) x reply) (sym is.is_step) ∙ check-apart chans who (length at.spots) is.check reply
+
+    by_why : (is : IsCheck s at step) (why : Option OopsWhy) → AreKept s later who.number (checked at is.check.word why (spot_of step reply)).frames
+    by_why is None = subst (λ (c : ChanHistories). AreKept s c who.number at.frames) (sym (same is)) kept
+    by_why is (Some why) = tt
+
 always-room : (s : Parts) (chans : ChanHistories) (at : At) (made : List Made) → IsValid s → AreKept s chans at.who.number at.frames →
     IsPlayedAmong s chans at made → AlwaysHasRoom s at made
 always-room s chans at [] valid kept plays = tt
@@ -421,13 +442,11 @@ always-room s chans at (made ∷ more) valid kept plays =
     let who = plays.1 in
     let own = plays.2 in
     let now = kept-among s at.who.number chans found at.frames plays.3 kept in
-    let ahead = plays.4 in
-    let there = (cond_nil-at (nat_lt (length at.spots) MOST_STEPS) (frames_attempts s at.frames) ahead.0 made.0 ahead.1).1 in
-    let next = frames-kept s found who (length at.spots) at.frames ahead.0 made.0 made.1 there plays.5
-    (subst (λ (k : ℕ). AreKept s found k at.frames) (sym own) now) in (
+    let next = kept-more s found who at made.0 made.1 plays.4 plays.5 (subst (λ (k : ℕ). AreKept s found k at.frames) (sym own) now) in (
       room-now s found at.who.number at.frames made.0 made.1 valid now,
       always-room s (chans_after found who (length at.spots) made.0 made.1) (after s at made.0 made.1) more valid
-          (subst (λ (k : ℕ). AreKept s (chans_after found who (length at.spots) made.0 made.1) k (after s at made.0 made.1).frames) own next) plays.6,
+          (subst (λ (k : ℕ). AreKept s (chans_after found who (length at.spots) made.0 made.1) k (after s at made.0 made.1).frames)
+          (own ∙ ap (λ (w : Who). w.number) (sym (after-spots s at made.0 made.1).0)) next) plays.6,
     )
 
 -- however a player of a valid scenario plays, and whatever comes to the channels meanwhile: each script that it is to enter is entered

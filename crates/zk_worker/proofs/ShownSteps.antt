@@ -13,6 +13,8 @@ use Rattle.zk_model_bus.specs.declared.channel.ChanOp.{ChanOp}
 use Rattle.zk_model_bus.specs.declared.channel.ChanReply.{ChanReply}
 use Rattle.zk_model_bus.specs.declared.observer.ObsOp.{ObsOp}
 use Rattle.zk_model_bus.specs.declared.observer.ObsReply.{ObsReply}
+use Rattle.zk_model_bus.specs.declared.table.TableOp.{TableOp}
+use Rattle.zk_model_bus.specs.declared.table.TableReply.{TableReply}
 use Rattle.zk_model_wait.specs.declared.clock.ClockOp.{ClockOp}
 use Rattle.zk_model_wait.specs.declared.clock.ClockReply.{ClockReply}
 use Rattle.zk_model_wait.specs.declared.msgq.MsgqOp.{MsgqOp}
@@ -41,6 +43,7 @@ use Rattle.zk_worker.specs.Attempt.{reply_in, IsMade}
 use Rattle.zk_worker.proofs.Lists.{at-end, there-longer, there-behind}
 use Rattle.zk_worker.proofs.Families.{with-here, with-longer, with-back, with-count, answered-at}
 use Rattle.zk_worker.proofs.Between.{log-still}
+use Rattle.zk_worker.proofs.CheckedSteps.{after-spots}
 
 -- what is mapped to something is there
 pub made-of : {A B : Type 0} (f : A → B) (o : Option A) (b : B) → option_map f o ≡ Some b → (a : A) × (o ≡ Some a) × (f a ≡ b)
@@ -190,6 +193,10 @@ clock-elsewhere : (shown : Shown) (h : List (Entry ClockOp ClockReply)) (at : Sp
 clock-elsewhere shown h (spots.Clock p) = inl (p, refl)
 clock-elsewhere shown h at = inr (refl, refl)
 
+table-elsewhere : (shown : Shown) (h : List (Entry TableOp TableReply)) (at : Spot) → Elsewhere spots.Table shown (record shown { table = h }) at
+table-elsewhere shown h (spots.Table p) = inl (p, refl)
+table-elsewhere shown h at = inr (refl, refl)
+
 -- the spot of an object of a kind is one of an object and a place
 sems-elsewhere : (shown : Shown) (hs : List (List (Entry SemOp SemReply))) (at : Spot) →
     Elsewhere {P = ℕ × ℕ} (λ p. spots.Sem p.0 p.1) shown (record shown { sems = hs }) at
@@ -274,6 +281,12 @@ made-more m shown who number (steps.Clock op) reply answered =
     object-more spots.Clock (λ p. steps.Clock) (λ p r. step_replies.Clock r p) shown (record shown { clock = shown.clock ++ e ∷ [] }) (slice_get shown.clock) (slice_get (shown.clock ++ e ∷ []))
     (record { seen = λ p. refl; made = λ p. refl; entry = λ p x is. is }) (record { seen = λ p. refl; made = λ p. refl; entry = λ p x is. is }) (clock-elsewhere shown (shown.clock ++ e ∷ []))
     (length shown.clock) who number op r (history-with shown.clock e) (omega (arith, length-append shown.clock (e ∷ []))))
+made-more m shown who number (steps.Table op) reply answered =
+    answered-more shown who number (steps.Table op) (λ r. step_replies.Table r (length shown.table)) (m.table.reply_of (state_after m.table m.table_start shown.table) who op) reply answered (λ r.
+    let e = entry who number op r in
+    object-more spots.Table (λ p. steps.Table) (λ p r. step_replies.Table r p) shown (record shown { table = shown.table ++ e ∷ [] }) (slice_get shown.table) (slice_get (shown.table ++ e ∷ []))
+    (record { seen = λ p. refl; made = λ p. refl; entry = λ p x is. is }) (record { seen = λ p. refl; made = λ p. refl; entry = λ p x is. is }) (table-elsewhere shown (shown.table ++ e ∷ []))
+    (length shown.table) who number op r (history-with shown.table e) (omega (arith, length-append shown.table (e ∷ []))))
 made-more m shown who number (steps.Sem object op) reply answered =
     at-more shown who number (steps.Sem object op) step_replies.Sem m.sems shown.sems object op reply answered (λ h r there.
     let e = entry who number op r in
@@ -416,5 +429,8 @@ pub log-stepped : (alone : Bool) (m : Machines) (s : Parts) (at at' : At) (step 
     IsMade alone m at.who (length at.spots) step reply old new → at' ≡ after s at step reply → ShowsLog new at'.who.number at'.spots
 log-stepped alone m s at at' step reply old new shows made next =
     let found = log-still alone at.who.number at.spots old made.found shows made.since in
+    let later = after-spots s at step reply in
     subst (λ (a : At). ShowsLog new a.who.number a.spots) (sym next)
-    (subst (λ (x : Shown). ShowsLog x at.who.number (at.spots ++ spot_of step reply ∷ [])) (sym made.shown) (log-answered m made.found at.who at.spots step reply found made.replied))
+    (subst (λ (w : Who). ShowsLog new w.number (after s at step reply).spots) (sym later.0)
+    (subst (λ (l : List Spot). ShowsLog new at.who.number l) (sym later.1)
+    (subst (λ (x : Shown). ShowsLog x at.who.number (at.spots ++ spot_of step reply ∷ [])) (sym made.shown) (log-answered m made.found at.who at.spots step reply found made.replied))))

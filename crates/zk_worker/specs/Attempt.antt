@@ -19,6 +19,8 @@ reply_in m shown who (steps.Work op) =
     answer_in m.work m.work_start shown.work step_replies.Work who op
 reply_in m shown who (steps.Clock op) =
     answer_in m.clock m.clock_start shown.clock step_replies.Clock who op
+reply_in m shown who (steps.Table op) =
+    answer_in m.table m.table_start shown.table step_replies.Table who op
 reply_in m shown who (steps.Sem object op) =
     answer_at m.sems shown.sems step_replies.Sem who object op
 reply_in m shown who (steps.Msgq object op) =
@@ -39,6 +41,7 @@ reply_in m shown who (steps.LookSignal object must) =
 abbrev pub takes : Machines → Step → Bool
 takes m (steps.Work op) = m.work.in_range m.work_start op
 takes m (steps.Clock op) = m.clock.in_range m.clock_start op
+takes m (steps.Table op) = m.table.in_range m.table_start op
 takes m (steps.Sem object op) = takes_at m.sems object op
 takes m (steps.Msgq object op) = takes_at m.msgqs object op
 takes m (steps.Signal object op) = takes_at m.signals object op
@@ -64,6 +67,7 @@ NoneFell old new = (step : Step) → (old step ≤ new step) × (new step ≤ 2 
 abbrev pub KeepsElsewhere : Step → Shown → Shown → Type 0
 KeepsElsewhere (steps.Work op) old new = new ≡ record old { work = new.work }
 KeepsElsewhere (steps.Clock op) old new = new ≡ record old { clock = new.clock }
+KeepsElsewhere (steps.Table op) old new = new ≡ record old { table = new.table }
 KeepsElsewhere (steps.Sem object op) old new = new ≡ record old { sems = new.sems }
 KeepsElsewhere (steps.Msgq object op) old new = new ≡ record old { msgqs = new.msgqs }
 KeepsElsewhere (steps.Signal object op) old new = new ≡ record old { signals = new.signals }

@@ -4,6 +4,7 @@ use Rattle.zk_line.specs.declared.types.Call.{Call}
 use Rattle.zk_line.specs.declared.types.Call.TheVariants as calls
 use Rattle.zk_model_bus.specs.declared.channel.ChanOp.TheVariants as chan_ops
 use Rattle.zk_model_bus.specs.declared.observer.ObsOp.TheVariants as obs_ops
+use Rattle.zk_model_bus.specs.declared.table.TableOp.TheVariants as table_ops
 use Rattle.zk_model_wait.specs.declared.clock.ClockOp.TheVariants as clock_ops
 use Rattle.zk_model_wait.specs.declared.msgq.MsgqOp.TheVariants as msgq_ops
 use Rattle.zk_model_wait.specs.declared.sem.SemOp.TheVariants as sem_ops
@@ -78,6 +79,13 @@ plan_of decls (calls.Publish chan message timeout) =
     Channel (ref_object chan) (Publish message) timeout
 plan_of decls (calls.Notify chan timeout) = Channel (ref_object chan) Notify timeout
 plan_of decls (calls.Read chan timeout) = Channel (ref_object chan) Read timeout
+plan_of decls (calls.Grant thread object) =
+    One (steps.Table (table_ops.Grant (ref_object thread) (ref_object object)))
+plan_of decls (calls.Release object) = One (steps.Table (table_ops.Release (ref_object object)))
+plan_of decls (calls.Revoke thread object) =
+    One (steps.Table (table_ops.Revoke (ref_object thread) (ref_object object)))
+plan_of decls (calls.Public object) = One (steps.Table (table_ops.Public (ref_object object)))
+plan_of decls (calls.Init object) = One (steps.Table (table_ops.Init (ref_object object)))
 
 -- the step that ends a wait begun by the entry of this place
 abbrev pub closing_step : Closing → ℕ → Step

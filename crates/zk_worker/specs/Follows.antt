@@ -12,9 +12,11 @@ use Rattle.zk_worker.specs.declared.frames.Stage.{Stage}
 use Rattle.zk_worker.specs.declared.frames.Stage.TheVariants.{Start}
 use Rattle.zk_worker.specs.declared.frames.Role.{Role}
 use Rattle.zk_worker.specs.declared.frames.Role.TheVariants.{Worker}
+use Rattle.zk_worker.specs.declared.checks.Mode.{Mode}
+use Rattle.zk_worker.specs.declared.checks.Mode.TheVariants.{Dead}
 use Rattle.zk_worker.specs.declared.frames.Frame.{Frame}
 use Rattle.zk_worker.specs.declared.log.PlayerState.{PlayerState}
-use Rattle.zk_worker.specs.declared.log.PlayerState.TheVariants.{Spent, Done, Standing}
+use Rattle.zk_worker.specs.declared.log.PlayerState.TheVariants.{Spent, Oops, Done, Standing}
 use Rattle.zk_worker.specs.declared.log.Log.{Log}
 use Rattle.zk_worker.specs.Places.{At}
 use Rattle.zk_worker.specs.Families.{entry_at}
@@ -41,9 +43,17 @@ is_through frames = false
 abbrev pub is_spent_at : At → Bool
 is_spent_at at = nat_le MOST_STEPS (length at.spots)
 
+-- whether a check has ended a player
+abbrev pub is_dead : Mode → Bool
+is_dead Dead = true
+is_dead mode = false
+
 -- the state of a player: the first that applies
 abbrev pub state_at : At → PlayerState
-state_at at = if is_spent_at at then Spent else (if is_done at.frames then Done else Standing)
+state_at at =
+    if is_spent_at at then Spent else
+    if is_dead at.mode then Oops else
+    if is_done at.frames then Done else Standing
 
 -- what is logged of a player
 abbrev pub log_of : At → Log
@@ -64,6 +74,9 @@ made_at shown (spots.Work place) =
 made_at shown (spots.Clock place) =
     option_map (λ e. (steps.Clock e.op, step_replies.Clock e.reply place))
     (slice_get shown.clock place)
+made_at shown (spots.Table place) =
+    option_map (λ e. (steps.Table e.op, step_replies.Table e.reply place))
+    (slice_get shown.table place)
 made_at shown (spots.Sem object place) =
     option_map (λ e. (steps.Sem object e.op, step_replies.Sem object e.reply place))
     (entry_at shown.sems object place)

@@ -1,5 +1,6 @@
 pub mod Attempt
 pub mod Calls
+pub mod Checks
 pub mod Choosing
 pub mod Families
 pub mod Follows
@@ -23,5 +24,6 @@ pub mod Single
 pub mod StackLaws
 pub mod StackLogs
 pub mod Stacks
+pub mod TableSetup
 pub mod VisitLaws
 pub mod Waits

@@ -13,6 +13,9 @@ use Rattle.zk_model_bus.specs.declared.observer.ObsOp.{ObsOp}
 use Rattle.zk_model_bus.specs.declared.observer.ObsReply.{ObsReply}
 use Rattle.zk_model_bus.specs.Channel.{Channel, new_chan, chan_machine}
 use Rattle.zk_model_bus.specs.Observer.{Observer, new_obs, obs_machine}
+use Rattle.zk_model_bus.specs.declared.table.TableOp.{TableOp}
+use Rattle.zk_model_bus.specs.declared.table.TableReply.{TableReply}
+use Rattle.zk_model_bus.specs.Table.{Table, new_table, table_machine}
 use Rattle.zk_model_wait.specs.declared.clock.ClockOp.{ClockOp}
 use Rattle.zk_model_wait.specs.declared.clock.ClockReply.{ClockReply}
 use Rattle.zk_model_wait.specs.Clock.{Clock, new_clock, clock_machine}
@@ -30,6 +33,7 @@ use Rattle.zk_model_work.specs.declared.ops.WorkReply.{WorkReply}
 use Rattle.zk_model_work.specs.State.{State, start_of}
 use Rattle.zk_model_work.specs.Machine.{work_machine, flags_of}
 use Rattle.zk_worker.specs.Families.{Family}
+use Rattle.zk_worker.specs.TableSetup.{setup_of}
 
 -- the numbers of the workers as players, in the order of their queues
 abbrev pub workers : List Decl → List ℕ
@@ -61,17 +65,17 @@ items_of decls = map (item_number decls) (range_with_len 0 (length decls))
 
 -- the state that a declaration starts a semaphore in, if it declares one
 abbrev pub sem_start : Decl → Option Sem
-sem_start (decls.Sem name initial limit) = Some (new_sem initial limit)
+sem_start (decls.Sem name initial limit raw) = Some (new_sem initial limit)
 sem_start decl = None
 
 -- the state that a declaration starts a message queue in, if it declares one
 abbrev pub msgq_start : Decl → Option Msgq
-msgq_start (decls.Msgq name size capacity) = Some (new_msgq capacity)
+msgq_start (decls.Msgq name size capacity raw) = Some (new_msgq capacity)
 msgq_start decl = None
 
 -- the state that a declaration starts a signal in, if it declares one
 abbrev pub signal_start : Decl → Option Signal
-signal_start (decls.Signal name) = Some new_signal
+signal_start (decls.Signal name raw) = Some new_signal
 signal_start decl = None
 
 -- the state that a declaration starts a channel in, if it declares one
@@ -92,6 +96,8 @@ pub record Machines : Type 0 where
   pub items : List (Option ℕ)
   pub clock : Machine Clock ClockOp ClockReply
   pub clock_start : Clock
+  pub table : Machine Table TableOp TableReply
+  pub table_start : Table
   pub sems : Family Sem SemOp SemReply
   pub msgqs : Family Msgq MsgqOp MsgqReply
   pub signals : Family Signal SignalOp SignalReply
@@ -115,6 +121,8 @@ machines_of s = record {
   items = items_of s.decls;
   clock = clock_machine;
   clock_start = new_clock;
+  table = table_machine;
+  table_start = new_table (setup_of s);
   sems = record { machine = sem_machine; starts = map sem_start s.decls };
   msgqs = record { machine = msgq_machine; starts = map msgq_start s.decls };
   signals = record { machine = signal_machine; starts = map signal_start s.decls };

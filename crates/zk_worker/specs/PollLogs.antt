@@ -1,4 +1,4 @@
-use Rattle.std.specs.Prelude.{◌≡◌, ℕ, ◌+◌, ◌≤◌, Some, List, ◌++◌, length, slice_get, All}
+use Rattle.std.specs.Prelude.{◌≡◌, ℕ, ◌+◌, ◌≤◌, false, Some, List, ◌++◌, length, slice_get, All}
 use Rattle.zk_line.specs.declared.events.Event.{Event}
 use Rattle.zk_line.specs.declared.types.Call.TheVariants as calls
 use Rattle.zk_base.specs.Legal.{IsLegal}
@@ -13,6 +13,7 @@ use Rattle.zk_scenario.specs.Valid.{IsValid}
 use Rattle.zk_words.specs.declared.timeout.Timeout.{Timeout}
 use Rattle.zk_words.specs.declared.word.Word.TheVariants as words
 use Rattle.zk_worker.specs.declared.answers.Answered.{Answered}
+use Rattle.zk_worker.specs.Checks.{is_oops}
 use Rattle.zk_worker.specs.Follows.{IsFollowing}
 use Rattle.zk_worker.specs.Places.{At}
 use Rattle.zk_worker.specs.PollLaws.{Made, IsAnswered, KeepsPollLaws}
@@ -32,10 +33,11 @@ pub record IsPollOf (s : Parts) (made : List Made) (a : Answered) : Type 0 where
   pub last : a.step + 1 ≡ length before + length play
   pub answered : IsAnswered a.word timeout events play a.answer
 
--- each poll that a player answered, in whatever is shown, is the answer of a play among its steps
+-- each poll that a player answered, in whatever is shown, is the answer of a play among its steps; one whose check failed isn't
+-- played
 abbrev pub EachPollIsPlayed : Type 0
 EachPollIsPlayed = (s : Parts) (number : ℕ) (shown : Shown) (at : At) (is : IsFollowing s number shown at) →
-    All (λ a. a.word ≡ words.Poll → IsPollOf s is.made a) at.answers
+    All (λ a. a.word ≡ words.Poll → is_oops a.answer ≡ false → IsPollOf s is.made a) at.answers
 
 -- what is shown of the clock, of semaphores and of message queues are legal histories of such
 pub record ShowsLegal (shown : Shown) : Type 0 where
@@ -54,4 +56,4 @@ pub record IsLawfulPollOf (s : Parts) (made : List Made) (a : Answered) : Type 0
 abbrev pub EachPollKeepsItsLaws : Type 0
 EachPollKeepsItsLaws = (s : Parts) (number : ℕ) (shown : Shown) (at : At) (is : IsFollowing s number shown at) →
     IsValid s → ShowsLog shown number at.spots → ShowsLegal shown →
-    All (λ a. a.word ≡ words.Poll → IsLawfulPollOf s is.made a) at.answers
+    All (λ a. a.word ≡ words.Poll → is_oops a.answer ≡ false → IsLawfulPollOf s is.made a) at.answers

@@ -26,7 +26,13 @@ use Rattle.zk_worker.specs.declared.frames.Frame.{Frame}
 use Rattle.zk_worker.specs.declared.frames.Progress.{Progress}
 use Rattle.zk_worker.specs.declared.frames.Progress.TheVariants.{Goes, Answers, Enters}
 use Rattle.zk_line.specs.Calls.{word_of}
+use Rattle.zk_model_bus.specs.declared.table.OopsWhy.{OopsWhy}
+use Rattle.zk_words.specs.declared.word.Word.{Word}
+use Rattle.zk_worker.specs.declared.answers.Answer.TheVariants.{Oops}
+use Rattle.zk_worker.specs.declared.checks.Check.{Check}
+use Rattle.zk_worker.specs.declared.checks.Mode.TheVariants.{Dead}
 use Rattle.zk_worker.specs.Calls.{plan_of, plan_attempts, plan_progress}
+use Rattle.zk_worker.specs.Checks.{next_check, check_step, oops_in, mode_after, start_mode}
 use Rattle.zk_worker.specs.Places.{At}
 
 -- the next attempts of a worker: between two runs the Begin of its queue, in a run whose script is over the End
@@ -51,9 +57,16 @@ abbrev pub frames_attempts : Parts → List Frame → List Step
 frames_attempts s [] = []
 frames_attempts s (frame ∷ below) = role_attempts s frame.role frame.next frame.stage
 
+-- a check that comes next is made before all else
+abbrev pub checks_first : Option Check → List Step → List Step
+checks_first (Some check) own = check_step check ∷ []
+checks_first None own = own
+
 -- the next attempts of a player in order: none where it is through or has made all its steps
 abbrev pub attempts : Parts → At → List Step
-attempts s at = if nat_lt (length at.spots) MOST_STEPS then frames_attempts s at.frames else []
+attempts s at =
+    if nat_lt (length at.spots) MOST_STEPS
+    then checks_first (next_check s at.mode at.passed at.frames) (frames_attempts s at.frames) else []
 
 -- the step is one of the player's next attempts
 abbrev pub IsAhead : Parts → At → Step → Type 0
@@ -127,6 +140,7 @@ answers_after answers number progress = answers
 abbrev pub place_of : StepReply → ℕ
 place_of (step_replies.Work reply place) = place
 place_of (step_replies.Clock reply place) = place
+place_of (step_replies.Table reply place) = place
 place_of (step_replies.Sem object reply place) = place
 place_of (step_replies.Msgq object reply place) = place
 place_of (step_replies.Signal object reply place) = place
@@ -149,6 +163,7 @@ found_seen reply = clear_at 0
 abbrev pub spot_of : Step → StepReply → Spot
 spot_of (steps.Work op) reply = spots.Work (place_of reply)
 spot_of (steps.Clock op) reply = spots.Clock (place_of reply)
+spot_of (steps.Table op) reply = spots.Table (place_of reply)
 spot_of (steps.Sem object op) reply = spots.Sem object (place_of reply)
 spot_of (steps.Msgq object op) reply = spots.Msgq object (place_of reply)
 spot_of (steps.Signal object op) reply = spots.Signal object (place_of reply)
@@ -157,17 +172,38 @@ spot_of (steps.Obs object op) reply = spots.Obs object (place_of reply)
 spot_of (steps.LookItem object) reply = spots.LookItem object (found_flags reply) (place_of reply)
 spot_of (steps.LookSignal object must) reply = spots.LookSignal object (found_seen reply)
 
--- where a player stands after a step that does this, and is recorded there
-abbrev pub moved : Parts → At → Progress → Spot → At
-moved s at progress spot = record at {
+-- where a player stands after a step of a call or run, which is recorded there
+abbrev pub moved : Parts → At → Step → Progress → Spot → At
+moved s at made progress spot = record at {
+  mode = mode_after at.mode made;
+  passed = 0;
   frames = frames_after s at.frames progress;
   answers = answers_after at.answers (length at.spots) progress;
   spots = at.spots ++ spot ∷ [];
 }
 
+-- where a player stands after a check: where it is passed the call goes on, and where it fails the call answers why, and the
+-- player has ended with all that it had open
+abbrev pub checked : At → Word → Option OopsWhy → Spot → At
+checked at word None spot = record at { passed = at.passed + 1; spots = at.spots ++ spot ∷ [] }
+checked at word (Some why) spot = record at {
+  mode = Dead;
+  passed = 0;
+  frames = [];
+  answers = at.answers ++ record { step = length at.spots; word = word; answer = Oops why } ∷ [];
+  spots = at.spots ++ spot ∷ [];
+}
+
+-- where a player stands after a step and its reply, by the check that came next, if one did
+abbrev pub after_by : Parts → At → Step → StepReply → Option Check → At
+after_by s at made reply (Some check) = checked at check.word (oops_in reply) (spot_of made reply)
+after_by s at made reply None =
+    moved s at made (frames_progress s at.frames made reply) (spot_of made reply)
+
 -- where a player stands after a step and its reply
 abbrev pub after : Parts → At → Step → StepReply → At
-after s at made reply = moved s at (frames_progress s at.frames made reply) (spot_of made reply)
+after s at made reply =
+    after_by s at made reply (next_check s at.mode at.passed at.frames)
 
 -- what a player plays: the worker of a queue its runs, a thread its script
 abbrev pub role_at : Decl → ℕ → Role
@@ -178,6 +214,8 @@ role_at decl object = Script object
 abbrev pub starting : Parts → ℕ → ℕ → Decl → At
 starting s number object decl = record {
   who = record { number = number; prio = prio_of decl };
+  mode = start_mode decl;
+  passed = 0;
   frames = settled s (first_frame (role_at decl object) ∷ []);
   answers = [];
   spots = [];

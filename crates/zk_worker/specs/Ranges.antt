@@ -14,6 +14,7 @@ use Rattle.zk_worker.specs.declared.frames.Role.{Role}
 use Rattle.zk_worker.specs.declared.frames.Role.TheVariants.{Script, Worker}
 use Rattle.zk_worker.specs.declared.frames.Frame.{Frame}
 use Rattle.zk_worker.specs.Families.{is_declared}
+use Rattle.zk_worker.specs.TableSetup.{names_declared}
 use Rattle.zk_worker.specs.Machines.{sem_start, msgq_start, signal_start, chan_start, observer_start}
 
 -- whether the objects of a step are declared
@@ -21,6 +22,7 @@ abbrev pub step_fits : List Decl → Step → Bool
 step_fits decls (steps.Work op) =
     is_among (length (places is_item decls)) (length (places is_queue decls)) op
 step_fits decls (steps.Clock op) = true
+step_fits decls (steps.Table op) = names_declared decls op
 step_fits decls (steps.Sem object op) = is_declared sem_start decls object
 step_fits decls (steps.Msgq object op) = is_declared msgq_start decls object
 step_fits decls (steps.Signal object op) = is_declared signal_start decls object

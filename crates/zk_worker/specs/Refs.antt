@@ -1,4 +1,4 @@
-use Rattle.std.specs.Prelude.{ℕ, List}
+use Rattle.std.specs.Prelude.{ℕ, Option, Some, None, List}
 use Rattle.zk_line.specs.declared.types.Decl.{Decl}
 use Rattle.zk_line.specs.declared.types.Ref.{Ref}
 use Rattle.zk_line.specs.declared.types.Ref.TheVariants.{Known}
@@ -7,6 +7,10 @@ use Rattle.zk_line.specs.Objects.{number_of}
 -- the object number of an object that a call names
 abbrev pub ref_object : Ref → ℕ
 ref_object (Known object) = object
+
+-- the object number of an object that a call names, if it is declared
+abbrev pub ref_declared : Ref → Option ℕ
+ref_declared (Known object) = Some object
 
 -- an object that a call names, by its number among those of its kind
 abbrev pub ref_number : List Decl → Ref → ℕ

@@ -2,6 +2,8 @@ use Rattle.zk_model_bus.specs.declared.channel.ChanReply.{ChanReply}
 use Rattle.zk_model_bus.specs.declared.channel.ChanReply.TheVariants as chan_replies
 use Rattle.zk_model_bus.specs.declared.observer.ObsReply.{ObsReply}
 use Rattle.zk_model_bus.specs.declared.observer.ObsReply.TheVariants as obs_replies
+use Rattle.zk_model_bus.specs.declared.table.TableReply.{TableReply}
+use Rattle.zk_model_bus.specs.declared.table.TableReply.TheVariants as table_replies
 use Rattle.zk_model_wait.specs.declared.msgq.MsgqReply.{MsgqReply}
 use Rattle.zk_model_wait.specs.declared.msgq.MsgqReply.TheVariants as msgq_replies
 use Rattle.zk_model_wait.specs.declared.sem.SemReply.{SemReply}
@@ -14,7 +16,7 @@ use Rattle.zk_base.specs.declared.errors.Errno.TheVariants.{Busy, Again, NoMsg, 
 use Rattle.zk_worker.specs.declared.steps.StepReply.{StepReply}
 use Rattle.zk_worker.specs.declared.steps.StepReply.TheVariants as step_replies
 use Rattle.zk_worker.specs.declared.answers.Answer.{Answer}
-use Rattle.zk_worker.specs.declared.answers.Answer.TheVariants.{Number, Flags, Truth, Refused, Bytes, Signal, Channel}
+use Rattle.zk_worker.specs.declared.answers.Answer.TheVariants.{Number, Flags, Truth, Refused, Bytes, Signal, Channel, Oops}
 
 -- what a submission answers
 abbrev pub submission_answer : Submitted → Answer
@@ -64,10 +66,17 @@ obs_answer obs_replies.Again = Refused Again
 obs_answer (obs_replies.Channel channel) = Channel channel
 obs_answer reply = Number 0
 
+-- what a reply of the object table answers to a call
+abbrev pub table_answer : TableReply → Answer
+table_answer table_replies.Done = Number 0
+table_answer table_replies.Already = Refused Already
+table_answer (table_replies.Oops why) = Oops why
+
 -- what the reply to a step answers to its call
 abbrev pub answer_of : StepReply → Answer
 answer_of (step_replies.Work reply place) = work_answer reply
 answer_of (step_replies.Clock reply place) = Number 0
+answer_of (step_replies.Table reply place) = table_answer reply
 answer_of (step_replies.Sem object reply place) = sem_answer reply
 answer_of (step_replies.Msgq object reply place) = msgq_answer reply
 answer_of (step_replies.Signal object reply place) = Number 0

@@ -9,6 +9,8 @@ use Rattle.zk_model_bus.specs.declared.channel.ChanOp.{ChanOp}
 use Rattle.zk_model_bus.specs.declared.channel.ChanReply.{ChanReply}
 use Rattle.zk_model_bus.specs.declared.observer.ObsOp.{ObsOp}
 use Rattle.zk_model_bus.specs.declared.observer.ObsReply.{ObsReply}
+use Rattle.zk_model_bus.specs.declared.table.TableOp.{TableOp}
+use Rattle.zk_model_bus.specs.declared.table.TableReply.{TableReply}
 use Rattle.zk_model_wait.specs.declared.clock.ClockOp.{ClockOp}
 use Rattle.zk_model_wait.specs.declared.clock.ClockReply.{ClockReply}
 use Rattle.zk_model_wait.specs.declared.msgq.MsgqOp.{MsgqOp}
@@ -35,6 +37,7 @@ use Rattle.zk_worker.specs.Looks.{LooksGrew, LookedBelow}
 pub record Shown : Type 0 where
   pub work : List (Entry WorkOp WorkReply)
   pub clock : List (Entry ClockOp ClockReply)
+  pub table : List (Entry TableOp TableReply)
   pub sems : List (List (Entry SemOp SemReply))
   pub msgqs : List (List (Entry MsgqOp MsgqReply))
   pub signals : List (List (Entry SignalOp SignalReply))
@@ -46,14 +49,15 @@ pub record Shown : Type 0 where
 -- how many entries are shown
 abbrev pub entry_count : Shown → ℕ
 entry_count shown =
-    length shown.work + length shown.clock + sum_by length shown.sems + sum_by length shown.msgqs
-    + sum_by length shown.signals + sum_by length shown.chans + sum_by length shown.observers
+    length shown.work + length shown.clock + length shown.table + sum_by length shown.sems
+    + sum_by length shown.msgqs + sum_by length shown.signals + sum_by length shown.chans + sum_by length shown.observers
 
 -- nothing was shown of the services of these declarations, which show whole histories
 abbrev pub nothing_shown : List Decl → Shown
 nothing_shown decls = record {
   work = [];
   clock = [];
+  table = [];
   sems = no_entries decls;
   msgqs = no_entries decls;
   signals = no_entries decls;
@@ -69,6 +73,8 @@ shown_after shown who number (steps.Work op) (step_replies.Work reply place) =
     record shown { work = shown.work ++ entry who number op reply ∷ [] }
 shown_after shown who number (steps.Clock op) (step_replies.Clock reply place) =
     record shown { clock = shown.clock ++ entry who number op reply ∷ [] }
+shown_after shown who number (steps.Table op) (step_replies.Table reply place) =
+    record shown { table = shown.table ++ entry who number op reply ∷ [] }
 shown_after shown who number (steps.Sem object op) (step_replies.Sem at reply place) =
     record shown { sems = with_entry shown.sems object (entry who number op reply) }
 shown_after shown who number (steps.Msgq object op) (step_replies.Msgq at reply place) =
@@ -87,6 +93,7 @@ shown_after shown who number step reply = shown
 abbrev pub shown_at : Shown → Spot → Option (ℕ × ℕ)
 shown_at shown (spots.Work place) = option_map step_of (slice_get shown.work place)
 shown_at shown (spots.Clock place) = option_map step_of (slice_get shown.clock place)
+shown_at shown (spots.Table place) = option_map step_of (slice_get shown.table place)
 shown_at shown (spots.Sem object place) = option_map step_of (entry_at shown.sems object place)
 shown_at shown (spots.Msgq object place) = option_map step_of (entry_at shown.msgqs object place)
 shown_at shown (spots.Signal object place) = option_map step_of (entry_at shown.signals object place)
@@ -118,6 +125,7 @@ pub record IsLater (shown : Shown) (number next : ℕ) : Type 0 where
 pub record AreShort (shown : Shown) : Type 0 where
   pub work : length shown.work < 2 ^ 32 - 1
   pub clock : length shown.clock < 2 ^ 32 - 1
+  pub table : length shown.table < 2 ^ 32 - 1
   pub sems : All (λ h. length h < 2 ^ 32 - 1) shown.sems
   pub msgqs : All (λ h. length h < 2 ^ 32 - 1) shown.msgqs
   pub signals : All (λ h. length h < 2 ^ 32 - 1) shown.signals
@@ -128,6 +136,7 @@ pub record AreShort (shown : Shown) : Type 0 where
 pub record AllGrew (number : ℕ) (old new : Shown) : Type 0 where
   pub work : OthersGrew number old.work new.work
   pub clock : OthersGrew number old.clock new.clock
+  pub table : OthersGrew number old.table new.table
   pub sems : EachGrew number old.sems new.sems
   pub msgqs : EachGrew number old.msgqs new.msgqs
   pub signals : EachGrew number old.signals new.signals

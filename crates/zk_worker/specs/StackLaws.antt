@@ -37,6 +37,7 @@ clock_may_tell op reply = false
 abbrev pub is_reply_to : Step → StepReply → Bool
 is_reply_to (steps.Work op) (step_replies.Work reply place) = true
 is_reply_to (steps.Clock op) (step_replies.Clock reply place) = clock_may_tell op reply
+is_reply_to (steps.Table op) (step_replies.Table reply place) = true
 is_reply_to (steps.Sem object op) (step_replies.Sem at reply place) = at == object
 is_reply_to (steps.Msgq object op) (step_replies.Msgq at reply place) = at == object
 is_reply_to (steps.Signal object op) (step_replies.Signal at reply place) = at == object

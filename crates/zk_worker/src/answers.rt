@@ -1,5 +1,6 @@
 use crate::Positions;
 use zk_base::{Errno, Listed, Msg};
+use zk_model_bus::OopsWhy;
 use zk_words::Word;
 
 /// What a call of a script is answered.
@@ -9,7 +10,7 @@ pub enum Answer {
     /// while it runs. Of a delayed submission the same, and 1 where the item is delayed. Of a drain 0 where it didn't have to
     /// wait, and 1 where it did. Of a question for the rest of a delay so many ticks. Of a question for a semaphore's count,
     /// or for how many messages a queue has or has room for, that number. Of a write to a signal 0, and of a call of zbus
-    /// that is done.
+    /// or of the object table that is done.
     Number(u64),
     /// The busy flags of an item, below 32.
     Flags(u8),
@@ -25,6 +26,8 @@ pub enum Answer {
     Ready(Positions),
     /// The object number of the channel that a subscriber was told of.
     Channel(u32),
+    /// A user's call failed its check for this reason, which ended its thread.
+    Oops(OopsWhy),
 }
 
 /// A call that has its answer.

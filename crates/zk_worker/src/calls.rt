@@ -8,7 +8,7 @@ use crate::refs::{queue_number, ref_number, ref_object};
 use crate::replies::answer_of;
 use crate::waits::{opening_progress, wait_ahead, wait_progress};
 use crate::{Closing, Plan, Progress, Stage, Step, StepReply, Using, Waiting, Word};
-use zk_model_bus::{ChanOp, ObsOp};
+use zk_model_bus::{ChanOp, ObsOp, TableOp};
 use zk_model_wait::{ClockOp, MsgqOp, SemOp, SignalOp};
 use zk_model_work::WorkOp;
 use zk_scenario::{Call, Ref, Scenario};
@@ -91,6 +91,13 @@ fn at_observer(observer: Ref, op: ObsOp) -> Plan
     Plan::One(Step::Obs(ref_object(observer), op))
 }
 
+/// One step at the object table.
+fn at_table(op: TableOp) -> Plan
+    ensures { result ≡ Plan.One (Step.Table op) }
+{
+    Plan::One(Step::Table(op))
+}
+
 /// How a call goes.
 // In line, so that nothing is made of a plan that its caller doesn't ask for.
 #[inline(always)]
@@ -148,6 +155,15 @@ pub fn plan_of(scenario: &Scenario, call: &Call) -> Plan
         }
         Call::Notify(chan, timeout) => Plan::Channel(ref_object(*chan), Using::Notify, *timeout),
         Call::Read(chan, timeout) => Plan::Channel(ref_object(*chan), Using::Read, *timeout),
+        Call::Grant(thread, object) => {
+            at_table(TableOp::Grant(ref_object(*thread), ref_object(*object)))
+        }
+        Call::Release(object) => at_table(TableOp::Release(ref_object(*object))),
+        Call::Revoke(thread, object) => {
+            at_table(TableOp::Revoke(ref_object(*thread), ref_object(*object)))
+        }
+        Call::Public(object) => at_table(TableOp::Public(ref_object(*object))),
+        Call::Init(object) => at_table(TableOp::Init(ref_object(*object))),
     }
 }
 

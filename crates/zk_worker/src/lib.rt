@@ -3,6 +3,7 @@
 
 mod answers;
 mod calls;
+mod checks;
 mod frames;
 mod log;
 mod player;
@@ -22,6 +23,7 @@ mod visit_laws;
 mod waits;
 
 pub use answers::{Answer, Answered, Answers};
+pub use checks::{Check, Mode};
 pub use frames::{Alarm, Closing, Frame, Mark, Plan, Progress, Role, Stage, Using, Waiting};
 pub use log::{Log, PlayerState};
 pub use player::Player;

@@ -5,6 +5,8 @@ use crate::{Answers, Spots};
 pub enum PlayerState {
     /// It has made all the steps that a player may make.
     Spent,
+    /// A user thread that a check has ended.
+    Oops,
     /// A thread that is through its script, or a worker between two runs.
     Done,
     /// Any other: a call has no answer yet, or the next one isn't begun.

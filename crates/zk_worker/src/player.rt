@@ -1,6 +1,7 @@
 ghost use Rattle.std.specs.Prelude.{◌≡◌, ℕ, ◌<◌, ◌≤◌, Bool, slice_get, reverse, length, IfOk, OnErr, Some};
 ghost use Rattle.zk_scenario.specs.Players.{players, prio_of};
-ghost use Rattle.zk_worker.specs.Protocol.{attempts, after, spot_of, start_at, starting, role_at, IsAhead};
+ghost use Rattle.zk_worker.specs.Checks.{next_check};
+ghost use Rattle.zk_worker.specs.Protocol.{attempts, after, frames_progress, checked, moved, spot_of, start_at, starting, role_at, IsAhead};
 ghost use Rattle.zk_worker.specs.Follows.{state_at, log_of, is_done, is_through, is_between, is_spent_at, StandsMore, IsFollowing};
 ghost use Rattle.zk_worker.specs.Ranges.{FramesFit, ReplyFits};
 ghost use Rattle.zk_worker.specs.Machines.{Machines};
@@ -8,16 +9,19 @@ ghost use Rattle.zk_worker.specs.Shown.{Shown, ShowsLog};
 ghost use Rattle.zk_worker.specs.Right.{LooksRight};
 ghost use Rattle.zk_worker.specs.Attempt.{IsMade};
 
+use crate::checks::{check_step, mode_after, next_check, oops_in, start_mode};
 use crate::frames::MOST_FRAMES;
 use crate::protocol::spot_of;
 use crate::stack::{frames_ahead, frames_progress, move_frames, open_frame, put_answer, settle};
 use crate::steps::MOST_STEPS;
 use crate::{
-    Answered, Answers, Frame, Log, PlayerState, Role, Spot, Spots, Stage, Step, StepReply,
+    Answer, Answered, Answers, Check, Frame, Log, Mode, PlayerState, Role, Spot, Spots, Stage, Step,
+    StepReply, Word,
 };
 use std::alloc::Global;
 use std::marker::Model;
 use zk_base::{NoMemory, Who, push_within};
+use zk_model_bus::OopsWhy;
 use zk_scenario::{Decl, Scenario};
 
 /// A player of a scenario, and what it has done.
@@ -26,6 +30,9 @@ use zk_scenario::{Decl, Scenario};
 #[derive(Drop)]
 pub struct Player {
     who: Who,
+    mode: Mode,
+    // How many checks it has passed in the call that comes next.
+    passed: u32,
     // The open scripts and runs, the innermost last.
     stack: Vec<Frame>,
     answers: Vec<Answered>,
@@ -41,13 +48,15 @@ impl Model for Player {
 
     ghost view = { λ p. record {
       who = p.who;
+      mode = p.mode;
+      passed = p.passed;
       frames = reverse p.stack.items;
       answers = p.answers.items;
       spots = p.spots.items;
     } };
 
     ghost invariant = { λ p.
-        IsRoomy (reverse p.stack.items) p.answers.items p.spots.items
+        IsRoomy p.passed (reverse p.stack.items) p.answers.items p.spots.items
         (vec_capacity p.stack) (vec_capacity p.answers) (vec_capacity p.spots) };
 }
 
@@ -78,9 +87,9 @@ fn prio_of(decl: &Decl) -> i8
         Decl::Thread(_, prio, _) => *prio,
         Decl::Queue(_, prio, _) => *prio,
         Decl::Item(_) => 0,
-        Decl::Sem(_, _, _) => 0,
-        Decl::Msgq(_, _, _) => 0,
-        Decl::Signal(_) => 0,
+        Decl::Sem(_, _, _, _) => 0,
+        Decl::Msgq(_, _, _, _) => 0,
+        Decl::Signal(_, _) => 0,
         Decl::Listener(_) => 0,
         Decl::Sub(_, _) => 0,
         Decl::Chan(_, _, _, _) => 0,
@@ -146,6 +155,8 @@ impl Player {
         settle(scenario, &mut stack);
         Ok(Player {
             who,
+            mode: start_mode(decl),
+            passed: 0,
             stack,
             answers: Vec::with_capacity(alloc, MOST_STEPS as usize)?,
             spots: Vec::with_capacity(alloc, MOST_STEPS as usize)?,
@@ -156,10 +167,14 @@ impl Player {
     pub fn ahead(&self, scenario: &Scenario, index: u32) -> Option<Step>
         ensures { result ≡ slice_get (attempts scenario.now self.now) index }
     {
-        if self.spots.len() < MOST_STEPS as usize {
-            return frames_ahead(scenario, &self.stack, index);
+        if self.is_spent() {
+            return None;
         }
-        None
+        match self.next_check(scenario) {
+            Some(check) if index == 0 => Some(check_step(&check)),
+            Some(_) => None,
+            None => frames_ahead(scenario, &self.stack, index),
+        }
     }
 
     /// Adds one of these attempts, which was answered so.
@@ -179,10 +194,49 @@ impl Player {
             StandsMore old new (spot_of step.now reply.now) (step.now, reply.now) →
             IsFollowing scenario.now number old self.old → IsFollowing scenario.now number new self.new }
     {
+        match self.next_check(scenario) {
+            Some(check) => self.check(check.word, oops_in(reply), spot_of(step, reply)),
+            None => self.go_on(scenario, step, reply),
+        }
+    }
+
+    fn next_check(&self, scenario: &Scenario) -> Option<Check>
+        ensures { result ≡ next_check scenario.now self.now.mode self.now.passed self.now.frames }
+    {
+        next_check(scenario, self.mode, self.passed, &self.stack)
+    }
+
+    /// A check was passed, or failed for this reason.
+    fn check(&mut self, word: Word, why: Option<OopsWhy>, spot: Spot)
+        requires { length self.old.spots < MOST_STEPS }
+        ensures { self.new ≡ checked self.old word why spot }
+    {
+        match why {
+            None => self.passed += 1,
+            Some(why) => {
+                let step = self.spots.len() as u32;
+                let answer = Answer::Oops(why);
+                push_within(&mut self.answers, Answered { step, word, answer });
+                self.mode = Mode::Dead;
+                self.passed = 0;
+                self.stack.clear();
+            }
+        }
+        push_within(&mut self.spots, spot);
+    }
+
+    /// The innermost open script or run goes on.
+    fn go_on(&mut self, scenario: &Scenario, step: &Step, reply: &StepReply)
+        requires { length self.old.spots < MOST_STEPS }
+        ensures { self.new ≡ moved scenario.now self.old step.now
+            (frames_progress scenario.now self.old.frames step.now reply.now) (spot_of step.now reply.now) }
+    {
         let number = self.spots.len() as u32;
         let progress = frames_progress(scenario, &self.stack, step, reply);
         put_answer(&mut self.answers, number, &progress);
         move_frames(scenario, &mut self.stack, &progress);
+        self.mode = mode_after(self.mode, step);
+        self.passed = 0;
         push_within(&mut self.spots, spot_of(step, reply));
     }
 
@@ -199,6 +253,9 @@ impl Player {
     {
         if self.is_spent() {
             return PlayerState::Spent;
+        }
+        if self.mode == Mode::Dead {
+            return PlayerState::Oops;
         }
         if self.is_done() {
             PlayerState::Done
@@ -257,6 +314,8 @@ impl Player {
         let state = self.state();
         let Player {
             who: _,
+            mode: _,
+            passed: _,
             stack: _,
             answers,
             spots,

@@ -150,9 +150,10 @@ fn dropping(events: &[Event], marks: &[Mark]) -> Option<Step>
     ensures { result ≡ dropping events.now marks.now }
 {
     let place = first_armed(marks)?;
-    let event = events.get(place).copied()?;
-    let mark = marks.get(place).copied()?;
-    drop_step(event, mark)
+    match (events.get(place), marks.get(place)) {
+        (Some(event), Some(mark)) => drop_step(*event, *mark),
+        _ => None,
+    }
 }
 
 fn alarm_ahead(alarm: Alarm, index: u32) -> Option<Step>

@@ -9,7 +9,8 @@ use zk_base::Seen;
 use zk_model_work::{WorkOp, WorkReply};
 use zk_scenario::{Call, Scenario, word_of};
 
-fn call_at(scenario: &Scenario, owner: u32, next: u32) -> Option<&Call>
+/// The call of this number in an object's script.
+pub fn call_at(scenario: &Scenario, owner: u32, next: u32) -> Option<&Call>
     ensures { option_copied result ≡ slice_get (calls_of scenario.now.scripts owner) next }
 {
     scenario.calls(owner).get(next as usize)
@@ -117,6 +118,7 @@ fn place_of(reply: &StepReply) -> u64
     match reply {
         StepReply::Work(_, place) => *place,
         StepReply::Clock(_, place) => *place,
+        StepReply::Table(_, place) => *place,
         StepReply::Sem(_, _, place) => *place,
         StepReply::Msgq(_, _, place) => *place,
         StepReply::Signal(_, _, place) => *place,
@@ -156,6 +158,7 @@ pub fn spot_of(made: &Step, reply: &StepReply) -> Spot
     match made {
         Step::Work(_) => Spot::Work(place_of(reply)),
         Step::Clock(_) => Spot::Clock(place_of(reply)),
+        Step::Table(_) => Spot::Table(place_of(reply)),
         Step::Sem(object, _) => Spot::Sem(*object, place_of(reply)),
         Step::Msgq(object, _) => Spot::Msgq(*object, place_of(reply)),
         Step::Signal(object, _) => Spot::Signal(*object, place_of(reply)),

@@ -1,5 +1,5 @@
 ghost use Rattle.std.specs.Prelude.{◌≡◌, option_map};
-ghost use Rattle.zk_worker.specs.Refs.{ref_object, ref_number};
+ghost use Rattle.zk_worker.specs.Refs.{ref_object, ref_declared, ref_number};
 
 use zk_scenario::{Ref, Scenario};
 
@@ -9,6 +9,14 @@ pub fn ref_object(named: Ref) -> u32
 {
     let Ref::Known(object) = named;
     object
+}
+
+/// The object number of an object that a call names, if it is declared.
+pub fn ref_declared(named: Ref) -> Option<u32>
+    ensures { result ≡ ref_declared named }
+{
+    let Ref::Known(object) = named;
+    Some(object)
 }
 
 /// An object that a call names, by its number among those of its kind.

@@ -1,9 +1,9 @@
 ghost use Rattle.std.specs.Prelude.{◌≡◌};
-ghost use Rattle.zk_worker.specs.Replies.{submission_answer, work_answer, sem_answer, msgq_answer, chan_answer, obs_answer, answer_of};
+ghost use Rattle.zk_worker.specs.Replies.{submission_answer, work_answer, sem_answer, msgq_answer, chan_answer, obs_answer, table_answer, answer_of};
 
 use crate::{Answer, StepReply};
 use zk_base::Errno;
-use zk_model_bus::{ChanReply, ObsReply};
+use zk_model_bus::{ChanReply, ObsReply, TableReply};
 use zk_model_wait::{MsgqReply, SemReply};
 use zk_model_work::{Submitted, WorkReply};
 
@@ -79,12 +79,23 @@ fn obs_answer(reply: &ObsReply) -> Answer
     }
 }
 
+fn table_answer(reply: &TableReply) -> Answer
+    ensures { result ≡ table_answer reply.now }
+{
+    match reply {
+        TableReply::Done => Answer::Number(0),
+        TableReply::Already => Answer::Refused(Errno::Already),
+        TableReply::Oops(why) => Answer::Oops(*why),
+    }
+}
+
 pub fn answer_of(reply: &StepReply) -> Answer
     ensures { result ≡ answer_of reply.now }
 {
     match reply {
         StepReply::Work(reply, _) => work_answer(reply),
         StepReply::Clock(_, _) => Answer::Number(0),
+        StepReply::Table(reply, _) => table_answer(reply),
         StepReply::Sem(_, reply, _) => sem_answer(reply),
         StepReply::Msgq(_, reply, _) => msgq_answer(reply),
         StepReply::Signal(_, _, _) => Answer::Number(0),

@@ -1,5 +1,5 @@
 use zk_base::{Listed, Seen};
-use zk_model_bus::{ChanOp, ChanReply, ObsOp, ObsReply};
+use zk_model_bus::{ChanOp, ChanReply, ObsOp, ObsReply, TableOp, TableReply};
 use zk_model_wait::{
     ClockOp, ClockReply, MsgqOp, MsgqReply, SemOp, SemReply, SignalOp, SignalReply,
 };
@@ -18,6 +18,8 @@ pub enum Step {
     Work(WorkOp),
     /// An operation of the clock.
     Clock(ClockOp),
+    /// An operation of the object table. Objects are named by their numbers.
+    Table(TableOp),
     /// An operation of the semaphore of this object number.
     Sem(u32, SemOp),
     /// An operation of the message queue of this object number.
@@ -42,6 +44,8 @@ pub enum StepReply {
     Work(WorkReply, u64),
     /// The clock's reply, and the place of the entry in its history, from 0.
     Clock(ClockReply, u64),
+    /// The object table's reply, and the place of the entry in its history, from 0.
+    Table(TableReply, u64),
     /// The object number of the semaphore, its reply, and the place of the entry in its history, from 0.
     Sem(u32, SemReply, u64),
     /// The object number of the message queue, its reply, and the place of the entry in its history, from 0.
@@ -65,6 +69,8 @@ pub enum Spot {
     Work(u64),
     /// The place of the entry in the history of the clock.
     Clock(u64),
+    /// The place of the entry in the history of the object table.
+    Table(u64),
     /// The object number of a semaphore, and the place of the entry in its history.
     Sem(u32, u64),
     /// The object number of a message queue, and the place of the entry in its history.

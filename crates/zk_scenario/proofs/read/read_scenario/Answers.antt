@@ -16,7 +16,7 @@ read_pieces-requires c =
 
 pub of-requires : goal.of-requires
 of-requires c =
-    let parts : Parts = record { decls = c.into_parts-objects.result.0; scripts = c.into_parts-objects.result.1 } in
+    let parts : Parts = record { decls = c.into_parts-objects.result.0; written = c.into_parts-objects.result.1.items; scripts = c.into_parts-objects.result.2 } in
     IsReadable-read c.args.text.now parts (search rules)
 
 pub returns-in-Ok-clause-spelled : goal.returns-in-Ok-clause-spelled

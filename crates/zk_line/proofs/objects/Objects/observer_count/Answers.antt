@@ -5,4 +5,4 @@ use Rattle.zk_line.proofs.objects.Objects.observer_count.Goals as goal
 
 pub returns : goal.returns
 returns c =
-    omega (arith, c.len.ensures, c.self.inside.observers.ok.0, ap length c.self.invariant.each_observer, length-places is_observer c.self.inside.decls.items, ap (count_by is_observer) c.self.view_is)
+    omega (arith, c.len.ensures, c.self.inside.lists.observers.ok.0, ap length c.self.invariant.each_observer, length-places is_observer c.self.inside.decls.items, ap (count_by is_observer) c.self.view_is)

@@ -5,4 +5,4 @@ use Rattle.zk_line.proofs.objects.Objects.queue_count.Goals as goal
 
 pub returns : goal.returns
 returns c =
-    omega (arith, c.len.ensures, c.self.inside.queues.ok.0, ap length c.self.invariant.each_queue, length-places is_queue c.self.inside.decls.items, ap (count_by is_queue) c.self.view_is)
+    omega (arith, c.len.ensures, c.self.inside.lists.queues.ok.0, ap length c.self.invariant.each_queue, length-places is_queue c.self.inside.decls.items, ap (count_by is_queue) c.self.view_is)

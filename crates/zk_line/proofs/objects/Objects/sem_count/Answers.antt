@@ -5,4 +5,4 @@ use Rattle.zk_line.proofs.objects.Objects.sem_count.Goals as goal
 
 pub returns : goal.returns
 returns c =
-    omega (arith, c.len.ensures, c.self.inside.sems.ok.0, ap length c.self.invariant.each_sem, length-places is_sem c.self.inside.decls.items, ap (count_by is_sem) c.self.view_is)
+    omega (arith, c.len.ensures, c.self.inside.lists.sems.ok.0, ap length c.self.invariant.each_sem, length-places is_sem c.self.inside.decls.items, ap (count_by is_sem) c.self.view_is)

@@ -5,4 +5,4 @@ use Rattle.zk_line.proofs.objects.Objects.signal_count.Goals as goal
 
 pub returns : goal.returns
 returns c =
-    omega (arith, c.len.ensures, c.self.inside.signals.ok.0, ap length c.self.invariant.each_signal, length-places is_signal c.self.inside.decls.items, ap (count_by is_signal) c.self.view_is)
+    omega (arith, c.len.ensures, c.self.inside.lists.signals.ok.0, ap length c.self.invariant.each_signal, length-places is_signal c.self.inside.decls.items, ap (count_by is_signal) c.self.view_is)

@@ -34,7 +34,7 @@ returns-clause-start c =
     c.open_frame.ensures.frames ∙ ap (λ (l : List Frame). first_frame c.role_at.result ∷ reverse l) c.in_ok-stack.ensures.items
     ∙ ap (λ (r : Role). first_frame r ∷ []) c.role_at.ensures in
     let frames = c.settle.ensures.frames ∙ ap (λ (l : List Frame). settled s l) stack in
-    let made = At-same _ _ _ _ _ _ _ _ (sym c.who_at-who.ensures) (sym frames)
+    let made = At-same _ _ _ _ _ _ _ _ _ _ _ (sym c.who_at-who.ensures) (sym c.start_mode.ensures) (sym frames)
     (sym c.in_ok-with_capacity.ensures.items) (sym c.in_ok-with_capacity-2.ensures.items) in
     start_at-found s c.args.number object decl (sym c.in-Some.ensures) declared ∙ ap (λ (x : At). Some x) made
 

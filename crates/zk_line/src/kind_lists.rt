@@ -1,0 +1,77 @@
+ghost use Rattle.std.specs.Prelude.{◌≡◌, ◌<◌, [], vec_len, vec_capacity};
+ghost use Rattle.zk_line.specs.Objects.{is_thread, is_queue, is_item, is_sem, is_msgq, is_signal, is_chan, is_observer, grown};
+
+use crate::types::Decl;
+use std::alloc::Global;
+use zk_base::push_within;
+
+/// The object numbers of the declarations of each kind, in order.
+#[derive(Drop)]
+pub struct Lists {
+    pub threads: Vec<u32>,
+    pub queues: Vec<u32>,
+    pub items: Vec<u32>,
+    pub sems: Vec<u32>,
+    pub msgqs: Vec<u32>,
+    pub signals: Vec<u32>,
+    pub chans: Vec<u32>,
+    // Subscribers and listeners together.
+    pub observers: Vec<u32>,
+}
+
+impl Lists {
+    /// No object. It takes no memory.
+    pub fn new(alloc: Global) -> Lists
+        ensures threads { result.threads.items ≡ [] }
+        ensures queues { result.queues.items ≡ [] }
+        ensures items { result.items.items ≡ [] }
+        ensures sems { result.sems.items ≡ [] }
+        ensures msgqs { result.msgqs.items ≡ [] }
+        ensures signals { result.signals.items ≡ [] }
+        ensures chans { result.chans.items ≡ [] }
+        ensures observers { result.observers.items ≡ [] }
+    {
+        Lists {
+            threads: Vec::new(alloc),
+            queues: Vec::new(alloc),
+            items: Vec::new(alloc),
+            sems: Vec::new(alloc),
+            msgqs: Vec::new(alloc),
+            signals: Vec::new(alloc),
+            chans: Vec::new(alloc),
+            observers: Vec::new(alloc),
+        }
+    }
+}
+
+/// Puts an object into the list of its declaration's kind, in which there is room.
+pub fn enlist(lists: &mut Lists, decl: &Decl, object: u32)
+    requires thread_room { vec_len lists.old.threads < vec_capacity lists.old.threads }
+    requires queue_room { vec_len lists.old.queues < vec_capacity lists.old.queues }
+    requires item_room { vec_len lists.old.items < vec_capacity lists.old.items }
+    requires sem_room { vec_len lists.old.sems < vec_capacity lists.old.sems }
+    requires msgq_room { vec_len lists.old.msgqs < vec_capacity lists.old.msgqs }
+    requires signal_room { vec_len lists.old.signals < vec_capacity lists.old.signals }
+    requires chan_room { vec_len lists.old.chans < vec_capacity lists.old.chans }
+    requires observer_room { vec_len lists.old.observers < vec_capacity lists.old.observers }
+    ensures threads { lists.new.threads.items ≡ grown is_thread decl.now object lists.old.threads.items }
+    ensures queues { lists.new.queues.items ≡ grown is_queue decl.now object lists.old.queues.items }
+    ensures items { lists.new.items.items ≡ grown is_item decl.now object lists.old.items.items }
+    ensures sems { lists.new.sems.items ≡ grown is_sem decl.now object lists.old.sems.items }
+    ensures msgqs { lists.new.msgqs.items ≡ grown is_msgq decl.now object lists.old.msgqs.items }
+    ensures signals { lists.new.signals.items ≡ grown is_signal decl.now object lists.old.signals.items }
+    ensures chans { lists.new.chans.items ≡ grown is_chan decl.now object lists.old.chans.items }
+    ensures observers { lists.new.observers.items ≡ grown is_observer decl.now object lists.old.observers.items }
+{
+    match decl {
+        Decl::Thread(..) => push_within(&mut lists.threads, object),
+        Decl::Queue(..) => push_within(&mut lists.queues, object),
+        Decl::Item(_) => push_within(&mut lists.items, object),
+        Decl::Sem(..) => push_within(&mut lists.sems, object),
+        Decl::Msgq(..) => push_within(&mut lists.msgqs, object),
+        Decl::Signal(..) => push_within(&mut lists.signals, object),
+        Decl::Listener(_) => push_within(&mut lists.observers, object),
+        Decl::Sub(..) => push_within(&mut lists.observers, object),
+        Decl::Chan(..) => push_within(&mut lists.chans, object),
+    }
+}

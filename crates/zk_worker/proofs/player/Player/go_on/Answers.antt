@@ -1,0 +1,32 @@
+use Rattle.std.proofs.Common.{◌<◌, [], ◌∷◌, ◌++◌, ap, arith, rules, length, reverse, vec_capacity}
+use Rattle.zk_scenario.specs.Parts.{Parts}
+use Rattle.zk_worker.specs.Checks.{mode_after}
+use Rattle.zk_worker.specs.Places.{At}
+use Rattle.zk_worker.specs.Protocol.{frames_progress, frames_after, answers_after, spot_of}
+use Rattle.zk_worker.proofs.Starts.{At-same}
+use Rattle.zk_worker.specs.declared.steps.TheConstants.{MOST_STEPS}
+use Rattle.zk_worker.proofs.Limits.{IsRoomy-moved}
+use Rattle.zk_worker.proofs.player.Player.go_on.Goals as goal
+
+pub invariant_of-self : goal.invariant_of-self
+invariant_of-self c =
+    let was = c.self.inside in
+    let spots = ap (λ v. length v.spots) c.self.view_is in
+    let fewer : length was.spots.items < MOST_STEPS = omega (arith, spots, c.requires) in
+    IsRoomy-moved c.args.scenario.now (reverse was.stack.items) (reverse c.move_frames.new.stack.items) was.answers.items c.put_answer.new.answers.items
+    was.spots.items c.push_within.new.items.items c.spot_of.result c.len-number.result c.frames_progress-progress.result was.passed
+    (vec_capacity was.stack) (vec_capacity was.answers) (vec_capacity was.spots)
+    (vec_capacity c.move_frames.new.stack) (vec_capacity c.put_answer.new.answers) (vec_capacity c.push_within.new.items)
+    c.self.invariant fewer c.move_frames.ensures.frames c.put_answer.ensures.answers c.push_within.ensures.items
+    c.move_frames.ensures.capacity c.put_answer.ensures.capacity c.push_within.ensures.capacity
+
+pub returns : goal.returns
+returns c =
+    let s : Parts = c.args.scenario.now in
+    let at : At = c.args.self.now in
+    let progress = frames_progress s at.frames c.args.step.now c.args.reply.now in
+    let spot = spot_of c.args.step.now c.args.reply.now in
+    At-same c.self.inside.who at.who c.mode_after-self-inside.result (mode_after at.mode c.args.step.now) 0
+    (reverse c.move_frames.new.stack.items) (frames_after s at.frames progress) c.put_answer.new.answers.items (answers_after at.answers (length at.spots) progress)
+    c.push_within.new.items.items (at.spots ++ spot ∷ [])
+    (search rules) (search rules) (search rules) (search rules) (search rules)
