@@ -46,6 +46,7 @@ fn put_services(out: &mut Vec<u8>, scenario: &Scenario, trace: &Trace) -> Result
         trace.item_looks.items(),
     )?;
     put_service(out, scenario, b"clock", trace.clock.items())?;
+    put_service(out, scenario, b"table", trace.table.items())?;
     put_objects(out, scenario, trace.sems.items())?;
     put_objects(out, scenario, trace.msgqs.items())?;
     put_looked_objects(
