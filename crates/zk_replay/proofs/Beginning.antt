@@ -35,6 +35,9 @@ use Rattle.zk_worker.specs.Machines as machines
 use Rattle.zk_worker.specs.Machines.{machines_of, workers, work_start_of, item_number, items_of}
 use Rattle.zk_model_wait.specs.Clock.{new_clock}
 use Rattle.zk_bus.specs.Seen.{chan_start, chan_history}
+use Rattle.zk_model_bus.specs.Table.{new_table}
+use Rattle.zk_worker.specs.TableSetup.{setup_of}
+use Rattle.zk_objects.specs.Seen.{objects_start, objects_history}
 use Rattle.zk_msgq.specs.Seen.{msgq_start, msgq_history}
 use Rattle.zk_poll.specs.Seen.{signal_start, signal_history}
 use Rattle.zk_sem.specs.Seen.{sem_start, sem_history}
@@ -188,24 +191,25 @@ world-first s shown made nothing all = ap (λ (x : Shown). world x made) nothing
 -- services that start as those of a scenario do have its machines
 pub machines-first : (s : Parts) (p : Plain) →
     work_start p.work ≡ work_start_of s → p.items.items ≡ items_of s.decls → clock_start p.clock ≡ new_clock →
+    objects_start p.table ≡ new_table (setup_of s) →
     starts_of sem_start p.sems.items ≡ map machines.sem_start s.decls →
     starts_of msgq_start p.msgqs.items ≡ map machines.msgq_start s.decls →
     starts_of signal_start p.signals.items ≡ map machines.signal_start s.decls →
     starts_of chan_start p.chans.items ≡ map machines.chan_start s.decls →
     starts_of obs_start p.observers.items ≡ map machines.observer_start s.decls →
     plain_machines p ≡ machines_of s
-machines-first s p same_work same_items same_clock same_sems same_msgqs same_signals same_chans same_observers = cc
+machines-first s p same_work same_items same_clock same_table same_sems same_msgqs same_signals same_chans same_observers = cc
 
 -- and show nothing
 pub shown-first : (s : Parts) (p : Plain) →
-    work_history p.work ≡ [] → clock_history p.clock ≡ [] →
+    work_history p.work ≡ [] → clock_history p.clock ≡ [] → objects_history p.table ≡ [] →
     histories_of sem_history p.sems.items ≡ no_entries s.decls →
     histories_of msgq_history p.msgqs.items ≡ no_entries s.decls →
     histories_of signal_history p.signals.items ≡ no_entries s.decls →
     histories_of chan_history p.chans.items ≡ no_entries s.decls →
     histories_of obs_history p.observers.items ≡ no_entries s.decls →
     plain_shown p ≡ nothing_shown s.decls
-shown-first s p no_work no_clock no_sems no_msgqs no_signals no_chans no_observers = cc
+shown-first s p no_work no_clock no_table no_sems no_msgqs no_signals no_chans no_observers = cc
 
 -- one number more
 pub items_more : (decls : List Decl) (n : ℕ) → map (item_number decls) (range_with_len 0 n) ++ item_number decls n ∷ [] ≡ map (item_number decls) (range_with_len 0 (n + 1))

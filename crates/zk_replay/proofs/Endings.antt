@@ -6,7 +6,7 @@ use Rattle.std.proofs.lemmas.Bool.{and_from}
 use Rattle.std.proofs.lemmas.Bool.Decides.{nat_tests}
 use Rattle.std.proofs.lemmas.List.{length-set}
 use Rattle.std.proofs.lemmas.List.Elements.{All-head, All-tail}
-use Rattle.zk_base.proofs.Lists.{and_second, cond_nil-at, All-at, list_all-at}
+use Rattle.zk_base.proofs.Lists.{and_second, All-at, list_all-at}
 use Rattle.zk_base.specs.Legal.{state_after}
 use Rattle.zk_model_work.specs.declared.ops.WorkOp.TheVariants as ops
 use Rattle.zk_model_work.specs.declared.ops.WorkReply.{WorkReply}
@@ -30,7 +30,9 @@ use Rattle.zk_worker.specs.declared.frames.Role.TheVariants.{Worker}
 use Rattle.zk_worker.specs.declared.frames.Stage.{Stage}
 use Rattle.zk_worker.specs.declared.frames.Stage.TheVariants.{Start, Runs}
 use Rattle.zk_worker.specs.Places.{At}
-use Rattle.zk_worker.specs.Protocol.{attempts, frames_attempts, role_attempts, after}
+use Rattle.zk_worker.specs.declared.checks.Mode.{Mode}
+use Rattle.zk_worker.specs.Checks.{next_check}
+use Rattle.zk_worker.specs.Protocol.{IsAhead, attempts, checks_first, frames_attempts, role_attempts, after}
 use Rattle.zk_worker.specs.Follows.{log_of, is_done, is_between, is_spent_at}
 use Rattle.zk_worker.specs.Machines.{work_start_of, machines_of}
 use Rattle.zk_worker.specs.Attempt.{reply_in}
@@ -76,30 +78,30 @@ good-step : (s : Parts) (w : World) (p : ℕ) (at : At) (made : Step × StepRepl
     chosen (machines_of s) s w.shown at ≡ Some made → IsGood s (stepped s w p at (Some made))
 good-step s w p at (step, reply) good unspent is choice =
     let made = first_possible-is (machines_of s) w.shown at.who (attempts s at) (step, reply) choice in
-    let ahead = (cond_nil-at (nat_lt (length at.spots) MOST_STEPS) (frames_attempts s at.frames) made.place step made.is_there).1 in
-    by_step step reply made.place choice ahead made.answered
+    by_step step reply choice (made.place, made.is_there) made.answered
   where
-    elsewhere : (step : Step) (reply : StepReply) (place : ℕ) → IsElsewhere step → chosen (machines_of s) s w.shown at ≡ Some (step, reply) → slice_get (frames_attempts s at.frames) place ≡ Some step →
+    elsewhere : (step : Step) (reply : StepReply) → IsElsewhere step → chosen (machines_of s) s w.shown at ≡ Some (step, reply) → IsAhead s at step →
         IsGood s (stepped s w p at (Some (step, reply)))
-    elsewhere step reply place other choice ahead =
-        good-from s w p at (step, reply) good.state good unspent is choice (tended-elsewhere s w good.state p at step reply place other good.tended is ahead)
+    elsewhere step reply other choice ahead =
+        good-from s w p at (step, reply) good.state good unspent is choice (tended-elsewhere s w good.state p at step reply other good.tended is ahead)
 
-    by_step : (step : Step) (reply : StepReply) (place : ℕ) → chosen (machines_of s) s w.shown at ≡ Some (step, reply) → slice_get (frames_attempts s at.frames) place ≡ Some step →
+    by_step : (step : Step) (reply : StepReply) → chosen (machines_of s) s w.shown at ≡ Some (step, reply) → IsAhead s at step →
         reply_in (machines_of s) w.shown at.who step ≡ Some reply → IsGood s (stepped s w p at (Some (step, reply)))
-    by_step (steps.Work op) reply place choice ahead answered =
+    by_step (steps.Work op) reply choice ahead answered =
         let from = made-of (λ (r : WorkReply). step_replies.Work r (length w.shown.work)) (work_reply (state_after work_machine (work_start_of s) w.shown.work) at.who op) reply answered in
         let possible = ap (λ (t : State). work_reply t at.who op) good.tended.after ∙ from.1 in
-        let tended = tended-step s w good.state p at op from.0 (length w.shown.work) place good.tended is (good.ready.numbers p at is) ahead possible in
+        let tended = tended-step s w good.state p at op from.0 (length w.shown.work) good.tended is (good.ready.numbers p at is) ahead possible in
         good-from s w p at (steps.Work op, reply) (work_next good.state at.who op) good unspent is choice
         (subst (λ (r : StepReply). IsTended s (stepped s w p at (Some (steps.Work op, r))) (work_next good.state at.who op)) from.2 tended)
-    by_step (steps.Clock op) reply place choice ahead answered = elsewhere (steps.Clock op) reply place tt choice ahead
-    by_step (steps.Sem object op) reply place choice ahead answered = elsewhere (steps.Sem object op) reply place tt choice ahead
-    by_step (steps.Msgq object op) reply place choice ahead answered = elsewhere (steps.Msgq object op) reply place tt choice ahead
-    by_step (steps.Signal object op) reply place choice ahead answered = elsewhere (steps.Signal object op) reply place tt choice ahead
-    by_step (steps.Chan object op) reply place choice ahead answered = elsewhere (steps.Chan object op) reply place tt choice ahead
-    by_step (steps.Obs object op) reply place choice ahead answered = elsewhere (steps.Obs object op) reply place tt choice ahead
-    by_step (steps.LookItem object) reply place choice ahead answered = elsewhere (steps.LookItem object) reply place tt choice ahead
-    by_step (steps.LookSignal object must) reply place choice ahead answered = elsewhere (steps.LookSignal object must) reply place tt choice ahead
+    by_step (steps.Clock op) reply choice ahead answered = elsewhere (steps.Clock op) reply tt choice ahead
+    by_step (steps.Table op) reply choice ahead answered = elsewhere (steps.Table op) reply tt choice ahead
+    by_step (steps.Sem object op) reply choice ahead answered = elsewhere (steps.Sem object op) reply tt choice ahead
+    by_step (steps.Msgq object op) reply choice ahead answered = elsewhere (steps.Msgq object op) reply tt choice ahead
+    by_step (steps.Signal object op) reply choice ahead answered = elsewhere (steps.Signal object op) reply tt choice ahead
+    by_step (steps.Chan object op) reply choice ahead answered = elsewhere (steps.Chan object op) reply tt choice ahead
+    by_step (steps.Obs object op) reply choice ahead answered = elsewhere (steps.Obs object op) reply tt choice ahead
+    by_step (steps.LookItem object) reply choice ahead answered = elsewhere (steps.LookItem object) reply tt choice ahead
+    by_step (steps.LookSignal object must) reply choice ahead answered = elsewhere (steps.LookSignal object must) reply tt choice ahead
 
 good-first : (s : Parts) → IsValid s → IsGood s (first s)
 good-first s valid = record {
@@ -167,7 +169,7 @@ module _ (s : Parts) (w : World) (good : IsGood s w) (still : round (machines_of
   between queue within =
       let there = worker-at queue within in
       let is_done_at = list_all-at (λ at. is_done at.frames) w.players (length (places is_thread s.decls) + queue) there.0 done there.1 in
-      done-ahead s queue there.0.frames good.state.admissions (good.tended.tended queue there.0 there.1 within) is_done_at
+      done-ahead s queue there.0.frames good.state.admissions (good.tended.tended queue there.0 there.1 within).tends is_done_at
 
   none-for : (queue : ℕ) → queue < length (places is_queue s.decls) → All (λ a. waits_for queue a ≡ false) good.state.admissions
   none-for queue within =
@@ -177,7 +179,10 @@ module _ (s : Parts) (w : World) (good : IsGood s w) (still : round (machines_of
       let only = between queue within in
       let none = round-still (machines_of s) s w still unspent (threads + queue) at (omega (arith, good.all_there)) there.1 in
       let ahead : attempts s at ≡ steps.Work (ops.Begin queue) ∷ [] =
-      ap (λ b. cond b (frames_attempts s at.frames) []) (short-unspent at (none-passes is_spent_at w.players (threads + queue) at unspent there.1)) ∙ only.0 in
+      ap (λ b. cond b (checks_first (next_check s at.mode at.passed at.frames) (frames_attempts s at.frames)) [])
+      (short-unspent at (none-passes is_spent_at w.players (threads + queue) at unspent there.1))
+      ∙ ap (λ (mode : Mode). checks_first (next_check s mode at.passed at.frames) (frames_attempts s at.frames)) (good.tended.tended queue at there.1 within).supervises
+      ∙ only.0 in
       let first_none = sym (ap (first_possible (machines_of s) w.shown at.who) ahead) ∙ none in
       let not_begun : work_reply good.state at.who (ops.Begin queue) ≡ None =
       ap (λ (t : State). work_reply t at.who (ops.Begin queue)) good.tended.after
@@ -227,6 +232,7 @@ pub replayed : (s : Parts) (old w : World) (t : Trace) → IsValid s →
     t.ending ≡ ending_by w.players →
     t.work ≡ w.shown.work →
     t.clock ≡ w.shown.clock →
+    t.table ≡ w.shown.table →
     t.sems ≡ w.shown.sems →
     t.msgqs ≡ w.shown.msgqs →
     t.signals ≡ w.shown.signals →
@@ -236,7 +242,7 @@ pub replayed : (s : Parts) (old w : World) (t : Trace) → IsValid s →
     t.signal_looks ≡ signal_looks_of (length t.signals) t.logs →
     t.logs ≡ map log_of w.players →
     IsReplay s t
-replayed s old w t valid begins n so_far over end same_work same_clock same_sems same_msgqs same_signals same_chans same_observers same_item_looks same_signal_looks log =
+replayed s old w t valid begins n so_far over end same_work same_clock same_table same_sems same_msgqs same_signals same_chans same_observers same_item_looks same_signal_looks log =
     let run : IsRun (machines_of s) s w = (n, so_far ∙ ap (rounds (machines_of s) s n) begins, over) in
     let ends = ending-is s w valid run in
     let same : (record t { logs = t.logs }) ≡ trace_of s w = cc in

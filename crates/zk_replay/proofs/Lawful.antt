@@ -1,5 +1,5 @@
 -- The trace of a run is lawful.
-use Rattle.std.proofs.Common.{◌≡◌, ◌⊎◌, ℕ, ◌<◌, ◌≤◌, Bool, true, false, ◌&&◌, ◌||◌, cond, Option, Some, None, List, [], ◌∷◌, length, map, inl, inr, refl, sym, ap, subst, ◌∙◌, arith}
+use Rattle.std.proofs.Common.{◌≡◌, ◌⊎◌, ℕ, suc, ◌<◌, ◌≤◌, Bool, true, false, ◌&&◌, ◌||◌, cond, Option, Some, None, List, [], ◌∷◌, length, map, inl, inr, refl, sym, ap, subst, ◌∙◌, arith}
 use Rattle.std.specs.List.{slice_get, slice_set, list_any, list_all}
 use Rattle.std.specs.Option.{option_map, option_and_then}
 use Rattle.std.proofs.lemmas.Bool.{or_parts}
@@ -23,7 +23,7 @@ use Rattle.zk_worker.specs.declared.log.PlayerState.TheVariants as states
 use Rattle.zk_worker.specs.declared.log.Log.{Log}
 use Rattle.zk_worker.specs.Places.{At}
 use Rattle.zk_worker.specs.Protocol.{attempts, after, spot_of}
-use Rattle.zk_worker.specs.Follows.{log_of, is_done, is_spent_at, IsFollowing, Follows}
+use Rattle.zk_worker.specs.Follows.{is_dead, log_of, is_done, is_spent_at, IsFollowing, Follows}
 use Rattle.zk_worker.specs.Machines.{Machines, work_start_of, machines_of}
 use Rattle.zk_worker.specs.Shown.{Shown, shown_at, shown_after}
 use Rattle.zk_worker.specs.Single.{step_of}
@@ -45,7 +45,8 @@ use Rattle.zk_replay.proofs.StillRounds.{first_possible-is, rounds-keep}
 use Rattle.zk_replay.proofs.Readiness.{ready-stepped}
 use Rattle.zk_replay.proofs.Beginning.{ready-first, first-players}
 use Rattle.zk_replay.proofs.Endings.{there-is}
-use Rattle.zk_replay.proofs.Legality.{run-legal, Work, Clock, Sems, Msgqs, Signals, Chans, Observers}
+use Rattle.zk_replay.proofs.DeadPlayers.{dead-whole}
+use Rattle.zk_replay.proofs.Legality.{run-legal, Work, Clock, Table, Sems, Msgqs, Signals, Chans, Observers}
 use Rattle.zk_replay.proofs.OneRun.{none_goes_on}
 
 -- each entry is of a player that is there
@@ -55,6 +56,7 @@ AreKnown w = (spot : Spot) (number step : ℕ) → shown_at w.shown spot ≡ Som
 known-first : (s : Parts) → AreKnown (first s)
 known-first s (spots.Work place) number step is = absurd (cc)
 known-first s (spots.Clock place) number step is = absurd (cc)
+known-first s (spots.Table place) number step is = absurd (cc)
 known-first s (spots.Sem object place) number step is = absurd (none-there step_of s.decls object place (number, step) is)
 known-first s (spots.Msgq object place) number step is = absurd (none-there step_of s.decls object place (number, step) is)
 known-first s (spots.Signal object place) number step is = absurd (none-there step_of s.decls object place (number, step) is)
@@ -100,41 +102,47 @@ run-players s w run =
     (rounds-keep (machines_of s) s P (λ v p at new here unspent there choice. length-set v.players p (after s at new.0 new.1) ∙ here) run.0 (first s) (first-players s))
 
 -- what the logs say of the players
-spent-state : (a b : Bool) → is_spent_state (cond a states.Spent (cond b states.Done states.Standing)) ≡ a
-spent-state true b = refl
-spent-state false true = refl
-spent-state false false = refl
+spent-state : (a d b : Bool) → is_spent_state (cond a states.Spent (cond d states.Oops (cond b states.Done states.Standing))) ≡ a
+spent-state true d b = refl
+spent-state false true b = refl
+spent-state false false true = refl
+spent-state false false false = refl
 
-done-state : (a b : Bool) → a ≡ false → is_done_state (cond a states.Spent (cond b states.Done states.Standing)) ≡ b
-done-state true b unspent = absurd (cc)
-done-state false true unspent = refl
-done-state false false unspent = refl
+done-state : (a d b : Bool) → a ≡ false → (d ≡ true → b ≡ true) → is_done_state (cond a states.Spent (cond d states.Oops (cond b states.Done states.Standing))) ≡ b
+done-state true d b unspent whole = absurd (cc)
+done-state false true b unspent whole = sym (whole refl)
+done-state false false true unspent whole = refl
+done-state false false false unspent whole = refl
 
 any-spent : (xs : List At) → list_any (λ log. is_spent_state log.state) (map log_of xs) ≡ list_any is_spent_at xs
 any-spent [] = refl
 any-spent (x ∷ xs) =
-    ap (λ (b : Bool). b || (list_any (λ log. is_spent_state log.state) (map log_of xs))) (spent-state (is_spent_at x) (is_done x.frames))
+    ap (λ (b : Bool). b || (list_any (λ log. is_spent_state log.state) (map log_of xs))) (spent-state (is_spent_at x) (is_dead x.mode) (is_done x.frames))
     ∙ ap (λ (b : Bool). is_spent_at x || b) (any-spent xs)
 
-all-done : (xs : List At) → list_any is_spent_at xs ≡ false → list_all (λ log. is_done_state log.state) (map log_of xs) ≡ all_done xs
-all-done [] unspent = refl
-all-done (x ∷ xs) unspent =
+all-done : (xs : List At) → ((p : ℕ) (x : At) → slice_get xs p ≡ Some x → is_dead x.mode ≡ true → is_done x.frames ≡ true) → list_any is_spent_at xs ≡ false →
+    list_all (λ log. is_done_state log.state) (map log_of xs) ≡ all_done xs
+all-done [] whole unspent = refl
+all-done (x ∷ xs) whole unspent =
     let both = or_parts (is_spent_at x) (list_any is_spent_at xs) unspent in
-    ap (λ (b : Bool). b && list_all (λ log. is_done_state log.state) (map log_of xs)) (done-state (is_spent_at x) (is_done x.frames) both.0)
-    ∙ ap (λ (b : Bool). is_done x.frames && b) (all-done xs both.1)
+    ap (λ (b : Bool). b && list_all (λ log. is_done_state log.state) (map log_of xs)) (done-state (is_spent_at x) (is_dead x.mode) (is_done x.frames) both.0 (whole 0 x refl))
+    ∙ ap (λ (b : Bool). is_done x.frames && b) (all-done xs (λ p y there. whole (suc p) y there) both.1)
 
-ends-so : (s : Parts) (w : World) → ending_of s w ≡ lawful_ending s (trace_of s w)
-ends-so s w =
+ends-so : (s : Parts) (w : World) → IsReady s w → ending_of s w ≡ lawful_ending s (trace_of s w)
+ends-so s w ready =
     by_spent (is_spent w) refl
     ∙ sym (ap (λ (b : Bool). cond b Spent (cond (list_all (λ log. is_done_state log.state) (map log_of w.players) && waits) Ended Stuck)) (any-spent w.players))
   where
+    whole : (p : ℕ) (at : At) → slice_get w.players p ≡ Some at → is_dead at.mode ≡ true → is_done at.frames ≡ true
+    whole p at there dead = ap is_done (dead-whole s p w.shown at (ready.follow p at there) dead)
+
     waits : Bool
     waits = none_waits (state_after work_machine (work_start_of s) w.shown.work)
 
     by_spent : (b : Bool) → is_spent w ≡ b → cond b Spent (cond (all_done w.players && none_waits (state_after work_machine (work_start_of s) w.shown.work)) Ended Stuck)
         ≡ cond b Spent (cond (list_all (λ log. is_done_state log.state) (map log_of w.players) && none_waits (state_after work_machine (work_start_of s) w.shown.work)) Ended Stuck)
     by_spent true spent = refl
-    by_spent false unspent = sym (ap (λ (d : Bool). cond (d && none_waits (state_after work_machine (work_start_of s) w.shown.work)) Ended Stuck) (all-done w.players unspent))
+    by_spent false unspent = sym (ap (λ (d : Bool). cond (d && none_waits (state_after work_machine (work_start_of s) w.shown.work)) Ended Stuck) (all-done w.players whole unspent))
 
 -- where the ending isn't spent, no player has made all its steps
 unspent-ending : (s : Parts) (w : World) → (ending_of s w ≡ Spent → ⊥) → is_spent w ≡ false
@@ -201,7 +209,7 @@ module _ (s : Parts) (w : World) (valid : IsValid s) (run : IsRun (machines_of s
   legal : AreLegal s (trace_of s w)
   legal =
       let shown = run-legal s w valid run in
-      record { work = shown Work; clock = shown Clock; sems = shown Sems; msgqs = shown Msgqs; signals = shown Signals; chans = shown Chans; observers = shown Observers }
+      record { work = shown Work; clock = shown Clock; table = shown Table; sems = shown Sems; msgqs = shown Msgqs; signals = shown Signals; chans = shown Chans; observers = shown Observers }
 
   lawful-run : IsLawful s (trace_of s w)
   lawful-run = record {
@@ -210,7 +218,7 @@ module _ (s : Parts) (w : World) (valid : IsValid s) (run : IsRun (machines_of s
     log = record { logged = length-map w.players log_of ∙ run-players s w run; follow = follows };
     look = right;
     ending = record {
-      ends = ends-so s w;
+      ends = ends-so s w known.0;
       halts = λ never number log is.
           let found = there-mapped log_of w.players number log is in
           ap (λ (x : Shown). chosen (machines_of s) s x found.0) shown-same

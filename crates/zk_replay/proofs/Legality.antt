@@ -28,7 +28,7 @@ use Rattle.zk_worker.specs.Single.{answer_in}
 use Rattle.zk_worker.specs.Families.{Family, start_of, no_entries, with_entry, answer_at, takes_at}
 use Rattle.zk_worker.specs.Shown.{Shown, shown_after, IsLater}
 use Rattle.zk_worker.specs.Attempt.{reply_in, takes}
-use Rattle.zk_worker.proofs.Between.{above-work, above-clock, above-sems, above-msgqs, above-signals, above-chans, above-observers, log-later}
+use Rattle.zk_worker.proofs.Between.{above-work, above-clock, above-table, above-sems, above-msgqs, above-signals, above-chans, above-observers, log-later}
 use Rattle.zk_worker.proofs.Ranges.{ahead-takes}
 use Rattle.zk_worker.proofs.ShownSteps.{made-of}
 use Rattle.zk_worker.proofs.Lists.{none-passes}
@@ -44,6 +44,7 @@ use Rattle.zk_replay.proofs.Beginning.{ready-first}
 pub data Service : Type 0 where
   Work : Service
   Clock : Service
+  Table : Service
   Sems : Service
   Msgqs : Service
   Signals : Service
@@ -54,6 +55,7 @@ pub data Service : Type 0 where
 abbrev pub IsLegalOf : Machines → Shown → Service → Type 0
 IsLegalOf m shown Work = IsLegal m.work m.work_start shown.work
 IsLegalOf m shown Clock = IsLegal m.clock m.clock_start shown.clock
+IsLegalOf m shown Table = IsLegal m.table m.table_start shown.table
 IsLegalOf m shown Sems = EachLegal m.sems shown.sems
 IsLegalOf m shown Msgqs = EachLegal m.msgqs shown.msgqs
 IsLegalOf m shown Signals = EachLegal m.signals shown.signals
@@ -143,6 +145,11 @@ legal-after m shown who number (steps.Clock op) (step_replies.Clock reply place)
     let same : one.0 ≡ reply = cc in
     IsLegal-snoc m.clock m.clock_start shown.clock (entry who number op reply) (legal Clock) (one.1 ∙ ap Some same) (above-clock shown who.number number later) taken
 legal-after m shown who number (steps.Clock op) (step_replies.Clock reply place) legal answered taken later other = legal other
+legal-after m shown who number (steps.Table op) (step_replies.Table reply place) legal answered taken later Table =
+    let one = one-answer m.table m.table_start shown.table step_replies.Table who op (step_replies.Table reply place) answered in
+    let same : one.0 ≡ reply = cc in
+    IsLegal-snoc m.table m.table_start shown.table (entry who number op reply) (legal Table) (one.1 ∙ ap Some same) (above-table shown who.number number later) taken
+legal-after m shown who number (steps.Table op) (step_replies.Table reply place) legal answered taken later other = legal other
 legal-after m shown who number (steps.Sem object op) (step_replies.Sem at reply place) legal answered taken later Sems =
     let one = one-of-many m.sems shown.sems step_replies.Sem who object op (step_replies.Sem at reply place) answered in
     let same : one.reply ≡ reply = let tells = one.tells in cc in
@@ -180,6 +187,7 @@ legal-after m shown who number step reply legal answered taken later service = l
 legal-first : (s : Parts) → IsLegalShown (machines_of s) (first s).shown
 legal-first s Work = IsLegal-nil (machines_of s).work (machines_of s).work_start
 legal-first s Clock = IsLegal-nil (machines_of s).clock (machines_of s).clock_start
+legal-first s Table = IsLegal-nil (machines_of s).table (machines_of s).table_start
 legal-first s Sems = none-legal sem_machine sem_start s.decls
 legal-first s Msgqs = none-legal msgq_machine msgq_start s.decls
 legal-first s Signals = none-legal signal_machine signal_start s.decls

@@ -40,14 +40,19 @@ use Rattle.zk_worker.specs.declared.frames.Closing.{Closing}
 use Rattle.zk_worker.specs.declared.frames.Closing.TheVariants as closings
 use Rattle.zk_words.specs.declared.word.Word.{Word}
 use Rattle.zk_worker.specs.Places.{At}
-use Rattle.zk_worker.specs.Protocol.{call_attempts, frames_attempts, frames_progress, frames_after, call_progress, run_progress, is_over, settled, entered, first_frame, starting, start_at, after}
+use Rattle.zk_worker.specs.declared.checks.Mode.{Mode}
+use Rattle.zk_worker.specs.declared.checks.Mode.TheVariants.{Supervisor}
+use Rattle.zk_worker.specs.Checks.{next_check, mode_after}
+use Rattle.zk_worker.proofs.CheckedSteps.{turn}
+use Rattle.zk_worker.specs.Protocol.{IsAhead, call_attempts, frames_attempts, frames_progress, frames_after, call_progress, run_progress, is_over, settled, entered, first_frame, starting, start_at, after}
 use Rattle.zk_worker.specs.Machines.{workers, work_start_of, is_on}
 use Rattle.zk_worker.proofs.Lists.{slice_get-set}
 use Rattle.zk_replay.specs.RoundRobin.{World, starts, first, stepped}
-use Rattle.zk_replay.specs.Tending.{IsIdle, IsWorkers, IsScript, Tends, IsTended}
+use Rattle.zk_replay.specs.Tending.{IsIdle, IsWorkers, IsScript, Tends, Works, IsTended}
 use Rattle.zk_model_work.proofs.Runs.{IsCalled, idle-called, idle-ended, idle-next, begin-told, homes-next, workers-next}
 use Rattle.zk_model_work.specs.declared.ops.WorkReply.TheVariants as replies
 use Rattle.zk_model_bus.specs.declared.channel.ChanOp.TheVariants as chan_ops
+use Rattle.zk_model_bus.specs.declared.table.TableOp.TheVariants as table_ops
 use Rattle.zk_words.specs.declared.timeout.Timeout.{Timeout}
 use Rattle.zk_words.specs.declared.timeout.Timeout.TheVariants.{No, Forever, Ticks}
 use Rattle.zk_worker.specs.declared.frames.Waiting.{Waiting}
@@ -151,10 +156,15 @@ none-elsewhere s queue (Worker object) next Runs admissions step k elsewhere ten
     subst IsElsewhere (sym (slice_get-one (steps.Work (ops.End (number_of s.decls object))) step k is)) elsewhere
 none-elsewhere s queue role next stage admissions step k elsewhere tends is = tends
 
--- what a call of a script asks of a service
+-- what a call of a script asks of a service, and it makes nobody a user
 abbrev IsCalledStep : Step → Type 0
 IsCalledStep (steps.Work op) = IsCalled op
+IsCalledStep (steps.Table table_ops.EnterUser) = ⊥
 IsCalledStep step = Unit {0}
+
+stays-supervisor : (step : Step) → IsCalledStep step → mode_after Supervisor step ≡ Supervisor
+stays-supervisor (steps.Table table_ops.EnterUser) called = absurd called
+stays-supervisor step called = refl
 
 -- the steps that a call names are such
 abbrev IsCalledPlan : Plan → Type 0
@@ -275,6 +285,11 @@ attempts-called (Poll timeout events) stage called = poll-called timeout events 
 attempts-called (Channel chan using_ timeout) stage called = channel-called chan using_ timeout stage
 attempts-called plan stage called = All-nil IsCalledStep
 
+call-called : (decls : List Decl) (call : Option Call) (stage : Stage) (step : Step) (k : ℕ) → slice_get (call_attempts decls call stage) k ≡ Some step → IsCalledStep step
+call-called decls None stage step k is = absurd (cc)
+call-called decls (Some call) stage step k is =
+    All-at IsCalledStep (plan_attempts (plan_of decls call) stage) k step (attempts-called (plan_of decls call) stage (plan_of-called decls call)) is
+
 -- the scripts of a worker after a step of the innermost one, which leaves the queue idle where a call asks for it
 own-script : (s : Parts) (queue : ℕ) (frame next : Frame) (below : List Frame) (step : Step) (reply : StepReply) (k : ℕ) (call : Option Call) (old new : List Admission) →
     (IsCalledStep step → IsIdle queue old → IsIdle queue new) → IsScript frame.role → Tends s.decls queue (next ∷ below) old →
@@ -285,7 +300,7 @@ own-script s queue frame next below step reply k (Some call) old new keeps scrip
     by_progress (plan_progress (word_of call) (plan_of s.decls call) frame.stage step reply)
   where
     called : IsCalledStep step
-    called = All-at IsCalledStep (plan_attempts (plan_of s.decls call) frame.stage) k step (attempts-called (plan_of s.decls call) frame.stage (plan_of-called s.decls call)) is
+    called = call-called s.decls (Some call) frame.stage step k is
 
     kept : Tends s.decls queue (next ∷ below) new
     kept = tends-keep s.decls queue (next ∷ below) old new (keeps called) tends
@@ -332,6 +347,41 @@ tends-elsewhere s queue (frame ∷ []) admissions step reply k elsewhere tends i
 tends-elsewhere s queue (frame ∷ next ∷ below) admissions step reply k elsewhere tends is =
     own-scripts s queue frame next below step reply k admissions admissions (λ called idle. idle) tends is
 
+-- a worker stays a supervisor
+own-supervises : (s : Parts) (queue : ℕ) (frames : List Frame) (admissions : List Admission) (step : Step) (k : ℕ) →
+    Tends s.decls queue frames admissions → slice_get (frames_attempts s frames) k ≡ Some step → mode_after Supervisor step ≡ Supervisor
+own-supervises s queue [] admissions step k tends is = absurd tends
+own-supervises s queue (frame ∷ []) admissions step k tends is = by_role frame.role frame.next frame.stage tends is
+  where
+    by_role : (role : Role) (next : ℕ) (stage : Stage) → IsWorkers s.decls queue role stage admissions →
+        slice_get (frames_attempts s (record { role = role; next = next; stage = stage } ∷ [])) k ≡ Some step → mode_after Supervisor step ≡ Supervisor
+    by_role (Worker object) next Start tends is =
+        subst (λ (made : Step). mode_after Supervisor made ≡ Supervisor) (slice_get-one (steps.Work (ops.Begin (number_of s.decls object))) step k is) refl
+    by_role (Worker object) next Runs tends is =
+        subst (λ (made : Step). mode_after Supervisor made ≡ Supervisor) (slice_get-one (steps.Work (ops.End (number_of s.decls object))) step k is) refl
+    by_role role next stage tends is = absurd tends
+own-supervises s queue (frame ∷ next ∷ below) admissions step k tends is = by_role frame.role frame.next frame.stage tends.0 is
+  where
+    by_role : (role : Role) (at : ℕ) (stage : Stage) → IsScript role →
+        slice_get (frames_attempts s (record { role = role; next = at; stage = stage } ∷ next ∷ below)) k ≡ Some step → mode_after Supervisor step ≡ Supervisor
+    by_role (Script owner) at stage script is = stays-supervisor step (call-called s.decls (slice_get (calls_of s.scripts owner) at) stage step k is)
+    by_role (Worker object) at stage script is = absurd script
+
+-- it goes on with what it has open: no call of it is checked
+works-on : (s : Parts) (queue : ℕ) (at : At) (step : Step) (reply : StepReply) (old new : List Admission) → Works s.decls queue at old →
+    ((k : ℕ) → slice_get (frames_attempts s at.frames) k ≡ Some step → Tends s.decls queue (frames_after s at.frames (frames_progress s at.frames step reply)) new) →
+    IsAhead s at step → Works s.decls queue (after s at step reply) new
+works-on s queue at step reply old new works next ahead =
+    turn (λ a. Works s.decls queue a new) s at step reply ahead
+    (λ check. let none = ap (λ (mode : Mode). next_check s mode at.passed at.frames) (sym works.supervises) ∙ check.comes in absurd (cc))
+    (λ own. record {
+      supervises = ap (λ (mode : Mode). mode_after mode step) works.supervises ∙ own-supervises s queue at.frames old step own.index works.tends own.ahead;
+      tends = next own.index own.ahead;
+    })
+
+works-keep : (ds : List Decl) (queue : ℕ) (at : At) (old new : List Admission) → (IsIdle queue old → IsIdle queue new) → Works ds queue at old → Works ds queue at new
+works-keep ds queue at old new keeps works = record { supervises = works.supervises; tends = tends-keep ds queue at.frames old new keeps works.tends }
+
 -- a number of a row
 row-at : (a n i : ℕ) → i < n → slice_get (range_with_len a n) i ≡ Some (a + i)
 row-at a n i within =
@@ -350,10 +400,10 @@ many-queues s w st tended =
     sym (length-map st.queues (λ (q : Queue). q.worker)) ∙ workers_long ∙ row
 
 -- each worker tends its queue after a step of any player
-pub tended-step : (s : Parts) (w : World) (st : State) (p : ℕ) (at : At) (op : WorkOp) (reply : WorkReply) (place k : ℕ) → IsTended s w st → slice_get w.players p ≡ Some at → at.who.number ≡ p →
-    slice_get (frames_attempts s at.frames) k ≡ Some (steps.Work op) → work_reply st at.who op ≡ Some reply →
+pub tended-step : (s : Parts) (w : World) (st : State) (p : ℕ) (at : At) (op : WorkOp) (reply : WorkReply) (place : ℕ) → IsTended s w st → slice_get w.players p ≡ Some at → at.who.number ≡ p →
+    IsAhead s at (steps.Work op) → work_reply st at.who op ≡ Some reply →
     IsTended s (stepped s w p at (Some (steps.Work op, step_replies.Work reply place))) (work_next st at.who op)
-tended-step s w st p at op reply place k tended is number ahead made = record {
+tended-step s w st p at op reply place tended is number ahead made = record {
   after = ap (λ (t : State). work_next t at.who op) tended.after ∙ sym (state_after-snoc work_machine (work_start_of s) w.shown.work (entry at.who (length at.spots) op reply));
   homes = homes-next (length (places is_queue s.decls)) st at.who op (many-queues s w st tended) tended.homes;
   has_workers = workers-next st at.who op ∙ tended.has_workers;
@@ -363,13 +413,14 @@ tended-step s w st p at op reply place k tended is number ahead made = record {
     by_place : (queue : ℕ) (other : At) → queue < length (places is_queue s.decls) →
         ((length (places is_thread s.decls) + queue ≡ p) × (other ≡ after s at (steps.Work op) (step_replies.Work reply place)))
         ⊎ ((length (places is_thread s.decls) + queue ≢ p) × (slice_get w.players (length (places is_thread s.decls) + queue) ≡ Some other)) →
-        Tends s.decls queue other.frames (work_next st at.who op).admissions
+        Works s.decls queue other (work_next st at.who op).admissions
     by_place queue other within (inl same) =
         let mine = tended.tended queue at (ap (λ (n : ℕ). slice_get w.players n) same.0 ∙ is) within in
-        subst (λ (o : At). Tends s.decls queue o.frames (work_next st at.who op).admissions) (sym same.1)
-        (tends-own s st at.who queue at.frames op reply place k mine ahead made)
+        subst (λ (o : At). Works s.decls queue o (work_next st at.who op).admissions) (sym same.1)
+        (works-on s queue at (steps.Work op) (step_replies.Work reply place) st.admissions (work_next st at.who op).admissions mine
+        (λ k own. tends-own s st at.who queue at.frames op reply place k mine.tends own made) ahead)
     by_place queue other within (inr apart) =
-        tends-keep s.decls queue other.frames st.admissions (work_next st at.who op).admissions
+        works-keep s.decls queue other st.admissions (work_next st at.who op).admissions
         (idle-next st at.who op reply queue (length (places is_thread s.decls) + queue) (worker-of s w st queue tended within) (λ same. apart.0 (sym same ∙ number)) made)
         (tended.tended queue other apart.1 within)
 
@@ -377,6 +428,7 @@ tended-step s w st p at op reply place k tended is number ahead made = record {
 work-stays : (shown : Shown) (who : Who) (number : ℕ) (step : Step) (reply : StepReply) → IsElsewhere step → (shown_after shown who number step reply).work ≡ shown.work
 work-stays shown who number (steps.Work op) reply elsewhere = absurd elsewhere
 work-stays shown who number (steps.Clock op) (step_replies.Clock reply place) elsewhere = refl
+work-stays shown who number (steps.Table op) (step_replies.Table reply place) elsewhere = refl
 work-stays shown who number (steps.Sem object op) (step_replies.Sem at reply place) elsewhere = refl
 work-stays shown who number (steps.Msgq object op) (step_replies.Msgq at reply place) elsewhere = refl
 work-stays shown who number (steps.Signal object op) (step_replies.Signal at reply place) elsewhere = refl
@@ -386,9 +438,9 @@ work-stays shown who number (steps.LookItem object) (step_replies.Flags flags at
 work-stays shown who number step reply elsewhere = refl
 
 -- and after a step at another service
-pub tended-elsewhere : (s : Parts) (w : World) (st : State) (p : ℕ) (at : At) (step : Step) (reply : StepReply) (k : ℕ) → IsElsewhere step → IsTended s w st → slice_get w.players p ≡ Some at →
-    slice_get (frames_attempts s at.frames) k ≡ Some step → IsTended s (stepped s w p at (Some (step, reply))) st
-tended-elsewhere s w st p at step reply k elsewhere tended is ahead = record {
+pub tended-elsewhere : (s : Parts) (w : World) (st : State) (p : ℕ) (at : At) (step : Step) (reply : StepReply) → IsElsewhere step → IsTended s w st → slice_get w.players p ≡ Some at →
+    IsAhead s at step → IsTended s (stepped s w p at (Some (step, reply))) st
+tended-elsewhere s w st p at step reply elsewhere tended is ahead = record {
   after = tended.after ∙ ap (state_after work_machine (work_start_of s)) (sym (work-stays w.shown at.who (length at.spots) step reply elsewhere));
   homes = tended.homes;
   has_workers = tended.has_workers;
@@ -398,11 +450,12 @@ tended-elsewhere s w st p at step reply k elsewhere tended is ahead = record {
     by_place : (queue : ℕ) (other : At) → queue < length (places is_queue s.decls) →
         ((length (places is_thread s.decls) + queue ≡ p) × (other ≡ after s at step reply))
         ⊎ ((length (places is_thread s.decls) + queue ≢ p) × (slice_get w.players (length (places is_thread s.decls) + queue) ≡ Some other)) →
-        Tends s.decls queue other.frames st.admissions
+        Works s.decls queue other st.admissions
     by_place queue other within (inl same) =
         let mine = tended.tended queue at (ap (λ (n : ℕ). slice_get w.players n) same.0 ∙ is) within in
-        subst (λ (o : At). Tends s.decls queue o.frames st.admissions) (sym same.1)
-        (tends-elsewhere s queue at.frames st.admissions step reply k elsewhere mine ahead)
+        subst (λ (o : At). Works s.decls queue o st.admissions) (sym same.1)
+        (works-on s queue at step reply st.admissions st.admissions mine
+        (λ k own. tends-elsewhere s queue at.frames st.admissions step reply k elsewhere mine.tends own) ahead)
     by_place queue other within (inr apart) = tended.tended queue other apart.1 within
 
 -- the object of the n-th place of a kind has n before it
@@ -428,14 +481,14 @@ behind-first (x ∷ xs) ys q = let same : length (x ∷ xs) + q ≡ suc (length 
 
 -- the worker of a queue starts between two runs
 starting-tends : (s : Parts) (number queue object : ℕ) (decl : Decl) → is_queue decl ≡ true → slice_get s.decls object ≡ Some decl → count_by is_queue (take object s.decls) ≡ queue →
-    Tends s.decls queue (starting s number object decl).frames []
+    Works s.decls queue (starting s number object decl) []
 starting-tends s number queue object (decls.Queue name prio on) kind is count =
     let here : number_of s.decls object ≡ queue = ap (λ (o : Option Decl). option_map_or (λ d. count_by (same_kind d) (take object s.decls)) o 0) is ∙ count in
     let P : Admission → Type 0 = λ a. runs_on queue a ≡ false in
-    (here, All-nil P)
+    record { supervises = refl; tends = (here, All-nil P) }
 starting-tends s number queue object decl kind is count = absurd (cc)
 
-start-tends : (s : Parts) (queue : ℕ) (at : At) → start_at s (length (places is_thread s.decls) + queue) ≡ Some at → Tends s.decls queue at.frames []
+start-tends : (s : Parts) (queue : ℕ) (at : At) → start_at s (length (places is_thread s.decls) + queue) ≡ Some at → Works s.decls queue at []
 start-tends s queue at is =
     let number = length (places is_thread s.decls) + queue in
     let inner : ℕ → Option At = λ object. option_map (starting s number object) (slice_get s.decls object) in
@@ -443,14 +496,14 @@ start-tends s queue at is =
     (placed is_queue 0 s.decls queue object (sym (behind-first (places is_thread s.decls) (places is_queue s.decls) queue) ∙ found)) made)
   where
     by_place : (object : ℕ) → (k : ℕ) × (object ≡ 0 + k) × (d : Decl) × (slice_get s.decls k ≡ Some d) × (is_queue d ≡ true) × (count_by is_queue (take k s.decls) ≡ queue) →
-        option_map (starting s (length (places is_thread s.decls) + queue) object) (slice_get s.decls object) ≡ Some at → Tends s.decls queue at.frames []
+        option_map (starting s (length (places is_thread s.decls) + queue) object) (slice_get s.decls object) ≡ Some at → Works s.decls queue at []
     by_place object there made =
         let number = length (places is_thread s.decls) + queue in
         let same : there.0 ≡ object = omega (arith, there.1) in
         let declared : slice_get s.decls object ≡ Some there.2 = ap (λ (n : ℕ). slice_get s.decls n) (sym same) ∙ there.3 in
         let it : Some (starting s number object there.2) ≡ Some at = sym (ap (option_map (starting s number object)) declared) ∙ made in
         let is_it : starting s number object there.2 ≡ at = cc in
-        subst (λ (a : At). Tends s.decls queue a.frames []) is_it
+        subst (λ (a : At). Works s.decls queue a []) is_it
         (starting-tends s number queue object there.2 there.4 declared (ap (λ (n : ℕ). count_by is_queue (take n s.decls)) (sym same) ∙ there.5))
 
 fresh-workers : (ws : List ℕ) (on : List Bool) → length ws ≡ length on → map (λ (q : Queue). q.worker) (fresh_queues ws on) ≡ ws

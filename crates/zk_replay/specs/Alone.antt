@@ -5,9 +5,11 @@ use Rattle.zk_model_wait.specs.Msgq.{msgq_machine}
 use Rattle.zk_model_wait.specs.Signal.{signal_machine}
 use Rattle.zk_model_bus.specs.Channel.{chan_machine}
 use Rattle.zk_model_bus.specs.Observer.{obs_machine}
+use Rattle.zk_model_bus.specs.Table.{table_machine}
 use Rattle.zk_model_work.specs.Machine.{work_machine}
 use Rattle.zk_bus.specs.Seen.{chan_start, chan_history}
 use Rattle.zk_msgq.specs.Seen.{msgq_start, msgq_history}
+use Rattle.zk_objects.specs.Seen.{objects_start, objects_history}
 use Rattle.zk_poll.specs.Seen.{signal_start, signal_history}
 use Rattle.zk_sem.specs.Seen.{sem_start, sem_history}
 use Rattle.zk_subq.specs.Seen.{obs_start, obs_history}
@@ -26,6 +28,8 @@ plain_machines p = record {
   items = p.items.items;
   clock = clock_machine;
   clock_start = clock_start p.clock;
+  table = table_machine;
+  table_start = objects_start p.table;
   sems = record { machine = sem_machine; starts = starts_of sem_start p.sems.items };
   msgqs = record { machine = msgq_machine; starts = starts_of msgq_start p.msgqs.items };
   signals = record { machine = signal_machine; starts = starts_of signal_start p.signals.items };
@@ -38,6 +42,7 @@ abbrev pub plain_shown : Plain → Shown
 plain_shown p = record {
   work = work_history p.work;
   clock = clock_history p.clock;
+  table = objects_history p.table;
   sems = histories_of sem_history p.sems.items;
   msgqs = histories_of msgq_history p.msgqs.items;
   signals = histories_of signal_history p.signals.items;

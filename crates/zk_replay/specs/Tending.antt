@@ -7,6 +7,7 @@ use Rattle.zk_model_work.specs.declared.parts.Admission.{Admission}
 use Rattle.zk_model_work.specs.Questions.{runs_on}
 use Rattle.zk_model_work.specs.State.{State}
 use Rattle.zk_model_work.specs.Machine.{work_machine}
+use Rattle.zk_worker.specs.declared.checks.Mode.TheVariants.{Supervisor}
 use Rattle.zk_worker.specs.declared.frames.Frame.{Frame}
 use Rattle.zk_worker.specs.declared.frames.Role.{Role}
 use Rattle.zk_worker.specs.declared.frames.Role.TheVariants.{Script, Worker}
@@ -39,7 +40,12 @@ Tends decls queue (frame ∷ []) admissions = IsWorkers decls queue frame.role f
 Tends decls queue (frame ∷ next ∷ below) admissions =
     IsScript frame.role × Tends decls queue (next ∷ below) admissions
 
--- each admission is to a queue, each queue has its worker, and each worker tends its queue
+-- a player works at a queue: it tends the queue, and is no user
+pub record Works (decls : List Decl) (queue : ℕ) (at : At) (admissions : List Admission) : Type 0 where
+  pub supervises : at.mode ≡ Supervisor
+  pub tends : Tends decls queue at.frames admissions
+
+-- each admission is to a queue, each queue has its worker, and each worker works at its queue
 pub record IsTended (s : Parts) (w : World) (state : State) : Type 0 where
   pub after : state ≡ state_after work_machine (work_start_of s) w.shown.work
   pub homes : All (λ a. a.queue < length (places is_queue s.decls)) state.admissions
@@ -47,4 +53,4 @@ pub record IsTended (s : Parts) (w : World) (state : State) : Type 0 where
   pub tended : (queue : ℕ) (at : At) →
       slice_get w.players (length (places is_thread s.decls) + queue) ≡ Some at →
       queue < length (places is_queue s.decls) →
-      Tends s.decls queue at.frames state.admissions
+      Works s.decls queue at state.admissions

@@ -8,12 +8,13 @@ use crate::objects::{act_at, histories_of};
 use std::alloc::Global;
 use zk_base::{Entry, Listed, NoMemory, Seen, Service, Who};
 use zk_bus::Channel;
-use zk_model_bus::{ChanOp, ChanReply, ObsOp, ObsReply};
+use zk_model_bus::{ChanOp, ChanReply, ObsOp, ObsReply, TableOp, TableReply};
 use zk_model_wait::{
     ClockOp, ClockReply, MsgqOp, MsgqReply, SemOp, SemReply, SignalOp, SignalReply,
 };
 use zk_model_work::{WorkOp, WorkReply};
 use zk_msgq::Msgq;
+use zk_objects::Objects;
 use zk_poll::Signal;
 use zk_sem::Sem;
 use zk_subq::Observer;
@@ -29,6 +30,8 @@ pub struct Histories {
     pub work: History<WorkOp, WorkReply>,
     /// Those of the clock.
     pub clock: History<ClockOp, ClockReply>,
+    /// Those of the object table.
+    pub table: History<TableOp, TableReply>,
     /// Those of each semaphore, by object number; an object of another kind has none.
     pub sems: Listed<History<SemOp, SemReply>>,
     /// Those of each message queue, likewise.
@@ -50,6 +53,8 @@ pub struct Plain {
     pub items: Vec<Option<u32>>,
     /// The clock service.
     pub clock: Clock,
+    /// The object table.
+    pub table: Objects,
     /// Each semaphore, by object number; an object of another kind has none.
     pub sems: Vec<Option<Sem>>,
     /// Each message queue, likewise.
@@ -67,6 +72,7 @@ impl Plain {
     pub fn into_histories(self, alloc: Global) -> Result<Histories, NoMemory>
         ensures work { IfOk result (λ all. all.work ≡ (plain_shown self).work) }
         ensures clock { IfOk result (λ all. all.clock ≡ (plain_shown self).clock) }
+        ensures table { IfOk result (λ all. all.table ≡ (plain_shown self).table) }
         ensures sems { IfOk result (λ all. all.sems ≡ (plain_shown self).sems) }
         ensures msgqs { IfOk result (λ all. all.msgqs ≡ (plain_shown self).msgqs) }
         ensures signals { IfOk result (λ all. all.signals ≡ (plain_shown self).signals) }
@@ -76,6 +82,7 @@ impl Plain {
         Ok(Histories {
             work: History::from_vec(self.work.into_history()),
             clock: History::from_vec(self.clock.into_history()),
+            table: History::from_vec(self.table.into_history()),
             sems: histories_of(alloc, self.sems)?,
             msgqs: histories_of(alloc, self.msgqs)?,
             signals: histories_of(alloc, self.signals)?,
@@ -155,6 +162,11 @@ impl Services for Plain {
                 let place = self.clock.history().len() as u64;
                 let reply = self.clock.act(who, number, *op)?;
                 Ok(reply.map(|reply| StepReply::Clock(reply, place)))
+            }
+            Step::Table(op) => {
+                let place = self.table.history().len() as u64;
+                let reply = self.table.act(who, number, *op)?;
+                Ok(reply.map(|reply| StepReply::Table(reply, place)))
             }
             Step::Sem(object, op) => {
                 let made = act_at(&mut self.sems, *object, who, number, *op)?;

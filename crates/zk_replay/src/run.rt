@@ -25,6 +25,7 @@ ghost use Rattle.zk_replay.specs.Over.{IsOver};
 
 use crate::looks::{item_looks, signal_looks};
 use crate::plain::Plain;
+use crate::table::first_table;
 use crate::turns::play_rounds;
 use std::alloc::Global;
 use zk_base::{NewRefused, NoMemory};
@@ -114,7 +115,7 @@ fn first_sem(alloc: Global, decl: &Decl) -> Option<Sem>
     ensures none { history_of sem_history result ≡ [] }
 {
     match decl {
-        Decl::Sem(_, initial, limit) => match Sem::new(alloc, *initial, *limit) {
+        Decl::Sem(_, initial, limit, _) => match Sem::new(alloc, *initial, *limit) {
             Ok(sem) => Some(sem),
             Err(_) => unreachable!(),
         },
@@ -144,7 +145,7 @@ fn first_msgq(alloc: Global, decl: &Decl) -> Result<Option<Msgq>, NoMemory>
     ensures none { IfOk result (λ msgq. history_of msgq_history msgq ≡ []) }
 {
     match decl {
-        Decl::Msgq(_, size, most) => match Msgq::new(alloc, *size, *most) {
+        Decl::Msgq(_, size, most, _) => match Msgq::new(alloc, *size, *most) {
             Ok(msgq) => Ok(Some(msgq)),
             Err(NewRefused::NoMemory) => Err(NoMemory),
             Err(NewRefused::Inval) => unreachable!(),
@@ -174,7 +175,7 @@ fn first_signal(alloc: Global, decl: &Decl) -> Option<Signal>
     ensures none { history_of signal_history result ≡ [] }
 {
     match decl {
-        Decl::Signal(_) => Some(Signal::new(alloc)),
+        Decl::Signal(..) => Some(Signal::new(alloc)),
         _ => None,
     }
 }
@@ -261,6 +262,7 @@ pub fn first_services(alloc: Global, scenario: &Scenario) -> Result<Plain, NoMem
         work: first_work(alloc, scenario)?,
         items: item_numbers(alloc, scenario)?,
         clock: Clock::new(alloc),
+        table: first_table(alloc, scenario)?,
         sems: first_sems(alloc, scenario.decls())?,
         msgqs: first_msgqs(alloc, scenario.decls())?,
         signals: first_signals(alloc, scenario.decls())?,
@@ -338,6 +340,7 @@ pub fn replay(alloc: Global, scenario: &Scenario) -> Result<Trace, NoMemory>
         ending,
         work: all.work,
         clock: all.clock,
+        table: all.table,
         sems: all.sems,
         msgqs: all.msgqs,
         signals: all.signals,

@@ -12,6 +12,7 @@ made c = record {
   work = c.in_ok-first_work.field-0;
   items = c.in_ok-item_numbers.field-0;
   clock = c.new.result;
+  table = c.in_ok-first_table.field-0;
   sems = c.in_ok-first_sems.field-0;
   msgqs = c.in_ok-first_msgqs.field-0;
   signals = c.in_ok-first_signals.field-0;
@@ -21,7 +22,7 @@ made c = record {
 
 pub returns-clause-machines : goal.returns-clause-machines
 returns-clause-machines c =
-    machines-first c.args.scenario.now (made c) c.in_ok-first_work.ensures.start c.in_ok-item_numbers.ensures c.new.ensures.start
+    machines-first c.args.scenario.now (made c) c.in_ok-first_work.ensures.start c.in_ok-item_numbers.ensures c.new.ensures.start c.in_ok-first_table.ensures.start
     (c.in_ok-first_sems.ensures.starts ∙ ap (map machines.sem_start) c.decls.ensures.all)
     (c.in_ok-first_msgqs.ensures.starts ∙ ap (map machines.msgq_start) c.decls-2.ensures.all)
     (c.in_ok-first_signals.ensures.starts ∙ ap (map machines.signal_start) c.decls-3.ensures.all)
@@ -30,7 +31,7 @@ returns-clause-machines c =
 
 pub returns-clause-shown : goal.returns-clause-shown
 returns-clause-shown c =
-    shown-first c.args.scenario.now (made c) c.in_ok-first_work.ensures.none c.new.ensures.history
+    shown-first c.args.scenario.now (made c) c.in_ok-first_work.ensures.none c.new.ensures.history c.in_ok-first_table.ensures.none
     (c.in_ok-first_sems.ensures.none ∙ ap (λ (l : List Decl). no_entries l) c.decls.ensures.all)
     (c.in_ok-first_msgqs.ensures.none ∙ ap (λ (l : List Decl). no_entries l) c.decls-2.ensures.all)
     (c.in_ok-first_signals.ensures.none ∙ ap (λ (l : List Decl). no_entries l) c.decls-3.ensures.all)

@@ -53,7 +53,7 @@ returns-clause-replay c =
     (world-first s (plain_shown c.in_ok-services.services) c.in_ok-players.players.items c.in_ok-services.ensures.shown c.in_ok-players.ensures)
     so_far.0 so_far.1 c.in_ok-play_rounds.ensures.over
     (c.ending_of-ending.ensures ∙ ap ending_by c.deref.ensures.value)
-    all.ensures.work all.ensures.clock all.ensures.sems all.ensures.msgqs all.ensures.signals all.ensures.chans all.ensures.observers
+    all.ensures.work all.ensures.clock all.ensures.table all.ensures.sems all.ensures.msgqs all.ensures.signals all.ensures.chans all.ensures.observers
     (c.in_ok-item_looks.ensures ∙ ap item_looks_of c.items.ensures)
     (c.in_ok-signal_looks.ensures ∙ ap (λ (h : List (List (Entry SignalOp SignalReply))). signal_looks_of (length h) c.items-3.result.now) c.items-2.ensures
     ∙ ap (signal_looks_of (length all.all.signals)) c.items-3.ensures) c.in_ok-logs.ensures

@@ -15,7 +15,7 @@ use Rattle.zk_model_bus.specs.declared.observer.ObsReply.{ObsReply}
 use Rattle.zk_poll.specs.Seen.{signal_history}
 use Rattle.zk_bus.specs.Seen.{chan_history}
 use Rattle.zk_subq.specs.Seen.{obs_history}
-use Rattle.zk_worker.proofs.Between.{above-work, above-clock, above-sems, above-msgqs, above-signals, above-chans, above-observers}
+use Rattle.zk_worker.proofs.Between.{above-work, above-clock, above-table, above-sems, above-msgqs, above-signals, above-chans, above-observers}
 use Rattle.zk_worker.specs.declared.steps.Step.TheVariants as steps
 use Rattle.zk_worker.specs.declared.steps.StepReply.TheVariants as step_replies
 use Rattle.zk_msgq.specs.Seen.{msgq_history}
@@ -31,6 +31,9 @@ act-requires-clause-later c = above-work (plain_shown c.args.self.now) c.args.wh
 
 pub act-requires-in-Clock-clause-later : goal.act-requires-in-Clock-clause-later
 act-requires-in-Clock-clause-later c = above-clock (plain_shown c.args.self.now) c.args.who.number c.args.number c.requires.later
+
+pub act-requires-in-Table-clause-later : goal.act-requires-in-Table-clause-later
+act-requires-in-Table-clause-later c = above-table (plain_shown c.args.self.now) c.args.who.number c.args.number c.requires.later
 
 pub act_at-requires-clause-later : goal.act_at-requires-clause-later
 act_at-requires-clause-later c = λ h there.
