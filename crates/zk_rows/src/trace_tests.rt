@@ -2,6 +2,7 @@
 use std::alloc::Global;
 use std::test::Fail;
 use zk_base::{Entry, Errno, Listed, Msg, Seen, Who};
+use zk_model_bus::{Need, OopsWhy, TableOp, TableReply};
 use zk_model_wait::{
     ClockOp, ClockReply, MsgqOp, MsgqReply, SemOp, SemReply, SignalOp, SignalReply,
 };
@@ -16,7 +17,12 @@ const SCENARIO: &str =
     "zk 1\nthread t0 0 super\nqueue q0 0 on\nqueue q1 0 on\nitem w0\nitem w1\nitem w2\n\
     sem s0 0 10\nmsgq m0 2 1\nsignal g0\n";
 
-/// The object numbers of an item, the semaphore, the message queue and the signal.
+/// The object numbers of the thread, a queue, an item, the semaphore, the message queue and the
+/// signal.
+const THREAD: u32 = 0;
+
+const QUEUE: u32 = 1;
+
 const ITEM: u32 = 4;
 
 const SEM: u32 = 6;
@@ -34,6 +40,18 @@ look t0.3 busy w1 = rcqdf @1
 look q0.1 busy w1 = - @2
 service clock
 q0.0 alarm 2 = at 7
+service table
+t0.0 grant t0 s0 = ok
+t0.1 revoke t0 s0 = ok
+t0.2 release m0 = ok
+t0.3 public g0 = ok
+t0.4 init s0 = already
+t0.5 check s0 sem = ok
+t0.6 check ? chan = oops noobject
+t0.7 check q0 thread = oops wrongkind
+t0.8 check w1 any = oops notgranted
+t0.9 check g0 signal = oops notinit
+t0.10 user = ok
 service s0
 t0.0 take no = busy
 t0.1 take no = got
@@ -76,6 +94,7 @@ player t0 done
 8 check = raised 7
 9 check = clear 0
 10 poll = ready 0 7
+11 give = oops notgranted
 ";
 
 fn entry<O, R>(number: u32, step: u32, op: O, reply: R) -> Entry<O, R> {
@@ -124,6 +143,35 @@ fn alone<O: Copy, R: Copy>(
     }
     histories.push(history)?;
     Ok(histories)
+}
+
+fn table(alloc: Global) -> Result<History<TableOp, TableReply>, Fail> {
+    let done = [
+        (TableOp::Grant(THREAD, SEM), TableReply::Done),
+        (TableOp::Revoke(THREAD, SEM), TableReply::Done),
+        (TableOp::Release(MSGQ), TableReply::Done),
+        (TableOp::Public(SIGNAL), TableReply::Done),
+        (TableOp::Init(SEM), TableReply::Already),
+        (TableOp::Check(Some(SEM), Need::Sem), TableReply::Done),
+        (
+            TableOp::Check(None, Need::Chan),
+            TableReply::Oops(OopsWhy::NoObject),
+        ),
+        (
+            TableOp::Check(Some(QUEUE), Need::Thread),
+            TableReply::Oops(OopsWhy::WrongKind),
+        ),
+        (
+            TableOp::Check(Some(ITEM), Need::Any),
+            TableReply::Oops(OopsWhy::NotGranted),
+        ),
+        (
+            TableOp::Check(Some(SIGNAL), Need::Signal),
+            TableReply::Oops(OopsWhy::NotInit),
+        ),
+        (TableOp::EnterUser, TableReply::Done),
+    ];
+    history(alloc, &done)
 }
 
 fn sems(alloc: Global) -> Result<Histories<SemOp, SemReply>, Fail> {
@@ -225,6 +273,7 @@ fn log(alloc: Global, message: Msg) -> Result<Log, Fail> {
         answered(8, Word::Check, Answer::Signal(true, 7)),
         answered(9, Word::Check, Answer::Signal(false, 0)),
         answered(10, Word::Poll, Answer::Ready(ready)),
+        answered(11, Word::Give, Answer::Oops(OopsWhy::NotGranted)),
     ]?;
     Ok(Log {
         state: PlayerState::Done,
@@ -242,6 +291,7 @@ fn trace(alloc: Global) -> Result<Trace, Fail> {
         ending: Ending::Ended,
         work: Listed::from_vec(vec![in alloc; armed, announce]?),
         clock: Listed::from_vec(vec![in alloc; alarm]?),
+        table: table(alloc)?,
         sems: sems(alloc)?,
         msgqs: msgqs(alloc, message)?,
         signals: signals(alloc)?,

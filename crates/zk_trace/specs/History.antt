@@ -3,10 +3,12 @@ use Rattle.std.specs.List.{AllZip}
 use Rattle.zk_base.specs.declared.ids.Entry.{Entry}
 use Rattle.zk_base.specs.Legal.{Machine, IsLegal}
 use Rattle.zk_scenario.specs.Parts.{Parts}
+use Rattle.zk_model_bus.specs.Table.{new_table, table_machine}
 use Rattle.zk_model_wait.specs.Clock.{new_clock, clock_machine}
 use Rattle.zk_model_work.specs.Machine.{work_machine}
 use Rattle.zk_worker.specs.Families.{Family}
 use Rattle.zk_worker.specs.Machines.{work_start_of, machines_of}
+use Rattle.zk_worker.specs.TableSetup.{setup_of}
 use Rattle.zk_trace.specs.declared.trace.Trace.{Trace}
 
 -- an object's history is one that the machine lets stand from the state that it starts in; an object of another kind has none
@@ -22,6 +24,7 @@ EachLegal family histories = AllZip (IsLegalAt family.machine) family.starts his
 pub record AreLegal (s : Parts) (t : Trace) : Type 0 where
   pub work : IsLegal work_machine (work_start_of s) t.work
   pub clock : IsLegal clock_machine new_clock t.clock
+  pub table : IsLegal table_machine (new_table (setup_of s)) t.table
   pub sems : EachLegal (machines_of s).sems t.sems
   pub msgqs : EachLegal (machines_of s).msgqs t.msgqs
   pub signals : EachLegal (machines_of s).signals t.signals

@@ -3,6 +3,7 @@ pub mod Words
 pub mod Parts
 pub mod Work
 pub mod Clock
+pub mod Table
 pub mod Sem
 pub mod Msgq
 pub mod Signal

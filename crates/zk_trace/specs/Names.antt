@@ -22,6 +22,11 @@ abbrev pub target_name : List Decl → Option ℕ → List ℕ
 target_name decls None = codes "-"
 target_name decls (Some queue) = queue_name decls queue
 
+-- the name of the object that a check asks of, and a question mark for none
+abbrev pub checked_name : List Decl → Option ℕ → List ℕ
+checked_name decls None = codes "?"
+checked_name decls (Some object) = name_at decls object
+
 -- the name of an object behind a space
 abbrev pub name_behind : List Decl → ℕ → List ℕ
 name_behind decls object = codes " " ++ name_at decls object

@@ -7,12 +7,13 @@ use Rattle.zk_line.specs.Objects.{name_at}
 use Rattle.zk_worker.specs.declared.answers.Answer.{Answer}
 use Rattle.zk_worker.specs.declared.answers.Answer.TheVariants as answers
 use Rattle.zk_trace.specs.declared.parts.FixedWord.{FixedWord}
-use Rattle.zk_trace.specs.declared.parts.FixedWord.TheVariants.{Zero, One, Two, Wait, Done, Already, Now, At, Due, Got, Ready, NotReady, Armed, Noted, Plain, Off, Run, Pushed, Full}
+use Rattle.zk_trace.specs.declared.parts.FixedWord.TheVariants.{Zero, One, Two, Wait, Done, Already, Now, At, Due, Got}
+use Rattle.zk_trace.specs.declared.parts.FixedWord.TheVariants.{Ready, NotReady, Armed, Noted, Plain, Off, Run, Pushed, Full}
 use Rattle.zk_trace.specs.declared.parts.Part.{Part}
 use Rattle.zk_trace.specs.declared.parts.Part.TheVariants as parts
 use Rattle.zk_trace.specs.Looks.{seen_word}
-use Rattle.zk_trace.specs.Names.{item_name, queue_name, target_name, names_word}
-use Rattle.zk_trace.specs.Words.{errno_word, admission_word, flags_word, truth_word, wait_word, ready_word}
+use Rattle.zk_trace.specs.Names.{item_name, queue_name, target_name, checked_name, names_word}
+use Rattle.zk_trace.specs.Words.{errno_word, need_word, oops_word, admission_word, flags_word, truth_word, wait_word, ready_word}
 
 -- the text of a fixed word
 abbrev pub fixed_word : FixedWord → List ℕ
@@ -43,6 +44,8 @@ part_word decls (parts.Queue queue) = queue_name decls queue
 part_word decls (parts.Target queue) = target_name decls queue
 part_word decls (parts.Object object) = name_at decls object
 part_word decls (parts.Objects objects) = names_word decls objects
+part_word decls (parts.Checked object) = checked_name decls object
+part_word decls (parts.Need need) = need_word need
 part_word decls (parts.Narrow number) = decimal number
 part_word decls (parts.Wide number) = decimal number
 part_word decls (parts.Place place) = decimal place
@@ -56,6 +59,7 @@ part_word decls (parts.Seen raised value) = seen_word raised value
 part_word decls (parts.Ready positions) = ready_word positions
 part_word decls (parts.Waits waits) = wait_word waits
 part_word decls (parts.Refusal errno) = errno_word errno
+part_word decls (parts.Oops why) = oops_word why
 part_word decls (parts.Fixed fixed) = fixed_word fixed
 
 -- the answer of a call
@@ -68,6 +72,7 @@ answer_part (answers.Bytes message) = parts.Bytes message
 answer_part (answers.Signal raised value) = parts.Seen raised value
 answer_part (answers.Ready positions) = parts.Ready positions
 answer_part (answers.Channel channel) = parts.Object channel
+answer_part (answers.Oops why) = parts.Oops why
 
 -- words, each behind this byte
 abbrev pub each_behind : ℕ → List (List ℕ) → List ℕ

@@ -7,6 +7,7 @@ abbrev pub trace_shown : Trace → Shown
 trace_shown t = record {
   work = t.work;
   clock = t.clock;
+  table = t.table;
   sems = t.sems;
   msgqs = t.msgqs;
   signals = t.signals;

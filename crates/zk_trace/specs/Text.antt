@@ -16,6 +16,7 @@ use Rattle.zk_trace.specs.Words.{ending_word, call_word, state_word}
 use Rattle.zk_trace.specs.Parts.{part_word, answer_part}
 use Rattle.zk_trace.specs.Work as work
 use Rattle.zk_trace.specs.Clock as clock
+use Rattle.zk_trace.specs.Table as table
 use Rattle.zk_trace.specs.Sem as sem
 use Rattle.zk_trace.specs.Msgq as msgq
 use Rattle.zk_trace.specs.Signal as signal
@@ -101,12 +102,18 @@ player_sections decls player [] = []
 player_sections decls player (log ∷ logs) =
     player_section decls player log ++ player_sections decls (player + 1) logs
 
+-- the sections of the services of which there is one: of the work service, the clock and the object table
+abbrev pub single_sections : Parts → Trace → List ℕ
+single_sections s t =
+    looked_section work.op_words work.reply_words item_look_line s.decls (codes "work") t.work t.item_looks
+    ++ service_section clock.op_words clock.reply_words s.decls (codes "clock") t.clock
+    ++ service_section table.op_words table.reply_words s.decls (codes "table") t.table
+
 -- the sections of the services: of those of which there is one, of the semaphores, the message queues, the signals, the
 -- channels and the observers
 abbrev pub service_sections : Parts → Trace → List ℕ
 service_sections s t =
-    looked_section work.op_words work.reply_words item_look_line s.decls (codes "work") t.work t.item_looks
-    ++ service_section clock.op_words clock.reply_words s.decls (codes "clock") t.clock
+    single_sections s t
     ++ object_sections sem.op_words sem.reply_words s.decls 0 t.sems
     ++ object_sections msgq.op_words msgq.reply_words s.decls 0 t.msgqs
     ++ looked_sections signal.op_words signal.reply_words signal_look_line s.decls t.signal_looks 0 t.signals

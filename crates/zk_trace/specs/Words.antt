@@ -1,8 +1,13 @@
-use Rattle.std.specs.Prelude.{ℕ, Bool, true, false, ◌==◌, if◌then◌else◌, List, [], ◌∷◌, ◌++◌, codes, decimal}
+use Rattle.std.specs.Prelude.{ℕ, Bool, true, false, ◌==◌, if◌then◌else◌, List, [], ◌∷◌, ◌++◌}
+use Rattle.std.specs.Prelude.{codes, decimal}
 use Rattle.std.specs.List.{flat_map}
 use Rattle.std.specs.Int.RustNames.{bit_and}
 use Rattle.zk_base.specs.declared.errors.Errno.{Errno}
 use Rattle.zk_base.specs.declared.errors.Errno.TheVariants.{Busy, Again, Inval, NoDev, NoMsg, Already, Fault}
+use Rattle.zk_model_bus.specs.declared.kinds.Need.{Need}
+use Rattle.zk_model_bus.specs.declared.kinds.Need.TheVariants as needs
+use Rattle.zk_model_bus.specs.declared.table.OopsWhy.{OopsWhy}
+use Rattle.zk_model_bus.specs.declared.table.OopsWhy.TheVariants.{NoObject, WrongKind, NotGranted, NotInit}
 use Rattle.zk_words.specs.declared.word.Word.{Word}
 use Rattle.zk_words.specs.Table.{call_row}
 use Rattle.zk_worker.specs.declared.log.PlayerState.{PlayerState}
@@ -25,6 +30,30 @@ errno_word NoDev = codes "nodev"
 errno_word NoMsg = codes "nomsg"
 errno_word Already = codes "already"
 errno_word Fault = codes "fault"
+
+-- what a check asks of the kind of an object
+abbrev pub need_word : Need → List ℕ
+need_word needs.Thread = codes "thread"
+need_word needs.Sem = codes "sem"
+need_word needs.Msgq = codes "msgq"
+need_word needs.Signal = codes "signal"
+need_word needs.Queue = codes "queue"
+need_word needs.Item = codes "item"
+need_word needs.Chan = codes "chan"
+need_word needs.Sub = codes "sub"
+need_word needs.Obs = codes "obs"
+need_word needs.Any = codes "any"
+
+-- why a check fails
+abbrev pub why_word : OopsWhy → List ℕ
+why_word NoObject = codes "noobject"
+why_word WrongKind = codes "wrongkind"
+why_word NotGranted = codes "notgranted"
+why_word NotInit = codes "notinit"
+
+-- a check that fails, and why
+abbrev pub oops_word : OopsWhy → List ℕ
+oops_word why = codes "oops " ++ why_word why
 
 -- the number of an admission
 abbrev pub admission_word : ℕ → List ℕ

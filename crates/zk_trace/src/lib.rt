@@ -14,6 +14,7 @@ mod sections;
 mod sem;
 mod signal;
 mod spelled;
+mod table;
 mod trace;
 mod words;
 mod work;

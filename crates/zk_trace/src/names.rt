@@ -3,7 +3,7 @@ ghost use Rattle.std.specs.List.{flat_map};
 ghost use Rattle.zk_line.specs.Objects.{places, is_item, is_queue, name_at};
 ghost use Rattle.zk_scenario.specs.Players.{players};
 ghost use Rattle.zk_trace.specs.Fronts.{StaysInFront};
-ghost use Rattle.zk_trace.specs.Names.{object_name, item_name, queue_name, target_name, name_behind, names_word, player_name};
+ghost use Rattle.zk_trace.specs.Names.{object_name, item_name, queue_name, target_name, checked_name, name_behind, names_word, player_name};
 
 use zk_base::{NoMemory, put};
 use zk_line::name_of;
@@ -30,6 +30,16 @@ pub fn target_name(scenario: &Scenario, queue: Option<u32>) -> &[u8]
     match queue {
         None => b"-",
         Some(queue) => queue_name(scenario, queue),
+    }
+}
+
+/// The name of the object that a check asks of, and a question mark for none.
+pub fn checked_name(scenario: &Scenario, object: Option<u32>) -> &[u8]
+    ensures { result.now ≡ checked_name scenario.now.decls object }
+{
+    match object {
+        None => b"?",
+        Some(object) => name_at(scenario.decls(), object as usize),
     }
 }
 

@@ -5,12 +5,14 @@ ghost use Rattle.zk_trace.specs.Names.{target_name};
 ghost use Rattle.zk_trace.specs.Parts.{fixed_word, part_word, answer_part, each_behind};
 
 use crate::looks::put_seen;
-use crate::names::{item_name, name_at, put_names, queue_name, target_name};
+use crate::names::{checked_name, item_name, name_at, put_names, queue_name, target_name};
 use crate::words::{
-    errno_word, put_admission, put_flags, put_hex, put_ready, truth_word, wait_word,
+    errno_word, need_word, put_admission, put_flags, put_hex, put_oops, put_ready, truth_word,
+    wait_word,
 };
 use std::marker::Model;
 use zk_base::{Errno, Few, Msg, NoMemory, put, put_decimal};
+use zk_model_bus::{Need, OopsWhy};
 use zk_scenario::Scenario;
 use zk_words::{Choice, choice_text};
 use zk_worker::{Answer, Positions};
@@ -28,6 +30,10 @@ pub enum Part<'a> {
     Object(u32),
     /// Objects of any kind, by their numbers among all: their names, and a dash for none.
     Objects(Named<'a>),
+    /// The object that a check asks of, by its number among all: its name, and a question mark for none.
+    Checked(Option<u32>),
+    /// What a check asks of the kind of an object.
+    Need(Need),
     /// A number below 2^32, in decimal.
     Narrow(u32),
     /// A number below 2^64, in decimal.
@@ -54,6 +60,8 @@ pub enum Part<'a> {
     Waits(bool),
     /// The cause of a refusal.
     Refusal(Errno),
+    /// The word `oops` and why a check fails: two words.
+    Oops(OopsWhy),
     /// A word that is the same in each line.
     Fixed(FixedWord),
 }
@@ -141,6 +149,7 @@ pub fn answer_part(answer: &Answer) -> Part<'_>
         Answer::Signal(raised, value) => Part::Seen(*raised, *value),
         Answer::Ready(positions) => Part::Ready(*positions),
         Answer::Channel(channel) => Part::Object(*channel),
+        Answer::Oops(why) => Part::Oops(*why),
     }
 }
 
@@ -339,6 +348,8 @@ fn put_word(out: &mut Vec<u8>, scenario: &Scenario, part: &Part<'_>) -> Result<(
         Part::Target(queue) => put(out, target_name(scenario, *queue)),
         Part::Object(object) => put(out, name_at(scenario.decls(), *object as usize)),
         Part::Objects(objects) => put_names(out, scenario, objects.numbers()),
+        Part::Checked(object) => put(out, checked_name(scenario, *object)),
+        Part::Need(need) => put(out, need_word(*need)),
         Part::Narrow(number) => put_decimal(out, u64::from(*number)),
         Part::Wide(number) => put_decimal(out, *number),
         Part::Place(place) => put_decimal(out, *place),
@@ -352,6 +363,7 @@ fn put_word(out: &mut Vec<u8>, scenario: &Scenario, part: &Part<'_>) -> Result<(
         Part::Ready(positions) => put_ready(out, positions.numbers()),
         Part::Waits(waits) => put(out, wait_word(*waits)),
         Part::Refusal(errno) => put(out, errno_word(*errno)),
+        Part::Oops(why) => put_oops(out, *why),
         Part::Fixed(fixed) => put(out, fixed_word(*fixed)),
     }
 }

@@ -1,7 +1,7 @@
 ghost use Rattle.std.specs.Prelude.{◌≡◌, ◌++◌, OnOk, OnErr, IfOk};
 ghost use Rattle.zk_scenario.specs.Spelling.{text_of};
 ghost use Rattle.zk_trace.specs.Fronts.{StaysInFront};
-ghost use Rattle.zk_trace.specs.Text.{service_sections, trace_text};
+ghost use Rattle.zk_trace.specs.Text.{single_sections, service_sections, trace_text};
 
 use crate::Trace;
 use crate::sections::{put_looked, put_looked_objects, put_objects, put_players, put_service};
@@ -38,14 +38,7 @@ fn put_services(out: &mut Vec<u8>, scenario: &Scenario, trace: &Trace) -> Result
     ensures text { OnOk result (out.new.items ≡ out.old.items ++ service_sections scenario.now trace.now) }
     ensures kept { OnErr result (StaysInFront out.old.items out.new.items) }
 {
-    put_looked(
-        out,
-        scenario,
-        b"work",
-        trace.work.items(),
-        trace.item_looks.items(),
-    )?;
-    put_service(out, scenario, b"clock", trace.clock.items())?;
+    put_single_services(out, scenario, trace)?;
     put_objects(out, scenario, trace.sems.items())?;
     put_objects(out, scenario, trace.msgqs.items())?;
     put_looked_objects(
@@ -56,6 +49,26 @@ fn put_services(out: &mut Vec<u8>, scenario: &Scenario, trace: &Trace) -> Result
     )?;
     put_objects(out, scenario, trace.chans.items())?;
     put_objects(out, scenario, trace.observers.items())
+}
+
+/// The sections of the services of which there is one.
+fn put_single_services(
+    out: &mut Vec<u8>,
+    scenario: &Scenario,
+    trace: &Trace,
+) -> Result<(), NoMemory>
+    ensures text { OnOk result (out.new.items ≡ out.old.items ++ single_sections scenario.now trace.now) }
+    ensures kept { OnErr result (StaysInFront out.old.items out.new.items) }
+{
+    put_looked(
+        out,
+        scenario,
+        b"work",
+        trace.work.items(),
+        trace.item_looks.items(),
+    )?;
+    put_service(out, scenario, b"clock", trace.clock.items())?;
+    put_service(out, scenario, b"table", trace.table.items())
 }
 
 /// The scenario's text and then the trace part.

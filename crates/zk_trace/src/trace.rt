@@ -1,6 +1,6 @@
 use crate::looks::{ItemLooks, SignalLooks};
 use zk_base::{Entry, Listed};
-use zk_model_bus::{ChanOp, ChanReply, ObsOp, ObsReply};
+use zk_model_bus::{ChanOp, ChanReply, ObsOp, ObsReply, TableOp, TableReply};
 use zk_model_wait::{
     ClockOp, ClockReply, MsgqOp, MsgqReply, SemOp, SemReply, SignalOp, SignalReply,
 };
@@ -36,6 +36,8 @@ pub struct Trace {
     pub work: History<WorkOp, WorkReply>,
     /// The history of the clock.
     pub clock: History<ClockOp, ClockReply>,
+    /// The history of the object table.
+    pub table: History<TableOp, TableReply>,
     /// The histories of the semaphores.
     pub sems: Histories<SemOp, SemReply>,
     /// The histories of the message queues.

@@ -1,11 +1,12 @@
 ghost use Rattle.std.specs.Prelude.{◌≡◌, ◌++◌, ◌==◌, ◌<◌, decimal, OnOk, OnErr};
 ghost use Rattle.std.specs.Int.RustNames.{bit_and};
 ghost use Rattle.zk_trace.specs.Fronts.{StaysInFront};
-ghost use Rattle.zk_trace.specs.Words.{ending_word, errno_word, admission_word, flag_letter, flag_letters, flags_word, truth_word, wait_word, position_text, positions_text, ready_word, call_word, state_word};
+ghost use Rattle.zk_trace.specs.Words.{ending_word, errno_word, need_word, why_word, oops_word, admission_word, flag_letter, flag_letters, flags_word, truth_word, wait_word, position_text, positions_text, ready_word, call_word, state_word};
 ghost use Rattle.zk_words.specs.Hex.{digit_of, hex_text};
 
 use crate::Ending;
 use zk_base::{Errno, NoMemory, put, put_decimal};
+use zk_model_bus::{Need, OopsWhy};
 use zk_words::{Head, Word, row_of};
 use zk_worker::PlayerState;
 
@@ -33,6 +34,45 @@ pub fn errno_word(errno: Errno) -> &'static [u8]
         Errno::Already => b"already",
         Errno::Fault => b"fault",
     }
+}
+
+/// What a check asks of the kind of an object.
+pub fn need_word(need: Need) -> &'static [u8]
+    ensures { result.now ≡ need_word need }
+{
+    match need {
+        Need::Thread => b"thread",
+        Need::Sem => b"sem",
+        Need::Msgq => b"msgq",
+        Need::Signal => b"signal",
+        Need::Queue => b"queue",
+        Need::Item => b"item",
+        Need::Chan => b"chan",
+        Need::Sub => b"sub",
+        Need::Obs => b"obs",
+        Need::Any => b"any",
+    }
+}
+
+/// Why a check fails.
+fn why_word(why: OopsWhy) -> &'static [u8]
+    ensures { result.now ≡ why_word why }
+{
+    match why {
+        OopsWhy::NoObject => b"noobject",
+        OopsWhy::WrongKind => b"wrongkind",
+        OopsWhy::NotGranted => b"notgranted",
+        OopsWhy::NotInit => b"notinit",
+    }
+}
+
+/// Appends the word `oops` and why a check fails.
+pub fn put_oops(out: &mut Vec<u8>, why: OopsWhy) -> Result<(), NoMemory>
+    ensures text { OnOk result (out.new.items ≡ out.old.items ++ oops_word why) }
+    ensures kept { OnErr result (StaysInFront out.old.items out.new.items) }
+{
+    put(out, b"oops ")?;
+    put(out, why_word(why))
 }
 
 /// Appends the number of an admission.
