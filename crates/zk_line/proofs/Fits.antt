@@ -46,7 +46,7 @@ use Rattle.zk_line.specs.Checks.{size_named, size_said, message_size, is_size, i
 use Rattle.zk_line.specs.Decls.{decl_of, decl_args, permission_of}
 use Rattle.zk_line.specs.Few.{is_few, event_at}
 use Rattle.zk_line.specs.Fits.{ref_fits, rawable_fits, event_fits, fits_in, rest_fit, args_fit, has_few_events, call_fits}
-use Rattle.zk_line.specs.Objects.{object_of, kind_of, name_of, is_at, is_thread, can_be_raw, is_met, names}
+use Rattle.zk_line.specs.Objects.{object_of, kind_of, name_of, is_at, is_thread, can_be_raw, is_met}
 use Rattle.zk_line.proofs.Inverse.{said_of-call_of, few-call, written_of-decl_of, permission-is}
 use Rattle.zk_line.proofs.Options.{one_part}
 

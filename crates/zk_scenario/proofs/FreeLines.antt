@@ -1,7 +1,6 @@
 -- Calls one behind the other: those behind a call that makes its caller a user stand in free lines.
-use Rattle.std.proofs.Common.{◌≡◌, ℕ, zero, suc, Bool, true, false, ◌&&◌, ◌||◌, Some, List, [], ◌∷◌, ◌++◌, take, slice_get, refl, sym, ap, subst, ◌∙◌}
+use Rattle.std.proofs.Common.{◌≡◌, ℕ, zero, suc, Bool, true, false, ◌&&◌, ◌||◌, Some, List, [], ◌∷◌, ◌++◌, take, slice_get, refl, sym, ap, ◌∙◌}
 use Rattle.std.specs.List.{list_any}
-use Rattle.std.specs.Option.{option_map_or, option_map}
 use Rattle.std.proofs.lemmas.Bool.{and_parts}
 use Rattle.std.proofs.lemmas.Option.{same_Some}
 use Rattle.std.proofs.Math.Bool.{or-false}
@@ -9,12 +8,7 @@ use Rattle.zk_line.specs.declared.types.Decl.{Decl}
 use Rattle.zk_line.specs.declared.types.Call.{Call}
 use Rattle.zk_line.specs.Calls.{is_user_call}
 use Rattle.zk_line.specs.Fits.{call_fits}
-use Rattle.zk_line.specs.Objects.{is_at, is_user}
-use Rattle.zk_scenario.specs.declared.types.Script.{Script}
-use Rattle.zk_scenario.specs.Free.{is_free, next_is_free}
-use Rattle.zk_scenario.specs.Reading.{Reading, with_call, called}
 use Rattle.zk_scenario.specs.Valid.{calls_fit}
-use Rattle.zk_scenario.proofs.InOrder.{any-push}
 
 and_true : (b : Bool) → (b && true) ≡ b
 and_true true = refl
