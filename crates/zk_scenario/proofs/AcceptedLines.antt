@@ -29,7 +29,7 @@ use Rattle.zk_line.specs.Calls.{call_of}
 use Rattle.zk_line.specs.Checks.{first_object, message_size, each_in_range, go_together, are_in_range, each_well_named, name_once, are_well_named, has_many_events, has_many_observers}
 use Rattle.zk_line.specs.Decls.{decl_of, permission_of}
 use Rattle.zk_line.specs.Fits.{call_fits, decl_fits, observers_fit, AreObserved}
-use Rattle.zk_line.specs.Objects.{object_of, is_at, is_met, names, plays_script}
+use Rattle.zk_line.specs.Objects.{object_of, is_at, is_user, is_met, names, plays_script}
 use Rattle.zk_line.proofs.Fits.{call_fits-read, permission_fits-read, kind_of-read}
 use Rattle.zk_line.proofs.InRange.{decl_fits-read}
 use Rattle.zk_line.proofs.Lists.{slice_get-append_left, slice_get-push, position-push}
@@ -38,12 +38,14 @@ use Rattle.zk_line.proofs.Options.{one_part}
 use Rattle.zk_scenario.specs.declared.types.Script.{Script}
 use Rattle.zk_scenario.specs.declared.refused.Why.{Why}
 use Rattle.zk_scenario.specs.declared.refused.Why.TheVariants as why
+use Rattle.zk_scenario.specs.Free.{is_free, next_is_free, is_free_line}
 use Rattle.zk_scenario.specs.Parts.{Parts}
 use Rattle.zk_scenario.specs.Reading.{Reading, all_scripts, declared, permitted, begun, with_call, called, parts_of}
 use Rattle.zk_scenario.specs.Scripts.{script_of}
-use Rattle.zk_scenario.specs.Valid.{IsValid, OneEach, script_fits, call_count}
+use Rattle.zk_scenario.specs.Valid.{IsValid, OneEach, calls_fit, script_fits, call_count}
 use Rattle.zk_scenario.specs.Verdict.{has_begun, has_script, is_barred, is_misplaced, is_full, is_past_limit, is_said_before, are_named, verdict, opened, after}
 use Rattle.zk_scenario.specs.Written.{is_allowed, AreInOrder}
+use Rattle.zk_scenario.proofs.FreeLines.{calls_fit-push}
 use Rattle.zk_scenario.proofs.InOrder.{in_order-declared, in_order-permitted, is_at-within}
 use Rattle.zk_scenario.proofs.Room.{HasRoom, or_none, room-push}
 use Rattle.zk_scenario.proofs.ScriptTables.{script_of-push}
@@ -52,7 +54,7 @@ use Rattle.zk_scenario.proofs.ScriptTables.{script_of-push}
 pub record Passes (r : Reading) (h : Head) (parts : List Placed) : Type 0 where
   pub placed : is_misplaced r h parts ≡ false
   pub in_range : are_in_range r.decls h parts ≡ true
-  pub well_named : are_well_named r.decls parts ≡ true
+  pub well_named : are_well_named (is_free_line r h) r.decls parts ≡ true
   pub new : option_map_or (is_said_before r h) (args_of r.decls parts) false ≡ false
   pub within : is_past_limit r h parts ≡ false
 
@@ -67,7 +69,7 @@ Passes-verdict r h parts e =
     let three = drop_test (not (are_named r h parts)) why.Name _ two.1 in
     let four = drop_test (is_past_limit r h parts) why.Limit _ three.1 in
     let again = option_map_or (is_said_before r h) (args_of r.decls parts) false in
-    let named = and_parts (are_well_named r.decls parts) (not again) (not-false _ three.0) in
+    let named = and_parts (are_well_named (is_free_line r h) r.decls parts) (not again) (not-false _ three.0) in
     record { placed = one.0; in_range = not-false _ two.0; well_named = named.0; new = not-true again named.1; within = four.0 }
 
 one_each-left : (ss : List Script) (s : Script) → OneEach (ss ++ s ∷ []) → OneEach ss
@@ -171,29 +173,31 @@ valid-begun r owner valid none thread fresh =
     (fit-push r.decls r.scripts s ∙ and_from (list_all (script_fits r.decls) r.scripts) (script_fits r.decls s) (ap (list_all (script_fits r.decls)) (sym same) ∙ valid.fit) (and_from (is_at plays_script r.decls owner) true thread refl))
     (one_each-push r.scripts s (subst OneEach same valid.one_each) fresh)
 
-valid-called : (decls : List Decl) (written : List Declared) (ss : List Script) (s : Script) (c : Call) → IsValid (record { decls = decls; written = written; scripts = ss ++ s ∷ [] }) → call_fits decls c ≡ true → call_count (ss ++ s ∷ []) < 4096
+valid-called : (decls : List Decl) (written : List Declared) (ss : List Script) (s : Script) (c : Call) → IsValid (record { decls = decls; written = written; scripts = ss ++ s ∷ [] }) → call_fits (is_free decls s) decls c ≡ true → call_count (ss ++ s ∷ []) < 4096
     → IsValid (record { decls = decls; written = written; scripts = ss ++ with_call c s ∷ [] })
 valid-called decls written ss s c valid fits few =
     let both = and_parts (list_all (script_fits decls) ss) (script_fits decls s) (sym (fit-push decls ss s) ∙ valid.fit) in
-    let own = and_parts (is_at plays_script decls s.owner) (list_all (call_fits decls) s.calls) both.1 in
-    let calls = list_all-append (call_fits decls) s.calls (c ∷ []) ∙ and_from (list_all (call_fits decls) s.calls) (call_fits decls c && true) own.1 (and_from (call_fits decls c) true fits refl) in
+    let user = is_at is_user decls s.owner in
+    let own = and_parts (is_at plays_script decls s.owner) (calls_fit user decls s.calls) both.1 in
+    let calls = calls_fit-push user decls s.calls c ∙ and_from (calls_fit user decls s.calls) (call_fits (is_free decls s) decls c) own.1 fits in
     IsValid-made (record { decls = decls; written = written; scripts = ss ++ with_call c s ∷ [] }) (room-valid (record { decls = decls; written = written; scripts = ss ++ s ∷ [] }) valid)
     (omega (arith, call_count-push ss s, call_count-push ss (with_call c s), length-append s.calls (c ∷ [])))
     valid.in_range
     valid.observed
     valid.in_order
-    (fit-push decls ss (with_call c s) ∙ and_from (list_all (script_fits decls) ss) (script_fits decls (with_call c s)) both.0 (and_from (is_at plays_script decls s.owner) (list_all (call_fits decls) (s.calls ++ c ∷ [])) own.0 calls))
+    (fit-push decls ss (with_call c s) ∙ and_from (list_all (script_fits decls) ss) (script_fits decls (with_call c s)) both.0 (and_from (is_at plays_script decls s.owner) (calls_fit user decls (s.calls ++ c ∷ [])) own.0 calls))
     (one_each-push ss (with_call c s) (one_each-left ss s valid.one_each) (one_each-fresh ss s valid.one_each))
 
 -- the script that ends has an owner of its own
 pub fresh-closed : (r : Reading) (s : Script) → IsValid (parts_of r) → r.current ≡ Some s → script_of r.scripts s.owner ≡ None
 fresh-closed r s valid e = one_each-fresh r.scripts s (subst (λ o. OneEach (r.scripts ++ option_to_list o)) e valid.one_each)
 
-called_fits : (r : Reading) (c : Call) → IsValid (parts_of r) → is_some r.current ≡ true → call_fits r.decls c ≡ true → nat_le 4096 (call_count (all_scripts r)) ≡ false → IsValid (parts_of (called r c))
+called_fits : (r : Reading) (c : Call) → IsValid (parts_of r) → is_some r.current ≡ true → call_fits (next_is_free r) r.decls c ≡ true → nat_le 4096 (call_count (all_scripts r)) ≡ false → IsValid (parts_of (called r c))
 called_fits r c valid inside fits few =
     let s = is_some-some r.current inside in
     subst (λ o. IsValid (record { decls = r.decls; written = r.written; scripts = r.scripts ++ option_to_list (option_map (with_call c) o) })) (sym s.1)
-    (valid-called r.decls r.written r.scripts s.0 c (subst (λ o. IsValid (record { decls = r.decls; written = r.written; scripts = r.scripts ++ option_to_list o })) s.1 valid) fits
+    (valid-called r.decls r.written r.scripts s.0 c (subst (λ o. IsValid (record { decls = r.decls; written = r.written; scripts = r.scripts ++ option_to_list o })) s.1 valid)
+    (subst (λ o. call_fits (option_map_or (is_free r.decls) o false) r.decls c ≡ true) s.1 fits)
     (subst (λ o. call_count (r.scripts ++ option_to_list o) < 4096) s.1 (leb-false 4096 (call_count (all_scripts r)) few)))
 
 -- a declaration to which no reason applies keeps what was read valid
@@ -202,7 +206,7 @@ pub IsValid-declared : (r : Reading) (k : Kind) (parts : List Placed) (d : Decl)
 IsValid-declared r k parts d form p made valid =
     let free = (or_none (is_full r.decls k) (has_many_observers parts) p.within).0 in
     let room = room-push r.decls d (ap (is_full r.decls) (kind_of-read r.decls k parts d made) ∙ free) (room-valid (parts_of r) valid) in
-    let fits = decl_fits-read r.decls k form.words d (sym (ap (are_in_range r.decls (head.Declare k)) form.placed) ∙ p.in_range) (sym (ap (are_well_named r.decls) form.placed) ∙ p.well_named)
+    let fits = decl_fits-read r.decls k form.words d (sym (ap (are_in_range r.decls (head.Declare k)) form.placed) ∙ p.in_range) (sym (ap (are_well_named false r.decls) form.placed) ∙ p.well_named)
     (sym (ap (λ ps. option_and_then (decl_of k) (args_of r.decls ps)) form.placed) ∙ made) in
     valid-declared r d valid p.placed room fits.0 fits.1
 
@@ -220,8 +224,8 @@ pub IsValid-permitted : (r : Reading) (parts : List Placed) (thread object : ℕ
 IsValid-permitted r parts thread object form p made valid =
     let size = message_size r.decls parts in
     let ranged = (and_parts (each_in_range size parts) (go_together head.Allow parts) p.in_range).0 in
-    let named = (and_parts (each_well_named r.decls parts) (name_once parts) p.well_named).0 in
-    let fits = permission_fits-read r.decls size form.words thread object (sym (ap (each_in_range size) form.placed) ∙ ranged) (sym (ap (each_well_named r.decls) form.placed) ∙ named)
+    let named = (and_parts (each_well_named false r.decls parts) (name_once parts) p.well_named).0 in
+    let fits = permission_fits-read r.decls size form.words thread object (sym (ap (each_in_range size) form.placed) ∙ ranged) (sym (ap (each_well_named false r.decls) form.placed) ∙ named)
     (sym (ap (λ ps. option_and_then permission_of (args_of r.decls ps)) form.placed) ∙ made) in
     let below = is_at-within (is_met need.Any) r.decls object fits.1 in
     IsValid-made (parts_of (permitted r thread object)) (room-valid (parts_of r) valid)
@@ -234,11 +238,11 @@ IsValid-permitted r parts thread object form p made valid =
 
 -- the one word of a script's head names its owner
 owner_of : (r : Reading) (parts : List Placed) (ws : List (List ℕ)) (owner : ℕ) → fits (slot.Owner ∷ []) Nothing ws ≡ true → parts ≡ placed_of (slot.Owner ∷ []) Nothing ws
-    → are_well_named r.decls parts ≡ true → first_object r.decls parts ≡ Some owner → is_at plays_script r.decls owner ≡ true
+    → are_well_named false r.decls parts ≡ true → first_object r.decls parts ≡ Some owner → is_at plays_script r.decls owner ≡ true
 owner_of r parts [] owner fit is named found = absurd (cc)
 owner_of r parts (w ∷ []) owner fit is named found =
     let said : object_of r.decls w ≡ Some owner = sym (ap (first_object r.decls) is) ∙ found in
-    let plays : names plays_script r.decls w ≡ true = (and_parts (names plays_script r.decls w) true (and_parts (each_well_named r.decls (placed_of (slot.Owner ∷ []) Nothing (w ∷ []))) true (sym (ap (are_well_named r.decls) is) ∙ named)).0).0 in
+    let plays : names plays_script r.decls w ≡ true = (and_parts (names plays_script r.decls w) true (and_parts (each_well_named false r.decls (placed_of (slot.Owner ∷ []) Nothing (w ∷ []))) true (sym (ap (are_well_named false r.decls) is) ∙ named)).0).0 in
     sym (ap (λ o. option_map_or (is_at plays_script r.decls) o false) said) ∙ plays
 owner_of r parts (w ∷ v ∷ ws) owner fit is named found = absurd (cc)
 
@@ -259,7 +263,7 @@ pub IsValid-called : (r : Reading) (w : Word) (parts : List Placed) (c : Call) �
     → IsValid (parts_of (called r c))
 IsValid-called r w parts c form p made valid =
     let ranged = (and_parts (each_in_range (message_size r.decls parts) parts) (go_together (head.Call w) parts) p.in_range).0 in
-    let fitting = call_fits-read r.decls w form.words c (sym (ap (λ ps. each_in_range (message_size r.decls ps) ps) form.placed) ∙ ranged) (sym (ap (each_well_named r.decls) form.placed) ∙ (and_parts (each_well_named r.decls parts) (name_once parts) p.well_named).0) (sym (ap (λ ps. option_and_then (call_of w) (args_of r.decls ps)) form.placed) ∙ made) in
+    let fitting = call_fits-read (next_is_free r) r.decls w form.words c (sym (ap (λ ps. each_in_range (message_size r.decls ps) ps) form.placed) ∙ ranged) (sym (ap (each_well_named (next_is_free r) r.decls) form.placed) ∙ (and_parts (each_well_named (next_is_free r) r.decls parts) (name_once parts) p.well_named).0) (sym (ap (λ ps. option_and_then (call_of w) (args_of r.decls ps)) form.placed) ∙ made) in
     called_fits r c valid (call_inside r w parts p) fitting (or_none (nat_le 4096 (call_count (all_scripts r))) (has_many_events parts) p.within).0
 
 -- a line to which no reason applies keeps what was read valid

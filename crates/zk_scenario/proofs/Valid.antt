@@ -1,8 +1,8 @@
 -- What a valid scenario gives: its size, the numbers of its objects, and that each call fits.
-use Rattle.std.proofs.Common.{◌≡◌, ℕ, ◌+◌, ◌<◌, ◌≤◌, Bool, true, false, eqb, Option, None, Some, List, [], ◌∷◌, length, take, slice_get, get_or, count_by, refl, ap, ◌∙◌, arith, length-append}
+use Rattle.std.proofs.Common.{◌≡◌, ℕ, ◌+◌, ◌<◌, ◌≤◌, Bool, true, false, eqb, Option, None, Some, List, [], ◌∷◌, length, take, slice_get, get_or, count_by, refl, sym, ap, ◌∙◌, arith, length-append}
 use Rattle.std.specs.List.{list_all}
 use Rattle.std.specs.Option.{option_map_or}
-use Rattle.std.proofs.lemmas.Bool.{and_parts, and_from}
+use Rattle.std.proofs.lemmas.Bool.{and_parts, and_from, eqb-true}
 use Rattle.std.proofs.lemmas.List.Quantifiers.{position-Some}
 use Rattle.std.proofs.lemmas.Option.{slice_get-get_or}
 use Rattle.zk_base.proofs.Lists.{list_all-at}
@@ -10,13 +10,13 @@ use Rattle.zk_line.specs.declared.types.Decl.{Decl}
 use Rattle.zk_line.specs.declared.types.Declared.TheVariants.{Allow}
 use Rattle.zk_line.specs.declared.types.Decl.TheVariants.{Thread, Queue, Item, Sem, Msgq, Signal, Listener, Sub, Chan}
 use Rattle.zk_scenario.specs.declared.types.Script.{Script}
-use Rattle.zk_line.specs.Objects.{is_at, plays_script, is_thread, is_queue, is_item, is_sem, is_msgq, is_signal, is_chan, is_observer, same_kind, places, number_of, player_count, observers_of}
+use Rattle.zk_line.specs.Objects.{is_at, is_user, plays_script, is_thread, is_queue, is_item, is_sem, is_msgq, is_signal, is_chan, is_observer, same_kind, places, number_of, player_count, observers_of}
 use Rattle.zk_scenario.specs.Parts.{Parts}
 use Rattle.zk_scenario.specs.Players.{players, calls_of}
 use Rattle.zk_scenario.specs.Scripts.{script_of}
-use Rattle.zk_line.specs.Fits.{call_fits, decl_fits, observers_fit}
+use Rattle.zk_line.specs.Fits.{decl_fits, observers_fit}
 use Rattle.zk_line.proofs.Lists.{count_by-cons}
-use Rattle.zk_scenario.specs.Valid.{IsValid, script_fits}
+use Rattle.zk_scenario.specs.Valid.{IsValid, calls_fit, script_fits}
 use Rattle.zk_scenario.proofs.InOrder.{count_by-take-lt, is_at-take, permission-declared}
 use Rattle.zk_scenario.proofs.ScriptTables.{calls_of-none, calls_of-some}
 use Rattle.zk_line.proofs.Tables.{length-places}
@@ -132,19 +132,23 @@ permission-valid p n thread object valid e = permission-declared p.decls p.writt
 pub decl_fits-valid : (p : Parts) (object : ℕ) (d : Decl) → IsValid p → slice_get p.decls object ≡ Some d → decl_fits d ≡ true
 decl_fits-valid p object d valid e = list_all-at decl_fits p.decls object d valid.in_range e
 
--- each call of an object's script fits
-pub call_fits-calls_of : (p : Parts) (owner : ℕ) → IsValid p → list_all (call_fits p.decls) (calls_of p.scripts owner) ≡ true
-call_fits-calls_of p owner valid = by_place (script_of p.scripts owner) refl where
-  by_place : (o : Option ℕ) → script_of p.scripts owner ≡ o → list_all (call_fits p.decls) (calls_of p.scripts owner) ≡ true
-  by_place None e = ap (list_all (call_fits p.decls)) (calls_of-none p.scripts owner e)
+-- the calls of an object's script fit; those of a user are free
+pub calls_fit-calls_of : (p : Parts) (owner : ℕ) → IsValid p → calls_fit (is_at is_user p.decls owner) p.decls (calls_of p.scripts owner) ≡ true
+calls_fit-calls_of p owner valid = by_place (script_of p.scripts owner) refl where
+  user : Bool
+  user = is_at is_user p.decls owner
+
+  by_place : (o : Option ℕ) → script_of p.scripts owner ≡ o → calls_fit user p.decls (calls_of p.scripts owner) ≡ true
+  by_place None e = ap (calls_fit user p.decls) (calls_of-none p.scripts owner e)
   by_place (Some k) e =
       let d : Script = record { owner = 0; calls = [] } in
       let script = get_or p.scripts k d in
-      let within = (position-Some (λ s. eqb s.owner owner) p.scripts k d e).0 in
-      let fits = list_all-at (script_fits p.decls) p.scripts k script valid.fit (slice_get-get_or p.scripts k d within) in
-      ap (list_all (call_fits p.decls)) (calls_of-some p.scripts owner k d e) ∙ (and_parts (is_at plays_script p.decls script.owner) (list_all (call_fits p.decls) script.calls) fits).1
+      let found = position-Some (λ s. eqb s.owner owner) p.scripts k d e in
+      let fits = list_all-at (script_fits p.decls) p.scripts k script valid.fit (slice_get-get_or p.scripts k d found.0) in
+      ap (calls_fit user p.decls) (calls_of-some p.scripts owner k d e) ∙ ap (λ n. calls_fit (is_at is_user p.decls n) p.decls script.calls) (sym (eqb-true script.owner owner found.1))
+      ∙ (and_parts (is_at plays_script p.decls script.owner) (calls_fit (is_at is_user p.decls script.owner) p.decls script.calls) fits).1
 
 -- each script is played by a thread, an item or a listener
 pub plays_script-owner : (p : Parts) (n : ℕ) (script : Script) → IsValid p → slice_get p.scripts n ≡ Some script → is_at plays_script p.decls script.owner ≡ true
 plays_script-owner p n script valid e =
-    (and_parts (is_at plays_script p.decls script.owner) (list_all (call_fits p.decls) script.calls) (list_all-at (script_fits p.decls) p.scripts n script valid.fit e)).0
+    (and_parts (is_at plays_script p.decls script.owner) (calls_fit (is_at is_user p.decls script.owner) p.decls script.calls) (list_all-at (script_fits p.decls) p.scripts n script valid.fit e)).0

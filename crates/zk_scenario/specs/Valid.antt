@@ -1,16 +1,25 @@
-use Rattle.std.specs.Prelude.{◌≡◌, ℕ, ◌≤◌, Bool, true, ◌&&◌, Some, List, length, slice_get, count_by}
+use Rattle.std.specs.Prelude.{◌≡◌, ℕ, ◌≤◌, Bool, true, ◌&&◌, ◌||◌, Some, List, [], ◌∷◌, length, slice_get, count_by}
 use Rattle.std.specs.List.{list_all, sum_by}
 use Rattle.zk_line.specs.declared.types.Decl.{Decl}
+use Rattle.zk_line.specs.declared.types.Call.{Call}
+use Rattle.zk_line.specs.Calls.{is_user_call}
 use Rattle.zk_line.specs.Fits.{call_fits, decl_fits, AreObserved}
-use Rattle.zk_line.specs.Objects.{is_at, plays_script, is_queue, is_item, is_sem, is_msgq, is_signal, is_chan, is_observer, player_count}
+use Rattle.zk_line.specs.Objects.{is_at, is_user, plays_script, is_queue, is_item, is_sem, is_msgq, is_signal, is_chan, is_observer, player_count}
 use Rattle.zk_scenario.specs.declared.types.Script.{Script}
 use Rattle.zk_scenario.specs.Parts.{Parts}
 use Rattle.zk_scenario.specs.Scripts.{script_of}
 use Rattle.zk_scenario.specs.Written.{AreInOrder}
 
--- whether a thread, a handler or a listener plays a script, and each of its calls fits
+-- whether calls fit, one behind the other: the first is free or isn't, and those behind a call that makes its caller a
+-- user are
+abbrev pub calls_fit : Bool → List Decl → List Call → Bool
+calls_fit free decls [] = true
+calls_fit free decls (call ∷ calls) = call_fits free decls call && calls_fit (free || is_user_call call) decls calls
+
+-- whether a thread, a handler or a listener plays a script, and its calls fit; those of a user are free
 abbrev pub script_fits : List Decl → Script → Bool
-script_fits decls script = is_at plays_script decls script.owner && list_all (call_fits decls) script.calls
+script_fits decls script =
+    is_at plays_script decls script.owner && calls_fit (is_at is_user decls script.owner) decls script.calls
 
 -- how many calls there are in all scripts
 abbrev pub call_count : List Script → ℕ

@@ -37,7 +37,7 @@ use Rattle.zk_worker.specs.Places.{At}
 use Rattle.zk_worker.specs.PollLaws.{Made}
 use Rattle.zk_worker.specs.Protocol.{call_attempts, call_progress, role_attempts, role_progress, frames_attempts, frames_progress, frames_after, answers_after, worker_attempts, worker_progress, settled, entered, first_frame, role_at, spot_of, starting, start_at, after}
 use Rattle.zk_worker.specs.StackLaws.{ChanHistories, IsReplied, chans_after, IsPlayedAmong}
-use Rattle.zk_worker.specs.VisitLaws.{used_chan, is_use, OwnsChan, IsOwned, AreOwned, CallsChannel, is_publish, is_read, UsesOrIsRefused, IsAnswered, AreAnswered, EachPublishVisits}
+use Rattle.zk_worker.specs.VisitLaws.{used_chan, is_use, is_free, OwnsChan, IsOwned, AreOwned, CallsChannel, is_publish, is_read, UsesOrIsRefused, IsAnswered, AreAnswered, EachPublishVisits}
 use Rattle.zk_worker.proofs.ChannelCalls.{CallVisits, VisitsBy, has-still, has-owns, used-got, all-through-more, channel-visits}
 use Rattle.zk_worker.proofs.ChannelsFreed.{free-answers, answered-still}
 use Rattle.zk_worker.proofs.Limits.{settled-all, entered-all}
