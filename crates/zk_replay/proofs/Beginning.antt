@@ -30,7 +30,7 @@ use Rattle.zk_worker.specs.declared.steps.TheConstants.{MOST_STEPS}
 use Rattle.zk_worker.specs.Places.{At}
 use Rattle.zk_worker.specs.Protocol.{start_at}
 use Rattle.zk_worker.specs.Follows.{is_spent_at}
-use Rattle.zk_worker.specs.Ranges.{FramesFit}
+use Rattle.zk_worker.specs.Ranges.{IsFit}
 use Rattle.zk_worker.specs.Machines as machines
 use Rattle.zk_worker.specs.Machines.{machines_of, workers, work_start_of, item_number, items_of}
 use Rattle.zk_model_wait.specs.Clock.{new_clock}
@@ -48,7 +48,7 @@ use Rattle.zk_replay.specs.declared.plain.Plain.{Plain}
 use Rattle.zk_replay.specs.Alone.{plain_machines, plain_shown}
 use Rattle.zk_replay.specs.Objects.{starts_of, histories_of}
 use Rattle.zk_worker.specs.Shown.{Shown, nothing_shown}
-use Rattle.zk_worker.proofs.Fits.{start_at-fits}
+use Rattle.zk_worker.proofs.FitsStill.{start_at-fits}
 use Rattle.zk_worker.proofs.Following.{following-fresh}
 use Rattle.zk_worker.proofs.Between.{log-none}
 use Rattle.zk_worker.proofs.Looking.{looks-fresh}
@@ -152,7 +152,6 @@ ready-first s valid =
     let count : At → ℕ = λ at. length at.spots in
     let None_made : At → Type 0 = λ at. length at.spots ≤ 0 in
     let Short : At → Type 0 = λ at. length at.spots ≤ MOST_STEPS in
-    let Fits : At → Type 0 = λ at. FramesFit s.decls at.frames in
     let none : All None_made (starts s n) =
     starts-all None_made s (λ k at is. omega (arith, ap (λ (l : List Spot). length l) (start_at-fresh s k at is).none_made)) n in
     record {
@@ -166,7 +165,7 @@ ready-first s valid =
       whole = refl;
       unlooked = refl;
       follow = λ p at is. following-fresh s p (nothing_shown s.decls) at (first-there s p at is);
-      fits = starts-all Fits s (λ k at is. start_at-fits s k at is) n;
+      fits = starts-all (IsFit s) s (λ k at is. start_at-fits s k at is) n;
     }
 
 unspent-fresh : (at : At) → length at.spots ≤ 0 → is_spent_at at ≡ false

@@ -32,7 +32,10 @@ use Rattle.zk_worker.specs.declared.frames.Stage.TheVariants.{Start, Runs}
 use Rattle.zk_worker.specs.Places.{At}
 use Rattle.zk_worker.specs.declared.checks.Mode.{Mode}
 use Rattle.zk_worker.specs.Checks.{next_check}
-use Rattle.zk_worker.specs.Protocol.{IsAhead, attempts, checks_first, frames_attempts, role_attempts, after}
+use Rattle.zk_worker.specs.Protocol.{IsAhead, attempts, checks_first, frames_attempts, frames_progress, role_attempts, after}
+use Rattle.zk_worker.specs.Ranges.{IsFit}
+use Rattle.zk_worker.proofs.Replied.{replied-fits}
+use Rattle.zk_worker.proofs.StageFits.{ProgressFits, frames_progress-fits}
 use Rattle.zk_worker.specs.Follows.{log_of, is_done, is_between, is_spent_at}
 use Rattle.zk_worker.specs.Machines.{work_start_of, machines_of}
 use Rattle.zk_worker.specs.Attempt.{reply_in}
@@ -80,28 +83,36 @@ good-step s w p at (step, reply) good unspent is choice =
     let made = first_possible-is (machines_of s) w.shown at.who (attempts s at) (step, reply) choice in
     by_step step reply choice (made.place, made.is_there) made.answered
   where
+    fits : (step : Step) (reply : StepReply) → reply_in (machines_of s) w.shown at.who step ≡ Some reply → ProgressFits s.decls (frames_progress s at.frames step reply)
+    fits step reply answered =
+        frames_progress-fits s at.frames step reply (All-at (IsFit s) w.players p at good.ready.fits is).frames
+        (replied-fits s (machines_of s) w.shown at.who step reply good.ready.valid refl answered)
+
     elsewhere : (step : Step) (reply : StepReply) → IsElsewhere step → chosen (machines_of s) s w.shown at ≡ Some (step, reply) → IsAhead s at step →
-        IsGood s (stepped s w p at (Some (step, reply)))
-    elsewhere step reply other choice ahead =
-        good-from s w p at (step, reply) good.state good unspent is choice (tended-elsewhere s w good.state p at step reply other good.tended is ahead)
+        reply_in (machines_of s) w.shown at.who step ≡ Some reply → IsGood s (stepped s w p at (Some (step, reply)))
+    elsewhere step reply other choice ahead answered =
+        good-from s w p at (step, reply) good.state good unspent is choice
+        (tended-elsewhere s w good.state p at step reply good.ready.valid other good.tended is ahead (fits step reply answered))
 
     by_step : (step : Step) (reply : StepReply) → chosen (machines_of s) s w.shown at ≡ Some (step, reply) → IsAhead s at step →
         reply_in (machines_of s) w.shown at.who step ≡ Some reply → IsGood s (stepped s w p at (Some (step, reply)))
     by_step (steps.Work op) reply choice ahead answered =
-        let from = made-of (λ (r : WorkReply). step_replies.Work r (length w.shown.work)) (work_reply (state_after work_machine (work_start_of s) w.shown.work) at.who op) reply answered in
+        let place = length w.shown.work in
+        let from = made-of (λ (r : WorkReply). step_replies.Work r place) (work_reply (state_after work_machine (work_start_of s) w.shown.work) at.who op) reply answered in
         let possible = ap (λ (t : State). work_reply t at.who op) good.tended.after ∙ from.1 in
-        let tended = tended-step s w good.state p at op from.0 (length w.shown.work) good.tended is (good.ready.numbers p at is) ahead possible in
+        let progress = fits (steps.Work op) (step_replies.Work from.0 place) (answered ∙ ap (λ (r : StepReply). Some r) (sym from.2)) in
+        let tended = tended-step s w good.state p at op from.0 place good.ready.valid good.tended is (good.ready.numbers p at is) ahead possible progress in
         good-from s w p at (steps.Work op, reply) (work_next good.state at.who op) good unspent is choice
         (subst (λ (r : StepReply). IsTended s (stepped s w p at (Some (steps.Work op, r))) (work_next good.state at.who op)) from.2 tended)
-    by_step (steps.Clock op) reply choice ahead answered = elsewhere (steps.Clock op) reply tt choice ahead
-    by_step (steps.Table op) reply choice ahead answered = elsewhere (steps.Table op) reply tt choice ahead
-    by_step (steps.Sem object op) reply choice ahead answered = elsewhere (steps.Sem object op) reply tt choice ahead
-    by_step (steps.Msgq object op) reply choice ahead answered = elsewhere (steps.Msgq object op) reply tt choice ahead
-    by_step (steps.Signal object op) reply choice ahead answered = elsewhere (steps.Signal object op) reply tt choice ahead
-    by_step (steps.Chan object op) reply choice ahead answered = elsewhere (steps.Chan object op) reply tt choice ahead
-    by_step (steps.Obs object op) reply choice ahead answered = elsewhere (steps.Obs object op) reply tt choice ahead
-    by_step (steps.LookItem object) reply choice ahead answered = elsewhere (steps.LookItem object) reply tt choice ahead
-    by_step (steps.LookSignal object must) reply choice ahead answered = elsewhere (steps.LookSignal object must) reply tt choice ahead
+    by_step (steps.Clock op) reply choice ahead answered = elsewhere (steps.Clock op) reply tt choice ahead answered
+    by_step (steps.Table op) reply choice ahead answered = elsewhere (steps.Table op) reply tt choice ahead answered
+    by_step (steps.Sem object op) reply choice ahead answered = elsewhere (steps.Sem object op) reply tt choice ahead answered
+    by_step (steps.Msgq object op) reply choice ahead answered = elsewhere (steps.Msgq object op) reply tt choice ahead answered
+    by_step (steps.Signal object op) reply choice ahead answered = elsewhere (steps.Signal object op) reply tt choice ahead answered
+    by_step (steps.Chan object op) reply choice ahead answered = elsewhere (steps.Chan object op) reply tt choice ahead answered
+    by_step (steps.Obs object op) reply choice ahead answered = elsewhere (steps.Obs object op) reply tt choice ahead answered
+    by_step (steps.LookItem object) reply choice ahead answered = elsewhere (steps.LookItem object) reply tt choice ahead answered
+    by_step (steps.LookSignal object must) reply choice ahead answered = elsewhere (steps.LookSignal object must) reply tt choice ahead answered
 
 good-first : (s : Parts) → IsValid s → IsGood s (first s)
 good-first s valid = record {

@@ -21,7 +21,7 @@ use Rattle.zk_model_wait.specs.Sem.{sem_machine}
 use Rattle.zk_model_wait.specs.Signal.{signal_machine}
 use Rattle.zk_model_bus.specs.Channel.{chan_machine}
 use Rattle.zk_model_bus.specs.Observer.{obs_machine}
-use Rattle.zk_worker.specs.Ranges.{FramesFit}
+use Rattle.zk_worker.specs.Ranges.{IsFit}
 use Rattle.zk_base.proofs.Lists.{All-at}
 use Rattle.zk_worker.specs.Machines.{Machines, machines_of, sem_start, msgq_start, signal_start, chan_start, observer_start}
 use Rattle.zk_worker.specs.Single.{answer_in}
@@ -204,6 +204,6 @@ run-legal s w valid run =
     let found = first_possible-is m v.shown at.who (attempts s at) made choice in (
       ready-stepped m s v p at made refl both.0 there (none-passes is_spent_at v.players p at unspent there) found,
       legal-after m v.shown at.who (length at.spots) made.0 made.1 both.1 found.answered
-          (ahead-takes s m at valid refl (All-at (λ a. FramesFit s.decls a.frames) v.players p at both.0.fits there) made.0 (found.place, found.is_there))
+          (ahead-takes s m at valid refl (All-at (IsFit s) v.players p at both.0.fits there) made.0 (found.place, found.is_there))
           (log-later at.who.number at.spots v.shown (both.0.shows p at there)),
     )) run.0 (first s) (ready-first s valid, legal-first s))).1

@@ -14,7 +14,7 @@ use Rattle.zk_worker.specs.declared.steps.StepReply.{StepReply}
 use Rattle.zk_worker.specs.Places.{At}
 use Rattle.zk_worker.specs.Protocol.{attempts, after, spot_of}
 use Rattle.zk_worker.specs.Follows.{is_spent_at, StandsMore, IsFollowing}
-use Rattle.zk_worker.specs.Ranges.{FramesFit}
+use Rattle.zk_worker.specs.Ranges.{IsFit}
 use Rattle.zk_worker.specs.Machines.{Machines, machines_of}
 use Rattle.zk_worker.specs.Attempt.{reply_in, IsMade}
 use Rattle.zk_worker.specs.Looks.{LookedBelow}
@@ -23,7 +23,8 @@ use Rattle.zk_worker.specs.Shown.{Shown, shown_after, ShowsLog, AreShort}
 use Rattle.zk_worker.specs.declared.steps.Spot.{Spot}
 use Rattle.zk_worker.proofs.CheckedSteps.{after-spots}
 use Rattle.zk_worker.proofs.Families.{each-short}
-use Rattle.zk_worker.proofs.Fits.{after-fits}
+use Rattle.zk_worker.proofs.FitsStill.{after-fits}
+use Rattle.zk_worker.proofs.PassedChecks.{replied-passes}
 use Rattle.zk_worker.proofs.Replied.{replied-fits}
 use Rattle.zk_worker.proofs.ShownSteps.{made-more, log-answered, log-others, unlooked-after, whole-after}
 use Rattle.zk_worker.proofs.Looking.{looks-stepped, looks-others, reads-whole}
@@ -135,8 +136,8 @@ ready-stepped m s w p at made same ready is unspent found =
     let long = (made-more m w.shown at.who (length at.spots) made.0 made.1 found.answered).count in
     let count : At → ℕ = λ at. length at.spots in
     let Short : At → Type 0 = λ at. length at.spots ≤ MOST_STEPS in
-    let Fits : At → Type 0 = λ at. FramesFit s.decls at.frames in
     let told = replied-fits s m w.shown at.who made.0 made.1 ready.valid same found.answered in
+    let passes = replied-passes s m w.shown at.who made.0 made.1 same found.answered in
     record {
       valid = ready.valid;
       few = omega (arith, length-set w.players p at', ready.few);
@@ -148,7 +149,8 @@ ready-stepped m s w p at made same ready is unspent found =
       whole = whole-after w.shown at.who (length at.spots) made.0 made.1 ready.whole;
       unlooked = unlooked-after w.shown at.who (length at.spots) made.0 made.1 ready.unlooked;
       follow = follow-after m s w p at made ready is found;
-      fits = All-set Fits w.players p at' (after-fits s at made.0 made.1 (All-at Fits w.players p at ready.fits is) told) ready.fits;
+      fits = All-set (IsFit s) w.players p at'
+          (after-fits s at made.0 made.1 ready.valid (All-at (IsFit s) w.players p at ready.fits is) (found.place, found.is_there) told passes) ready.fits;
     }
 
 -- a step leaves fewer steps
