@@ -1,27 +1,25 @@
 -- What goes through a subscriber's list, along a history.
-use Rattle.std.proofs.Common.{◌≡◌, ℕ, suc, ◌<◌, ◌≤◌, All, Bool, true, false, ltb, eqb, cond, Option, Some, None, is_some, List, [], ◌∷◌, ◌++◌, length, refl, sym, ap, subst, ◌∙◌, append_assoc, append-nil, arith}
-use Rattle.std.specs.List.{Contains}
-use Rattle.std.proofs.lemmas.Bool.{ltb-true, eq-eqb}
-use Rattle.std.proofs.lemmas.Bool.Decides.{nat_tests}
+use Rattle.std.proofs.Common.{◌≡◌, ℕ, suc, ◌<◌, ◌≤◌, All, Bool, true, false, ltb, cond, Option, Some, None, is_some, List, [], ◌∷◌, ◌++◌, length, refl, sym, ap, subst, ◌∙◌, append_assoc, append-nil, arith}
+use Rattle.std.proofs.lemmas.Bool.{ltb-true}
 use Rattle.std.proofs.lemmas.List.{length-append}
-use Rattle.std.proofs.lemmas.List.Elements.{All-head, All-tail, All-contains_itself}
+use Rattle.std.proofs.lemmas.List.Elements.{All-head}
 use Rattle.std.proofs.lemmas.Option.{same_Some}
 use Rattle.zk_base.specs.declared.ids.Who.{Who}
 use Rattle.zk_base.specs.declared.waits.Waiter.{Waiter}
-use Rattle.zk_base.specs.declared.waits.Decision.{Decision}
 use Rattle.zk_base.specs.Legal.{Replays}
 use Rattle.zk_base.specs.Lists.{without_first}
-use Rattle.zk_base.specs.Waits.{Waits, is_waiter, decide, decides_first}
-use Rattle.zk_base.specs.WaitLaws.{decided_at}
+use Rattle.zk_base.specs.Waits.{is_waiter, decides_first}
+use Rattle.zk_base.specs.WaitLaws.{decided_at, handed_by}
+use Rattle.zk_base.proofs.Handed.{some-waits, nothing-there, handed-none, handed-first}
 use Rattle.zk_base.proofs.Histories.{state_after-append, Replays-front, Replays-rest}
-use Rattle.zk_base.proofs.WaitDecisions.{decided-some, waits-apart}
+use Rattle.zk_base.proofs.WaitDecisions.{waits-apart}
 use Rattle.zk_model_bus.specs.declared.observer.ObsOp.{ObsOp}
 use Rattle.zk_model_bus.specs.declared.observer.ObsOp.TheVariants as ops
 use Rattle.zk_model_bus.specs.declared.observer.ObsReply.{ObsReply}
 use Rattle.zk_model_bus.specs.declared.observer.ObsReply.TheVariants.{Off, Pushed, Full, Channel}
 use Rattle.zk_model_bus.specs.Observer.{Observer, new_obs, visit_reply, take_reply, obs_reply, visited, taken, obs_next, obs_machine}
 use Rattle.zk_model_bus.specs.ObserverWaits.{takers}
-use Rattle.zk_model_bus.specs.ObserverLaws.{ObsHistory, OfEachObs, obs_after_all, channel_of, handed_by, pushed, handed_out, all_pushed, all_handed_out, TakenInOrder, NoneWaitsWhileChannels, WithinCapacity}
+use Rattle.zk_model_bus.specs.ObserverLaws.{ObsHistory, OfEachObs, obs_after_all, channel_of, pushed, handed_out, all_pushed, all_handed_out, TakenInOrder, NoneWaitsWhileChannels, WithinCapacity}
 use Rattle.zk_model_bus.proofs.ObserverWaits.{has_takers, first_takers}
 
 -- what each operation keeps: the capacity, nobody who waits beside a channel, no more channels than the capacity, and none at a listener
@@ -30,9 +28,6 @@ pub record IsServed (capacity : Option ℕ) (o : Observer) : Type 0 where
   pub none : 0 < length o.channels → o.takers.waiting ≡ []
   pub within : (most : ℕ) → capacity ≡ Some most → length o.channels ≤ most
   pub listener : capacity ≡ None → o.channels ≡ []
-
-some-waits : {A : Type 0} (w : A) (ws xs : List A) → xs ≡ w ∷ ws → xs ≡ [] → ⊥
-some-waits w ws xs is none = let both = sym is ∙ none in cc
 
 list-served : (capacity : Option ℕ) (most : ℕ) (o : Observer) (channel : ℕ) (room : Bool) → capacity ≡ Some most → ltb (length o.channels) most ≡ room → o.takers.waiting ≡ [] → IsServed capacity o →
     IsServed capacity (cond room (record o { channels = o.channels ++ channel ∷ [] }) o)
@@ -108,59 +103,30 @@ within_capacity capacity h legal = record { subscriber = (served-after capacity 
 
 -- An entry puts behind what it pushes, and takes off the front what it hands out.
 
-nil-of : (channels : List ℕ) (w : Waiter Unit) (ws waiting : List (Waiter Unit)) → waiting ≡ w ∷ ws → (0 < length channels → waiting ≡ []) → channels ≡ []
-nil-of [] w ws waiting some none = refl
-nil-of (c ∷ cs) w ws waiting some none = absurd (some-waits w ws waiting some (none (omega arith)))
-
--- what was decided before is handed to nobody
-handed-old : (before : Waits Unit ObsReply) (ds : List (Decision ObsReply)) → All (Contains before.decided) ds → handed_by before ds ≡ []
-handed-old before [] held = refl
-handed-old before (d ∷ ds) held =
-    let some = decided-some before d (All-head (Contains before.decided) d ds held) in
-    let old : eqb (decided_at d.place before) 0 ≡ false = grind (arith, nat_tests) in
-    ap (λ (b : Bool). cond b (channel_of d.answer) [] ++ handed_by before ds) old ∙ handed-old before ds (All-tail (Contains before.decided) d ds held)
-
-handed-append : (before : Waits Unit ObsReply) (ds cs : List (Decision ObsReply)) → handed_by before (ds ++ cs) ≡ handed_by before ds ++ handed_by before cs
-handed-append before [] cs = refl
-handed-append before (d ∷ ds) cs =
-    let here : List ℕ = cond (eqb (decided_at d.place before) 0) (channel_of d.answer) [] in
-    ap (λ (l : List ℕ). here ++ l) (handed-append before ds cs) ∙ sym (append_assoc here (handed_by before ds) (handed_by before cs))
-
-handed-none : (before : Waits Unit ObsReply) → handed_by before before.decided ≡ []
-handed-none before = handed-old before before.decided (All-contains_itself before.decided)
-
--- the first who waits is handed the channel
-handed-first : (before : Waits Unit ObsReply) (w : Waiter Unit) (channel : ℕ) → decided_at w.place before ≡ 0 →
-    handed_by before (before.decided ++ decide (Channel channel) w ∷ []) ≡ channel ∷ []
-handed-first before w channel none =
-    let new : eqb (decided_at w.place before) 0 ≡ true = eq-eqb (decided_at w.place before) 0 none in
-    handed-append before before.decided (decide (Channel channel) w ∷ []) ∙ ap (λ (l : List ℕ). l ++ handed_by before (decide (Channel channel) w ∷ [])) (handed-none before)
-    ∙ ap (λ (b : Bool). cond b (channel ∷ []) [] ++ []) new
-
 -- an entry that hands out and pushes nothing
-nothing-passes : (o : Observer) → o.channels ++ [] ≡ handed_by o.takers o.takers.decided ++ o.channels
-nothing-passes o = append-nil o.channels ∙ sym (ap (λ (l : List ℕ). l ++ o.channels) (handed-none o.takers))
+nothing-passes : (o : Observer) → o.channels ++ [] ≡ handed_by channel_of o.takers o.takers.decided ++ o.channels
+nothing-passes o = append-nil o.channels ∙ sym (ap (λ (l : List ℕ). l ++ o.channels) (handed-none channel_of o.takers))
 
 tell-passes : (own : Option ℕ) (waiting : List (Waiter Unit)) (o : Observer) (channel : ℕ) → o.takers.waiting ≡ waiting → (0 < length o.channels → o.takers.waiting ≡ []) →
     All (λ (w : Waiter Unit). decided_at w.place o.takers ≡ 0) o.takers.waiting →
-    o.channels ++ pushed (ops.Visit channel) (visit_reply own waiting o) ≡ handed_by o.takers (visited own waiting o channel).takers.decided ++ (visited own waiting o channel).channels
+    o.channels ++ pushed (ops.Visit channel) (visit_reply own waiting o) ≡ handed_by channel_of o.takers (visited own waiting o channel).takers.decided ++ (visited own waiting o channel).channels
 tell-passes None waiting o channel is none apart = nothing-passes o
 tell-passes (Some most) (w ∷ ws) o channel some none apart =
-    let empty = nil-of o.channels w ws o.takers.waiting some none in
+    let empty = nothing-there o.channels w ws o.takers.waiting some none in
     let P : Waiter Unit → Type 0 = λ (v : Waiter Unit). decided_at v.place o.takers ≡ 0 in
     let first_apart = All-head P w ws (subst (All P) some apart) in
-    let L : List (Waiter Unit) → Type 0 = λ l. handed_by o.takers (decides_first (Channel channel) l o.takers.decided).decided ≡ channel ∷ [] in
-    let first : L o.takers.waiting = subst L (sym some) (handed-first o.takers w channel first_apart) in
+    let L : List (Waiter Unit) → Type 0 = λ l. handed_by channel_of o.takers (decides_first (Channel channel) l o.takers.decided).decided ≡ channel ∷ [] in
+    let first : L o.takers.waiting = subst L (sym some) (handed-first channel_of o.takers w (Channel channel) first_apart) in
     ap (λ (l : List ℕ). l ++ channel ∷ []) empty ∙ sym (ap (λ (l : List ℕ). l ++ o.channels) first ∙ ap (λ (l : List ℕ). channel ∷ l) empty)
 tell-passes (Some most) [] o channel nobody none apart = by (ltb (length o.channels) most) where
   by : (room : Bool) → o.channels ++ pushed (ops.Visit channel) (cond room Pushed Full)
-      ≡ handed_by o.takers (cond room (record o { channels = o.channels ++ channel ∷ [] }) o).takers.decided ++ (cond room (record o { channels = o.channels ++ channel ∷ [] }) o).channels
-  by true = sym (ap (λ (l : List ℕ). l ++ (o.channels ++ channel ∷ [])) (handed-none o.takers))
+      ≡ handed_by channel_of o.takers (cond room (record o { channels = o.channels ++ channel ∷ [] }) o).takers.decided ++ (cond room (record o { channels = o.channels ++ channel ∷ [] }) o).channels
+  by true = sym (ap (λ (l : List ℕ). l ++ (o.channels ++ channel ∷ [])) (handed-none channel_of o.takers))
   by false = nothing-passes o
 
 visit-passes : (o : Observer) (channel : ℕ) (on : Bool) → (0 < length o.channels → o.takers.waiting ≡ []) → All (λ (w : Waiter Unit). decided_at w.place o.takers ≡ 0) o.takers.waiting →
     o.channels ++ pushed (ops.Visit channel) (cond on (visit_reply o.capacity o.takers.waiting o) Off)
-    ≡ handed_by o.takers (cond on (visited o.capacity o.takers.waiting o channel) o).takers.decided ++ (cond on (visited o.capacity o.takers.waiting o channel) o).channels
+    ≡ handed_by channel_of o.takers (cond on (visited o.capacity o.takers.waiting o channel) o).takers.decided ++ (cond on (visited o.capacity o.takers.waiting o channel) o).channels
 visit-passes o channel true none apart = tell-passes o.capacity o.takers.waiting o channel refl none apart
 visit-passes o channel false none apart = nothing-passes o
 
@@ -178,7 +144,7 @@ take-passes o who waits reply false is = absurd (cc)
 next-passes : (o : Observer) (who : Who) (op : ObsOp) (reply : ObsReply) → (0 < length o.channels → o.takers.waiting ≡ []) → All (λ (w : Waiter Unit). decided_at w.place o.takers ≡ 0) o.takers.waiting →
     obs_reply o who op ≡ Some reply → o.channels ++ pushed op reply ≡ handed_out o (obs_next o who op) op reply ++ (obs_next o who op).channels
 next-passes o who (ops.Visit channel) reply none apart told =
-    subst (λ (r : ObsReply). o.channels ++ pushed (ops.Visit channel) r ≡ handed_by o.takers (obs_next o who (ops.Visit channel)).takers.decided ++ (obs_next o who (ops.Visit channel)).channels)
+    subst (λ (r : ObsReply). o.channels ++ pushed (ops.Visit channel) r ≡ handed_by channel_of o.takers (obs_next o who (ops.Visit channel)).takers.decided ++ (obs_next o who (ops.Visit channel)).channels)
     (same_Some (cond o.enabled (visit_reply o.capacity o.takers.waiting o) Off) reply told) (visit-passes o channel o.enabled none apart)
 next-passes o who (ops.Take waits) reply none apart told = take-passes o who waits reply (is_some o.capacity) told
 next-passes o who op reply none apart told = append-nil o.channels

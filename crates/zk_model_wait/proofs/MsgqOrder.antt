@@ -1,11 +1,11 @@
 -- What goes through a message queue, along a history.
 use Rattle.std.proofs.Common.{◌≡◌, ℕ, suc, ◌+◌, ◌-◌, ◌<◌, ◌≤◌, ◌⊎◌, inl, inr, All, Bool, true, false, ltb, eqb, cond, ◌&&◌, ◌||◌, Option, Some, List, [], ◌∷◌, ◌++◌, length, refl, sym, ap, subst, ◌∙◌, append_assoc, append-nil, arith}
-use Rattle.std.specs.List.{Contains, list_any, count_by}
+use Rattle.std.specs.List.{list_any, count_by}
 use Rattle.std.specs.Option.{option_map_or}
 use Rattle.std.proofs.lemmas.Bool.{ltb-true}
 use Rattle.std.proofs.lemmas.Bool.Decides.{nat_tests}
 use Rattle.std.proofs.lemmas.List.{length-append}
-use Rattle.std.proofs.lemmas.List.Elements.{All-head, All-tail, All-contains_itself}
+use Rattle.std.proofs.lemmas.List.Elements.{All-head, All-tail}
 use Rattle.std.proofs.lemmas.List.Sums.{sum_by-cons}
 use Rattle.std.proofs.lemmas.Option.{same_Some, slice_get_past}
 use Rattle.zk_base.specs.declared.ids.Who.{Who}
@@ -15,18 +15,19 @@ use Rattle.zk_base.specs.declared.waits.Decision.{Decision}
 use Rattle.zk_base.specs.History.{IsEntry}
 use Rattle.zk_base.specs.Legal.{Replays}
 use Rattle.zk_base.specs.Waits.{Waits, is_waiter, decide, decides_first}
-use Rattle.zk_base.specs.WaitLaws.{decided_at}
+use Rattle.zk_base.specs.WaitLaws.{decided_at, handed_by}
 use Rattle.zk_base.proofs.Firsts.{one_if}
+use Rattle.zk_base.proofs.Handed.{some-waits, nothing-there, handed-none, handed-first}
 use Rattle.zk_base.proofs.Histories.{state_after-append, state_after-snoc, Replays-front, Replays-rest}
 use Rattle.zk_base.proofs.WaitsOnce.{eqb-same}
-use Rattle.zk_base.proofs.WaitDecisions.{said, decided-some, waits-apart, decides-said}
+use Rattle.zk_base.proofs.WaitDecisions.{said, waits-apart, decides-said}
 use Rattle.zk_model_wait.specs.declared.msgq.MsgqOp.{MsgqOp}
 use Rattle.zk_model_wait.specs.declared.msgq.MsgqOp.TheVariants as ops
 use Rattle.zk_model_wait.specs.declared.msgq.MsgqReply.{MsgqReply}
 use Rattle.zk_model_wait.specs.declared.msgq.MsgqReply.TheVariants.{Done, NoMsg, Bytes, Number}
 use Rattle.zk_model_wait.specs.Msgq.{Msgq, new_msgq, else_reply, put_reply, get_reply, peek_reply, msgq_reply, msgq_next, msgq_machine, put_at_full, appended, put_to, moved_in, get_from}
 use Rattle.zk_model_wait.specs.MsgqWaits.{get_decides, put_decides, take_decides, putters, getters}
-use Rattle.zk_model_wait.specs.MsgqLaws.{MsgqHistory, OfEachMsgq, msgq_after_all, message_of, handed_by, is_done, moved_by, accepted, leaving, all_accepted, all_leaving, PutIsTold, GetIsTold, PeekIsTold, FirstInFirstOut, RingWithinMax, NoneWaitsToGetWhileMessages, NoneWaitsToPutWhileRoom, PutWaitsOnlyAtFull, GetWaitsOnlyAtEmpty, PutDecidedByGetOrPurge, GetDecidedByItsPut, LooksTellTheRing, PurgeEndsEveryPut, MayAlways, PurgeIsDone}
+use Rattle.zk_model_wait.specs.MsgqLaws.{MsgqHistory, OfEachMsgq, msgq_after_all, message_of, is_done, moved_by, accepted, leaving, all_accepted, all_leaving, PutIsTold, GetIsTold, PeekIsTold, FirstInFirstOut, RingWithinMax, NoneWaitsToGetWhileMessages, NoneWaitsToPutWhileRoom, PutWaitsOnlyAtFull, GetWaitsOnlyAtEmpty, PutDecidedByGetOrPurge, GetDecidedByItsPut, LooksTellTheRing, PurgeEndsEveryPut, MayAlways, PurgeIsDone}
 use Rattle.zk_model_wait.proofs.MsgqWaits.{has_putters, has_getters, first_putters, first_getters}
 use Rattle.zk_model_wait.proofs.SemCounts.{without-nil}
 
@@ -37,20 +38,11 @@ record IsServed (most : ℕ) (q : Msgq) : Type 0 where
   gets : 0 < length q.messages → q.gets.waiting ≡ []
   puts : length q.messages < most → q.puts.waiting ≡ []
 
-above-apart : (n : ℕ) → 0 < n → eqb n 0 ≡ false
-above-apart n some = grind (arith, nat_tests)
-
-none-is : (n : ℕ) → n ≡ 0 → eqb n 0 ≡ true
-none-is n none = grind (arith, nat_tests)
-
 heads : {A : Type 0} (x y : A) (xs ys : List A) → x ∷ xs ≡ y ∷ ys → x ≡ y
 heads x y xs ys same = cc
 
 not-below : (a b : ℕ) → ltb a b ≡ false → b ≤ a
 not-below a b is = grind (arith, nat_tests)
-
-some-waits : {A : Type 0} (w : A) (ws xs : List A) → xs ≡ w ∷ ws → xs ≡ [] → ⊥
-some-waits w ws xs is none = let both = sym is ∙ none in cc
 
 put-served : (most : ℕ) (waiting : List (Waiter Unit)) (q : Msgq) (who : Who) (message : List ℕ) (waits : Bool) → q.gets.waiting ≡ waiting → IsServed most q → IsServed most (put_to waiting q who message waits)
 put-served most (w ∷ ws) q who message waits some is = record {
@@ -130,35 +122,6 @@ none_waits_to_put most h legal room = (served-all most (new_msgq most) h (served
 
 -- An entry puts behind what it accepts, and takes off the front what leaves.
 
-nil-of : (ms : List (List ℕ)) (w : Waiter Unit) (ws waiting : List (Waiter Unit)) → waiting ≡ w ∷ ws → (0 < length ms → waiting ≡ []) → ms ≡ []
-nil-of [] w ws waiting some none = refl
-nil-of (m ∷ ms) w ws waiting some none = absurd (some-waits w ws waiting some (none (omega arith)))
-
--- what was decided before is handed to nobody
-handed-old : (before : Waits Unit MsgqReply) (ds : List (Decision MsgqReply)) → All (Contains before.decided) ds → handed_by before ds ≡ []
-handed-old before [] held = refl
-handed-old before (d ∷ ds) held =
-    let some = decided-some before d (All-head (Contains before.decided) d ds held) in
-    let old : eqb (decided_at d.place before) 0 ≡ false = above-apart (decided_at d.place before) some in
-    ap (λ (b : Bool). cond b (message_of d.answer) [] ++ handed_by before ds) old ∙ handed-old before ds (All-tail (Contains before.decided) d ds held)
-
-handed-append : (before : Waits Unit MsgqReply) (ds cs : List (Decision MsgqReply)) → handed_by before (ds ++ cs) ≡ handed_by before ds ++ handed_by before cs
-handed-append before [] cs = refl
-handed-append before (d ∷ ds) cs =
-    let here : List (List ℕ) = cond (eqb (decided_at d.place before) 0) (message_of d.answer) [] in
-    ap (λ (ms : List (List ℕ)). here ++ ms) (handed-append before ds cs) ∙ sym (append_assoc here (handed_by before ds) (handed_by before cs))
-
-handed-none : (before : Waits Unit MsgqReply) → handed_by before before.decided ≡ []
-handed-none before = handed-old before before.decided (All-contains_itself before.decided)
-
--- the first get that waits is handed the message
-handed-first : (before : Waits Unit MsgqReply) (w : Waiter Unit) (message : List ℕ) → decided_at w.place before ≡ 0 →
-    handed_by before (before.decided ++ decide (Bytes message) w ∷ []) ≡ message ∷ []
-handed-first before w message none =
-    let new : eqb (decided_at w.place before) 0 ≡ true = none-is (decided_at w.place before) none in
-    handed-append before before.decided (decide (Bytes message) w ∷ []) ∙ ap (λ (ms : List (List ℕ)). ms ++ handed_by before (decide (Bytes message) w ∷ [])) (handed-none before)
-    ∙ ap (λ (b : Bool). cond b (message ∷ []) [] ++ []) new
-
 -- whose wait isn't decided moves nothing in
 any-apart : (place : ℕ) (ds : List (Decision MsgqReply)) → count_by (λ (d : Decision MsgqReply). eqb d.place place) ds ≡ 0 → list_any (λ (d : Decision MsgqReply). eqb d.place place && is_done d.answer) ds ≡ false
 any-apart place [] none = refl
@@ -194,19 +157,19 @@ put-passes : (most : ℕ) (waiting : List (Waiter Unit)) (q : Msgq) (who : Who) 
     q.messages ++ accepted q (put_to waiting q who message waits) (ops.Put message waits) (put_reply waiting q waits)
     ≡ leaving q (put_to waiting q who message waits) (ops.Put message waits) (put_reply waiting q waits) ++ (put_to waiting q who message waits).messages
 put-passes most (w ∷ ws) q who message waits some is apart =
-    let empty = nil-of q.messages w ws q.gets.waiting some is.gets in
+    let empty = nothing-there q.messages w ws q.gets.waiting some is.gets in
     let P : Waiter Unit → Type 0 = λ (v : Waiter Unit). decided_at v.place q.gets ≡ 0 in
     let none = All-head P w ws (subst (All P) some apart.gets) in
-    let L : List (Waiter Unit) → Type 0 = λ l. handed_by q.gets (decides_first (Bytes message) l q.gets.decided).decided ≡ message ∷ [] in
-    let first : L q.gets.waiting = subst L (sym some) (handed-first q.gets w message none) in
+    let L : List (Waiter Unit) → Type 0 = λ l. handed_by message_of q.gets (decides_first (Bytes message) l q.gets.decided).decided ≡ message ∷ [] in
+    let first : L q.gets.waiting = subst L (sym some) (handed-first message_of q.gets w (Bytes message) none) in
     ap (λ (ms : List (List ℕ)). ms ++ message ∷ []) empty ∙ sym (ap (λ (ms : List (List ℕ)). ms ++ q.messages) first ∙ ap (λ (ms : List (List ℕ)). message ∷ ms) empty)
 put-passes most [] q who message waits none is apart = by (ltb (length q.messages) q.most) waits where
   by : (room waits : Bool) → q.messages ++ accepted q (cond room (appended q message) (put_at_full q who message waits)) (ops.Put message waits) (cond room Done (else_reply waits))
       ≡ leaving q (cond room (appended q message) (put_at_full q who message waits)) (ops.Put message waits) (cond room Done (else_reply waits))
       ++ (cond room (appended q message) (put_at_full q who message waits)).messages
-  by true waits = sym (ap (λ (ms : List (List ℕ)). ms ++ (q.messages ++ message ∷ [])) (handed-none q.gets))
-  by false true = append-nil q.messages ∙ sym (ap (λ (ms : List (List ℕ)). ms ++ q.messages) (handed-none q.gets))
-  by false false = append-nil q.messages ∙ sym (ap (λ (ms : List (List ℕ)). ms ++ q.messages) (handed-none q.gets))
+  by true waits = sym (ap (λ (ms : List (List ℕ)). ms ++ (q.messages ++ message ∷ [])) (handed-none message_of q.gets))
+  by false true = append-nil q.messages ∙ sym (ap (λ (ms : List (List ℕ)). ms ++ q.messages) (handed-none message_of q.gets))
+  by false false = append-nil q.messages ∙ sym (ap (λ (ms : List (List ℕ)). ms ++ q.messages) (handed-none message_of q.gets))
 
 moved-passes : (waiting : List (Waiter (List ℕ))) (ms : List (List ℕ)) (q : Msgq) → q.puts.waiting ≡ waiting → AreApart (moved_in waiting (record q { messages = ms })) →
     ms ++ moved_by (moved_in waiting (record q { messages = ms })).puts waiting ≡ (moved_in waiting (record q { messages = ms })).messages
