@@ -12,7 +12,7 @@ mod Fresh
 mod Items
 mod LastQueues
 mod Numbers
-mod Owed
+pub mod Owed
 mod Replies
 mod Sound
 mod Steps
