@@ -169,6 +169,7 @@ pub fn state_word(state: PlayerState) -> &'static [u8]
 {
     match state {
         PlayerState::Spent => b"spent",
+        PlayerState::Oops => b"oops",
         PlayerState::Done => b"done",
         PlayerState::Standing => b"open",
     }
