@@ -96,7 +96,8 @@ is_said_before r head args = false
 -- whether the names of a line may stand where they do, and it says no permission again
 abbrev pub are_named : Reading → Head → List Placed → Bool
 are_named r head parts =
-    are_well_named (is_free_line r head) r.decls parts && not (option_map_or (is_said_before r head) (args_of r.decls parts) false)
+    are_well_named (is_free_line r head) r.decls parts
+    && not (option_map_or (is_said_before r head) (args_of r.decls parts) false)
 
 -- the first reason that applies to a line behind these, if there is one
 abbrev pub verdict : Reading → Head → List Placed → Option Why
