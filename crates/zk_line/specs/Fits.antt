@@ -69,7 +69,8 @@ rest_fit free decls size rest args = true
 abbrev pub args_fit : Bool → List Decl → Option ℕ → List Slot → Rest → List Arg → Bool
 args_fit free decls size [] rest args = rest_fit free decls size rest args
 args_fit free decls size (slot ∷ slots) rest [] = true
-args_fit free decls size (slot ∷ slots) rest (arg ∷ args) = fits_in free decls size slot arg && args_fit free decls size slots rest args
+args_fit free decls size (slot ∷ slots) rest (arg ∷ args) =
+    fits_in free decls size slot arg && args_fit free decls size slots rest args
 
 -- whether the events of a call are 1 to 8, where it is a poll
 abbrev pub has_few_events : Call → Bool

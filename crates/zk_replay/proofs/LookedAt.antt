@@ -16,7 +16,7 @@ use Rattle.zk_model_work.specs.declared.ops.WorkOp.TheVariants as work_ops
 use Rattle.zk_model_work.specs.declared.ops.WorkReply.{WorkReply}
 use Rattle.zk_model_work.specs.Machine.{work_machine, in_range, flags_of}
 use Rattle.zk_model_work.specs.State.{State}
-use Rattle.zk_work.specs.Laws.{ranges}
+use Rattle.zk_work.proofs.Owed.{ranges}
 use Rattle.zk_work.specs.Words.{work_word}
 use Rattle.zk_worker.specs.declared.steps.Step.{Step}
 use Rattle.zk_worker.specs.declared.steps.Step.TheVariants as steps

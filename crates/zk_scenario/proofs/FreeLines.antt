@@ -8,7 +8,7 @@ use Rattle.zk_line.specs.declared.types.Decl.{Decl}
 use Rattle.zk_line.specs.declared.types.Call.{Call}
 use Rattle.zk_line.specs.Calls.{is_user_call}
 use Rattle.zk_line.specs.Fits.{call_fits}
-use Rattle.zk_scenario.specs.Valid.{calls_fit}
+use Rattle.zk_scenario.specs.Valid.{calls_pass, calls_fit}
 
 and_true : (b : Bool) → (b && true) ≡ b
 and_true true = refl
@@ -22,22 +22,27 @@ or_both : (a b c : Bool) → ((a || b) || c) ≡ (a || (b || c))
 or_both true b c = refl
 or_both false b c = refl
 
--- calls that fit, with one more
-pub calls_fit-push : (free : Bool) (decls : List Decl) (calls : List Call) (c : Call) → calls_fit free decls (calls ++ c ∷ []) ≡ (calls_fit free decls calls && call_fits (free || list_any is_user_call calls) decls c)
-calls_fit-push free decls [] c = and_true (call_fits free decls c) ∙ ap (λ f. call_fits f decls c) (sym (or-false free))
-calls_fit-push free decls (x ∷ calls) c =
+-- calls that pass a test, with one more
+pub calls_pass-push : (test : Bool → Call → Bool) (free : Bool) (calls : List Call) (c : Call) → calls_pass test free (calls ++ c ∷ []) ≡ (calls_pass test free calls && test (free || list_any is_user_call calls) c)
+calls_pass-push test free [] c = and_true (test free c) ∙ ap (λ f. test f c) (sym (or-false free))
+calls_pass-push test free (x ∷ calls) c =
     let next = free || is_user_call x in
-    ap (λ b. call_fits free decls x && b) (calls_fit-push next decls calls c)
-    ∙ and_both (call_fits free decls x) (calls_fit next decls calls) (call_fits (next || list_any is_user_call calls) decls c)
-    ∙ ap (λ f. (call_fits free decls x && calls_fit next decls calls) && call_fits f decls c) (or_both free (is_user_call x) (list_any is_user_call calls))
+    ap (λ b. test free x && b) (calls_pass-push test next calls c)
+    ∙ and_both (test free x) (calls_pass test next calls) (test (next || list_any is_user_call calls) c)
+    ∙ ap (λ f. (test free x && calls_pass test next calls) && test f c) (or_both free (is_user_call x) (list_any is_user_call calls))
 
--- each of them fits, in a line that is free or not as those before it say
+-- each of them passes it, in a line that is free or not as those before it say
+pub calls_pass-at : (test : Bool → Call → Bool) (free : Bool) (calls : List Call) (k : ℕ) (c : Call) → calls_pass test free calls ≡ true → slice_get calls k ≡ Some c
+    → test (free || list_any is_user_call (take k calls)) c ≡ true
+calls_pass-at test free [] k c pass e = absurd (cc)
+calls_pass-at test free (x ∷ calls) zero c pass e =
+    let same : x ≡ c = same_Some x c e in
+    ap (λ f. test f c) (or-false free) ∙ ap (test free) (sym same) ∙ (and_parts (test free x) (calls_pass test (free || is_user_call x) calls) pass).0
+calls_pass-at test free (x ∷ calls) (suc k) c pass e =
+    let both = and_parts (test free x) (calls_pass test (free || is_user_call x) calls) pass in
+    ap (λ f. test f c) (sym (or_both free (is_user_call x) (list_any is_user_call (take k calls)))) ∙ calls_pass-at test (free || is_user_call x) calls k c both.1 e
+
+-- calls that fit, each where it stands
 pub call_fits-at : (free : Bool) (decls : List Decl) (calls : List Call) (k : ℕ) (c : Call) → calls_fit free decls calls ≡ true → slice_get calls k ≡ Some c
     → call_fits (free || list_any is_user_call (take k calls)) decls c ≡ true
-call_fits-at free decls [] k c fits e = absurd (cc)
-call_fits-at free decls (x ∷ calls) zero c fits e =
-    let same : x ≡ c = same_Some x c e in
-    ap (λ f. call_fits f decls c) (or-false free) ∙ ap (call_fits free decls) (sym same) ∙ (and_parts (call_fits free decls x) (calls_fit (free || is_user_call x) decls calls) fits).0
-call_fits-at free decls (x ∷ calls) (suc k) c fits e =
-    let both = and_parts (call_fits free decls x) (calls_fit (free || is_user_call x) decls calls) fits in
-    ap (λ f. call_fits f decls c) (sym (or_both free (is_user_call x) (list_any is_user_call (take k calls)))) ∙ call_fits-at (free || is_user_call x) decls calls k c both.1 e
+call_fits-at free decls calls k c fits e = calls_pass-at (λ f call. call_fits f decls call) free calls k c fits e

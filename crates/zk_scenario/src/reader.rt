@@ -6,8 +6,8 @@ ghost use Rattle.zk_line.specs.Weights.{or_wrong};
 ghost use Rattle.zk_scenario.specs.Grammar.{read_line, told, answered, accepted};
 ghost use Rattle.zk_scenario.specs.Free.{next_is_free, is_free_line};
 ghost use Rattle.zk_scenario.specs.Reading.{start, declared, permitted, called, closed, with_call, parts_of};
-ghost use Rattle.zk_scenario.specs.Valid.{IsValid};
-ghost use Rattle.zk_scenario.specs.Verdict.{has_begun, has_script, is_supervisors, makes_user, is_within, is_barred, is_misplaced, most, is_full, is_past_limit, is_said_before, verdict, Judges, opened, after};
+ghost use Rattle.zk_scenario.specs.Valid.{IsValid, is_supervisors, makes_user};
+ghost use Rattle.zk_scenario.specs.Verdict.{has_begun, has_script, is_within, is_barred, is_misplaced, most, is_full, is_past_limit, is_said_before, verdict, Judges, opened, after};
 
 use crate::pairs::Pairs;
 use crate::refused::Why;

@@ -1,7 +1,7 @@
 -- What stays in front of a text that grows.
 use Rattle.std.proofs.Common.{◌≡◌, ℕ, List, [], ◌++◌, sym, ap, ◌∙◌}
 use Rattle.std.proofs.lemmas.List.{append-nil, append_assoc}
-use Rattle.zk_trace.specs.Fronts.{StaysInFront}
+use Rattle.zk_base.specs.Fronts.{StaysInFront}
 
 pub front_same : (xs ys : List ℕ) → ys ≡ xs → StaysInFront xs ys
 front_same xs ys same = record { more = []; behind = same ∙ sym (append-nil xs) }

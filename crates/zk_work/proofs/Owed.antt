@@ -63,7 +63,8 @@ ranges s who (FlushDone place) = refl
 ranges s who (Schedule item queue delay) =
     schedule-keeps (λ t. in_range t ≡ in_range s) s who item queue delay refl refl (λ free later. refl)
 ranges s who (Reschedule item queue delay) =
-    delayed-keeps (λ t. in_range t ≡ in_range s) (record s { arms = disarm s.arms item }) who item queue delay refl (λ later. refl)
+    delayed-keeps (λ t. in_range t ≡ in_range s) (record s { arms = disarm s.arms item }) who item queue delay refl
+    (λ later. refl)
 ranges s who (Remaining item) = refl
 ranges s who (Start queue) = ap (is_among s.items) (length-change changes.Start s.queues queue)
 ranges s who (DrainStart queue plug) =
@@ -98,7 +99,8 @@ found_behind place long found = grind (arith, nat_tests)
 taken_here : (passes : Bool) (w w_before r r_before place long : ℕ) → w ≤ w_before →
     (passes ≡ true → 1 + w ≤ w_before) → r ≤ r_before →
     (is_some (cond (ltb place long) (Some place) None) ≡ true → 1 + r ≤ r_before) →
-    is_some (cond (ltb (cond (not passes) (1 + place) 0) (suc long)) (Some (cond (not passes) (1 + place) 0)) None) ≡ true → 1 + (w + r) ≤ w_before + r_before
+    is_some (cond (ltb (cond (not passes) (1 + place) 0) (suc long)) (Some (cond (not passes) (1 + place) 0)) None)
+    ≡ true → 1 + (w + r) ≤ w_before + r_before
 taken_here true w w_before r r_before place long less here rest behind found =
     let one = here refl in omega arith
 taken_here false w w_before r r_before place long less here rest behind found =
@@ -110,7 +112,8 @@ sum_by-map_found : {A : Type 0} (w : A → ℕ) (f : A → A) (passes : A → Bo
     (xs : List A) → is_some (position passes xs) ≡ true → 1 + sum_by w (map f xs) ≤ sum_by w xs
 sum_by-map_found w f passes less one [] found = absurd (cc)
 sum_by-map_found w f passes less one (x ∷ xs) found =
-    let taken = taken_here (passes x) (w (f x)) (w x) (sum_by w (map f xs)) (sum_by w xs) (position_or_len passes xs) (length xs) (less x) (one x) (sum_by-map w f less xs)
+    let taken = taken_here (passes x) (w (f x)) (w x) (sum_by w (map f xs)) (sum_by w xs) (position_or_len passes xs)
+    (length xs) (less x) (one x) (sum_by-map w f less xs)
     (sum_by-map_found w f passes less one xs) found in
     omega (arith, sum_by-cons w x xs, sum_by-cons w (f x) (map f xs))
 
@@ -178,7 +181,8 @@ sum_by-map_any : {A : Type 0} (w : A → ℕ) (f : A → A) (passes : A → Bool
 sum_by-map_any w f passes less one [] found = absurd (cc)
 sum_by-map_any w f passes less one (x ∷ xs) found =
     let rest = sum_by-map w f less xs in
-    let taken = here_or_behind (passes x) (list_any passes xs) (w (f x)) (w x) (sum_by w (map f xs)) (sum_by w xs) (less x) (one x) rest (sum_by-map_any w f passes less one xs) found in
+    let taken = here_or_behind (passes x) (list_any passes xs) (w (f x)) (w x) (sum_by w (map f xs)) (sum_by w xs)
+    (less x) (one x) rest (sum_by-map_any w f passes less one xs) found in
     omega (arith, sum_by-cons w x xs, sum_by-cons w (f x) (map f xs)) where
       here_or_behind : (b c : Bool) (v v_before r r_before : ℕ) → v ≤ v_before →
           (b ≡ true → 1 + v ≤ v_before) → r ≤ r_before → (c ≡ true → 1 + r ≤ r_before) → (b || c) ≡ true →
@@ -207,14 +211,16 @@ owed-answered : (xs : List Admission) (qs : List Queue) (closing : Closing) (who
     1 + waits_still (answer_one xs qs closing who place w) ≤ waits_still w
 owed-answered xs qs closing who place w is =
     let unanswered = first_so (is_unanswered place who.number w) (has_come xs qs closing w.awaited) is in
-    let before : waits_still w ≡ 1 = ap (λ b. cond b 1 0) (second_so ((w.place == place) && (w.player == who.number)) (not w.answered) unanswered) in
+    let before : waits_still w ≡ 1 =
+    ap (λ b. cond b 1 0) (second_so ((w.place == place) && (w.player == who.number)) (not w.answered) unanswered) in
     let after : waits_still (answer_one xs qs closing who place w) ≡ 0 = ap (λ b. waits_still (answer_where b w)) is in
     omega arith
 
 owed-closed : (s : State) (closing : Closing) (who : Who) (place : ℕ) →
     sum_by waits_still (map (answer_one s.admissions s.queues closing who place) s.waits) ≤ sum_by waits_still s.waits
 owed-closed s closing who place =
-    sum_by-map waits_still (answer_one s.admissions s.queues closing who place) (λ w. owed-answer_where (closes (has_come s.admissions s.queues closing) who place w) w) s.waits
+    sum_by-map waits_still (answer_one s.admissions s.queues closing who place)
+    (λ w. owed-answer_where (closes (has_come s.admissions s.queues closing) who place w) w) s.waits
 
 -- the end of a wait is possible where one is over
 closed_where_possible : (found : Bool) (reply : WorkReply) → is_some (cond found (Some reply) None) ≡ true →
@@ -226,8 +232,10 @@ gives-closed : (s : State) (closing : Closing) (who : Who) (place : ℕ) (reply 
     is_some (cond (may_close s closing who place) (Some reply) None) ≡ true →
     1 + sum_by waits_still (map (answer_one s.admissions s.queues closing who place) s.waits) ≤ sum_by waits_still s.waits
 gives-closed s closing who place reply possible =
-    sum_by-map_any waits_still (answer_one s.admissions s.queues closing who place) (closes (has_come s.admissions s.queues closing) who place)
-    (λ w. owed-answer_where (closes (has_come s.admissions s.queues closing) who place w) w) (owed-answered s.admissions s.queues closing who place) s.waits
+    sum_by-map_any waits_still (answer_one s.admissions s.queues closing who place)
+    (closes (has_come s.admissions s.queues closing) who place)
+    (λ w. owed-answer_where (closes (has_come s.admissions s.queues closing) who place w) w)
+    (owed-answered s.admissions s.queues closing who place) s.waits
     (closed_where_possible (may_close s closing who place) reply possible)
 
 -- submissions of arms owe nothing
@@ -235,7 +243,8 @@ owed-arms : (s : State) (caller : Option ℕ) (arms : List Arm) →
     sum_by runs (submit_arms s.marks s.queues caller arms s.admissions) ≡ sum_by runs s.admissions
 owed-arms s caller arms =
     submit_arms-keeps (λ ys. sum_by runs ys ≡ sum_by runs s.admissions) s.admissions s.marks s.queues caller
-    (λ ys item named stays same. owed-submit ys item (submission (item_of ys s.marks item) s.queues caller named) ∙ same) arms s.admissions (λ n a at. at) refl
+    (λ ys item named stays same. owed-submit ys item (submission (item_of ys s.marks item) s.queues caller named)
+    ∙ same) arms s.admissions (λ n a at. at) refl
 
 -- nor does an item that is given a delay
 owed-delayed : (s : State) (who : Who) (item queue delay : ℕ) →
@@ -248,7 +257,8 @@ owed-schedule : (s : State) (who : Who) (item queue delay : ℕ) →
     work_owed (schedule s who item queue delay) ≤ work_owed s + 2
 owed-schedule s who item queue delay =
     schedule-keeps (λ t. work_owed t ≤ work_owed s + 2) s who item queue delay (omega arith)
-    (omega (arith, owed-submit s.admissions item (submission_in s (Some who.number) item (Some queue)))) (λ free later. omega arith)
+    (omega (arith, owed-submit s.admissions item (submission_in s (Some who.number) item (Some queue))))
+    (λ free later. omega arith)
 
 -- an operation adds at most two owed entries
 pub adds : (s : State) (who : Who) (op : WorkOp) → work_owed (work_next s who op) ≤ work_owed s + 2
@@ -256,10 +266,18 @@ adds s who (Submit item named) =
     omega (arith, owed-submit s.admissions item (submission_in s (Some who.number) item named))
 adds s who (Cancel item) = omega (arith, sum_by-map runs (drop_one item) (owed-drop_one item) s.admissions)
 adds s who (CancelStart item) =
-    omega (arith, sum_by-map runs (drop_one item) (owed-drop_one item) s.admissions, owed-awaiting s.waits (cancel_wait s.entries who (running s.admissions item)))
+    omega (
+      arith,
+      sum_by-map runs (drop_one item) (owed-drop_one item) s.admissions,
+      owed-awaiting s.waits (cancel_wait s.entries who (running s.admissions item)),
+    )
 adds s who (CancelDone place) = omega (arith, owed-closed s closings.Cancel who place)
 adds s who (FlushStart item) =
-    omega (arith, owed-awaiting s.waits (flush_wait s.entries who (flushed_of s who item)), owed-arms s (Some who.number) (option_to_list (live_arm s.arms item)))
+    omega (
+      arith,
+      owed-awaiting s.waits (flush_wait s.entries who (flushed_of s who item)),
+      owed-arms s (Some who.number) (option_to_list (live_arm s.arms item)),
+    )
 adds s who (FlushDone place) = omega (arith, owed-closed s closings.Flush who place)
 adds s who (Schedule item queue delay) = owed-schedule s who item queue delay
 adds s who (Reschedule item queue delay) =
@@ -297,4 +315,8 @@ gives s who (Announce ticks) closes possible = absurd (cc)
 gives s who (Begin queue) closes possible = absurd (cc)
 gives s who (End queue) closes possible =
     let found = runs_where_possible (is_worker s.queues queue who.number) (is_some (run s.admissions queue)) Done possible in
-    omega (arith, sum_by-map_found runs (end_one queue) (runs_on queue) (owed-end_one queue) (owed-end_one_run queue) s.admissions found)
+    omega (
+      arith,
+      sum_by-map_found runs (end_one queue) (runs_on queue) (owed-end_one queue) (owed-end_one_run queue)
+          s.admissions found,
+    )
