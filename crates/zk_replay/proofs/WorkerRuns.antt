@@ -62,7 +62,7 @@ use Rattle.zk_worker.specs.declared.frames.Mark.{Mark}
 use Rattle.zk_worker.specs.declared.frames.Mark.TheVariants.{Armed}
 use Rattle.zk_line.specs.declared.events.Event.{Event}
 use Rattle.zk_line.specs.declared.events.Event.TheVariants as sources
-use Rattle.zk_line.specs.declared.types.Ref.TheVariants.{Known}
+use Rattle.zk_worker.specs.Refs.{ref_object}
 use Rattle.zk_model_wait.specs.declared.sem.SemOp.TheVariants as sem_ops
 use Rattle.zk_model_wait.specs.declared.msgq.MsgqOp.TheVariants as msgq_ops
 use Rattle.zk_worker.specs.Polls.{ask_step, watch_step, drop_step, poll_attempts}
@@ -247,19 +247,19 @@ made-called made step called is = let same : made ≡ step = cc in subst IsCalle
 
 ask-called : (registers : Bool) (event : Event) (step : Step) → Unit {0} → ask_step registers event ≡ Some step → IsCalledStep step
 ask-called registers sources.Ignore step any is = absurd (cc)
-ask-called registers (sources.Sem (Known sem)) step any is = made-called (steps.Sem sem (sem_ops.PollArm registers)) step tt is
-ask-called registers (sources.Msgq (Known queue)) step any is = made-called (steps.Msgq queue (msgq_ops.PollArm registers)) step tt is
-ask-called registers (sources.Sig (Known signal)) step any is = made-called (steps.LookSignal signal false) step tt is
+ask-called registers (sources.Sem sem) step any is = made-called (steps.Sem (ref_object sem) (sem_ops.PollArm registers)) step tt is
+ask-called registers (sources.Msgq queue) step any is = made-called (steps.Msgq (ref_object queue) (msgq_ops.PollArm registers)) step tt is
+ask-called registers (sources.Sig signal) step any is = made-called (steps.LookSignal (ref_object signal) false) step tt is
 
 watch-called : (event : Event) (mark : Mark) (step : Step) → Unit {0} → watch_step event mark ≡ Some step → IsCalledStep step
-watch-called (sources.Sem (Known sem)) (Armed place) step any is = made-called (steps.Sem sem (sem_ops.PollEnd place)) step tt is
-watch-called (sources.Msgq (Known queue)) (Armed place) step any is = made-called (steps.Msgq queue (msgq_ops.PollEnd place)) step tt is
-watch-called (sources.Sig (Known signal)) mark step any is = made-called (steps.LookSignal signal true) step tt is
+watch-called (sources.Sem sem) (Armed place) step any is = made-called (steps.Sem (ref_object sem) (sem_ops.PollEnd place)) step tt is
+watch-called (sources.Msgq queue) (Armed place) step any is = made-called (steps.Msgq (ref_object queue) (msgq_ops.PollEnd place)) step tt is
+watch-called (sources.Sig signal) mark step any is = made-called (steps.LookSignal (ref_object signal) true) step tt is
 watch-called event mark step any is = absurd (cc)
 
 drop-called : (event : Event) (mark : Mark) (step : Step) → Unit {0} → drop_step event mark ≡ Some step → IsCalledStep step
-drop-called (sources.Sem (Known sem)) (Armed place) step any is = made-called (steps.Sem sem (sem_ops.PollQuit place)) step tt is
-drop-called (sources.Msgq (Known queue)) (Armed place) step any is = made-called (steps.Msgq queue (msgq_ops.PollQuit place)) step tt is
+drop-called (sources.Sem sem) (Armed place) step any is = made-called (steps.Sem (ref_object sem) (sem_ops.PollQuit place)) step tt is
+drop-called (sources.Msgq queue) (Armed place) step any is = made-called (steps.Msgq (ref_object queue) (msgq_ops.PollQuit place)) step tt is
 drop-called event mark step any is = absurd (cc)
 
 each-event : (events : List Event) → All (λ event. Unit {0}) events
