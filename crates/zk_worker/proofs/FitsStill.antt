@@ -14,7 +14,7 @@ use Rattle.zk_line.specs.declared.types.Ref.{Ref}
 use Rattle.zk_line.specs.declared.types.Ref.TheVariants.{Known, Unknown}
 use Rattle.zk_line.specs.Calls.{is_user_call}
 use Rattle.zk_line.specs.Needs.{needs_of, is_there, IsThere, IsMet}
-use Rattle.zk_line.specs.Objects.{is_at, is_user}
+use Rattle.zk_line.specs.Objects.{is_at, is_thread, is_user}
 use Rattle.zk_model_bus.specs.declared.kinds.Need.{Need}
 use Rattle.zk_model_bus.specs.declared.table.OopsWhy.{OopsWhy}
 use Rattle.zk_model_bus.specs.declared.table.TableOp.TheVariants as table_ops
@@ -155,6 +155,13 @@ user-step decls calls.User Start (suc k) made is there = absurd (cc)
 user-step decls calls.User stage k made is there = absurd (cc)
 user-step decls call stage k made is there = absurd (cc)
 
+-- only threads are users
+no-user : (decls : List Decl) (object : ℕ) → is_at is_thread decls object ≡ false → is_at is_user decls object ≡ false
+no-user [] object none = refl
+no-user (decls_of.Thread name prio user ∷ ds) zero none = absurd (cc)
+no-user (d ∷ ds) zero none = refl
+no-user (d ∷ ds) (suc object) none = no-user ds object none
+
 module _ (s : Parts) (mode : Mode) (made : Step) where
   abbrev later : Mode
   later = mode_after mode made
@@ -197,7 +204,7 @@ module _ (s : Parts) (mode : Mode) (made : Step) where
       by (Enters owner stage) fits =
           let next = record frame { stage = stage } in
           settled-all (IsUsers s later) s (entered (next ∷ below) owner) (entered-all (IsUsers s later) (next ∷ below) owner
-          (λ free. absurd (let not = fits.1 in let none : (is_at is_user s.decls owner || false) ≡ true = free in cc)) (with_stage stage))
+          (λ free. absurd (let not = no-user s.decls owner fits.1 in let none : (is_at is_user s.decls owner || false) ≡ true = free in cc)) (with_stage stage))
 
 -- a call that goes on has begun
 begun-after : (s : Parts) (frames : List Frame) (progress : Progress) → TopHasObjects s frames → All (HasBegun s) frames → All (HasBegun s) (frames_after s frames progress)

@@ -7,7 +7,7 @@ use Rattle.zk_line.specs.declared.types.Call.{Call}
 use Rattle.zk_line.specs.declared.events.Event.{Event}
 use Rattle.zk_line.specs.Calls.{word_of}
 use Rattle.zk_line.specs.declared.types.Decl.TheVariants as decls_of
-use Rattle.zk_line.specs.Objects.{places, is_at, is_user, is_item}
+use Rattle.zk_line.specs.Objects.{places, is_at, is_thread, is_item}
 use Rattle.zk_scenario.specs.Parts.{Parts}
 use Rattle.zk_scenario.specs.Players.{calls_of}
 use Rattle.zk_words.specs.declared.timeout.Timeout.{Timeout}
@@ -43,11 +43,11 @@ use Rattle.zk_worker.specs.Ranges.{AreObservers, StageFits, FrameFits, FramesFit
 use Rattle.zk_worker.proofs.TableSetups.{placed}
 use Rattle.zk_worker.specs.Waits.{opening_progress, until, wait_progress}
 
--- the observers that are left behind what a reply does are declared as such
+-- the observers that are left behind what a reply does are declared as such, and what is entered is no thread's script
 abbrev pub ProgressFits : List Decl → Progress → Type 0
 ProgressFits decls (Goes stage) = StageFits decls stage
 ProgressFits decls (Answers word answer) = Unit {0}
-ProgressFits decls (Enters owner stage) = StageFits decls stage × (is_at is_user decls owner ≡ false)
+ProgressFits decls (Enters owner stage) = StageFits decls stage × (is_at is_thread decls owner ≡ false)
 
 opening-fits : (decls : List Decl) (word : Word) (reply : StepReply) → ProgressFits decls (opening_progress word reply)
 opening-fits decls word (step_replies.Work work_replies.Wait place) = tt
@@ -84,17 +84,17 @@ poll_progress-fits decls word timeout events (Polls alarm marks) made reply fits
     poll_goes-fits decls word timeout events (alarm_after alarm reply) (marked marks (event_of events alarm marks made) (mark_of reply))
 poll_progress-fits decls word timeout events stage made reply fits = fits
 
--- neither an item nor an observer is a user
-not-user-at : (test : Decl → Bool) (decls : List Decl) (object : ℕ) → ((d : Decl) → test d ≡ true → is_user d ≡ false) → is_at test decls object ≡ true → is_at is_user decls object ≡ false
-not-user-at test [] object never is = absurd (cc)
-not-user-at test (d ∷ ds) zero never is = never d is
-not-user-at test (d ∷ ds) (suc object) never is = not-user-at test ds object never is
+-- neither an item nor an observer is a thread
+no-thread-at : (test : Decl → Bool) (decls : List Decl) (object : ℕ) → ((d : Decl) → test d ≡ true → is_thread d ≡ false) → is_at test decls object ≡ true → is_at is_thread decls object ≡ false
+no-thread-at test [] object never is = absurd (cc)
+no-thread-at test (d ∷ ds) zero never is = never d is
+no-thread-at test (d ∷ ds) (suc object) never is = no-thread-at test ds object never is
 
-item-never : (d : Decl) → is_item d ≡ true → is_user d ≡ false
+item-never : (d : Decl) → is_item d ≡ true → is_thread d ≡ false
 item-never (decls_of.Item name) is = refl
 item-never d is = absurd (cc)
 
-observer-never : (d : Decl) → is_some (observer_start d) ≡ true → is_user d ≡ false
+observer-never : (d : Decl) → is_some (observer_start d) ≡ true → is_thread d ≡ false
 observer-never (decls_of.Listener name) is = refl
 observer-never (decls_of.Sub name capacity) is = refl
 observer-never d is = absurd (cc)
@@ -105,7 +105,7 @@ rest-fits decls (observer ∷ left) are = All-tail (λ o. is_declared observer_s
 
 visit_progress-fits : (decls : List Decl) (word : Word) (left : List ℕ) (full : Bool) (reply : StepReply) → AreObservers decls left → ReplyFits decls reply →
     ProgressFits decls (visit_progress word left full reply)
-visit_progress-fits decls word left full (step_replies.Obs observer obs_replies.Run place) are told = (rest-fits decls left are, not-user-at (λ (d : Decl). is_some (observer_start d)) decls observer observer-never told)
+visit_progress-fits decls word left full (step_replies.Obs observer obs_replies.Run place) are told = (rest-fits decls left are, no-thread-at (λ (d : Decl). is_some (observer_start d)) decls observer observer-never told)
 visit_progress-fits decls word left full (step_replies.Obs observer obs_replies.Full place) are told = rest-fits decls left are
 visit_progress-fits decls word left full (step_replies.Obs observer reply place) are told = rest-fits decls left are
 visit_progress-fits decls word left full reply are told = tt
@@ -141,7 +141,7 @@ run-fits : (decls : List Decl) (item : ℕ) (owner : Option ℕ) → slice_get (
 run-fits decls item None is = tt
 run-fits decls item (Some owner) is =
     let at = placed 0 is_item decls item owner is in
-    (tt, not-user-at is_item decls owner item-never (subst (λ (o : ℕ). is_at is_item decls o ≡ true) (sym at.1) (subst (λ (o : ℕ). is_at is_item decls o ≡ true) (omega arith) at.2)))
+    (tt, no-thread-at is_item decls owner item-never (subst (λ (o : ℕ). is_at is_item decls o ≡ true) (sym at.1) (subst (λ (o : ℕ). is_at is_item decls o ≡ true) (omega arith) at.2)))
 
 worker_progress-fits : (decls : List Decl) (stage : Stage) (reply : StepReply) → ProgressFits decls (worker_progress decls stage reply)
 worker_progress-fits decls Start (step_replies.Work (work_replies.Run item admission) place) = run-fits decls item (slice_get (places is_item decls) item) refl
