@@ -2,5 +2,6 @@ pub mod Pieces
 pub mod Outcomes
 pub mod PollsKept
 pub mod ScriptsKept
+pub mod ChecksKept
 pub mod PublishesKept
 pub mod Starts

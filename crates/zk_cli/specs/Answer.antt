@@ -26,13 +26,14 @@ use Rattle.zk_replay.specs.Over.{IsOver}
 use Rattle.zk_cli.specs.Moments.{AtEachMoment, AtEachObject}
 use Rattle.zk_cli.specs.Polls.{EachKeepsPolls}
 use Rattle.zk_cli.specs.Publishes.{EachVisitsAsTold}
+use Rattle.zk_cli.specs.UserChecks.{EachChecksFirst}
 use Rattle.zk_cli.specs.Refusal.{refusal_text}
 use Rattle.zk_cli.specs.Scripts.{EachEntersItsScripts}
 
 -- the input is the text of a scenario, and the output is that text and the trace of its round robin run, which ends so;
 -- the trace is lawful for the scenario, its histories keep the laws at each moment, its polls keep theirs, each script is
--- entered that was to be, each publish and notify has visited its observers or was refused, and where the run has ended each
--- admission has ended or was dropped
+-- entered that was to be, each publish and notify has visited its observers or was refused, each user's call was checked before
+-- all else, and where the run has ended each admission has ended or was dropped
 pub record IsRun (ending : Ending) (input output : List ℕ) : Type 0 where
   pub scenario : Parts
   pub trace : Trace
@@ -51,6 +52,7 @@ pub record IsRun (ending : Ending) (input output : List ℕ) : Type 0 where
   pub polls : EachKeepsPolls scenario trace
   pub scripts : EachEntersItsScripts scenario trace
   pub publishes : EachVisitsAsTold scenario trace
+  pub checks : EachChecksFirst scenario trace
   pub over : IsOver scenario trace
   pub ends : trace.ending ≡ ending
   pub printed : output ≡ text_of scenario ++ trace_text scenario trace

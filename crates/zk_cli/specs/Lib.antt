@@ -4,6 +4,7 @@ pub mod Moments
 pub mod Output
 pub mod Polls
 pub mod Publishes
+pub mod UserChecks
 pub mod Refusal
 pub mod Scripts
 pub mod Top

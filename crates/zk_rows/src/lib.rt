@@ -14,6 +14,10 @@ mod line_tests;
 #[cfg(test)]
 mod object_rows;
 #[cfg(test)]
+mod permission_lines;
+#[cfg(test)]
+mod permission_rows;
+#[cfg(test)]
 mod player_tests;
 #[cfg(test)]
 mod reading_tests;
@@ -27,6 +31,8 @@ mod signal_lines;
 mod table_tests;
 #[cfg(test)]
 mod trace_tests;
+#[cfg(test)]
+mod user_calls;
 #[cfg(test)]
 mod wait_lines;
 #[cfg(test)]

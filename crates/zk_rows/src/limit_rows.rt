@@ -136,7 +136,7 @@ pub const OBJECTS: [Limit; 14] = [
             Numbered(64, "thread t", " 0 super\n"),
             Once("thread last 0 user\n"),
         ],
-        "66 unbuilt",
+        "66 limit",
     ),
 ];
 
@@ -204,7 +204,7 @@ pub const WAITS: [Limit; 9] = [
             Numbered(16, "msgq m", " 1 1\n"),
             Once("msgq last 1 1 raw\n"),
         ],
-        "18 unbuilt",
+        "18 limit",
     ),
 ];
 
@@ -242,7 +242,7 @@ pub const SIGNALS: [Limit; 6] = [
             Numbered(32, "signal g", "\n"),
             Once("signal last raw\n"),
         ],
-        "34 unbuilt",
+        "34 limit",
     ),
 ];
 

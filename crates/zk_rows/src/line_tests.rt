@@ -8,9 +8,9 @@ use zk_scenario::read_scenario;
 use zk_words::{Head, Line, Timeout, Word, line_of, number_of};
 
 /// Lines, and what each is read as.
-const LINES: [(&str, &str); 19] = [
+const LINES: [(&str, &str); 24] = [
     ("thread t -3 super", "declaration"),
-    ("thread t -3 user", "unbuilt"),
+    ("thread t -3 user", "declaration"),
     ("thread t -03 user", "misspelled"),
     ("queue q 0 maybe", "misspelled"),
     ("submit i", "submit"),
@@ -21,9 +21,14 @@ const LINES: [(&str, &str); 19] = [
     ("end", "bracket"),
     ("chan c", "misspelled"),
     ("chan c 9 00 max:7f l l", "declaration"),
-    ("allow c", "unbuilt"),
+    ("allow c", "misspelled"),
+    ("allow c d", "permission"),
+    ("allow work clock", "permission"),
     ("mask c l on", "call"),
-    ("sem s 0 1 raw", "unbuilt"),
+    ("sem s 0 1 raw", "declaration"),
+    ("init nosuch", "call"),
+    ("user", "call"),
+    ("user now", "misspelled"),
     ("sem s 0 1", "declaration"),
     ("put m 0g no", "misspelled"),
     ("put m 0102 99999999999999999999999", "call"),
@@ -46,9 +51,9 @@ const NUMBERS: [(&str, Option<u64>); 9] = [
 /// What a line is read as, in a word.
 fn told(line: &str) -> &'static str {
     match line_of(line.as_bytes()) {
-        Line::Unbuilt => "unbuilt",
         Line::Misspelled => "misspelled",
         Line::Formed(Head::Declare(_), _) => "declaration",
+        Line::Formed(Head::Allow, _) => "permission",
         Line::Formed(Head::Call(Word::Submit), _) => "submit",
         Line::Formed(Head::Call(_), _) => "call",
         Line::Formed(_, _) => "bracket",

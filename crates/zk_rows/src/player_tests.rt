@@ -5,6 +5,7 @@ use std::alloc::Global;
 use std::process::Abort;
 use std::test::Fail;
 use zk_base::{Listed, NoMemory};
+use zk_model_bus::{OopsWhy, TableReply};
 use zk_model_wait::ClockReply;
 use zk_model_work::{Submitted, WorkReply};
 use zk_scenario::{Scenario, read_scenario};
@@ -25,16 +26,20 @@ enum Told {
     Passed(u64),
     /// The clock says so too.
     Ticked(u64),
+    /// The object table has done it, or passed a check.
+    Done,
+    /// A check fails for want of a permission.
+    NotGranted,
 }
 
 /// What a step is answered and where it is recorded, the step with that place, and the last answer
 /// after it.
 type Row = (Told, u64, &'static str, &'static str);
 
-/// The calls of a thread, its steps, and how many answers it has then. The calls for a delay make
-/// one step each, whose reply is the answer; a tick makes two steps, and is answered after the
-/// second.
-const SCRIPTS: [(&str, &[Row], usize); 3] = [
+/// The calls of a thread, its steps, and how it stands and how many answers it has then. The calls for a
+/// delay make one step each, whose reply is the answer; a tick makes two steps, and is answered after the
+/// second. A user makes its checks first, and has ended where one fails.
+const SCRIPTS: [(&str, &[Row], PlayerState, usize); 4] = [
     (
         "submit w0 q0\nend\n",
         &[(
@@ -43,6 +48,7 @@ const SCRIPTS: [(&str, &[Row], usize); 3] = [
             "Work(Submit(0, Some(0))) Some(Work(0))",
             "Some(Answered { step: 0, word: Submit, answer: Number(1) })",
         )],
+        PlayerState::Done,
         1,
     ),
     (
@@ -73,7 +79,51 @@ const SCRIPTS: [(&str, &[Row], usize); 3] = [
                 "Some(Answered { step: 3, word: Remaining, answer: Number(4) })",
             ),
         ],
+        PlayerState::Done,
         4,
+    ),
+    (
+        "user\nsubmit w0 q0\nsubmit w0 q0\ntick 3\nend\n",
+        &[
+            (
+                Told::Done,
+                0,
+                "Table(EnterUser) Some(Table(0))",
+                "Some(Answered { step: 0, word: User, answer: Number(0) })",
+            ),
+            (
+                Told::Done,
+                1,
+                "Table(Check(Some(2), Item)) Some(Table(1))",
+                "Some(Answered { step: 0, word: User, answer: Number(0) })",
+            ),
+            (
+                Told::Done,
+                2,
+                "Table(Check(Some(1), Queue)) Some(Table(2))",
+                "Some(Answered { step: 0, word: User, answer: Number(0) })",
+            ),
+            (
+                Told::Admitted(Submitted::Fresh(0, 0)),
+                0,
+                "Work(Submit(0, Some(0))) Some(Work(0))",
+                "Some(Answered { step: 3, word: Submit, answer: Number(1) })",
+            ),
+            (
+                Told::Done,
+                5,
+                "Table(Check(Some(2), Item)) Some(Table(5))",
+                "Some(Answered { step: 3, word: Submit, answer: Number(1) })",
+            ),
+            (
+                Told::NotGranted,
+                7,
+                "Table(Check(Some(1), Queue)) Some(Table(7))",
+                "Some(Answered { step: 5, word: Submit, answer: Oops(NotGranted) })",
+            ),
+        ],
+        PlayerState::Oops,
+        3,
     ),
     (
         "tick 3\nend\n",
@@ -91,6 +141,7 @@ const SCRIPTS: [(&str, &[Row], usize); 3] = [
                 "Some(Answered { step: 1, word: Tick, answer: Number(0) })",
             ),
         ],
+        PlayerState::Done,
         1,
     ),
 ];
@@ -103,6 +154,8 @@ fn reply_of(alloc: Global, told: Told, place: u64) -> StepReply {
         Told::Left(ticks) => StepReply::Work(WorkReply::Number(ticks), place),
         Told::Passed(now) => StepReply::Work(WorkReply::Now(now, Listed::new(alloc)), place),
         Told::Ticked(now) => StepReply::Clock(ClockReply::Now(now), place),
+        Told::Done => StepReply::Table(TableReply::Done, place),
+        Told::NotGranted => StepReply::Table(TableReply::Oops(OopsWhy::NotGranted), place),
     }
 }
 
@@ -163,12 +216,12 @@ impl Thread {
         Ok(())
     }
 
-    /// It is through its script, with so many steps and answers.
-    fn ends<R: Abort>(self, rt: &R, steps: usize, answers: usize) {
+    /// It makes no step more, stands so, and has so many steps and answers.
+    fn ends<R: Abort>(self, rt: &R, state: PlayerState, steps: usize, answers: usize) {
         let Thread { player, .. } = self;
         assert!(rt; player.is_through());
         let log = player.into_log();
-        assert_eq!(rt; log.state, PlayerState::Done);
+        assert_eq!(rt; log.state, state);
         assert_eq!(rt; log.steps.items().len(), steps);
         assert_eq!(rt; log.answers.items().len(), answers);
     }
@@ -176,13 +229,13 @@ impl Thread {
 
 #[test]
 fn scripts_are_played(rt: HostRuntime) -> Result<(), Fail> {
-    for (calls, rows, answers) in SCRIPTS.as_slice() {
+    for (calls, rows, state, answers) in SCRIPTS.as_slice() {
         let mut thread = Thread::new(rt.alloc(), calls)?;
         thread.stands(&rt);
         for row in *rows {
             thread.told(&rt, rt.alloc(), row)?;
         }
-        thread.ends(&rt, rows.len(), *answers);
+        thread.ends(&rt, *state, rows.len(), *answers);
     }
     Ok(())
 }

@@ -4,6 +4,9 @@ use crate::bus_lines::{BUS_CALLS, CHANNELS, OBSERVERS};
 use crate::limit_rows::{
     BUS, EVENTS, LENGTHS, Limit, MESSAGES, OBJECTS, SIGNALS as SIGNAL_LIMITS, WAITS as WAIT_LIMITS,
 };
+use crate::permission_lines::{
+    ALLOWS, FREE_LINES, FREE_NAMES, MODES, OTHER_SCRIPTS, PERMISSION_CALLS, RAW, USERS,
+};
 use crate::signal_lines::{LOOKS, MISSPELLED_POLLS, POLLS, SIGNAL_CALLS, SIGNALS};
 use crate::wait_lines::{MISSPELLED_MSGQ_CALLS, MSGQ_CALLS, MSGQS, SEM_CALLS, SEMS, SIZES};
 use crate::work_lines::{
@@ -137,6 +140,24 @@ fn lines_are_read_or_refused(rt: HostRuntime) -> Result<(), Fail> {
     Ok(())
 }
 
+#[test]
+fn lines_of_users_are_read_or_refused(rt: HostRuntime) -> Result<(), Fail> {
+    for rows in [
+        MODES.as_slice(),
+        ALLOWS.as_slice(),
+        RAW.as_slice(),
+        PERMISSION_CALLS.as_slice(),
+        FREE_NAMES.as_slice(),
+        FREE_LINES.as_slice(),
+        OTHER_SCRIPTS.as_slice(),
+    ] {
+        for row in rows {
+            reads_so(&rt, rt.alloc(), row)?;
+        }
+    }
+    Ok(())
+}
+
 /// Each text is read so.
 fn are_kept<R: Abort>(rt: &R, alloc: Global, limits: &[Limit]) -> Result<(), NoMemory> {
     for (parts, said) in limits {
@@ -164,6 +185,11 @@ fn limits_of_signals_are_kept(rt: HostRuntime) -> Result<(), NoMemory> {
 #[test]
 fn limits_of_channels_are_kept(rt: HostRuntime) -> Result<(), NoMemory> {
     are_kept(&rt, rt.alloc(), BUS.as_slice())
+}
+
+#[test]
+fn limits_of_users_are_kept(rt: HostRuntime) -> Result<(), NoMemory> {
+    are_kept(&rt, rt.alloc(), USERS.as_slice())
 }
 
 #[test]

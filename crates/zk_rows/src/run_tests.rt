@@ -43,9 +43,9 @@ const CALLS: [(&[&str], &[Part], Status, &str); 13] = [
     (&["replay"], &[], Status::Refused, "refused 1 header\n"),
     (
         &["replay"],
-        &[Once("zk 1\nthread t0 0 super\nallow t0 t0\n")],
+        &[Once("zk 1\nthread t0 0 super\nallow t0 t0\nallow t0 t0\n")],
         Status::Refused,
-        "refused 3 unbuilt\n",
+        "refused 4 name\n",
     ),
     (
         &["replay"],
@@ -123,7 +123,7 @@ fn sink_of(alloc: Global, room: usize, piece: usize) -> Result<SureSink, NoMemor
 }
 
 /// The status of one call is this one, and its output; where not, the name is told.
-fn prints<R: Abort + AllocGlobal>(
+pub fn prints<R: Abort + AllocGlobal>(
     rt: &R,
     name: &str,
     words: &[&str],
@@ -140,7 +140,7 @@ fn prints<R: Abort + AllocGlobal>(
 }
 
 /// A scenario of these scripts ends so, and this trace is printed behind it.
-fn row<R: Abort + AllocGlobal>(rt: &R, row: &Row) -> Result<(), NoMemory> {
+pub fn row<R: Abort + AllocGlobal>(rt: &R, row: &Row) -> Result<(), NoMemory> {
     let (name, status, scripts, trace) = *row;
     let input = text_of(rt.alloc(), &[Once(FRONT), Once(scripts)])?;
     let output = text_of(rt.alloc(), &[Once(FRONT), Once(scripts), Once(trace)])?;
@@ -212,14 +212,20 @@ fn each_fault_is_told(rt: HostRuntime) -> Result<(), Fail> {
     Ok(())
 }
 
-#[test]
-fn a_handler_that_submits_itself_is_spent(rt: HostRuntime) -> Result<(), Fail> {
-    let scripts = "script t0\nsubmit w0 q0\nend\nscript w0\nsubmit w0\nend\n";
-    let input = text_of(rt.alloc(), &[Once(FRONT), Once(scripts)])?;
+/// A scenario of these parts ends with a player that has made all its steps, and its output so.
+pub fn is_spent<R: Abort + AllocGlobal>(rt: &R, parts: &[Part], end: &str) -> Result<(), NoMemory> {
+    let input = text_of(rt.alloc(), parts)?;
     let mut source = SureSource::new(input, 4096);
     let mut sink = sink_of(rt.alloc(), 2_000_000, 4096)?;
     let status = status_of(rt.alloc(), &["replay"], &mut source, &mut sink)?;
     assert_eq!(rt; status, Status::Spent);
-    assert!(rt; sink.held().ends_with(b"\n19999 submit = 2\n".as_slice()));
+    assert!(rt; sink.held().ends_with(end.as_bytes()));
+    Ok(())
+}
+
+#[test]
+fn a_handler_that_submits_itself_is_spent(rt: HostRuntime) -> Result<(), Fail> {
+    let scripts = "script t0\nsubmit w0 q0\nend\nscript w0\nsubmit w0\nend\n";
+    is_spent(&rt, &[Once(FRONT), Once(scripts)], "\n19999 submit = 2\n")?;
     Ok(())
 }

@@ -27,18 +27,18 @@ pub const SIGNALS: [Row; 7] = [
     (
         HEADER,
         "signal G\n|signal 1\n|signal g \n|signal  g\n|signal g\
-         |signal abcdefghijklmnopq\n|signals g\n",
+         |signal abcdefghijklmnopq\n|signals g\n|signal g raw",
         "2 line",
     ),
     (
         HEADER,
-        "signal g raw\n|signal work raw\n|signal raw raw\n|signal g raw",
-        "2 unbuilt",
+        "signal g raw\n|signal raw raw\n|signal a raw\nsignal b\n",
+        "read",
     ),
     (
         HEADER,
         "signal work\n|signal clock\n|signal table\n|signal wait\n|signal again\n\
-         |signal nomsg\n",
+         |signal nomsg\n|signal work raw\n",
         "2 name",
     ),
     (FRONT, "signal g0\n|signal s0\n|signal main\n", "6 name"),

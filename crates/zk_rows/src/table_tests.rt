@@ -4,8 +4,9 @@ use std::process::Abort;
 use std::test::Fail;
 use zk_scenario::{Scenario, read_scenario};
 
-/// A text, the objects of each kind, each object with its number among those of its kind, each
-/// player with its priority, and how many scripts there are and how many calls the first object has.
+/// A text, the objects of each kind, how many lines declare objects and permissions, each object with
+/// its number among those of its kind, each player with its priority, and how many scripts there are
+/// and how many calls the first object has.
 struct Row {
     text: &'static str,
     threads: &'static [u32],
@@ -14,13 +15,14 @@ struct Row {
     sems: &'static [u32],
     msgqs: &'static [u32],
     signals: &'static [u32],
+    written: usize,
     numbers: &'static [(u32, u32)],
     prios: &'static [(u32, i8)],
     scripts: usize,
     calls: usize,
 }
 
-const ROWS: [Row; 3] = [
+const ROWS: [Row; 4] = [
     Row {
         text: "zk 1\nthread main -3 super\nqueue q0 -1 on\nitem i0\nscript main\n\
                submit i0 q0\nend\n",
@@ -30,6 +32,7 @@ const ROWS: [Row; 3] = [
         sems: &[],
         msgqs: &[],
         signals: &[],
+        written: 3,
         numbers: &[(0, 0), (1, 0), (2, 0)],
         prios: &[(0, -3), (1, -1)],
         scripts: 1,
@@ -43,6 +46,7 @@ const ROWS: [Row; 3] = [
         sems: &[0, 2],
         msgqs: &[1, 4],
         signals: &[],
+        written: 5,
         numbers: &[(0, 0), (1, 0), (2, 1), (3, 0), (4, 1)],
         prios: &[(0, 0)],
         scripts: 0,
@@ -56,10 +60,26 @@ const ROWS: [Row; 3] = [
         sems: &[],
         msgqs: &[1],
         signals: &[0, 2],
+        written: 4,
         numbers: &[(0, 0), (1, 0), (2, 1), (3, 0)],
         prios: &[(0, 0)],
         scripts: 0,
         calls: 0,
+    },
+    Row {
+        text: "zk 1\nthread u0 2 user\nallow u0 u0\nsem s0 0 1 raw\nallow u0 s0\n\
+               msgq m0 1 1\nscript u0\ngive nosuch\ngrant m0 s0\nend\n",
+        threads: &[0],
+        queues: &[],
+        items: &[],
+        sems: &[1],
+        msgqs: &[2],
+        signals: &[],
+        written: 5,
+        numbers: &[(0, 0), (1, 0), (2, 0)],
+        prios: &[(0, 2)],
+        scripts: 1,
+        calls: 2,
     },
 ];
 
@@ -75,6 +95,7 @@ fn lists<R: Abort>(rt: &R, scenario: &Scenario, row: &Row) {
 
 /// The objects have these numbers, and the players these priorities; there is none behind them.
 fn numbers<R: Abort>(rt: &R, scenario: &Scenario, row: &Row) {
+    assert_eq!(rt; scenario.written().len(), row.written);
     assert_eq!(rt; scenario.decls().len(), row.numbers.len());
     for (object, number) in row.numbers {
         assert_eq!(rt; scenario.number(*object), *number, "object {object}");

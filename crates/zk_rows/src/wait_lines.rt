@@ -22,13 +22,13 @@ pub const SEMS: [Row; 9] = [
     (
         HEADER,
         "sem s 00 1\n|sem s 0 01\n|sem s -1 1\n|sem S 0 1\n|sem s 0 1 \n|sem  s 0 1\n\
-         |sem s 0 1",
+         |sem s 0 1|sem s 0 1 raw",
         "2 line",
     ),
     (
         HEADER,
-        "sem s 0 1 raw\n|sem wait 2 1 raw\n|sem s 0 1 raw",
-        "2 unbuilt",
+        "sem s 0 1 raw\n|sem raw 1 1 raw\n|sem s 1000000 1000000 raw\n",
+        "read",
     ),
     (
         HEADER,
@@ -39,13 +39,13 @@ pub const SEMS: [Row; 9] = [
     (
         HEADER,
         "sem s 2 1\n|sem s 5 4\n|sem s 1000000 999999\n|sem s 99999999999999999999 1\n\
-         |sem work 2 1\n",
+         |sem work 2 1\n|sem wait 2 1 raw\n",
         "2 number",
     ),
     (
         HEADER,
         "sem work 0 1\n|sem clock 0 1\n|sem table 0 1\n|sem wait 0 1\n|sem again 0 1\n\
-         |sem nomsg 0 1\n",
+         |sem nomsg 0 1\n|sem work 0 1 raw\n",
         "2 name",
     ),
     (FRONT, "sem s0 0 1\n|sem m0 0 1\n|sem main 0 1\n", "6 name"),
@@ -68,18 +68,18 @@ pub const MSGQS: [Row; 8] = [
     (
         HEADER,
         "msgq m 01 1\n|msgq m 1 01\n|msgq m -1 1\n|msgq M 1 1\n|msgq m 1 1 \n\
-         |msgq m  1 1\n|msgq m 1 1",
+         |msgq m  1 1\n|msgq m 1 1|msgq m 1 1 raw",
         "2 line",
     ),
     (
         HEADER,
-        "msgq m 1 1 raw\n|msgq table 0 999 raw\n|msgq m 1 1 raw",
-        "2 unbuilt",
+        "msgq m 1 1 raw\n|msgq raw 64 256 raw\n|msgq m 1 1\nmsgq n 1 1 raw\n",
+        "read",
     ),
     (
         HEADER,
         "msgq m 0 1\n|msgq m 65 1\n|msgq m 1 0\n|msgq m 1 257\n|msgq m 0 0\n\
-         |msgq wait 1 4294967297\n",
+         |msgq wait 1 4294967297\n|msgq table 0 999 raw\n",
         "2 number",
     ),
     (

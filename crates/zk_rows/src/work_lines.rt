@@ -40,15 +40,19 @@ pub const MISSPELLED: [Row; 8] = [
 pub const MISPLACED: [Row; 11] = [
     (
         HEADER,
-        "thread t 0 user\n|signal s raw\n|grant\n|thread t 0 user|allow",
-        "2 unbuilt",
+        "grant\n|thread t 0 user|signal s raw|allow|user now\n",
+        "2 line",
     ),
     (
         FRONT,
-        "thread t 16 user\n|thread main 0 user\n|release q0\n",
-        "5 unbuilt",
+        "release q0\n|public nosuch\n|user\n|init i0\n",
+        "5 order",
     ),
-    (BEHIND, "thread t 0 user\n|public i0\n", "7 unbuilt"),
+    (
+        BEHIND,
+        "thread t 0 user\n|public i0\n|allow main i0\n|allow nosuch nosuch\n",
+        "7 order",
+    ),
     (FRONT, "script i0\nend\nscript i0\n", "7 order"),
     (FRONT, "end\n|submit i0\n|cancel nosuch\n", "5 order"),
     (
@@ -417,8 +421,8 @@ pub const SINGLE: [Row; 15] = [
     ),
     (
         INSIDE,
-        "thread a_1 -16 user\n|allow\n|revoke  no\n|user and more\n|grant i q 1\n",
-        "6 unbuilt",
+        "thread a_1 -16 users\n|allow\n|revoke  no\n|user and more\n|grant i q 1\n",
+        "6 line",
     ),
     (FRONT, "script main\nend\n", "read"),
     (

@@ -58,13 +58,14 @@ pub next-there : (s : Parts) (owner next : ℕ) (call : Call) → IsValid s → 
 next-there s owner next call valid there = needs-there (is_free_at s (Script owner) next) s.decls call (call_fits-next s owner next call valid there)
 
 -- where nothing is left to check all is checked
-all-taken : {A : Type 0} (xs : List A) (n : ℕ) → slice_get xs n ≡ None → take n xs ≡ xs
+pub all-taken : {A : Type 0} (xs : List A) (n : ℕ) → slice_get xs n ≡ None → take n xs ≡ xs
 all-taken [] zero none = refl
 all-taken [] (suc n) none = refl
 all-taken (x ∷ xs) zero none = absurd (cc)
 all-taken (x ∷ xs) (suc n) none = ap (λ (l : List _). x ∷ l) (all-taken xs n none)
 
-none-left : (call : Call) (needs : List Needed) (passed : ℕ) → option_map (check_of call) (slice_get needs passed) ≡ None → slice_get needs passed ≡ None
+-- and no need is left
+pub none-left : (call : Call) (needs : List Needed) (passed : ℕ) → option_map (check_of call) (slice_get needs passed) ≡ None → slice_get needs passed ≡ None
 none-left call needs passed none = by (slice_get needs passed) none where
   by : (o : Option Needed) → option_map (check_of call) o ≡ None → o ≡ None
   by None none = refl

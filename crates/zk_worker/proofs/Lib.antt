@@ -27,6 +27,7 @@ pub mod SignalWrites
 pub mod Replied
 pub mod PassedChecks
 pub mod Following
+pub mod UsersChecked
 pub mod Trying
 pub mod ChannelAnswers
 pub mod OpenScripts

@@ -1,0 +1,49 @@
+-- The users of a lawful trace are checked before all else.
+use Rattle.std.proofs.Common.{◌≡◌, ℕ, Bool, true, false, cond, List, refl, sym, ap, subst, ◌∙◌}
+use Rattle.std.specs.List.{AllZip}
+use Rattle.zk_scenario.specs.Parts.{Parts}
+use Rattle.zk_worker.specs.declared.answers.Answered.{Answered}
+use Rattle.zk_worker.specs.declared.checks.Mode.{Mode}
+use Rattle.zk_worker.specs.declared.checks.Mode.TheVariants.{Supervisor, User, Dead}
+use Rattle.zk_worker.specs.declared.log.Log.{Log}
+use Rattle.zk_worker.specs.declared.log.PlayerState.{PlayerState}
+use Rattle.zk_worker.specs.declared.log.PlayerState.TheVariants.{Spent, Oops, Done, Standing}
+use Rattle.zk_worker.specs.declared.steps.Spot.{Spot}
+use Rattle.zk_worker.specs.CheckLaws.{EndedByOops}
+use Rattle.zk_worker.specs.Follows.{Stands, is_spent_at, is_dead, is_done, state_at}
+use Rattle.zk_worker.specs.Places.{At}
+use Rattle.zk_worker.proofs.UsersChecked.{each_user_is_checked}
+use Rattle.zk_trace.specs.declared.trace.Trace.{Trace}
+use Rattle.zk_trace.specs.Lawful.{IsLawful}
+use Rattle.zk_trace.specs.Shown.{trace_shown}
+use Rattle.zk_cli.specs.UserChecks.{EachChecksFirst}
+
+-- who is told as ended by an oops is so
+oops-dead : (at : At) → state_at at ≡ Oops → at.mode ≡ Dead
+oops-dead at is = by (is_spent_at at) at.mode (is_done at.frames) is where
+  by_done : (done : Bool) → cond done Done Standing ≡ Oops → {A : Type 0} → A
+  by_done true is = absurd (cc)
+  by_done false is = absurd (cc)
+
+  by : (spent : Bool) (mode : Mode) (done : Bool) → cond spent Spent (cond (is_dead mode) Oops (cond done Done Standing)) ≡ Oops → mode ≡ Dead
+  by true mode done is = absurd (cc)
+  by false Dead done is = refl
+  by false Supervisor done is = by_done done is
+  by false User done is = by_done done is
+
+-- each log of a lawful trace has checked first
+pub checks-kept : (s : Parts) (t : Trace) → IsLawful s t → EachChecksFirst s t
+checks-kept s t lawful number log is =
+    let follows = lawful.log.follow number log is in
+    let answers : follows.end.answers ≡ log.answers = ap (λ (l : Log). l.answers) follows.logged in
+    let steps : follows.end.spots ≡ log.steps = ap (λ (l : Log). l.steps) follows.logged in
+    let state : state_at follows.end ≡ log.state = ap (λ (l : Log). l.state) follows.logged in
+    let all = each_user_is_checked s number (trace_shown t) follows.end follows.led in
+    record {
+      start = follows.led.start;
+      starts = follows.led.starts;
+      made = follows.led.made;
+      stands = subst (λ (x : List Spot). AllZip (Stands (trace_shown t)) x follows.led.made) steps follows.led.stands;
+      checked = all.0;
+      ended = λ oops. subst (EndedByOops s follows.led.start follows.led.made) answers (all.1 (oops-dead follows.end (state ∙ oops)));
+    }
