@@ -1,5 +1,5 @@
 -- A call of a free line fits as any other does, where each object that it needs is what it has to be.
-use Rattle.std.proofs.Common.{◌≡◌, ℕ, Bool, true, false, ◌&&◌, Option, Some, None, option_to_list, List, [], ◌∷◌, ◌++◌, All, refl, ap}
+use Rattle.std.proofs.Common.{◌≡◌, ℕ, true, false, ◌&&◌, Option, Some, None, option_to_list, List, [], ◌∷◌, All, refl}
 use Rattle.std.specs.List.{list_all, filter_map, cons_option}
 use Rattle.std.proofs.lemmas.Bool.{and_parts, and_from}
 use Rattle.std.proofs.lemmas.List.Elements.{All-nil, All-cons, All-head, All-tail}

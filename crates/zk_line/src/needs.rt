@@ -48,7 +48,11 @@ fn item_maybe_queue(item: Ref, queue: Option<Ref>, index: u32) -> Option<Needed>
         (needed item Need.Item ∷ option_to_list (option_map (λ q. needed q Need.Queue) queue)) index }
 {
     match queue {
-        Some(queue) => two(need_for(item, Need::Item), need_for(queue, Need::Queue), index),
+        Some(queue) => two(
+            need_for(item, Need::Item),
+            need_for(queue, Need::Queue),
+            index,
+        ),
         None => one(item, Need::Item, index),
     }
 }

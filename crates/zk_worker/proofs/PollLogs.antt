@@ -348,9 +348,9 @@ open-checked : (s : Parts) (made : List Made) (passed : ℕ) (frames : List Fram
     AreOpen s longer frames
 open-checked s made passed [] check is are longer = tt
 open-checked s made passed (frame ∷ below) check is are longer = (
-    subst (λ (stage : Stage). PlaysOn s longer frame.role frame.next stage) (sym (check-starts s passed frame.role frame.next frame.stage check is)) (plays-fresh s longer frame.role frame.next),
-    are.1,
-  )
+  subst (λ (stage : Stage). PlaysOn s longer frame.role frame.next stage) (sym (check-starts s passed frame.role frame.next frame.stage check is)) (plays-fresh s longer frame.role frame.next),
+  are.1,
+)
 
 holds-step : (s : Parts) (made : List Made) (m : Made) (at : At) → Holds s made at → IsAhead s at m.0 → Holds s (made ++ m ∷ []) (after s at m.0 m.1)
 holds-step s made m at holds ahead = turn (Holds s longer) s at m.0 m.1 ahead (λ is. by_check is (oops_in m.1)) by_own where

@@ -187,7 +187,7 @@ behind-top s start made at frame below k step none ahead checked top owner role 
   by : (stage : Stage) → frame.stage ≡ stage → IsBehindChecks s start made owner frame.next below
   by Start same =
       let there : slice_get (frames_attempts s (record { role = Script owner; next = frame.next; stage = Start } ∷ below)) k ≡ Some step =
-          ap (λ (f : Frame). slice_get (frames_attempts s (f ∷ below)) k) (sym (here Start same)) ∙ ahead in
+      ap (λ (f : Frame). slice_get (frames_attempts s (f ∷ below)) k) (sym (here Start same)) ∙ ahead in
       of_call (slice_get (calls_of s.scripts owner) frame.next) refl there
     where
       of_call : (o : Option Call) → slice_get (calls_of s.scripts owner) frame.next ≡ o → slice_get (frames_attempts s (record { role = Script owner; next = frame.next; stage = Start } ∷ below)) k ≡ Some step →
@@ -316,7 +316,7 @@ no-more s at end (m ∷ more) none dead led =
     absurd (let there = (cond_nil-at (nat_lt (length at.spots) MOST_STEPS) (checks_first (check_at s at) (frames_attempts s at.frames)) led.0.0 m.0 led.0.1).1 in
     let no_check : check_at s at ≡ None = ap (λ (mode : Mode). next_check s mode at.passed at.frames) dead in
     let nothing : slice_get {X = Step} [] led.0.0 ≡ Some m.0 =
-        ap (λ (l : List Frame). slice_get (frames_attempts s l) led.0.0) (sym none) ∙ ap (λ (c : Option Check). slice_get (checks_first c (frames_attempts s at.frames)) led.0.0) (sym no_check) ∙ there in
+    ap (λ (l : List Frame). slice_get (frames_attempts s l) led.0.0) (sym none) ∙ ap (λ (c : Option Check). slice_get (checks_first c (frames_attempts s at.frames)) led.0.0) (sym no_check) ∙ there in
     cc)
 
 -- All steps.
@@ -346,7 +346,7 @@ module _ (s : Parts) (start at end : At) (front : List Made) (m : Made) (more : 
   unfolding Both
   by_check further is None none =
       let same : after s at m.0 m.1 ≡ checked at is.check.word None (spot_of m.0 m.1) =
-          ap (after_by s at m.0 m.1) is.comes ∙ ap (λ (w : Option OopsWhy). checked at is.check.word w (spot_of m.0 m.1)) none in
+      ap (after_by s at m.0 m.1) is.comes ∙ ap (λ (w : Option OopsWhy). checked at is.check.word w (spot_of m.0 m.1)) none in
       with-rest (checks-itself s start front at.frames is.check m is.is_step)
       (further (passed-holds s start front m at holds ahead is none) (λ dead. alive (sym (ap (λ (a : At). a.mode) same) ∙ dead)))
   by_check further is (Some why) failed =
@@ -354,9 +354,11 @@ module _ (s : Parts) (start at end : At) (front : List Made) (m : Made) (more : 
       let same : after s at m.0 m.1 ≡ next = ap (after_by s at m.0 m.1) is.comes ∙ ap (λ (w : Option OopsWhy). checked at is.check.word w (spot_of m.0 m.1)) failed in
       let over = no-more s (after s at m.0 m.1) end more (ap (λ (a : At). a.frames) same) (ap (λ (a : At). a.mode) same) led in
       let ended = ended-by s start front m at at.frames is.check why (checks-user s at.mode at.passed at.frames is.check is.comes)
-          (check-of-top s at.mode at.passed at.frames is.check is.comes) is.is_step failed long holds.top in (
-        (checks-itself s start front at.frames is.check m is.is_step,
-          subst (λ (l : List Made). AreChecked s start (front ++ m ∷ []) (after s at m.0 m.1) l) (sym over.0) tt),
+      (check-of-top s at.mode at.passed at.frames is.check is.comes) is.is_step failed long holds.top in (
+        (
+          checks-itself s start front at.frames is.check m is.is_step,
+          subst (λ (l : List Made). AreChecked s start (front ++ m ∷ []) (after s at m.0 m.1) l) (sym over.0) tt,
+        ),
         λ dead. subst (λ (l : List Made). EndedByOops s start (front ++ m ∷ l) end.answers) (sym over.0)
             (subst (λ (a : At). EndedByOops s start (front ++ m ∷ []) a.answers) (sym (over.1 ∙ same)) ended),
       )
@@ -379,8 +381,8 @@ unfolding Both Rest
 played-checked s start at end front [] long holds led alive = (tt, λ dead. absurd (alive (ap (λ (a : At). a.mode) led ∙ dead)))
 played-checked s start at end front (m ∷ more) long holds led alive =
     let longer : length (after s at m.0 m.1).spots ≡ length (front ++ m ∷ []) =
-        ap (λ (l : List Spot). length l) (after-spots s at m.0 m.1).1
-        ∙ (let spots = length-append at.spots (spot_of m.0 m.1 ∷ []) in let all = length-append front (m ∷ []) in omega (arith, long, spots, all)) in
+    ap (λ (l : List Spot). length l) (after-spots s at m.0 m.1).1
+    ∙ (let spots = length-append at.spots (spot_of m.0 m.1 ∷ []) in let all = length-append front (m ∷ []) in omega (arith, long, spots, all)) in
     step-checked s start at end front m more long holds led.0 led.1 alive
     (λ next living. played-checked s start (after s at m.0 m.1) end (front ++ m ∷ []) more longer next led.1 living)
 

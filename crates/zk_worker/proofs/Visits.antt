@@ -309,9 +309,14 @@ step-visits s chans who done at long step reply ahead replied kept was = turn P 
       none-used : (is : IsCheck s at step) (chan : ℕ) → is_use chan (step, reply) ≡ false
       none-used is chan = ap (λ (x : Step). is_use chan (x, reply)) (sym is.is_step)
   by_why is (Some why) =
-      let new : Answered = record { step = length at.spots; word = is.check.word; answer = Oops why } in
-      ((All-nil (FrameVisits s later), All-append (UsesOrIsRefused s later) at.answers (new ∷ []) told
-      (All-cons (UsesOrIsRefused s later) new [] (λ passed. absurd (cc)) (All-nil (UsesOrIsRefused s later)))), λ chan used. never is chan used)
+      let new : Answered = record { step = length at.spots; word = is.check.word; answer = Oops why } in (
+        (
+          All-nil (FrameVisits s later),
+          All-append (UsesOrIsRefused s later) at.answers (new ∷ []) told
+              (All-cons (UsesOrIsRefused s later) new [] (λ passed. absurd (cc)) (All-nil (UsesOrIsRefused s later))),
+        ),
+        λ chan used. never is chan used,
+      )
 
   by_own : IsOwn s at step → P (moved s at step (frames_progress s at.frames step reply) (spot_of step reply))
   by_own is = frames-visit s chans who done (length at.spots) long step reply at.frames is.index at.answers is.ahead replied kept was
@@ -337,16 +342,16 @@ played-visits s chans at end (made ∷ more) done kept plays ends long was =
     let next = kept-more s found who at made.0 made.1 plays.4 plays.5 now in
     let visit = step-visits s found who done at long made.0 made.1 plays.4 plays.5 now was in
     let further = played-visits s (chans_after found who (length at.spots) made.0 made.1) (after s at made.0 made.1) end more (done ++ made ∷ [])
-        (subst (λ (n : ℕ). AreKept s (chans_after found who (length at.spots) made.0 made.1) n (after s at made.0 made.1).frames)
-        (own ∙ ap (λ (w : Who). w.number) (sym (after-spots s at made.0 made.1).0)) next) plays.6 ends.1
-        (ap (λ (l : List Spot). length l) (after-spots s at made.0 made.1).1 ∙ (let spots = length-append at.spots (spot_of made.0 made.1 ∷ []) in let all = length-append done (made ∷ []) in omega arith)) visit.0 in
+    (subst (λ (n : ℕ). AreKept s (chans_after found who (length at.spots) made.0 made.1) n (after s at made.0 made.1).frames)
+    (own ∙ ap (λ (w : Who). w.number) (sym (after-spots s at made.0 made.1).0)) next) plays.6 ends.1
+    (ap (λ (l : List Spot). length l) (after-spots s at made.0 made.1).1 ∙ (let spots = length-append at.spots (spot_of made.0 made.1 ∷ []) in let all = length-append done (made ∷ []) in omega arith)) visit.0 in
     let count : length done + 1 ≡ length (done ++ made ∷ []) = (let all = length-append done (made ∷ []) in omega arith) in (
       subst (λ (l : List Made). All (UsesOrIsRefused s l) end.answers) (append_assoc done (made ∷ []) more) further.0,
       (visit.1, further.1),
       (
         λ frees. answered-still s (after s at made.0 made.1) end more (length done) ends.1
-        (subst (λ (n : ℕ). IsAnswered (after s at made.0 made.1).answers n) long
-        (step-answers s found who at made.0 made.1 plays.4 frees plays.5)),
+            (subst (λ (n : ℕ). IsAnswered (after s at made.0 made.1).answers n) long
+            (step-answers s found who at made.0 made.1 plays.4 frees plays.5)),
         subst (λ (n : ℕ). AreAnswered end.answers n more) (sym count) further.2,
       ),
     )

@@ -5,5 +5,4 @@ ghost use Rattle.zk_worker.specs.CheckLaws.{EachUserIsChecked};
 /// the call's earlier checks alone, and answered why. It does nothing when it runs.
 pub fn users_are_checked()
     ensures followed { EachUserIsChecked }
-{
-}
+{}

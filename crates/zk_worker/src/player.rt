@@ -16,8 +16,8 @@ use crate::protocol::spot_of;
 use crate::stack::{frames_ahead, frames_progress, move_frames, open_frame, put_answer, settle};
 use crate::steps::MOST_STEPS;
 use crate::{
-    Answer, Answered, Answers, Check, Frame, Log, Mode, PlayerState, Role, Spot, Spots, Stage, Step,
-    StepReply, Word,
+    Answer, Answered, Answers, Check, Frame, Log, Mode, PlayerState, Role, Spot, Spots, Stage,
+    Step, StepReply, Word,
 };
 use std::alloc::Global;
 use std::marker::Model;
