@@ -1,12 +1,10 @@
 -- The users of a lawful trace are checked before all else.
-use Rattle.std.proofs.Common.{◌≡◌, ℕ, Bool, true, false, cond, List, refl, sym, ap, subst, ◌∙◌}
+use Rattle.std.proofs.Common.{◌≡◌, Bool, true, false, cond, List, refl, ap, subst, ◌∙◌}
 use Rattle.std.specs.List.{AllZip}
 use Rattle.zk_scenario.specs.Parts.{Parts}
-use Rattle.zk_worker.specs.declared.answers.Answered.{Answered}
 use Rattle.zk_worker.specs.declared.checks.Mode.{Mode}
 use Rattle.zk_worker.specs.declared.checks.Mode.TheVariants.{Supervisor, User, Dead}
 use Rattle.zk_worker.specs.declared.log.Log.{Log}
-use Rattle.zk_worker.specs.declared.log.PlayerState.{PlayerState}
 use Rattle.zk_worker.specs.declared.log.PlayerState.TheVariants.{Spent, Oops, Done, Standing}
 use Rattle.zk_worker.specs.declared.steps.Spot.{Spot}
 use Rattle.zk_worker.specs.CheckLaws.{EndedByOops}
