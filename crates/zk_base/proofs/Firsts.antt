@@ -24,7 +24,8 @@ abbrev pub one_if : Bool → ℕ
 one_if b = cond b 1 0
 
 module _ {A : Type 0} (p : A → Bool) where
-  remove-first-at : (x : A) (xs : List A) (b : Bool) (n : ℕ) (rest : List A) → remove xs n ≡ rest → remove (x ∷ xs) (cond (not b) (1 + n) 0) ≡ cond b xs (x ∷ rest)
+  remove-first-at : (x : A) (xs : List A) (b : Bool) (n : ℕ) (rest : List A) → remove xs n ≡ rest →
+      remove (x ∷ xs) (cond (not b) (1 + n) 0) ≡ cond b xs (x ∷ rest)
   remove-first-at x xs true n rest same = refl
   remove-first-at x xs false n rest same =
       let next : 1 + n ≡ suc n = omega arith in
@@ -36,7 +37,8 @@ module _ {A : Type 0} (p : A → Bool) where
 
   -- the first place that passes, taken out
   pub remove-place : (xs : List A) (place : ℕ) → position p xs ≡ Some place → remove xs place ≡ without_first p xs
-  remove-place xs place found = ap (remove xs) (sym ((place_within (position_or_len p xs) place (length xs) found).0)) ∙ remove-first xs
+  remove-place xs place found = ap (remove xs) (sym ((place_within (position_or_len p xs) place (length xs) found).0))
+      ∙ remove-first xs
 
   -- where no place passes, nothing is taken out
   pub without-none : (xs : List A) → position p xs ≡ None → without_first p xs ≡ xs
@@ -44,7 +46,8 @@ module _ {A : Type 0} (p : A → Bool) where
       let past = place_past (position_or_len p xs) (length xs) none in
       sym (remove-first xs) ∙ remove_past (position_or_len p xs) xs past
 
-  most-at : (x : A) (xs : List A) (b : Bool) → position_or_len p xs ≤ length xs → cond (not b) (1 + position_or_len p xs) 0 ≤ suc (length xs)
+  most-at : (x : A) (xs : List A) (b : Bool) → position_or_len p xs ≤ length xs →
+      cond (not b) (1 + position_or_len p xs) 0 ≤ suc (length xs)
   most-at x xs true below = omega arith
   most-at x xs false below = omega arith
 
@@ -69,7 +72,8 @@ module _ {A : Type 0} (p : A → Bool) where
   pub find-none : (xs : List A) → position p xs ≡ None → find p xs ≡ None
   find-none xs none = find_at p xs ∙ slice_get_past xs (position_or_len p xs) (place_past (position_or_len p xs) (length xs) none)
 
-  any-find-at : (x : A) (xs : List A) (b : Bool) → list_any p xs ≡ is_some (find p xs) → (b || list_any p xs) ≡ is_some (cond b (Some x) (find p xs))
+  any-find-at : (x : A) (xs : List A) (b : Bool) → list_any p xs ≡ is_some (find p xs) →
+      (b || list_any p xs) ≡ is_some (cond b (Some x) (find p xs))
   any-find-at x xs true rest = refl
   any-find-at x xs false rest = rest
 
@@ -78,7 +82,8 @@ module _ {A : Type 0} (p : A → Bool) where
   any-find [] = refl
   any-find (x ∷ xs) = any-find-at x xs (p x) (any-find xs)
 
-  insert-before-at : (x y : A) (ys : List A) (b : Bool) (n : ℕ) (rest : List A) → insert ys n x ≡ rest → insert (y ∷ ys) (cond (not b) (1 + n) 0) x ≡ cond b (x ∷ y ∷ ys) (y ∷ rest)
+  insert-before-at : (x y : A) (ys : List A) (b : Bool) (n : ℕ) (rest : List A) → insert ys n x ≡ rest →
+      insert (y ∷ ys) (cond (not b) (1 + n) 0) x ≡ cond b (x ∷ y ∷ ys) (y ∷ rest)
   insert-before-at x y ys true n rest same = refl
   insert-before-at x y ys false n rest same =
       let next : 1 + n ≡ suc n = omega arith in
@@ -89,7 +94,8 @@ module _ {A : Type 0} (p : A → Bool) where
   insert-before x [] = refl
   insert-before x (y ∷ ys) = insert-before-at x y ys (p y) (position_or_len p ys) (put_before p x ys) (insert-before x ys)
 
-  length-without-at : (x : A) (xs : List A) (b : Bool) → (list_any p xs ≡ true → 1 + length (without_first p xs) ≡ length xs) → (b || list_any p xs) ≡ true →
+  length-without-at : (x : A) (xs : List A) (b : Bool) →
+      (list_any p xs ≡ true → 1 + length (without_first p xs) ≡ length xs) → (b || list_any p xs) ≡ true →
       1 + length (cond b xs (x ∷ without_first p xs)) ≡ suc (length xs)
   length-without-at x xs true rest some = omega arith
   length-without-at x xs false rest some = let long = rest some in omega arith
@@ -99,7 +105,8 @@ module _ {A : Type 0} (p : A → Bool) where
   length-without [] some = absurd (cc)
   length-without (x ∷ xs) some = length-without-at x xs (p x) (length-without xs) some
 
-  length-less-at : (x : A) (xs : List A) (b : Bool) → length (without_first p xs) ≤ length xs → length (cond b xs (x ∷ without_first p xs)) ≤ suc (length xs)
+  length-less-at : (x : A) (xs : List A) (b : Bool) → length (without_first p xs) ≤ length xs →
+      length (cond b xs (x ∷ without_first p xs)) ≤ suc (length xs)
   length-less-at x xs true less = omega arith
   length-less-at x xs false less = omega arith
 
@@ -108,7 +115,8 @@ module _ {A : Type 0} (p : A → Bool) where
   length-less [] = omega arith
   length-less (x ∷ xs) = length-less-at x xs (p x) (length-less xs)
 
-  count-without-at : (x : A) (xs : List A) (b : Bool) → p x ≡ b → (list_any p xs ≡ true → 1 + count_by p (without_first p xs) ≡ count_by p xs) → (b || list_any p xs) ≡ true →
+  count-without-at : (x : A) (xs : List A) (b : Bool) → p x ≡ b →
+      (list_any p xs ≡ true → 1 + count_by p (without_first p xs) ≡ count_by p xs) → (b || list_any p xs) ≡ true →
       1 + count_by p (cond b xs (x ∷ without_first p xs)) ≡ count_by p (x ∷ xs)
   count-without-at x xs true is rest some =
       let here : one_if (p x) ≡ 1 = ap one_if is in
@@ -122,7 +130,8 @@ module _ {A : Type 0} (p : A → Bool) where
   count-without [] some = absurd (cc)
   count-without (x ∷ xs) some = count-without-at x xs (p x) refl (count-without xs) some
 
-  count-none-at : (x : A) (xs : List A) (b : Bool) → p x ≡ b → (list_any p xs ≡ false → count_by p xs ≡ 0) → (b || list_any p xs) ≡ false → count_by p (x ∷ xs) ≡ 0
+  count-none-at : (x : A) (xs : List A) (b : Bool) → p x ≡ b → (list_any p xs ≡ false → count_by p xs ≡ 0) →
+      (b || list_any p xs) ≡ false → count_by p (x ∷ xs) ≡ 0
   count-none-at x xs true is rest none = absurd (cc)
   count-none-at x xs false is rest none =
       let here : one_if (p x) ≡ 0 = ap one_if is in
@@ -146,7 +155,8 @@ module _ {A : Type 0} (p : A → Bool) where
   pub counted-any : (xs : List A) → list_any p xs ≡ true → 0 < count_by p xs
   counted-any xs some = let one = count-without xs some in omega arith
 
-  found-at : (x y : A) (xs : List A) (b : Bool) → p x ≡ b → (find p xs ≡ Some y → p y ≡ true) → cond b (Some x) (find p xs) ≡ Some y → p y ≡ true
+  found-at : (x y : A) (xs : List A) (b : Bool) → p x ≡ b → (find p xs ≡ Some y → p y ≡ true) →
+      cond b (Some x) (find p xs) ≡ Some y → p y ≡ true
   found-at x y xs true is rest found = subst (λ (z : A). p z ≡ true) (same_Some x y found) is
   found-at x y xs false is rest found = rest found
 
@@ -155,7 +165,8 @@ module _ {A : Type 0} (p : A → Bool) where
   found-passes [] y found = absurd (cc)
   found-passes (x ∷ xs) y found = found-at x y xs (p x) refl (found-passes xs y) found
 
-  lost-at : (x : A) (xs : List A) (b : Bool) → (find p xs ≡ None → without_first p xs ≡ xs) → cond b (Some x) (find p xs) ≡ None → cond b xs (x ∷ without_first p xs) ≡ x ∷ xs
+  lost-at : (x : A) (xs : List A) (b : Bool) → (find p xs ≡ None → without_first p xs ≡ xs) →
+      cond b (Some x) (find p xs) ≡ None → cond b xs (x ∷ without_first p xs) ≡ x ∷ xs
   lost-at x xs true rest none = absurd (cc)
   lost-at x xs false rest none = ap (λ (l : List A). x ∷ l) (rest none)
 
@@ -165,7 +176,8 @@ module _ {A : Type 0} (p : A → Bool) where
   without-lost (x ∷ xs) none = lost-at x xs (p x) (without-lost xs) none
 
 module _ {A : Type 0} (p q : A → Bool) where
-  count-found-at : (x y : A) (xs : List A) (b : Bool) → (find p xs ≡ Some y → count_by q xs ≡ one_if (q y) + count_by q (without_first p xs)) →
+  count-found-at : (x y : A) (xs : List A) (b : Bool) →
+      (find p xs ≡ Some y → count_by q xs ≡ one_if (q y) + count_by q (without_first p xs)) →
       cond b (Some x) (find p xs) ≡ Some y → count_by q (x ∷ xs) ≡ one_if (q y) + count_by q (cond b xs (x ∷ without_first p xs))
   count-found-at x y xs true rest found =
       let same : one_if (q x) ≡ one_if (q y) = ap (λ (z : A). one_if (q z)) (same_Some x y found) in
@@ -182,7 +194,8 @@ module _ {A : Type 0} (p q : A → Bool) where
   count-put-at : (x y : A) (ys : List A) (b : Bool) → count_by q (put_before p x ys) ≡ one_if (q x) + count_by q ys →
       count_by q (cond b (x ∷ y ∷ ys) (y ∷ put_before p x ys)) ≡ one_if (q x) + count_by q (y ∷ ys)
   count-put-at x y ys true rest = sum_by-cons (λ (z : A). one_if (q z)) x (y ∷ ys)
-  count-put-at x y ys false rest = omega (arith, sum_by-cons (λ (z : A). one_if (q z)) y ys, sum_by-cons (λ (z : A). one_if (q z)) y (put_before p x ys))
+  count-put-at x y ys false rest =
+      omega (arith, sum_by-cons (λ (z : A). one_if (q z)) y ys, sum_by-cons (λ (z : A). one_if (q z)) y (put_before p x ys))
 
   -- what is put in is counted
   pub count-put_before : (x : A) (xs : List A) → count_by q (put_before p x xs) ≡ one_if (q x) + count_by q xs
@@ -196,13 +209,15 @@ module _ {A : Type 0} (q : A → Bool) where
       let cons = sum_by-cons (λ (z : A). one_if (q z)) y ys in
       All-cons (λ (x : A). q x ≡ true → 0 < count_by q (y ∷ ys)) y ys
       (λ is. let one : one_if (q y) ≡ 1 = ap one_if is in omega arith)
-      (All-weaker (λ (x : A). q x ≡ true → 0 < count_by q ys) (λ (x : A). q x ≡ true → 0 < count_by q (y ∷ ys)) (λ x some is. let more = some is in omega arith) ys (counted-each ys))
+      (All-weaker (λ (x : A). q x ≡ true → 0 < count_by q ys) (λ (x : A). q x ≡ true →
+      0 < count_by q (y ∷ ys)) (λ x some is. let more = some is in omega arith) ys (counted-each ys))
 
   -- one that is there and passes is counted
   pub count-contains : (xs : List A) (x : A) → Contains xs x → q x ≡ true → 0 < count_by q xs
   count-contains xs x held = All-contains (λ (y : A). q y ≡ true → 0 < count_by q xs) xs x (counted-each xs) held
 
-  only-cons : (p : A → Bool) → ((x : A) → p x ≡ true → q x ≡ true) → (y x : A) (ys : List A) (b : Bool) → p y ≡ b → (p x ≡ true → count_by q ys ≤ 1 → find p ys ≡ Some x) → Contains ys x → p x ≡ true → count_by q (y ∷ ys) ≤ 1 →
+  only-cons : (p : A → Bool) → ((x : A) → p x ≡ true → q x ≡ true) → (y x : A) (ys : List A) (b : Bool) → p y ≡ b →
+      (p x ≡ true → count_by q ys ≤ 1 → find p ys ≡ Some x) → Contains ys x → p x ≡ true → count_by q (y ∷ ys) ≤ 1 →
       cond b (Some y) (find p ys) ≡ Some x
   only-cons p within y x ys true here rest held is most =
       let one : one_if (q y) ≡ 1 = ap one_if (within y here) in
@@ -213,18 +228,22 @@ module _ {A : Type 0} (q : A → Bool) where
       let cons = sum_by-cons (λ (z : A). one_if (q z)) y ys in
       rest is (omega arith)
 
-  only-each : (p : A → Bool) → ((x : A) → p x ≡ true → q x ≡ true) → (xs : List A) → All (λ (x : A). p x ≡ true → count_by q xs ≤ 1 → find p xs ≡ Some x) xs
+  only-each : (p : A → Bool) → ((x : A) → p x ≡ true → q x ≡ true) → (xs : List A) →
+      All (λ (x : A). p x ≡ true → count_by q xs ≤ 1 → find p xs ≡ Some x) xs
   only-each p within [] = All-nil (λ (x : A). p x ≡ true → count_by q [] ≤ 1 → find p [] ≡ Some x)
   only-each p within (y ∷ ys) =
       let P : A → Type 0 = λ (x : A). p x ≡ true → count_by q ys ≤ 1 → find p ys ≡ Some x in
       let Q : A → Type 0 = λ (x : A). p x ≡ true → count_by q (y ∷ ys) ≤ 1 → find p (y ∷ ys) ≡ Some x in
       let each = only-each p within ys in
       All-cons Q y ys (λ is most. ap (λ (b : Bool). cond b (Some y) (find p ys)) is)
-      (All-weaker (Contains ys) Q (λ x held is most. only-cons p within y x ys (p y) refl (All-contains P ys x each held) held is most) ys (All-contains_itself ys))
+      (All-weaker (Contains ys) Q (λ x held is most. only-cons p within y x ys (p y) refl (All-contains P ys x each held)
+      held is most) ys (All-contains_itself ys))
 
   -- where one at most passes, the one that passes is found
-  pub found-only : (p : A → Bool) → ((x : A) → p x ≡ true → q x ≡ true) → (xs : List A) (x : A) → Contains xs x → p x ≡ true → count_by q xs ≤ 1 → find p xs ≡ Some x
-  found-only p within xs x held is most = All-contains (λ (x : A). p x ≡ true → count_by q xs ≤ 1 → find p xs ≡ Some x) xs x (only-each p within xs) held is most
+  pub found-only : (p : A → Bool) → ((x : A) → p x ≡ true → q x ≡ true) → (xs : List A) (x : A) → Contains xs x →
+      p x ≡ true → count_by q xs ≤ 1 → find p xs ≡ Some x
+  found-only p within xs x held is most = All-contains (λ (x : A). p x ≡ true → count_by q xs ≤ 1 →
+      find p xs ≡ Some x) xs x (only-each p within xs) held is most
 
 module _ {A : Type 0} (P : A → Type 0) (p : A → Bool) where
   found-has : (x y : A) (xs : List A) (b : Bool) → P x → (find p xs ≡ Some y → P y) → cond b (Some x) (find p xs) ≡ Some y → P y
@@ -236,11 +255,15 @@ module _ {A : Type 0} (P : A → Type 0) (p : A → Bool) where
   All-found [] y held found = absurd (cc)
   All-found (x ∷ xs) y held found = found-has x y xs (p x) (All-head P x xs held) (All-found xs y (All-tail P x xs held)) found
 
-  but-cons : (x : A) (xs : List A) (b : Bool) → p x ≡ b → (All P (without_first p xs) → All (λ (y : A). p y ≡ false → P y) xs) → All P (cond b xs (x ∷ without_first p xs)) → All (λ (y : A). p y ≡ false → P y) (x ∷ xs)
+  but-cons : (x : A) (xs : List A) (b : Bool) → p x ≡ b →
+      (All P (without_first p xs) → All (λ (y : A). p y ≡ false → P y) xs) → All P (cond b xs (x ∷ without_first p xs)) →
+      All (λ (y : A). p y ≡ false → P y) (x ∷ xs)
   but-cons x xs true is rest held =
-      All-cons (λ (y : A). p y ≡ false → P y) x xs (λ isnt. absurd (cc)) (All-weaker P (λ (y : A). p y ≡ false → P y) (λ y has isnt. has) xs held)
+      All-cons (λ (y : A). p y ≡ false → P y) x xs (λ isnt. absurd (cc)) (All-weaker P (λ (y : A). p y ≡ false →
+      P y) (λ y has isnt. has) xs held)
   but-cons x xs false is rest held =
-      All-cons (λ (y : A). p y ≡ false → P y) x xs (λ isnt. All-head P x (without_first p xs) held) (rest (All-tail P x (without_first p xs) held))
+      All-cons (λ (y : A). p y ≡ false → P y) x xs (λ isnt. All-head P x (without_first p xs) held)
+      (rest (All-tail P x (without_first p xs) held))
 
   -- what holds of each but the first that passes holds of all that don't pass
   All-but : (xs : List A) → All P (without_first p xs) → All (λ (y : A). p y ≡ false → P y) xs
@@ -248,7 +271,8 @@ module _ {A : Type 0} (P : A → Type 0) (p : A → Bool) where
   All-but (x ∷ xs) held = but-cons x xs (p x) refl (All-but xs) held
 
 -- one that doesn't pass stays
-pub stays-without : {A : Type 0} (p : A → Bool) (xs : List A) (x : A) → Contains xs x → p x ≡ false → Contains (without_first p xs) x
+pub stays-without : {A : Type 0} (p : A → Bool) (xs : List A) (x : A) → Contains xs x → p x ≡ false →
+    Contains (without_first p xs) x
 stays-without {A} p xs x held isnt =
     let l = without_first p xs in
     All-contains (λ (y : A). p y ≡ false → Contains l y) xs x (All-but (Contains l) p xs (All-contains_itself l)) held isnt
@@ -258,11 +282,13 @@ pub found-there : {A : Type 0} (p : A → Bool) (xs : List A) (y : A) → find p
 found-there p xs y found = All-found (Contains xs) p xs y (All-contains_itself xs) found
 
 module _ {A : Type 0} (p q : A → Bool) (apart : (x : A) → p x ≡ true → q x ≡ false) where
-  count-aside-at : (x : A) (xs : List A) (b : Bool) → p x ≡ b → count_by q (without_first p xs) ≡ count_by q xs → count_by q (cond b xs (x ∷ without_first p xs)) ≡ count_by q (x ∷ xs)
+  count-aside-at : (x : A) (xs : List A) (b : Bool) → p x ≡ b → count_by q (without_first p xs) ≡ count_by q xs →
+      count_by q (cond b xs (x ∷ without_first p xs)) ≡ count_by q (x ∷ xs)
   count-aside-at x xs true is rest =
       let here : one_if (q x) ≡ 0 = ap one_if (apart x is) in
       omega (arith, sum_by-cons (λ (y : A). one_if (q y)) x xs)
-  count-aside-at x xs false is rest = omega (arith, sum_by-cons (λ (y : A). one_if (q y)) x xs, sum_by-cons (λ (y : A). one_if (q y)) x (without_first p xs))
+  count-aside-at x xs false is rest =
+      omega (arith, sum_by-cons (λ (y : A). one_if (q y)) x xs, sum_by-cons (λ (y : A). one_if (q y)) x (without_first p xs))
 
   -- as many pass another test as before, which what is taken out doesn't pass
   pub count-aside : (xs : List A) → count_by q (without_first p xs) ≡ count_by q xs

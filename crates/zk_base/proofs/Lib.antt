@@ -1,5 +1,7 @@
 pub mod Causes
 pub mod Firsts
+pub mod Fronts
+pub mod Handed
 pub mod Histories
 pub mod Lists
 pub mod Order

@@ -21,7 +21,8 @@ cond_chosen true o x is = (refl, is)
 cond_chosen false o x is = absurd (cc)
 
 -- an element of a list that is given only where a test holds
-pub cond_nil-at : {A : Type 0} (b : Bool) (xs : List A) (k : ℕ) (x : A) → slice_get (cond b xs []) k ≡ Some x → (b ≡ true) × (slice_get xs k ≡ Some x)
+pub cond_nil-at : {A : Type 0} (b : Bool) (xs : List A) (k : ℕ) (x : A) → slice_get (cond b xs []) k ≡ Some x →
+    (b ≡ true) × (slice_get xs k ≡ Some x)
 cond_nil-at true xs k x at = (refl, at)
 cond_nil-at false xs k x at = absurd (cc)
 
@@ -47,7 +48,8 @@ All-at P (y ∷ ys) zero x all at = rw (same_Some y x at) at (All-head P y ys al
 All-at P (y ∷ ys) (suc k) x all at = All-at P ys k x (All-tail P y ys all) at
 
 -- where all pass a test, the one at a place does
-pub list_all-at : {A : Type 0} (test : A → Bool) (xs : List A) (k : ℕ) (x : A) → list_all test xs ≡ true → slice_get xs k ≡ Some x → test x ≡ true
+pub list_all-at : {A : Type 0} (test : A → Bool) (xs : List A) (k : ℕ) (x : A) → list_all test xs ≡ true →
+    slice_get xs k ≡ Some x → test x ≡ true
 list_all-at test [] k x all at = absurd (cc)
 list_all-at test (y ∷ ys) zero x all at = ap test (sym (same_Some y x at)) ∙ (and_parts (test y) (list_all test ys) all).0
 list_all-at test (y ∷ ys) (suc k) x all at = list_all-at test ys k x (and_parts (test y) (list_all test ys) all).1 at

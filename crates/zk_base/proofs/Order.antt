@@ -12,7 +12,8 @@ pub put_by-below : {A : Type 0} (key : A → ℕ) (x y : A) (ys : List A) → ke
 put_by-below key x y ys below = ap (λ b. cond b (x ∷ y ∷ ys) (y ∷ put_by key x ys)) (lt-ltb (key x) (key y) below)
 
 -- and else somewhere behind it
-pub put_by-above : {A : Type 0} (key : A → ℕ) (x y : A) (ys : List A) → key y ≤ key x → put_by key x (y ∷ ys) ≡ y ∷ put_by key x ys
+pub put_by-above : {A : Type 0} (key : A → ℕ) (x y : A) (ys : List A) → key y ≤ key x →
+    put_by key x (y ∷ ys) ≡ y ∷ put_by key x ys
 put_by-above key x y ys above = ap (λ b. cond b (x ∷ y ∷ ys) (y ∷ put_by key x ys)) (le-ltb (key x) (key y) above)
 
 -- in front of all whose keys are above its own
@@ -28,11 +29,13 @@ put_by-last {A} key x (y ∷ ys) above =
     put_by-above key x y ys (All-head P y ys above) ∙ ap (λ (l : List A). y ∷ l) (put_by-last key x ys (All-tail P y ys above))
 
 -- between those whose keys aren't above its own and those whose keys are
-pub put_by-between : {A : Type 0} (key : A → ℕ) (x : A) (xs ys : List A) → All (λ y. key y ≤ key x) xs → All (λ y. key x < key y) ys → put_by key x (xs ++ ys) ≡ xs ++ x ∷ ys
+pub put_by-between : {A : Type 0} (key : A → ℕ) (x : A) (xs ys : List A) → All (λ y. key y ≤ key x) xs →
+    All (λ y. key x < key y) ys → put_by key x (xs ++ ys) ≡ xs ++ x ∷ ys
 put_by-between key x [] ys above below = put_by-first key x ys below
 put_by-between {A} key x (y ∷ xs) ys above below =
     let P : A → Type 0 = λ y. key y ≤ key x in
-    put_by-above key x y (xs ++ ys) (All-head P y xs above) ∙ ap (λ (l : List A). y ∷ l) (put_by-between key x xs ys (All-tail P y xs above) below)
+    put_by-above key x y (xs ++ ys) (All-head P y xs above)
+    ∙ ap (λ (l : List A). y ∷ l) (put_by-between key x xs ys (All-tail P y xs above) below)
 
 -- what holds of both of two lists holds of the one that a test picks
 either : {A : Type 0} (P : List A → Type 0) (b : Bool) (l m : List A) → P l → P m → P (cond b l m)
@@ -49,7 +52,8 @@ All-put_by {A} P key x (y ∷ ys) here all =
 pub All-from_put_by : {A : Type 0} (P : A → Type 0) (key : A → ℕ) (x : A) (xs : List A) → All P (put_by key x xs) → P x × All P xs
 All-from_put_by P key x [] all = (All-head P x [] all, All-nil P)
 All-from_put_by {A} P key x (y ∷ ys) all = at (ltb (key x) (key y)) (All-from_put_by P key x ys) all where
-  at : (b : Bool) → (All P (put_by key x ys) → P x × All P ys) → All P (cond b (x ∷ y ∷ ys) (y ∷ put_by key x ys)) → P x × All P (y ∷ ys)
+  at : (b : Bool) → (All P (put_by key x ys) → P x × All P ys) → All P (cond b (x ∷ y ∷ ys) (y ∷ put_by key x ys)) →
+      P x × All P (y ∷ ys)
   at true rest all = (All-head P x (y ∷ ys) all, All-tail P x (y ∷ ys) all)
   at false rest all =
       let parts = rest (All-tail P y (put_by key x ys) all) in
@@ -59,13 +63,16 @@ pub length-put_by : {A : Type 0} (key : A → ℕ) (x : A) (xs : List A) → len
 length-put_by key x [] = refl
 length-put_by {A} key x (y ∷ ys) =
     let rest = length-put_by key x ys in
-    either (λ (l : List A). length l ≡ suc (length ys) + 1) (ltb (key x) (key y)) (x ∷ y ∷ ys) (y ∷ put_by key x ys) (omega arith) (omega arith)
+    either (λ (l : List A). length l ≡ suc (length ys) + 1) (ltb (key x) (key y)) (x ∷ y ∷ ys) (y ∷ put_by key x ys)
+    (omega arith) (omega arith)
 
-pub map-put_by : {A B : Type 0} (f : A → B) (key : B → ℕ) (x : A) (xs : List A) → map f (put_by (λ a. key (f a)) x xs) ≡ put_by key (f x) (map f xs)
+pub map-put_by : {A B : Type 0} (f : A → B) (key : B → ℕ) (x : A) (xs : List A) →
+    map f (put_by (λ a. key (f a)) x xs) ≡ put_by key (f x) (map f xs)
 map-put_by f key x [] = refl
 map-put_by {A} {B} f key x (y ∷ ys) = at (ltb (key (f x)) (key (f y))) (map-put_by f key x ys) where
   at : (b : Bool) → map f (put_by (λ a. key (f a)) x ys) ≡ put_by key (f x) (map f ys) →
-      map f (cond b (x ∷ y ∷ ys) (y ∷ put_by (λ a. key (f a)) x ys)) ≡ cond b (f x ∷ f y ∷ map f ys) (f y ∷ put_by key (f x) (map f ys))
+      map f (cond b (x ∷ y ∷ ys) (y ∷ put_by (λ a. key (f a)) x ys)) ≡ cond b (f x ∷ f y ∷ map f ys)
+      (f y ∷ put_by key (f x) (map f ys))
   at true rest = refl
   at false rest = ap (λ (l : List B). f y ∷ l) rest
 
@@ -75,10 +82,12 @@ or_swap true false c = refl
 or_swap false b c = refl
 
 -- a test passes at one of them where it did before, or where it passes at what was put in
-pub list_any-put_by : {A : Type 0} (p : A → Bool) (key : A → ℕ) (x : A) (xs : List A) → list_any p (put_by key x xs) ≡ (p x || list_any p xs)
+pub list_any-put_by : {A : Type 0} (p : A → Bool) (key : A → ℕ) (x : A) (xs : List A) →
+    list_any p (put_by key x xs) ≡ (p x || list_any p xs)
 list_any-put_by p key x [] = refl
 list_any-put_by {A} p key x (y ∷ ys) =
-    either (λ (l : List A). list_any p l ≡ (p x || (p y || list_any p ys))) (ltb (key x) (key y)) (x ∷ y ∷ ys) (y ∷ put_by key x ys)
+    either (λ (l : List A). list_any p l ≡ (p x || (p y || list_any p ys))) (ltb (key x) (key y)) (x ∷ y ∷ ys)
+    (y ∷ put_by key x ys)
     refl
     (ap (λ b. p y || b) (list_any-put_by p key x ys) ∙ or_swap (p y) (p x) (list_any p ys))
 
@@ -90,13 +99,16 @@ Contains-put_by {A} key x xs a held =
 
 -- and what is put in is in it
 pub Contains-put_by_new : {A : Type 0} (key : A → ℕ) (x : A) (xs : List A) → Contains (put_by key x xs) x
-Contains-put_by_new {A} key x xs = (All-from_put_by (Contains (put_by key x xs)) key x xs (All-contains_itself (put_by key x xs))).0
+Contains-put_by_new {A} key x xs =
+    (All-from_put_by (Contains (put_by key x xs)) key x xs (All-contains_itself (put_by key x xs))).0
 
 -- nothing else is in it
-pub Contains-from_put_by : {A : Type 0} (key : A → ℕ) (x : A) (xs : List A) (a : A) → Contains (put_by key x xs) a → (x ≡ a) ⊎ Contains xs a
+pub Contains-from_put_by : {A : Type 0} (key : A → ℕ) (x : A) (xs : List A) (a : A) → Contains (put_by key x xs) a →
+    (x ≡ a) ⊎ Contains xs a
 Contains-from_put_by {A} key x xs a held =
     let P : A → Type 0 = λ b. (x ≡ b) ⊎ Contains xs b in
-    All-contains P (put_by key x xs) a (All-put_by P key x xs (inl refl) (All-weaker (Contains xs) P (λ b h. inr h) xs (All-contains_itself xs))) held
+    All-contains P (put_by key x xs) a
+    (All-put_by P key x xs (inl refl) (All-weaker (Contains xs) P (λ b h. inr h) xs (All-contains_itself xs))) held
 
 -- no key falls still
 pub Ascends-put_by : {A : Type 0} (key : A → ℕ) (x : A) (xs : List A) → Ascends key xs → Ascends key (put_by key x xs)
@@ -106,29 +118,36 @@ Ascends-put_by {A} key x (y ∷ ys) up = by (cases_lt (key x) (key y)) (Ascends-
   by (inl below) rest =
       let P : A → Type 0 = λ z. key y ≤ key z in
       let Q : A → Type 0 = λ z. key x ≤ key z in
-      subst (Ascends key) (sym (put_by-below key x y ys below)) (All-cons Q y ys (omega arith) (All-weaker P Q (λ z h. omega arith) ys up.0), up)
+      subst (Ascends key) (sym (put_by-below key x y ys below))
+      (All-cons Q y ys (omega arith) (All-weaker P Q (λ z h. omega arith) ys up.0), up)
   by (inr above) rest =
       let P : A → Type 0 = λ z. key y ≤ key z in
       subst (Ascends key) (sym (put_by-above key x y ys above)) (All-put_by P key x ys above up.0, rest)
 
 -- the keys of the second of two lists aren't below those of the first
-pub Ascends-parts : {A : Type 0} (key : A → ℕ) (xs ys : List A) → Ascends key (xs ++ ys) → Ascends key xs × Ascends key ys × All (λ x. All (λ y. key x ≤ key y) ys) xs
+pub Ascends-parts : {A : Type 0} (key : A → ℕ) (xs ys : List A) → Ascends key (xs ++ ys) →
+    Ascends key xs × Ascends key ys × All (λ x. All (λ y. key x ≤ key y) ys) xs
 Ascends-parts {A} key [] ys up = (tt, up, All-nil (λ (x : A). All (λ y. key x ≤ key y) ys))
 Ascends-parts {A} key (x ∷ xs) ys up =
     let P : A → Type 0 = λ y. key x ≤ key y in
-    let rest = Ascends-parts key xs ys up.1 in
-    ((All-front P xs ys up.0, rest.0), rest.1, All-cons (λ (x : A). All (λ y. key x ≤ key y) ys) x xs (All-back P xs ys up.0) rest.2)
+    let rest = Ascends-parts key xs ys up.1 in (
+      (All-front P xs ys up.0, rest.0),
+      rest.1,
+      All-cons (λ (x : A). All (λ y. key x ≤ key y) ys) x xs (All-back P xs ys up.0) rest.2,
+    )
 
 -- What is put in among those that pass a test.
 
-pub filter-put_by : {A : Type 0} (p : A → Bool) (key : A → ℕ) (x : A) (xs : List A) → Ascends key xs → filter p (put_by key x xs) ≡ cond (p x) (put_by key x (filter p xs)) (filter p xs)
+pub filter-put_by : {A : Type 0} (p : A → Bool) (key : A → ℕ) (x : A) (xs : List A) → Ascends key xs →
+    filter p (put_by key x xs) ≡ cond (p x) (put_by key x (filter p xs)) (filter p xs)
 filter-put_by p key x [] up = refl
 filter-put_by {A} p key x (y ∷ ys) up = by (cases_lt (key x) (key y)) (filter-put_by p key x ys up.1) where
   kept : List A
   kept = filter p (y ∷ ys)
 
   later : (b c : Bool) → key y ≤ key x → filter p (put_by key x ys) ≡ cond b (put_by key x (filter p ys)) (filter p ys) →
-      cond c (y ∷ filter p (put_by key x ys)) (filter p (put_by key x ys)) ≡ cond b (put_by key x (cond c (y ∷ filter p ys) (filter p ys))) (cond c (y ∷ filter p ys) (filter p ys))
+      cond c (y ∷ filter p (put_by key x ys)) (filter p (put_by key x ys))
+      ≡ cond b (put_by key x (cond c (y ∷ filter p ys) (filter p ys))) (cond c (y ∷ filter p ys) (filter p ys))
   later true true above rest = ap (λ (l : List A). y ∷ l) rest ∙ sym (put_by-above key x y (filter p ys) above)
   later true false above rest = rest
   later false true above rest = ap (λ (l : List A). y ∷ l) rest
@@ -139,17 +158,22 @@ filter-put_by {A} p key x (y ∷ ys) up = by (cases_lt (key x) (key y)) (filter-
   by (inl below) rest =
       let P : A → Type 0 = λ z. key y ≤ key z in
       let Q : A → Type 0 = λ z. key x < key z in
-      let first = put_by-first key x kept (All-filter p Q (y ∷ ys) (All-cons Q y ys below (All-weaker P Q (λ z h. omega arith) ys up.0))) in
+      let first = put_by-first key x kept
+      (All-filter p Q (y ∷ ys) (All-cons Q y ys below (All-weaker P Q (λ z h. omega arith) ys up.0))) in
       ap (filter p) (put_by-below key x y ys below) ∙ ap (λ (l : List A). cond (p x) l kept) (sym first)
   by (inr above) rest = ap (filter p) (put_by-above key x y ys above) ∙ later (p x) (p y) above rest
 
 -- what passes is put in among those that pass
-pub filter-put_by_kept : {A : Type 0} (p : A → Bool) (key : A → ℕ) (x : A) (xs : List A) → Ascends key xs → p x ≡ true → filter p (put_by key x xs) ≡ put_by key x (filter p xs)
-filter-put_by_kept {A} p key x xs up passes = filter-put_by p key x xs up ∙ ap (λ b. cond b (put_by key x (filter p xs)) (filter p xs)) passes
+pub filter-put_by_kept : {A : Type 0} (p : A → Bool) (key : A → ℕ) (x : A) (xs : List A) → Ascends key xs → p x ≡ true →
+    filter p (put_by key x xs) ≡ put_by key x (filter p xs)
+filter-put_by_kept {A} p key x xs up passes = filter-put_by p key x xs up
+    ∙ ap (λ b. cond b (put_by key x (filter p xs)) (filter p xs)) passes
 
 -- what fails is nowhere among them
-pub filter-put_by_lost : {A : Type 0} (p : A → Bool) (key : A → ℕ) (x : A) (xs : List A) → Ascends key xs → p x ≡ false → filter p (put_by key x xs) ≡ filter p xs
-filter-put_by_lost {A} p key x xs up fails = filter-put_by p key x xs up ∙ ap (λ b. cond b (put_by key x (filter p xs)) (filter p xs)) fails
+pub filter-put_by_lost : {A : Type 0} (p : A → Bool) (key : A → ℕ) (x : A) (xs : List A) → Ascends key xs → p x ≡ false →
+    filter p (put_by key x xs) ≡ filter p xs
+filter-put_by_lost {A} p key x xs up fails = filter-put_by p key x xs up
+    ∙ ap (λ b. cond b (put_by key x (filter p xs)) (filter p xs)) fails
 
 pub Ascends-filter : {A : Type 0} (p : A → Bool) (key : A → ℕ) (xs : List A) → Ascends key xs → Ascends key (filter p xs)
 Ascends-filter p key [] up = tt
@@ -160,7 +184,8 @@ Ascends-filter {A} p key (x ∷ xs) up =
 
 -- Many elements put in, one after another.
 
-put_all_by-append : {A : Type 0} (key : A → ℕ) (sorted xs ys : List A) → put_all_by key sorted (xs ++ ys) ≡ put_all_by key (put_all_by key sorted xs) ys
+put_all_by-append : {A : Type 0} (key : A → ℕ) (sorted xs ys : List A) →
+    put_all_by key sorted (xs ++ ys) ≡ put_all_by key (put_all_by key sorted xs) ys
 put_all_by-append key sorted [] ys = refl
 put_all_by-append key sorted (x ∷ xs) ys = put_all_by-append key (put_by key x sorted) xs ys
 
@@ -178,7 +203,8 @@ Ascends-put_all_by key sorted (x ∷ xs) up = Ascends-put_all_by key (put_by key
 pub Ascends-by_key : {A : Type 0} (key : A → ℕ) (xs : List A) → Ascends key (by_key key xs)
 Ascends-by_key key xs = Ascends-put_all_by key [] xs tt
 
-All-put_all_by : {A : Type 0} (P : A → Type 0) (key : A → ℕ) (sorted xs : List A) → All P sorted → All P xs → All P (put_all_by key sorted xs)
+All-put_all_by : {A : Type 0} (P : A → Type 0) (key : A → ℕ) (sorted xs : List A) → All P sorted → All P xs →
+    All P (put_all_by key sorted xs)
 All-put_all_by P key sorted [] front all = front
 All-put_all_by P key sorted (x ∷ xs) front all =
     All-put_all_by P key (put_by key x sorted) xs (All-put_by P key x sorted (All-head P x xs all) front) (All-tail P x xs all)
@@ -186,7 +212,8 @@ All-put_all_by P key sorted (x ∷ xs) front all =
 pub All-by_key : {A : Type 0} (P : A → Type 0) (key : A → ℕ) (xs : List A) → All P xs → All P (by_key key xs)
 All-by_key P key xs all = All-put_all_by P key [] xs (All-nil P) all
 
-All-from_put_all_by : {A : Type 0} (P : A → Type 0) (key : A → ℕ) (sorted xs : List A) → All P (put_all_by key sorted xs) → All P sorted × All P xs
+All-from_put_all_by : {A : Type 0} (P : A → Type 0) (key : A → ℕ) (sorted xs : List A) →
+    All P (put_all_by key sorted xs) → All P sorted × All P xs
 All-from_put_all_by P key sorted [] all = (all, All-nil P)
 All-from_put_all_by P key sorted (x ∷ xs) all =
     let rest = All-from_put_all_by P key (put_by key x sorted) xs all in
@@ -198,19 +225,25 @@ All-from_by_key P key xs all = (All-from_put_all_by P key [] xs all).1
 
 -- both hold the same elements
 pub Contains-by_key : {A : Type 0} (key : A → ℕ) (xs : List A) (a : A) → Contains xs a → Contains (by_key key xs) a
-Contains-by_key {A} key xs a held = All-contains (Contains (by_key key xs)) xs a (All-from_by_key (Contains (by_key key xs)) key xs (All-contains_itself (by_key key xs))) held
+Contains-by_key {A} key xs a held =
+    All-contains (Contains (by_key key xs)) xs a
+    (All-from_by_key (Contains (by_key key xs)) key xs (All-contains_itself (by_key key xs))) held
 
 pub Contains-from_by_key : {A : Type 0} (key : A → ℕ) (xs : List A) (a : A) → Contains (by_key key xs) a → Contains xs a
-Contains-from_by_key {A} key xs a held = All-contains (Contains xs) (by_key key xs) a (All-by_key (Contains xs) key xs (All-contains_itself xs)) held
+Contains-from_by_key {A} key xs a held =
+    All-contains (Contains xs) (by_key key xs) a (All-by_key (Contains xs) key xs (All-contains_itself xs)) held
 
-length-put_all_by : {A : Type 0} (key : A → ℕ) (sorted xs : List A) → length (put_all_by key sorted xs) ≡ length sorted + length xs
+length-put_all_by : {A : Type 0} (key : A → ℕ) (sorted xs : List A) →
+    length (put_all_by key sorted xs) ≡ length sorted + length xs
 length-put_all_by key sorted [] = omega arith
-length-put_all_by key sorted (x ∷ xs) = let rest = length-put_all_by key (put_by key x sorted) xs in omega (arith, length-put_by key x sorted)
+length-put_all_by key sorted (x ∷ xs) = let rest = length-put_all_by key (put_by key x sorted) xs in
+    omega (arith, length-put_by key x sorted)
 
 pub length-by_key : {A : Type 0} (key : A → ℕ) (xs : List A) → length (by_key key xs) ≡ length xs
 length-by_key key xs = omega (arith, length-put_all_by key [] xs)
 
-list_any-put_all_by : {A : Type 0} (p : A → Bool) (key : A → ℕ) (sorted xs : List A) → list_any p (put_all_by key sorted xs) ≡ (list_any p xs || list_any p sorted)
+list_any-put_all_by : {A : Type 0} (p : A → Bool) (key : A → ℕ) (sorted xs : List A) →
+    list_any p (put_all_by key sorted xs) ≡ (list_any p xs || list_any p sorted)
 list_any-put_all_by p key sorted [] = refl
 list_any-put_all_by p key sorted (x ∷ xs) =
     list_any-put_all_by p key (put_by key x sorted) xs ∙ ap (λ b. list_any p xs || b) (list_any-put_by p key x sorted)
@@ -227,20 +260,25 @@ list_any-by_key p key xs = list_any-put_all_by p key [] xs ∙ or_nothing (list_
   or_nothing true = refl
   or_nothing false = refl
 
-map-put_all_by : {A B : Type 0} (f : A → B) (key : B → ℕ) (sorted xs : List A) → map f (put_all_by (λ a. key (f a)) sorted xs) ≡ put_all_by key (map f sorted) (map f xs)
+map-put_all_by : {A B : Type 0} (f : A → B) (key : B → ℕ) (sorted xs : List A) →
+    map f (put_all_by (λ a. key (f a)) sorted xs) ≡ put_all_by key (map f sorted) (map f xs)
 map-put_all_by f key sorted [] = refl
 map-put_all_by {A} {B} f key sorted (x ∷ xs) =
-    map-put_all_by f key (put_by (λ a. key (f a)) x sorted) xs ∙ ap (λ (l : List B). put_all_by key l (map f xs)) (map-put_by f key x sorted)
+    map-put_all_by f key (put_by (λ a. key (f a)) x sorted) xs
+    ∙ ap (λ (l : List B). put_all_by key l (map f xs)) (map-put_by f key x sorted)
 
-pub map-by_key : {A B : Type 0} (f : A → B) (key : B → ℕ) (xs : List A) → map f (by_key (λ a. key (f a)) xs) ≡ by_key key (map f xs)
+pub map-by_key : {A B : Type 0} (f : A → B) (key : B → ℕ) (xs : List A) →
+    map f (by_key (λ a. key (f a)) xs) ≡ by_key key (map f xs)
 map-by_key f key xs = map-put_all_by f key [] xs
 
-filter-put_all_by : {A : Type 0} (p : A → Bool) (key : A → ℕ) (sorted xs : List A) → Ascends key sorted → filter p (put_all_by key sorted xs) ≡ put_all_by key (filter p sorted) (filter p xs)
+filter-put_all_by : {A : Type 0} (p : A → Bool) (key : A → ℕ) (sorted xs : List A) → Ascends key sorted →
+    filter p (put_all_by key sorted xs) ≡ put_all_by key (filter p sorted) (filter p xs)
 filter-put_all_by p key sorted [] up = refl
 filter-put_all_by {A} p key sorted (x ∷ xs) up =
     filter-put_all_by p key (put_by key x sorted) xs (Ascends-put_by key x sorted up)
     ∙ ap (λ (l : List A). put_all_by key l (filter p xs)) (filter-put_by p key x sorted up) ∙ at (p x) where
-      at : (b : Bool) → put_all_by key (cond b (put_by key x (filter p sorted)) (filter p sorted)) (filter p xs) ≡ put_all_by key (filter p sorted) (cond b (x ∷ filter p xs) (filter p xs))
+      at : (b : Bool) → put_all_by key (cond b (put_by key x (filter p sorted)) (filter p sorted)) (filter p xs)
+          ≡ put_all_by key (filter p sorted) (cond b (x ∷ filter p xs) (filter p xs))
       at true = refl
       at false = refl
 
@@ -249,17 +287,21 @@ pub filter-by_key : {A : Type 0} (p : A → Bool) (key : A → ℕ) (xs : List A
 filter-by_key p key xs = filter-put_all_by p key [] xs tt
 
 -- as many pass a test
-pub length-filter_by_key : {A : Type 0} (p : A → Bool) (key : A → ℕ) (xs : List A) → length (filter p (by_key key xs)) ≡ length (filter p xs)
+pub length-filter_by_key : {A : Type 0} (p : A → Bool) (key : A → ℕ) (xs : List A) →
+    length (filter p (by_key key xs)) ≡ length (filter p xs)
 length-filter_by_key p key xs = ap length (filter-by_key p key xs) ∙ length-by_key key (filter p xs)
 
-put_all_by-ascending : {A : Type 0} (key : A → ℕ) (sorted xs : List A) → Ascends key (sorted ++ xs) → put_all_by key sorted xs ≡ sorted ++ xs
+put_all_by-ascending : {A : Type 0} (key : A → ℕ) (sorted xs : List A) → Ascends key (sorted ++ xs) →
+    put_all_by key sorted xs ≡ sorted ++ xs
 put_all_by-ascending key sorted [] up = sym (append-nil sorted)
 put_all_by-ascending {A} key sorted (x ∷ xs) up =
     let P : A → Type 0 = λ y. All (λ z. key y ≤ key z) (x ∷ xs) in
     let parts = Ascends-parts key sorted (x ∷ xs) up in
-    let last = put_by-last key x sorted (All-weaker P (λ y. key y ≤ key x) (λ y h. All-head (λ z. key y ≤ key z) x xs h) sorted parts.2) in
+    let last = put_by-last key x sorted (All-weaker P (λ y. key y ≤ key x) (λ y h. All-head (λ z. key y ≤ key z) x xs h)
+    sorted parts.2) in
     let whole = append_assoc sorted (x ∷ []) xs in
-    ap (λ (l : List A). put_all_by key l xs) last ∙ put_all_by-ascending key (sorted ++ x ∷ []) xs (subst (Ascends key) (sym whole) up) ∙ whole
+    ap (λ (l : List A). put_all_by key l xs) last
+    ∙ put_all_by-ascending key (sorted ++ x ∷ []) xs (subst (Ascends key) (sym whole) up) ∙ whole
 
 -- what stands in order already stays as it is
 pub by_key-ascending : {A : Type 0} (key : A → ℕ) (xs : List A) → Ascends key xs → by_key key xs ≡ xs
@@ -269,7 +311,8 @@ by_key-ascending key xs up = put_all_by-ascending key [] xs up
 pub find-filter : {A : Type 0} (p : A → Bool) (xs : List A) → find p xs ≡ slice_get (filter p xs) 0
 find-filter p [] = refl
 find-filter {A} p (x ∷ xs) = at (p x) (find-filter p xs) where
-  at : (b : Bool) → find p xs ≡ slice_get (filter p xs) 0 → cond b (Some x) (find p xs) ≡ slice_get (cond b (x ∷ filter p xs) (filter p xs)) 0
+  at : (b : Bool) → find p xs ≡ slice_get (filter p xs) 0 →
+      cond b (Some x) (find p xs) ≡ slice_get (cond b (x ∷ filter p xs) (filter p xs)) 0
   at true rest = refl
   at false rest = rest
 
@@ -279,10 +322,12 @@ Ascends-short {A} key (x ∷ []) short = (All-nil (λ (y : A). key x ≤ key y),
 Ascends-short key (x ∷ y ∷ ys) short = absurd (omega arith)
 
 -- where at most one passes, it is found in any order
-pub find-by_key : {A : Type 0} (p : A → Bool) (key : A → ℕ) (xs : List A) → length (filter p xs) ≤ 1 → find p (by_key key xs) ≡ find p xs
+pub find-by_key : {A : Type 0} (p : A → Bool) (key : A → ℕ) (xs : List A) → length (filter p xs) ≤ 1 →
+    find p (by_key key xs) ≡ find p xs
 find-by_key {A} p key xs once =
     find-filter p (by_key key xs)
-    ∙ ap (λ (l : List A). slice_get l 0) (filter-by_key p key xs ∙ by_key-ascending key (filter p xs) (Ascends-short key (filter p xs) once))
+    ∙ ap (λ (l : List A). slice_get l 0) (filter-by_key p key xs
+    ∙ by_key-ascending key (filter p xs) (Ascends-short key (filter p xs) once))
     ∙ sym (find-filter p xs)
 
 -- A list in order, at a bound: those whose key isn't above it are its front.
@@ -292,7 +337,8 @@ pub filter_all : {A : Type 0} (p : A → Bool) (xs : List A) → All (λ x. p x 
 filter_all p [] all = refl
 filter_all {A} p (x ∷ xs) all =
     let P : A → Type 0 = λ x. p x ≡ true in
-    ap (λ b. cond b (x ∷ filter p xs) (filter p xs)) (All-head P x xs all) ∙ ap (λ (l : List A). x ∷ l) (filter_all p xs (All-tail P x xs all))
+    ap (λ b. cond b (x ∷ filter p xs) (filter p xs)) (All-head P x xs all)
+    ∙ ap (λ (l : List A). x ∷ l) (filter_all p xs (All-tail P x xs all))
 
 -- where none passes, none does
 pub filter_none : {A : Type 0} (p : A → Bool) (xs : List A) → All (λ x. p x ≡ false) xs → filter p xs ≡ []
@@ -301,37 +347,45 @@ filter_none {A} p (x ∷ xs) all =
     let P : A → Type 0 = λ x. p x ≡ false in
     ap (λ b. cond b (x ∷ filter p xs) (filter p xs)) (All-head P x xs all) ∙ filter_none p xs (All-tail P x xs all)
 
-above_all : {A : Type 0} (key : A → ℕ) (bound : ℕ) (x : A) (xs : List A) → Ascends key (x ∷ xs) → bound < key x → All (λ y. bound < key y) (x ∷ xs)
+above_all : {A : Type 0} (key : A → ℕ) (bound : ℕ) (x : A) (xs : List A) → Ascends key (x ∷ xs) → bound < key x →
+    All (λ y. bound < key y) (x ∷ xs)
 above_all {A} key bound x xs up above =
     let P : A → Type 0 = λ y. key x ≤ key y in
     let Q : A → Type 0 = λ y. bound < key y in
     All-cons Q x xs above (All-weaker P Q (λ y h. omega arith) xs up.0)
 
 -- the head is among those up to the bound
-pub filter-upto_head : {A : Type 0} (key : A → ℕ) (bound : ℕ) (x : A) (xs : List A) → key x ≤ bound → filter (λ a. leb (key a) bound) (x ∷ xs) ≡ x ∷ filter (λ a. leb (key a) bound) xs
+pub filter-upto_head : {A : Type 0} (key : A → ℕ) (bound : ℕ) (x : A) (xs : List A) → key x ≤ bound →
+    filter (λ a. leb (key a) bound) (x ∷ xs) ≡ x ∷ filter (λ a. leb (key a) bound) xs
 filter-upto_head {A} key bound x xs within =
     let rest = filter (λ (a : A). leb (key a) bound) xs in
     ap (λ b. cond b (x ∷ rest) rest) (le-leb (key x) bound within)
 
 -- and not among those past it
-pub filter-past_head : {A : Type 0} (key : A → ℕ) (bound : ℕ) (x : A) (xs : List A) → key x ≤ bound → filter (λ a. not (leb (key a) bound)) (x ∷ xs) ≡ filter (λ a. not (leb (key a) bound)) xs
+pub filter-past_head : {A : Type 0} (key : A → ℕ) (bound : ℕ) (x : A) (xs : List A) → key x ≤ bound →
+    filter (λ a. not (leb (key a) bound)) (x ∷ xs) ≡ filter (λ a. not (leb (key a) bound)) xs
 filter-past_head {A} key bound x xs within =
     let rest = filter (λ (a : A). not (leb (key a) bound)) xs in
     ap (λ b. cond (not b) (x ∷ rest) rest) (le-leb (key x) bound within)
 
 -- where the head is past the bound, all are
-pub filter-upto_none : {A : Type 0} (key : A → ℕ) (bound : ℕ) (x : A) (xs : List A) → Ascends key (x ∷ xs) → bound < key x → filter (λ a. leb (key a) bound) (x ∷ xs) ≡ []
+pub filter-upto_none : {A : Type 0} (key : A → ℕ) (bound : ℕ) (x : A) (xs : List A) → Ascends key (x ∷ xs) →
+    bound < key x → filter (λ a. leb (key a) bound) (x ∷ xs) ≡ []
 filter-upto_none {A} key bound x xs up above =
     filter_none (λ (a : A). leb (key a) bound) (x ∷ xs)
-    (All-weaker (λ y. bound < key y) (λ y. leb (key y) bound ≡ false) (λ y h. lt-leb (key y) bound h) (x ∷ xs) (above_all key bound x xs up above))
+    (All-weaker (λ y. bound < key y) (λ y. leb (key y) bound ≡ false) (λ y h. lt-leb (key y) bound h) (x ∷ xs)
+    (above_all key bound x xs up above))
 
-pub filter-past_all : {A : Type 0} (key : A → ℕ) (bound : ℕ) (x : A) (xs : List A) → Ascends key (x ∷ xs) → bound < key x → filter (λ a. not (leb (key a) bound)) (x ∷ xs) ≡ x ∷ xs
+pub filter-past_all : {A : Type 0} (key : A → ℕ) (bound : ℕ) (x : A) (xs : List A) → Ascends key (x ∷ xs) →
+    bound < key x → filter (λ a. not (leb (key a) bound)) (x ∷ xs) ≡ x ∷ xs
 filter-past_all {A} key bound x xs up above =
     filter_all (λ (a : A). not (leb (key a) bound)) (x ∷ xs)
-    (All-weaker (λ y. bound < key y) (λ y. not (leb (key y) bound) ≡ true) (λ y h. ap not (lt-leb (key y) bound h)) (x ∷ xs) (above_all key bound x xs up above))
+    (All-weaker (λ y. bound < key y) (λ y. not (leb (key y) bound) ≡ true) (λ y h. ap not (lt-leb (key y) bound h))
+    (x ∷ xs) (above_all key bound x xs up above))
 
 -- those up to the bound and those past it are the list
-pub upto-append-past : {A : Type 0} (key : A → ℕ) (bound : ℕ) (xs : List A) → Ascends key xs → filter (λ a. leb (key a) bound) xs ++ filter (λ a. not (leb (key a) bound)) xs ≡ xs
+pub upto-append-past : {A : Type 0} (key : A → ℕ) (bound : ℕ) (xs : List A) → Ascends key xs →
+    filter (λ a. leb (key a) bound) xs ++ filter (λ a. not (leb (key a) bound)) xs ≡ xs
 upto-append-past key bound [] up = refl
 upto-append-past {A} key bound (x ∷ xs) up = by (cases_lt bound (key x)) (upto-append-past key bound xs up.1) where
   by : ((bound < key x) ⊎ (key x ≤ bound)) → filter (λ a. leb (key a) bound) xs ++ filter (λ a. not (leb (key a) bound)) xs ≡ xs →
@@ -351,22 +405,28 @@ not-leb a b = by (cases_lt b a) where
   by (inl above) = ap not (lt-leb a b above) ∙ sym (lt-ltb b a above)
   by (inr within) = ap not (le-leb a b within) ∙ sym (le-ltb b a within)
 
-pub filter-past_above : {A : Type 0} (key : A → ℕ) (bound : ℕ) (xs : List A) → filter (λ a. not (leb (key a) bound)) xs ≡ filter (λ a. ltb bound (key a)) xs
-filter-past_above key bound xs = filter_agree (λ a. not (leb (key a) bound)) (λ a. ltb bound (key a)) (λ a. not-leb (key a) bound) xs
+pub filter-past_above : {A : Type 0} (key : A → ℕ) (bound : ℕ) (xs : List A) →
+    filter (λ a. not (leb (key a) bound)) xs ≡ filter (λ a. ltb bound (key a)) xs
+filter-past_above key bound xs = filter_agree (λ a. not (leb (key a) bound)) (λ a. ltb bound (key a))
+    (λ a. not-leb (key a) bound) xs
 
 -- The place where one is put in: in front of the first one whose key is above its own.
 
-pub put_by-insert : {A : Type 0} (key : A → ℕ) (x : A) (xs : List A) → put_by key x xs ≡ insert xs (position_or_len (λ y. ltb (key x) (key y)) xs) x
+pub put_by-insert : {A : Type 0} (key : A → ℕ) (x : A) (xs : List A) →
+    put_by key x xs ≡ insert xs (position_or_len (λ y. ltb (key x) (key y)) xs) x
 put_by-insert key x [] = refl
-put_by-insert {A} key x (y ∷ ys) = at (ltb (key x) (key y)) (position_or_len (λ z. ltb (key x) (key z)) ys) (put_by-insert key x ys) where
-  at : (b : Bool) (n : ℕ) → put_by key x ys ≡ insert ys n x → cond b (x ∷ y ∷ ys) (y ∷ put_by key x ys) ≡ insert (y ∷ ys) (cond (not b) (1 + n) 0) x
-  at true n rest = refl
-  at false n rest =
-      let next : suc n ≡ 1 + n = omega arith in
-      ap (λ (l : List A). y ∷ l) rest ∙ ap (λ (i : ℕ). insert (y ∷ ys) i x) next
+put_by-insert {A} key x (y ∷ ys) = at (ltb (key x) (key y)) (position_or_len (λ z. ltb (key x) (key z)) ys)
+    (put_by-insert key x ys) where
+      at : (b : Bool) (n : ℕ) → put_by key x ys ≡ insert ys n x →
+          cond b (x ∷ y ∷ ys) (y ∷ put_by key x ys) ≡ insert (y ∷ ys) (cond (not b) (1 + n) 0) x
+      at true n rest = refl
+      at false n rest =
+          let next : suc n ≡ 1 + n = omega arith in
+          ap (λ (l : List A). y ∷ l) rest ∙ ap (λ (i : ℕ). insert (y ∷ ys) i x) next
 
 -- all whose keys are above its own stay behind
-pub put_by-append_below : {A : Type 0} (key : A → ℕ) (x : A) (xs ys : List A) → All (λ y. key x < key y) ys → put_by key x (xs ++ ys) ≡ put_by key x xs ++ ys
+pub put_by-append_below : {A : Type 0} (key : A → ℕ) (x : A) (xs ys : List A) → All (λ y. key x < key y) ys →
+    put_by key x (xs ++ ys) ≡ put_by key x xs ++ ys
 put_by-append_below key x [] ys below = put_by-first key x ys below
 put_by-append_below {A} key x (z ∷ xs) ys below = at (ltb (key x) (key z)) (put_by-append_below key x xs ys below) where
   at : (b : Bool) → put_by key x (xs ++ ys) ≡ put_by key x xs ++ ys →
@@ -380,28 +440,33 @@ reverse-cons x xs = reverse-append (x ∷ []) xs
 pub All-reverse : {A : Type 0} (P : A → Type 0) (xs : List A) → All P xs → All P (reverse xs)
 All-reverse P [] all = all
 All-reverse P (x ∷ xs) all =
-    subst (All P) (sym (reverse-cons x xs)) (All-push P (reverse xs) x (All-reverse P xs (All-tail P x xs all)) (All-head P x xs all))
+    subst (All P) (sym (reverse-cons x xs)) (All-push P (reverse xs) x (All-reverse P xs (All-tail P x xs all))
+    (All-head P x xs all))
 
 -- a list that is kept highest key first: at a place that parts the keys above its own from the others
-pub put_by-reverse_at : {A : Type 0} (key : A → ℕ) (x : A) (xs : List A) (i : ℕ) → All (λ y. key x < key y) (take i xs) → All (λ y. key y ≤ key x) (drop i xs) → put_by key x (reverse xs) ≡ reverse (insert xs i x)
+pub put_by-reverse_at : {A : Type 0} (key : A → ℕ) (x : A) (xs : List A) (i : ℕ) → All (λ y. key x < key y) (take i xs) →
+    All (λ y. key y ≤ key x) (drop i xs) → put_by key x (reverse xs) ≡ reverse (insert xs i x)
 put_by-reverse_at {A} key x xs i above within =
     let front = take i xs in
     let back = drop i xs in
     let parts = ap reverse (sym (take-append-drop i xs)) ∙ reverse-append front back in
     ap (put_by key x) parts
-    ∙ put_by-between key x (reverse back) (reverse front) (All-reverse (λ y. key y ≤ key x) back within) (All-reverse (λ y. key x < key y) front above)
+    ∙ put_by-between key x (reverse back) (reverse front) (All-reverse (λ y. key y ≤ key x) back within)
+    (All-reverse (λ y. key x < key y) front above)
     ∙ sym (append_assoc (reverse back) (x ∷ []) (reverse front))
     ∙ ap (λ (l : List A). l ++ reverse front) (sym (reverse-cons x back))
     ∙ sym (reverse-append front (x ∷ back))
 
 -- in such a list that place is the first one whose key isn't above its own
-pub put_by-reverse : {A : Type 0} (key : A → ℕ) (x : A) (xs : List A) → Ascends key (reverse xs) → put_by key x (reverse xs) ≡ reverse (insert xs (position_or_len (λ y. leb (key y) (key x)) xs) x)
+pub put_by-reverse : {A : Type 0} (key : A → ℕ) (x : A) (xs : List A) → Ascends key (reverse xs) →
+    put_by key x (reverse xs) ≡ reverse (insert xs (position_or_len (λ y. leb (key y) (key x)) xs) x)
 put_by-reverse key x [] up = refl
 put_by-reverse {A} key x (y ∷ ys) up = by (cases_lt (key x) (key y)) (put_by-reverse key x ys parts.0) where
   parts : Ascends key (reverse ys) × Ascends key (y ∷ []) × All (λ z. All (λ w. key z ≤ key w) (y ∷ [])) (reverse ys)
   parts = Ascends-parts key (reverse ys) (y ∷ []) (subst (Ascends key) (reverse-cons y ys) up)
 
-  by : ((key x < key y) ⊎ (key y ≤ key x)) → put_by key x (reverse ys) ≡ reverse (insert ys (position_or_len (λ z. leb (key z) (key x)) ys) x) →
+  by : ((key x < key y) ⊎ (key y ≤ key x)) →
+      put_by key x (reverse ys) ≡ reverse (insert ys (position_or_len (λ z. leb (key z) (key x)) ys) x) →
       put_by key x (reverse (y ∷ ys)) ≡ reverse (insert (y ∷ ys) (position_or_len (λ z. leb (key z) (key x)) (y ∷ ys)) x)
   by (inl above) rest =
       let n = position_or_len (λ z. leb (key z) (key x)) ys in

@@ -8,7 +8,8 @@ use Rattle.zk_base.specs.Lists.{put_before}
 use Rattle.zk_base.specs.Waits.{Waits, is_served_after, is_waiter, is_decision, decide, decision_of, goes_on, open_waits, joined, ended, quitted, decides_first, first_decided, all_decided, given_up, quit_answer}
 use Rattle.zk_base.proofs.Firsts.{any-find, length-without, length-less}
 
-length-before-at : {A : Type 0} (x y : A) (ys rest : List A) (b : Bool) → length rest ≡ suc (length ys) → length (cond b (x ∷ y ∷ ys) (y ∷ rest)) ≡ suc (suc (length ys))
+length-before-at : {A : Type 0} (x y : A) (ys rest : List A) (b : Bool) → length rest ≡ suc (length ys) →
+    length (cond b (x ∷ y ∷ ys) (y ∷ rest)) ≡ suc (suc (length ys))
 length-before-at x y ys rest true long = refl
 length-before-at x y ys rest false long = ap suc long
 
@@ -26,11 +27,14 @@ module _ {M A : Type 0} where
   open-joined ws w = let one = length-put_before (is_served_after w) w ws.waiting in omega arith
 
   -- where its decision is there, one less is open
-  decided-there : (ws : Waits M A) (player place : ℕ) → is_some (decision_of ws player place) ≡ true → list_any (is_decision player place) ws.decided ≡ true
+  decided-there : (ws : Waits M A) (player place : ℕ) → is_some (decision_of ws player place) ≡ true →
+      list_any (is_decision player place) ws.decided ≡ true
   decided-there ws player place some =
-      any-find (is_decision player place) ws.decided ∙ sym (is_some-map (λ (d : Decision A). d.answer) (find (is_decision player place) ws.decided)) ∙ some
+      any-find (is_decision player place) ws.decided
+      ∙ sym (is_some-map (λ (d : Decision A). d.answer) (find (is_decision player place) ws.decided)) ∙ some
 
-  pub open-ended : (ws : Waits M A) (player place : ℕ) → is_some (decision_of ws player place) ≡ true → 1 + open_waits (ended ws player place) ≤ open_waits ws
+  pub open-ended : (ws : Waits M A) (player place : ℕ) → is_some (decision_of ws player place) ≡ true →
+      1 + open_waits (ended ws player place) ≤ open_waits ws
   open-ended ws player place some =
       let one = length-without (is_decision player place) ws.decided (decided-there ws player place some) in
       omega arith
@@ -45,7 +49,8 @@ module _ {M A : Type 0} where
       let fewer = length-less (is_waiter {M = M} player place) ws.waiting in
       omega arith
 
-  quit-by : (ws : Waits M A) (player place : ℕ) (gives_up : A) (waits : Bool) (decided : Option A) → goes_on ws player place ≡ waits → decision_of ws player place ≡ decided →
+  quit-by : (ws : Waits M A) (player place : ℕ) (gives_up : A) (waits : Bool) (decided : Option A) →
+      goes_on ws player place ≡ waits → decision_of ws player place ≡ decided →
       is_some (given_up gives_up waits decided) ≡ true → 1 + open_waits (quitted ws player place) ≤ open_waits ws
   quit-by ws player place gives_up waits (Some answer) goes is some =
       let one = length-without (is_decision player place) ws.decided (decided-there ws player place (ap is_some is)) in
@@ -57,10 +62,13 @@ module _ {M A : Type 0} where
       omega arith
   quit-by ws player place gives_up false None goes is some = absurd (cc)
 
-  pub open-quitted : (ws : Waits M A) (player place : ℕ) (gives_up : A) → is_some (quit_answer gives_up ws player place) ≡ true → 1 + open_waits (quitted ws player place) ≤ open_waits ws
-  open-quitted ws player place gives_up some = quit-by ws player place gives_up (goes_on ws player place) (decision_of ws player place) refl refl some
+  pub open-quitted : (ws : Waits M A) (player place : ℕ) (gives_up : A) →
+      is_some (quit_answer gives_up ws player place) ≡ true → 1 + open_waits (quitted ws player place) ≤ open_waits ws
+  open-quitted ws player place gives_up some =
+      quit-by ws player place gives_up (goes_on ws player place) (decision_of ws player place) refl refl some
 
-  open-first-at : (answer : A) (waiting : List (Waiter M)) (decided : List (Decision A)) → open_waits (decides_first answer waiting decided) ≡ length waiting + length decided
+  open-first-at : (answer : A) (waiting : List (Waiter M)) (decided : List (Decision A)) →
+      open_waits (decides_first answer waiting decided) ≡ length waiting + length decided
   open-first-at answer [] decided = refl
   open-first-at answer (w ∷ ws) decided = let more = length-append decided (decide answer w ∷ []) in omega arith
 

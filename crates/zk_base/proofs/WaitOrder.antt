@@ -40,25 +40,36 @@ module _ {M : Type 0} where
   AreQueued next ws = InOrder ws × All (λ (w : Waiter M). w.place < next) ws
 
   -- whoever is served after another is served after all who are served before that one
-  behind-all : (new y : Waiter M) (ys : List (Waiter M)) → int_lt new.who.prio y.who.prio ≡ true → All (λ (v : Waiter M). is_before y v ≡ true) ys → All (λ (v : Waiter M). is_before new v ≡ true) ys
+  behind-all : (new y : Waiter M) (ys : List (Waiter M)) → int_lt new.who.prio y.who.prio ≡ true →
+      All (λ (v : Waiter M). is_before y v ≡ true) ys → All (λ (v : Waiter M). is_before new v ≡ true) ys
   behind-all new y ys low behind =
       All-weaker (λ (v : Waiter M). is_before y v ≡ true) (λ (v : Waiter M). is_before new v ≡ true)
-      (λ v is. before-lower new.who.prio v.who.prio new.place v.place (outranks new.who.prio y.who.prio v.who.prio low (before-rank y.who.prio v.who.prio y.place v.place is))) ys behind
+      (λ v is. before-lower new.who.prio v.who.prio new.place v.place
+      (outranks new.who.prio y.who.prio v.who.prio low (before-rank y.who.prio v.who.prio y.place v.place is))) ys behind
 
-  put-in-order : (new : Waiter M) (ws : List (Waiter M)) → InOrder ws → All (λ (w : Waiter M). w.place < new.place) ws → InOrder (put_before (is_served_after new) new ws)
+  put-in-order : (new : Waiter M) (ws : List (Waiter M)) → InOrder ws → All (λ (w : Waiter M). w.place < new.place) ws →
+      InOrder (put_before (is_served_after new) new ws)
   put-in-order new [] order older = (All-nil (λ (v : Waiter M). is_before new v ≡ true), tt)
   put-in-order new (y ∷ ys) order older =
-      by (int_lt new.who.prio y.who.prio) refl (put-in-order new ys order.1 (All-tail (λ (w : Waiter M). w.place < new.place) y ys older)) where
+      by (int_lt new.who.prio y.who.prio) refl
+      (put-in-order new ys order.1 (All-tail (λ (w : Waiter M). w.place < new.place) y ys older)) where
         older_here : y.place < new.place
         older_here = All-head (λ (w : Waiter M). w.place < new.place) y ys older
 
-        by : (b : Bool) → int_lt new.who.prio y.who.prio ≡ b → InOrder (put_before (is_served_after new) new ys) → InOrder (cond b (new ∷ y ∷ ys) (y ∷ put_before (is_served_after new) new ys))
+        by : (b : Bool) → int_lt new.who.prio y.who.prio ≡ b → InOrder (put_before (is_served_after new) new ys) →
+            InOrder (cond b (new ∷ y ∷ ys) (y ∷ put_before (is_served_after new) new ys))
         by true low rest =
-            let P : Waiter M → Type 0 = λ (v : Waiter M). is_before new v ≡ true in
-            (All-cons P y ys (before-lower new.who.prio y.who.prio new.place y.place low) (behind-all new y ys low order.0), order)
+            let P : Waiter M → Type 0 = λ (v : Waiter M). is_before new v ≡ true in (
+              All-cons P y ys (before-lower new.who.prio y.who.prio new.place y.place low)
+                  (behind-all new y ys low order.0),
+              order,
+            )
         by false high rest =
-            let P : Waiter M → Type 0 = λ (v : Waiter M). is_before y v ≡ true in
-            (All-put_before P (is_served_after new) new ys (before-longer y.who.prio new.who.prio y.place new.place high older_here) order.0, rest)
+            let P : Waiter M → Type 0 = λ (v : Waiter M). is_before y v ≡ true in (
+              All-put_before P (is_served_after new) new ys
+                  (before-longer y.who.prio new.who.prio y.place new.place high older_here) order.0,
+              rest,
+            )
 
   without-in-order : (p : Waiter M → Bool) (ws : List (Waiter M)) → InOrder ws → InOrder (without_first p ws)
   without-in-order p [] order = tt
@@ -68,18 +79,22 @@ module _ {M : Type 0} where
     by false rest = (All-without (λ (v : Waiter M). is_before w v ≡ true) p ws order.0, rest)
 
   later : (n : ℕ) (ws : List (Waiter M)) → All (λ (w : Waiter M). w.place < n) ws → All (λ (w : Waiter M). w.place < n + 1) ws
-  later n ws older = All-weaker (λ (w : Waiter M). w.place < n) (λ (w : Waiter M). w.place < n + 1) (λ w less. omega arith) ws older
+  later n ws older = All-weaker (λ (w : Waiter M). w.place < n) (λ (w : Waiter M). w.place < n + 1)
+      (λ w less. omega arith) ws older
 
   -- one of a list is its first, or one of the rest
   first-or-rest : (w x : Waiter M) (ws : List (Waiter M)) → Contains (w ∷ ws) x → (w ≡ x) ⊎ Contains ws x
   first-or-rest w x ws held =
       let P : Waiter M → Type 0 = λ y. (w ≡ y) ⊎ Contains ws y in
-      All-contains P (w ∷ ws) x (All-cons P w ws (inl refl) (All-weaker (Contains ws) P (λ y there. inr there) ws (All-contains_itself ws))) held
+      All-contains P (w ∷ ws) x
+      (All-cons P w ws (inl refl) (All-weaker (Contains ws) P (λ y there. inr there) ws (All-contains_itself ws))) held
 
-  All-from-put : (P : Waiter M → Type 0) (p : Waiter M → Bool) (x : Waiter M) (ws : List (Waiter M)) → All P (put_before p x ws) → All P ws
+  All-from-put : (P : Waiter M → Type 0) (p : Waiter M → Bool) (x : Waiter M) (ws : List (Waiter M)) →
+      All P (put_before p x ws) → All P ws
   All-from-put P p x [] held = All-nil P
   All-from-put P p x (y ∷ ys) held = by (p y) (All-from-put P p x ys) held where
-    by : (b : Bool) → (All P (put_before p x ys) → All P ys) → All P (cond b (x ∷ y ∷ ys) (y ∷ put_before p x ys)) → All P (y ∷ ys)
+    by : (b : Bool) → (All P (put_before p x ys) → All P ys) → All P (cond b (x ∷ y ∷ ys) (y ∷ put_before p x ys)) →
+        All P (y ∷ ys)
     by true rest held = All-tail P x (y ∷ ys) held
     by false rest held = All-cons P y ys (All-head P y (put_before p x ys) held) (rest (All-tail P y (put_before p x ys) held))
 
@@ -89,53 +104,71 @@ module _ {M : Type 0} where
       All-contains (Contains l) ws w (All-from-put (Contains l) p x ws (All-contains_itself l)) held
 
 module _ {S O R M : Type 0} (m : Machine S O R) (k : WaitKind S O R M) (has : HasWaits m k) where
-  queued-first : (next : ℕ) (answer : R) (waiting : List (Waiter M)) (decided : List (Decision R)) → AreQueued next waiting → AreQueued (next + 1) (decides_first answer waiting decided).waiting
+  queued-first : (next : ℕ) (answer : R) (waiting : List (Waiter M)) (decided : List (Decision R)) →
+      AreQueued next waiting → AreQueued (next + 1) (decides_first answer waiting decided).waiting
   queued-first next answer [] decided are = (tt, All-nil (λ (w : Waiter M). w.place < next + 1))
-  queued-first next answer (w ∷ ws) decided are = (are.0.1, later next ws (All-tail (λ (w : Waiter M). w.place < next) w ws are.1))
+  queued-first next answer (w ∷ ws) decided are =
+      (are.0.1, later next ws (All-tail (λ (w : Waiter M). w.place < next) w ws are.1))
 
-  queued-decision : (next : ℕ) (decides : Decides R) (ws : Waits M R) → AreQueued next ws.waiting → AreQueued (next + 1) (after_decision decides ws).waiting
+  queued-decision : (next : ℕ) (decides : Decides R) (ws : Waits M R) → AreQueued next ws.waiting →
+      AreQueued (next + 1) (after_decision decides ws).waiting
   queued-decision next nobody ws are = (are.0, later next ws.waiting are.1)
   queued-decision next (first answer) ws are = queued-first next answer ws.waiting ws.decided are
   queued-decision next (all answer) ws are = (tt, All-nil (λ (w : Waiter M). w.place < next + 1))
 
-  queued-entry : (ws : Waits M R) (next : ℕ) (who : Who) (decides : Decides R) (opens : Option M) (ends quits : Option ℕ) → AreQueued next ws.waiting → AreQueued (next + 1) (after_entry ws next who decides opens ends quits).waiting
+  queued-entry : (ws : Waits M R) (next : ℕ) (who : Who) (decides : Decides R) (opens : Option M) (ends quits : Option ℕ)
+      → AreQueued next ws.waiting → AreQueued (next + 1) (after_entry ws next who decides opens ends quits).waiting
   queued-entry ws next who decides (Some matter) ends quits are =
       let new : Waiter M = record { place = next; who = who; matter = matter } in
-      let P : Waiter M → Type 0 = λ (w : Waiter M). w.place < next + 1 in
-      (put-in-order new ws.waiting are.0 are.1, All-put_before P (is_served_after new) new ws.waiting (omega arith) (later next ws.waiting are.1))
+      let P : Waiter M → Type 0 = λ (w : Waiter M). w.place < next + 1 in (
+        put-in-order new ws.waiting are.0 are.1,
+        All-put_before P (is_served_after new) new ws.waiting (omega arith)
+            (later next ws.waiting are.1),
+      )
   queued-entry ws next who decides None (Some at) quits are = (are.0, later next ws.waiting are.1)
-  queued-entry ws next who decides None None (Some at) are =
-      (without-in-order (is_waiter who.number at) ws.waiting are.0, All-without (λ (w : Waiter M). w.place < next + 1) (is_waiter who.number at) ws.waiting (later next ws.waiting are.1))
+  queued-entry ws next who decides None None (Some at) are = (
+    without-in-order (is_waiter who.number at) ws.waiting are.0,
+    All-without (λ (w : Waiter M). w.place < next + 1) (is_waiter who.number at) ws.waiting (later next ws.waiting are.1),
+  )
   queued-entry ws next who decides None None None are = queued-decision next decides ws are
 
-  queued-all : (s : S) (h : List (Entry O R)) → Replays m s h → AreQueued (k.entries s) (k.waits s).waiting → AreQueued (k.entries (state_after m s h)) (k.waits (state_after m s h)).waiting
+  queued-all : (s : S) (h : List (Entry O R)) → Replays m s h → AreQueued (k.entries s) (k.waits s).waiting →
+      AreQueued (k.entries (state_after m s h)) (k.waits (state_after m s h)).waiting
   queued-all s [] replays are = are
   queued-all s (e ∷ es) replays are =
-      let here = queued-entry (k.waits s) (k.entries s) e.who (k.decides s e.op e.reply) (k.opens e.op e.reply) (k.ends e.op) (k.quits e.op) are in
-      let moved = subst (λ (ws : Waits M R). AreQueued (k.entries s + 1) ws.waiting) (sym (has.moves s e.who e.op e.reply replays.0)) here in
-      let counted = subst (λ (n : ℕ). AreQueued n (k.waits (m.next s e.who e.op)).waiting) (sym (has.counts s e.who e.op)) moved in
+      let here = queued-entry (k.waits s) (k.entries s) e.who (k.decides s e.op e.reply) (k.opens e.op e.reply)
+      (k.ends e.op) (k.quits e.op) are in
+      let moved = subst (λ (ws : Waits M R). AreQueued (k.entries s + 1) ws.waiting)
+      (sym (has.moves s e.who e.op e.reply replays.0)) here in
+      let counted = subst (λ (n : ℕ). AreQueued n (k.waits (m.next s e.who e.op)).waiting) (sym (has.counts s e.who e.op))
+      moved in
       queued-all (m.next s e.who e.op) es replays.1 counted
 
   -- who is taken out by a decision comes before those who stay
-  out-first : (answer : R) (waiting : List (Waiter M)) (decided : List (Decision R)) (w v : Waiter M) → InOrder waiting → Contains waiting w → (Contains (decides_first answer waiting decided).waiting w → ⊥) →
+  out-first : (answer : R) (waiting : List (Waiter M)) (decided : List (Decision R)) (w v : Waiter M) → InOrder waiting →
+      Contains waiting w → (Contains (decides_first answer waiting decided).waiting w → ⊥) →
       Contains (decides_first answer waiting decided).waiting v → is_before w v ≡ true
   out-first answer [] decided w v order was out is = absurd (out was)
   out-first answer (x ∷ ws) decided w v order was out is = by (first-or-rest x w ws was) where
     by : (x ≡ w) ⊎ Contains ws w → is_before w v ≡ true
-    by (inl same) = subst (λ (y : Waiter M). is_before y v ≡ true) same (All-contains (λ (v : Waiter M). is_before x v ≡ true) ws v order.0 is)
+    by (inl same) = subst (λ (y : Waiter M). is_before y v ≡ true) same
+        (All-contains (λ (v : Waiter M). is_before x v ≡ true) ws v order.0 is)
     by (inr there) = absurd (out there)
 
   none-in : (w : Waiter M) → Contains [] w → ⊥
   none-in w held = All-contains (λ (x : Waiter M). ⊥) [] w (All-nil (λ (x : Waiter M). ⊥)) held
 
-  out-decided : (decides : Decides R) (ws : Waits M R) (w v : Waiter M) → InOrder ws.waiting → Contains ws.waiting w → (Contains (after_decision decides ws).waiting w → ⊥) →
+  out-decided : (decides : Decides R) (ws : Waits M R) (w v : Waiter M) → InOrder ws.waiting → Contains ws.waiting w →
+      (Contains (after_decision decides ws).waiting w → ⊥) →
       Contains (after_decision decides ws).waiting v → is_before w v ≡ true
   out-decided nobody ws w v order was out is = absurd (out was)
   out-decided (first answer) ws w v order was out is = out-first answer ws.waiting ws.decided w v order was out is
   out-decided (all answer) ws w v order was out is = absurd (none-in v is)
 
-  out-entry : (ws : Waits M R) (next : ℕ) (who : Who) (decides : Decides R) (opens : Option M) (ends quits : Option ℕ) (w v : Waiter M) → quits ≡ None → InOrder ws.waiting → Contains ws.waiting w →
-      (Contains (after_entry ws next who decides opens ends quits).waiting w → ⊥) → Contains (after_entry ws next who decides opens ends quits).waiting v → is_before w v ≡ true
+  out-entry : (ws : Waits M R) (next : ℕ) (who : Who) (decides : Decides R) (opens : Option M) (ends quits : Option ℕ)
+      (w v : Waiter M) → quits ≡ None → InOrder ws.waiting → Contains ws.waiting w →
+      (Contains (after_entry ws next who decides opens ends quits).waiting w → ⊥) →
+      Contains (after_entry ws next who decides opens ends quits).waiting v → is_before w v ≡ true
   out-entry ws next who decides (Some matter) ends quits w v none order was out is =
       let new : Waiter M = record { place = next; who = who; matter = matter } in
       absurd (out (still-there (is_served_after new) new w ws.waiting was))
@@ -149,9 +182,11 @@ module _ {S O R M : Type 0} (m : Machine S O R) (k : WaitKind S O R M) (has : Ha
       let parts = subst (Replays m s) at.whole replays in
       let answered = (Replays-rest m s front (e ∷ at.rest) parts).0 in
       let empty : AreQueued (k.entries s) (k.waits s).waiting =
-      subst (λ (ws : Waits M R). AreQueued (k.entries s) ws.waiting) (sym start.none) (tt, All-nil (λ (w : Waiter M). w.place < k.entries s)) in
+      subst (λ (ws : Waits M R). AreQueued (k.entries s) ws.waiting) (sym start.none)
+      (tt, All-nil (λ (w : Waiter M). w.place < k.entries s)) in
       let order = (queued-all s front (Replays-front m s front (e ∷ at.rest) parts) empty).0 in
       let same = ap k.waits (state_after-snoc m s front e) ∙ has.moves before e.who e.op e.reply answered in
-      out-entry (k.waits before) (k.entries before) e.who (k.decides before e.op e.reply) (k.opens e.op e.reply) (k.ends e.op) (k.quits e.op) w v keeps order was
+      out-entry (k.waits before) (k.entries before) e.who (k.decides before e.op e.reply) (k.opens e.op e.reply)
+      (k.ends e.op) (k.quits e.op) w v keeps order was
       (λ stays. out (subst (λ (ws : Waits M R). Contains ws.waiting w) (sym same) stays))
       (subst (λ (ws : Waits M R). Contains ws.waiting v) same is)

@@ -31,11 +31,16 @@ module _ {A : Type 0} (P : A → Type 0) (p : A → Bool) where
 
 module _ {S O R M : Type 0} (m : Machine S O R) (k : WaitKind S O R M) (has : HasWaits m k) where
   -- what was opened stays opened in a longer history
-  opened-longer : (h : List (Entry O R)) (l : Entry O R) (place : ℕ) (who : Who) (matter : M) → WasOpened k h place who matter → WasOpened k (h ++ l ∷ []) place who matter
+  opened-longer : (h : List (Entry O R)) (l : Entry O R) (place : ℕ) (who : Who) (matter : M) →
+      WasOpened k h place who matter → WasOpened k (h ++ l ∷ []) place who matter
   opened-longer h l place who matter was = record {
     front = was.front;
     e = was.e;
-    at = record { rest = was.at.rest ++ l ∷ []; whole = ap (λ (g : List (Entry O R)). g ++ l ∷ []) was.at.whole ∙ append_assoc was.front (was.e ∷ was.at.rest) (l ∷ []) };
+    at = record {
+      rest = was.at.rest ++ l ∷ [];
+      whole = ap (λ (g : List (Entry O R)). g ++ l ∷ []) was.at.whole
+          ∙ append_assoc was.front (was.e ∷ was.at.rest) (l ∷ []);
+    };
     there = was.there;
     by = was.by;
     opening = was.opening;
@@ -50,28 +55,38 @@ module _ {S O R M : Type 0} (m : Machine S O R) (k : WaitKind S O R M) (has : Ha
 
   are-longer : (h : List (Entry O R)) (l : Entry O R) (ws : Waits M R) → AreOpened h ws → AreOpened (h ++ l ∷ []) ws
   are-longer h l ws were = (
-    All-weaker (λ (w : Waiter M). WasOpened k h w.place w.who w.matter) (λ (w : Waiter M). WasOpened k (h ++ l ∷ []) w.place w.who w.matter)
+    All-weaker (λ (w : Waiter M). WasOpened k h w.place w.who w.matter)
+        (λ (w : Waiter M). WasOpened k (h ++ l ∷ []) w.place w.who w.matter)
         (λ w was. opened-longer h l w.place w.who w.matter was) ws.waiting were.0,
     All-weaker (WasOpenedBy k h) (WasOpenedBy k (h ++ l ∷ [])) (opened_by-longer h l) ws.decided were.1,
   )
 
-  decided-opened : (h : List (Entry O R)) (answer : R) (w : Waiter M) → WasOpened k h w.place w.who w.matter → WasOpenedBy k h (decide answer w)
+  decided-opened : (h : List (Entry O R)) (answer : R) (w : Waiter M) → WasOpened k h w.place w.who w.matter →
+      WasOpenedBy k h (decide answer w)
   decided-opened h answer w was = (w.who, w.matter, refl, was)
 
-  all-opened : (h : List (Entry O R)) (answer : R) (ws : List (Waiter M)) → All (λ (w : Waiter M). WasOpened k h w.place w.who w.matter) ws → All (WasOpenedBy k h) (map (decide answer) ws)
+  all-opened : (h : List (Entry O R)) (answer : R) (ws : List (Waiter M)) →
+      All (λ (w : Waiter M). WasOpened k h w.place w.who w.matter) ws → All (WasOpenedBy k h) (map (decide answer) ws)
   all-opened h answer [] were = All-nil (WasOpenedBy k h)
   all-opened h answer (w ∷ ws) were =
       let P : Waiter M → Type 0 = λ (w : Waiter M). WasOpened k h w.place w.who w.matter in
-      All-cons (WasOpenedBy k h) (decide answer w) (map (decide answer) ws) (decided-opened h answer w (All-head P w ws were)) (all-opened h answer ws (All-tail P w ws were))
+      All-cons (WasOpenedBy k h) (decide answer w) (map (decide answer) ws)
+      (decided-opened h answer w (All-head P w ws were)) (all-opened h answer ws (All-tail P w ws were))
 
-  first-opened : (h : List (Entry O R)) (answer : R) (waiting : List (Waiter M)) (decided : List (Decision R)) → All (λ (w : Waiter M). WasOpened k h w.place w.who w.matter) waiting → All (WasOpenedBy k h) decided →
+  first-opened : (h : List (Entry O R)) (answer : R) (waiting : List (Waiter M)) (decided : List (Decision R)) →
+      All (λ (w : Waiter M). WasOpened k h w.place w.who w.matter) waiting → All (WasOpenedBy k h) decided →
       AreOpened h (decides_first answer waiting decided)
   first-opened h answer [] decided were was = (were, was)
   first-opened h answer (w ∷ ws) decided were was =
-      let P : Waiter M → Type 0 = λ (w : Waiter M). WasOpened k h w.place w.who w.matter in
-      (All-tail P w ws were, All-append (WasOpenedBy k h) decided (decide answer w ∷ []) was (All-cons (WasOpenedBy k h) (decide answer w) [] (decided-opened h answer w (All-head P w ws were)) (All-nil (WasOpenedBy k h))))
+      let P : Waiter M → Type 0 = λ (w : Waiter M). WasOpened k h w.place w.who w.matter in (
+        All-tail P w ws were,
+        All-append (WasOpenedBy k h) decided (decide answer w ∷ []) was
+            (All-cons (WasOpenedBy k h) (decide answer w) [] (decided-opened h answer w (All-head P w ws were))
+            (All-nil (WasOpenedBy k h))),
+      )
 
-  decision-opened : (h : List (Entry O R)) (decides : Decides R) (ws : Waits M R) → AreOpened h ws → AreOpened h (after_decision decides ws)
+  decision-opened : (h : List (Entry O R)) (decides : Decides R) (ws : Waits M R) → AreOpened h ws →
+      AreOpened h (after_decision decides ws)
   decision-opened h nobody ws were = were
   decision-opened h (first answer) ws were = first-opened h answer ws.waiting ws.decided were.0 were.1
   decision-opened h (all answer) ws were = (
@@ -79,26 +94,38 @@ module _ {S O R M : Type 0} (m : Machine S O R) (k : WaitKind S O R M) (has : Ha
     All-append (WasOpenedBy k h) ws.decided (map (decide answer) ws.waiting) were.1 (all-opened h answer ws.waiting were.0),
   )
 
-  entry-opened : (h : List (Entry O R)) (e : Entry O R) (ws : Waits M R) (place : ℕ) (decides : Decides R) (opens : Option M) (ends quits : Option ℕ) →
-      length h ≡ place → k.opens e.op e.reply ≡ opens → AreOpened (h ++ e ∷ []) ws → AreOpened (h ++ e ∷ []) (after_entry ws place e.who decides opens ends quits)
+  entry-opened : (h : List (Entry O R)) (e : Entry O R) (ws : Waits M R) (place : ℕ) (decides : Decides R)
+      (opens : Option M) (ends quits : Option ℕ) →
+      length h ≡ place → k.opens e.op e.reply ≡ opens → AreOpened (h ++ e ∷ []) ws →
+      AreOpened (h ++ e ∷ []) (after_entry ws place e.who decides opens ends quits)
   entry-opened h e ws place decides (Some matter) ends quits long opens were =
       let w : Waiter M = record { place = place; who = e.who; matter = matter } in
       let P : Waiter M → Type 0 = λ (w : Waiter M). WasOpened k (h ++ e ∷ []) w.place w.who w.matter in
-      let here : P w = record { front = h; e = e; at = record { rest = []; whole = refl }; there = long; by = refl; opening = opens } in
+      let here : P w = record {
+        front = h;
+        e = e;
+        at = record { rest = []; whole = refl };
+        there = long;
+        by = refl;
+        opening = opens;
+      } in
       (All-put_before P (is_served_after w) w ws.waiting here were.0, were.1)
   entry-opened h e ws place decides None (Some at) quits long opens were =
       (were.0, All-without (WasOpenedBy k (h ++ e ∷ [])) (is_decision e.who.number at) ws.decided were.1)
   entry-opened h e ws place decides None None (Some at) long opens were = (
-    All-without (λ (w : Waiter M). WasOpened k (h ++ e ∷ []) w.place w.who w.matter) (is_waiter e.who.number at) ws.waiting were.0,
+    All-without (λ (w : Waiter M). WasOpened k (h ++ e ∷ []) w.place w.who w.matter) (is_waiter e.who.number at)
+        ws.waiting were.0,
     All-without (WasOpenedBy k (h ++ e ∷ [])) (is_decision e.who.number at) ws.decided were.1,
   )
   entry-opened h e ws place decides None None None long opens were = decision-opened (h ++ e ∷ []) decides ws were
 
-  opened-all : (h : List (Entry O R)) (s : S) (es : List (Entry O R)) → Replays m s es → k.entries s ≡ length h → AreOpened h (k.waits s) → AreOpened (h ++ es) (k.waits (state_after m s es))
+  opened-all : (h : List (Entry O R)) (s : S) (es : List (Entry O R)) → Replays m s es → k.entries s ≡ length h →
+      AreOpened h (k.waits s) → AreOpened (h ++ es) (k.waits (state_after m s es))
   opened-all h s [] replays long were = subst (λ (g : List (Entry O R)). AreOpened g (k.waits s)) (sym (append-nil h)) were
   opened-all h s (e ∷ es) replays long were =
       let moved = has.moves s e.who e.op e.reply replays.0 in
-      let here = entry-opened h e (k.waits s) (k.entries s) (k.decides s e.op e.reply) (k.opens e.op e.reply) (k.ends e.op) (k.quits e.op) (sym long) refl (are-longer h e (k.waits s) were) in
+      let here = entry-opened h e (k.waits s) (k.entries s) (k.decides s e.op e.reply) (k.opens e.op e.reply)
+      (k.ends e.op) (k.quits e.op) (sym long) refl (are-longer h e (k.waits s) were) in
       let next = m.next s e.who e.op in
       let counted = has.counts s e.who e.op in
       let longer = length-append h (e ∷ []) in
@@ -107,5 +134,9 @@ module _ {S O R M : Type 0} (m : Machine S O R) (k : WaitKind S O R M) (has : Ha
 
   pub each_wait_has_its_opening : (s : S) (h : List (Entry O R)) → IsFirst k s → Replays m s h → EachWaitHasItsOpening m k s h
   each_wait_has_its_opening s h start replays =
-      let none : AreOpened [] (k.waits s) = subst (AreOpened []) (sym start.none) (All-nil (λ (w : Waiter M). WasOpened k [] w.place w.who w.matter), All-nil (WasOpenedBy k [])) in
+      let none : AreOpened [] (k.waits s) =
+      subst (AreOpened []) (sym start.none) (
+        All-nil (λ (w : Waiter M). WasOpened k [] w.place w.who w.matter),
+        All-nil (WasOpenedBy k []),
+      ) in
       opened-all [] s h replays start.new none

@@ -8,7 +8,8 @@ use Rattle.zk_base.proofs.WaitDecisions.{end_tells_its_decision, quit_tells_its_
 use Rattle.zk_base.proofs.WaitsHold.{each_wait_has_its_opening}
 use Rattle.zk_base.proofs.WaitsOnce.{each_wait_once, each_ends_once}
 
-pub keeps_waits : {S O R M : Type 0} (m : Machine S O R) (k : WaitKind S O R M) → HasWaits m k → (s : S) (h : List (Entry O R)) → IsFirst k s → Replays m s h → KeepsWaits m k s h
+pub keeps_waits : {S O R M : Type 0} (m : Machine S O R) (k : WaitKind S O R M) → HasWaits m k →
+    (s : S) (h : List (Entry O R)) → IsFirst k s → Replays m s h → KeepsWaits m k s h
 keeps_waits m k has s h start replays = record {
   opened = each_wait_has_its_opening m k has s h start replays;
   once = each_wait_once m k has s h start replays;

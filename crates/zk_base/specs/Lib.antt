@@ -1,6 +1,7 @@
 pub mod Causes
 pub mod Codes
 pub mod Fews
+pub mod Fronts
 pub mod History
 pub mod InMemory
 pub mod Legal

@@ -85,6 +85,12 @@ waiting_at place ws = count_by (λ w. w.place == place) ws.waiting
 abbrev pub decided_at : {M A : Type 0} → ℕ → Waits M A → ℕ
 decided_at place ws = count_by (λ d. d.place == place) ws.decided
 
+-- what those who wait are handed: of these decisions, what the answers hold whose wait wasn't decided before
+abbrev pub handed_by : {M A B : Type 0} → (A → List B) → Waits M A → List (Decision A) → List B
+handed_by content before [] = []
+handed_by content before (d ∷ ds) =
+    (if decided_at d.place before == 0 then content d.answer else []) ++ handed_by content before ds
+
 -- it is this place
 abbrev pub is_at : ℕ → Option ℕ → Bool
 is_at place None = false

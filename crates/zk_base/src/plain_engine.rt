@@ -77,11 +77,7 @@ impl<S: Store> Engine for PlainEngine<S> {
         self.store.room()
     }
 
-    ghost counts = { S.counts };
-
-    ghost ranges = { S.ranges };
-
-    ghost adds = { S.adds };
-
-    ghost gives = { S.gives };
+    fn counts_entries() {
+        S::counts_entries()
+    }
 }

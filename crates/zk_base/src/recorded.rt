@@ -99,6 +99,7 @@ impl<C: Engine> Service for Recorded<C> {
     const WORDS: u32 = C::WORDS;
 
     fn act(&mut self, who: Who, step: u32, op: C::Op) -> Result<Option<C::Reply>, NoMemory> {
+        C::counts_entries();
         make_room(&self.engine, &mut self.past, who, &op)?;
         match self.engine.step(who, &op)? {
             None => Ok(None),

@@ -1,7 +1,8 @@
-ghost use Rattle.std.specs.Prelude.{◌≡◌, ℕ, ◌+◌, ◌-◌, ◌^◌, ◌<◌, ◌≤◌, Bool, true, is_some, IsOk, IfOk, OnErr};
+ghost use Rattle.std.specs.Prelude.{◌≡◌, ℕ, ◌+◌, ◌-◌, ◌^◌, ◌<◌, ◌≤◌, Bool, true, IsOk, IfOk, OnErr};
 ghost use Rattle.zk_base.specs.declared.ids.Who.{Who};
 ghost use Rattle.zk_base.specs.History.{AddsNone};
 ghost use Rattle.zk_base.specs.Legal.{Machine, after_reply};
+ghost use Rattle.zk_base.specs.Recording.{CountsEntries};
 
 use crate::{NoMemory, Who};
 
@@ -65,16 +66,7 @@ pub trait Store: Drop {
     fn room(&self) -> u64
         ensures { result ≡ room self.now };
 
-    /// Each entry is counted.
-    ghost counts: { (s : Self.State) (who : Who) (op : Self.Op) → entries (machine.next s who op) ≡ entries s + 1 };
-
-    /// What is in range stays so.
-    ghost ranges: { (s : Self.State) (who : Who) (op : Self.Op) → machine.in_range (machine.next s who op) ≡ machine.in_range s };
-
-    /// An operation adds at most two owed entries.
-    ghost adds: { (s : Self.State) (who : Who) (op : Self.Op) → owed (machine.next s who op) ≤ owed s + 2 };
-
-    /// A closing operation gives one.
-    ghost gives: { (s : Self.State) (who : Who) (op : Self.Op) →
-        closes s who op ≡ true → is_some (machine.reply_of s who op) ≡ true → 1 + owed (machine.next s who op) ≤ owed s };
+    /// How entries are counted and owed, in all states. It does nothing.
+    fn counts_entries()
+        ensures { CountsEntries machine entries owed closes };
 }

@@ -15,11 +15,14 @@ one-user = record {
   each = each;
   allowed = let P : ℕ × ℕ → Type 0 = λ a. (a.0 < 1) × (a.1 < 3) in All-cons P (0, 1) [] (omega arith, omega arith) (All-nil P);
 } where
-  threads : (player : ℕ) (thread : ℕ × Bool) → slice_get one_user.threads player ≡ Some thread → slice_get one_user.kinds thread.0 ≡ Some kinds.Thread
-  threads zero thread is = subst (λ (t : ℕ × Bool). slice_get one_user.kinds t.0 ≡ Some kinds.Thread) (same_Some (0, true) thread is) refl
+  threads : (player : ℕ) (thread : ℕ × Bool) → slice_get one_user.threads player ≡ Some thread →
+      slice_get one_user.kinds thread.0 ≡ Some kinds.Thread
+  threads zero thread is = subst (λ (t : ℕ × Bool). slice_get one_user.kinds t.0 ≡ Some kinds.Thread)
+      (same_Some (0, true) thread is) refl
   threads (suc player) thread is = absurd (cc)
 
-  once : (p q : ℕ) (a b : ℕ × Bool) → slice_get one_user.threads p ≡ Some a → slice_get one_user.threads q ≡ Some b → a.0 ≡ b.0 → p ≡ q
+  once : (p q : ℕ) (a b : ℕ × Bool) → slice_get one_user.threads p ≡ Some a → slice_get one_user.threads q ≡ Some b →
+      a.0 ≡ b.0 → p ≡ q
   once zero zero a b one other same = refl
   once zero (suc q) a b one other same = absurd (cc)
   once (suc p) q a b one other same = absurd (cc)

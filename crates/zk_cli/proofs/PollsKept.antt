@@ -1,5 +1,5 @@
 -- The polls of a lawful trace keep their laws.
-use Rattle.std.proofs.Common.{◌≡◌, ℕ, zero, suc, ◌≤◌, true, Option, Some, None, List, [], ◌∷◌, All, refl, sym, ap, subst, ◌∙◌, arith}
+use Rattle.std.proofs.Common.{◌≡◌, ℕ, zero, suc, ◌≤◌, true, false, Option, Some, None, List, [], ◌∷◌, All, refl, sym, ap, subst, ◌∙◌, arith}
 use Rattle.std.specs.List.{AllZip, slice_get, list_all}
 use Rattle.std.specs.Option.{option_and_then}
 use Rattle.zk_base.specs.declared.ids.Entry.{Entry}
@@ -18,6 +18,7 @@ use Rattle.zk_worker.specs.declared.log.Log.{Log}
 use Rattle.zk_worker.specs.declared.steps.Spot.{Spot}
 use Rattle.zk_worker.specs.Follows.{Stands}
 use Rattle.zk_worker.specs.Machines.{machines_of}
+use Rattle.zk_worker.specs.Checks.{is_oops}
 use Rattle.zk_worker.specs.PollLogs.{ShowsLegal, IsLawfulPollOf}
 use Rattle.zk_worker.specs.Shown.{ShowsLog}
 use Rattle.zk_worker.proofs.PollServed.{each_poll_keeps_its_laws}
@@ -88,5 +89,5 @@ polls-kept s t valid lawful number log is =
     record {
       made = follows.led.made;
       stands = subst (λ (x : List Spot). AllZip (Stands (trace_shown t)) x follows.led.made) steps follows.led.stands;
-      polls = subst (All (λ (a : Answered). a.word ≡ words.Poll → IsLawfulPollOf s follows.led.made a)) (ap (λ (l : Log). l.answers) follows.logged) all;
+      polls = subst (All (λ (a : Answered). a.word ≡ words.Poll → is_oops a.answer ≡ false → IsLawfulPollOf s follows.led.made a)) (ap (λ (l : Log). l.answers) follows.logged) all;
     }

@@ -3,6 +3,7 @@ use Rattle.zk_base.specs.declared.errors.Status.{Status}
 use Rattle.zk_base.specs.declared.errors.Status.TheVariants as statuses
 use Rattle.zk_model_bus.specs.ChannelLaws.{KeepsChannelLaws}
 use Rattle.zk_model_bus.specs.ObserverLaws.{KeepsObserverLaws}
+use Rattle.zk_model_bus.specs.TableLaws.{KeepsTableLaws}
 use Rattle.zk_model_wait.specs.ClockLaws.{KeepsClockLaws}
 use Rattle.zk_model_wait.specs.MsgqLaws.{KeepsMsgqLaws}
 use Rattle.zk_model_wait.specs.SemLaws.{KeepsSemLaws}
@@ -14,6 +15,7 @@ use Rattle.zk_scenario.specs.declared.refused.ScenarioRefused.TheVariants as ref
 use Rattle.zk_scenario.specs.Grammar.{scenario_of}
 use Rattle.zk_scenario.specs.Spelling.{text_of}
 use Rattle.zk_worker.specs.Machines.{work_start_of, machines_of}
+use Rattle.zk_worker.specs.TableSetup.{setup_of}
 use Rattle.zk_trace.specs.declared.trace.Trace.{Trace}
 use Rattle.zk_trace.specs.declared.trace.Ending.{Ending}
 use Rattle.zk_trace.specs.declared.trace.Ending.TheVariants as endings
@@ -40,6 +42,7 @@ pub record IsRun (ending : Ending) (input output : List ℕ) : Type 0 where
   pub lawful : IsLawful scenario trace
   pub laws : AtEachMoment (KeepsLaws (work_start_of scenario)) trace.work
   pub clock_laws : AtEachMoment KeepsClockLaws trace.clock
+  pub table_laws : AtEachMoment (KeepsTableLaws (setup_of scenario)) trace.table
   pub sem_laws : AtEachObject KeepsSemLaws (machines_of scenario).sems trace.sems
   pub msgq_laws : AtEachObject KeepsMsgqLaws (machines_of scenario).msgqs trace.msgqs
   pub signal_laws : AtEachObject (λ start. KeepsSignalLaws) (machines_of scenario).signals trace.signals

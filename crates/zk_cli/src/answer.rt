@@ -6,7 +6,7 @@ ghost use Rattle.zk_cli.specs.Answer.{IsRun, IsOutput, status_of};
 
 use std::alloc::Global;
 use zk_base::{NoMemory, Status, put, put_decimal};
-use zk_model_bus::{keeps_channel_laws, keeps_observer_laws};
+use zk_model_bus::{keeps_channel_laws, keeps_observer_laws, keeps_table_laws};
 use zk_model_wait::{keeps_clock_laws, keeps_msgq_laws, keeps_sem_laws, keeps_signal_laws};
 use zk_model_work::keeps_laws;
 use zk_replay::replay;
@@ -32,6 +32,7 @@ fn run(alloc: Global, text: Vec<u8>, scenario: &Scenario) -> Result<(Vec<u8>, St
 {
     keeps_laws();
     keeps_clock_laws();
+    keeps_table_laws();
     keeps_sem_laws();
     keeps_msgq_laws();
     keeps_signal_laws();

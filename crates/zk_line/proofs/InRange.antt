@@ -1,5 +1,5 @@
 -- What is declared by words in range is in range.
-use Rattle.std.proofs.Common.{◌≡◌, ℕ, Bool, true, false, not, subst, eqb, nat_le, nat_lt, ◌^◌, ◌&&◌, ◌||◌, List, [], ◌∷◌, map, length, Option, Some, is_some, refl, sym, ap, ◌∙◌}
+use Rattle.std.proofs.Common.{◌≡◌, ℕ, Bool, true, false, not, subst, eqb, nat_le, nat_lt, ◌^◌, ◌&&◌, ◌||◌, List, [], ◌∷◌, map, length, Option, Some, None, is_some, refl, sym, ap, ◌∙◌}
 use Rattle.std.specs.Prelude.{option_and_then}
 use Rattle.std.specs.List.{list_all, list_any}
 use Rattle.std.specs.Str.{bytes_eq}
@@ -23,8 +23,10 @@ use Rattle.zk_line.specs.declared.types.Decl.{Decl}
 use Rattle.zk_line.specs.declared.types.Decl.TheVariants as decl
 use Rattle.zk_line.specs.declared.types.Arg.{Arg}
 use Rattle.zk_line.specs.declared.types.Arg.TheVariants.{Name, Object, Number, Bytes, Valid as ValidArg}
-use Rattle.zk_line.specs.declared.types.Ref.TheVariants.{Known}
-use Rattle.zk_line.specs.Args.{ref_of, arg_of, args_of}
+use Rattle.zk_base.specs.Names.{is_name}
+use Rattle.zk_line.specs.declared.types.Ref.{Ref}
+use Rattle.zk_line.specs.declared.types.Ref.TheVariants.{Known, Unknown}
+use Rattle.zk_line.specs.Args.{named_ref, ref_of, arg_of, args_of}
 use Rattle.zk_line.specs.Checks.{message_size, each_in_range, is_up_to, go_together, are_in_range, each_well_named, names_observer, name_once, are_well_named}
 use Rattle.zk_line.specs.Decls.{decl_of, decl_args, objects_said, raw_said}
 use Rattle.zk_line.specs.Fits.{fits_in, rest_fit, args_fit, all_different, decl_fits, observers_fit}
@@ -82,8 +84,10 @@ counts-read decls (w ∷ v ∷ u ∷ ws) name n most more said up =
 object-is : (decls : List Decl) (word : List ℕ) (n : ℕ) → arg_of decls observer word ≡ Some (Object (Known n)) → object_of decls word ≡ Some n
 object-is decls word n said =
     let object = one_part Object (ref_of decls word) (Object (Known n)) said in
-    let known = one_part Known (object_of decls word) object.0 object.1 in
-    let same : known.0 ≡ n = cc (known.2, object.2) in known.1 ∙ ap Some same
+    let same : object.0 ≡ Known n = cc object.2 in by_place (object_of decls word) refl (object.1 ∙ ap Some same) where
+      by_place : (o : Option ℕ) → object_of decls word ≡ o → named_ref o word ≡ Some (Known n) → object_of decls word ≡ Some n
+      by_place (Some k) is here = let known : k ≡ n = cc here in is ∙ ap Some known
+      by_place None is here = let none : ◌≡◌ {A = Ref} (Unknown word) (Known n) = (cond_some (is_name word) (Unknown word) (Known n) here).1 in absurd (cc)
 
 -- an observer that isn't named among others is another object than they
 not_among : (decls : List Decl) (word : List ℕ) (n : ℕ) (ws : List (List ℕ)) (ns : List ℕ) → object_of decls word ≡ Some n → args_of decls (map (placed observer) ws) ≡ Some (objects_said ns)
@@ -135,13 +139,13 @@ observers-read decls (w ∷ v ∷ u ∷ t ∷ ws) name message valid ns said onc
     different-read decls ws ns four.1 once
 
 -- objects that fit the slot of an observer are observers
-all_observers : (decls : List Decl) (bytes : Option ℕ) (ns : List ℕ) → list_all (fits_in decls bytes observer) (objects_said ns) ≡ list_all (is_at is_observer decls) ns
+all_observers : (decls : List Decl) (bytes : Option ℕ) (ns : List ℕ) → list_all (fits_in false decls bytes observer) (objects_said ns) ≡ list_all (is_at is_observer decls) ns
 all_observers decls bytes [] = refl
 all_observers decls bytes (n ∷ ns) = ap (λ b. is_at is_observer decls n && b) (all_observers decls bytes ns)
 
 -- what is said fits the slots of its kind
 abbrev IsRanged : List Decl → Option ℕ → Decl → Type 0
-IsRanged decls bytes d = args_fit decls bytes (kind_row (kind_of d)).slots (kind_row (kind_of d)).rest (decl_args d) ≡ true
+IsRanged decls bytes d = args_fit false decls bytes (kind_row (kind_of d)).slots (kind_row (kind_of d)).rest (decl_args d) ≡ true
 
 -- the same of what a line's words say in their slots
 abbrev IsSaid : List Decl → List (List ℕ) → Decl → Type 0
@@ -160,19 +164,19 @@ by_kind decls bytes ws (decl.Thread name prio user) fit made said together once 
 by_kind decls bytes ws (decl.Queue name prio on) fit made said together once = (refl, refl)
 by_kind decls bytes ws (decl.Item name) fit made said together once = (refl, refl)
 by_kind decls bytes ws (decl.Sem name n most raw) fit made said together once =
-    let last = rest_fit decls bytes (Maybe slot.Raw) (raw_said raw) in
+    let last = rest_fit false decls bytes (Maybe slot.Raw) (raw_said raw) in
     let numbers = and_parts (is_between 0 1000000 n) (is_between 1 1000000 most && last) fit in
     (and_from (is_between 1 1000000 most) (nat_le n most) (and_parts (is_between 1 1000000 most) last numbers.1).0 (counts-read decls ws name n most (raw_said raw) said together), refl)
 by_kind decls bytes ws (decl.Msgq name long capacity raw) fit made said together once =
-    let last = rest_fit decls bytes (Maybe slot.Raw) (raw_said raw) in
+    let last = rest_fit false decls bytes (Maybe slot.Raw) (raw_said raw) in
     let numbers = and_parts (is_between 1 64 long) (is_between 1 256 capacity && last) fit in
     (and_from (is_between 1 64 long) (is_between 1 256 capacity) numbers.0 (and_parts (is_between 1 256 capacity) last numbers.1).0, refl)
 by_kind decls bytes ws (decl.Signal name raw) fit made said together once = (refl, refl)
 by_kind decls bytes ws (decl.Listener name) fit made said together once = (refl, refl)
 by_kind decls bytes ws (decl.Sub name capacity) fit made said together once = ((and_parts (is_between 1 256 capacity) true fit).0, refl)
 by_kind decls bytes ws (decl.Chan name message valid observers) fit made said together once =
-    let long = and_parts (is_between 1 64 (length message)) (fits_in decls bytes slot.Hex (Bytes message) && list_all (fits_in decls bytes observer) (objects_said observers)) fit in
-    let all = and_parts (fits_in decls bytes slot.Hex (Bytes message)) (list_all (fits_in decls bytes observer) (objects_said observers)) long.1 in
+    let long = and_parts (is_between 1 64 (length message)) (fits_in false decls bytes slot.Hex (Bytes message) && list_all (fits_in false decls bytes observer) (objects_said observers)) fit in
+    let all = and_parts (fits_in false decls bytes slot.Hex (Bytes message)) (list_all (fits_in false decls bytes observer) (objects_said observers)) long.1 in
     let few = few-channel (decl_args (decl.Chan name message valid observers)) name message valid observers made in (
       and_from (is_message message && is_few observers) (all_different observers) (and_from (is_message message) (is_few observers) long.0 few) (observers-read decls ws name message valid observers said once),
       sym (all_observers decls bytes observers) ∙ all.1,
@@ -180,19 +184,19 @@ by_kind decls bytes ws (decl.Chan name message valid observers) fit made said to
 
 -- what a line declares whose words are in range and well named is in range, and its observers are declared
 pub decl_fits-read : (decls : List Decl) (k : Kind) (ws : List (List ℕ)) (d : Decl) → are_in_range decls (Declare k) (parts_of (kind_row k).slots (kind_row k).rest ws) ≡ true
-    → are_well_named decls (parts_of (kind_row k).slots (kind_row k).rest ws) ≡ true
+    → are_well_named false decls (parts_of (kind_row k).slots (kind_row k).rest ws) ≡ true
     → option_and_then (decl_of k) (args_of decls (parts_of (kind_row k).slots (kind_row k).rest ws)) ≡ Some d → (decl_fits d ≡ true) × (observers_fit decls d ≡ true)
 decl_fits-read decls k ws d ranged named made =
     let form = kind_row k in
     let ps = parts_of form.slots form.rest ws in
     let bytes = message_size decls ps in
     let both = and_parts (each_in_range bytes ps) (go_together (Declare k) ps) ranged in
-    let names = and_parts (each_well_named decls ps) (name_once ps) named in
+    let names = and_parts (each_well_named false decls ps) (name_once ps) named in
     option_and_then_some (decl_of k) (args_of decls ps) d made
     (λ args is_args given.
     let is = sym (written_of-decl_of k args d given) in
     by_kind decls bytes ws d
-    (ap (λ w. args_fit decls bytes (kind_row w.kind).slots (kind_row w.kind).rest w.args) (sym is) ∙ args_fit-read decls bytes form.slots form.rest ws args both.0 names.0 is_args)
+    (ap (λ w. args_fit false decls bytes (kind_row w.kind).slots (kind_row w.kind).rest w.args) (sym is) ∙ args_fit-read false decls bytes form.slots form.rest ws args both.0 names.0 is_args)
     (subst (λ w. decl_of w.kind w.args ≡ Some d) is given)
     (subst (λ w. args_of decls (parts_of (kind_row w.kind).slots (kind_row w.kind).rest ws) ≡ Some w.args) is is_args)
     (subst (λ w. go_together (Declare w.kind) (parts_of (kind_row w.kind).slots (kind_row w.kind).rest ws) ≡ true) is both.1)

@@ -30,7 +30,7 @@ use Rattle.zk_line.specs.Few.{is_few}
 use Rattle.zk_line.specs.Fits.{has_few_events}
 use Rattle.zk_line.specs.Objects.{kind_of}
 use Rattle.zk_line.proofs.Options.{one_part}
-use Rattle.zk_line.specs.Shapes.{as_name, as_object, as_number, as_result, as_priority, as_truth, as_bytes, as_wait, as_event, as_known, all_objects, few_objects, objects_of, channel_parts, all_events, few_events, events_of, wait_events, both, all_three, all_four, raw_of, one, two, three, one_raw, three_raw, one_or_two}
+use Rattle.zk_line.specs.Shapes.{as_name, as_object, as_number, as_result, as_priority, as_truth, as_bytes, as_wait, as_event, as_known, all_objects, few_objects, objects_of, channel_parts, all_events, few_events, events_of, wait_events, both, all_three, all_four, raw_of, alone, one, two, three, one_raw, three_raw, one_or_two}
 
 -- an argument is read from just the one that is written of it
 abbrev pub IsPart : {A : Type 0} → (Arg → Option A) → (A → Arg) → Type 0
@@ -258,6 +258,11 @@ by_shape {X} shape back make say tell is says args c said = by_read (shape args)
   by_read None same made = absurd (cc)
   by_read (Some x) same made = ap say (sym (same_Some (make x) c made)) ∙ says x ∙ ap tell (sym (is args x same))
 
+-- the words of no argument
+without : (w : Word) (what : Call) → said_of what ≡ saying w [] → (args : List Arg) (c : Call) → alone what args ≡ Some c → said_of c ≡ saying w args
+without w what says [] c said = ap said_of (sym (same_Some what c said)) ∙ says
+without w what says (a ∷ args) c said = absurd (cc)
+
 -- the words of one object alone
 one_object : (w : Word) (f : Ref → Call) → ((x : Ref) → said_of (f x) ≡ saying w (Object x ∷ [])) → (args : List Arg) (c : Call) → option_map f (one as_object args) ≡ Some c → said_of c ≡ saying w args
 one_object w f says = by_shape (one as_object) _ f said_of (saying w) (one-is as_object Object object-is) says
@@ -322,6 +327,7 @@ said_of-call_of word.Release = one_object word.Release call.Release (λ x. refl)
 said_of-call_of word.Revoke = two_objects word.Revoke (λ p. call.Revoke p.0 p.1) (λ x. refl)
 said_of-call_of word.Public = one_object word.Public call.Public (λ x. refl)
 said_of-call_of word.Init = one_object word.Init call.Init (λ x. refl)
+said_of-call_of word.User = without word.User call.User refl
 
 -- a call can be kept: the result of a signal is a number of 16 bits, and a poll has 1 to 8 events
 abbrev pub IsKept : Call → Type 0
@@ -374,6 +380,7 @@ call_of-said_of (call.Release object) kept = refl
 call_of-said_of (call.Revoke thread object) kept = refl
 call_of-said_of (call.Public object) kept = refl
 call_of-said_of (call.Init object) kept = refl
+call_of-said_of call.User kept = refl
 
 -- what is made a call can be kept: the events of a poll are few
 few-poll : (args : List Arg) (wait : Timeout) (events : List PollEvent) → call_of word.Poll args ≡ Some (call.Poll wait events) → is_few events ≡ true

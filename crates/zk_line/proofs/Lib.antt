@@ -6,6 +6,7 @@ pub mod Inverse
 pub mod Joined
 pub mod Lists
 pub mod Makes
+pub mod NeedsMet
 pub mod NeedsThere
 pub mod Options
 pub mod ReadTo

@@ -42,36 +42,36 @@ use Rattle.zk_line.specs.declared.events.Event.{Event as PollEvent}
 use Rattle.zk_line.specs.declared.events.Event.TheVariants as event
 use Rattle.zk_line.specs.declared.types.Call.{Call}
 use Rattle.zk_line.specs.declared.types.Call.TheVariants as call
-use Rattle.zk_line.specs.Args.{truth_of, ref_of, arg_of, args_of}
+use Rattle.zk_line.specs.Args.{truth_of, named_ref, ref_of, arg_of, args_of}
 use Rattle.zk_line.specs.Calls.{call_of}
-use Rattle.zk_line.specs.Checks.{is_size, is_in_range, each_in_range, is_well_named, each_well_named, is_event_slot, has_many_events, go_together, is_observer_slot, has_many_observers}
+use Rattle.zk_line.specs.Checks.{is_size, is_in_range, each_in_range, is_right_object, is_well_named, each_well_named, is_event_slot, has_many_events, go_together, is_observer_slot, has_many_observers}
 use Rattle.zk_line.specs.Decls.{decl_of, objects_said, permission_of}
 use Rattle.zk_line.specs.Few.{is_few, event_at}
 use Rattle.zk_line.specs.Objects.{object_of, is_at, can_be_raw, is_met, names}
 use Rattle.zk_line.proofs.Fits.{half}
 use Rattle.zk_line.proofs.Inverse.{events_of-map, objects_of-said, ChannelParts}
 use Rattle.zk_line.proofs.Lists.{count_by-cons}
-use Rattle.zk_line.specs.Shapes.{as_name, as_object, as_number, as_result, as_priority, as_truth, as_bytes, as_wait, as_known, both, all_three, all_four, one, two, three, one_raw, three_raw, one_or_two, objects_of}
+use Rattle.zk_line.specs.Shapes.{as_name, as_object, as_number, as_result, as_priority, as_truth, as_bytes, as_wait, both, all_three, all_four, alone, one, two, three, one_raw, three_raw, one_or_two, objects_of}
 
 -- a word is spelled, in range and well named, in a line whose messages have so many bytes
-pub record IsRight (decls : List Decl) (bytes : Option ℕ) (s : Slot) (w : List ℕ) : Type 0 where
+pub record IsRight (free : Bool) (decls : List Decl) (bytes : Option ℕ) (s : Slot) (w : List ℕ) : Type 0 where
   pub spelled : is_spelled_in s w ≡ true
   pub in_range : is_in_range bytes s w ≡ true
-  pub named : is_well_named decls s w ≡ true
+  pub named : is_well_named free decls s w ≡ true
 
 -- each word of a line is
-abbrev pub AreRight : List Decl → Option ℕ → List Placed → Type 0
-AreRight decls bytes [] = Unit {0}
-AreRight decls bytes (p ∷ ps) = IsRight decls bytes p.slot p.text × AreRight decls bytes ps
+abbrev pub AreRight : Bool → List Decl → Option ℕ → List Placed → Type 0
+AreRight free decls bytes [] = Unit {0}
+AreRight free decls bytes (p ∷ ps) = IsRight free decls bytes p.slot p.text × AreRight free decls bytes ps
 
 -- the three tests of a line's words, side by side
-pub are_right : (decls : List Decl) (bytes : Option ℕ) (ps : List Placed) → list_all part_is_spelled ps ≡ true → each_in_range bytes ps ≡ true → each_well_named decls ps ≡ true → AreRight decls bytes ps
-are_right decls bytes [] s r n = tt
-are_right decls bytes (p ∷ ps) s r n =
+pub are_right : (free : Bool) (decls : List Decl) (bytes : Option ℕ) (ps : List Placed) → list_all part_is_spelled ps ≡ true → each_in_range bytes ps ≡ true → each_well_named free decls ps ≡ true → AreRight free decls bytes ps
+are_right free decls bytes [] s r n = tt
+are_right free decls bytes (p ∷ ps) s r n =
     let ss = and_parts (part_is_spelled p) (list_all part_is_spelled ps) s in
     let rs = and_parts (is_in_range bytes p.slot p.text) (each_in_range bytes ps) r in
-    let ns = and_parts (is_well_named decls p.slot p.text) (each_well_named decls ps) n in
-    (record { spelled = ss.0; in_range = rs.0; named = ns.0 }, are_right decls bytes ps ss.1 rs.1 ns.1)
+    let ns = and_parts (is_well_named free decls p.slot p.text) (each_well_named free decls ps) n in
+    (record { spelled = ss.0; in_range = rs.0; named = ns.0 }, are_right free decls bytes ps ss.1 rs.1 ns.1)
 
 -- what is there is something
 pub is_some-some : {X : Type 0} (o : Option X) → is_some o ≡ true → (x : X) × (o ≡ Some x)
@@ -80,40 +80,45 @@ is_some-some (Some x) e = (x, refl)
 
 -- a right word says something of the kind that is asked for
 abbrev IsMade : {A : Type 0} → Slot → (Arg → Option A) → Type 0
-IsMade s f = (decls : List Decl) (bytes : Option ℕ) (w : List ℕ) → IsRight decls bytes s w → (arg : Arg) × (arg_of decls s w ≡ Some arg) × IsSome (f arg)
+IsMade s f = (free : Bool) (decls : List Decl) (bytes : Option ℕ) (w : List ℕ) → IsRight free decls bytes s w → (arg : Arg) × (arg_of decls s w ≡ Some arg) × IsSome (f arg)
 
 name-made : IsMade slot.New as_name
-name-made decls bytes w right = (Name w, cond-true (is_name w) (Some (Name w)) None (and_parts (is_name w) _ right.named).0, refl)
+name-made free decls bytes w right = (Name w, cond-true (is_name w) (Some (Name w)) None (and_parts (is_name w) _ right.named).0, refl)
+
+-- the object of a name that meets a need
+known-ref : (decls : List Decl) (test : Decl → Bool) (w : List ℕ) → names test decls w ≡ true → (k : ℕ) × (object_of decls w ≡ Some k)
+known-ref decls test w named = by_place (object_of decls w) refl where
+  by_place : (o : Option ℕ) → object_of decls w ≡ o → (k : ℕ) × (object_of decls w ≡ Some k)
+  by_place (Some k) same = (k, same)
+  by_place None same = let none : false ≡ true = sym (ap (λ o. option_map_or (is_at test decls) o false) same) ∙ named in absurd (cc)
+
+-- a name that may stand where a need is asked says an object
+ref-made : (free : Bool) (decls : List Decl) (asked : Need) (w : List ℕ) → is_right_object free decls asked w ≡ true → (r : Ref) × (ref_of decls w ≡ Some r)
+ref-made true decls asked w named = is_some-some (ref_of decls w) named
+ref-made false decls asked w named = let known = known-ref decls (is_met asked) w named in (Known known.0, ap (λ o. named_ref o w) known.1)
 
 object-made : (n : Need) → IsMade (slot.Object n) as_object
-object-made n decls bytes w right = by_place (object_of decls w) refl where
-  by_place : (o : Option ℕ) → object_of decls w ≡ o → (arg : Arg) × (arg_of decls (slot.Object n) w ≡ Some arg) × IsSome (as_object arg)
-  by_place (Some k) same = (Object (Known k), ap (λ o. option_map Object (option_map Known o)) same, refl)
-  by_place None same = let none : false ≡ true = sym (ap (λ o. option_map_or (is_at (is_met n) decls) o false) same) ∙ right.named in absurd (cc)
+object-made n free decls bytes w right = let r = ref-made free decls n w right.named in (Object r.0, ap (option_map Object) r.1, refl)
 
-known-made : (n : Need) → IsMade (slot.Object n) as_known
-known-made n decls bytes w right = by_place (object_of decls w) refl where
-  by_place : (o : Option ℕ) → object_of decls w ≡ o → (arg : Arg) × (arg_of decls (slot.Object n) w ≡ Some arg) × IsSome (as_known arg)
-  by_place (Some k) same = (Object (Known k), ap (λ o. option_map Object (option_map Known o)) same, refl)
-  by_place None same = let none : false ≡ true = sym (ap (λ o. option_map_or (is_at (is_met n) decls) o false) same) ∙ right.named in absurd (cc)
+-- in a line that isn't free it is declared
+known-made : (n : Need) (decls : List Decl) (bytes : Option ℕ) (w : List ℕ) → IsRight false decls bytes (slot.Object n) w → (k : ℕ) × (arg_of decls (slot.Object n) w ≡ Some (Object (Known k)))
+known-made n decls bytes w right = let known = known-ref decls (is_met n) w right.named in (known.0, ap (λ o. option_map Object (named_ref o w)) known.1)
 
 rawable-made : IsMade slot.Rawable as_object
-rawable-made decls bytes w right = by_place (object_of decls w) refl where
-  by_place : (o : Option ℕ) → object_of decls w ≡ o → (arg : Arg) × (arg_of decls slot.Rawable w ≡ Some arg) × IsSome (as_object arg)
-  by_place (Some k) same = (Object (Known k), ap (λ o. option_map Object (option_map Known o)) same, refl)
-  by_place None same = let none : false ≡ true = sym (ap (λ o. option_map_or (is_at can_be_raw decls) o false) same) ∙ right.named in absurd (cc)
+rawable-made free decls bytes w right =
+    let known = known-ref decls can_be_raw w right.named in (Object (Known known.0), ap (λ o. option_map Object (named_ref o w)) known.1, refl)
 
 number-made : (least most : ℕ) → IsMade (slot.Number least most) as_number
-number-made least most decls bytes w right = let n = is_some-some (number_in least most w) right.in_range in (Number n.0, ap (option_map Number) n.1, refl)
+number-made least most free decls bytes w right = let n = is_some-some (number_in least most w) right.in_range in (Number n.0, ap (option_map Number) n.1, refl)
 
 result-made : IsMade result as_result
-result-made decls bytes w right =
+result-made free decls bytes w right =
     let n = is_some-some (number_in 0 65535 w) right.in_range in
     let most = leb-true n.0 65535 (and_parts (nat_le 0 n.0) (nat_le n.0 65535) (number_in_spelled 0 65535 w n.0 n.1).1).1 in
     (Number n.0, ap (option_map Number) n.1, ap is_some (cond-true (nat_lt n.0 65536) (Some n.0) None (lt-ltb n.0 65536 (omega arith))))
 
 priority-made : IsMade slot.Priority as_priority
-priority-made decls bytes w right = let p = is_some-some (option_flatten (priority_of w)) right.in_range in (Priority p.0, ap (option_map Priority) p.1, refl)
+priority-made free decls bytes w right = let p = is_some-some (option_flatten (priority_of w)) right.in_range in (Priority p.0, ap (option_map Priority) p.1, refl)
 
 truth_same : (choice : Choice) (t : Bool) → IsSome (as_truth choice (Truth choice t))
 truth_same Mode t = refl
@@ -121,7 +126,7 @@ truth_same State t = refl
 truth_same Drain t = refl
 
 truth-made : (choice : Choice) → IsMade (slot.Either choice) (as_truth choice)
-truth-made choice decls bytes w right = by_first (bytes_eq w (choice_text choice true)) (bytes_eq w (choice_text choice false)) refl refl right.spelled where
+truth-made choice free decls bytes w right = by_first (bytes_eq w (choice_text choice true)) (bytes_eq w (choice_text choice false)) refl refl right.spelled where
   by_first : (p q : Bool) → bytes_eq w (choice_text choice true) ≡ p → bytes_eq w (choice_text choice false) ≡ q → (p || q) ≡ true
       → (arg : Arg) × (option_map (Truth choice) (truth_of choice w) ≡ Some arg) × IsSome (as_truth choice arg)
   by_first true q is_first is_second e =
@@ -131,21 +136,21 @@ truth-made choice decls bytes w right = by_first (bytes_eq w (choice_text choice
   by_first false false is_first is_second e = absurd (cc)
 
 -- digits of the size that is asked for, and so of at most 64 bytes, spell a message
-message-said : (decls : List Decl) (bytes : Option ℕ) (w : List ℕ) → IsRight decls bytes slot.Hex w → msg_of w ≡ Some (bytes_of w)
-message-said decls bytes w right =
+message-said : (free : Bool) (decls : List Decl) (bytes : Option ℕ) (w : List ℕ) → IsRight free decls bytes slot.Hex w → msg_of w ≡ Some (bytes_of w)
+message-said free decls bytes w right =
     let short = (and_parts (nat_le (length w) 128) (is_size bytes (length w / 2)) right.in_range).0 in
     let hex : (is_hex w && nat_le (length w) 128) ≡ true = and_from (is_hex w) (nat_le (length w) 128) right.spelled short in
     cond-true (is_hex w && nat_le (length w) 128) (Some (bytes_of w)) None hex
 
 bytes-made : IsMade slot.Hex as_bytes
-bytes-made decls bytes w right = (Bytes (bytes_of w), ap (option_map Bytes) (message-said decls bytes w right), refl)
+bytes-made free decls bytes w right = (Bytes (bytes_of w), ap (option_map Bytes) (message-said free decls bytes w right), refl)
 
 wait-made : IsMade slot.Wait as_wait
-wait-made decls bytes w right = let t = is_some-some (wait_of w) right.in_range in (Wait t.0, ap (option_map Wait) t.1, refl)
+wait-made free decls bytes w right = let t = is_some-some (wait_of w) right.in_range in (Wait t.0, ap (option_map Wait) t.1, refl)
 
 -- a right line says something throughout, of the shape that is asked for
 abbrev IsLine : {X : Type 0} → List Slot → Rest → (List Arg → Option X) → Type 0
-IsLine slots rest shape = (decls : List Decl) (bytes : Option ℕ) (ws : List (List ℕ)) → fits slots rest ws ≡ true → AreRight decls bytes (parts_of slots rest ws)
+IsLine slots rest shape = (free : Bool) (decls : List Decl) (bytes : Option ℕ) (ws : List (List ℕ)) → fits slots rest ws ≡ true → AreRight free decls bytes (parts_of slots rest ws)
     → (args : List Arg) × (args_of decls (parts_of slots rest ws) ≡ Some args) × IsSome (shape args)
 
 args-cons : (decls : List Decl) (s : Slot) (w : List ℕ) (ps : List Placed) (arg : Arg) (args : List Arg) → arg_of decls s w ≡ Some arg → args_of decls ps ≡ Some args → args_of decls (placed s w ∷ ps) ≡ Some (arg ∷ args)
@@ -164,42 +169,42 @@ three-some (Some a) None z e h k = absurd (cc)
 three-some (Some a) (Some b) None e h k = absurd (cc)
 
 one-line : {A : Type 0} (s : Slot) (f : Arg → Option A) → IsMade s f → IsLine (s ∷ []) Nothing (one f)
-one-line s f made decls bytes [] fit right = absurd (cc)
-one-line s f made decls bytes (w ∷ []) fit right = let m = made decls bytes w right.0 in (m.0 ∷ [], args-cons decls s w [] m.0 [] m.1 refl, m.2)
-one-line s f made decls bytes (w ∷ v ∷ ws) fit right = absurd (cc)
+one-line s f made free decls bytes [] fit right = absurd (cc)
+one-line s f made free decls bytes (w ∷ []) fit right = let m = made free decls bytes w right.0 in (m.0 ∷ [], args-cons decls s w [] m.0 [] m.1 refl, m.2)
+one-line s f made free decls bytes (w ∷ v ∷ ws) fit right = absurd (cc)
 
 two-line : {A B : Type 0} (s : Slot) (f : Arg → Option A) (t : Slot) (g : Arg → Option B) → IsMade s f → IsMade t g → IsLine (s ∷ t ∷ []) Nothing (two f g)
-two-line s f t g made also decls bytes [] fit right = absurd (cc)
-two-line s f t g made also decls bytes (w ∷ []) fit right = absurd (cc)
-two-line s f t g made also decls bytes (w ∷ v ∷ []) fit right =
-    let m = made decls bytes w right.0 in let n = also decls bytes v right.1.0 in
+two-line s f t g made also free decls bytes [] fit right = absurd (cc)
+two-line s f t g made also free decls bytes (w ∷ []) fit right = absurd (cc)
+two-line s f t g made also free decls bytes (w ∷ v ∷ []) fit right =
+    let m = made free decls bytes w right.0 in let n = also free decls bytes v right.1.0 in
     (m.0 ∷ n.0 ∷ [], args-cons decls s w (placed t v ∷ []) m.0 (n.0 ∷ []) m.1 (args-cons decls t v [] n.0 [] n.1 refl), both-some (f m.0) (g n.0) m.2 n.2)
-two-line s f t g made also decls bytes (w ∷ v ∷ u ∷ ws) fit right = absurd (cc)
+two-line s f t g made also free decls bytes (w ∷ v ∷ u ∷ ws) fit right = absurd (cc)
 
 three-line : {A B C : Type 0} (s : Slot) (f : Arg → Option A) (t : Slot) (g : Arg → Option B) (r : Slot) (h : Arg → Option C) → IsMade s f → IsMade t g → IsMade r h → IsLine (s ∷ t ∷ r ∷ []) Nothing (three f g h)
-three-line s f t g r h made also third decls bytes [] fit right = absurd (cc)
-three-line s f t g r h made also third decls bytes (w ∷ []) fit right = absurd (cc)
-three-line s f t g r h made also third decls bytes (w ∷ v ∷ []) fit right = absurd (cc)
-three-line s f t g r h made also third decls bytes (w ∷ v ∷ u ∷ []) fit right =
-    let m = made decls bytes w right.0 in let n = also decls bytes v right.1.0 in let o = third decls bytes u right.1.1.0 in (
+three-line s f t g r h made also third free decls bytes [] fit right = absurd (cc)
+three-line s f t g r h made also third free decls bytes (w ∷ []) fit right = absurd (cc)
+three-line s f t g r h made also third free decls bytes (w ∷ v ∷ []) fit right = absurd (cc)
+three-line s f t g r h made also third free decls bytes (w ∷ v ∷ u ∷ []) fit right =
+    let m = made free decls bytes w right.0 in let n = also free decls bytes v right.1.0 in let o = third free decls bytes u right.1.1.0 in (
       m.0 ∷ n.0 ∷ o.0 ∷ [],
       args-cons decls s w (placed t v ∷ placed r u ∷ []) m.0 (n.0 ∷ o.0 ∷ []) m.1 (args-cons decls t v (placed r u ∷ []) n.0 (o.0 ∷ []) n.1 (args-cons decls r u [] o.0 [] o.1 refl)),
       three-some (f m.0) (g n.0) (h o.0) m.2 n.2 o.2,
     )
-three-line s f t g r h made also third decls bytes (w ∷ v ∷ u ∷ x ∷ ws) fit right = absurd (cc)
+three-line s f t g r h made also third free decls bytes (w ∷ v ∷ u ∷ x ∷ ws) fit right = absurd (cc)
 
 -- a right `raw` says itself
-raw-made : (decls : List Decl) (bytes : Option ℕ) (w : List ℕ) → IsRight decls bytes slot.Raw w → args_of decls (placed slot.Raw w ∷ []) ≡ Some (Raw ∷ [])
-raw-made decls bytes w right = args-cons decls slot.Raw w [] Raw [] (cond-true (bytes_eq w (codes "raw")) (Some Raw) None right.spelled) refl
+raw-made : (free : Bool) (decls : List Decl) (bytes : Option ℕ) (w : List ℕ) → IsRight free decls bytes slot.Raw w → args_of decls (placed slot.Raw w ∷ []) ≡ Some (Raw ∷ [])
+raw-made free decls bytes w right = args-cons decls slot.Raw w [] Raw [] (cond-true (bytes_eq w (codes "raw")) (Some Raw) None right.spelled) refl
 
 one_raw-line : {A : Type 0} (s : Slot) (f : Arg → Option A) → IsMade s f → IsLine (s ∷ []) (Maybe slot.Raw) (one_raw f)
-one_raw-line s f made decls bytes [] fit right = absurd (cc)
-one_raw-line s f made decls bytes (w ∷ []) fit right =
-    let m = made decls bytes w right.0 in (m.0 ∷ [], args-cons decls s w [] m.0 [] m.1 refl, both-some (f m.0) (Some false) m.2 refl)
-one_raw-line s f made decls bytes (w ∷ v ∷ []) fit right =
-    let m = made decls bytes w right.0 in
-    (m.0 ∷ Raw ∷ [], args-cons decls s w (placed slot.Raw v ∷ []) m.0 (Raw ∷ []) m.1 (raw-made decls bytes v right.1.0), both-some (f m.0) (Some true) m.2 refl)
-one_raw-line s f made decls bytes (w ∷ v ∷ u ∷ ws) fit right = absurd (cc)
+one_raw-line s f made free decls bytes [] fit right = absurd (cc)
+one_raw-line s f made free decls bytes (w ∷ []) fit right =
+    let m = made free decls bytes w right.0 in (m.0 ∷ [], args-cons decls s w [] m.0 [] m.1 refl, both-some (f m.0) (Some false) m.2 refl)
+one_raw-line s f made free decls bytes (w ∷ v ∷ []) fit right =
+    let m = made free decls bytes w right.0 in
+    (m.0 ∷ Raw ∷ [], args-cons decls s w (placed slot.Raw v ∷ []) m.0 (Raw ∷ []) m.1 (raw-made free decls bytes v right.1.0), both-some (f m.0) (Some true) m.2 refl)
+one_raw-line s f made free decls bytes (w ∷ v ∷ u ∷ ws) fit right = absurd (cc)
 
 four-some : {A B C : Type 0} (x : Option A) (y : Option B) (z : Option C) (raw : Bool) → IsSome x → IsSome y → IsSome z → IsSome (all_four x y z (Some raw))
 four-some (Some a) (Some b) (Some c) raw e h k = refl
@@ -208,69 +213,66 @@ four-some (Some a) None z raw e h k = absurd (cc)
 four-some (Some a) (Some b) None raw e h k = absurd (cc)
 
 three_raw-line : {A B C : Type 0} (s : Slot) (f : Arg → Option A) (t : Slot) (g : Arg → Option B) (r : Slot) (h : Arg → Option C) → IsMade s f → IsMade t g → IsMade r h → IsLine (s ∷ t ∷ r ∷ []) (Maybe slot.Raw) (three_raw f g h)
-three_raw-line s f t g r h made also third decls bytes [] fit right = absurd (cc)
-three_raw-line s f t g r h made also third decls bytes (w ∷ []) fit right = absurd (cc)
-three_raw-line s f t g r h made also third decls bytes (w ∷ v ∷ []) fit right = absurd (cc)
-three_raw-line s f t g r h made also third decls bytes (w ∷ v ∷ u ∷ []) fit right =
-    let m = made decls bytes w right.0 in let n = also decls bytes v right.1.0 in let o = third decls bytes u right.1.1.0 in (
+three_raw-line s f t g r h made also third free decls bytes [] fit right = absurd (cc)
+three_raw-line s f t g r h made also third free decls bytes (w ∷ []) fit right = absurd (cc)
+three_raw-line s f t g r h made also third free decls bytes (w ∷ v ∷ []) fit right = absurd (cc)
+three_raw-line s f t g r h made also third free decls bytes (w ∷ v ∷ u ∷ []) fit right =
+    let m = made free decls bytes w right.0 in let n = also free decls bytes v right.1.0 in let o = third free decls bytes u right.1.1.0 in (
       m.0 ∷ n.0 ∷ o.0 ∷ [],
       args-cons decls s w (placed t v ∷ placed r u ∷ []) m.0 (n.0 ∷ o.0 ∷ []) m.1 (args-cons decls t v (placed r u ∷ []) n.0 (o.0 ∷ []) n.1 (args-cons decls r u [] o.0 [] o.1 refl)),
       four-some (f m.0) (g n.0) (h o.0) false m.2 n.2 o.2,
     )
-three_raw-line s f t g r h made also third decls bytes (w ∷ v ∷ u ∷ x ∷ []) fit right =
-    let m = made decls bytes w right.0 in let n = also decls bytes v right.1.0 in let o = third decls bytes u right.1.1.0 in
+three_raw-line s f t g r h made also third free decls bytes (w ∷ v ∷ u ∷ x ∷ []) fit right =
+    let m = made free decls bytes w right.0 in let n = also free decls bytes v right.1.0 in let o = third free decls bytes u right.1.1.0 in
     let raw = placed slot.Raw x ∷ [] in (
       m.0 ∷ n.0 ∷ o.0 ∷ Raw ∷ [],
-      args-cons decls s w (placed t v ∷ placed r u ∷ raw) m.0 (n.0 ∷ o.0 ∷ Raw ∷ []) m.1 (args-cons decls t v (placed r u ∷ raw) n.0 (o.0 ∷ Raw ∷ []) n.1 (args-cons decls r u raw o.0 (Raw ∷ []) o.1 (raw-made decls bytes x right.1.1.1.0))),
+      args-cons decls s w (placed t v ∷ placed r u ∷ raw) m.0 (n.0 ∷ o.0 ∷ Raw ∷ []) m.1 (args-cons decls t v (placed r u ∷ raw) n.0 (o.0 ∷ Raw ∷ []) n.1 (args-cons decls r u raw o.0 (Raw ∷ []) o.1 (raw-made free decls bytes x right.1.1.1.0))),
       four-some (f m.0) (g n.0) (h o.0) true m.2 n.2 o.2,
     )
-three_raw-line s f t g r h made also third decls bytes (w ∷ v ∷ u ∷ x ∷ y ∷ ws) fit right = absurd (cc)
+three_raw-line s f t g r h made also third free decls bytes (w ∷ v ∷ u ∷ x ∷ y ∷ ws) fit right = absurd (cc)
 
 one_or_two-line : {A B : Type 0} (s : Slot) (f : Arg → Option A) (t : Slot) (g : Arg → Option B) → IsMade s f → IsMade t g → IsLine (s ∷ []) (Maybe t) (one_or_two f g)
-one_or_two-line s f t g made also decls bytes [] fit right = absurd (cc)
-one_or_two-line {B = B} s f t g made also decls bytes (w ∷ []) fit right =
-    let m = made decls bytes w right.0 in (m.0 ∷ [], args-cons decls s w [] m.0 [] m.1 refl, both-some (f m.0) (Some None) m.2 refl)
-one_or_two-line s f t g made also decls bytes (w ∷ v ∷ []) fit right =
-    let m = made decls bytes w right.0 in let n = also decls bytes v right.1.0 in
+one_or_two-line s f t g made also free decls bytes [] fit right = absurd (cc)
+one_or_two-line {B = B} s f t g made also free decls bytes (w ∷ []) fit right =
+    let m = made free decls bytes w right.0 in (m.0 ∷ [], args-cons decls s w [] m.0 [] m.1 refl, both-some (f m.0) (Some None) m.2 refl)
+one_or_two-line s f t g made also free decls bytes (w ∷ v ∷ []) fit right =
+    let m = made free decls bytes w right.0 in let n = also free decls bytes v right.1.0 in
     (m.0 ∷ n.0 ∷ [], args-cons decls s w (placed t v ∷ []) m.0 (n.0 ∷ []) m.1 (args-cons decls t v [] n.0 [] n.1 refl), both-some (f m.0) (option_map Some (g n.0)) m.2 (some-map (g n.0) n.2)) where
       some-map : {Y : Type 0} (o : Option Y) → IsSome o → IsSome (option_map Some o)
       some-map (Some y) e = refl
       some-map None e = absurd (cc)
-one_or_two-line s f t g made also decls bytes (w ∷ v ∷ u ∷ ws) fit right = absurd (cc)
+one_or_two-line s f t g made also free decls bytes (w ∷ v ∷ u ∷ ws) fit right = absurd (cc)
 
 -- a right line of these slots makes something
 abbrev Makes : {C : Type 0} → List Slot → Rest → (List Arg → Option C) → Type 0
-Makes slots rest make = (decls : List Decl) (bytes : Option ℕ) (ws : List (List ℕ)) → fits slots rest ws ≡ true → AreRight decls bytes (parts_of slots rest ws) → IsSome (option_and_then make (args_of decls (parts_of slots rest ws)))
+Makes slots rest make = (free : Bool) (decls : List Decl) (bytes : Option ℕ) (ws : List (List ℕ)) → fits slots rest ws ≡ true → AreRight free decls bytes (parts_of slots rest ws) → IsSome (option_and_then make (args_of decls (parts_of slots rest ws)))
 
 by_line : {X C : Type 0} (slots : List Slot) (rest : Rest) (shape : List Arg → Option X) (f : X → C) → IsLine slots rest shape → Makes slots rest (λ args. option_map f (shape args))
-by_line {X} {C} slots rest shape f is decls bytes ws fit right = let m = is decls bytes ws fit right in
+by_line {X} {C} slots rest shape f is free decls bytes ws fit right = let m = is free decls bytes ws fit right in
     subst (λ o. IsSome (option_and_then (λ args. option_map f (shape args)) o)) (sym m.1) (some-map (shape m.0) m.2) where
       some-map : (o : Option X) → IsSome o → IsSome (option_map f o)
       some-map (Some y) e = refl
       some-map None e = absurd (cc)
 
 -- a right event says something
-event-made : (decls : List Decl) (bytes : Option ℕ) (w : List ℕ) → IsRight decls bytes slot.Event w → (e : PollEvent) × (arg_of decls slot.Event w ≡ Some (Event e))
-event-made decls bytes w right = by_first (is_ignore w) right.named where
-  by_object : (a : Asking) (o : Option ℕ) → option_map_or (is_at (is_met (need_of a.source)) decls) o false ≡ true → (e : PollEvent) × (option_map Event (option_map (event_at a.source) (option_map Known o)) ≡ Some (Event e))
-  by_object a None named = absurd (cc)
-  by_object a (Some k) named = (event_at a.source (Known k), refl)
-
-  by_asked : (o : Option Asking) → option_map_or (λ a. names (is_met (need_of a.source)) decls a.name) o false ≡ true
+event-made : (free : Bool) (decls : List Decl) (bytes : Option ℕ) (w : List ℕ) → IsRight free decls bytes slot.Event w → (e : PollEvent) × (arg_of decls slot.Event w ≡ Some (Event e))
+event-made free decls bytes w right = by_first (is_ignore w) right.named where
+  by_asked : (o : Option Asking) → option_map_or (λ a. is_right_object free decls (need_of a.source) a.name) o false ≡ true
       → (e : PollEvent) × (option_map Event (option_and_then (λ a. option_map (event_at a.source) (ref_of decls a.name)) o) ≡ Some (Event e))
   by_asked None named = absurd (cc)
-  by_asked (Some a) named = by_object a (object_of decls a.name) named
+  by_asked (Some a) named =
+      let r = ref-made free decls (need_of a.source) a.name named in (event_at a.source r.0, ap (λ o. option_map Event (option_map (event_at a.source) o)) r.1)
 
-  by_first : (b : Bool) → (b || option_map_or (λ a. names (is_met (need_of a.source)) decls a.name) (event_named w) false) ≡ true
+  by_first : (b : Bool) → (b || option_map_or (λ a. is_right_object free decls (need_of a.source) a.name) (event_named w) false) ≡ true
       → (e : PollEvent) × (option_map Event (cond b (Some event.Ignore) (option_and_then (λ a. option_map (event_at a.source) (ref_of decls a.name)) (event_named w))) ≡ Some (Event e))
   by_first true named = (event.Ignore, refl)
   by_first false named = by_asked (event_named w) named
 
-events-made : (decls : List Decl) (bytes : Option ℕ) (ws : List (List ℕ)) → AreRight decls bytes (map (placed slot.Event) ws)
+events-made : (free : Bool) (decls : List Decl) (bytes : Option ℕ) (ws : List (List ℕ)) → AreRight free decls bytes (map (placed slot.Event) ws)
     → (es : List PollEvent) × (args_of decls (map (placed slot.Event) ws) ≡ Some (map Event es)) × (length es ≡ length ws)
-events-made decls bytes [] right = ([], refl, refl)
-events-made decls bytes (w ∷ ws) right =
-    let m = event-made decls bytes w right.0 in let more = events-made decls bytes ws right.1 in
+events-made free decls bytes [] right = ([], refl, refl)
+events-made free decls bytes (w ∷ ws) right =
+    let m = event-made free decls bytes w right.0 in let more = events-made free decls bytes ws right.1 in
     (m.0 ∷ more.0, args-cons decls slot.Event w (map (placed slot.Event) ws) (Event m.0) (map Event more.0) m.1 more.1, omega (arith, more.2))
 
 count-events : (ws : List (List ℕ)) → count_by (λ part. is_event_slot part.slot) (map (placed slot.Event) ws) ≡ length ws
@@ -287,12 +289,12 @@ poll-few w (v ∷ ws) es fit few long =
     and_from (nat_le 1 (length es)) (nat_le (length es) 8) (le-leb 1 (length es) (omega (arith, long))) (le-leb (length es) 8 most)
 
 -- a right poll makes its call
-poll-made : (decls : List Decl) (bytes : Option ℕ) (ws : List (List ℕ)) → fits (slot.Wait ∷ []) Events ws ≡ true → AreRight decls bytes (parts_of (slot.Wait ∷ []) Events ws)
+poll-made : (free : Bool) (decls : List Decl) (bytes : Option ℕ) (ws : List (List ℕ)) → fits (slot.Wait ∷ []) Events ws ≡ true → AreRight free decls bytes (parts_of (slot.Wait ∷ []) Events ws)
     → has_many_events (parts_of (slot.Wait ∷ []) Events ws) ≡ false → IsSome (option_and_then (call_of word.Poll) (args_of decls (parts_of (slot.Wait ∷ []) Events ws)))
-poll-made decls bytes [] fit right few = absurd (cc)
-poll-made decls bytes (w ∷ ws) fit right few =
+poll-made free decls bytes [] fit right few = absurd (cc)
+poll-made free decls bytes (w ∷ ws) fit right few =
     let t = is_some-some (wait_of w) right.0.in_range in
-    let es = events-made decls bytes ws right.1 in
+    let es = events-made free decls bytes ws right.1 in
     let args = args-cons decls slot.Wait w (map (placed slot.Event) ws) (Wait t.0) (map Event es.0) (ap (option_map Wait) t.1) es.1 in
     let is = events_of-map es.0 (poll-few w ws es.0 fit few es.2) in
     ap (λ o. is_some (option_and_then (call_of word.Poll) o)) args ∙ ap (λ (o : Option (List PollEvent)). is_some (option_map (λ (p : Timeout × List PollEvent). call.Poll p.0 p.1) (option_map (λ xs. (t.0, xs)) o))) is
@@ -326,6 +328,11 @@ waiting n f = by_line (slot.Object n ∷ slot.Wait ∷ []) Nothing (two as_objec
 -- the lines of an object, of a message for it, and of how long is waited for it
 sending : (n : Need) (f : Ref × List ℕ × Timeout → Call) → Makes (slot.Object n ∷ slot.Hex ∷ slot.Wait ∷ []) Nothing (λ args. option_map f (three as_object as_bytes as_wait args))
 sending n f = by_line (slot.Object n ∷ slot.Hex ∷ slot.Wait ∷ []) Nothing (three as_object as_bytes as_wait) f (three-line (slot.Object n) as_object slot.Hex as_bytes slot.Wait as_wait (object-made n) bytes-made wait-made)
+
+-- the line of no argument
+without : Makes [] Nothing (alone call.User)
+without free decls bytes [] fit right = refl
+without free decls bytes (w ∷ ws) fit right = absurd (cc)
 
 -- the lines of a thread and an object
 permitting : {C : Type 0} (f : Ref × Ref → C) → Makes (table.thread ∷ table.object ∷ []) Nothing (λ args. option_map f (two as_object as_object args))
@@ -380,13 +387,14 @@ makes_other word.Grant other = permitting (λ p. call.Grant p.0 p.1)
 makes_other word.Release other = one_any call.Release
 makes_other word.Revoke other = permitting (λ p. call.Revoke p.0 p.1)
 makes_other word.Public other = one_any call.Public
+makes_other word.User other = without
 makes_other word.Init other = by_line (slot.Rawable ∷ []) Nothing (one as_object) call.Init (one-line slot.Rawable as_object rawable-made)
 
 -- a right line of a call word makes its call, where it hasn't too many events
-pub makes_call : (w : Word) (decls : List Decl) (bytes : Option ℕ) (ws : List (List ℕ)) → fits (call_row w).slots (call_row w).rest ws ≡ true → AreRight decls bytes (parts_of (call_row w).slots (call_row w).rest ws)
+pub makes_call : (w : Word) (free : Bool) (decls : List Decl) (bytes : Option ℕ) (ws : List (List ℕ)) → fits (call_row w).slots (call_row w).rest ws ≡ true → AreRight free decls bytes (parts_of (call_row w).slots (call_row w).rest ws)
     → has_many_events (parts_of (call_row w).slots (call_row w).rest ws) ≡ false → IsSome (option_and_then (call_of w) (args_of decls (parts_of (call_row w).slots (call_row w).rest ws)))
-makes_call word.Poll decls bytes ws fit right few = poll-made decls bytes ws fit right few
-makes_call w decls bytes ws fit right few = makes_other w refl decls bytes ws fit right
+makes_call word.Poll free decls bytes ws fit right few = poll-made free decls bytes ws fit right few
+makes_call w free decls bytes ws fit right few = makes_other w refl free decls bytes ws fit right
 
 -- the lines of a name, a priority and one of the two words of a choice
 playing : (choice : Choice) → IsLine (slot.New ∷ slot.Priority ∷ slot.Either choice ∷ []) Nothing (three as_name as_priority (as_truth choice))
@@ -398,16 +406,12 @@ numbered least most low high =
     three_raw-line slot.New as_name (slot.Number least most) as_number (slot.Number low high) as_number name-made (number-made least most) (number-made low high)
 
 -- right observers say their objects
-objects-made : (decls : List Decl) (bytes : Option ℕ) (ws : List (List ℕ)) → AreRight decls bytes (map (placed observer) ws)
+objects-made : (decls : List Decl) (bytes : Option ℕ) (ws : List (List ℕ)) → AreRight false decls bytes (map (placed observer) ws)
     → (objects : List ℕ) × (args_of decls (map (placed observer) ws) ≡ Some (objects_said objects)) × (length objects ≡ length ws)
 objects-made decls bytes [] right = ([], refl, refl)
 objects-made decls bytes (w ∷ ws) right =
-    let more = objects-made decls bytes ws right.1 in by_place (object_of decls w) refl more.0 more.1 more.2 where
-      by_place : (o : Option ℕ) → object_of decls w ≡ o → (more : List ℕ) → args_of decls (map (placed observer) ws) ≡ Some (objects_said more) → length more ≡ length ws
-          → (objects : List ℕ) × (args_of decls (map (placed observer) (w ∷ ws)) ≡ Some (objects_said objects)) × (length objects ≡ length (w ∷ ws))
-      by_place None same more said long = let none : false ≡ true = sym (ap (λ o. option_map_or (is_at (is_met need.Obs) decls) o false) same) ∙ right.0.named in absurd (cc)
-      by_place (Some k) same more said long =
-          (k ∷ more, args-cons decls observer w (map (placed observer) ws) (Object (Known k)) (objects_said more) (ap (λ o. option_map Object (option_map Known o)) same) said, omega (arith, long))
+    let k = known-made need.Obs decls bytes w right.0 in let more = objects-made decls bytes ws right.1 in
+    (k.0 ∷ more.0, args-cons decls observer w (map (placed observer) ws) (Object (Known k.0)) (objects_said more.0) k.1 more.1, omega (arith, more.2))
 
 count-observers : (ws : List (List ℕ)) → count_by (λ part. is_observer_slot part.slot) (map (placed observer) ws) ≡ length ws
 count-observers [] = refl
@@ -433,7 +437,7 @@ abbrev chan_parts : List (List ℕ) → List Placed
 chan_parts ws = parts_of (slot.New ∷ size ∷ slot.Hex ∷ slot.Valid ∷ []) (Many observer) ws
 
 -- a right line of a channel makes its declaration, where its size is its message's and it hasn't too many observers
-chan-made : (decls : List Decl) (bytes : Option ℕ) (ws : List (List ℕ)) → fits (slot.New ∷ size ∷ slot.Hex ∷ slot.Valid ∷ []) (Many observer) ws ≡ true → AreRight decls bytes (chan_parts ws)
+chan-made : (decls : List Decl) (bytes : Option ℕ) (ws : List (List ℕ)) → fits (slot.New ∷ size ∷ slot.Hex ∷ slot.Valid ∷ []) (Many observer) ws ≡ true → AreRight false decls bytes (chan_parts ws)
     → go_together (Declare kind.Chan) (chan_parts ws) ≡ true → has_many_observers (chan_parts ws) ≡ false → IsSome (option_and_then (decl_of kind.Chan) (args_of decls (chan_parts ws)))
 chan-made decls bytes [] fit right together few = absurd (cc)
 chan-made decls bytes (w ∷ []) fit right together few = absurd (cc)
@@ -443,7 +447,7 @@ chan-made decls bytes (w ∷ v ∷ u ∷ t ∷ ws) fit right together few =
     let rest = map (placed observer) ws in
     let name : arg_of decls slot.New w ≡ Some (Name w) = cond-true (is_name w) (Some (Name w)) None (and_parts (is_name w) _ right.0.named).0 in
     let n = is_some-some (number_in 1 64 v) right.1.0.in_range in
-    let message = message-said decls bytes u right.1.1.0 in
+    let message = message-said false decls bytes u right.1.1.0 in
     let valid = is_some-some (validator_of t) right.1.1.1.0.spelled in
     let objects = objects-made decls bytes ws right.1.1.1.1 in
     let args = args-cons decls slot.New w (placed size v ∷ placed slot.Hex u ∷ placed slot.Valid t ∷ rest) (Name w) (Number n.0 ∷ Bytes (bytes_of u) ∷ ValidArg valid.0 ∷ objects_said objects.0) name
@@ -484,15 +488,19 @@ makes_other_decl kind.Sub other = by_line (slot.New ∷ capacity ∷ []) Nothing
 makes_other_decl kind.Chan other = absurd (cc)
 
 -- a right line of a kind makes its declaration, where its numbers go together and it hasn't too many observers
-pub makes_decl : (k : Kind) (decls : List Decl) (bytes : Option ℕ) (ws : List (List ℕ)) → fits (kind_row k).slots (kind_row k).rest ws ≡ true → AreRight decls bytes (parts_of (kind_row k).slots (kind_row k).rest ws)
+pub makes_decl : (k : Kind) (decls : List Decl) (bytes : Option ℕ) (ws : List (List ℕ)) → fits (kind_row k).slots (kind_row k).rest ws ≡ true → AreRight false decls bytes (parts_of (kind_row k).slots (kind_row k).rest ws)
     → go_together (Declare k) (parts_of (kind_row k).slots (kind_row k).rest ws) ≡ true → has_many_observers (parts_of (kind_row k).slots (kind_row k).rest ws) ≡ false
     → IsSome (option_and_then (decl_of k) (args_of decls (parts_of (kind_row k).slots (kind_row k).rest ws)))
 makes_decl kind.Chan decls bytes ws fit right together few = chan-made decls bytes ws fit right together few
-makes_decl k decls bytes ws fit right together few = makes_other_decl k refl decls bytes ws fit right
+makes_decl k decls bytes ws fit right together few = makes_other_decl k refl false decls bytes ws fit right
 
 -- a right line of a permission says it
-pub makes_permission : (decls : List Decl) (bytes : Option ℕ) (ws : List (List ℕ)) → fits (table.thread ∷ table.object ∷ []) Nothing ws ≡ true → AreRight decls bytes (parts_of (table.thread ∷ table.object ∷ []) Nothing ws)
+pub makes_permission : (decls : List Decl) (bytes : Option ℕ) (ws : List (List ℕ)) → fits (table.thread ∷ table.object ∷ []) Nothing ws ≡ true → AreRight false decls bytes (parts_of (table.thread ∷ table.object ∷ []) Nothing ws)
     → IsSome (option_and_then permission_of (args_of decls (parts_of (table.thread ∷ table.object ∷ []) Nothing ws)))
-makes_permission decls bytes ws fit right =
-    let m = two-line table.thread as_known table.object as_known (known-made need.Thread) (known-made need.Any) decls bytes ws fit right in
-    ap (λ o. is_some (option_and_then permission_of o)) m.1 ∙ m.2
+makes_permission decls bytes [] fit right = absurd (cc)
+makes_permission decls bytes (w ∷ []) fit right = absurd (cc)
+makes_permission decls bytes (w ∷ v ∷ []) fit right =
+    let m = known-made need.Thread decls bytes w right.0 in let n = known-made need.Any decls bytes v right.1.0 in
+    ap (λ o. is_some (option_and_then permission_of o))
+    (args-cons decls table.thread w (placed table.object v ∷ []) (Object (Known m.0)) (Object (Known n.0) ∷ []) m.1 (args-cons decls table.object v [] (Object (Known n.0)) [] n.1 refl))
+makes_permission decls bytes (w ∷ v ∷ u ∷ ws) fit right = absurd (cc)

@@ -1,5 +1,5 @@
 -- A line that is read word by word, with the size of its messages.
-use Rattle.std.proofs.Common.{◌≡◌, ℕ, true, ◌&&◌, List, [], ◌∷◌, ◌++◌, Option, Some, None, Ok, refl, sym, ap, subst, ◌∙◌, append_assoc}
+use Rattle.std.proofs.Common.{◌≡◌, ℕ, Bool, true, ◌&&◌, List, [], ◌∷◌, ◌++◌, Option, Some, None, Ok, refl, sym, ap, subst, ◌∙◌, append_assoc}
 use Rattle.std.specs.Prelude.{option_map, option_and_then}
 use Rattle.std.specs.List.{list_all}
 use Rattle.std.proofs.lemmas.Bool.{and_parts}
@@ -55,26 +55,26 @@ said_next args arg None = refl
 said_next args arg (Some xs) = ap Some (sym (append_assoc args (arg ∷ []) xs))
 
 -- a line is read as far as these parts are left, and nothing speaks against the words before them, which say these
-pub record IsReadTo (decls : List Decl) (whole : List Placed) (args : List Arg) (parts : List Placed) : Type 0 where
+pub record IsReadTo (free : Bool) (decls : List Decl) (whole : List Placed) (args : List Arg) (parts : List Placed) : Type 0 where
   pub spelled : list_all part_is_spelled parts ≡ true
   pub sized : message_size decls whole ≡ size_with decls args parts
   pub in_range : each_in_range (message_size decls whole) whole ≡ each_in_range (message_size decls whole) parts
-  pub named : each_well_named decls whole ≡ each_well_named decls parts
+  pub named : each_well_named free decls whole ≡ each_well_named free decls parts
   pub said : args_of decls whole ≡ option_map (λ more. args ++ more) (args_of decls parts)
 
 -- it is read one word further
-pub read_next : (decls : List Decl) (whole : List Placed) (args after : List Arg) (parts left : List Placed) (s : Slot) (word : List ℕ) (arg : Arg)
-    → IsReadTo decls whole args parts → parts ≡ placed s word ∷ left → Weighs (is_in_range (size_said decls args) s word) (is_well_named decls s word) (arg_of decls s word) (Ok arg)
-    → after ≡ args ++ arg ∷ [] → IsReadTo decls whole after left
-read_next decls whole args after parts left s word arg held is weighed same =
+pub read_next : (free : Bool) (decls : List Decl) (whole : List Placed) (args after : List Arg) (parts left : List Placed) (s : Slot) (word : List ℕ) (arg : Arg)
+    → IsReadTo free decls whole args parts → parts ≡ placed s word ∷ left → Weighs (is_in_range (size_said decls args) s word) (is_well_named free decls s word) (arg_of decls s word) (Ok arg)
+    → after ≡ args ++ arg ∷ [] → IsReadTo free decls whole after left
+read_next free decls whole args after parts left s word arg held is weighed same =
     let size = message_size decls whole in
-    let now = subst (λ ps. IsReadTo decls whole args ps) is held in
+    let now = subst (λ ps. IsReadTo free decls whole args ps) is held in
     let in_range : is_in_range size s word ≡ true = ap (λ n. is_in_range n s word) now.sized ∙ in_range_next decls args s word left ∙ weighed.0 in
-    subst (λ xs. IsReadTo decls whole xs left) (sym same)
+    subst (λ xs. IsReadTo free decls whole xs left) (sym same)
     (record {
       spelled = (and_parts (is_spelled_in s word) (list_all part_is_spelled left) now.spelled).1;
       sized = now.sized ∙ sym (size_next decls args arg s word left weighed.2);
       in_range = now.in_range ∙ ap (λ b. b && each_in_range size left) in_range;
-      named = now.named ∙ ap (λ b. b && each_well_named decls left) weighed.1;
+      named = now.named ∙ ap (λ b. b && each_well_named free decls left) weighed.1;
       said = now.said ∙ ap (λ o. option_map (λ xs. args ++ xs) (option_and_then (λ x. option_map (λ xs. x ∷ xs) (args_of decls left)) o)) weighed.2 ∙ said_next args arg (args_of decls left);
     })

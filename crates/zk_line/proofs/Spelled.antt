@@ -34,13 +34,13 @@ use Rattle.zk_words.proofs.Waits.{wait_spelled}
 use Rattle.zk_line.specs.declared.types.Decl.{Decl}
 use Rattle.zk_line.specs.declared.types.Decl.TheVariants as decl
 use Rattle.zk_line.specs.declared.types.Ref.{Ref}
-use Rattle.zk_line.specs.declared.types.Ref.TheVariants.{Known}
+use Rattle.zk_line.specs.declared.types.Ref.TheVariants.{Known, Unknown}
 use Rattle.zk_line.specs.declared.types.Arg.{Arg}
 use Rattle.zk_line.specs.declared.types.Arg.TheVariants.{Name, Object, Number, Priority, Truth, Bytes, Wait, Event, Valid, Raw}
 use Rattle.zk_line.specs.declared.events.Event.{Event as PollEvent}
 use Rattle.zk_line.specs.declared.events.Event.TheVariants as event
 use Rattle.zk_line.specs.declared.types.Call.{Call}
-use Rattle.zk_line.specs.Args.{truth_of, ref_of, event_of, arg_of, args_of, ref_name, event_text, arg_text}
+use Rattle.zk_line.specs.Args.{truth_of, named_ref, ref_of, event_of, arg_of, args_of, ref_name, event_text, arg_text}
 use Rattle.zk_line.specs.Calls.{call_of}
 use Rattle.zk_line.specs.Decls.{decl_of, permission_of}
 use Rattle.zk_line.specs.Few.{event_at}
@@ -57,8 +57,10 @@ name_at-object_of decls name k e =
     ap (λ o. option_map_or name_of o []) (slice_get-get_or decls k d found.0) ∙ (bytes_decides (name_of (get_or decls k d)) name).0 found.1
 
 ref_spelled : (decls : List Decl) (word : List ℕ) (r : Ref) → ref_of decls word ≡ Some r → word ≡ ref_name decls r
-ref_spelled decls word r said =
-    let part = one_part Known (object_of decls word) r said in sym (name_at-object_of decls word part.0 part.1) ∙ ap (ref_name decls) part.2
+ref_spelled decls word r said = by_place (object_of decls word) refl said where
+  by_place : (o : Option ℕ) → object_of decls word ≡ o → named_ref o word ≡ Some r → word ≡ ref_name decls r
+  by_place (Some k) is here = sym (name_at-object_of decls word k is) ∙ ap (ref_name decls) (same_Some (Known k) r here)
+  by_place None is here = ap (ref_name decls) (cond_some (is_name word) (Unknown word) r here).1
 
 truth_spelled : (choice : Choice) (word : List ℕ) (truth : Bool) → truth_of choice word ≡ Some truth → word ≡ choice_text choice truth
 truth_spelled choice word truth said = by_first (bytes_eq word (choice_text choice true)) refl said where

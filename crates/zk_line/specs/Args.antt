@@ -16,7 +16,7 @@ use Rattle.zk_words.specs.Timeouts.{wait_of, wait_text}
 use Rattle.zk_words.specs.Validators.{validator_of, validator_text}
 use Rattle.zk_line.specs.declared.types.Decl.{Decl}
 use Rattle.zk_line.specs.declared.types.Ref.{Ref}
-use Rattle.zk_line.specs.declared.types.Ref.TheVariants.{Known}
+use Rattle.zk_line.specs.declared.types.Ref.TheVariants.{Known, Unknown}
 use Rattle.zk_line.specs.declared.types.Arg.{Arg}
 use Rattle.zk_line.specs.declared.types.Arg.TheVariants.{Name, Object, Number, Priority, Truth, Bytes, Wait, Event, Valid, Raw}
 use Rattle.zk_line.specs.declared.events.Event.{Event as PollEvent}
@@ -30,9 +30,14 @@ truth_of choice word =
     if bytes_eq word (choice_text choice true) then Some true else
     if bytes_eq word (choice_text choice false) then Some false else None
 
+-- an object that is declared, or else a name that no object has
+abbrev pub named_ref : Option ℕ → List ℕ → Option Ref
+named_ref (Some object) word = Some (Known object)
+named_ref None word = (if is_name word then Some (Unknown word) else None)
+
 -- an object as a line names it
 abbrev pub ref_of : List Decl → List ℕ → Option Ref
-ref_of decls word = option_map Known (object_of decls word)
+ref_of decls word = named_ref (object_of decls word) word
 
 -- an event as a line names it
 abbrev pub event_of : List Decl → List ℕ → Option PollEvent
@@ -64,6 +69,7 @@ args_of decls (part ∷ parts) =
 -- the name of an object that a call names
 abbrev pub ref_name : List Decl → Ref → List ℕ
 ref_name decls (Known object) = name_at decls object
+ref_name decls (Unknown name) = name
 
 -- the one spelling of an event
 abbrev pub event_text : List Decl → PollEvent → List ℕ

@@ -1,4 +1,4 @@
-use Rattle.std.specs.Prelude.{List, [], ◌∷◌, map, Option, Some, None, option_map, option_to_list}
+use Rattle.std.specs.Prelude.{Bool, true, false, List, [], ◌∷◌, map, Option, Some, None, option_map, option_to_list}
 use Rattle.zk_words.specs.declared.slot.Choice.TheVariants.{State, Drain}
 use Rattle.zk_words.specs.declared.word.Word.{Word}
 use Rattle.zk_words.specs.declared.word.Word.TheVariants as word
@@ -7,7 +7,7 @@ use Rattle.zk_line.specs.declared.types.Arg.TheVariants.{Object, Number, Truth, 
 use Rattle.zk_line.specs.declared.events.Event.{Event as PollEvent}
 use Rattle.zk_line.specs.declared.types.Call.{Call}
 use Rattle.zk_line.specs.declared.types.Call.TheVariants as call
-use Rattle.zk_line.specs.Shapes.{as_object, as_number, as_result, as_truth, as_bytes, as_wait, one, two, three, one_or_two, wait_events}
+use Rattle.zk_line.specs.Shapes.{as_object, as_number, as_result, as_truth, as_bytes, as_wait, alone, one, two, three, one_or_two, wait_events}
 
 -- a call as it is written: its word, and what stands behind that
 pub record Saying : Type 0 where
@@ -60,6 +60,7 @@ call_of word.Release args = option_map call.Release (one as_object args)
 call_of word.Revoke args = option_map (λ p. call.Revoke p.0 p.1) (two as_object as_object args)
 call_of word.Public args = option_map call.Public (one as_object args)
 call_of word.Init args = option_map call.Init (one as_object args)
+call_of word.User args = alone call.User args
 
 -- how a call is written
 abbrev pub said_of : Call → Saying
@@ -103,10 +104,16 @@ said_of (call.Release object) = saying word.Release (Object object ∷ [])
 said_of (call.Revoke thread object) = saying word.Revoke (Object thread ∷ Object object ∷ [])
 said_of (call.Public object) = saying word.Public (Object object ∷ [])
 said_of (call.Init object) = saying word.Init (Object object ∷ [])
+said_of call.User = saying word.User []
 
 -- the word of a call
 abbrev pub word_of : Call → Word
 word_of call = (said_of call).word
+
+-- whether a call makes its caller a user
+abbrev pub is_user_call : Call → Bool
+is_user_call call.User = true
+is_user_call call = false
 
 -- those arguments that stand
 abbrev pub standing : List (Option Arg) → List Arg

@@ -1,9 +1,10 @@
-use Rattle.std.specs.Prelude.{ℕ, Bool, true, false, not, ◌==◌, ◌/◌, nat_le, nat_lt, ◌&&◌, ◌||◌, count_by, Option, Some, None, List, [], ◌∷◌, length, is_some, option_and_then}
+use Rattle.std.specs.Prelude.{ℕ, Bool, true, false, not, ◌==◌, ◌/◌, nat_le, nat_lt, ◌&&◌, ◌||◌, count_by, Option, Some, None, List, [], ◌∷◌, length, is_some, option_and_then, if◌then◌else◌}
 use Rattle.std.specs.List.{list_all, list_any}
 use Rattle.std.specs.Str.{bytes_eq}
 use Rattle.std.specs.Option.{option_flatten, option_map_or}
 use Rattle.zk_base.specs.Names.{is_name}
 use Rattle.zk_model_bus.specs.declared.kinds.Kind.TheVariants as kind
+use Rattle.zk_model_bus.specs.declared.kinds.Need.{Need}
 use Rattle.zk_model_bus.specs.declared.kinds.Need.TheVariants as need
 use Rattle.zk_words.specs.declared.slot.Slot.{Slot}
 use Rattle.zk_words.specs.declared.slot.Slot.TheVariants.{New, Owner, Object, Rawable, Number, Priority, Hex, Wait, Event}
@@ -17,7 +18,7 @@ use Rattle.zk_line.specs.declared.types.Arg.{Arg}
 use Rattle.zk_line.specs.declared.types.Arg.TheVariants as arg
 use Rattle.zk_line.specs.declared.types.Decl.{Decl}
 use Rattle.zk_line.specs.declared.types.Ref.TheVariants.{Known}
-use Rattle.zk_line.specs.Args.{arg_of}
+use Rattle.zk_line.specs.Args.{ref_of, arg_of}
 use Rattle.zk_line.specs.Objects.{object_of, names, plays_script, can_be_raw, is_met, size_at}
 
 -- the object that the first word behind a head names, if it names one
@@ -76,20 +77,24 @@ go_together head parts = true
 abbrev pub are_in_range : List Decl → Head → List Placed → Bool
 are_in_range decls head parts = each_in_range (message_size decls parts) parts && go_together head parts
 
+-- whether a word may name an object where a need is asked: one that meets it, and in a free line any, declared or not
+abbrev pub is_right_object : Bool → List Decl → Need → List ℕ → Bool
+is_right_object free decls need word = (if free then is_some (ref_of decls word) else names (is_met need) decls word)
+
 -- whether a word is a name that may stand in its slot: a new one, or that of an object of the right kind
-abbrev pub is_well_named : List Decl → Slot → List ℕ → Bool
-is_well_named decls New word = is_name word && not (is_some (object_of decls word))
-is_well_named decls Owner word = names plays_script decls word
-is_well_named decls (Object need) word = names (is_met need) decls word
-is_well_named decls Rawable word = names can_be_raw decls word
-is_well_named decls Event word =
+abbrev pub is_well_named : Bool → List Decl → Slot → List ℕ → Bool
+is_well_named free decls New word = is_name word && not (is_some (object_of decls word))
+is_well_named free decls Owner word = names plays_script decls word
+is_well_named free decls (Object need) word = is_right_object free decls need word
+is_well_named free decls Rawable word = names can_be_raw decls word
+is_well_named free decls Event word =
     is_ignore word
-    || option_map_or (λ asked. names (is_met (need_of asked.source)) decls asked.name) (event_named word) false
-is_well_named decls slot word = true
+    || option_map_or (λ asked. is_right_object free decls (need_of asked.source) asked.name) (event_named word) false
+is_well_named free decls slot word = true
 
 -- whether each word of a line is
-abbrev pub each_well_named : List Decl → List Placed → Bool
-each_well_named decls parts = list_all (λ part. is_well_named decls part.slot part.text) parts
+abbrev pub each_well_named : Bool → List Decl → List Placed → Bool
+each_well_named free decls parts = list_all (λ part. is_well_named free decls part.slot part.text) parts
 
 -- whether a slot is that of an observer
 abbrev pub is_observer_slot : Slot → Bool
@@ -106,8 +111,8 @@ name_once [] = true
 name_once (part ∷ parts) = not (is_observer_slot part.slot && names_observer part.text parts) && name_once parts
 
 -- whether each name of a line may stand where it does, and no observer is named twice
-abbrev pub are_well_named : List Decl → List Placed → Bool
-are_well_named decls parts = each_well_named decls parts && name_once parts
+abbrev pub are_well_named : Bool → List Decl → List Placed → Bool
+are_well_named free decls parts = each_well_named free decls parts && name_once parts
 
 -- whether a line names more observers than a channel may have
 abbrev pub has_many_observers : List Placed → Bool

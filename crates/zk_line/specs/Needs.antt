@@ -1,4 +1,4 @@
-use Rattle.std.specs.Prelude.{◌≡◌, Bool, true, Option, Some, None, List, [], ◌∷◌, ◌++◌, option_to_list}
+use Rattle.std.specs.Prelude.{◌≡◌, Bool, true, false, Option, Some, None, List, [], ◌∷◌, ◌++◌, option_to_list}
 use Rattle.std.specs.List.{filter_map}
 use Rattle.zk_model_bus.specs.declared.kinds.Need.{Need}
 use Rattle.zk_model_bus.specs.declared.kinds.Need.TheVariants as need
@@ -16,8 +16,9 @@ use Rattle.zk_line.specs.declared.types.Call.{Call}
 use Rattle.zk_line.specs.declared.types.Call.TheVariants as calls
 use Rattle.zk_line.specs.declared.types.Decl.{Decl}
 use Rattle.zk_line.specs.declared.types.Ref.{Ref}
-use Rattle.zk_line.specs.declared.types.Ref.TheVariants.{Known}
+use Rattle.zk_line.specs.declared.types.Ref.TheVariants.{Known, Unknown}
 use Rattle.zk_line.specs.Calls.{said_of}
+use Rattle.zk_line.specs.Fits.{ref_fits}
 use Rattle.zk_line.specs.Objects.{is_at, is_met}
 
 -- an object, and what it has to be
@@ -59,10 +60,15 @@ needs_of call =
     let form = call_row said.word in
     needs_in form.slots form.rest said.args
 
--- whether an object that a call names is declared
+-- whether an object that a call names by its number is declared
 abbrev pub is_there : List Decl → Ref → Bool
 is_there decls (Known object) = is_at (is_met need.Any) decls object
+is_there decls (Unknown name) = true
 
 -- what is needed is declared
 abbrev pub IsThere : List Decl → Needed → Type 0
 IsThere decls needed = is_there decls needed.object ≡ true
+
+-- an object is declared, and is what it has to be
+abbrev pub IsMet : List Decl → Needed → Type 0
+IsMet decls needed = ref_fits false decls needed.need needed.object ≡ true

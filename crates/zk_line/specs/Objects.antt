@@ -46,6 +46,11 @@ is_of kind decl = tables.same_kind (kind_of decl) kind
 abbrev pub is_thread : Decl → Bool
 is_thread decl = is_of kind.Thread decl
 
+-- whether a declaration is of a thread that is a user
+abbrev pub is_user : Decl → Bool
+is_user (Thread name prio user) = user
+is_user decl = false
+
 -- whether a declaration is of a work queue
 abbrev pub is_queue : Decl → Bool
 is_queue decl = is_of kind.Queue decl

@@ -82,6 +82,11 @@ raw_of [] = Some false
 raw_of (Raw ∷ []) = Some true
 raw_of args = None
 
+-- what is said by no argument
+abbrev pub alone : {A : Type 0} → A → List Arg → Option A
+alone what [] = Some what
+alone what (arg ∷ args) = None
+
 -- one argument of such a kind
 abbrev pub one : {A : Type 0} → (Arg → Option A) → List Arg → Option A
 one f (a ∷ []) = f a

@@ -1,6 +1,7 @@
 ghost use Rattle.std.specs.Prelude.{◌≡◌, [], ◌∷◌, ◌++◌, OnOk, OnErr};
 
-use crate::types::Arg;
+use crate::events::Event;
+use crate::types::{Arg, Ref};
 use smallvec::SmallVec;
 use std::alloc::Global;
 use std::marker::Model;
@@ -53,6 +54,7 @@ impl Args {
         ensures ok { OnOk result (self.new ≡ self.old ++ arg ∷ []) }
         ensures unchanged { OnErr result (self.new ≡ self.old) }
     {
+        let _known: Option<(Ref, Event)> = None;
         self.args.push(arg)?;
         Ok(())
     }

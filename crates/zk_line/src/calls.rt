@@ -1,5 +1,5 @@
 ghost use Rattle.std.specs.Prelude.{◌≡◌, [], ◌∷◌, map};
-ghost use Rattle.zk_line.specs.Calls.{saying, call_of, said_of, word_of};
+ghost use Rattle.zk_line.specs.Calls.{saying, call_of, said_of, word_of, is_user_call};
 
 use crate::events::Events;
 use crate::shapes::{
@@ -75,6 +75,10 @@ pub fn call_of(word: Word, args: &[Arg]) -> Option<Call>
         Word::Revoke => two_objects(args).map(|p| Call::Revoke(p.0, p.1)),
         Word::Public => one_object(args).map(Call::Public),
         Word::Init => one_object(args).map(Call::Init),
+        Word::User => match args {
+            [] => Some(Call::User),
+            _ => None,
+        },
     }
 }
 
@@ -132,6 +136,7 @@ pub fn said_of(call: &Call) -> Said
         Call::Revoke(thread, other) => of_two(Word::Revoke, object(thread), object(other)),
         Call::Public(other) => of_one(Word::Public, object(other)),
         Call::Init(other) => of_one(Word::Init, object(other)),
+        Call::User => of_none(Word::User),
     }
 }
 
@@ -142,10 +147,30 @@ pub fn word_of(call: &Call) -> Word
     said_of(call).word
 }
 
+/// Whether a call makes its caller a user.
+pub fn is_user_call(call: &Call) -> bool
+    ensures { result ≡ is_user_call call.now }
+{
+    match call {
+        Call::User => true,
+        _ => false,
+    }
+}
+
 fn object(object: &Ref) -> Arg
     ensures { result ≡ Arg.Object object.now }
 {
     Arg::Object(*object)
+}
+
+fn of_none(word: Word) -> Said
+    ensures { result ≡ saying word [] }
+{
+    Said {
+        word,
+        args: [None, None, None],
+        events: None,
+    }
 }
 
 fn of_one(word: Word, arg: Arg) -> Said

@@ -1,5 +1,5 @@
 ghost use Rattle.std.specs.Prelude.{◌≡◌};
-ghost use Rattle.zk_line.specs.Objects.{kind_of, name_of, is_at, is_listener, is_met, name_at, plays_script, can_be_raw, size_at};
+ghost use Rattle.zk_line.specs.Objects.{kind_of, name_of, is_at, is_item, is_listener, is_user, is_met, name_at, plays_script, can_be_raw, size_at};
 
 use crate::types::Decl;
 use zk_words::{Kind, Need, can_be_raw, plays_script, same_kind};
@@ -58,6 +58,16 @@ pub fn plays_at(decls: &[Decl], object: u32) -> bool
     }
 }
 
+/// Whether an object is declared, and is a work item.
+pub fn is_item_at(decls: &[Decl], object: u32) -> bool
+    ensures { result ≡ is_at is_item decls.now object }
+{
+    match decls.get(object as usize) {
+        Some(decl) => same_kind(kind_of(decl), Kind::Item),
+        None => false,
+    }
+}
+
 /// Whether an object is declared, and is a listener.
 pub fn is_listener_at(decls: &[Decl], object: u32) -> bool
     ensures { result ≡ is_at is_listener decls.now object }
@@ -65,6 +75,16 @@ pub fn is_listener_at(decls: &[Decl], object: u32) -> bool
     match decls.get(object as usize) {
         Some(decl) => same_kind(kind_of(decl), Kind::Listener),
         None => false,
+    }
+}
+
+/// Whether an object is declared, and is a thread that is a user.
+pub fn is_user_at(decls: &[Decl], object: u32) -> bool
+    ensures { result ≡ is_at is_user decls.now object }
+{
+    match decls.get(object as usize) {
+        Some(Decl::Thread(_, _, user)) => *user,
+        _ => false,
     }
 }
 

@@ -17,11 +17,11 @@ mod types;
 mod weights;
 
 pub use arg_list::Args;
-pub use calls::{Said, call_of, said_of, word_of};
+pub use calls::{Said, call_of, is_user_call, said_of, word_of};
 pub use checks::{first_object, has_many_events, has_many_observers};
 pub use decls::{Channel, Written, decl_of, permission_of, written_of};
 pub use events::{Event, Events, MOST_EVENTS};
-pub use kinds::{is_listener_at, kind_of, name_of};
+pub use kinds::{is_item_at, is_listener_at, is_user_at, kind_of, name_of};
 pub use needs::{Needed, need_at};
 pub use objects::Objects;
 pub use print::{put_allow, put_call, put_decl, put_said};

@@ -135,5 +135,6 @@ pub fn need_at(call: &Call, index: u32) -> Option<Needed>
         ),
         Call::Public(object) => one(*object, Need::Any, index),
         Call::Init(object) => one(*object, Need::Any, index),
+        Call::User => None,
     }
 }

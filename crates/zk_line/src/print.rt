@@ -210,10 +210,11 @@ fn put_wait(out: &mut Vec<u8>, wait: Timeout) -> Result<(), NoMemory>
 }
 
 /// The name of an object that a call names.
-fn ref_name<'a>(decls: &'a [Decl], object: &Ref) -> &'a [u8]
+fn ref_name<'a>(decls: &'a [Decl], object: &'a Ref) -> &'a [u8]
     ensures { result.now ≡ ref_name decls.now object.now }
 {
     match object {
         Ref::Known(object) => name_at(decls, *object),
+        Ref::Unknown(name) => name.bytes(),
     }
 }

@@ -42,6 +42,8 @@ pub enum Declared {
 pub enum Ref {
     /// A declared object, by its number.
     Known(u32),
+    /// A name that no object has. It stands in free lines alone.
+    Unknown(Name),
 }
 
 /// What one word of a line says.
@@ -153,4 +155,6 @@ pub enum Call {
     Public(Ref),
     /// An object that is initialised from then on: a semaphore, message queue or signal. Zephyr's `k_object_init`.
     Init(Ref),
+    /// The caller is a user from then on. Zephyr's `k_thread_user_mode_enter`.
+    User,
 }

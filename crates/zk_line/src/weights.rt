@@ -1,13 +1,13 @@
-ghost use Rattle.std.specs.Prelude.{◌≡◌, true, is_some, [], None, Some, option_map, if◌then◌else◌, IfOk};
+ghost use Rattle.std.specs.Prelude.{◌≡◌, true, false, is_some, [], None, Some, option_map, if◌then◌else◌, IfOk, MatchOption};
 ghost use Rattle.std.specs.List.{list_all};
 ghost use Rattle.std.specs.Option.{option_flatten};
 ghost use Rattle.zk_words.specs.Hex.{is_hex, msg_of};
 ghost use Rattle.zk_words.specs.Numbers.{number_in, priority_of};
 ghost use Rattle.zk_words.specs.Spelled.{is_spelled_in, part_is_spelled};
-ghost use Rattle.zk_line.specs.Args.{truth_of, arg_of, args_of};
+ghost use Rattle.zk_line.specs.Args.{truth_of, ref_of, arg_of, args_of};
 ghost use Rattle.zk_words.specs.Timeouts.{wait_of};
 ghost use Rattle.zk_words.specs.Validators.{validator_of};
-ghost use Rattle.zk_line.specs.Checks.{size_said, is_in_range, hex_in_range, are_in_range, is_well_named, are_well_named};
+ghost use Rattle.zk_line.specs.Checks.{size_said, is_in_range, hex_in_range, are_in_range, is_right_object, is_well_named, are_well_named};
 ghost use Rattle.zk_line.specs.Weights.{Weighs, or_wrong};
 
 use crate::arg_list::Args;
@@ -32,18 +32,19 @@ pub enum Wrong {
 }
 
 /// What speaks against the words of a line; where nothing does, the arguments are what they say. Each
-/// name is looked up once.
+/// name is looked up once. In a free line any name may stand for an object.
 #[tactic(auto, using(crate::proofs::ReadTo::in_range_next))]
 pub fn weigh(
     args: &mut Args,
     objects: &Objects,
+    free: bool,
     head: Head,
     parts: &Parts<'_>,
 ) -> Result<Option<Wrong>, NoMemory>
     requires empty { args.old ≡ [] }
     requires spelled { list_all part_is_spelled parts.now ≡ true }
     ensures { IfOk result (λ wrong. Weighs
-        (are_in_range objects.now head parts.now) (are_well_named objects.now parts.now) (args_of objects.now parts.now)
+        (are_in_range objects.now head parts.now) (are_well_named free objects.now parts.now) (args_of objects.now parts.now)
         (or_wrong wrong args.new)) }
 {
     if !go_together(head, parts) {
@@ -51,7 +52,7 @@ pub fn weigh(
     }
     let mut left = parts.again();
     while let Some(part) = left.next() {
-        match worth_of(objects, args.items(), part.slot, part.text) {
+        match worth_of(objects, free, args.items(), part.slot, part.text) {
             Ok(arg) => args.push(arg)?,
             Err(Wrong::OutOfRange) => return Ok(Some(Wrong::OutOfRange)),
             Err(Wrong::Misnamed) => return Ok(Some(misnamed(are_in_range(objects, head, parts)))),
@@ -76,22 +77,28 @@ fn misnamed(in_range: bool) -> Wrong
 }
 
 /// What a word is worth in its slot, behind those that say these.
-fn worth_of(objects: &Objects, said: &[Arg], slot: Slot, word: &[u8]) -> Result<Arg, Wrong>
+fn worth_of(
+    objects: &Objects,
+    free: bool,
+    said: &[Arg],
+    slot: Slot,
+    word: &[u8],
+) -> Result<Arg, Wrong>
     requires { is_spelled_in slot word.now ≡ true }
     ensures { Weighs (is_in_range (size_said objects.now said.now) slot word.now)
-        (is_well_named objects.now slot word.now) (arg_of objects.now slot word.now) result }
+        (is_well_named free objects.now slot word.now) (arg_of objects.now slot word.now) result }
 {
     match slot {
         Slot::New => new_name(objects, word),
         Slot::Owner => owner(objects, word),
-        Slot::Object(need) => object(objects, need, word),
+        Slot::Object(need) => object(objects, free, need, word),
         Slot::Rawable => rawable(objects, word),
         Slot::Number(least, most) => number(least, most, word),
         Slot::Priority => priority(word),
         Slot::Either(choice) => Ok(Arg::Truth(choice, truth(choice, word))),
         Slot::Hex => message(size_said(objects, said), word),
         Slot::Wait => wait(word),
-        Slot::Event => event(objects, word),
+        Slot::Event => event(objects, free, word),
         Slot::Valid => validator(word),
         Slot::Raw => raw(word),
     }
@@ -99,7 +106,7 @@ fn worth_of(objects: &Objects, said: &[Arg], slot: Slot, word: &[u8]) -> Result<
 
 fn new_name(objects: &Objects, word: &[u8]) -> Result<Arg, Wrong>
     ensures { Weighs true
-        (is_well_named objects.now Slot.New word.now) (arg_of objects.now Slot.New word.now) result }
+        (is_well_named false objects.now Slot.New word.now) (arg_of objects.now Slot.New word.now) result }
 {
     let Some(name) = Name::new(word) else {
         return Err(Wrong::Misnamed);
@@ -113,7 +120,7 @@ fn new_name(objects: &Objects, word: &[u8]) -> Result<Arg, Wrong>
 
 fn owner(objects: &Objects, word: &[u8]) -> Result<Arg, Wrong>
     ensures { Weighs true
-        (is_well_named objects.now Slot.Owner word.now) (arg_of objects.now Slot.Owner word.now) result }
+        (is_well_named false objects.now Slot.Owner word.now) (arg_of objects.now Slot.Owner word.now) result }
 {
     let Some(object) = objects.find(word) else {
         return Err(Wrong::Misnamed);
@@ -125,23 +132,42 @@ fn owner(objects: &Objects, word: &[u8]) -> Result<Arg, Wrong>
     }
 }
 
-fn object(objects: &Objects, need: Need, word: &[u8]) -> Result<Arg, Wrong>
+fn object(objects: &Objects, free: bool, need: Need, word: &[u8]) -> Result<Arg, Wrong>
     ensures { Weighs true
-        (is_well_named objects.now (Slot.Object need) word.now) (arg_of objects.now (Slot.Object need) word.now) result }
+        (is_right_object free objects.now need word.now) (option_map Arg.Object (ref_of objects.now word.now)) result }
 {
-    let Some(object) = objects.find(word) else {
-        return Err(Wrong::Misnamed);
-    };
-    if meets_at(need, objects.decls(), object) {
-        Ok(Arg::Object(Ref::Known(object)))
-    } else {
-        Err(Wrong::Misnamed)
+    match right_object(objects, free, need, word) {
+        Some(object) => Ok(Arg::Object(object)),
+        None => Err(Wrong::Misnamed),
+    }
+}
+
+/// The object of a name that may stand where a need is asked.
+fn right_object(objects: &Objects, free: bool, need: Need, word: &[u8]) -> Option<Ref>
+    ensures { MatchOption result (is_right_object free objects.now need word.now ≡ false)
+        (λ object. (is_right_object free objects.now need word.now ≡ true) × (ref_of objects.now word.now ≡ Some object)) }
+{
+    match objects.find(word) {
+        Some(object) => {
+            if free || meets_at(need, objects.decls(), object) {
+                Some(Ref::Known(object))
+            } else {
+                None
+            }
+        }
+        None => {
+            if free {
+                Name::new(word).map(Ref::Unknown)
+            } else {
+                None
+            }
+        }
     }
 }
 
 fn rawable(objects: &Objects, word: &[u8]) -> Result<Arg, Wrong>
     ensures { Weighs true
-        (is_well_named objects.now Slot.Rawable word.now) (arg_of objects.now Slot.Rawable word.now) result }
+        (is_well_named false objects.now Slot.Rawable word.now) (arg_of objects.now Slot.Rawable word.now) result }
 {
     let Some(object) = objects.find(word) else {
         return Err(Wrong::Misnamed);
@@ -153,9 +179,9 @@ fn rawable(objects: &Objects, word: &[u8]) -> Result<Arg, Wrong>
     }
 }
 
-fn event(objects: &Objects, word: &[u8]) -> Result<Arg, Wrong>
+fn event(objects: &Objects, free: bool, word: &[u8]) -> Result<Arg, Wrong>
     ensures { Weighs true
-        (is_well_named objects.now Slot.Event word.now) (arg_of objects.now Slot.Event word.now) result }
+        (is_well_named free objects.now Slot.Event word.now) (arg_of objects.now Slot.Event word.now) result }
 {
     if is_ignore(word) {
         return Ok(Arg::Event(Event::Ignore));
@@ -163,13 +189,9 @@ fn event(objects: &Objects, word: &[u8]) -> Result<Arg, Wrong>
     let Some(asked) = event_named(word) else {
         return Err(Wrong::Misnamed);
     };
-    let Some(object) = objects.find(asked.name) else {
-        return Err(Wrong::Misnamed);
-    };
-    if meets_at(need_of(asked.source), objects.decls(), object) {
-        Ok(Arg::Event(event_at(asked.source, Ref::Known(object))))
-    } else {
-        Err(Wrong::Misnamed)
+    match right_object(objects, free, need_of(asked.source), asked.name) {
+        Some(object) => Ok(Arg::Event(event_at(asked.source, object))),
+        None => Err(Wrong::Misnamed),
     }
 }
 

@@ -44,12 +44,14 @@ module _ (P : ℕ → Type 0) where
   cond-keeps true x y first second = first
   cond-keeps false x y first second = second
 
-  gain-keeps : (o : Option Holder) (c : Channel) (who : Who) (manner : Manner) (waits : Bool) → Keeps c → Keeps (gain o c who manner waits)
+  gain-keeps : (o : Option Holder) (c : Channel) (who : Who) (manner : Manner) (waits : Bool) → Keeps c →
+      Keeps (gain o c who manner waits)
   gain-keeps None c who manner waits keeps = record { each = keeps.each; decided = keeps.decided }
   gain-keeps (Some h) c who manner true keeps = record { each = keeps.each; decided = keeps.decided }
   gain-keeps (Some h) c who manner false keeps = keeps
 
-  first-keeps : (waiting : List (Waiter Manner)) (decided : List (Decision ChanReply)) → All TellsGot decided → All TellsGot (decides_first Got waiting decided).decided
+  first-keeps : (waiting : List (Waiter Manner)) (decided : List (Decision ChanReply)) → All TellsGot decided →
+      All TellsGot (decides_first Got waiting decided).decided
   first-keeps [] decided all = all
   first-keeps (w ∷ ws) decided all =
       All-append TellsGot decided (decide Got w ∷ []) all (All-cons TellsGot (decide Got w) [] tt (All-nil TellsGot))
@@ -57,7 +59,8 @@ module _ (P : ℕ → Type 0) where
   handed-keeps : (c : Channel) → Keeps c → Keeps (handed_on c)
   handed-keeps c keeps = record { each = keeps.each; decided = first-keeps c.waits.waiting c.waits.decided keeps.decided }
 
-  without-keeps : (c : Channel) (waits : Waits Manner ChanReply) (player place : ℕ) → Keeps c → waits.decided ≡ (ended c.waits player place).decided → Keeps (record c { waits = waits })
+  without-keeps : (c : Channel) (waits : Waits Manner ChanReply) (player place : ℕ) → Keeps c →
+      waits.decided ≡ (ended c.waits player place).decided → Keeps (record c { waits = waits })
   without-keeps c waits player place keeps same = record {
     each = keeps.each;
     decided = subst (All TellsGot) (sym same) (All-without TellsGot (is_decision player place) c.waits.decided keeps.decided);
@@ -65,7 +68,8 @@ module _ (P : ℕ → Type 0) where
 
   mask-keeps : (observer : ℕ) (on : Bool) (os : List ChanObserver) → All Has os → All Has (masked observer on os)
   mask-keeps observer on [] all = All-nil Has
-  mask-keeps observer on (o ∷ os) all = All-cons Has (mask_one observer on o) (masked observer on os) (one (is_observer observer o)) (mask-keeps observer on os (All-tail Has o os all))
+  mask-keeps observer on (o ∷ os) all = All-cons Has (mask_one observer on o) (masked observer on os)
+      (one (is_observer observer o)) (mask-keeps observer on os (All-tail Has o os all))
     where
       one : (b : Bool) → Has (cond b (record o { masked = on }) o)
       one true = All-head Has o os all
@@ -74,7 +78,8 @@ module _ (P : ℕ → Type 0) where
   -- an operation keeps it, possible or not
   changed-keeps : (c : Channel) (who : Who) (op : ChanOp) → Keeps c → Keeps (chan_changed c who op)
   changed-keeps c who (ops.Offer message waits) keeps =
-      cond-keeps (is_valid c.valid message) (gain c.holder c who manners.Offer waits) c (gain-keeps c.holder c who manners.Offer waits keeps) keeps
+      cond-keeps (is_valid c.valid message) (gain c.holder c who manners.Offer waits) c
+      (gain-keeps c.holder c who manners.Offer waits keeps) keeps
   changed-keeps c who (ops.Enter waits) keeps = gain-keeps c.holder c who manners.Enter waits keeps
   changed-keeps c who (ops.Claim waits) keeps = gain-keeps c.holder c who manners.Claim waits keeps
   changed-keeps c who (ops.ClaimEnd place) keeps = without-keeps c (ended c.waits who.number place) who.number place keeps refl
@@ -97,14 +102,17 @@ module _ (P : ℕ → Type 0) where
 
   unmasked-has : (numbers : List ℕ) → All P numbers → All Has (map unmasked numbers)
   unmasked-has [] all = All-nil Has
-  unmasked-has (n ∷ ns) all = All-cons Has (unmasked n) (map unmasked ns) (All-head P n ns all) (unmasked-has ns (All-tail P n ns all))
+  unmasked-has (n ∷ ns) all = All-cons Has (unmasked n) (map unmasked ns) (All-head P n ns all)
+      (unmasked-has ns (All-tail P n ns all))
 
   -- those that are told are among its observers
   told-has : (os : List ChanObserver) → All Has os → All P (told_of os)
   told-has [] all = All-nil P
   told-has (o ∷ os) all = one (not o.masked) (told-has os (All-tail Has o os all))
     where
-      one : (b : Bool) → All P (told_of os) → All P (map (λ (o : ChanObserver). o.number) (cond b (o ∷ filter (λ (o : ChanObserver). not o.masked) os) (filter (λ (o : ChanObserver). not o.masked) os)))
+      one : (b : Bool) → All P (told_of os) →
+          All P (map (λ (o : ChanObserver). o.number)
+          (cond b (o ∷ filter (λ (o : ChanObserver). not o.masked) os) (filter (λ (o : ChanObserver). not o.masked) os)))
       one true more = All-cons P o.number (told_of os) (All-head Has o os all) more
       one false more = more
 
@@ -124,22 +132,28 @@ module _ (P : ℕ → Type 0) where
   gain-only (Some h) true = tt
   gain-only (Some h) false = tt
 
-  decision-only : (c : Channel) (player place : ℕ) (reply : ChanReply) → Keeps c → decision_of c.waits player place ≡ Some reply → TellsOnly reply
+  decision-only : (c : Channel) (player place : ℕ) (reply : ChanReply) → Keeps c →
+      decision_of c.waits player place ≡ Some reply → TellsOnly reply
   decision-only c player place reply keeps is = by (find (is_decision player place) c.waits.decided) refl is
     where
-      by : (o : Option (Decision ChanReply)) → find (is_decision player place) c.waits.decided ≡ o → option_map (λ (d : Decision ChanReply). d.answer) o ≡ Some reply → TellsOnly reply
+      by : (o : Option (Decision ChanReply)) → find (is_decision player place) c.waits.decided ≡ o →
+          option_map (λ (d : Decision ChanReply). d.answer) o ≡ Some reply → TellsOnly reply
       by None found is = absurd (cc)
-      by (Some d) found is = told-only d.answer reply is (All-found TellsGot (is_decision player place) c.waits.decided d keeps.decided found)
+      by (Some d) found is =
+          told-only d.answer reply is (All-found TellsGot (is_decision player place) c.waits.decided d keeps.decided found)
 
-  quit-only : (c : Channel) (player place : ℕ) (reply : ChanReply) → Keeps c → given_up Again (goes_on c.waits player place) (decision_of c.waits player place) ≡ Some reply → TellsOnly reply
+  quit-only : (c : Channel) (player place : ℕ) (reply : ChanReply) → Keeps c →
+      given_up Again (goes_on c.waits player place) (decision_of c.waits player place) ≡ Some reply → TellsOnly reply
   quit-only c player place reply keeps is = by (goes_on c.waits player place) (decision_of c.waits player place) refl is
     where
-      by : (waits : Bool) (o : Option ChanReply) → decision_of c.waits player place ≡ o → given_up Again waits o ≡ Some reply → TellsOnly reply
+      by : (waits : Bool) (o : Option ChanReply) → decision_of c.waits player place ≡ o →
+          given_up Again waits o ≡ Some reply → TellsOnly reply
       by waits (Some answer) decided is = told-only answer reply is (decision-only c player place answer keeps decided)
       by true None decided is = told-only Again reply is tt
       by false None decided is = absurd (cc)
 
-  reply-only : (c : Channel) (who : Who) (op : ChanOp) (reply : ChanReply) → Keeps c → chan_reply c who op ≡ Some reply → TellsOnly reply
+  reply-only : (c : Channel) (who : Who) (op : ChanOp) (reply : ChanReply) → Keeps c → chan_reply c who op ≡ Some reply →
+      TellsOnly reply
   reply-only c who (ops.Offer message waits) reply keeps is =
       told-only (cond (is_valid c.valid message) (gain_reply c.holder waits) NoMsg) reply is
       (either-only (is_valid c.valid message) (gain_reply c.holder waits) NoMsg (gain-only c.holder waits) tt)
@@ -147,17 +161,23 @@ module _ (P : ℕ → Type 0) where
   reply-only c who (ops.Claim waits) reply keeps is = told-only (gain_reply c.holder waits) reply is (gain-only c.holder waits)
   reply-only c who (ops.ClaimEnd place) reply keeps is = decision-only c who.number place reply keeps is
   reply-only c who (ops.ClaimQuit place) reply keeps is = quit-only c who.number place reply keeps is
-  reply-only c who (ops.Set message) reply keeps is = given-only (holds c who) (Observers (told_of c.observers)) reply is (told-has c.observers keeps.each)
-  reply-only c who ops.List reply keeps is = given-only (holds c who) (Observers (told_of c.observers)) reply is (told-has c.observers keeps.each)
+  reply-only c who (ops.Set message) reply keeps is = given-only (holds c who) (Observers (told_of c.observers)) reply is
+      (told-has c.observers keeps.each)
+  reply-only c who ops.List reply keeps is = given-only (holds c who) (Observers (told_of c.observers)) reply is
+      (told-has c.observers keeps.each)
   reply-only c who ops.Get reply keeps is = given-only (holds c who) (Bytes c.message) reply is tt
   reply-only c who ops.Free reply keeps is = given-only (has_entered c who) Done reply is tt
-  reply-only c who ops.Finish reply keeps is = told-only (cond (has_claimed c who) Done Inval) reply is (either-only (has_claimed c who) Done Inval tt tt)
+  reply-only c who ops.Finish reply keeps is =
+      told-only (cond (has_claimed c who) Done Inval) reply is (either-only (has_claimed c who) Done Inval tt tt)
   reply-only c who (ops.Mask observer on) reply keeps is =
-      told-only (cond (list_any (is_observer observer) c.observers) Done Inval) reply is (either-only (list_any (is_observer observer) c.observers) Done Inval tt tt)
+      told-only (cond (list_any (is_observer observer) c.observers) Done Inval) reply is
+      (either-only (list_any (is_observer observer) c.observers) Done Inval tt tt)
 
   -- so it is of each reply of a channel
-  pub channel-tells : (message : List ℕ) (valid : Valid) (observers : List ℕ) (h : ChanHistory) (who : Who) (op : ChanOp) (reply : ChanReply) →
-      All P observers → chan_reply (state_after chan_machine (new_chan message valid observers) h) who op ≡ Some reply → TellsOnly reply
+  pub channel-tells : (message : List ℕ) (valid : Valid) (observers : List ℕ) (h : ChanHistory) (who : Who) (op : ChanOp)
+      (reply : ChanReply) →
+      All P observers → chan_reply (state_after chan_machine (new_chan message valid observers) h) who op ≡ Some reply →
+      TellsOnly reply
   channel-tells message valid observers h who op reply all is =
       let new = new_chan message valid observers in
       reply-only (state_after chan_machine new h) who op reply

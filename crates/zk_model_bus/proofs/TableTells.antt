@@ -53,8 +53,10 @@ keeps-all setup before [] replays = ap (at setup) (sym (append-nil before))
 keeps-all setup before (e ∷ es) replays =
     let t = at setup before in
     let told = (told-so (may t e.who.number e.op) (answer t e.who.number e.op) e.reply replays.0).1 in
-    let made : entry_of t e.who e.op ≡ kept e = ap (λ (reply : TableReply). record { player = e.who.number; op = e.op; reply = reply }) told in
-    let next : table_next t e.who e.op ≡ at setup (before ++ kept e ∷ []) = ap (λ (entry : TableEntry). at setup (before ++ entry ∷ [])) made in
+    let made : entry_of t e.who e.op ≡ kept e =
+    ap (λ (reply : TableReply). record { player = e.who.number; op = e.op; reply = reply }) told in
+    let next : table_next t e.who e.op ≡ at setup (before ++ kept e ∷ []) =
+    ap (λ (entry : TableEntry). at setup (before ++ entry ∷ [])) made in
     let same = append_assoc before (kept e ∷ []) (map kept es) in
     ap (λ (s : Table). state_after table_machine s es) next
     ∙ keeps-all setup (before ++ kept e ∷ []) es (subst (λ (s : Table). Replays table_machine s es) next replays.1)
@@ -64,11 +66,13 @@ keeps-all setup before (e ∷ es) replays =
 abbrev after : Setup → TableHistory → Table
 after setup h = at setup (map kept h)
 
-state-so : (setup : Setup) (h : TableHistory) → Replays table_machine (new_table setup) h → state_after table_machine (new_table setup) h ≡ after setup h
+state-so : (setup : Setup) (h : TableHistory) → Replays table_machine (new_table setup) h →
+    state_after table_machine (new_table setup) h ≡ after setup h
 state-so setup h replays = keeps-all setup [] h replays
 
 -- an entry was possible, and is answered as the table answers after what stands before it
-entry-told : (setup : Setup) (h front : TableHistory) (e : TableStep) → Replays table_machine (new_table setup) h → IsEntry h front e →
+entry-told : (setup : Setup) (h front : TableHistory) (e : TableStep) → Replays table_machine (new_table setup) h →
+    IsEntry h front e →
     (may (after setup front) e.who.number e.op ≡ true) × (answer (after setup front) e.who.number e.op ≡ e.reply)
 entry-told setup h front e replays is =
     let whole = subst (Replays table_machine (new_table setup)) is.whole replays in
@@ -89,21 +93,26 @@ later-entry e es front f is = record { rest = is.rest; whole = ap (λ (l : Table
 any-entry : (test : TableEntry → Bool) (h : TableHistory) → list_any test (map kept h) ≡ true →
     (front : TableHistory) × (e : TableStep) × IsEntry h front e × (test (kept e) ≡ true)
 any-entry test [] is = absurd (cc)
-any-entry test (e ∷ es) is = by (or_cases (test (kept e)) (list_any test (map kept es)) is) (λ later. any-entry test es later) where
-  by : (test (kept e) ≡ true) ⊎ (list_any test (map kept es) ≡ true) →
-      (list_any test (map kept es) ≡ true → (front : TableHistory) × (f : TableStep) × IsEntry es front f × (test (kept f) ≡ true)) →
-      (front : TableHistory) × (f : TableStep) × IsEntry (e ∷ es) front f × (test (kept f) ≡ true)
-  by (inl here) rest = ([], e, first-entry e es, here)
-  by (inr later) rest =
-      let found = rest later in
-      (e ∷ found.0, found.1, later-entry e es found.0 found.1 found.2, found.3)
+any-entry test (e ∷ es) is = by (or_cases (test (kept e)) (list_any test (map kept es)) is)
+    (λ later. any-entry test es later) where
+      by : (test (kept e) ≡ true) ⊎ (list_any test (map kept es) ≡ true) →
+          (list_any test (map kept es) ≡ true → (front : TableHistory) × (f : TableStep) × IsEntry es front f
+          × (test (kept f) ≡ true)) →
+          (front : TableHistory) × (f : TableStep) × IsEntry (e ∷ es) front f × (test (kept f) ≡ true)
+      by (inl here) rest = ([], e, first-entry e es, here)
+      by (inr later) rest =
+          let found = rest later in
+          (e ∷ found.0, found.1, later-entry e es found.0 found.1 found.2, found.3)
 
-any-at : (test : TableEntry → Bool) (front rest : TableHistory) (e : TableStep) → test (kept e) ≡ true → list_any test (map kept (front ++ e ∷ rest)) ≡ true
+any-at : (test : TableEntry → Bool) (front rest : TableHistory) (e : TableStep) → test (kept e) ≡ true →
+    list_any test (map kept (front ++ e ∷ rest)) ≡ true
 any-at test [] rest e is = or_left (test (kept e)) (list_any test (map kept rest)) is
 any-at test (f ∷ fs) rest e is = or_right (test (kept f)) (list_any test (map kept (fs ++ e ∷ rest))) (any-at test fs rest e is)
 
-entry-any : (test : TableEntry → Bool) (h front : TableHistory) (e : TableStep) → IsEntry h front e → test (kept e) ≡ true → list_any test (map kept h) ≡ true
-entry-any test h front e is passes = subst (λ (l : TableHistory). list_any test (map kept l) ≡ true) (sym is.whole) (any-at test front is.rest e passes)
+entry-any : (test : TableEntry → Bool) (h front : TableHistory) (e : TableStep) → IsEntry h front e →
+    test (kept e) ≡ true → list_any test (map kept h) ≡ true
+entry-any test h front e is passes = subst (λ (l : TableHistory). list_any test (map kept l) ≡ true) (sym is.whole)
+    (any-at test front is.rest e passes)
 
 -- What is public.
 
@@ -118,7 +127,8 @@ public-so setup object h is =
 
 so-public : (setup : Setup) (object : ℕ) (h : TableHistory) → IsPublic object h → is_public (after setup h) object ≡ true
 so-public setup object h is =
-    entry-any (λ (e : TableEntry). publishes object e.op) h is.0 is.1 is.2 (subst (λ (op : TableOp). publishes object op ≡ true) (sym is.3) (eqb-same object))
+    entry-any (λ (e : TableEntry). publishes object e.op) h is.0 is.1 is.2
+    (subst (λ (op : TableOp). publishes object op ≡ true) (sym is.3) (eqb-same object))
 
 -- What is initialised.
 
@@ -138,7 +148,8 @@ so-ready : (setup : Setup) (object : ℕ) (h : TableHistory) → IsReady setup o
 so-ready setup object h (inl begins) = or_left (begins_ready setup object) (was_initialised (after setup h) object) begins
 so-ready setup object h (inr is) =
     or_right (begins_ready setup object) (was_initialised (after setup h) object)
-    (entry-any (λ (e : TableEntry). initialises object e.op) h is.0 is.1 is.2 (subst (λ (op : TableOp). initialises object op ≡ true) (sym is.3) (eqb-same object)))
+    (entry-any (λ (e : TableEntry). initialises object e.op) h is.0 is.1 is.2
+    (subst (λ (op : TableOp). initialises object op ≡ true) (sym is.3) (eqb-same object)))
 
 -- Who is a user.
 
@@ -153,7 +164,13 @@ user-so setup player h is = by (or_cases (begins_as_user setup player) (has_ente
   by (inr later) =
       let found = any-entry (λ (e : TableEntry). eqb e.player player && enters e.op) h later in
       let e = found.1 in
-      inr (found.0, e, found.2, eqb-true e.who.number player (first_so (eqb e.who.number player) (enters e.op) found.3), enter-op e.op (second_so (eqb e.who.number player) (enters e.op) found.3))
+      inr (
+        found.0,
+        e,
+        found.2,
+        eqb-true e.who.number player (first_so (eqb e.who.number player) (enters e.op) found.3),
+        enter-op e.op (second_so (eqb e.who.number player) (enters e.op) found.3),
+      )
 
 same-test : (a b : ℕ) → a ≡ b → eqb a b ≡ true
 same-test a b is = subst (λ (n : ℕ). eqb a n ≡ true) is (eqb-same a)
@@ -164,7 +181,8 @@ so-user setup player h (inr is) =
     let e = is.1 in
     or_right (begins_as_user setup player) (has_entered (after setup h) player)
     (entry-any (λ (k : TableEntry). eqb k.player player && enters k.op) h is.0 e is.2
-    (and_from (eqb e.who.number player) (enters e.op) (same-test e.who.number player is.3) (subst (λ (op : TableOp). enters op ≡ true) (sym is.4) refl)))
+    (and_from (eqb e.who.number player) (enters e.op) (same-test e.who.number player is.3)
+    (subst (λ (op : TableOp). enters op ≡ true) (sym is.4) refl)))
 
 -- Who is dead.
 
@@ -176,14 +194,21 @@ dead-so : (setup : Setup) (player : ℕ) (h : TableHistory) → is_dead (after s
 dead-so setup player h is =
     let found = any-entry (λ (e : TableEntry). eqb e.player player && is_oops e.reply) h is in
     let e = found.1 in
-    let why = oops-reply e.reply (second_so (eqb e.who.number player) (is_oops e.reply) found.3) in
-    (found.0, e, why.0, found.2, eqb-true e.who.number player (first_so (eqb e.who.number player) (is_oops e.reply) found.3), why.1)
+    let why = oops-reply e.reply (second_so (eqb e.who.number player) (is_oops e.reply) found.3) in (
+      found.0,
+      e,
+      why.0,
+      found.2,
+      eqb-true e.who.number player (first_so (eqb e.who.number player) (is_oops e.reply) found.3),
+      why.1,
+    )
 
 so-dead : (setup : Setup) (player : ℕ) (h : TableHistory) → HasOops player h → is_dead (after setup h) player ≡ true
 so-dead setup player h is =
     let e = is.1 in
     entry-any (λ (k : TableEntry). eqb k.player player && is_oops k.reply) h is.0 e is.3
-    (and_from (eqb e.who.number player) (is_oops e.reply) (same-test e.who.number player is.4) (subst (λ (reply : TableReply). is_oops reply ≡ true) (sym is.5) refl))
+    (and_from (eqb e.who.number player) (is_oops e.reply) (same-test e.who.number player is.4)
+    (subst (λ (reply : TableReply). is_oops reply ≡ true) (sym is.5) refl))
 
 -- The last word on a permission.
 
@@ -205,11 +230,13 @@ unspoken-nil : (setup : Setup) (player object : ℕ) → Unspoken setup player o
 unspoken-nil setup player object [] e is speaks = let w = is.whole in cc
 unspoken-nil setup player object (f ∷ fs) e is speaks = let w = is.whole in cc
 
-unspoken-cons : (setup : Setup) (player object : ℕ) (e : TableStep) (es : TableHistory) → speaks_of setup player object e.who.number e.op ≡ false →
+unspoken-cons : (setup : Setup) (player object : ℕ) (e : TableStep) (es : TableHistory) →
+    speaks_of setup player object e.who.number e.op ≡ false →
     Unspoken setup player object es → Unspoken setup player object (e ∷ es)
 unspoken-cons setup player object e es silent none [] f is speaks =
     let same : e ≡ f = heads e f es is.rest is.whole in
-    absurd (let both = sym silent ∙ ap (λ (g : TableStep). speaks_of setup player object g.who.number g.op) same ∙ speaks in cc) where
+    absurd (let both = sym silent ∙ ap (λ (g : TableStep). speaks_of setup player object g.who.number g.op) same
+    ∙ speaks in cc) where
       heads : (x y : TableStep) (xs ys : TableHistory) → x ∷ xs ≡ y ∷ ys → x ≡ y
       heads x y xs ys same = cc
 unspoken-cons setup player object e es silent none (g ∷ gs) f is speaks =
@@ -217,7 +244,8 @@ unspoken-cons setup player object e es silent none (g ∷ gs) f is speaks =
       tails : (x y : TableStep) (xs ys : TableHistory) → x ∷ xs ≡ y ∷ ys → xs ≡ ys
       tails x y xs ys same = cc
 
-unspoken-tail : (setup : Setup) (player object : ℕ) (e : TableStep) (es : TableHistory) → Unspoken setup player object (e ∷ es) → Unspoken setup player object es
+unspoken-tail : (setup : Setup) (player object : ℕ) (e : TableStep) (es : TableHistory) →
+    Unspoken setup player object (e ∷ es) → Unspoken setup player object es
 unspoken-tail setup player object e es none front f is speaks = none (e ∷ front) f (later-entry e es front f is) speaks
 
 -- where no entry speaks, the word before stays
@@ -231,8 +259,10 @@ silent-word setup player object before (e ∷ es) none =
     ap (λ (b : Bool). fold (word setup player object) b (map kept es)) here
     ∙ silent-word setup player object before es (unspoken-tail setup player object e es none)
 
-granted-word : (setup : Setup) (player object : ℕ) (before : Bool) (front rest : TableHistory) (e : TableStep) → Speaks setup player object e →
-    is_grant e.op ≡ true → Unspoken setup player object rest → fold (word setup player object) before (map kept (front ++ e ∷ rest)) ≡ true
+granted-word : (setup : Setup) (player object : ℕ) (before : Bool) (front rest : TableHistory) (e : TableStep) →
+    Speaks setup player object e →
+    is_grant e.op ≡ true → Unspoken setup player object rest →
+    fold (word setup player object) before (map kept (front ++ e ∷ rest)) ≡ true
 granted-word setup player object before [] rest e speaks grant none =
     let here : word setup player object before (kept e) ≡ true =
     said-so setup player object before e.who.number e.op ∙ ap (λ (b : Bool). cond b (is_grant e.op) before) speaks ∙ grant in
@@ -240,7 +270,8 @@ granted-word setup player object before [] rest e speaks grant none =
 granted-word setup player object before (f ∷ fs) rest e speaks grant none =
     granted-word setup player object (word setup player object before (kept f)) fs rest e speaks grant none
 
-so-granted : (setup : Setup) (player object : ℕ) (h : TableHistory) → IsGranted setup player object h → is_allowed (after setup h) player object ≡ true
+so-granted : (setup : Setup) (player object : ℕ) (h : TableHistory) → IsGranted setup player object h →
+    is_allowed (after setup h) player object ≡ true
 so-granted setup player object h (inl g) =
     ap (λ (l : TableHistory). fold (word setup player object) (is_declared setup player object) (map kept l)) g.whole
     ∙ granted-word setup player object (is_declared setup player object) g.front g.rest g.e g.speaks g.grant g.last
@@ -253,11 +284,14 @@ word-granted : (setup : Setup) (player object : ℕ) (before : Bool) (h : TableH
     fold (word setup player object) before (map kept h) ≡ true → GrantedFrom setup player object before h
 word-granted setup player object before [] is = inr (is, unspoken-nil setup player object)
 word-granted setup player object before (e ∷ es) is =
-    by (word-granted setup player object (word setup player object before (kept e)) es is) (speaks_of setup player object e.who.number e.op) refl where
-      here : (b : Bool) → speaks_of setup player object e.who.number e.op ≡ b → word setup player object before (kept e) ≡ cond b (is_grant e.op) before
+    by (word-granted setup player object (word setup player object before (kept e)) es is)
+    (speaks_of setup player object e.who.number e.op) refl where
+      here : (b : Bool) → speaks_of setup player object e.who.number e.op ≡ b →
+          word setup player object before (kept e) ≡ cond b (is_grant e.op) before
       here b spoke = said-so setup player object before e.who.number e.op ∙ ap (λ (c : Bool). cond c (is_grant e.op) before) spoke
 
-      by : GrantedFrom setup player object (word setup player object before (kept e)) es → (b : Bool) → speaks_of setup player object e.who.number e.op ≡ b →
+      by : GrantedFrom setup player object (word setup player object before (kept e)) es → (b : Bool) →
+          speaks_of setup player object e.who.number e.op ≡ b →
           GrantedFrom setup player object before (e ∷ es)
       by (inl g) b spoke = inl (record {
         front = e ∷ g.front;
@@ -279,14 +313,16 @@ word-granted setup player object before (e ∷ es) is =
       })
       by (inr rest) false spoke = inr (sym (here false spoke) ∙ rest.0, unspoken-cons setup player object e es spoke rest.1)
 
-granted-so : (setup : Setup) (player object : ℕ) (h : TableHistory) → is_allowed (after setup h) player object ≡ true → IsGranted setup player object h
+granted-so : (setup : Setup) (player object : ℕ) (h : TableHistory) → is_allowed (after setup h) player object ≡ true →
+    IsGranted setup player object h
 granted-so setup player object h is = word-granted setup player object (is_declared setup player object) h is
 
 -- What a check is told.
 
 -- the three tests of a check of an object: its kind, the permission, and whether it is initialised
 abbrev tests : Bool → Bool → Bool → TableReply
-tests kind granted ready = cond (not kind) (Oops WrongKind) (cond (not granted) (Oops NotGranted) (cond (not ready) (Oops NotInit) Done))
+tests kind granted ready =
+    cond (not kind) (Oops WrongKind) (cond (not granted) (Oops NotGranted) (cond (not ready) (Oops NotInit) Done))
 
 finds-object : (k g i : Bool) → tests k g i ≡ Oops NoObject → ⊥
 finds-object false g i is = cc
@@ -338,7 +374,8 @@ tests-told true false i = inr (NotGranted, refl)
 tests-told true true false = inr (NotInit, refl)
 tests-told true true true = inl refl
 
-check-told : (setup : Setup) (h front : TableHistory) (e : TableStep) (object : Option ℕ) (need : Need) → Replays table_machine (new_table setup) h → IsEntry h front e →
+check-told : (setup : Setup) (h front : TableHistory) (e : TableStep) (object : Option ℕ) (need : Need) →
+    Replays table_machine (new_table setup) h → IsEntry h front e →
     e.op ≡ ops.Check object need → e.reply ≡ check_reply (after setup front) e.who.number object need
 check-told setup h front e object need replays is op =
     sym (entry-told setup h front e replays is).1 ∙ ap (λ (o : TableOp). answer (after setup front) e.who.number o) op
@@ -348,11 +385,13 @@ no_object_exactly setup h legal = record {
   none = λ front e need is op. check-told setup h front e None need legal.0 is op;
   some = λ front e object need is op told.
       let t = after setup front in
-      finds-object (has_kind setup object need) (is_allowed t e.who.number object || is_public t object) (is_any need || is_ready t object)
+      finds-object (has_kind setup object need) (is_allowed t e.who.number object || is_public t object)
+      (is_any need || is_ready t object)
       (sym (check-told setup h front e (Some object) need legal.0 is op) ∙ told);
 }
 
-kind-met : (setup : Setup) (object : ℕ) (need : Need) (kind : Kind) (b : Bool) → slice_get setup.kinds object ≡ Some kind → meets need kind ≡ b → has_kind setup object need ≡ b
+kind-met : (setup : Setup) (object : ℕ) (need : Need) (kind : Kind) (b : Bool) →
+    slice_get setup.kinds object ≡ Some kind → meets need kind ≡ b → has_kind setup object need ≡ b
 kind-met setup object need kind b has met = ap (λ (k : Option Kind). option_map_or (meets need) k false) has ∙ met
 
 pub wrong_kind_first : OfEachTable WrongKindFirst
@@ -360,11 +399,13 @@ wrong_kind_first setup h legal = record {
   wrong = λ front e object need kind is op has unmet.
       let t = after setup front in
       check-told setup h front e (Some object) need legal.0 is op
-      ∙ wrong-kind (has_kind setup object need) (is_allowed t e.who.number object || is_public t object) (is_any need || is_ready t object)
+      ∙ wrong-kind (has_kind setup object need) (is_allowed t e.who.number object || is_public t object)
+      (is_any need || is_ready t object)
       (kind-met setup object need kind false has unmet);
   right = λ front e object need kind is op has met told.
       let t = after setup front in
-      right-kind (has_kind setup object need) (is_allowed t e.who.number object || is_public t object) (is_any need || is_ready t object)
+      right-kind (has_kind setup object need) (is_allowed t e.who.number object || is_public t object)
+      (is_any need || is_ready t object)
       (kind-met setup object need kind true has met) (sym (check-told setup h front e (Some object) need legal.0 is op) ∙ told);
 }
 
@@ -384,7 +425,8 @@ public_for_good setup h legal front e object need is op public told =
     (or_right own (is_public t object) (so-public setup object front public))
     (sym (check-told setup h front e (Some object) need legal.0 is op) ∙ told)
 
-none-granted : (setup : Setup) (player object : ℕ) (h : TableHistory) → (IsGranted setup player object h → ⊥) → (IsPublic object h → ⊥) →
+none-granted : (setup : Setup) (player object : ℕ) (h : TableHistory) → (IsGranted setup player object h → ⊥) →
+    (IsPublic object h → ⊥) →
     (is_allowed (after setup h) player object || is_public (after setup h) object) ≡ false
 none-granted setup player object h none private =
     neither (is_allowed (after setup h) player object) (is_public (after setup h) object)
@@ -394,23 +436,30 @@ pub none_without_a_grant : OfEachTable NoneWithoutAGrant
 none_without_a_grant setup h legal = record {
   passed = λ front e object need is op none private told.
       let t = after setup front in
-      not-passed (has_kind setup object need) (is_allowed t e.who.number object || is_public t object) (is_any need || is_ready t object)
-      (none-granted setup e.who.number object front none private) (sym (check-told setup h front e (Some object) need legal.0 is op) ∙ told);
+      not-passed (has_kind setup object need) (is_allowed t e.who.number object || is_public t object)
+      (is_any need || is_ready t object)
+      (none-granted setup e.who.number object front none private)
+      (sym (check-told setup h front e (Some object) need legal.0 is op) ∙ told);
   next = λ front e object need is op none private told.
       let t = after setup front in
-      no-further (has_kind setup object need) (is_allowed t e.who.number object || is_public t object) (is_any need || is_ready t object)
-      (none-granted setup e.who.number object front none private) (sym (check-told setup h front e (Some object) need legal.0 is op) ∙ told);
+      no-further (has_kind setup object need) (is_allowed t e.who.number object || is_public t object)
+      (is_any need || is_ready t object)
+      (none-granted setup e.who.number object front none private)
+      (sym (check-told setup h front e (Some object) need legal.0 is op) ∙ told);
 }
 
 pub ready_for_good : OfEachTable ReadyForGood
 ready_for_good setup h legal = record {
   ready = λ front e object need is op ready told.
       let t = after setup front in
-      is-ready (has_kind setup object need) (is_allowed t e.who.number object || is_public t object) (is_any need || is_ready t object)
-      (or_right (is_any need) (is_ready t object) (so-ready setup object front ready)) (sym (check-told setup h front e (Some object) need legal.0 is op) ∙ told);
+      is-ready (has_kind setup object need) (is_allowed t e.who.number object || is_public t object)
+      (is_any need || is_ready t object)
+      (or_right (is_any need) (is_ready t object) (so-ready setup object front ready))
+      (sym (check-told setup h front e (Some object) need legal.0 is op) ∙ told);
   any = λ front e object need is op any told.
       let t = after setup front in
-      is-ready (has_kind setup object need) (is_allowed t e.who.number object || is_public t object) (is_any need || is_ready t object)
+      is-ready (has_kind setup object need) (is_allowed t e.who.number object || is_public t object)
+      (is_any need || is_ready t object)
       (or_left (is_any need) (is_ready t object) any) (sym (check-told setup h front e (Some object) need legal.0 is op) ∙ told);
 }
 
@@ -418,28 +467,33 @@ pub none_before_init : OfEachTable NoneBeforeInit
 none_before_init setup h legal front e object need is op some raw told =
     let t = after setup front in
     let no-any : is_any need ≡ true → ⊥ = λ any. absurd (let both = sym some ∙ any in cc) in
-    not-ready (has_kind setup object need) (is_allowed t e.who.number object || is_public t object) (is_any need || is_ready t object)
+    not-ready (has_kind setup object need) (is_allowed t e.who.number object || is_public t object)
+    (is_any need || is_ready t object)
     (neither (is_any need) (is_ready t object) no-any (λ ready. raw (ready-so setup object front ready)))
     (sym (check-told setup h front e (Some object) need legal.0 is op) ∙ told)
 
 -- What the other operations are answered.
 
-init-told : (setup : Setup) (h front : TableHistory) (e : TableStep) (object : ℕ) (ready : Bool) → Replays table_machine (new_table setup) h → IsEntry h front e →
+init-told : (setup : Setup) (h front : TableHistory) (e : TableStep) (object : ℕ) (ready : Bool) →
+    Replays table_machine (new_table setup) h → IsEntry h front e →
     e.op ≡ ops.Init object → is_ready (after setup front) object ≡ ready → e.reply ≡ cond ready Already Done
 init-told setup h front e object ready replays is op was =
-    sym (entry-told setup h front e replays is).1 ∙ ap (λ (o : TableOp). answer (after setup front) e.who.number o) op ∙ ap (λ (b : Bool). cond b Already Done) was
+    sym (entry-told setup h front e replays is).1 ∙ ap (λ (o : TableOp). answer (after setup front) e.who.number o) op
+    ∙ ap (λ (b : Bool). cond b Already Done) was
 
 pub init_done_once : OfEachTable InitDoneOnce
 init_done_once setup h legal = record {
   done = λ front e object is op raw.
-      init-told setup h front e object false legal.0 is op (not-so (is_ready (after setup front) object) (λ ready. raw (ready-so setup object front ready)));
+      init-told setup h front e object false legal.0 is op
+      (not-so (is_ready (after setup front) object) (λ ready. raw (ready-so setup object front ready)));
   already = λ front e object is op ready. init-told setup h front e object true legal.0 is op (so-ready setup object front ready);
 }
 
 check-answer : (t : Table) (player : ℕ) (op : TableOp) → is_check op ≡ true → IsOfCheck (answer t player op)
 check-answer t player (ops.Check None need) is = inr (NoObject, refl)
 check-answer t player (ops.Check (Some object) need) is =
-    tests-told (has_kind t.setup object need) (is_allowed t player object || is_public t object) (is_any need || is_ready t object)
+    tests-told (has_kind t.setup object need) (is_allowed t player object || is_public t object)
+    (is_any need || is_ready t object)
 check-answer t player op is = absurd (cc)
 
 done-answer : (t : Table) (player : ℕ) (op : TableOp) → is_just_done op ≡ true → answer t player op ≡ Done
@@ -465,12 +519,14 @@ not-of : (b : Bool) → (b ≡ true → ⊥) → not b ≡ true
 not-of true none = absurd (none refl)
 not-of false none = refl
 
-alive : (setup : Setup) (h front : TableHistory) (e : TableStep) → Replays table_machine (new_table setup) h → IsEntry h front e → not (is_dead (after setup front) e.who.number) ≡ true
+alive : (setup : Setup) (h front : TableHistory) (e : TableStep) → Replays table_machine (new_table setup) h →
+    IsEntry h front e → not (is_dead (after setup front) e.who.number) ≡ true
 alive setup h front e replays is =
     let t = after setup front in
     first_so (not (is_dead t e.who.number)) (is_for (is_user t e.who.number) e.op) (entry-told setup h front e replays is).0
 
-in-mode : (setup : Setup) (h front : TableHistory) (e : TableStep) → Replays table_machine (new_table setup) h → IsEntry h front e → is_for (is_user (after setup front) e.who.number) e.op ≡ true
+in-mode : (setup : Setup) (h front : TableHistory) (e : TableStep) → Replays table_machine (new_table setup) h →
+    IsEntry h front e → is_for (is_user (after setup front) e.who.number) e.op ≡ true
 in-mode setup h front e replays is =
     let t = after setup front in
     second_so (not (is_dead t e.who.number)) (is_for (is_user t e.who.number) e.op) (entry-told setup h front e replays is).0
@@ -506,23 +562,31 @@ users_are_checked setup h legal front e is check =
 pub user_for_good : OfEachTable UserForGood
 user_for_good setup h legal front e is supervisors user =
     let now = is_user (after setup front) e.who.number in
-    both_ways now (not-true now (sym (supervisor-mode now e.op supervisors) ∙ in-mode setup h front e legal.0 is)) (so-user setup e.who.number front user)
+    both_ways now (not-true now (sym (supervisor-mode now e.op supervisors) ∙ in-mode setup h front e legal.0 is))
+    (so-user setup e.who.number front user)
 
-possible : (setup : Setup) (h : TableHistory) (who : Who) (op : TableOp) → Replays table_machine (new_table setup) h → (HasOops who.number h → ⊥) →
+possible : (setup : Setup) (h : TableHistory) (who : Who) (op : TableOp) → Replays table_machine (new_table setup) h →
+    (HasOops who.number h → ⊥) →
     is_for (is_user (after setup h) who.number) op ≡ true → IsPossible setup h who op
 possible setup h who op replays living mode =
     let t = after setup h in
     let lives = not-of (is_dead t who.number) (λ dead. living (dead-so setup who.number h dead)) in
-    let may-so : may t who.number op ≡ true = and_from (not (is_dead t who.number)) (is_for (is_user t who.number) op) lives mode in
-    let reply = answer t who.number op in
-    (reply, ap (λ (s : Table). table_reply s who op) (state-so setup h replays) ∙ ap (λ (b : Bool). cond b (Some reply) None) may-so)
+    let may-so : may t who.number op ≡ true =
+    and_from (not (is_dead t who.number)) (is_for (is_user t who.number) op) lives mode in
+    let reply = answer t who.number op in (
+      reply,
+      ap (λ (s : Table). table_reply s who op) (state-so setup h replays)
+          ∙ ap (λ (b : Bool). cond b (Some reply) None) may-so,
+    )
 
 pub living_may : OfEachTable LivingMay
 living_may setup h legal = record {
   all = λ who op living all. possible setup h who op legal.0 living (all-mode (is_user (after setup h) who.number) op all);
   user = λ who op living user check.
-      possible setup h who op legal.0 living (check-mode (is_user (after setup h) who.number) op check ∙ so-user setup who.number h user);
+      possible setup h who op legal.0 living (check-mode (is_user (after setup h) who.number) op check
+      ∙ so-user setup who.number h user);
   supervisor = λ who op living none supervisors.
       let now = is_user (after setup h) who.number in
-      possible setup h who op legal.0 living (supervisor-mode now op supervisors ∙ not-of now (λ user. none (user-so setup who.number h user)));
+      possible setup h who op legal.0 living (supervisor-mode now op supervisors
+      ∙ not-of now (λ user. none (user-so setup who.number h user)));
 }

@@ -1,10 +1,8 @@
 pub mod Channel
 pub mod ChannelLaws
-pub mod ChannelOwed
 pub mod ChannelWaits
 pub mod Observer
 pub mod ObserverLaws
-pub mod ObserverOwed
 pub mod ObserverWaits
 pub mod Table
 pub mod TableLaws

@@ -1,11 +1,10 @@
-use Rattle.std.specs.Prelude.{◌≡◌, ℕ, ◌<◌, ◌≤◌, Bool, true, false, ◌==◌, if◌then◌else◌, Option, Some, None, List, [], ◌∷◌, ◌++◌, length}
+use Rattle.std.specs.Prelude.{◌≡◌, ℕ, ◌<◌, ◌≤◌, Bool, true, false, Option, Some, None, List, [], ◌∷◌, ◌++◌, length}
 use Rattle.zk_base.specs.declared.ids.Who.{Who}
 use Rattle.zk_base.specs.declared.ids.Entry.{Entry}
 use Rattle.zk_base.specs.declared.waits.Decision.{Decision}
 use Rattle.zk_base.specs.History.{IsEntry}
 use Rattle.zk_base.specs.Legal.{state_after, IsLegal}
-use Rattle.zk_base.specs.Waits.{Waits}
-use Rattle.zk_base.specs.WaitLaws.{decided_at, IsDecidedBy, KeepsWaits}
+use Rattle.zk_base.specs.WaitLaws.{handed_by, IsDecidedBy, KeepsWaits}
 use Rattle.zk_model_bus.specs.declared.observer.ObsOp.{ObsOp}
 use Rattle.zk_model_bus.specs.declared.observer.ObsOp.TheVariants as ops
 use Rattle.zk_model_bus.specs.declared.observer.ObsReply.{ObsReply}
@@ -30,11 +29,6 @@ abbrev pub channel_of : ObsReply → List ℕ
 channel_of (Channel channel) = channel ∷ []
 channel_of reply = []
 
--- the channels that takers are handed: of these decisions, those whose wait wasn't decided before
-abbrev pub handed_by : Waits Unit ObsReply → List (Decision ObsReply) → List ℕ
-handed_by before [] = []
-handed_by before (d ∷ ds) = (if decided_at d.place before == 0 then channel_of d.answer else []) ++ handed_by before ds
-
 -- the channel that an entry pushes, if it does
 abbrev pub pushed : ObsOp → ObsReply → List ℕ
 pushed (ops.Visit channel) Pushed = channel ∷ []
@@ -43,7 +37,7 @@ pushed op reply = []
 -- the channels that an entry hands out: the one that a take is answered, and those that takers are handed by a visit
 abbrev pub handed_out : Observer → Observer → ObsOp → ObsReply → List ℕ
 handed_out before after (ops.Take waits) reply = channel_of reply
-handed_out before after (ops.Visit channel) reply = handed_by before.takers after.takers.decided
+handed_out before after (ops.Visit channel) reply = handed_by channel_of before.takers after.takers.decided
 handed_out before after op reply = []
 
 -- all that is pushed along a history, in order

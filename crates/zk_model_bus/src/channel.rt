@@ -524,7 +524,6 @@ impl Store for ChanStore {
     type State = ChanState;
 
     ghost use Rattle.zk_model_bus.specs.Channel.{owed_entries, chan_closes, chan_machine};
-    ghost use Rattle.zk_model_bus.specs.ChannelOwed.{counts, ranges, adds, gives};
 
     ghost state = { λ s. s.chan };
 
@@ -562,11 +561,5 @@ impl Store for ChanStore {
         self.waits.room()
     }
 
-    ghost counts = { counts };
-
-    ghost ranges = { ranges };
-
-    ghost adds = { adds };
-
-    ghost gives = { gives };
+    fn counts_entries() {}
 }

@@ -30,7 +30,8 @@ was_due : (b : Bool) (reply : ClockReply) → cond b (Some Due) None ≡ Some re
 was_due true reply is = (refl, sym (same_Some Due reply is))
 was_due false reply is = absurd (cc)
 
-apart_from : (player moment who at : ℕ) (a : Alarm) → (eqb who player && eqb at moment) ≡ false → is_alarm who at a ≡ true → is_alarm player moment a ≡ false
+apart_from : (player moment who at : ℕ) (a : Alarm) → (eqb who player && eqb at moment) ≡ false →
+    is_alarm who at a ≡ true → is_alarm player moment a ≡ false
 apart_from player moment who at a other is = grind (arith, nat_tests)
 
 same_end : (player moment who at : ℕ) → (eqb who player && eqb at moment) ≡ true → (who ≡ player) × (at ≡ moment)
@@ -38,9 +39,11 @@ same_end player moment who at is = grind (arith, nat_tests)
 
 -- an end takes away one of its own, and none of others
 standing-ended : (player moment who at : ℕ) (alarms : List Alarm) → has_alarm alarms who at ≡ true →
-    standing player moment (without_first (is_alarm who at) alarms) + one_if (eqb who player && eqb at moment) ≡ standing player moment alarms
+    standing player moment (without_first (is_alarm who at) alarms) + one_if (eqb who player && eqb at moment)
+    ≡ standing player moment alarms
 standing-ended player moment who at alarms has = by (eqb who player && eqb at moment) refl where
-  by : (b : Bool) → (eqb who player && eqb at moment) ≡ b → standing player moment (without_first (is_alarm who at) alarms) + one_if b ≡ standing player moment alarms
+  by : (b : Bool) → (eqb who player && eqb at moment) ≡ b →
+      standing player moment (without_first (is_alarm who at) alarms) + one_if b ≡ standing player moment alarms
   by true is =
       let same = same_end player moment who at is in
       let counted = count-without (is_alarm who at) alarms has in
@@ -48,7 +51,8 @@ standing-ended player moment who at alarms has = by (eqb who player && eqb at mo
       let own : P who at = omega arith in
       subst (λ p. P p moment) same.0 (subst (λ m. P who m) same.1 own)
   by false is =
-      let counted = count-aside (is_alarm who at) (is_alarm player moment) (λ a own. apart_from player moment who at a is own) alarms in
+      let counted = count-aside (is_alarm who at) (is_alarm player moment)
+      (λ a own. apart_from player moment who at a is own) alarms in
       omega arith
 
 none_if : (b : Bool) → one_if (b && false) ≡ 0
@@ -56,31 +60,50 @@ none_if true = refl
 none_if false = refl
 
 -- each entry counts
-standing-next : (c : Clock) (who : Who) (player moment : ℕ) (op : ClockOp) (reply : ClockReply) → clock_reply c who op ≡ Some reply →
-    standing player moment (clock_next c who op).alarms + one_if (eqb who.number player && is_end_of moment op) ≡ standing player moment c.alarms + one_if (eqb who.number player && is_at moment reply)
+standing-next : (c : Clock) (who : Who) (player moment : ℕ) (op : ClockOp) (reply : ClockReply) →
+    clock_reply c who op ≡ Some reply →
+    standing player moment (clock_next c who op).alarms + one_if (eqb who.number player && is_end_of moment op)
+    ≡ standing player moment c.alarms + one_if (eqb who.number player && is_at moment reply)
 standing-next c who player moment (ops.Announce ticks) reply is =
     let told : is_at moment reply ≡ false = ap (is_at moment) (sym (same_Some (Now (c.time + ticks)) reply is)) in
     ap (λ (b : Bool). standing player moment c.alarms + one_if (eqb who.number player && b)) (sym told)
 standing-next c who player moment (ops.Alarm ticks) reply is =
-    let told : is_at moment reply ≡ eqb (c.time + ticks) moment = ap (is_at moment) (sym (same_Some (At (c.time + ticks)) reply is)) in
-    let set : one_if (eqb who.number player && is_at moment reply) ≡ one_if (eqb who.number player && eqb (c.time + ticks) moment) = ap (λ (b : Bool). one_if (eqb who.number player && b)) told in
-    omega (arith, set, none_if (eqb who.number player), sum_by_push (λ (a : Alarm). one_if (is_alarm player moment a)) c.alarms (record { player = who.number; moment = c.time + ticks }))
+    let told : is_at moment reply ≡ eqb (c.time + ticks) moment =
+    ap (is_at moment) (sym (same_Some (At (c.time + ticks)) reply is)) in
+    let set : one_if (eqb who.number player && is_at moment reply)
+    ≡ one_if (eqb who.number player && eqb (c.time + ticks) moment) =
+    ap (λ (b : Bool). one_if (eqb who.number player && b)) told in
+    omega (
+      arith,
+      set,
+      none_if (eqb who.number player),
+      sum_by_push (λ (a : Alarm). one_if (is_alarm player moment a)) c.alarms
+          (record { player = who.number; moment = c.time + ticks }),
+    )
 standing-next c who player moment (ops.AlarmEnd at) reply is =
     let due = was_due (is_due c.time c.alarms who.number at) reply is in
-    let set : one_if (eqb who.number player && is_at moment reply) ≡ 0 = ap (λ (r : ClockReply). one_if (eqb who.number player && is_at moment r)) due.1 ∙ none_if (eqb who.number player) in
-    let ended = standing-ended player moment who.number at c.alarms (second_so (leb at c.time) (has_alarm c.alarms who.number at) due.0) in
+    let set : one_if (eqb who.number player && is_at moment reply) ≡ 0 =
+    ap (λ (r : ClockReply). one_if (eqb who.number player && is_at moment r)) due.1 ∙ none_if (eqb who.number player) in
+    let ended = standing-ended player moment who.number at c.alarms
+    (second_so (leb at c.time) (has_alarm c.alarms who.number at) due.0) in
     omega arith
 
 standing-state : (c : Clock) (h : ClockHistory) (player moment : ℕ) → Replays clock_machine c h →
-    standing player moment (state_after clock_machine c h).alarms + count_by (ends player moment) h ≡ standing player moment c.alarms + count_by (sets player moment) h
+    standing player moment (state_after clock_machine c h).alarms + count_by (ends player moment) h
+    ≡ standing player moment c.alarms + count_by (sets player moment) h
 standing-state c [] player moment replays = refl
 standing-state c (e ∷ es) player moment replays =
     let here = standing-next c e.who player moment e.op e.reply replays.0 in
     let rest = standing-state (clock_next c e.who e.op) es player moment replays.1 in
-    omega (arith, sum_by-cons (λ (f : Entry ClockOp ClockReply). one_if (ends player moment f)) e es, sum_by-cons (λ (f : Entry ClockOp ClockReply). one_if (sets player moment f)) e es)
+    omega (
+      arith,
+      sum_by-cons (λ (f : Entry ClockOp ClockReply). one_if (ends player moment f)) e es,
+      sum_by-cons (λ (f : Entry ClockOp ClockReply). one_if (sets player moment f)) e es,
+    )
 
 -- what stands and what has ended is what was set
-standing-after : (h : ClockHistory) (player moment : ℕ) → IsClockHistory h → standing player moment (clock_after h).alarms + count_by (ends player moment) h ≡ count_by (sets player moment) h
+standing-after : (h : ClockHistory) (player moment : ℕ) → IsClockHistory h →
+    standing player moment (clock_after h).alarms + count_by (ends player moment) h ≡ count_by (sets player moment) h
 standing-after h player moment legal = let all = standing-state new_clock h player moment legal.0 in omega arith
 
 pub each_ends_once : OfEach EachEndsOnce
@@ -89,11 +112,13 @@ each_ends_once h legal player moment = let all = standing-after h player moment 
 pub due_when_its_moment_has_come : OfEach DueWhenItsMomentHasCome
 due_when_its_moment_has_come h legal front rest e moment parts op =
     let c = clock_after front in
-    let due = was_due (is_due c.time c.alarms e.who.number moment) e.reply (ap (clock_reply c e.who) (sym op) ∙ replied h front rest e legal parts) in
+    let due = was_due (is_due c.time c.alarms e.who.number moment) e.reply (ap (clock_reply c e.who) (sym op)
+    ∙ replied h front rest e legal parts) in
     let come = first_so (leb moment c.time) (has_alarm c.alarms e.who.number moment) due.0 in
     let has = second_so (leb moment c.time) (has_alarm c.alarms e.who.number moment) due.0 in
     let some = counted-any (is_alarm e.who.number moment) c.alarms has in
-    let all = standing-after front e.who.number moment (IsLegal-front clock_machine new_clock front (e ∷ rest) (subst IsClockHistory parts legal)) in
+    let all = standing-after front e.who.number moment
+    (IsLegal-front clock_machine new_clock front (e ∷ rest) (subst IsClockHistory parts legal)) in
     (due.1, any-counted (sets e.who.number moment) front (omega arith), leb-true moment c.time come)
 
 pub may_end_once_it_has_come : OfEach MayEndOnceItHasCome

@@ -1,9 +1,12 @@
 pub mod Alarms
+mod ClockOwed
 pub mod MsgqOrder
+mod MsgqOwed
 pub mod MsgqPolls
 pub mod MsgqWaits
 pub mod Polls
 pub mod SemCounts
+mod SemOwed
 pub mod SemPolls
 pub mod SemWaits
 pub mod Stamps

@@ -46,18 +46,25 @@ get-polls (m ∷ ms) q who waits = moved-polls q.puts.waiting (record q { messag
 get-polls [] q who true = refl
 get-polls [] q who false = refl
 
-arm-moves : (messages : List (List ℕ)) (q : Msgq) (who : Who) (waits : Bool) (reply : MsgqReply) → poll_reply messages waits ≡ reply →
+arm-moves : (messages : List (List ℕ)) (q : Msgq) (who : Who) (waits : Bool) (reply : MsgqReply) →
+    poll_reply messages waits ≡ reply →
     arm_at messages q who waits ≡ after_entry q.pollers q.entries who nobody (poll_opens (ops.PollArm waits) reply) None None
-arm-moves messages q who waits reply told = subst (λ (r : MsgqReply). arm_at messages q who waits ≡ after_entry q.pollers q.entries who nobody (poll_opens (ops.PollArm waits) r) None None) told (by messages waits) where
-  by : (messages : List (List ℕ)) (waits : Bool) → arm_at messages q who waits ≡ after_entry q.pollers q.entries who nobody (poll_opens (ops.PollArm waits) (poll_reply messages waits)) None None
-  by (m ∷ ms) waits = refl
-  by [] true = refl
-  by [] false = refl
+arm-moves messages q who waits reply told =
+    subst (λ (r : MsgqReply). arm_at messages q who waits ≡ after_entry q.pollers q.entries who nobody
+    (poll_opens (ops.PollArm waits) r) None None) told (by messages waits) where
+      by : (messages : List (List ℕ)) (waits : Bool) →
+          arm_at messages q who waits ≡ after_entry q.pollers q.entries who nobody
+          (poll_opens (ops.PollArm waits) (poll_reply messages waits)) None None
+      by (m ∷ ms) waits = refl
+      by [] true = refl
+      by [] false = refl
 
 poll-moves : (q : Msgq) (who : Who) (op : MsgqOp) (reply : MsgqReply) → msgq_reply q who op ≡ Some reply →
-    (msgq_next q who op).pollers ≡ after_entry q.pollers q.entries who (pollers.decides q op reply) (pollers.opens op reply) (pollers.ends op) (pollers.quits op)
+    (msgq_next q who op).pollers ≡ after_entry q.pollers q.entries who (pollers.decides q op reply)
+    (pollers.opens op reply) (pollers.ends op) (pollers.quits op)
 poll-moves q who (ops.Put message waits) reply is =
-    subst (λ (r : MsgqReply). (put_to q.gets.waiting q who message waits).pollers ≡ after_decision (put_notifies q.gets.waiting r) q.pollers)
+    subst (λ (r : MsgqReply). (put_to q.gets.waiting q who message waits).pollers
+    ≡ after_decision (put_notifies q.gets.waiting r) q.pollers)
     (same_Some (put_reply q.gets.waiting q waits) reply is) (put-polls q.gets.waiting q who message waits)
 poll-moves q who (ops.PutEnd place) reply is = refl
 poll-moves q who (ops.PutQuit place) reply is = refl
@@ -69,19 +76,23 @@ poll-moves q who (ops.PeekAt index) reply is = refl
 poll-moves q who ops.Purge reply is = refl
 poll-moves q who ops.Used reply is = refl
 poll-moves q who ops.Free reply is = refl
-poll-moves q who (ops.PollArm waits) reply is = arm-moves q.messages q who waits reply (same_Some (poll_reply q.messages waits) reply is)
+poll-moves q who (ops.PollArm waits) reply is =
+    arm-moves q.messages q who waits reply (same_Some (poll_reply q.messages waits) reply is)
 poll-moves q who (ops.PollEnd place) reply is = refl
 poll-moves q who (ops.PollQuit place) reply is = refl
 
-poll-ends : (q : Msgq) (who : Who) (op : MsgqOp) (place : ℕ) → pollers.ends op ≡ Some place → msgq_reply q who op ≡ msgq_reply q who (ops.PollEnd place)
+poll-ends : (q : Msgq) (who : Who) (op : MsgqOp) (place : ℕ) → pollers.ends op ≡ Some place →
+    msgq_reply q who op ≡ msgq_reply q who (ops.PollEnd place)
 poll-ends q who (ops.PollEnd at) place is = ap (λ (p : ℕ). msgq_reply q who (ops.PollEnd p)) (same_Some at place is)
 poll-ends q who op place is = absurd (cc)
 
-poll-quits : (q : Msgq) (who : Who) (op : MsgqOp) (place : ℕ) → pollers.quits op ≡ Some place → msgq_reply q who op ≡ msgq_reply q who (ops.PollQuit place)
+poll-quits : (q : Msgq) (who : Who) (op : MsgqOp) (place : ℕ) → pollers.quits op ≡ Some place →
+    msgq_reply q who op ≡ msgq_reply q who (ops.PollQuit place)
 poll-quits q who (ops.PollQuit at) place is = ap (λ (p : ℕ). msgq_reply q who (ops.PollQuit p)) (same_Some at place is)
 poll-quits q who op place is = absurd (cc)
 
-poll-opens_alone : (op : MsgqOp) (reply : MsgqReply) (matter : Unit) → pollers.opens op reply ≡ Some matter → (pollers.ends op ≡ None) × (pollers.quits op ≡ None)
+poll-opens_alone : (op : MsgqOp) (reply : MsgqReply) (matter : Unit) → pollers.opens op reply ≡ Some matter →
+    (pollers.ends op ≡ None) × (pollers.quits op ≡ None)
 poll-opens_alone (ops.PollArm waits) reply matter is = (refl, refl)
 poll-opens_alone op reply matter is = absurd (cc)
 
@@ -114,13 +125,17 @@ poll-told [] false = record { ready = λ some. absurd (omega arith); armed = λ 
 pub poll_arm_answers : OfEachMsgq PollArmAnswers
 poll_arm_answers most h legal front e waits at op =
     let q = msgq_after_all (new_msgq most) front in
-    subst (PollIsTold q.messages waits) (same_Some (poll_reply q.messages waits) e.reply (replied (new_msgq most) h front e (ops.PollArm waits) legal.0 at op)) (poll-told q.messages waits)
+    subst (PollIsTold q.messages waits)
+    (same_Some (poll_reply q.messages waits) e.reply
+    (replied (new_msgq most) h front e (ops.PollArm waits) legal.0 at op)) (poll-told q.messages waits)
 
-notified-so : (waiting : List (Waiter Unit)) (reply answer : MsgqReply) → said (put_notifies waiting reply) ≡ Some answer → (waiting ≡ []) × (reply ≡ Done) × (answer ≡ Noted)
+notified-so : (waiting : List (Waiter Unit)) (reply answer : MsgqReply) →
+    said (put_notifies waiting reply) ≡ Some answer → (waiting ≡ []) × (reply ≡ Done) × (answer ≡ Noted)
 notified-so [] Done answer is = (refl, refl, sym (same_Some Noted answer is))
 notified-so waiting reply answer is = absurd (cc)
 
-noted-so : (q : Msgq) (e : Entry MsgqOp MsgqReply) (own : MsgqOp) (answer : MsgqReply) → e.op ≡ own → said (poll_decides q own e.reply) ≡ Some answer → IsChance q e × (answer ≡ Noted)
+noted-so : (q : Msgq) (e : Entry MsgqOp MsgqReply) (own : MsgqOp) (answer : MsgqReply) → e.op ≡ own →
+    said (poll_decides q own e.reply) ≡ Some answer → IsChance q e × (answer ≡ Noted)
 noted-so q e (ops.Put message waits) answer same is =
     let so = notified-so q.gets.waiting e.reply answer is in
     (record { put = (message, waits, same); done = so.1; nobody = so.0 }, so.2)
@@ -129,9 +144,11 @@ noted-so q e own answer same is = absurd (cc)
 pub noted_at_a_chance : OfEachMsgq NotedAtAChance
 noted_at_a_chance most h legal front e d at decides =
     let new = new_msgq most in
-    noted-so (msgq_after_all new front) e e.op d.answer refl (decides-said msgq_machine pollers has_pollers new h legal.0 front e d at decides)
+    noted-so (msgq_after_all new front) e e.op d.answer refl
+    (decides-said msgq_machine pollers has_pollers new h legal.0 front e d at decides)
 
-put-notes : (waiting : List (Waiter Unit)) (ws : Waits Unit MsgqReply) (reply : MsgqReply) → waiting ≡ [] → reply ≡ Done → NotesOne ws (after_decision (put_notifies waiting reply) ws)
+put-notes : (waiting : List (Waiter Unit)) (ws : Waits Unit MsgqReply) (reply : MsgqReply) → waiting ≡ [] → reply ≡ Done →
+    NotesOne ws (after_decision (put_notifies waiting reply) ws)
 put-notes [] ws Done none is = one-noted Noted ws.waiting ws.decided
 put-notes waiting ws reply none is = absurd (cc)
 
@@ -152,4 +169,5 @@ polled-messages q who op is = absurd (cc)
 
 pub polling_takes_nothing : (q : Msgq) (h : MsgqHistory) → PollingTakesNothing q h
 polling_takes_nothing q h front e at is =
-    ap (λ (r : Msgq). r.messages) (state_after-snoc msgq_machine q front e) ∙ polled-messages (msgq_after_all q front) e.who e.op is
+    ap (λ (r : Msgq). r.messages) (state_after-snoc msgq_machine q front e)
+    ∙ polled-messages (msgq_after_all q front) e.who e.op is

@@ -15,14 +15,17 @@ use Rattle.zk_model_wait.specs.Msgq.{Msgq, new_msgq, else_reply, put_reply, get_
 use Rattle.zk_model_wait.specs.MsgqWaits.{put_opens, get_opens, get_decides, take_decides, putters, getters}
 
 -- where nobody waits, the first is nobody
-first-none : {M : Type 0} (answer : MsgqReply) (ws : Waits M MsgqReply) → ws.waiting ≡ [] → ws ≡ decides_first answer ws.waiting ws.decided
+first-none : {M : Type 0} (answer : MsgqReply) (ws : Waits M MsgqReply) → ws.waiting ≡ [] →
+    ws ≡ decides_first answer ws.waiting ws.decided
 first-none {M} answer ws none =
-    let P : List (Waiter M) → Type 0 = λ l. ◌≡◌ {A = Waits M MsgqReply} (record { waiting = l; decided = ws.decided }) (decides_first answer l ws.decided) in
+    let P : List (Waiter M) → Type 0 =
+    λ l. ◌≡◌ {A = Waits M MsgqReply} (record { waiting = l; decided = ws.decided }) (decides_first answer l ws.decided) in
     subst P (sym none) refl
 
 -- what a put does to the puts that wait
 full-puts : (q : Msgq) (who : Who) (message : List ℕ) (waits : Bool) →
-    (put_at_full q who message waits).puts ≡ after_entry q.puts q.entries who nobody (put_opens (ops.Put message waits) (else_reply waits)) None None
+    (put_at_full q who message waits).puts ≡ after_entry q.puts q.entries who nobody
+    (put_opens (ops.Put message waits) (else_reply waits)) None None
 full-puts q who message true = refl
 full-puts q who message false = refl
 
@@ -33,23 +36,28 @@ room-puts q who message waits true = refl
 room-puts q who message waits false = full-puts q who message waits
 
 put-puts : (waiting : List (Waiter Unit)) (q : Msgq) (who : Who) (message : List ℕ) (waits : Bool) →
-    (put_to waiting q who message waits).puts ≡ after_entry q.puts q.entries who nobody (put_opens (ops.Put message waits) (put_reply waiting q waits)) None None
+    (put_to waiting q who message waits).puts ≡ after_entry q.puts q.entries who nobody
+    (put_opens (ops.Put message waits) (put_reply waiting q waits)) None None
 put-puts (w ∷ ws) q who message waits = refl
 put-puts [] q who message waits = room-puts q who message waits (ltb (length q.messages) q.most)
 
-moved-puts : (waiting : List (Waiter (List ℕ))) (q : Msgq) → q.puts.waiting ≡ waiting → (moved_in waiting q).puts ≡ after_decision (first Done) q.puts
+moved-puts : (waiting : List (Waiter (List ℕ))) (q : Msgq) → q.puts.waiting ≡ waiting →
+    (moved_in waiting q).puts ≡ after_decision (first Done) q.puts
 moved-puts [] q none = first-none Done q.puts none
 moved-puts (w ∷ ws) q some = refl
 
-get-puts : (messages : List (List ℕ)) (q : Msgq) (who : Who) (waits : Bool) → (get_from messages q who waits).puts ≡ after_decision (get_decides messages) q.puts
+get-puts : (messages : List (List ℕ)) (q : Msgq) (who : Who) (waits : Bool) →
+    (get_from messages q who waits).puts ≡ after_decision (get_decides messages) q.puts
 get-puts (m ∷ ms) q who waits = moved-puts q.puts.waiting (record q { messages = ms }) refl
 get-puts [] q who true = refl
 get-puts [] q who false = refl
 
 put-moves : (q : Msgq) (who : Who) (op : MsgqOp) (reply : MsgqReply) → msgq_reply q who op ≡ Some reply →
-    (msgq_next q who op).puts ≡ after_entry q.puts q.entries who (putters.decides q op reply) (putters.opens op reply) (putters.ends op) (putters.quits op)
+    (msgq_next q who op).puts ≡ after_entry q.puts q.entries who (putters.decides q op reply) (putters.opens op reply)
+    (putters.ends op) (putters.quits op)
 put-moves q who (ops.Put message waits) reply is =
-    subst (λ (r : MsgqReply). (put_to q.gets.waiting q who message waits).puts ≡ after_entry q.puts q.entries who nobody (put_opens (ops.Put message waits) r) None None)
+    subst (λ (r : MsgqReply). (put_to q.gets.waiting q who message waits).puts ≡ after_entry q.puts q.entries who nobody
+    (put_opens (ops.Put message waits) r) None None)
     (same_Some (put_reply q.gets.waiting q waits) reply is) (put-puts q.gets.waiting q who message waits)
 put-moves q who (ops.PutEnd place) reply is = refl
 put-moves q who (ops.PutQuit place) reply is = refl
@@ -78,7 +86,8 @@ room-gets q who message waits true none = first-none (Bytes message) q.gets none
 room-gets q who message waits false none = full-gets q who message waits
 
 put-gets : (waiting : List (Waiter Unit)) (q : Msgq) (who : Who) (message : List ℕ) (waits : Bool) → q.gets.waiting ≡ waiting →
-    (put_to waiting q who message waits).gets ≡ after_decision (take_decides q (ops.Put message waits) (put_reply waiting q waits)) q.gets
+    (put_to waiting q who message waits).gets
+    ≡ after_decision (take_decides q (ops.Put message waits) (put_reply waiting q waits)) q.gets
 put-gets (w ∷ ws) q who message waits some = refl
 put-gets [] q who message waits none = room-gets q who message waits (ltb (length q.messages) q.most) none
 
@@ -87,20 +96,24 @@ moved-gets [] q = refl
 moved-gets (w ∷ ws) q = refl
 
 get-gets : (messages : List (List ℕ)) (q : Msgq) (who : Who) (waits : Bool) →
-    (get_from messages q who waits).gets ≡ after_entry q.gets q.entries who nobody (get_opens (ops.Get waits) (get_reply messages waits)) None None
+    (get_from messages q who waits).gets ≡ after_entry q.gets q.entries who nobody
+    (get_opens (ops.Get waits) (get_reply messages waits)) None None
 get-gets (m ∷ ms) q who waits = moved-gets q.puts.waiting (record q { messages = ms })
 get-gets [] q who true = refl
 get-gets [] q who false = refl
 
 get-moves : (q : Msgq) (who : Who) (op : MsgqOp) (reply : MsgqReply) → msgq_reply q who op ≡ Some reply →
-    (msgq_next q who op).gets ≡ after_entry q.gets q.entries who (getters.decides q op reply) (getters.opens op reply) (getters.ends op) (getters.quits op)
+    (msgq_next q who op).gets ≡ after_entry q.gets q.entries who (getters.decides q op reply) (getters.opens op reply)
+    (getters.ends op) (getters.quits op)
 get-moves q who (ops.Put message waits) reply is =
-    subst (λ (r : MsgqReply). (put_to q.gets.waiting q who message waits).gets ≡ after_decision (take_decides q (ops.Put message waits) r) q.gets)
+    subst (λ (r : MsgqReply). (put_to q.gets.waiting q who message waits).gets
+    ≡ after_decision (take_decides q (ops.Put message waits) r) q.gets)
     (same_Some (put_reply q.gets.waiting q waits) reply is) (put-gets q.gets.waiting q who message waits refl)
 get-moves q who (ops.PutEnd place) reply is = refl
 get-moves q who (ops.PutQuit place) reply is = refl
 get-moves q who (ops.Get waits) reply is =
-    subst (λ (r : MsgqReply). (get_from q.messages q who waits).gets ≡ after_entry q.gets q.entries who nobody (get_opens (ops.Get waits) r) None None)
+    subst (λ (r : MsgqReply). (get_from q.messages q who waits).gets ≡ after_entry q.gets q.entries who nobody
+    (get_opens (ops.Get waits) r) None None)
     (same_Some (get_reply q.messages waits) reply is) (get-gets q.messages q who waits)
 get-moves q who (ops.GetEnd place) reply is = refl
 get-moves q who (ops.GetQuit place) reply is = refl
@@ -113,23 +126,28 @@ get-moves q who (ops.PollArm waits) reply is = refl
 get-moves q who (ops.PollEnd place) reply is = refl
 get-moves q who (ops.PollQuit place) reply is = refl
 
-put-ends : (q : Msgq) (who : Who) (op : MsgqOp) (place : ℕ) → putters.ends op ≡ Some place → msgq_reply q who op ≡ msgq_reply q who (ops.PutEnd place)
+put-ends : (q : Msgq) (who : Who) (op : MsgqOp) (place : ℕ) → putters.ends op ≡ Some place →
+    msgq_reply q who op ≡ msgq_reply q who (ops.PutEnd place)
 put-ends q who (ops.PutEnd at) place is = ap (λ (p : ℕ). msgq_reply q who (ops.PutEnd p)) (same_Some at place is)
 put-ends q who op place is = absurd (cc)
 
-put-quits : (q : Msgq) (who : Who) (op : MsgqOp) (place : ℕ) → putters.quits op ≡ Some place → msgq_reply q who op ≡ msgq_reply q who (ops.PutQuit place)
+put-quits : (q : Msgq) (who : Who) (op : MsgqOp) (place : ℕ) → putters.quits op ≡ Some place →
+    msgq_reply q who op ≡ msgq_reply q who (ops.PutQuit place)
 put-quits q who (ops.PutQuit at) place is = ap (λ (p : ℕ). msgq_reply q who (ops.PutQuit p)) (same_Some at place is)
 put-quits q who op place is = absurd (cc)
 
-get-ends : (q : Msgq) (who : Who) (op : MsgqOp) (place : ℕ) → getters.ends op ≡ Some place → msgq_reply q who op ≡ msgq_reply q who (ops.GetEnd place)
+get-ends : (q : Msgq) (who : Who) (op : MsgqOp) (place : ℕ) → getters.ends op ≡ Some place →
+    msgq_reply q who op ≡ msgq_reply q who (ops.GetEnd place)
 get-ends q who (ops.GetEnd at) place is = ap (λ (p : ℕ). msgq_reply q who (ops.GetEnd p)) (same_Some at place is)
 get-ends q who op place is = absurd (cc)
 
-get-quits : (q : Msgq) (who : Who) (op : MsgqOp) (place : ℕ) → getters.quits op ≡ Some place → msgq_reply q who op ≡ msgq_reply q who (ops.GetQuit place)
+get-quits : (q : Msgq) (who : Who) (op : MsgqOp) (place : ℕ) → getters.quits op ≡ Some place →
+    msgq_reply q who op ≡ msgq_reply q who (ops.GetQuit place)
 get-quits q who (ops.GetQuit at) place is = ap (λ (p : ℕ). msgq_reply q who (ops.GetQuit p)) (same_Some at place is)
 get-quits q who op place is = absurd (cc)
 
-put-opens_alone : (op : MsgqOp) (reply : MsgqReply) (matter : List ℕ) → putters.opens op reply ≡ Some matter → (putters.ends op ≡ None) × (putters.quits op ≡ None)
+put-opens_alone : (op : MsgqOp) (reply : MsgqReply) (matter : List ℕ) → putters.opens op reply ≡ Some matter →
+    (putters.ends op ≡ None) × (putters.quits op ≡ None)
 put-opens_alone (ops.Put message waits) reply matter is = (refl, refl)
 put-opens_alone op reply matter is = absurd (cc)
 
@@ -137,7 +155,8 @@ put-ends_alone : (op : MsgqOp) (place : ℕ) → putters.ends op ≡ Some place 
 put-ends_alone (ops.PutEnd at) place is = refl
 put-ends_alone op place is = absurd (cc)
 
-get-opens_alone : (op : MsgqOp) (reply : MsgqReply) (matter : Unit) → getters.opens op reply ≡ Some matter → (getters.ends op ≡ None) × (getters.quits op ≡ None)
+get-opens_alone : (op : MsgqOp) (reply : MsgqReply) (matter : Unit) → getters.opens op reply ≡ Some matter →
+    (getters.ends op ≡ None) × (getters.quits op ≡ None)
 get-opens_alone (ops.Get waits) reply matter is = (refl, refl)
 get-opens_alone op reply matter is = absurd (cc)
 

@@ -21,37 +21,47 @@ use Rattle.zk_model_wait.proofs.SemCounts.{take-polls, replied}
 
 arm-moves : (n : ℕ) (s : Sem) (who : Who) (waits : Bool) (reply : SemReply) → poll_reply n waits ≡ reply →
     arm_at n s who waits ≡ after_entry s.pollers s.entries who nobody (poll_opens (ops.PollArm waits) reply) None None
-arm-moves n s who waits reply told = subst (λ (r : SemReply). arm_at n s who waits ≡ after_entry s.pollers s.entries who nobody (poll_opens (ops.PollArm waits) r) None None) told (by n waits) where
-  by : (n : ℕ) (waits : Bool) → arm_at n s who waits ≡ after_entry s.pollers s.entries who nobody (poll_opens (ops.PollArm waits) (poll_reply n waits)) None None
-  by zero false = refl
-  by zero true = refl
-  by (suc n) waits = refl
+arm-moves n s who waits reply told =
+    subst (λ (r : SemReply). arm_at n s who waits ≡ after_entry s.pollers s.entries who nobody
+    (poll_opens (ops.PollArm waits) r) None None) told (by n waits) where
+      by : (n : ℕ) (waits : Bool) →
+          arm_at n s who waits ≡ after_entry s.pollers s.entries who nobody
+          (poll_opens (ops.PollArm waits) (poll_reply n waits)) None None
+      by zero false = refl
+      by zero true = refl
+      by (suc n) waits = refl
 
-give-polls : (waiting : List (Waiter Unit)) (s : Sem) → (give_to waiting s).pollers ≡ after_decision (give_notifies waiting) s.pollers
+give-polls : (waiting : List (Waiter Unit)) (s : Sem) →
+    (give_to waiting s).pollers ≡ after_decision (give_notifies waiting) s.pollers
 give-polls [] s = refl
 give-polls (w ∷ ws) s = refl
 
 poll-moves : (s : Sem) (who : Who) (op : SemOp) (reply : SemReply) → sem_reply s who op ≡ Some reply →
-    (sem_next s who op).pollers ≡ after_entry s.pollers s.entries who (pollers.decides s op reply) (pollers.opens op reply) (pollers.ends op) (pollers.quits op)
+    (sem_next s who op).pollers ≡ after_entry s.pollers s.entries who (pollers.decides s op reply)
+    (pollers.opens op reply) (pollers.ends op) (pollers.quits op)
 poll-moves s who (ops.Take waits) reply is = take-polls s.count s who waits
 poll-moves s who (ops.TakeEnd place) reply is = refl
 poll-moves s who (ops.TakeQuit place) reply is = refl
 poll-moves s who ops.Give reply is = give-polls s.takers.waiting s
 poll-moves s who ops.Reset reply is = refl
 poll-moves s who ops.Count reply is = refl
-poll-moves s who (ops.PollArm waits) reply is = arm-moves s.count s who waits reply (same_Some (poll_reply s.count waits) reply is)
+poll-moves s who (ops.PollArm waits) reply is =
+    arm-moves s.count s who waits reply (same_Some (poll_reply s.count waits) reply is)
 poll-moves s who (ops.PollEnd place) reply is = refl
 poll-moves s who (ops.PollQuit place) reply is = refl
 
-poll-ends : (s : Sem) (who : Who) (op : SemOp) (place : ℕ) → pollers.ends op ≡ Some place → sem_reply s who op ≡ sem_reply s who (ops.PollEnd place)
+poll-ends : (s : Sem) (who : Who) (op : SemOp) (place : ℕ) → pollers.ends op ≡ Some place →
+    sem_reply s who op ≡ sem_reply s who (ops.PollEnd place)
 poll-ends s who (ops.PollEnd at) place is = ap (λ (p : ℕ). sem_reply s who (ops.PollEnd p)) (same_Some at place is)
 poll-ends s who op place is = absurd (cc)
 
-poll-quits : (s : Sem) (who : Who) (op : SemOp) (place : ℕ) → pollers.quits op ≡ Some place → sem_reply s who op ≡ sem_reply s who (ops.PollQuit place)
+poll-quits : (s : Sem) (who : Who) (op : SemOp) (place : ℕ) → pollers.quits op ≡ Some place →
+    sem_reply s who op ≡ sem_reply s who (ops.PollQuit place)
 poll-quits s who (ops.PollQuit at) place is = ap (λ (p : ℕ). sem_reply s who (ops.PollQuit p)) (same_Some at place is)
 poll-quits s who op place is = absurd (cc)
 
-poll-opens_alone : (op : SemOp) (reply : SemReply) (matter : Unit) → pollers.opens op reply ≡ Some matter → (pollers.ends op ≡ None) × (pollers.quits op ≡ None)
+poll-opens_alone : (op : SemOp) (reply : SemReply) (matter : Unit) → pollers.opens op reply ≡ Some matter →
+    (pollers.ends op ≡ None) × (pollers.quits op ≡ None)
 poll-opens_alone (ops.PollArm waits) reply matter is = (refl, refl)
 poll-opens_alone op reply matter is = absurd (cc)
 
@@ -74,23 +84,35 @@ first_pollers : (initial limit : ℕ) → IsFirst pollers (new_sem initial limit
 first_pollers initial limit = record { none = refl; new = refl }
 
 pub pollers_hold : OfEachSem (KeepsWaits sem_machine pollers)
-pollers_hold initial limit low h legal = keeps_waits sem_machine pollers has_pollers (new_sem initial limit) h (first_pollers initial limit) legal.0
+pollers_hold initial limit low h legal = keeps_waits sem_machine pollers has_pollers (new_sem initial limit) h
+    (first_pollers initial limit) legal.0
 
 poll-told : (count : ℕ) (waits : Bool) → PollIsTold count waits (poll_reply count waits)
 poll-told zero true = record { ready = λ some. absurd (omega arith); armed = λ none is. refl; not_ready = λ none is. absurd (cc) }
-poll-told zero false = record { ready = λ some. absurd (omega arith); armed = λ none is. absurd (cc); not_ready = λ none is. refl }
-poll-told (suc n) waits = record { ready = λ some. refl; armed = λ none is. absurd (omega arith); not_ready = λ none is. absurd (omega arith) }
+poll-told zero false = record {
+  ready = λ some. absurd (omega arith);
+  armed = λ none is. absurd (cc);
+  not_ready = λ none is. refl;
+}
+poll-told (suc n) waits = record {
+  ready = λ some. refl;
+  armed = λ none is. absurd (omega arith);
+  not_ready = λ none is. absurd (omega arith);
+}
 
 pub poll_arm_answers : OfEachSem PollArmAnswers
 poll_arm_answers initial limit low h legal front e waits at op =
     let s = sem_after_all (new_sem initial limit) front in
-    subst (PollIsTold s.count waits) (same_Some (poll_reply s.count waits) e.reply (ap (sem_reply s e.who) (sym op) ∙ replied (new_sem initial limit) h front e legal.0 at)) (poll-told s.count waits)
+    subst (PollIsTold s.count waits) (same_Some (poll_reply s.count waits) e.reply (ap (sem_reply s e.who) (sym op)
+    ∙ replied (new_sem initial limit) h front e legal.0 at)) (poll-told s.count waits)
 
-notified-so : (waiting : List (Waiter Unit)) (answer : SemReply) → said (give_notifies waiting) ≡ Some answer → (waiting ≡ []) × (answer ≡ Noted)
+notified-so : (waiting : List (Waiter Unit)) (answer : SemReply) → said (give_notifies waiting) ≡ Some answer →
+    (waiting ≡ []) × (answer ≡ Noted)
 notified-so [] answer is = (refl, sym (same_Some Noted answer is))
 notified-so (w ∷ ws) answer is = absurd (cc)
 
-noted-so : (s : Sem) (e : Entry SemOp SemReply) (own : SemOp) (reply answer : SemReply) → e.op ≡ own → said (poll_decides s own reply) ≡ Some answer → IsChance s e × (answer ≡ Noted)
+noted-so : (s : Sem) (e : Entry SemOp SemReply) (own : SemOp) (reply answer : SemReply) → e.op ≡ own →
+    said (poll_decides s own reply) ≡ Some answer → IsChance s e × (answer ≡ Noted)
 noted-so s e ops.Give reply answer same is =
     let so = notified-so s.takers.waiting answer is in
     (record { give = same; nobody = so.0 }, so.1)
@@ -99,7 +121,8 @@ noted-so s e own reply answer same is = absurd (cc)
 pub noted_at_a_chance : OfEachSem NotedAtAChance
 noted_at_a_chance initial limit low h legal front e d at decides =
     let s = new_sem initial limit in
-    noted-so (sem_after_all s front) e e.op e.reply d.answer refl (decides-said sem_machine pollers has_pollers s h legal.0 front e d at decides)
+    noted-so (sem_after_all s front) e e.op e.reply d.answer refl
+    (decides-said sem_machine pollers has_pollers s h legal.0 front e d at decides)
 
 given-notes : (waiting : List (Waiter Unit)) (s : Sem) → waiting ≡ [] → NotesOne s.pollers (give_to waiting s).pollers
 given-notes [] s none = one-noted Noted s.pollers.waiting s.pollers.decided

@@ -16,9 +16,11 @@ use Rattle.zk_model_wait.specs.SignalLaws.{SignalHistory, OfEachSignal, signal_a
 use Rattle.zk_model_wait.proofs.Writes.{value-write}
 
 -- the writes after a history are those before it, and then its own
-writes-all : (s : Signal) (h : SignalHistory) → (state_after signal_machine s h).writes ≡ s.writes ++ map (λ (e : Entry SignalOp SignalReply). e.op) h
+writes-all : (s : Signal) (h : SignalHistory) →
+    (state_after signal_machine s h).writes ≡ s.writes ++ map (λ (e : Entry SignalOp SignalReply). e.op) h
 writes-all s [] = sym (append-nil s.writes)
-writes-all s (e ∷ es) = writes-all (signal_next s e.who e.op) es ∙ append_assoc s.writes (e.op ∷ []) (map (λ (f : Entry SignalOp SignalReply). f.op) es)
+writes-all s (e ∷ es) = writes-all (signal_next s e.who e.op) es
+    ∙ append_assoc s.writes (e.op ∷ []) (map (λ (f : Entry SignalOp SignalReply). f.op) es)
 
 counted : (h : SignalHistory) → length (map (λ (e : Entry SignalOp SignalReply). e.op) h) ≡ length h
 counted [] = refl
@@ -28,8 +30,10 @@ counted (e ∷ es) = let rest = counted es in omega arith
 count-all : (h : SignalHistory) → length (signal_after_all h).writes ≡ length h
 count-all h = ap length (writes-all new_signal h) ∙ counted h
 
-replied : (h front : SignalHistory) (e : Entry SignalOp SignalReply) → Replays signal_machine new_signal h → IsEntry h front e → signal_reply (signal_after_all front) e.who e.op ≡ Some e.reply
-replied h front e replays at = (Replays-rest signal_machine new_signal front (e ∷ at.rest) (subst (Replays signal_machine new_signal) at.whole replays)).0
+replied : (h front : SignalHistory) (e : Entry SignalOp SignalReply) → Replays signal_machine new_signal h →
+    IsEntry h front e → signal_reply (signal_after_all front) e.who e.op ≡ Some e.reply
+replied h front e replays at =
+    (Replays-rest signal_machine new_signal front (e ∷ at.rest) (subst (Replays signal_machine new_signal) at.whole replays)).0
 
 pub stamp_is_its_number : OfEachSignal StampIsItsNumber
 stamp_is_its_number h legal front e at =
@@ -37,14 +41,18 @@ stamp_is_its_number h legal front e at =
     ∙ ap (λ (n : ℕ). Stamp (n + 1)) (count-all front)
 
 -- the write of an entry stands at the place of the entry
-write-there : (h front : SignalHistory) (e : Entry SignalOp SignalReply) → IsEntry h front e → slice_get (signal_after_all h).writes (length front) ≡ Some e.op
+write-there : (h front : SignalHistory) (e : Entry SignalOp SignalReply) → IsEntry h front e →
+    slice_get (signal_after_all h).writes (length front) ≡ Some e.op
 write-there h front e at =
     let s = signal_after_all front in
     let rest : List SignalOp = map (λ (f : Entry SignalOp SignalReply). f.op) at.rest in
     let whole : (signal_after_all h).writes ≡ s.writes ++ e.op ∷ rest =
-    ap (λ (l : SignalHistory). (signal_after_all l).writes) at.whole ∙ ap (λ (t : Signal). t.writes) (state_after-append signal_machine new_signal front (e ∷ at.rest)) ∙ writes-all s (e ∷ at.rest) in
+    ap (λ (l : SignalHistory). (signal_after_all l).writes) at.whole
+    ∙ ap (λ (t : Signal). t.writes) (state_after-append signal_machine new_signal front (e ∷ at.rest))
+    ∙ writes-all s (e ∷ at.rest) in
     let long = count-all front in
-    ap (λ (l : List SignalOp). slice_get l (length front)) whole ∙ slice_get-append_right s.writes (e.op ∷ rest) (length front) 0 (omega arith)
+    ap (λ (l : List SignalOp). slice_get l (length front)) whole
+    ∙ slice_get-append_right s.writes (e.op ∷ rest) (length front) 0 (omega arith)
 
 tells-write : (op own : SignalOp) (stamp : ℕ) (seen : Seen) → op ≡ own → seen ≡ written stamp own → TellsWrite op stamp seen
 tells-write op own stamp seen same is = record {
@@ -55,8 +63,10 @@ tells-write op own stamp seen same is = record {
 pub look_tells_its_write : OfEachSignal LookTellsItsWrite
 look_tells_its_write h legal front e at =
     let one : suc (length front) ≡ length front + 1 = omega arith in
-    let is : value_at (signal_after_all h).writes (suc (length front)) ≡ written (suc (length front)) e.op = value-write (signal_after_all h).writes (length front) e.op (write-there h front e at) in
-    subst (λ (n : ℕ). TellsWrite e.op n (value_at (signal_after_all h).writes n)) one (tells-write e.op e.op (suc (length front)) (value_at (signal_after_all h).writes (suc (length front))) refl is)
+    let is : value_at (signal_after_all h).writes (suc (length front)) ≡ written (suc (length front)) e.op =
+    value-write (signal_after_all h).writes (length front) e.op (write-there h front e at) in
+    subst (λ (n : ℕ). TellsWrite e.op n (value_at (signal_after_all h).writes n)) one
+    (tells-write e.op e.op (suc (length front)) (value_at (signal_after_all h).writes (suc (length front))) refl is)
 
 pub look_before_any_write : OfEachSignal LookBeforeAnyWriteIsClear
 look_before_any_write h legal = refl

@@ -19,7 +19,8 @@ time-next c who (ops.Announce ticks) = refl
 time-next c who (ops.Alarm ticks) = omega arith
 time-next c who (ops.AlarmEnd moment) = omega arith
 
-time-state : (c : Clock) (h : ClockHistory) → (state_after clock_machine c h).time ≡ c.time + sum_by (λ (e : Entry ClockOp ClockReply). ticks_of e.op) h
+time-state : (c : Clock) (h : ClockHistory) →
+    (state_after clock_machine c h).time ≡ c.time + sum_by (λ (e : Entry ClockOp ClockReply). ticks_of e.op) h
 time-state c [] = omega arith
 time-state c (e ∷ es) =
     let here = time-next c e.who e.op in
@@ -31,7 +32,8 @@ time_is_all_ticks h = let all = time-state new_clock h in omega arith
 
 pub time_never_falls : (h : ClockHistory) → TimeNeverFalls h
 time_never_falls h front rest parts =
-    let both : time_after h ≡ (state_after clock_machine (clock_after front) rest).time = ap time_after parts ∙ ap (λ (c : Clock). c.time) (state_after-append clock_machine new_clock front rest) in
+    let both : time_after h ≡ (state_after clock_machine (clock_after front) rest).time =
+    ap time_after parts ∙ ap (λ (c : Clock). c.time) (state_after-append clock_machine new_clock front rest) in
     let later = time-state (clock_after front) rest in
     omega arith
 
@@ -41,13 +43,17 @@ may_always h who (ops.Alarm ticks) never = (_, refl)
 may_always h who (ops.AlarmEnd moment) never = absurd (cc)
 
 -- what an entry of a history is answered
-pub replied : (h front rest : ClockHistory) (e : Entry ClockOp ClockReply) → IsClockHistory h → h ≡ front ++ e ∷ rest → clock_reply (clock_after front) e.who e.op ≡ Some e.reply
-replied h front rest e legal parts = (Replays-rest clock_machine new_clock front (e ∷ rest) (subst (Replays clock_machine new_clock) parts legal.0)).0
+pub replied : (h front rest : ClockHistory) (e : Entry ClockOp ClockReply) → IsClockHistory h → h ≡ front ++ e ∷ rest →
+    clock_reply (clock_after front) e.who e.op ≡ Some e.reply
+replied h front rest e legal parts =
+    (Replays-rest clock_machine new_clock front (e ∷ rest) (subst (Replays clock_machine new_clock) parts legal.0)).0
 
 pub announce_tells_the_time : OfEach AnnounceTellsTheTime
 announce_tells_the_time h legal front rest e ticks parts op =
-    sym (same_Some (Now (time_after front + ticks)) e.reply (ap (clock_reply (clock_after front) e.who) (sym op) ∙ replied h front rest e legal parts))
+    sym (same_Some (Now (time_after front + ticks)) e.reply (ap (clock_reply (clock_after front) e.who) (sym op)
+    ∙ replied h front rest e legal parts))
 
 pub alarm_tells_its_moment : OfEach AlarmTellsItsMoment
 alarm_tells_its_moment h legal front rest e ticks parts op =
-    sym (same_Some (At (time_after front + ticks)) e.reply (ap (clock_reply (clock_after front) e.who) (sym op) ∙ replied h front rest e legal parts))
+    sym (same_Some (At (time_after front + ticks)) e.reply (ap (clock_reply (clock_after front) e.who) (sym op)
+    ∙ replied h front rest e legal parts))

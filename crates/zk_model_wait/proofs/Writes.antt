@@ -26,7 +26,8 @@ value-write writes k write is = ap (written_by (suc k)) is
 pub seen-next : (s : Signal) (who : Who) (op : SignalOp) →
     signal_seen (signal_next s who op) ≡ written (length s.writes + 1) op
 seen-next s who op =
-    let long : length (s.writes ++ op ∷ []) ≡ suc (length s.writes) = let both = length-append s.writes (op ∷ []) in omega arith in
+    let long : length (s.writes ++ op ∷ []) ≡ suc (length s.writes) =
+    let both = length-append s.writes (op ∷ []) in omega arith in
     let one : suc (length s.writes) ≡ length s.writes + 1 = omega arith in
     ap (value_at (s.writes ++ op ∷ [])) long
     ∙ value-write (s.writes ++ op ∷ []) (length s.writes) op (slice_get-last s.writes op (length s.writes) refl)

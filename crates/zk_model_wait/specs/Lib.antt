@@ -1,14 +1,11 @@
 pub mod Clock
 pub mod ClockLaws
-pub mod ClockOwed
 pub mod Msgq
 pub mod MsgqLaws
-pub mod MsgqOwed
 pub mod MsgqWaits
 pub mod Polls
 pub mod Sem
 pub mod SemLaws
-pub mod SemOwed
 pub mod SemWaits
 pub mod Signal
 pub mod SignalLaws

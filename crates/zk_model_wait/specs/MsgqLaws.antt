@@ -7,7 +7,7 @@ use Rattle.zk_base.specs.declared.waits.Decision.{Decision}
 use Rattle.zk_base.specs.History.{IsEntry}
 use Rattle.zk_base.specs.Legal.{state_after, IsLegal}
 use Rattle.zk_base.specs.Waits.{Waits}
-use Rattle.zk_base.specs.WaitLaws.{decided_at, IsDecidedBy, KeepsWaits}
+use Rattle.zk_base.specs.WaitLaws.{handed_by, IsDecidedBy, KeepsWaits}
 use Rattle.zk_model_wait.specs.declared.msgq.MsgqOp.{MsgqOp}
 use Rattle.zk_model_wait.specs.declared.msgq.MsgqOp.TheVariants as ops
 use Rattle.zk_model_wait.specs.declared.msgq.MsgqReply.{MsgqReply}
@@ -33,11 +33,6 @@ abbrev pub message_of : MsgqReply → List (List ℕ)
 message_of (Bytes message) = message ∷ []
 message_of reply = []
 
--- the messages that gets are handed: of these decisions, those whose wait wasn't decided before
-abbrev pub handed_by : Waits Unit MsgqReply → List (Decision MsgqReply) → List (List ℕ)
-handed_by before [] = []
-handed_by before (d ∷ ds) = (if decided_at d.place before == 0 then message_of d.answer else []) ++ handed_by before ds
-
 -- the reply says that it is done
 abbrev pub is_done : MsgqReply → Bool
 is_done Done = true
@@ -61,7 +56,7 @@ accepted before after op reply = []
 -- the messages that leave by an entry: the one that is got, those that gets are handed by a put, and all that are discarded
 abbrev pub leaving : Msgq → Msgq → MsgqOp → MsgqReply → List (List ℕ)
 leaving before after (ops.Get waits) reply = message_of reply
-leaving before after (ops.Put message waits) reply = handed_by before.gets after.gets.decided
+leaving before after (ops.Put message waits) reply = handed_by message_of before.gets after.gets.decided
 leaving before after ops.Purge reply = before.messages
 leaving before after op reply = []
 

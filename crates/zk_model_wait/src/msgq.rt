@@ -236,27 +236,11 @@ impl MsgqStore {
         ensures room { self.old.room ≤ self.new.room + 1 }
         ensures kept { AddsNone result → self.old.room ≤ self.new.room }
     {
-        let Some(message) = self.ring.pop_front() else {
-            return self.get_at_none(who, waits);
-        };
-        self.move_in();
-        self.entries += 1;
-        Ok(Some(MsgqReply::Bytes(message)))
-    }
-
-    /// A get where there is no message.
-    fn get_at_none(&mut self, who: Who, waits: bool) -> Result<Option<MsgqReply>, NoMemory>
-        requires few { self.old.msgq.entries < 2 ^ 32 - 1 }
-        requires none { self.old.msgq.messages ≡ [] }
-        ensures reply { IfOk result (λ reply. reply ≡ msgq_reply self.old.msgq who (MsgqOp.Get waits)) }
-        ensures next { IfOk result (λ reply.
-            self.new.msgq ≡ msgq_after self.old.msgq who (MsgqOp.Get waits) reply) }
-        ensures unchanged { OnErr result (self.new.msgq ≡ self.old.msgq) }
-        ensures memory { waits ≡ false → IsOk result }
-        ensures roomy { 1 ≤ self.old.room → IsOk result }
-        ensures room { self.old.room ≤ self.new.room + 1 }
-        ensures kept { AddsNone result → self.old.room ≤ self.new.room }
-    {
+        if let Some(message) = self.ring.pop_front() {
+            self.move_in();
+            self.entries += 1;
+            return Ok(Some(MsgqReply::Bytes(message)));
+        }
         let mut reply = MsgqReply::NoMsg;
         if waits {
             self.gets.join(Waiter {
@@ -433,7 +417,6 @@ impl Store for MsgqStore {
     type State = MsgqState;
 
     ghost use Rattle.zk_model_wait.specs.Msgq.{open_calls, msgq_closes, msgq_machine};
-    ghost use Rattle.zk_model_wait.specs.MsgqOwed.{counts, ranges, adds, gives};
 
     ghost state = { λ s. s.msgq };
 
@@ -480,11 +463,5 @@ impl Store for MsgqStore {
             .min(self.pollers.room())
     }
 
-    ghost counts = { counts };
-
-    ghost ranges = { ranges };
-
-    ghost adds = { adds };
-
-    ghost gives = { gives };
+    fn counts_entries() {}
 }

@@ -29,16 +29,20 @@ use Rattle.zk_model_work.proofs.Overlaps.{position-none}
 -- in every state each live arm is ahead of the time, and an item has one at most
 record ArmsKeep (arms : List Arm) (time : ℕ) : Type 0 where
   pub ahead : (n : ℕ) (a : Arm) → slice_get arms n ≡ Some a → is_live a.fate ≡ true → time < a.deadline
-  pub one : (m n : ℕ) (a b : Arm) → slice_get arms m ≡ Some a → slice_get arms n ≡ Some b → a.item ≡ b.item → is_live a.fate ≡ true → is_live b.fate ≡ true → m ≡ n
+  pub one : (m n : ℕ) (a b : Arm) → slice_get arms m ≡ Some a → slice_get arms n ≡ Some b → a.item ≡ b.item →
+      is_live a.fate ≡ true → is_live b.fate ≡ true → m ≡ n
 
 -- a change after which fewer are live
-fewer : (xs ys : List Arm) (time later : ℕ) → ((n : ℕ) (b : Arm) → slice_get ys n ≡ Some b → is_live b.fate ≡ true → (slice_get xs n ≡ Some b) × (later < b.deadline)) → ArmsKeep xs time → ArmsKeep ys later
+fewer : (xs ys : List Arm) (time later : ℕ) → ((n : ℕ) (b : Arm) → slice_get ys n ≡ Some b → is_live b.fate ≡ true →
+    (slice_get xs n ≡ Some b) × (later < b.deadline)) → ArmsKeep xs time → ArmsKeep ys later
 fewer xs ys time later each keep = record {
   ahead = λ n a at live. (each n a at live).1;
-  one = λ m n a b at there same live_a live_b. keep.one m n a b (each m a at live_a).0 (each n b there live_b).0 same live_a live_b;
+  one = λ m n a b at there same live_a live_b. keep.one m n a b (each m a at live_a).0 (each n b there live_b).0 same
+      live_a live_b;
 }
 
-mapped : (f : Arm → Arm) (xs : List Arm) (n : ℕ) (b : Arm) → slice_get (map f xs) n ≡ Some b → (a : Arm) × (slice_get xs n ≡ Some a) × (f a ≡ b)
+mapped : (f : Arm → Arm) (xs : List Arm) (n : ℕ) (b : Arm) → slice_get (map f xs) n ≡ Some b →
+    (a : Arm) × (slice_get xs n ≡ Some a) × (f a ≡ b)
 mapped f xs n b at = by (slice_get xs n) refl (sym (slice_get-map f xs n) ∙ at) where
   by : (o : Option Arm) → slice_get xs n ≡ o → option_map f o ≡ Some b → (a : Arm) × (slice_get xs n ≡ Some a) × (f a ≡ b)
   by None there is = absurd (cc)
@@ -47,11 +51,13 @@ mapped f xs n b at = by (slice_get xs n) refl (sym (slice_get-map f xs n) ∙ at
 -- what is live after a disarming was so before, and isn't of the item
 disarmed : (item : ℕ) (a : Arm) → is_live (disarm_one item a).fate ≡ true → (disarm_one item a ≡ a) × (arms_item item a ≡ false)
 disarmed item a = by (arms_item item a) refl where
-  by : (b : Bool) → arms_item item a ≡ b → is_live (cond b (record a { fate = Disarmed }) a).fate ≡ true → (cond b (record a { fate = Disarmed }) a ≡ a) × (arms_item item a ≡ false)
+  by : (b : Bool) → arms_item item a ≡ b → is_live (cond b (record a { fate = Disarmed }) a).fate ≡ true →
+      (cond b (record a { fate = Disarmed }) a ≡ a) × (arms_item item a ≡ false)
   by true is live = absurd (cc)
   by false is live = (refl, is)
 
-still-armed : (xs : List Arm) (item n : ℕ) (b : Arm) → slice_get (disarm xs item) n ≡ Some b → is_live b.fate ≡ true → (slice_get xs n ≡ Some b) × (arms_item item b ≡ false)
+still-armed : (xs : List Arm) (item n : ℕ) (b : Arm) → slice_get (disarm xs item) n ≡ Some b → is_live b.fate ≡ true →
+    (slice_get xs n ≡ Some b) × (arms_item item b ≡ false)
 still-armed xs item n b at live =
     let was = mapped (disarm_one item) xs n b at in
     let is = disarmed item was.0 (ap (λ (a : Arm). is_live a.fate) was.2 ∙ live) in
@@ -60,7 +66,8 @@ still-armed xs item n b at live =
 
 keep-disarm : (xs : List Arm) (time item : ℕ) → ArmsKeep xs time → ArmsKeep (disarm xs item) time
 keep-disarm xs time item keep =
-    fewer xs (disarm xs item) time time (λ n b at live. let was = still-armed xs item n b at live in (was.0, keep.ahead n b was.0 live)) keep
+    fewer xs (disarm xs item) time time (λ n b at live. let was = still-armed xs item n b at live in
+    (was.0, keep.ahead n b was.0 live)) keep
 
 -- what is live after an announce is still ahead
 ahead_of : (time deadline : ℕ) → leb deadline time ≡ false → time < deadline
@@ -71,7 +78,8 @@ not_ahead time deadline is = grind (arith, nat_tests)
 
 unexpired : (time : ℕ) (a : Arm) → is_live (expire_one time a).fate ≡ true → (expire_one time a ≡ a) × (time < a.deadline)
 unexpired time a = by (is_due time a) refl where
-  by : (b : Bool) → is_due time a ≡ b → is_live (cond b (record a { fate = Expired }) a).fate ≡ true → (cond b (record a { fate = Expired }) a ≡ a) × (time < a.deadline)
+  by : (b : Bool) → is_due time a ≡ b → is_live (cond b (record a { fate = Expired }) a).fate ≡ true →
+      (cond b (record a { fate = Expired }) a ≡ a) × (time < a.deadline)
   by true is live = absurd (cc)
   by false is live = (refl, ahead_of time a.deadline (and_second (is_live a.fate) (leb a.deadline time) live is))
 
@@ -91,24 +99,32 @@ abbrev pub Unarmed : ℕ → List Arm → Type 0
 Unarmed item xs = (n : ℕ) (a : Arm) → slice_get xs n ≡ Some a → arms_item item a ≡ false
 
 other_item : (item : ℕ) (a : Arm) → arms_item item a ≡ false → is_live a.fate ≡ true → a.item ≡ item → ⊥
-other_item item a none live same = false≢true (sym (and_second (eqb a.item item) (is_live a.fate) (eq-eqb a.item item same) none) ∙ live)
+other_item item a none live same =
+    false≢true (sym (and_second (eqb a.item item) (is_live a.fate) (eq-eqb a.item item same) none) ∙ live)
 
-keep-arm : (xs : List Arm) (time item queue deadline : ℕ) → Unarmed item xs → time < deadline → ArmsKeep xs time → ArmsKeep (arm xs item queue deadline) time
+keep-arm : (xs : List Arm) (time item queue deadline : ℕ) → Unarmed item xs → time < deadline → ArmsKeep xs time →
+    ArmsKeep (arm xs item queue deadline) time
 keep-arm xs time item queue deadline none later keep = record {
   ahead = λ n a at live. first_of a live (pushed xs (new) n a at) (λ old. keep.ahead n a old live);
-  one = λ m n a b at there same live_a live_b. both m n a b same live_a live_b (pushed xs (new) m a at) (pushed xs (new) n b there);
+  one = λ m n a b at there same live_a live_b. both m n a b same live_a live_b (pushed xs (new) m a at)
+      (pushed xs (new) n b there);
 } where
   new : Arm
   new = record { item = item; queue = queue; deadline = deadline; fate = Live }
 
-  first_of : {n : ℕ} (a : Arm) → is_live a.fate ≡ true → (slice_get xs n ≡ Some a) ⊎ ((n ≡ length xs) × (new ≡ a)) → (slice_get xs n ≡ Some a → time < a.deadline) → time < a.deadline
+  first_of : {n : ℕ} (a : Arm) → is_live a.fate ≡ true → (slice_get xs n ≡ Some a) ⊎ ((n ≡ length xs) × (new ≡ a)) →
+      (slice_get xs n ≡ Some a → time < a.deadline) → time < a.deadline
   first_of a live (inl old) ahead = ahead old
   first_of a live (inr is) ahead = subst (λ (b : Arm). time < b.deadline) is.1 later
 
-  both : (m n : ℕ) (a b : Arm) → a.item ≡ b.item → is_live a.fate ≡ true → is_live b.fate ≡ true → (slice_get xs m ≡ Some a) ⊎ ((m ≡ length xs) × (new ≡ a)) → (slice_get xs n ≡ Some b) ⊎ ((n ≡ length xs) × (new ≡ b)) → m ≡ n
+  both : (m n : ℕ) (a b : Arm) → a.item ≡ b.item → is_live a.fate ≡ true → is_live b.fate ≡ true →
+      (slice_get xs m ≡ Some a) ⊎ ((m ≡ length xs) × (new ≡ a)) →
+      (slice_get xs n ≡ Some b) ⊎ ((n ≡ length xs) × (new ≡ b)) → m ≡ n
   both m n a b same live_a live_b (inl old) (inl older) = keep.one m n a b old older same live_a live_b
-  both m n a b same live_a live_b (inl old) (inr is) = absurd (other_item item a (none m a old) live_a (same ∙ ap (λ (c : Arm). c.item) (sym is.1)))
-  both m n a b same live_a live_b (inr is) (inl old) = absurd (other_item item b (none n b old) live_b (sym same ∙ ap (λ (c : Arm). c.item) (sym is.1)))
+  both m n a b same live_a live_b (inl old) (inr is) =
+      absurd (other_item item a (none m a old) live_a (same ∙ ap (λ (c : Arm). c.item) (sym is.1)))
+  both m n a b same live_a live_b (inr is) (inl old) =
+      absurd (other_item item b (none n b old) live_b (sym same ∙ ap (λ (c : Arm). c.item) (sym is.1)))
   both m n a b same live_a live_b (inr is) (inr too) = is.0 ∙ sym too.0
 
 positive : (time delay : ℕ) → eqb delay 0 ≡ false → time < time + delay
@@ -120,75 +136,96 @@ unarmed-disarm xs item n b at = by (arms_item item b) refl where
   by true is = absurd (false≢true (sym (still-armed xs item n b at (second_so (eqb b.item item) (is_live b.fate) is)).1 ∙ is))
   by false is = is
 
-ArmsKeep-next : (s : State) (who : Who) (op : WorkOp) → ArmsKeep s.arms s.time → ArmsKeep (work_next s who op).arms (work_next s who op).time
+ArmsKeep-next : (s : State) (who : Who) (op : WorkOp) → ArmsKeep s.arms s.time →
+    ArmsKeep (work_next s who op).arms (work_next s who op).time
 ArmsKeep-next s who op keep =
     arms-next ArmsKeep s who op
     (λ item just. keep-disarm s.arms s.time item keep)
-    (λ item queue delay others none later. keep-arm s.arms s.time item queue (s.time + delay) (λ n a at. position-none (arms_item item) s.arms n a none at) (positive s.time delay later) keep)
-    (λ item queue delay just later. keep-arm (disarm s.arms item) s.time item queue (s.time + delay) (unarmed-disarm s.arms item) (positive s.time delay later) (keep-disarm s.arms s.time item keep))
+    (λ item queue delay others none later. keep-arm s.arms s.time item queue (s.time + delay)
+    (λ n a at. position-none (arms_item item) s.arms n a none at) (positive s.time delay later) keep)
+    (λ item queue delay just later. keep-arm (disarm s.arms item) s.time item queue (s.time + delay)
+    (unarmed-disarm s.arms item) (positive s.time delay later) (keep-disarm s.arms s.time item keep))
     (λ ticks is. keep-expire s.arms s.time (s.time + ticks) keep)
     (λ others. keep)
 
-ArmsKeep-after : (s : State) (h : List (Entry WorkOp WorkReply)) → ArmsKeep s.arms s.time → ArmsKeep (state_after work_machine s h).arms (state_after work_machine s h).time
+ArmsKeep-after : (s : State) (h : List (Entry WorkOp WorkReply)) → ArmsKeep s.arms s.time →
+    ArmsKeep (state_after work_machine s h).arms (state_after work_machine s h).time
 ArmsKeep-after s [] keep = keep
 ArmsKeep-after s (e ∷ es) keep = ArmsKeep-after (work_next s e.who e.op) es (ArmsKeep-next s e.who e.op keep)
 
-ArmsKeep-history : (start : State) (h : List (Entry WorkOp WorkReply)) → IsFreshHistory start h → ArmsKeep (state_after work_machine start h).arms (state_after work_machine start h).time
-ArmsKeep-history start h fresh = ArmsKeep-after start h (subst (λ (xs : List Arm). ArmsKeep xs start.time) (sym fresh.arms) (record { ahead = λ n a at live. absurd (cc); one = λ m n a b at there same live_a live_b. absurd (cc) }))
+ArmsKeep-history : (start : State) (h : List (Entry WorkOp WorkReply)) → IsFreshHistory start h →
+    ArmsKeep (state_after work_machine start h).arms (state_after work_machine start h).time
+ArmsKeep-history start h fresh =
+    ArmsKeep-after start h (subst (λ (xs : List Arm). ArmsKeep xs start.time) (sym fresh.arms)
+    (record { ahead = λ n a at live. absurd (cc); one = λ m n a b at there same live_a live_b. absurd (cc) }))
 
 pub live_ahead : OfEach LiveAhead
 live_ahead start h fresh place a at live = (ArmsKeep-history start h fresh).ahead place a at (ap is_live live)
 
 pub one_live_arm : OfEach OneLiveArm
-one_live_arm start h fresh place other a b at there same live_a live_b = (ArmsKeep-history start h fresh).one place other a b at there same (ap is_live live_a) (ap is_live live_b)
+one_live_arm start h fresh place other a b at there same live_a live_b =
+    (ArmsKeep-history start h fresh).one place other a b at there same (ap is_live live_a) (ap is_live live_b)
 
 -- what isn't live any more stays as it is
 over-disarm : (item : ℕ) (a : Arm) → is_live a.fate ≡ false → disarm_one item a ≡ a
-over-disarm item a over = ap (λ b. cond b (record a { fate = Disarmed }) a) (neither (eqb a.item item) (is_live a.fate) over) where
-  neither : (b c : Bool) → c ≡ false → (b && c) ≡ false
-  neither true c is = is
-  neither false c is = refl
+over-disarm item a over =
+    ap (λ b. cond b (record a { fate = Disarmed }) a) (neither (eqb a.item item) (is_live a.fate) over) where
+      neither : (b c : Bool) → c ≡ false → (b && c) ≡ false
+      neither true c is = is
+      neither false c is = refl
 
 over-expire : (time : ℕ) (a : Arm) → is_live a.fate ≡ false → expire_one time a ≡ a
 over-expire time a over = ap (λ b. cond (b && leb a.deadline time) (record a { fate = Expired }) a) over
 
-fate-next : (s : State) (who : Who) (op : WorkOp) (n : ℕ) (a : Arm) → is_live a.fate ≡ false → slice_get s.arms n ≡ Some a → slice_get (work_next s who op).arms n ≡ Some a
+fate-next : (s : State) (who : Who) (op : WorkOp) (n : ℕ) (a : Arm) → is_live a.fate ≡ false →
+    slice_get s.arms n ≡ Some a → slice_get (work_next s who op).arms n ≡ Some a
 fate-next s who op n a over at =
     arms-next (λ ys time. slice_get ys n ≡ Some a) s who op
     (λ item just. still-map (disarm_one item) s.arms n a (over-disarm item a over) at)
     (λ item queue delay others none later. still-push s.arms (live_arm_of item queue (s.time + delay)) n a at)
-    (λ item queue delay just later. still-push (disarm s.arms item) (live_arm_of item queue (s.time + delay)) n a (still-map (disarm_one item) s.arms n a (over-disarm item a over) at))
+    (λ item queue delay just later. still-push (disarm s.arms item) (live_arm_of item queue (s.time + delay)) n a
+    (still-map (disarm_one item) s.arms n a (over-disarm item a over) at))
     (λ ticks is. still-map (expire_one (s.time + ticks)) s.arms n a (over-expire (s.time + ticks) a over) at)
     (λ others. at)
 
-fate-after : (s : State) (h : List (Entry WorkOp WorkReply)) (n : ℕ) (a : Arm) → is_live a.fate ≡ false → slice_get s.arms n ≡ Some a → slice_get (state_after work_machine s h).arms n ≡ Some a
+fate-after : (s : State) (h : List (Entry WorkOp WorkReply)) (n : ℕ) (a : Arm) → is_live a.fate ≡ false →
+    slice_get s.arms n ≡ Some a → slice_get (state_after work_machine s h).arms n ≡ Some a
 fate-after s [] n a over at = at
 fate-after s (e ∷ es) n a over at = fate-after (work_next s e.who e.op) es n a over (fate-next s e.who e.op n a over at)
 
 pub fate_stays : OfEach FateStays
 fate_stays start h fresh front rest place a parts at over =
-    ap (λ (l : List (Entry WorkOp WorkReply)). arm_after start l place) parts ∙ ap (λ (s : State). slice_get s.arms place) (state_after-append work_machine start front rest) ∙ fate-after (state_after work_machine start front) rest place a over at
+    ap (λ (l : List (Entry WorkOp WorkReply)). arm_after start l place) parts
+    ∙ ap (λ (s : State). slice_get s.arms place) (state_after-append work_machine start front rest)
+    ∙ fate-after (state_after work_machine start front) rest place a over at
 
 -- a live arm after a disarming of an item, and after an announce
-live-disarm : (xs : List Arm) (op : WorkOp) (item n : ℕ) (a : Arm) → DisarmsJust item op → is_live a.fate ≡ true → slice_get xs n ≡ Some a → slice_get (disarm xs item) n ≡ Some (cond (disarms a.item op) (record a { fate = Disarmed }) a)
+live-disarm : (xs : List Arm) (op : WorkOp) (item n : ℕ) (a : Arm) → DisarmsJust item op → is_live a.fate ≡ true →
+    slice_get xs n ≡ Some a → slice_get (disarm xs item) n ≡ Some (cond (disarms a.item op) (record a { fate = Disarmed }) a)
 live-disarm xs op item n a just live at =
-    slice_get-map (disarm_one item) xs n ∙ ap (option_map (disarm_one item)) at ∙ ap (λ b. Some (cond b (record a { fate = Disarmed }) a)) (and-live (eqb a.item item) (is_live a.fate) live ∙ sym (just a.item)) where
+    slice_get-map (disarm_one item) xs n ∙ ap (option_map (disarm_one item)) at
+    ∙ ap (λ b. Some (cond b (record a { fate = Disarmed }) a)) (and-live (eqb a.item item) (is_live a.fate) live
+    ∙ sym (just a.item)) where
       and-live : (b c : Bool) → c ≡ true → (b && c) ≡ b
       and-live true c is = is
       and-live false c is = refl
 
-live-expire : (xs : List Arm) (time n : ℕ) (a : Arm) → is_live a.fate ≡ true → slice_get xs n ≡ Some a → slice_get (expire xs time) n ≡ Some (cond (leb a.deadline time) (record a { fate = Expired }) a)
+live-expire : (xs : List Arm) (time n : ℕ) (a : Arm) → is_live a.fate ≡ true → slice_get xs n ≡ Some a →
+    slice_get (expire xs time) n ≡ Some (cond (leb a.deadline time) (record a { fate = Expired }) a)
 live-expire xs time n a live at =
-    slice_get-map (expire_one time) xs n ∙ ap (option_map (expire_one time)) at ∙ ap (λ b. Some (cond (b && leb a.deadline time) (record a { fate = Expired }) a)) live
+    slice_get-map (expire_one time) xs n ∙ ap (option_map (expire_one time)) at
+    ∙ ap (λ b. Some (cond (b && leb a.deadline time) (record a { fate = Expired }) a)) live
 
 -- at an operation that doesn't announce it is disarmed where that gives up its item's delay
-live-next : (s : State) (who : Who) (op : WorkOp) (n : ℕ) (a : Arm) → announces op ≡ false → is_live a.fate ≡ true → slice_get s.arms n ≡ Some a →
+live-next : (s : State) (who : Who) (op : WorkOp) (n : ℕ) (a : Arm) → announces op ≡ false → is_live a.fate ≡ true →
+    slice_get s.arms n ≡ Some a →
     slice_get (work_next s who op).arms n ≡ Some (cond (disarms a.item op) (record a { fate = Disarmed }) a)
 live-next s who op n a silent live at =
     arms-next (λ ys time. slice_get ys n ≡ Some after) s who op
     (λ item just. live-disarm s.arms op item n a just live at)
     (λ item queue delay others none later. still-push s.arms (live_arm_of item queue (s.time + delay)) n after (as_it_was others))
-    (λ item queue delay just later. still-push (disarm s.arms item) (live_arm_of item queue (s.time + delay)) n after (live-disarm s.arms op item n a just live at))
+    (λ item queue delay just later. still-push (disarm s.arms item) (live_arm_of item queue (s.time + delay)) n after
+    (live-disarm s.arms op item n a just live at))
     (λ ticks is. absurd (false≢true (sym silent ∙ ap announces is)))
     as_it_was where
       after : Arm
@@ -201,33 +238,45 @@ pub disarmed_when_given_up : OfEach DisarmedWhenGivenUp
 disarmed_when_given_up start h fresh = record {
   each = λ front rest e parts place a silent at live.
       let s = state_after work_machine start front in
-      ap (λ (u : State). slice_get u.arms place) (state_after-append work_machine start front (e ∷ [])) ∙ live-next s e.who e.op place a silent (ap is_live live) at;
+      ap (λ (u : State). slice_get u.arms place) (state_after-append work_machine start front (e ∷ []))
+      ∙ live-next s e.who e.op place a silent (ap is_live live) at;
 }
 
 pub expires_when_due : OfEach ExpiresWhenDue
 expires_when_due start h fresh = record {
   each = λ front rest e parts ticks place a op at live.
       let s = state_after work_machine start front in
-      let same : state_after work_machine start (front ++ e ∷ []) ≡ work_next s e.who (Announce ticks) = state_after-append work_machine start front (e ∷ []) ∙ ap (work_next s e.who) op in
-      subst (λ (u : State). slice_get u.arms place ≡ Some (cond (leb a.deadline u.time) (record a { fate = Expired }) a)) (sym same) (live-expire s.arms (s.time + ticks) place a (ap is_live live) at);
+      let same : state_after work_machine start (front ++ e ∷ []) ≡ work_next s e.who (Announce ticks) =
+      state_after-append work_machine start front (e ∷ []) ∙ ap (work_next s e.who) op in
+      subst (λ (u : State). slice_get u.arms place ≡ Some (cond (leb a.deadline u.time) (record a { fate = Expired }) a))
+      (sym same) (live-expire s.arms (s.time + ticks) place a (ap is_live live) at);
 }
 
 -- an announce tells the items of the arms that are due, in order
-pub told_items : (marks : List ℕ) (queues : List Queue) (arms : List Arm) (xs : List Admission) → map (λ (x : Expiry). x.item) (expiries marks queues arms xs) ≡ map (λ (a : Arm). a.item) arms
+pub told_items : (marks : List ℕ) (queues : List Queue) (arms : List Arm) (xs : List Admission) →
+    map (λ (x : Expiry). x.item) (expiries marks queues arms xs) ≡ map (λ (a : Arm). a.item) arms
 told_items marks queues [] xs = refl
 told_items marks queues (a ∷ arms) xs =
-    ap (λ (items : List ℕ). a.item ∷ items) (told_items marks queues arms (submit xs a.item (submission (item_of xs marks a.item) queues None (Some a.queue))))
+    ap (λ (items : List ℕ). a.item ∷ items)
+    (told_items marks queues arms (submit xs a.item (submission (item_of xs marks a.item) queues None (Some a.queue))))
 
 -- where an item isn't pending, a schedule is a reschedule
 same-map : (f : Arm → Arm) (xs : List Arm) → ((n : ℕ) (a : Arm) → slice_get xs n ≡ Some a → f a ≡ a) → map f xs ≡ xs
 same-map f [] same = refl
-same-map f (x ∷ xs) same = ap (λ (y : Arm). y ∷ map f xs) (same 0 x refl) ∙ ap (λ (ys : List Arm). x ∷ ys) (same-map f xs (λ n a at. same (suc n) a at))
+same-map f (x ∷ xs) same = ap (λ (y : Arm). y ∷ map f xs) (same 0 x refl)
+    ∙ ap (λ (ys : List Arm). x ∷ ys) (same-map f xs (λ n a at. same (suc n) a at))
 
 disarm-none : (xs : List Arm) (item : ℕ) → armed xs item ≡ None → disarm xs item ≡ xs
-disarm-none xs item none = same-map (disarm_one item) xs (λ n a at. ap (λ b. cond b (record a { fate = Disarmed }) a) (position-none (arms_item item) xs n a none at))
+disarm-none xs item none =
+    same-map (disarm_one item) xs
+    (λ n a at. ap (λ b. cond b (record a { fate = Disarmed }) a) (position-none (arms_item item) xs n a none at))
 
-pub schedule-free : (s : State) (who : Who) (item queue delay : ℕ) → is_pending_in s item ≡ false → work_next s who (Schedule item queue delay) ≡ work_next s who (Reschedule item queue delay)
+pub schedule-free : (s : State) (who : Who) (item queue delay : ℕ) → is_pending_in s item ≡ false →
+    work_next s who (Schedule item queue delay) ≡ work_next s who (Reschedule item queue delay)
 schedule-free s who item queue delay free =
-    let none = none_from_is_some (armed s.arms item) (unarmed (is_some (armed s.arms item)) (is_some (waiting s.admissions item)) (is_cancelling s.admissions s.marks item) free) in
+    let none = none_from_is_some (armed s.arms item)
+    (unarmed (is_some (armed s.arms item)) (is_some (waiting s.admissions item))
+    (is_cancelling s.admissions s.marks item) free) in
     ap (λ (t : State). record t { entries = s.entries + 1 })
-    (ap (λ b. cond b s (delayed s who item queue delay)) free ∙ ap (λ (arms : List Arm). delayed (record s { arms = arms }) who item queue delay) (sym (disarm-none s.arms item none)))
+    (ap (λ b. cond b s (delayed s who item queue delay)) free
+    ∙ ap (λ (arms : List Arm). delayed (record s { arms = arms }) who item queue delay) (sym (disarm-none s.arms item none)))

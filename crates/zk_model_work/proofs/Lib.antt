@@ -1,3 +1,4 @@
+pub mod AwaitedEnds
 pub mod Begins
 pub mod Cancels
 pub mod Counts

@@ -35,13 +35,16 @@ found-zero n long = grind (arith, nat_tests)
 found-all : (place long : ℕ) → found 0 place long ≡ cond (ltb place long) (Some place) None
 found-all place long = grind (arith, nat_tests)
 
-first_here : (b : Bool) (n place long : ℕ) (rest : List ℕ) → found (n + 1) place long ≡ first rest → found n (cond (not b) (1 + place) 0) (suc long) ≡ first (cond b (n ∷ rest) rest)
+first_here : (b : Bool) (n place long : ℕ) (rest : List ℕ) → found (n + 1) place long ≡ first rest →
+    found n (cond (not b) (1 + place) 0) (suc long) ≡ first (cond b (n ∷ rest) rest)
 first_here true n place long rest same = found-zero n long
 first_here false n place long rest same = found-suc n place long ∙ same
 
-first_from : {A : Type 0} (n : ℕ) (passes : A → Bool) (xs : List A) → found n (position_or_len passes xs) (length xs) ≡ first (places_from n passes xs)
+first_from : {A : Type 0} (n : ℕ) (passes : A → Bool) (xs : List A) →
+    found n (position_or_len passes xs) (length xs) ≡ first (places_from n passes xs)
 first_from n passes [] = refl
-first_from n passes (x ∷ xs) = first_here (passes x) n (position_or_len passes xs) (length xs) (places_from (n + 1) passes xs) (first_from (n + 1) passes xs)
+first_from n passes (x ∷ xs) = first_here (passes x) n (position_or_len passes xs) (length xs)
+    (places_from (n + 1) passes xs) (first_from (n + 1) passes xs)
 
 -- the first of the places that pass is where the search from the front ends
 pub first_of_places : {A : Type 0} (passes : A → Bool) (xs : List A) → position passes xs ≡ first (places passes xs)
@@ -80,58 +83,79 @@ find-some p xs n is = find_at p xs ∙ at (position_or_len p xs) is where
     by true is = ap (slice_get xs) (same_Some m n is)
     by false is = absurd (cc)
 
-pub find-there : {A : Type 0} (p : A → Bool) (xs : List A) (n : ℕ) (d : A) → position p xs ≡ Some n → find p xs ≡ Some (get_or xs n d)
+pub find-there : {A : Type 0} (p : A → Bool) (xs : List A) (n : ℕ) (d : A) → position p xs ≡ Some n →
+    find p xs ≡ Some (get_or xs n d)
 find-there p xs n d is = find-some p xs n is ∙ slice_get-get_or xs n d (position-Some p xs n d is).0
 
 -- the due arms with one more arm: it is put in where it is due
 due-more : (time : ℕ) (arms : List Arm) (n : ℕ) (d : Arm) (b : Bool) → n < length arms → b ≡ is_due time (get_or arms n d) →
-    due time (take (n + 1) arms) ≡ cond b (put_by (λ a. a.deadline) (get_or arms n d) (due time (take n arms))) (due time (take n arms))
+    due time (take (n + 1) arms) ≡ cond b (put_by (λ a. a.deadline) (get_or arms n d) (due time (take n arms)))
+    (due time (take n arms))
 due-more time arms n d b within is =
     let suc_is : n + 1 ≡ suc n = omega arith in
     ap (λ m. due time (take m arms)) suc_is ∙ ap (due time) (take-suc arms n d within)
     ∙ ap (by_key (λ (a : Arm). a.deadline)) (filter-append (is_due time) (take n arms) (get_or arms n d ∷ []))
-    ∙ ap (λ c. by_key (λ (a : Arm). a.deadline) (filter (is_due time) (take n arms) ++ cond c (get_or arms n d ∷ []) [])) (sym is) ∙ by b where
-      by : (b : Bool) → by_key (λ (a : Arm). a.deadline) (filter (is_due time) (take n arms) ++ cond b (get_or arms n d ∷ []) []) ≡
+    ∙ ap (λ c. by_key (λ (a : Arm). a.deadline) (filter (is_due time) (take n arms) ++ cond c (get_or arms n d ∷ []) []))
+    (sym is) ∙ by b where
+      by : (b : Bool) → by_key (λ (a : Arm). a.deadline)
+          (filter (is_due time) (take n arms) ++ cond b (get_or arms n d ∷ []) []) ≡
           cond b (put_by (λ a. a.deadline) (get_or arms n d) (due time (take n arms))) (due time (take n arms))
       by true = by_key-snoc (λ (a : Arm). a.deadline) (filter (is_due time) (take n arms)) (get_or arms n d)
       by false = ap (by_key (λ (a : Arm). a.deadline)) (append-nil (filter (is_due time) (take n arms)))
 
-pub due-put : (time : ℕ) (arms : List Arm) (n : ℕ) (d : Arm) (b : Bool) (found new : List Arm) → n < length arms → b ≡ is_due time (get_or arms n d) → b ≡ true → found ≡ due time (take n arms) →
+pub due-put : (time : ℕ) (arms : List Arm) (n : ℕ) (d : Arm) (b : Bool) (found new : List Arm) → n < length arms →
+    b ≡ is_due time (get_or arms n d) → b ≡ true → found ≡ due time (take n arms) →
     new ≡ put_by (λ a. a.deadline) (get_or arms n d) found → new ≡ due time (take (n + 1) arms)
 due-put time arms n d b found new within is so found_is new_is =
-    new_is ∙ ap (put_by (λ (a : Arm). a.deadline) (get_or arms n d)) found_is ∙ sym (due-more time arms n d true within (sym so ∙ is))
+    new_is ∙ ap (put_by (λ (a : Arm). a.deadline) (get_or arms n d)) found_is
+    ∙ sym (due-more time arms n d true within (sym so ∙ is))
 
-pub due-kept : (time : ℕ) (arms : List Arm) (n : ℕ) (d : Arm) (b : Bool) (found : List Arm) → n < length arms → b ≡ is_due time (get_or arms n d) → b ≡ false → found ≡ due time (take n arms) → found ≡ due time (take (n + 1) arms)
+pub due-kept : (time : ℕ) (arms : List Arm) (n : ℕ) (d : Arm) (b : Bool) (found : List Arm) → n < length arms →
+    b ≡ is_due time (get_or arms n d) → b ≡ false → found ≡ due time (take n arms) → found ≡ due time (take (n + 1) arms)
 due-kept time arms n d b found within is so found_is = found_is ∙ sym (due-more time arms n d false within (sym so ∙ is))
 
 -- the submission of one arm more
 submit_arms-snoc : (marks : List ℕ) (queues : List Queue) (caller : Option ℕ) (arms : List Arm) (a : Arm) (xs : List Admission) →
     submit_arms marks queues caller (arms ++ a ∷ []) xs
-    ≡ submit (submit_arms marks queues caller arms xs) a.item (submission (item_of (submit_arms marks queues caller arms xs) marks a.item) queues caller (Some a.queue))
+    ≡ submit (submit_arms marks queues caller arms xs) a.item
+    (submission (item_of (submit_arms marks queues caller arms xs) marks a.item) queues caller (Some a.queue))
 submit_arms-snoc marks queues caller [] a xs = refl
-submit_arms-snoc marks queues caller (b ∷ arms) a xs = submit_arms-snoc marks queues caller arms a (submit xs b.item (submission (item_of xs marks b.item) queues caller (Some b.queue)))
+submit_arms-snoc marks queues caller (b ∷ arms) a xs =
+    submit_arms-snoc marks queues caller arms a
+    (submit xs b.item (submission (item_of xs marks b.item) queues caller (Some b.queue)))
 
-pub submit_arms-more : (marks : List ℕ) (queues : List Queue) (caller : Option ℕ) (arms : List Arm) (n : ℕ) (d : Arm) (xs ys zs : List Admission) (answer : Submitted) → n < length arms →
-    ys ≡ submit_arms marks queues caller (take n arms) xs → answer ≡ submission (item_of ys marks (get_or arms n d).item) queues caller (Some (get_or arms n d).queue) → zs ≡ submit ys (get_or arms n d).item answer →
+pub submit_arms-more : (marks : List ℕ) (queues : List Queue) (caller : Option ℕ) (arms : List Arm) (n : ℕ) (d : Arm)
+    (xs ys zs : List Admission) (answer : Submitted) → n < length arms →
+    ys ≡ submit_arms marks queues caller (take n arms) xs →
+    answer ≡ submission (item_of ys marks (get_or arms n d).item) queues caller (Some (get_or arms n d).queue) →
+    zs ≡ submit ys (get_or arms n d).item answer →
     zs ≡ submit_arms marks queues caller (take (n + 1) arms) xs
 submit_arms-more marks queues caller arms n d xs ys zs answer within so_far answered new =
     let suc_is : n + 1 ≡ suc n = omega arith in
     let a = get_or arms n d in
-    new ∙ ap (submit ys a.item) answered ∙ ap (λ (l : List Admission). submit l a.item (submission (item_of l marks a.item) queues caller (Some a.queue))) so_far
-    ∙ sym (ap (λ m. submit_arms marks queues caller (take m arms) xs) suc_is ∙ ap (λ (l : List Arm). submit_arms marks queues caller l xs) (take-suc arms n d within)
+    new ∙ ap (submit ys a.item) answered
+    ∙ ap (λ (l : List Admission). submit l a.item (submission (item_of l marks a.item) queues caller (Some a.queue))) so_far
+    ∙ sym (ap (λ m. submit_arms marks queues caller (take m arms) xs) suc_is
+    ∙ ap (λ (l : List Arm). submit_arms marks queues caller l xs) (take-suc arms n d within)
     ∙ submit_arms-snoc marks queues caller (take n arms) a xs)
 
 -- and what it is answered
 expiries-snoc : (marks : List ℕ) (queues : List Queue) (arms : List Arm) (a : Arm) (xs : List Admission) →
     expiries marks queues (arms ++ a ∷ []) xs
-    ≡ expiries marks queues arms xs ++ record { item = a.item; submitted = submission (item_of (submit_arms marks queues None arms xs) marks a.item) queues None (Some a.queue) } ∷ []
+    ≡ expiries marks queues arms xs ++ record {
+      item = a.item;
+      submitted = submission (item_of (submit_arms marks queues None arms xs) marks a.item) queues None (Some a.queue);
+    } ∷ []
 expiries-snoc marks queues [] a xs = refl
 expiries-snoc marks queues (b ∷ arms) a xs =
     let answer = submission (item_of xs marks b.item) queues None (Some b.queue) in
-    ap (λ (l : List Expiry). record { item = b.item; submitted = answer } ∷ l) (expiries-snoc marks queues arms a (submit xs b.item answer))
+    ap (λ (l : List Expiry). record { item = b.item; submitted = answer } ∷ l)
+    (expiries-snoc marks queues arms a (submit xs b.item answer))
 
-pub expiries-more : (marks : List ℕ) (queues : List Queue) (arms : List Arm) (n : ℕ) (d : Arm) (xs ys : List Admission) (told new : List Expiry) (x : Expiry) → n < length arms →
-    ys ≡ submit_arms marks queues None (take n arms) xs → told ≡ expiries marks queues (take n arms) xs → x.submitted ≡ submission (item_of ys marks (get_or arms n d).item) queues None (Some (get_or arms n d).queue) →
+pub expiries-more : (marks : List ℕ) (queues : List Queue) (arms : List Arm) (n : ℕ) (d : Arm) (xs ys : List Admission)
+    (told new : List Expiry) (x : Expiry) → n < length arms →
+    ys ≡ submit_arms marks queues None (take n arms) xs → told ≡ expiries marks queues (take n arms) xs →
+    x.submitted ≡ submission (item_of ys marks (get_or arms n d).item) queues None (Some (get_or arms n d).queue) →
     x.item ≡ (get_or arms n d).item → new ≡ told ++ x ∷ [] → new ≡ expiries marks queues (take (n + 1) arms) xs
 expiries-more marks queues arms n d xs ys told new x within so_far told_is answered item_is new_is =
     let suc_is : n + 1 ≡ suc n = omega arith in
@@ -139,7 +163,10 @@ expiries-more marks queues arms n d xs ys told new x within so_far told_is answe
     let last = submission (item_of (submit_arms marks queues None (take n arms) xs) marks a.item) queues None (Some a.queue) in
     let both : x ≡ record { item = a.item; submitted = last } =
     ap (λ i. record { item = i; submitted = x.submitted }) item_is
-    ∙ ap (λ (r : Submitted). record { item = a.item; submitted = r }) (answered ∙ ap (λ (l : List Admission). submission (item_of l marks a.item) queues None (Some a.queue)) so_far) in
-    new_is ∙ ap (λ (l : List Expiry). l ++ x ∷ []) told_is ∙ ap (λ (y : Expiry). expiries marks queues (take n arms) xs ++ y ∷ []) both
-    ∙ sym (ap (λ m. expiries marks queues (take m arms) xs) suc_is ∙ ap (λ (l : List Arm). expiries marks queues l xs) (take-suc arms n d within)
+    ∙ ap (λ (r : Submitted). record { item = a.item; submitted = r }) (answered
+    ∙ ap (λ (l : List Admission). submission (item_of l marks a.item) queues None (Some a.queue)) so_far) in
+    new_is ∙ ap (λ (l : List Expiry). l ++ x ∷ []) told_is
+    ∙ ap (λ (y : Expiry). expiries marks queues (take n arms) xs ++ y ∷ []) both
+    ∙ sym (ap (λ m. expiries marks queues (take m arms) xs) suc_is
+    ∙ ap (λ (l : List Arm). expiries marks queues l xs) (take-suc arms n d within)
     ∙ expiries-snoc marks queues (take n arms) a xs)

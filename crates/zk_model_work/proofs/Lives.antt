@@ -66,7 +66,8 @@ Kept-map : (f : Admission → Admission) → ((a : Admission) → Keeps a (f a))
 Kept-map f each xs n a at = (f a, slice_get-map f xs n ∙ ap (option_map f) at, each a)
 
 -- a life that is set at one place
-pub set_life-at : (xs : List Admission) (m : ℕ) (life : Life) (a : Admission) → slice_get xs m ≡ Some a → slice_get (set_life xs m life) m ≡ Some (with_life life a)
+pub set_life-at : (xs : List Admission) (m : ℕ) (life : Life) (a : Admission) → slice_get xs m ≡ Some a →
+    slice_get (set_life xs m life) m ≡ Some (with_life life a)
 set_life-at [] m life a at = absurd (cc)
 set_life-at (x ∷ xs) zero life a at = ap (option_map (with_life life)) at
 set_life-at (x ∷ xs) (suc m) life a at = set_life-at xs m life a at
@@ -93,17 +94,21 @@ open-running Dropped w = absurd (cc)
 
 -- an open admission runs, ends or is dropped
 Keeps-with_life : (a : Admission) (life : Life) → is_open a.life ≡ true → is_waiting life ≡ false → Keeps a (with_life life a)
-Keeps-with_life a life was goes = record { item = refl; queue = refl; waits = λ w. goes; over = λ o. absurd (false≢true (sym o ∙ was)) }
+Keeps-with_life a life was goes =
+    record { item = refl; queue = refl; waits = λ w. goes; over = λ o. absurd (false≢true (sym o ∙ was)) }
 
-Keeps-cond : (b : Bool) (a : Admission) (life : Life) → (b ≡ true → is_open a.life ≡ true) → is_waiting life ≡ false → Keeps a (cond b (with_life life a) a)
+Keeps-cond : (b : Bool) (a : Admission) (life : Life) → (b ≡ true → is_open a.life ≡ true) → is_waiting life ≡ false →
+    Keeps a (cond b (with_life life a) a)
 Keeps-cond true a life was goes = Keeps-with_life a life (was refl) goes
 Keeps-cond false a life was goes = Keeps-refl a
 
 Keeps-end_one : (queue : ℕ) (a : Admission) → Keeps a (end_one queue a)
-Keeps-end_one queue a = Keeps-cond (runs_on queue a) a Ended (λ r. open-running a.life (second_so (eqb a.queue queue) (is_running a.life) r)) refl
+Keeps-end_one queue a =
+    Keeps-cond (runs_on queue a) a Ended (λ r. open-running a.life (second_so (eqb a.queue queue) (is_running a.life) r)) refl
 
 Keeps-drop_one : (item : ℕ) (a : Admission) → Keeps a (drop_one item a)
-Keeps-drop_one item a = Keeps-cond (waits_as item a) a Dropped (λ w. open-waiting a.life (second_so (eqb a.item item) (is_waiting a.life) w)) refl
+Keeps-drop_one item a =
+    Keeps-cond (waits_as item a) a Dropped (λ w. open-waiting a.life (second_so (eqb a.item item) (is_waiting a.life) w)) refl
 
 Kept-submit : (xs : List Admission) (item : ℕ) (answer : Submitted) → Kept xs (submit xs item answer)
 Kept-submit xs item Already = Kept-refl xs
@@ -122,19 +127,26 @@ IsFirst-line xs queue m is =
     let found : position (waits_for queue) xs ≡ Some m = first_of_places (waits_for queue) xs ∙ is in
     record {
       within = (position-Some (waits_for queue) xs m none found).0;
-      waits = λ a at. sym (ap (waits_for queue) (get_or_from_slice_get xs m a a at)) ∙ (position-Some (waits_for queue) xs m a found).1;
-      none_before = λ n a below at. sym (ap (waits_for queue) (get_or_from_slice_get xs n a a at)) ∙ (position-Some (waits_for queue) xs m a found).2 n below;
+      waits = λ a at. sym (ap (waits_for queue) (get_or_from_slice_get xs m a a at))
+          ∙ (position-Some (waits_for queue) xs m a found).1;
+      none_before = λ n a below at. sym (ap (waits_for queue) (get_or_from_slice_get xs n a a at))
+          ∙ (position-Some (waits_for queue) xs m a found).2 n below;
     } where
       none : Admission
       none = record { item = 0; queue = 0; life = Waiting }
 
 Kept-set_life : (xs : List Admission) (queue m : ℕ) → IsFirst xs queue m → Kept xs (set_life xs m Running)
 Kept-set_life xs queue m is n a at = here (eqb_tells m n) where
-  here : ((eqb m n ≡ true) × (m ≡ n)) ⊎ ((eqb m n ≡ false) × (m ≢ n)) → (b : Admission) × (slice_get (set_life xs m Running) n ≡ Some b) × Keeps a b
+  here : ((eqb m n ≡ true) × (m ≡ n)) ⊎ ((eqb m n ≡ false) × (m ≢ n)) →
+      (b : Admission) × (slice_get (set_life xs m Running) n ≡ Some b) × Keeps a b
   here (inl same) =
       let there : slice_get xs m ≡ Some a = ap (slice_get xs) same.1 ∙ at in
-      let waits = second_so (eqb a.queue queue) (is_waiting a.life) (is.waits a there) in
-      (with_life Running a, ap (slice_get (set_life xs m Running)) (sym same.1) ∙ set_life-at xs m Running a there, Keeps-with_life a Running (open-waiting a.life waits) refl)
+      let waits = second_so (eqb a.queue queue) (is_waiting a.life) (is.waits a there) in (
+        with_life Running a,
+        ap (slice_get (set_life xs m Running)) (sym same.1)
+            ∙ set_life-at xs m Running a there,
+        Keeps-with_life a Running (open-waiting a.life waits) refl,
+      )
   here (inr other) = (a, set_life-aside xs m n Running other.1 ∙ at, Keeps-refl a)
 
 Kept-begin : (xs : List Admission) (queue : ℕ) → Kept xs (begin xs queue)
@@ -147,7 +159,8 @@ Kept-begin xs queue = by (first (line xs queue)) refl where
 pub Kept-next : (s : State) (who : Who) (op : WorkOp) → Kept s.admissions (work_next s who op).admissions
 Kept-next s who op =
     admissions-next (Kept s.admissions) s who op
-    (λ ys item named stays kept. Kept-trans s.admissions ys _ kept (Kept-submit ys item (submission (item_of ys s.marks item) s.queues (submitter who op) named)))
+    (λ ys item named stays kept. Kept-trans s.admissions ys _ kept
+    (Kept-submit ys item (submission (item_of ys s.marks item) s.queues (submitter who op) named)))
     (λ item cancels. Kept-map (drop_one item) (Keeps-drop_one item) s.admissions)
     (λ queue is. Kept-begin s.admissions queue)
     (λ queue is. Kept-map (end_one queue) (Keeps-end_one queue) s.admissions)
@@ -156,4 +169,7 @@ Kept-next s who op =
 -- what a history makes of them
 pub Kept-after : (s : State) (h : List (Entry WorkOp WorkReply)) → Kept s.admissions (state_after work_machine s h).admissions
 Kept-after s [] = Kept-refl s.admissions
-Kept-after s (e ∷ es) = Kept-trans s.admissions (work_next s e.who e.op).admissions (state_after work_machine (work_next s e.who e.op) es).admissions (Kept-next s e.who e.op) (Kept-after (work_next s e.who e.op) es)
+Kept-after s (e ∷ es) =
+    Kept-trans s.admissions (work_next s e.who e.op).admissions
+    (state_after work_machine (work_next s e.who e.op) es).admissions (Kept-next s e.who e.op)
+    (Kept-after (work_next s e.who e.op) es)

@@ -42,7 +42,8 @@ marks-next s who (Schedule item queue delay) =
     schedule-keeps (λ t. t.marks ≡ s.marks ++ []) s who item queue delay same same (λ free later. same)
 marks-next s who (Reschedule item queue delay) =
     let same = sym (append-nil s.marks) in
-    delayed-keeps (λ t. t.marks ≡ s.marks ++ []) (record s { arms = disarm s.arms item }) who item queue delay same (λ later. same)
+    delayed-keeps (λ t. t.marks ≡ s.marks ++ []) (record s { arms = disarm s.arms item }) who item queue delay same
+    (λ later. same)
 marks-next s who (Remaining item) = sym (append-nil s.marks)
 marks-next s who (Start queue) = sym (append-nil s.marks)
 marks-next s who (DrainStart queue plug) = sym (append-nil s.marks)
@@ -60,7 +61,8 @@ found_in s (e ∷ es) = found_by s e.op ++ found_in (work_next s e.who e.op) es
 marks-after : (s : State) (h : WorkHistory) → (state_after work_machine s h).marks ≡ s.marks ++ found_in s h
 marks-after s [] = sym (append-nil s.marks)
 marks-after s (e ∷ es) =
-    marks-after (work_next s e.who e.op) es ∙ ap (λ (ms : List ℕ). ms ++ found_in (work_next s e.who e.op) es) (marks-next s e.who e.op)
+    marks-after (work_next s e.who e.op) es
+    ∙ ap (λ (ms : List ℕ). ms ++ found_in (work_next s e.who e.op) es) (marks-next s e.who e.op)
     ∙ append_assoc s.marks (found_by s e.op) (found_in (work_next s e.who e.op) es)
 
 -- a run that a cancel of the history found
@@ -81,7 +83,8 @@ only-one p (Some n) is = by (p n) refl is where
   by true passes is = (n, refl, passes)
   by false passes is = absurd (false≢true is)
 
-found-here : (p : ℕ → Bool) (s : State) (op : WorkOp) → list_any p (found_by s op) ≡ true → (item n : ℕ) × (Cancels item op) × (running s.admissions item ≡ Some n) × (p n ≡ true)
+found-here : (p : ℕ → Bool) (s : State) (op : WorkOp) → list_any p (found_by s op) ≡ true →
+    (item n : ℕ) × (Cancels item op) × (running s.admissions item ≡ Some n) × (p n ≡ true)
 found-here p s (Submit item named) is = absurd (cc)
 found-here p s (Cancel item) is = let it = only-one p (running s.admissions item) is in (item, it.0, inl refl, it.1, it.2)
 found-here p s (CancelStart item) is = let it = only-one p (running s.admissions item) is in (item, it.0, inr refl, it.1, it.2)
@@ -103,9 +106,12 @@ found-here p s (End queue) is = absurd (cc)
 any-found : (p : ℕ → Bool) (s : State) (h : WorkHistory) → list_any p (found_in s h) ≡ true → (n : ℕ) × (p n ≡ true) × Found s h n
 any-found p s [] is = absurd (cc)
 any-found p s (e ∷ es) is =
-    by (list_any p (found_by s e.op)) refl (sym (list_any-append p (found_by s e.op) (found_in (work_next s e.who e.op) es)) ∙ is) (any-found p (work_next s e.who e.op) es) where
+    by (list_any p (found_by s e.op)) refl
+    (sym (list_any-append p (found_by s e.op) (found_in (work_next s e.who e.op) es))
+    ∙ is) (any-found p (work_next s e.who e.op) es) where
       by : (b : Bool) → list_any p (found_by s e.op) ≡ b → (b || list_any p (found_in (work_next s e.who e.op) es)) ≡ true →
-          (list_any p (found_in (work_next s e.who e.op) es) ≡ true → (n : ℕ) × (p n ≡ true) × Found (work_next s e.who e.op) es n) → (n : ℕ) × (p n ≡ true) × Found s (e ∷ es) n
+          (list_any p (found_in (work_next s e.who e.op) es) ≡ true →
+          (n : ℕ) × (p n ≡ true) × Found (work_next s e.who e.op) es n) → (n : ℕ) × (p n ≡ true) × Found s (e ∷ es) n
       by true here is further =
           let it = found-here p s e.op here in
           (it.1, it.4, record { before = []; since = es; cancel = e; item = it.0; parts = refl; cancels = it.2; found = it.3 })
@@ -125,10 +131,13 @@ any-found p s (e ∷ es) is =
           )
 
 -- and each that was found is one of them
-found-any : (p : ℕ → Bool) (s : State) (before since : WorkHistory) (cancel : Entry WorkOp WorkReply) (item n : ℕ) → Cancels item cancel.op →
-    running (state_after work_machine s before).admissions item ≡ Some n → p n ≡ true → list_any p (found_in s (before ++ cancel ∷ since)) ≡ true
+found-any : (p : ℕ → Bool) (s : State) (before since : WorkHistory) (cancel : Entry WorkOp WorkReply) (item n : ℕ) →
+    Cancels item cancel.op →
+    running (state_after work_machine s before).admissions item ≡ Some n → p n ≡ true →
+    list_any p (found_in s (before ++ cancel ∷ since)) ≡ true
 found-any p s [] since cancel item n cancels found passes =
-    list_any-append p (found_by s cancel.op) (found_in (work_next s cancel.who cancel.op) since) ∙ ap (λ b. b || list_any p (found_in (work_next s cancel.who cancel.op) since)) (here cancels) where
+    list_any-append p (found_by s cancel.op) (found_in (work_next s cancel.who cancel.op) since)
+    ∙ ap (λ b. b || list_any p (found_in (work_next s cancel.who cancel.op) since)) (here cancels) where
       one : list_any p (option_to_list (running s.admissions item)) ≡ true
       one = ap (λ (o : Option ℕ). list_any p (option_to_list o)) found ∙ ap (λ b. b || false) passes
 
@@ -137,25 +146,30 @@ found-any p s [] since cancel item n cancels found passes =
       here (inr is) = ap (λ (o : WorkOp). list_any p (found_by s o)) is ∙ one
 found-any p s (e ∷ es) since cancel item n cancels found passes =
     list_any-append p (found_by s e.op) (found_in (work_next s e.who e.op) (es ++ cancel ∷ since))
-    ∙ or-true (list_any p (found_by s e.op)) (found-any p (work_next s e.who e.op) es since cancel item n cancels found passes) where
+    ∙ or-true (list_any p (found_by s e.op))
+    (found-any p (work_next s e.who e.op) es since cancel item n cancels found passes) where
       or-true : (b : Bool) {c : Bool} → c ≡ true → (b || c) ≡ true
       or-true true is = refl
       or-true false is = is
 
 -- the marks after a history
-marks-are : (start : State) (h : WorkHistory) → IsFreshHistory start h → (state_after work_machine start h).marks ≡ found_in start h
+marks-are : (start : State) (h : WorkHistory) → IsFreshHistory start h →
+    (state_after work_machine start h).marks ≡ found_in start h
 marks-are start h fresh = marks-after start h ∙ ap (λ (ms : List ℕ). ms ++ found_in start h) fresh.marks
 
 -- the admission of a number that passes
-passes-there : (p : Admission → Bool) (xs : List Admission) (n : ℕ) → passes_at p xs n ≡ true → (a : Admission) × (slice_get xs n ≡ Some a) × (p a ≡ true)
+passes-there : (p : Admission → Bool) (xs : List Admission) (n : ℕ) → passes_at p xs n ≡ true →
+    (a : Admission) × (slice_get xs n ≡ Some a) × (p a ≡ true)
 passes-there p xs n is = by (slice_get xs n) refl is where
-  by : (o : Option Admission) → slice_get xs n ≡ o → option_map_or p o false ≡ true → (a : Admission) × (slice_get xs n ≡ Some a) × (p a ≡ true)
+  by : (o : Option Admission) → slice_get xs n ≡ o → option_map_or p o false ≡ true →
+      (a : Admission) × (slice_get xs n ≡ Some a) × (p a ≡ true)
   by None at is = absurd (cc)
   by (Some a) at is = (a, at, is)
 
 -- an item is being cancelled just where an earlier cancel found a run of it that goes on
 pub cancelling-is : (start : State) (h : WorkHistory) (item : ℕ) → IsFreshHistory start h →
-    is_cancelling (state_after work_machine start h).admissions (state_after work_machine start h).marks item ≡ true → IsBeingCancelled start h item
+    is_cancelling (state_after work_machine start h).admissions (state_after work_machine start h).marks item ≡ true →
+    IsBeingCancelled start h item
 cancelling-is start h item fresh is =
     let t = state_after work_machine start h in
     let p = passes_at (runs_as item) t.admissions in
@@ -176,7 +190,8 @@ cancelling-is start h item fresh is =
       parts = it.2.parts;
       cancels = subst (λ i. Cancels i it.2.cancel.op) item_is it.2.cancels;
       found = ap (running_after start it.2.before) (sym item_is) ∙ it.2.found;
-      runs = ap (option_map (λ (b : Admission). b.life)) there.1 ∙ ap Some (runs_is a.life (second_so (eqb a.item item) (is_running a.life) there.2));
+      runs = ap (option_map (λ (b : Admission). b.life)) there.1
+          ∙ ap Some (runs_is a.life (second_so (eqb a.item item) (is_running a.life) there.2));
     }
 
 pub is-cancelling : (start : State) (h : WorkHistory) (item : ℕ) → IsFreshHistory start h → IsBeingCancelled start h item →
@@ -187,8 +202,10 @@ is-cancelling start h item fresh it =
     let was = position-at (runs_as item) (state_after work_machine start it.before).admissions it.run it.found in
     let kept = kept-in_whole start h it.before (it.cancel ∷ it.since) it.run was.0 it.parts was.1 in
     let first = eqb-true was.0.item item (first_so (eqb was.0.item item) (is_running was.0.life) was.2) in
-    let life : kept.0.life ≡ Running = same_Some kept.0.life Running (ap (option_map (λ (b : Admission). b.life)) (sym kept.1) ∙ it.runs) in
-    let runs = and_from (eqb kept.0.item item) (is_running kept.0.life) (eq-eqb kept.0.item item (kept.2.item ∙ first)) (ap is_running life) in
+    let life : kept.0.life ≡ Running =
+    same_Some kept.0.life Running (ap (option_map (λ (b : Admission). b.life)) (sym kept.1) ∙ it.runs) in
+    let runs = and_from (eqb kept.0.item item) (is_running kept.0.life) (eq-eqb kept.0.item item (kept.2.item ∙ first))
+    (ap is_running life) in
     let passes : p it.run ≡ true = ap (λ (o : Option Admission). option_map_or (runs_as item) o false) kept.1 ∙ runs in
     ap (list_any p) (marks-are start h fresh) ∙ ap (λ (l : WorkHistory). list_any p (found_in start l)) it.parts
     ∙ found-any p start it.before it.since it.cancel item it.run it.cancels it.found passes

@@ -24,10 +24,16 @@ use Rattle.zk_model_work.proofs.Begins.{Begun-reply, Replays-parts}
 use Rattle.zk_model_work.proofs.Overlaps.{begin-is, same_item}
 
 -- what the front holds is kept in the whole
-pub kept-in_whole : (start : State) (h front rest : List (Entry WorkOp WorkReply)) (number : ℕ) (a : Admission) → h ≡ front ++ rest → admission_after start front number ≡ Some a → (b : Admission) × (admission_after start h number ≡ Some b) × Keeps a b
+pub kept-in_whole : (start : State) (h front rest : List (Entry WorkOp WorkReply)) (number : ℕ) (a : Admission) →
+    h ≡ front ++ rest → admission_after start front number ≡ Some a →
+    (b : Admission) × (admission_after start h number ≡ Some b) × Keeps a b
 kept-in_whole start h front rest number a parts at =
-    let kept = Kept-after (state_after work_machine start front) rest number a at in
-    (kept.0, ap (λ (l : List (Entry WorkOp WorkReply)). admission_after start l number) parts ∙ ap (λ (s : State). slice_get s.admissions number) (state_after-append work_machine start front rest) ∙ kept.1, kept.2)
+    let kept = Kept-after (state_after work_machine start front) rest number a at in (
+      kept.0,
+      ap (λ (l : List (Entry WorkOp WorkReply)). admission_after start l number) parts
+          ∙ ap (λ (s : State). slice_get s.admissions number) (state_after-append work_machine start front rest) ∙ kept.1,
+      kept.2,
+    )
 
 pub admission_stays : OfEach AdmissionStays
 admission_stays start h fresh front rest number a parts at =
@@ -39,7 +45,8 @@ abbrev admission_of : ℕ → ℕ → Life → Admission
 admission_of item queue life = record { item = item; queue = queue; life = life }
 
 same_parts : (a b : Admission) → b.item ≡ a.item → b.queue ≡ a.queue → b.life ≡ a.life → b ≡ a
-same_parts a b item queue life = ap (λ i. admission_of i b.queue b.life) item ∙ ap (λ q. admission_of a.item q b.life) queue ∙ ap (admission_of a.item a.queue) life
+same_parts a b item queue life = ap (λ i. admission_of i b.queue b.life) item
+    ∙ ap (λ q. admission_of a.item q b.life) queue ∙ ap (admission_of a.item a.queue) life
 
 pub outcome_stays : OfEach OutcomeStays
 outcome_stays start h fresh front rest number a parts at over =
@@ -57,7 +64,9 @@ pub begun_from_its_queue : OfEach BegunFromItsQueue
 begun_from_its_queue start h fresh = record {
   each = λ front rest e parts item number reply.
       let s = state_after work_machine start front in
-      let replied : work_reply s e.who e.op ≡ Some (Run item number) = (Replays-rest work_machine start front (e ∷ rest) (Replays-parts start h (front ++ e ∷ rest) fresh parts)).0 ∙ ap Some reply in
+      let replied : work_reply s e.who e.op ≡ Some (Run item number) =
+      (Replays-rest work_machine start front (e ∷ rest) (Replays-parts start h (front ++ e ∷ rest) fresh parts)).0
+      ∙ ap Some reply in
       let begins = is_begin s e.who e.op item number replied in
       let queue = begins.0 in
       let it = Begun-reply s e.who queue (Run item number) (ap (work_reply s e.who) (sym begins.1) ∙ replied) in
@@ -65,14 +74,18 @@ begun_from_its_queue start h fresh = record {
       let waits = (IsFirst-line s.admissions queue it.number it.first_is).waits it.taken it.there in
       let queue_is = eqb-true it.taken.queue queue (first_so (eqb it.taken.queue queue) (is_waiting it.taken.life) waits) in
       let life_is = waits_is it.taken.life (second_so (eqb it.taken.queue queue) (is_waiting it.taken.life) waits) in
-      let taken_is : it.taken ≡ admission_of item queue Waiting = same_parts (admission_of item queue Waiting) it.taken same.0 queue_is life_is in
+      let taken_is : it.taken ≡ admission_of item queue Waiting =
+      same_parts (admission_of item queue Waiting) it.taken same.0 queue_is life_is in
       let after : slice_get (begin s.admissions queue) it.number ≡ Some (with_life Running it.taken) =
-      ap (λ (xs : List Admission). slice_get xs it.number) (begin-is s.admissions queue (Run item number) it) ∙ set_life-at s.admissions it.number Running it.taken it.there in
-      let next : state_after work_machine start (front ++ e ∷ []) ≡ work_next s e.who (Begin queue) = state_after-append work_machine start front (e ∷ []) ∙ ap (work_next s e.who) begins.1 in (
+      ap (λ (xs : List Admission). slice_get xs it.number) (begin-is s.admissions queue (Run item number) it)
+      ∙ set_life-at s.admissions it.number Running it.taken it.there in
+      let next : state_after work_machine start (front ++ e ∷ []) ≡ work_next s e.who (Begin queue) =
+      state_after-append work_machine start front (e ∷ []) ∙ ap (work_next s e.who) begins.1 in (
         queue,
         begins.1,
         ap (slice_get s.admissions) (sym same.1) ∙ it.there ∙ ap Some taken_is,
-        ap (λ (u : State). slice_get u.admissions number) next ∙ ap (slice_get (begin s.admissions queue)) (sym same.1) ∙ after ∙ ap (λ (a : Admission). Some (with_life Running a)) taken_is,
+        ap (λ (u : State). slice_get u.admissions number) next ∙ ap (slice_get (begin s.admissions queue)) (sym same.1)
+            ∙ after ∙ ap (λ (a : Admission). Some (with_life Running a)) taken_is,
       );
 }
 
@@ -99,8 +112,10 @@ pub ended_by_its_end : OfEach EndedByItsEnd
 ended_by_its_end start h fresh = record {
   each = λ front rest e parts number a at runs ended.
       let s = state_after work_machine start front in
-      let next : state_after work_machine start (front ++ e ∷ []) ≡ work_next s e.who (End a.queue) = state_after-append work_machine start front (e ∷ []) ∙ ap (work_next s e.who) (is_end a.queue e.op ended) in
+      let next : state_after work_machine start (front ++ e ∷ []) ≡ work_next s e.who (End a.queue) =
+      state_after-append work_machine start front (e ∷ []) ∙ ap (work_next s e.who) (is_end a.queue e.op ended) in
       let on = and_from (eqb a.queue a.queue) (is_running a.life) (eq-eqb a.queue a.queue refl) (ap is_running runs) in
-      ap (λ (u : State). slice_get u.admissions number) next ∙ slice_get-map (end_one a.queue) s.admissions number ∙ ap (option_map (end_one a.queue)) at
+      ap (λ (u : State). slice_get u.admissions number) next ∙ slice_get-map (end_one a.queue) s.admissions number
+      ∙ ap (option_map (end_one a.queue)) at
       ∙ ap (λ b. Some (cond b (with_life Ended a) a)) on;
 }

@@ -42,34 +42,46 @@ parts-pending false false c (inl is) = absurd (false≢true is)
 parts-pending false false c (inr (inl is)) = absurd (false≢true is)
 parts-pending false false c (inr (inr is)) = is
 
-pending-is : (start : State) (h : WorkHistory) (item : ℕ) → IsFreshHistory start h → is_pending_in (state_after work_machine start h) item ≡ true → IsPending start h item
-pending-is start h item fresh is = by (pending-parts (is_some (armed s.arms item)) (is_some (waiting s.admissions item)) (is_cancelling s.admissions s.marks item) is) where
-  s : State
-  s = state_after work_machine start h
+pending-is : (start : State) (h : WorkHistory) (item : ℕ) → IsFreshHistory start h →
+    is_pending_in (state_after work_machine start h) item ≡ true → IsPending start h item
+pending-is start h item fresh is =
+    by (pending-parts (is_some (armed s.arms item)) (is_some (waiting s.admissions item))
+    (is_cancelling s.admissions s.marks item) is) where
+      s : State
+      s = state_after work_machine start h
 
-  by : (is_some (armed s.arms item) ≡ true) ⊎ ((is_some (waiting s.admissions item) ≡ true) ⊎ (is_cancelling s.admissions s.marks item ≡ true)) → IsPending start h item
-  by (inl is) = inl is
-  by (inr (inl is)) = inr (inl is)
-  by (inr (inr is)) = inr (inr (cancelling-is start h item fresh is))
+      by : (is_some (armed s.arms item) ≡ true)
+          ⊎ ((is_some (waiting s.admissions item) ≡ true) ⊎ (is_cancelling s.admissions s.marks item ≡ true)) →
+          IsPending start h item
+      by (inl is) = inl is
+      by (inr (inl is)) = inr (inl is)
+      by (inr (inr is)) = inr (inr (cancelling-is start h item fresh is))
 
-is-pending : (start : State) (h : WorkHistory) (item : ℕ) → IsFreshHistory start h → IsPending start h item → is_pending_in (state_after work_machine start h) item ≡ true
-is-pending start h item fresh pending = parts-pending (is_some (armed s.arms item)) (is_some (waiting s.admissions item)) (is_cancelling s.admissions s.marks item) (by pending) where
-  s : State
-  s = state_after work_machine start h
+is-pending : (start : State) (h : WorkHistory) (item : ℕ) → IsFreshHistory start h → IsPending start h item →
+    is_pending_in (state_after work_machine start h) item ≡ true
+is-pending start h item fresh pending = parts-pending (is_some (armed s.arms item)) (is_some (waiting s.admissions item))
+    (is_cancelling s.admissions s.marks item) (by pending) where
+      s : State
+      s = state_after work_machine start h
 
-  by : IsPending start h item → (is_some (armed s.arms item) ≡ true) ⊎ ((is_some (waiting s.admissions item) ≡ true) ⊎ (is_cancelling s.admissions s.marks item ≡ true))
-  by (inl is) = inl is
-  by (inr (inl is)) = inr (inl is)
-  by (inr (inr is)) = inr (inr (is-cancelling start h item fresh is))
+      by : IsPending start h item →
+          (is_some (armed s.arms item) ≡ true)
+          ⊎ ((is_some (waiting s.admissions item) ≡ true) ⊎ (is_cancelling s.admissions s.marks item ≡ true))
+      by (inl is) = inl is
+      by (inr (inl is)) = inr (inl is)
+      by (inr (inr is)) = inr (inr (is-cancelling start h item fresh is))
 
-not-pending : (start : State) (h : WorkHistory) (item : ℕ) → IsFreshHistory start h → (IsPending start h item → ⊥) → is_pending_in (state_after work_machine start h) item ≡ false
+not-pending : (start : State) (h : WorkHistory) (item : ℕ) → IsFreshHistory start h → (IsPending start h item → ⊥) →
+    is_pending_in (state_after work_machine start h) item ≡ false
 not-pending start h item fresh free = by (is_pending_in (state_after work_machine start h) item) refl where
-  by : (b : Bool) → is_pending_in (state_after work_machine start h) item ≡ b → is_pending_in (state_after work_machine start h) item ≡ false
+  by : (b : Bool) → is_pending_in (state_after work_machine start h) item ≡ b →
+      is_pending_in (state_after work_machine start h) item ≡ false
   by true is = absurd (free (pending-is start h item fresh is))
   by false is = is
 
 -- a submission of an item that doesn't wait isn't answered 0
-not-already : (i : Item) (queues : List Queue) (caller named : Option ℕ) → i.queued ≡ false → replies.Sub (submission i queues caller named) ≡ replies.Sub Already → ⊥
+not-already : (i : Item) (queues : List Queue) (caller named : Option ℕ) → i.queued ≡ false →
+    replies.Sub (submission i queues caller named) ≡ replies.Sub Already → ⊥
 not-already i queues caller named empty is = by (submission i queues caller named) (says i queues caller named) is where
   by : (answer : Submitted) → Says i queues caller named answer → replies.Sub answer ≡ replies.Sub Already → ⊥
   by Already so is = false≢true (sym empty ∙ so)
@@ -90,7 +102,8 @@ delay-armed : (d : Bool) (answer : Submitted) (reply : WorkReply) → delay_said
 delay-armed true answer reply is = ap is_armed (sym is)
 delay-armed false answer reply is = ap is_armed (sym is)
 
-delay-other : (d : Bool) (answer : Submitted) (reply : WorkReply) → (replies.Sub answer ≡ replies.Sub Already → ⊥) → delay_said d answer ≡ reply → reply ≡ replies.Sub Already → ⊥
+delay-other : (d : Bool) (answer : Submitted) (reply : WorkReply) → (replies.Sub answer ≡ replies.Sub Already → ⊥) →
+    delay_said d answer ≡ reply → reply ≡ replies.Sub Already → ⊥
 delay-other true answer reply other is already = other (is ∙ already)
 delay-other false answer reply other is already = armed_apart (is ∙ already) where
   armed_apart : replies.Armed ≡ replies.Sub Already → ⊥
@@ -111,10 +124,12 @@ schedule_tells start h fresh front rest e item queue delay parts = (scheduled, u
   answer = submission_in s (Some e.who.number) item (Some queue)
 
   scheduled : e.op ≡ Schedule item queue delay → IsPending start front item → (e.reply ≡ replies.Sub Already)
-      × ((state_after work_machine start (front ++ e ∷ [])).admissions ≡ s.admissions) × ((state_after work_machine start (front ++ e ∷ [])).arms ≡ s.arms)
+      × ((state_after work_machine start (front ++ e ∷ [])).admissions ≡ s.admissions)
+      × ((state_after work_machine start (front ++ e ∷ [])).arms ≡ s.arms)
   scheduled op pending =
       let so = is-pending start front item before pending in
-      let next : state_after work_machine start (front ++ e ∷ []) ≡ work_next s e.who (Schedule item queue delay) = state_after-snoc work_machine start front e ∙ ap (work_next s e.who) op in
+      let next : state_after work_machine start (front ++ e ∷ []) ≡ work_next s e.who (Schedule item queue delay) =
+      state_after-snoc work_machine start front e ∙ ap (work_next s e.who) op in
       let same : schedule s e.who item queue delay ≡ s = ap (λ b. cond b s (delayed s e.who item queue delay)) so in
       let said = same_Some (schedule_reply_in s e.who item queue delay) e.reply (ap (work_reply s e.who) (sym op) ∙ replied) in (
         sym said ∙ ap (λ b. cond b (replies.Sub Already) (delay_said (eqb delay 0) answer)) so,
@@ -122,46 +137,61 @@ schedule_tells start h fresh front rest e item queue delay parts = (scheduled, u
         ap (λ (u : State). u.arms) next ∙ ap (λ (u : State). u.arms) same,
       )
 
-  unpending : e.op ≡ Schedule item queue delay → (IsPending start front item → ⊥) → (e.reply ≡ replies.Sub Already → ⊥) × (is_armed e.reply ≡ not (delay == 0))
+  unpending : e.op ≡ Schedule item queue delay → (IsPending start front item → ⊥) →
+      (e.reply ≡ replies.Sub Already → ⊥) × (is_armed e.reply ≡ not (delay == 0))
   unpending op free =
       let so = not-pending start front item before free in
-      let empty = free-waits (is_some (armed s.arms item)) (is_some (waiting s.admissions item)) (is_cancelling s.admissions s.marks item) so in
+      let empty = free-waits (is_some (armed s.arms item)) (is_some (waiting s.admissions item))
+      (is_cancelling s.admissions s.marks item) so in
       let said : delay_said (eqb delay 0) answer ≡ e.reply =
-      ap (λ b. cond b (replies.Sub Already) (delay_said (eqb delay 0) answer)) (sym so) ∙ same_Some (schedule_reply_in s e.who item queue delay) e.reply (ap (work_reply s e.who) (sym op) ∙ replied) in
-      (delay-other (eqb delay 0) answer e.reply (not-already (item_of s.admissions s.marks item) s.queues (Some e.who.number) (Some queue) empty) said, delay-armed (eqb delay 0) answer e.reply said)
+      ap (λ b. cond b (replies.Sub Already) (delay_said (eqb delay 0) answer)) (sym so)
+      ∙ same_Some (schedule_reply_in s e.who item queue delay) e.reply (ap (work_reply s e.who) (sym op) ∙ replied) in (
+        delay-other (eqb delay 0) answer e.reply
+            (not-already (item_of s.admissions s.marks item) s.queues (Some e.who.number) (Some queue) empty) said,
+        delay-armed (eqb delay 0) answer e.reply said,
+      )
 
   rescheduled : e.op ≡ Reschedule item queue delay → is_armed e.reply ≡ not (delay == 0)
-  rescheduled op = delay-armed (eqb delay 0) answer e.reply (same_Some (delay_reply_in s e.who item queue delay) e.reply (ap (work_reply s e.who) (sym op) ∙ replied))
+  rescheduled op = delay-armed (eqb delay 0) answer e.reply
+      (same_Some (delay_reply_in s e.who item queue delay) e.reply (ap (work_reply s e.who) (sym op) ∙ replied))
 
 -- what a submission leaves waiting
-waits-some : (xs : List Admission) (item n : ℕ) (a : Admission) → slice_get xs n ≡ Some a → a.item ≡ item → is_waiting a.life ≡ true → is_some (waiting xs item) ≡ true
+waits-some : (xs : List Admission) (item n : ℕ) (a : Admission) → slice_get xs n ≡ Some a → a.item ≡ item →
+    is_waiting a.life ≡ true → is_some (waiting xs item) ≡ true
 waits-some xs item n a at same waits = by (waiting xs item) refl where
   by : (o : Option ℕ) → waiting xs item ≡ o → is_some o ≡ true
-  by None is = absurd (false≢true (sym (position-none (waits_as item) xs n a is at) ∙ and_from (eqb a.item item) (is_waiting a.life) (eq-eqb a.item item same) waits))
+  by None is = absurd (false≢true (sym (position-none (waits_as item) xs n a is at)
+      ∙ and_from (eqb a.item item) (is_waiting a.life) (eq-eqb a.item item same) waits))
   by (Some k) is = refl
 
-leaves-waiting : (xs : List Admission) (marks : List ℕ) (queues : List Queue) (caller named : Option ℕ) (item number : ℕ) (q : Queue) → is_cancelling xs marks item ≡ false →
-    target (item_of xs marks item) named ≡ Some number → slice_get queues number ≡ Some q → q.started ≡ true → bars q caller ≡ false →
+leaves-waiting : (xs : List Admission) (marks : List ℕ) (queues : List Queue) (caller named : Option ℕ) (item number : ℕ)
+    (q : Queue) → is_cancelling xs marks item ≡ false →
+    target (item_of xs marks item) named ≡ Some number → slice_get queues number ≡ Some q → q.started ≡ true →
+    bars q caller ≡ false →
     is_some (waiting (submit xs item (submission (item_of xs marks item) queues caller named)) item) ≡ true
-leaves-waiting xs marks queues caller named item number q free to there on open_to = by (submission i queues caller named) (says i queues caller named) where
-  i : Item
-  i = item_of xs marks item
+leaves-waiting xs marks queues caller named item number q free to there on open_to =
+    by (submission i queues caller named) (says i queues caller named) where
+      i : Item
+      i = item_of xs marks item
 
-  one : (other : ℕ) (r : Queue) → (target i named ≡ Some other) × (slice_get queues other ≡ Some r) → r ≡ q
-  one other r at = same_Some r q (sym at.1 ∙ ap (slice_get queues) (same_Some other number (sym at.0 ∙ to)) ∙ there)
+      one : (other : ℕ) (r : Queue) → (target i named ≡ Some other) × (slice_get queues other ≡ Some r) → r ≡ q
+      one other r at = same_Some r q (sym at.1 ∙ ap (slice_get queues) (same_Some other number (sym at.0 ∙ to)) ∙ there)
 
-  refused : (cause : Errno) → Says i queues caller named (Refused cause) → ⊥
-  refused errnos.Busy (inl is) = false≢true (sym free ∙ is)
-  refused errnos.Busy (inr it) = false≢true (sym open_to ∙ ap (λ (r : Queue). bars r caller) (sym (one it.0 it.1 it.2)) ∙ it.4)
-  refused errnos.NoDev so = false≢true (sym so.4 ∙ ap (λ (r : Queue). r.started) (one so.1 so.2 so.3) ∙ on)
-  refused errnos.Inval so = so.1 number q (to, there)
-  refused cause so = so
+      refused : (cause : Errno) → Says i queues caller named (Refused cause) → ⊥
+      refused errnos.Busy (inl is) = false≢true (sym free ∙ is)
+      refused errnos.Busy (inr it) = false≢true (sym open_to
+          ∙ ap (λ (r : Queue). bars r caller) (sym (one it.0 it.1 it.2)) ∙ it.4)
+      refused errnos.NoDev so = false≢true (sym so.4 ∙ ap (λ (r : Queue). r.started) (one so.1 so.2 so.3) ∙ on)
+      refused errnos.Inval so = so.1 number q (to, there)
+      refused cause so = so
 
-  by : (answer : Submitted) → Says i queues caller named answer → is_some (waiting (submit xs item answer) item) ≡ true
-  by Already so = so
-  by (Fresh n queue) so = waits-some (xs ++ waiting_one item queue ∷ []) item (length xs) (waiting_one item queue) (last-push xs (waiting_one item queue)) refl refl
-  by (Rerun n queue) so = waits-some (xs ++ waiting_one item queue ∷ []) item (length xs) (waiting_one item queue) (last-push xs (waiting_one item queue)) refl refl
-  by (Refused cause) so = absurd (refused cause so)
+      by : (answer : Submitted) → Says i queues caller named answer → is_some (waiting (submit xs item answer) item) ≡ true
+      by Already so = so
+      by (Fresh n queue) so = waits-some (xs ++ waiting_one item queue ∷ []) item (length xs) (waiting_one item queue)
+          (last-push xs (waiting_one item queue)) refl refl
+      by (Rerun n queue) so = waits-some (xs ++ waiting_one item queue ∷ []) item (length xs) (waiting_one item queue)
+          (last-push xs (waiting_one item queue)) refl refl
+      by (Refused cause) so = absurd (refused cause so)
 
 pub flush_hurries : OfEach FlushHurries
 flush_hurries start h fresh front rest e item parts op = (hurries, rests) where
@@ -180,21 +210,27 @@ flush_hurries start h fresh front rest e item parts op = (hurries, rests) where
     by true is = absurd (free (cancelling-is start front item before is))
     by false is = is
 
-  hurries : (queue number : ℕ) (q : Queue) → IsArmedFor s item queue → (IsBeingCancelled start front item → ⊥) → target_of s item (Some queue) ≡ Some number →
-      slice_get s.queues number ≡ Some q → q.started ≡ true → bars q (Some e.who.number) ≡ false → is_some (waiting (state_after work_machine start (front ++ e ∷ [])).admissions item) ≡ true
+  hurries : (queue number : ℕ) (q : Queue) → IsArmedFor s item queue → (IsBeingCancelled start front item → ⊥) →
+      target_of s item (Some queue) ≡ Some number →
+      slice_get s.queues number ≡ Some q → q.started ≡ true → bars q (Some e.who.number) ≡ false →
+      is_some (waiting (state_after work_machine start (front ++ e ∷ [])).admissions item) ≡ true
   hurries queue number q armed_for free to there on open_to =
       let a = armed_for.1 in
       let caller = Some e.who.number in
       let found = live-arm s item armed_for.0 a (one_live_arm start front before) armed_for.2 armed_for.3 armed_for.4 in
-      let made : hurried s e.who item ≡ submit s.admissions item (submission (item_of s.admissions s.marks item) s.queues caller (Some queue)) =
+      let made : hurried s e.who item
+      ≡ submit s.admissions item (submission (item_of s.admissions s.marks item) s.queues caller (Some queue)) =
       ap (λ (o : Option Arm). submit_arms s.marks s.queues caller (option_to_list o) s.admissions) found
       ∙ ap (λ i. submit s.admissions i (submission (item_of s.admissions s.marks i) s.queues caller (Some a.queue))) armed_for.3
-      ∙ ap (λ k. submit s.admissions item (submission (item_of s.admissions s.marks item) s.queues caller (Some k))) armed_for.5 in
+      ∙ ap (λ k. submit s.admissions item (submission (item_of s.admissions s.marks item) s.queues caller (Some k)))
+      armed_for.5 in
       ap (λ (u : State). is_some (waiting u.admissions item)) next ∙ ap (λ (xs : List Admission). is_some (waiting xs item)) made
       ∙ leaves-waiting s.admissions s.marks s.queues caller (Some queue) item number q (free-of free) to there on open_to
 
-  rests : ((queue : ℕ) → IsArmedFor s item queue → ⊥) → (state_after work_machine start (front ++ e ∷ [])).admissions ≡ s.admissions
+  rests : ((queue : ℕ) → IsArmedFor s item queue → ⊥) →
+      (state_after work_machine start (front ++ e ∷ [])).admissions ≡ s.admissions
   rests none = ap (λ (u : State). u.admissions) next ∙ by (live_arm s.arms item) refl where
-    by : (o : Option Arm) → live_arm s.arms item ≡ o → submit_arms s.marks s.queues (Some e.who.number) (option_to_list o) s.admissions ≡ s.admissions
+    by : (o : Option Arm) → live_arm s.arms item ≡ o →
+        submit_arms s.marks s.queues (Some e.who.number) (option_to_list o) s.admissions ≡ s.admissions
     by None is = refl
     by (Some a) is = absurd (none a.queue (hurried-item s item a is).1)

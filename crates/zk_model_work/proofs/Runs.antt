@@ -38,19 +38,25 @@ submit-all : (P : Admission → Type 0) (xs : List Admission) (item : ℕ) (answ
     ((queue : ℕ) → admitted_to answer ≡ Some queue → P (record { item = item; queue = queue; life = Waiting })) → All P xs →
     All P (submit xs item answer)
 submit-all P xs item Already new all = all
-submit-all P xs item (Fresh number queue) new all = All-push P xs (record { item = item; queue = queue; life = Waiting }) all (new queue refl)
-submit-all P xs item (Rerun number queue) new all = All-push P xs (record { item = item; queue = queue; life = Waiting }) all (new queue refl)
+submit-all P xs item (Fresh number queue) new all =
+    All-push P xs (record { item = item; queue = queue; life = Waiting }) all (new queue refl)
+submit-all P xs item (Rerun number queue) new all =
+    All-push P xs (record { item = item; queue = queue; life = Waiting }) all (new queue refl)
 submit-all P xs item (Refused cause) new all = all
 
 -- what each admission keeps holds of all that are changed
-map-all : (P : Admission → Type 0) (f : Admission → Admission) → ((a : Admission) → P a → P (f a)) → (xs : List Admission) → All P xs → All P (map f xs)
+map-all : (P : Admission → Type 0) (f : Admission → Admission) → ((a : Admission) → P a → P (f a)) →
+    (xs : List Admission) → All P xs → All P (map f xs)
 map-all P f keeps [] all = All-nil P
-map-all P f keeps (x ∷ xs) all = All-cons P (f x) (map f xs) (keeps x (All-head P x xs all)) (map-all P f keeps xs (All-tail P x xs all))
+map-all P f keeps (x ∷ xs) all =
+    All-cons P (f x) (map f xs) (keeps x (All-head P x xs all)) (map-all P f keeps xs (All-tail P x xs all))
 
-set_life-all : (P : Admission → Type 0) (xs : List Admission) (n : ℕ) (life : Life) → ((a : Admission) → slice_get xs n ≡ Some a → P (with_life life a)) → All P xs → All P (set_life xs n life)
+set_life-all : (P : Admission → Type 0) (xs : List Admission) (n : ℕ) (life : Life) →
+    ((a : Admission) → slice_get xs n ≡ Some a → P (with_life life a)) → All P xs → All P (set_life xs n life)
 set_life-all P [] n life new all = all
 set_life-all P (x ∷ xs) zero life new all = All-cons P (with_life life x) xs (new x refl) (All-tail P x xs all)
-set_life-all P (x ∷ xs) (suc n) life new all = All-cons P x (set_life xs n life) (All-head P x xs all) (set_life-all P xs n life new (All-tail P x xs all))
+set_life-all P (x ∷ xs) (suc n) life new all =
+    All-cons P x (set_life xs n life) (All-head P x xs all) (set_life-all P xs n life new (All-tail P x xs all))
 
 -- the first place of those that pass has an element that passes
 first-passes : (test : Admission → Bool) (n : ℕ) (xs : List Admission) (p : ℕ) → first_of (places_from n test xs) ≡ Some p →
@@ -58,8 +64,10 @@ first-passes : (test : Admission → Bool) (n : ℕ) (xs : List Admission) (p : 
 first-passes test n [] p is = absurd (cc)
 first-passes test n (x ∷ xs) p is = by_test (test x) refl is (first-passes test (n + 1) xs p)
   where
-    by_test : (b : Bool) → test x ≡ b → first_of (cond b (n ∷ places_from (n + 1) test xs) (places_from (n + 1) test xs)) ≡ Some p →
-        (first_of (places_from (n + 1) test xs) ≡ Some p → (k : ℕ) × (p ≡ (n + 1) + k) × ((a : Admission) → slice_get xs k ≡ Some a → test a ≡ true)) →
+    by_test : (b : Bool) → test x ≡ b → first_of (cond b (n ∷ places_from (n + 1) test xs) (places_from (n + 1) test xs))
+        ≡ Some p →
+        (first_of (places_from (n + 1) test xs) ≡ Some p →
+        (k : ℕ) × (p ≡ (n + 1) + k) × ((a : Admission) → slice_get xs k ≡ Some a → test a ≡ true)) →
         (k : ℕ) × (p ≡ n + k) × ((a : Admission) → slice_get (x ∷ xs) k ≡ Some a → test a ≡ true)
     by_test true passes here further =
         let same : n ≡ p = cc in
@@ -67,44 +75,54 @@ first-passes test n (x ∷ xs) p is = by_test (test x) refl is (first-passes tes
     by_test false passes here further = let more = further here in (suc more.0, omega arith, more.2)
 
 -- the first in the line of a queue waits for it
-line-waits : (xs : List Admission) (queue p : ℕ) (a : Admission) → first_of (line xs queue) ≡ Some p → slice_get xs p ≡ Some a → waits_for queue a ≡ true
+line-waits : (xs : List Admission) (queue p : ℕ) (a : Admission) → first_of (line xs queue) ≡ Some p →
+    slice_get xs p ≡ Some a → waits_for queue a ≡ true
 line-waits xs queue p a is there =
     let found = first-passes (waits_for queue) 0 xs p is in
     let same : found.0 ≡ p = omega (arith, found.1) in
     found.2 a (ap (λ (k : ℕ). slice_get xs k) same ∙ there)
 
-begin-all : (P : Admission → Type 0) (xs : List Admission) (queue : ℕ) → ((a : Admission) → waits_for queue a ≡ true → P a → P (with_life Running a)) → All P xs → All P (begin xs queue)
+begin-all : (P : Admission → Type 0) (xs : List Admission) (queue : ℕ) →
+    ((a : Admission) → waits_for queue a ≡ true → P a → P (with_life Running a)) → All P xs → All P (begin xs queue)
 begin-all P xs queue new all = by_first (first_of (line xs queue)) refl
   where
     by_first : (o : Option ℕ) → first_of (line xs queue) ≡ o → All P (option_map_or (λ number. set_life xs number Running) o xs)
     by_first None is = all
-    by_first (Some p) is = set_life-all P xs p Running (λ a there. new a (line-waits xs queue p a is there) (All-at P xs p a all there)) all
+    by_first (Some p) is =
+        set_life-all P xs p Running (λ a there. new a (line-waits xs queue p a is there) (All-at P xs p a all there)) all
 
 cond-keeps : (P : Admission → Type 0) (b : Bool) (x y : Admission) → P x → P y → P (cond b x y)
 cond-keeps P true x y hx hy = hx
 cond-keeps P false x y hx hy = hy
 
 -- each admission stays one to a queue
-pub homes-next : (many : ℕ) (st : State) (who : Who) (op : WorkOp) → length st.queues ≡ many → All (λ a. a.queue < many) st.admissions → All (λ a. a.queue < many) (work_next st who op).admissions
+pub homes-next : (many : ℕ) (st : State) (who : Who) (op : WorkOp) → length st.queues ≡ many →
+    All (λ a. a.queue < many) st.admissions → All (λ a. a.queue < many) (work_next st who op).admissions
 homes-next many st who op long all =
     let P : Admission → Type 0 = λ a. a.queue < many in
     admissions-next (All P) st who op
     (λ ys item named stays here.
     let i = item_of ys st.marks item in
     let answer = submission i st.queues (submitter who op) named in
-    submit-all P ys item answer (λ queue to. subst (λ (n : ℕ). queue < n) long (submission-within i st.queues (submitter who op) named queue to)) here)
-    (λ item drops. map-all P (drop_one item) (λ a less. cond-keeps P (waits_as item a) (with_life Dropped a) a less less) st.admissions all)
+    submit-all P ys item answer
+    (λ queue to. subst (λ (n : ℕ). queue < n) long (submission-within i st.queues (submitter who op) named queue to)) here)
+    (λ item drops. map-all P (drop_one item) (λ a less. cond-keeps P (waits_as item a) (with_life Dropped a) a less less)
+    st.admissions all)
     (λ queue is. begin-all P st.admissions queue (λ a waits less. less) all)
-    (λ queue is. map-all P (end_one queue) (λ a less. cond-keeps P (runs_on queue a) (with_life Ended a) a less less) st.admissions all)
+    (λ queue is. map-all P (end_one queue) (λ a less. cond-keeps P (runs_on queue a) (with_life Ended a) a less less)
+    st.admissions all)
     all
 
-settle-workers : (idle : ℕ → Bool) (n : ℕ) (queues : List Queue) → map (λ queue. queue.worker) (settle_from idle n queues) ≡ map (λ queue. queue.worker) queues
+settle-workers : (idle : ℕ → Bool) (n : ℕ) (queues : List Queue) →
+    map (λ queue. queue.worker) (settle_from idle n queues) ≡ map (λ queue. queue.worker) queues
 settle-workers idle n [] = refl
 settle-workers idle n (queue ∷ queues) =
-    ap (λ (w : ℕ). w ∷ map (λ (q : Queue). q.worker) (settle_from idle (n + 1) queues)) (worker-kept queue (queue.draining && idle n))
+    ap (λ (w : ℕ). w ∷ map (λ (q : Queue). q.worker) (settle_from idle (n + 1) queues))
+    (worker-kept queue (queue.draining && idle n))
     ∙ ap (λ (l : List ℕ). queue.worker ∷ l) (settle-workers idle (n + 1) queues)
   where
-    worker-kept : (queue : Queue) (b : Bool) → (cond b (record queue { draining = false; drained = queue.drained + 1 }) queue).worker ≡ queue.worker
+    worker-kept : (queue : Queue) (b : Bool) →
+        (cond b (record queue { draining = false; drained = queue.drained + 1 }) queue).worker ≡ queue.worker
     worker-kept queue true = refl
     worker-kept queue false = refl
 
@@ -114,12 +132,14 @@ changed-worker changes.Plug queue = refl
 changed-worker changes.Unplug queue = refl
 changed-worker changes.Drain queue = refl
 
-change-workers : (c : Change) (queues : List Queue) (number : ℕ) → map (λ queue. queue.worker) (change c queues number) ≡ map (λ queue. queue.worker) queues
+change-workers : (c : Change) (queues : List Queue) (number : ℕ) →
+    map (λ queue. queue.worker) (change c queues number) ≡ map (λ queue. queue.worker) queues
 change-workers c [] number = refl
 change-workers c (queue ∷ queues) zero = ap (λ (w : ℕ). w ∷ map (λ (q : Queue). q.worker) queues) (changed-worker c queue)
 change-workers c (queue ∷ queues) (suc number) = ap (λ (l : List ℕ). queue.worker ∷ l) (change-workers c queues number)
 
-change_where-workers : (asked : Bool) (c : Change) (queues : List Queue) (number : ℕ) → map (λ queue. queue.worker) (change_where asked c queues number) ≡ map (λ queue. queue.worker) queues
+change_where-workers : (asked : Bool) (c : Change) (queues : List Queue) (number : ℕ) →
+    map (λ queue. queue.worker) (change_where asked c queues number) ≡ map (λ queue. queue.worker) queues
 change_where-workers true c queues number = change-workers c queues number
 change_where-workers false c queues number = refl
 
@@ -128,20 +148,23 @@ abbrev HasWorkers : List Queue → State → Type 0
 HasWorkers queues st = map (λ (queue : Queue). queue.worker) st.queues ≡ map (λ (queue : Queue). queue.worker) queues
 
 -- each queue keeps its worker
-pub workers-next : (st : State) (who : Who) (op : WorkOp) → map (λ queue. queue.worker) (work_next st who op).queues ≡ map (λ queue. queue.worker) st.queues
+pub workers-next : (st : State) (who : Who) (op : WorkOp) →
+    map (λ queue. queue.worker) (work_next st who op).queues ≡ map (λ queue. queue.worker) st.queues
 workers-next st who (ops.Submit item named) = refl
 workers-next st who (ops.Cancel item) = settle-workers (is_empty_and_idle (drop_waiting st.admissions item)) 0 st.queues
 workers-next st who (ops.CancelStart item) = settle-workers (is_empty_and_idle (drop_waiting st.admissions item)) 0 st.queues
 workers-next st who (ops.CancelDone place) = refl
 workers-next st who (ops.FlushStart item) = refl
 workers-next st who (ops.FlushDone place) = refl
-workers-next st who (ops.Schedule item queue delay) = schedule-keeps (HasWorkers st.queues) st who item queue delay refl refl (λ free later. refl)
+workers-next st who (ops.Schedule item queue delay) =
+    schedule-keeps (HasWorkers st.queues) st who item queue delay refl refl (λ free later. refl)
 workers-next st who (ops.Reschedule item queue delay) =
     delayed-keeps (HasWorkers st.queues) (record st { arms = disarm st.arms item }) who item queue delay refl (λ later. refl)
 workers-next st who (ops.Remaining item) = refl
 workers-next st who (ops.Start queue) = change-workers changes.Start st.queues queue
 workers-next st who (ops.DrainStart queue plug) =
-    change_where-workers (not (is_empty_and_idle st.admissions queue)) changes.Drain (change_where plug changes.Plug st.queues queue) queue
+    change_where-workers (not (is_empty_and_idle st.admissions queue)) changes.Drain
+    (change_where plug changes.Plug st.queues queue) queue
     ∙ change_where-workers plug changes.Plug st.queues queue
 workers-next st who (ops.DrainDone place) = refl
 workers-next st who (ops.Unplug queue) = change-workers changes.Unplug st.queues queue
@@ -154,14 +177,19 @@ pub IsWorkerOf : State → ℕ → ℕ → Type 0
 IsWorkerOf st queue worker = slice_get (map (λ (q : Queue). q.worker) st.queues) queue ≡ Some worker
 
 -- who may begin or end a run of a queue is its worker
-pub worker-is : (st : State) (queue player worker : ℕ) → slice_get (map (λ (q : Queue). q.worker) st.queues) queue ≡ Some worker → is_worker st.queues queue player ≡ true → player ≡ worker
-worker-is st queue player worker is may = by_queue (slice_get st.queues queue) (sym (slice_get-map (λ (q : Queue). q.worker) st.queues queue) ∙ is) may
+pub worker-is : (st : State) (queue player worker : ℕ) →
+    slice_get (map (λ (q : Queue). q.worker) st.queues) queue ≡ Some worker → is_worker st.queues queue player ≡ true →
+    player ≡ worker
+worker-is st queue player worker is may =
+    by_queue (slice_get st.queues queue) (sym (slice_get-map (λ (q : Queue). q.worker) st.queues queue) ∙ is) may
   where
-    by_queue : (o : Option Queue) → option_map (λ (q : Queue). q.worker) o ≡ Some worker → option_map_or (λ (q : Queue). eqb player q.worker) o false ≡ true → player ≡ worker
+    by_queue : (o : Option Queue) → option_map (λ (q : Queue). q.worker) o ≡ Some worker →
+        option_map_or (λ (q : Queue). eqb player q.worker) o false ≡ true → player ≡ worker
     by_queue None is may = absurd (cc)
     by_queue (Some q) is may = let same : q.worker ≡ worker = cc in eqb-true player q.worker may ∙ same
 
-begins-as : (st : State) (who : Who) (queue : ℕ) (reply : WorkReply) → work_reply st who (ops.Begin queue) ≡ Some reply → is_worker st.queues queue who.number ≡ true
+begins-as : (st : State) (who : Who) (queue : ℕ) (reply : WorkReply) → work_reply st who (ops.Begin queue) ≡ Some reply →
+    is_worker st.queues queue who.number ≡ true
 begins-as st who queue reply is =
     by_both (is_worker st.queues queue who.number) (is_none (run st.admissions queue)) is
   where
@@ -176,7 +204,8 @@ IsCalled (ops.End queue) = ⊥
 IsCalled op = Unit {0}
 
 -- a submission starts no run
-idle-submitted : (queue : ℕ) (xs : List Admission) (item : ℕ) (answer : Submitted) → RunsNone queue xs → RunsNone queue (submit xs item answer)
+idle-submitted : (queue : ℕ) (xs : List Admission) (item : ℕ) (answer : Submitted) → RunsNone queue xs →
+    RunsNone queue (submit xs item answer)
 idle-submitted queue xs item answer idle =
     let P : Admission → Type 0 = λ a. runs_on queue a ≡ false in
     submit-all P xs item answer (λ q to. and_right (eqb q queue) false refl) idle
@@ -185,13 +214,17 @@ idle-submitted queue xs item answer idle =
 idle-dropped : (st : State) (item queue : ℕ) → RunsNone queue st.admissions → RunsNone queue (drop_waiting st.admissions item)
 idle-dropped st item queue idle =
     let P : Admission → Type 0 = λ a. runs_on queue a ≡ false in
-    map-all P (drop_one item) (λ a none. cond-keeps P (waits_as item a) (with_life Dropped a) a (and_right (eqb a.queue queue) false refl) none) st.admissions idle
+    map-all P (drop_one item) (λ a none. cond-keeps P (waits_as item a) (with_life Dropped a) a
+    (and_right (eqb a.queue queue) false refl) none) st.admissions idle
 
 -- no call starts a run
-pub idle-called : (st : State) (who : Who) (op : WorkOp) (queue : ℕ) → IsCalled op → RunsNone queue st.admissions → RunsNone queue (work_next st who op).admissions
+pub idle-called : (st : State) (who : Who) (op : WorkOp) (queue : ℕ) → IsCalled op → RunsNone queue st.admissions →
+    RunsNone queue (work_next st who op).admissions
 idle-called st who op queue called idle =
-    admissions-next (RunsNone queue) st who op (λ ys item named stays here. idle-submitted queue ys item _ here) (λ item drops. idle-dropped st item queue idle)
-    (λ number is. absurd (subst (λ (o : WorkOp). IsCalled o) is called)) (λ number is. absurd (subst (λ (o : WorkOp). IsCalled o) is called)) idle
+    admissions-next (RunsNone queue) st who op (λ ys item named stays here. idle-submitted queue ys item _ here)
+    (λ item drops. idle-dropped st item queue idle)
+    (λ number is. absurd (subst (λ (o : WorkOp). IsCalled o) is called))
+    (λ number is. absurd (subst (λ (o : WorkOp). IsCalled o) is called)) idle
 
 end_one-idle : (queue : ℕ) (a : Admission) → runs_on queue (end_one queue a) ≡ false
 end_one-idle queue a = by_runs (runs_on queue a) refl
@@ -208,27 +241,34 @@ idle-ended queue (a ∷ xs) =
     All-cons P (end_one queue a) (map (end_one queue) xs) (end_one-idle queue a) (idle-ended queue xs)
 
 -- a worker that begins is told what it runs
-pub begin-told : (st : State) (who : Who) (queue : ℕ) (reply : WorkReply) → work_reply st who (ops.Begin queue) ≡ Some reply → (item : ℕ) × (number : ℕ) × (reply ≡ Run item number)
+pub begin-told : (st : State) (who : Who) (queue : ℕ) (reply : WorkReply) →
+    work_reply st who (ops.Begin queue) ≡ Some reply → (item : ℕ) × (number : ℕ) × (reply ≡ Run item number)
 begin-told st who queue reply is =
     by_may (may_begin st.admissions st.queues who queue) is
   where
-    by_admission : (number : ℕ) (o : Option Admission) → option_map (λ (a : Admission). Run a.item number) o ≡ Some reply → (item : ℕ) × (number : ℕ) × (reply ≡ Run item number)
+    by_admission : (number : ℕ) (o : Option Admission) →
+        option_map (λ (a : Admission). Run a.item number) o ≡ Some reply → (item : ℕ) × (number : ℕ) × (reply ≡ Run item number)
     by_admission number None is = absurd (cc)
     by_admission number (Some a) is = (a.item, number, cc)
 
-    by_number : (o : Option ℕ) → option_and_then (λ number. option_map (λ (a : Admission). Run a.item number) (slice_get st.admissions number)) o ≡ Some reply → (item : ℕ) × (number : ℕ) × (reply ≡ Run item number)
+    by_number : (o : Option ℕ) →
+        option_and_then (λ number. option_map (λ (a : Admission). Run a.item number) (slice_get st.admissions number)) o
+        ≡ Some reply → (item : ℕ) × (number : ℕ) × (reply ≡ Run item number)
     by_number None is = absurd (cc)
     by_number (Some number) is = by_admission number (slice_get st.admissions number) is
 
-    by_may : (b : Bool) → cond b (taken_up st.admissions queue) None ≡ Some reply → (item : ℕ) × (number : ℕ) × (reply ≡ Run item number)
+    by_may : (b : Bool) → cond b (taken_up st.admissions queue) None ≡ Some reply →
+        (item : ℕ) × (number : ℕ) × (reply ≡ Run item number)
     by_may true is = by_number (first_of (line st.admissions queue)) is
     by_may false is = absurd (cc)
 
 -- a queue that runs nothing does so after any operation but a Begin of its worker
-pub idle-next : (st : State) (who : Who) (op : WorkOp) (reply : WorkReply) (queue worker : ℕ) → slice_get (map (λ (q : Queue). q.worker) st.queues) queue ≡ Some worker → who.number ≢ worker →
+pub idle-next : (st : State) (who : Who) (op : WorkOp) (reply : WorkReply) (queue worker : ℕ) →
+    slice_get (map (λ (q : Queue). q.worker) st.queues) queue ≡ Some worker → who.number ≢ worker →
     work_reply st who op ≡ Some reply → RunsNone queue st.admissions → RunsNone queue (work_next st who op).admissions
 idle-next st who op reply queue worker is other made idle =
-    admissions-next (RunsNone queue) st who op (λ ys item named stays here. idle-submitted queue ys item _ here) (λ item drops. idle-dropped st item queue idle) begins ends idle
+    admissions-next (RunsNone queue) st who op (λ ys item named stays here. idle-submitted queue ys item _ here)
+    (λ item drops. idle-dropped st item queue idle) begins ends idle
   where
     P : Admission → Type 0
     P a = runs_on queue a ≡ false
@@ -236,7 +276,8 @@ idle-next st who op reply queue worker is other made idle =
     differs : (number : ℕ) → op ≡ ops.Begin number → number ≢ queue
     differs number begin same =
         let begun = ap (λ (o : WorkOp). work_reply st who o) (sym begin) ∙ made in
-        other (worker-is st queue who.number worker is (subst (λ (q : ℕ). is_worker st.queues q who.number ≡ true) same (begins-as st who number reply begun)))
+        other (worker-is st queue who.number worker is
+        (subst (λ (q : ℕ). is_worker st.queues q who.number ≡ true) same (begins-as st who number reply begun)))
 
     apart : (number : ℕ) (a : Admission) → number ≢ queue → eqb a.queue number ≡ true → eqb a.queue queue ≡ false
     apart number a differ to = grind (arith, nat_tests, eqb-true a.queue number to, differ)
@@ -244,13 +285,17 @@ idle-next st who op reply queue worker is other made idle =
     begins : (number : ℕ) → op ≡ ops.Begin number → RunsNone queue (begin st.admissions number)
     begins number is_begin =
         begin-all P st.admissions number
-        (λ a waits none. and_left (eqb a.queue queue) true (apart number a (differs number is_begin) (and_parts (eqb a.queue number) (is_waiting a.life) waits).0)) idle
+        (λ a waits none. and_left (eqb a.queue queue) true
+        (apart number a (differs number is_begin) (and_parts (eqb a.queue number) (is_waiting a.life) waits).0)) idle
 
     ends : (number : ℕ) → op ≡ ops.End number → RunsNone queue (end_run st.admissions number)
     ends number is_end =
-        map-all P (end_one number) (λ a none. cond-keeps P (runs_on number a) (with_life Ended a) a (and_right (eqb a.queue queue) false refl) none) st.admissions idle
+        map-all P (end_one number)
+        (λ a none. cond-keeps P (runs_on number a) (with_life Ended a) a (and_right (eqb a.queue queue) false refl)
+        none) st.admissions idle
 
-none-where : (test : Admission → Bool) (n : ℕ) (xs : List Admission) → first_of (places_from n test xs) ≡ None → All (λ a. test a ≡ false) xs
+none-where : (test : Admission → Bool) (n : ℕ) (xs : List Admission) → first_of (places_from n test xs) ≡ None →
+    All (λ a. test a ≡ false) xs
 none-where test n [] is = let P : Admission → Type 0 = λ a. test a ≡ false in All-nil P
 none-where test n (x ∷ xs) is = by_test (test x) refl is (none-where test (n + 1) xs)
   where
@@ -263,41 +308,52 @@ run-none : (queue : ℕ) (xs : List Admission) → RunsNone queue xs → run xs 
 run-none queue [] idle = refl
 run-none queue (x ∷ xs) idle =
     let P : Admission → Type 0 = λ a. runs_on queue a ≡ false in
-    behind (runs_on queue x) (position_or_len (runs_on queue) xs) (length xs) (All-head P x xs idle) (run-none queue xs (All-tail P x xs idle))
+    behind (runs_on queue x) (position_or_len (runs_on queue) xs) (length xs) (All-head P x xs idle)
+    (run-none queue xs (All-tail P x xs idle))
   where
     behind : (b : Bool) (place long : ℕ) → b ≡ false → cond (nat_lt place long) (Some place) None ≡ None →
         cond (nat_lt (cond (not b) (1 + place) 0) (suc long)) (Some (cond (not b) (1 + place) 0)) None ≡ None
     behind true place long is none = absurd (cc)
     behind false place long is none = by_less (nat_lt place long) refl none
       where
-        by_less : (c : Bool) → nat_lt place long ≡ c → cond c (Some place) None ≡ None → cond (nat_lt (1 + place) (suc long)) (Some (1 + place)) None ≡ None
+        by_less : (c : Bool) → nat_lt place long ≡ c → cond c (Some place) None ≡ None →
+            cond (nat_lt (1 + place) (suc long)) (Some (1 + place)) None ≡ None
         by_less true is none = absurd (cc)
-        by_less false is none = let more : nat_lt (1 + place) (suc long) ≡ false = grind (arith, nat_tests) in ap (λ c. cond c (Some (1 + place)) None) more
+        by_less false is none = let more : nat_lt (1 + place) (suc long) ≡ false = grind (arith, nat_tests) in
+            ap (λ c. cond c (Some (1 + place)) None) more
 
-first-there : (test : Admission → Bool) (n : ℕ) (xs : List Admission) (p : ℕ) → first_of (places_from n test xs) ≡ Some p → (k : ℕ) × (p ≡ n + k) × (a : Admission) × (slice_get xs k ≡ Some a)
+first-there : (test : Admission → Bool) (n : ℕ) (xs : List Admission) (p : ℕ) →
+    first_of (places_from n test xs) ≡ Some p → (k : ℕ) × (p ≡ n + k) × (a : Admission) × (slice_get xs k ≡ Some a)
 first-there test n [] p is = absurd (cc)
 first-there test n (x ∷ xs) p is = by_test (test x) is (first-there test (n + 1) xs p)
   where
     by_test : (b : Bool) → first_of (cond b (n ∷ places_from (n + 1) test xs) (places_from (n + 1) test xs)) ≡ Some p →
-        (first_of (places_from (n + 1) test xs) ≡ Some p → (k : ℕ) × (p ≡ (n + 1) + k) × (a : Admission) × (slice_get xs k ≡ Some a)) →
+        (first_of (places_from (n + 1) test xs) ≡ Some p → (k : ℕ) × (p ≡ (n + 1) + k) × (a : Admission)
+        × (slice_get xs k ≡ Some a)) →
         (k : ℕ) × (p ≡ n + k) × (a : Admission) × (slice_get (x ∷ xs) k ≡ Some a)
     by_test true here further = let same : n ≡ p = cc in (0, omega arith, x, refl)
     by_test false here further = let more = further here in (suc more.0, omega arith, more.2, more.3)
 
-is-worker : (st : State) (queue worker : ℕ) → slice_get (map (λ (q : Queue). q.worker) st.queues) queue ≡ Some worker → is_worker st.queues queue worker ≡ true
-is-worker st queue worker is = by_queue (slice_get st.queues queue) (sym (slice_get-map (λ (q : Queue). q.worker) st.queues queue) ∙ is)
+is-worker : (st : State) (queue worker : ℕ) → slice_get (map (λ (q : Queue). q.worker) st.queues) queue ≡ Some worker →
+    is_worker st.queues queue worker ≡ true
+is-worker st queue worker is =
+    by_queue (slice_get st.queues queue) (sym (slice_get-map (λ (q : Queue). q.worker) st.queues queue) ∙ is)
   where
-    by_queue : (o : Option Queue) → option_map (λ (q : Queue). q.worker) o ≡ Some worker → option_map_or (λ (q : Queue). eqb worker q.worker) o false ≡ true
+    by_queue : (o : Option Queue) → option_map (λ (q : Queue). q.worker) o ≡ Some worker →
+        option_map_or (λ (q : Queue). eqb worker q.worker) o false ≡ true
     by_queue None is = absurd (cc)
     by_queue (Some q) is = let same : q.worker ≡ worker = cc in eq-eqb worker q.worker (sym same)
 
 -- where the worker of a queue that runs nothing can't begin, nothing waits for the queue
-pub none-waits-for : (st : State) (who : Who) (queue : ℕ) → slice_get (map (λ (q : Queue). q.worker) st.queues) queue ≡ Some who.number → RunsNone queue st.admissions →
+pub none-waits-for : (st : State) (who : Who) (queue : ℕ) →
+    slice_get (map (λ (q : Queue). q.worker) st.queues) queue ≡ Some who.number → RunsNone queue st.admissions →
     work_reply st who (ops.Begin queue) ≡ None → All (λ a. waits_for queue a ≡ false) st.admissions
-none-waits-for st who queue is idle none = none-where (waits_for queue) 0 st.admissions (line_none (first_of (line st.admissions queue)) refl)
+none-waits-for st who queue is idle none =
+    none-where (waits_for queue) 0 st.admissions (line_none (first_of (line st.admissions queue)) refl)
   where
     may : may_begin st.admissions st.queues who queue ≡ true
-    may = and_from (is_worker st.queues queue who.number) (is_none (run st.admissions queue)) (is-worker st queue who.number is) (ap (λ (o : Option ℕ). is_none o) (run-none queue st.admissions idle))
+    may = and_from (is_worker st.queues queue who.number) (is_none (run st.admissions queue))
+        (is-worker st queue who.number is) (ap (λ (o : Option ℕ). is_none o) (run-none queue st.admissions idle))
 
     taken : taken_up st.admissions queue ≡ None
     taken = sym (ap (λ b. cond b (taken_up st.admissions queue) None) may) ∙ none
@@ -309,7 +365,9 @@ none-waits-for st who queue is idle none = none-where (waits_for queue) 0 st.adm
         let same : there.0 ≡ p = omega (arith, there.1) in
         let a = there.2 in
         let some : taken_up st.admissions queue ≡ Some (Run a.item p) =
-        ap (λ (o : Option ℕ). option_and_then (λ number. option_map (λ (b : Admission). Run b.item number) (slice_get st.admissions number)) o) here
-        ∙ ap (λ (o : Option Admission). option_map (λ (b : Admission). Run b.item p) o) (ap (λ (k : ℕ). slice_get st.admissions k) (sym same) ∙ there.3) in
+        ap (λ (o : Option ℕ).
+        option_and_then (λ number. option_map (λ (b : Admission). Run b.item number) (slice_get st.admissions number)) o) here
+        ∙ ap (λ (o : Option Admission). option_map (λ (b : Admission). Run b.item p) o)
+        (ap (λ (k : ℕ). slice_get st.admissions k) (sym same) ∙ there.3) in
         let none_taken = sym some ∙ taken in
         absurd (cc)

@@ -26,6 +26,7 @@ agrees-all a b c d e =
     let at_d = of_both-at (λ d. of_both (λ e. agrees a b c d e)) at_c d in
     of_both-at (λ e. agrees a b c d e) at_d e
 
-pub weights_or : (a b c d e : Bool) → bit_or (bit_or (bit_or (bit_or (weight 1 a) (weight 2 b)) (weight 4 c)) (weight 8 d)) (weight 16 e)
+pub weights_or : (a b c d e : Bool) →
+    bit_or (bit_or (bit_or (bit_or (weight 1 a) (weight 2 b)) (weight 4 c)) (weight 8 d)) (weight 16 e)
     ≡ weight 1 a + weight 2 b + weight 4 c + weight 8 d + weight 16 e
 weights_or a b c d e = let h = agrees-all a b c d e in grind (arith, nat_tests)

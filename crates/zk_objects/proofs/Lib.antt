@@ -1,3 +1,4 @@
 pub mod BitWords
 pub mod Firsts
+mod Owed
 pub mod Standing

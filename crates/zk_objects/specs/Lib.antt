@@ -1,5 +1,4 @@
 pub mod Bits
 pub mod First
 pub mod Kept
-pub mod Laws
 pub mod Seen

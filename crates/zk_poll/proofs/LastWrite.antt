@@ -25,4 +25,5 @@ last-write s (f ∷ []) e replays is = ap left_by (same_Some e f is) ∙ one-wri
 last-write s (f ∷ g ∷ gs) e replays is =
     let here : length (f ∷ g ∷ gs) - 1 ≡ suc (length gs) = omega arith in
     let there : length gs ≡ length (g ∷ gs) - 1 = omega arith in
-    last-write (signal_next s f.who f.op) (g ∷ gs) e replays.1 (is ∙ ap (slice_get (f ∷ g ∷ gs)) here ∙ ap (slice_get (g ∷ gs)) there)
+    last-write (signal_next s f.who f.op) (g ∷ gs) e replays.1 (is ∙ ap (slice_get (f ∷ g ∷ gs)) here
+    ∙ ap (slice_get (g ∷ gs)) there)

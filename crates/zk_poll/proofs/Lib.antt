@@ -1,2 +1,3 @@
 mod LastWrite
 mod Noting
+mod SignalOwed

@@ -25,7 +25,8 @@ some-stays best (m ∷ ms) none = by m.noted (int_lt m.who.prio best.who.prio) n
 pub none-left : (ms : List Member) → first_to_note None ms ≡ None → All IsNoted ms
 none-left [] none = All-nil IsNoted
 none-left (m ∷ ms) none = by m.noted refl none (none-left ms) where
-  by : (noted : Bool) → m.noted ≡ noted → first_to_note (cond noted None (Some m)) ms ≡ None → (first_to_note None ms ≡ None → All IsNoted ms) → All IsNoted (m ∷ ms)
+  by : (noted : Bool) → m.noted ≡ noted → first_to_note (cond noted None (Some m)) ms ≡ None →
+      (first_to_note None ms ≡ None → All IsNoted ms) → All IsNoted (m ∷ ms)
   by true is none rest = All-cons IsNoted m ms is (rest none)
   by false is none rest = absurd (some-stays m ms none)
 
@@ -33,7 +34,8 @@ none-left (m ∷ ms) none = by m.noted refl none (none-left ms) where
 pub all-noted : (ms : List Member) → All IsNoted ms → first_to_note None ms ≡ None
 all-noted [] all = refl
 all-noted (m ∷ ms) all =
-    ap (λ (noted : Bool). first_to_note (cond noted None (Some m)) ms) (All-head IsNoted m ms all) ∙ all-noted ms (All-tail IsNoted m ms all)
+    ap (λ (noted : Bool). first_to_note (cond noted None (Some m)) ms) (All-head IsNoted m ms all)
+    ∙ all-noted ms (All-tail IsNoted m ms all)
 
 -- the first of a place, noted
 set-noted : (place : ℕ) (ms : List Member) (m : Member) → slice_get ms (position_or_len (is_at place) ms) ≡ Some m →
@@ -41,15 +43,18 @@ set-noted : (place : ℕ) (ms : List Member) (m : Member) → slice_get ms (posi
 set-noted place [] m is = refl
 set-noted place (x ∷ xs) m is = by (is_at place x) is (set-noted place xs m) where
   by : (here : Bool) → slice_get (x ∷ xs) (cond (not here) (1 + position_or_len (is_at place) xs) 0) ≡ Some m →
-      (slice_get xs (position_or_len (is_at place) xs) ≡ Some m → slice_set xs (position_or_len (is_at place) xs) (record m { noted = true }) ≡ noted_at place xs) →
-      slice_set (x ∷ xs) (cond (not here) (1 + position_or_len (is_at place) xs) 0) (record m { noted = true }) ≡ cond here (record x { noted = true } ∷ xs) (x ∷ noted_at place xs)
+      (slice_get xs (position_or_len (is_at place) xs) ≡ Some m →
+      slice_set xs (position_or_len (is_at place) xs) (record m { noted = true }) ≡ noted_at place xs) →
+      slice_set (x ∷ xs) (cond (not here) (1 + position_or_len (is_at place) xs) 0) (record m { noted = true })
+      ≡ cond here (record x { noted = true } ∷ xs) (x ∷ noted_at place xs)
   by true is rest = ap (λ (y : Member). record y { noted = true } ∷ xs) (sym (same_Some x m is))
   by false is rest =
       let next : 1 + position_or_len (is_at place) xs ≡ suc (position_or_len (is_at place) xs) = omega arith in
       ap (λ (n : ℕ). slice_set (x ∷ xs) n (record m { noted = true })) next
       ∙ ap (λ (l : List Member). x ∷ l) (rest (ap (slice_get (x ∷ xs)) (sym next) ∙ is))
 
-pub note-set : (place : ℕ) (ms : List Member) (at : ℕ) (m : Member) → position (is_at place) ms ≡ Some at → slice_get ms at ≡ Some m →
+pub note-set : (place : ℕ) (ms : List Member) (at : ℕ) (m : Member) → position (is_at place) ms ≡ Some at →
+    slice_get ms at ≡ Some m →
     slice_set ms at (record m { noted = true }) ≡ noted_at place ms
 note-set place ms at m found is =
     let first = first-place (is_at place) ms at found in
@@ -71,7 +76,8 @@ none-at place ms none = lost ms (find-none (is_at place) ms none) where
   lost : (ms : List Member) → find (is_at place) ms ≡ None → noted_at place ms ≡ ms
   lost [] none = refl
   lost (m ∷ ms) none = by (is_at place m) none (lost ms) where
-    by : (here : Bool) → cond here (Some m) (find (is_at place) ms) ≡ None → (find (is_at place) ms ≡ None → noted_at place ms ≡ ms) →
+    by : (here : Bool) → cond here (Some m) (find (is_at place) ms) ≡ None →
+        (find (is_at place) ms ≡ None → noted_at place ms ≡ ms) →
         cond here (record m { noted = true } ∷ ms) (m ∷ noted_at place ms) ≡ m ∷ ms
     by true none rest = absurd (cc)
     by false none rest = ap (λ (l : List Member). m ∷ l) (rest none)

@@ -1,4 +1,3 @@
 pub mod Notes
 pub mod Seen
-pub mod SignalLaws
 pub mod Words

@@ -17,7 +17,8 @@ use Rattle.zk_queue.specs.Places.{count}
 pub remove-first : (item : ℕ) (xs : List Ticket) → remove xs (position_or_len (is_of item) xs) ≡ without item xs
 remove-first item [] = refl
 remove-first item (t ∷ ts) = at (is_of item t) (position_or_len (is_of item) ts) (without item ts) (remove-first item ts) where
-  at : (b : Bool) (n : ℕ) (rest : List Ticket) → remove ts n ≡ rest → remove (t ∷ ts) (cond (not b) (1 + n) 0) ≡ cond b ts (t ∷ rest)
+  at : (b : Bool) (n : ℕ) (rest : List Ticket) → remove ts n ≡ rest →
+      remove (t ∷ ts) (cond (not b) (1 + n) 0) ≡ cond b ts (t ∷ rest)
   at true n rest same = refl
   at false n rest same =
       let next : 1 + n ≡ suc n = omega arith in
@@ -27,7 +28,8 @@ remove-first item (t ∷ ts) = at (is_of item t) (position_or_len (is_of item) t
 pub without_none : (item : ℕ) (xs : List Ticket) → count item xs ≡ 0 → without item xs ≡ xs
 without_none item [] none = refl
 without_none item (t ∷ ts) none = at (is_of item t) (without_none item ts) none where
-  at : (b : Bool) → (count item ts ≡ 0 → without item ts ≡ ts) → weight 1 b + count item ts ≡ 0 → cond b ts (t ∷ without item ts) ≡ t ∷ ts
+  at : (b : Bool) → (count item ts ≡ 0 → without item ts ≡ ts) → weight 1 b + count item ts ≡ 0 →
+      cond b ts (t ∷ without item ts) ≡ t ∷ ts
   at true rest none = absurd (omega arith)
   at false rest none = ap (λ (ts : List Ticket). t ∷ ts) (rest (omega arith))
 
@@ -58,7 +60,8 @@ count-push item (x ∷ xs) t = let rest = count-push item xs t in omega arith
 pub count-without : (item : ℕ) (xs : List Ticket) → count item (without item xs) ≡ count item xs - 1
 count-without item [] = refl
 count-without item (t ∷ ts) = at (is_of item t) (count-without item ts) refl where
-  at : (b : Bool) → count item (without item ts) ≡ count item ts - 1 → is_of item t ≡ b → count item (cond b ts (t ∷ without item ts)) ≡ weight 1 b + count item ts - 1
+  at : (b : Bool) → count item (without item ts) ≡ count item ts - 1 → is_of item t ≡ b →
+      count item (cond b ts (t ∷ without item ts)) ≡ weight 1 b + count item ts - 1
   at true rest is = omega arith
   at false rest is = let here : weight 1 (is_of item t) ≡ 0 = ap (weight 1) is in omega arith
 
@@ -69,7 +72,8 @@ count-without_other item other (t ∷ ts) differ = at (is_of item t) (count-with
   none : eqb t.item item ≡ true → weight 1 (eqb t.item other) ≡ 0
   none is = grind (arith, nat_tests)
 
-  at : (b : Bool) → count other (without item ts) ≡ count other ts → is_of item t ≡ b → count other (cond b ts (t ∷ without item ts)) ≡ weight 1 (is_of other t) + count other ts
+  at : (b : Bool) → count other (without item ts) ≡ count other ts → is_of item t ≡ b →
+      count other (cond b ts (t ∷ without item ts)) ≡ weight 1 (is_of other t) + count other ts
   at true rest is = let zero_here = none is in omega arith
   at false rest is = omega arith
 
@@ -82,22 +86,28 @@ length-without item (t ∷ ts) = at (is_of item t) (length-without item ts) wher
   at false rest = omega arith
 
 -- where no item stands twice, and only the first so many items stand at all, there are no more tickets than so many
-pub length_fits : (n : ℕ) (xs : List Ticket) → ((item : ℕ) → count item xs ≤ 1) → ((item : ℕ) → n ≤ item → count item xs ≡ 0) → length xs ≤ n
+pub length_fits : (n : ℕ) (xs : List Ticket) → ((item : ℕ) → count item xs ≤ 1) →
+    ((item : ℕ) → n ≤ item → count item xs ≡ 0) → length xs ≤ n
 length_fits zero [] once below = omega arith
 length_fits zero (t ∷ ts) once below =
     let none = below t.item (omega arith) in
     let here : weight 1 (eqb t.item t.item) ≡ 1 = ap (weight 1) (eq-eqb t.item t.item refl) in
     absurd (omega arith)
 length_fits (suc n) xs once below =
-    let rest = length_fits n (without n xs) (λ item. fewer item (eqb_tells item n)) (λ item within. none item within (eqb_tells item n)) in
+    let rest = length_fits n (without n xs) (λ item. fewer item (eqb_tells item n))
+    (λ item within. none item within (eqb_tells item n)) in
     omega (arith, length-without n xs) where
-      fewer : (item : ℕ) → ((eqb item n ≡ true) × (item ≡ n)) ⊎ ((eqb item n ≡ false) × (item ≢ n)) → count item (without n xs) ≤ 1
+      fewer : (item : ℕ) → ((eqb item n ≡ true) × (item ≡ n)) ⊎ ((eqb item n ≡ false) × (item ≢ n)) →
+          count item (without n xs) ≤ 1
       fewer item (inl same) = subst (λ m. count m (without n xs) ≤ 1) (sym same.1) (omega (arith, once n, count-without n xs))
       fewer item (inr differ) = omega (arith, once item, count-without_other n item xs differ.1)
 
-      none : (item : ℕ) → n ≤ item → ((eqb item n ≡ true) × (item ≡ n)) ⊎ ((eqb item n ≡ false) × (item ≢ n)) → count item (without n xs) ≡ 0
-      none item within (inl same) = subst (λ m. count m (without n xs) ≡ 0) (sym same.1) (omega (arith, once n, count-without n xs))
-      none item within (inr differ) = let ne = differ.1 in omega (arith, below item (omega arith), count-without_other n item xs differ.1)
+      none : (item : ℕ) → n ≤ item → ((eqb item n ≡ true) × (item ≡ n)) ⊎ ((eqb item n ≡ false) × (item ≢ n)) →
+          count item (without n xs) ≡ 0
+      none item within (inl same) =
+          subst (λ m. count m (without n xs) ≡ 0) (sym same.1) (omega (arith, once n, count-without n xs))
+      none item within (inr differ) = let ne = differ.1 in
+          omega (arith, below item (omega arith), count-without_other n item xs differ.1)
 
 pub All-without : (P : Ticket → Type 0) (item : ℕ) (xs : List Ticket) → All P xs → All P (without item xs)
 All-without P item [] all = all
@@ -130,7 +140,8 @@ place_within n place long found = grind (arith, nat_tests)
 remove_past : (n : ℕ) (xs : List Ticket) → length xs ≤ n → remove xs n ≡ xs
 remove_past n xs past = grind (arith, common_steps)
 
-pub place-none : (item : ℕ) (xs : List Ticket) → position (is_of item) xs ≡ None → (number_in item xs ≡ None) × (without item xs ≡ xs)
+pub place-none : (item : ℕ) (xs : List Ticket) → position (is_of item) xs ≡ None →
+    (number_in item xs ≡ None) × (without item xs ≡ xs)
 place-none item xs none =
     let n = position_or_len (is_of item) xs in
     let past = place_past n 0 (length xs) none in (
@@ -138,17 +149,21 @@ place-none item xs none =
       sym (remove-first item xs) ∙ remove_past n xs past,
     )
 
-pub place-some : (item : ℕ) (xs : List Ticket) (place : ℕ) (t : Ticket) → position (is_of item) xs ≡ Some place → t ≡ get_or xs place t →
+pub place-some : (item : ℕ) (xs : List Ticket) (place : ℕ) (t : Ticket) → position (is_of item) xs ≡ Some place →
+    t ≡ get_or xs place t →
     (number_in item xs ≡ Some t.number) × (without item xs ≡ remove xs place)
 place-some item xs place t found said =
     let n = position_or_len (is_of item) xs in
     let within = place_within n place (length xs) found in (
-      ap (option_map (λ (t : Ticket). t.number)) (find_at (is_of item) xs ∙ ap (slice_get xs) within.0 ∙ slice_get_read xs (length xs) place t refl within.1 said),
+      ap (option_map (λ (t : Ticket). t.number)) (find_at (is_of item) xs ∙ ap (slice_get xs) within.0
+          ∙ slice_get_read xs (length xs) place t refl within.1 said),
       sym (remove-first item xs) ∙ ap (remove xs) within.0,
     )
 
 -- the first of a rising line is below all that stay when it is taken out
-pub first_lowest : (line : List Ticket) → Rises line → IfSome (first line) (λ t. All (λ later. t.number < later.number) (without t.item line))
+pub first_lowest : (line : List Ticket) → Rises line →
+    IfSome (first line) (λ t. All (λ later. t.number < later.number) (without t.item line))
 first_lowest [] rises = tt
 first_lowest (t ∷ ts) rises =
-    subst (λ b. All (λ (later : Ticket). t.number < later.number) (cond b ts (t ∷ without t.item ts))) (sym (eq-eqb t.item t.item refl)) rises.0
+    subst (λ b. All (λ (later : Ticket). t.number < later.number) (cond b ts (t ∷ without t.item ts)))
+    (sym (eq-eqb t.item t.item refl)) rises.0

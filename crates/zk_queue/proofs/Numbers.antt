@@ -11,7 +11,8 @@ use Rattle.zk_queue.proofs.Lines.{All-without}
 pub IsAbove-drop : (number item : ℕ) (o : Open) → IsAbove number o → IsAbove number (drop_item o item)
 IsAbove-drop number item o above =
     let P : Ticket → Type 0 = λ t. t.number < number in
-    All-map (All P) (without item) o.lines (All-weaker (All P) (λ (l : List Ticket). All P (without item l)) (λ (l : List Ticket) all. All-without P item l all) o.lines above)
+    All-map (All P) (without item) o.lines (All-weaker (All P) (λ (l : List Ticket). All P (without item l))
+    (λ (l : List Ticket) all. All-without P item l all) o.lines above)
 
 -- a begin leaves the items and the queues
 pub items-begin : (queue : ℕ) (o : Open) → (begin o queue).items ≡ o.items

@@ -14,8 +14,6 @@ use Rattle.zk_scenario.specs.Players.{players}
 use Rattle.zk_line.proofs.Tables.{length-places}
 use Rattle.zk_scenario.proofs.Valid.{length-players}
 use Rattle.zk_base.specs.declared.ids.Entry.{Entry}
-use Rattle.zk_model_wait.specs.declared.clock.ClockOp.{ClockOp}
-use Rattle.zk_model_wait.specs.declared.clock.ClockReply.{ClockReply}
 use Rattle.zk_model_wait.specs.declared.sem.SemOp.{SemOp}
 use Rattle.zk_model_wait.specs.declared.sem.SemReply.{SemReply}
 use Rattle.zk_model_wait.specs.declared.msgq.MsgqOp.{MsgqOp}
@@ -26,31 +24,36 @@ use Rattle.zk_model_bus.specs.declared.channel.ChanOp.{ChanOp}
 use Rattle.zk_model_bus.specs.declared.channel.ChanReply.{ChanReply}
 use Rattle.zk_model_bus.specs.declared.observer.ObsOp.{ObsOp}
 use Rattle.zk_model_bus.specs.declared.observer.ObsReply.{ObsReply}
-use Rattle.zk_model_bus.specs.Channel.{Channel}
-use Rattle.zk_model_bus.specs.Observer.{Observer}
-use Rattle.zk_model_wait.specs.Signal.{Signal}
-use Rattle.zk_model_wait.specs.Sem.{Sem}
-use Rattle.zk_model_wait.specs.Msgq.{Msgq}
 use Rattle.zk_worker.specs.Families.{no_entries}
-use Rattle.zk_model_wait.specs.Clock.{Clock, new_clock}
-use Rattle.zk_model_work.specs.declared.ops.WorkOp.{WorkOp}
-use Rattle.zk_model_work.specs.declared.ops.WorkReply.{WorkReply}
-use Rattle.zk_model_work.specs.State.{State}
 use Rattle.zk_worker.specs.declared.steps.Spot.{Spot}
 use Rattle.zk_worker.specs.declared.steps.TheConstants.{MOST_STEPS}
 use Rattle.zk_worker.specs.Places.{At}
 use Rattle.zk_worker.specs.Protocol.{start_at}
 use Rattle.zk_worker.specs.Follows.{is_spent_at}
-use Rattle.zk_worker.specs.Ranges.{FramesFit}
-use Rattle.zk_worker.specs.Machines.{machines_of, workers, work_start_of, item_number, items_of, sem_start, msgq_start, signal_start, chan_start, observer_start}
+use Rattle.zk_worker.specs.Ranges.{IsFit}
+use Rattle.zk_worker.specs.Machines as machines
+use Rattle.zk_worker.specs.Machines.{machines_of, workers, work_start_of, item_number, items_of}
+use Rattle.zk_model_wait.specs.Clock.{new_clock}
+use Rattle.zk_bus.specs.Seen.{chan_start, chan_history}
+use Rattle.zk_model_bus.specs.Table.{new_table}
+use Rattle.zk_worker.specs.TableSetup.{setup_of}
+use Rattle.zk_objects.specs.Seen.{objects_start, objects_history}
+use Rattle.zk_msgq.specs.Seen.{msgq_start, msgq_history}
+use Rattle.zk_poll.specs.Seen.{signal_start, signal_history}
+use Rattle.zk_sem.specs.Seen.{sem_start, sem_history}
+use Rattle.zk_subq.specs.Seen.{obs_start, obs_history}
+use Rattle.zk_work.specs.Seen.{work_start, work_history}
+use Rattle.zk_time.specs.ClockSeen.{clock_start, clock_history}
+use Rattle.zk_replay.specs.declared.plain.Plain.{Plain}
+use Rattle.zk_replay.specs.Alone.{plain_machines, plain_shown}
+use Rattle.zk_replay.specs.Objects.{starts_of, histories_of}
 use Rattle.zk_worker.specs.Shown.{Shown, nothing_shown}
-use Rattle.zk_worker.proofs.Fits.{start_at-fits}
+use Rattle.zk_worker.proofs.FitsStill.{start_at-fits}
 use Rattle.zk_worker.proofs.Following.{following-fresh}
 use Rattle.zk_worker.proofs.Between.{log-none}
 use Rattle.zk_worker.proofs.Looking.{looks-fresh}
 use Rattle.zk_worker.proofs.Starts.{start_at-some, start_at-fresh, IsFresh}
 use Rattle.zk_worker.proofs.Lists.{at-end}
-use Rattle.zk_replay.specs.Alone.{machines_from, whole_shown}
 use Rattle.zk_replay.specs.RoundRobin.{starts, first, is_spent}
 use Rattle.zk_replay.specs.Ready.{IsReady}
 use Rattle.zk_replay.specs.Turning.{world}
@@ -149,7 +152,6 @@ ready-first s valid =
     let count : At → ℕ = λ at. length at.spots in
     let None_made : At → Type 0 = λ at. length at.spots ≤ 0 in
     let Short : At → Type 0 = λ at. length at.spots ≤ MOST_STEPS in
-    let Fits : At → Type 0 = λ at. FramesFit s.decls at.frames in
     let none : All None_made (starts s n) =
     starts-all None_made s (λ k at is. omega (arith, ap (λ (l : List Spot). length l) (start_at-fresh s k at is).none_made)) n in
     record {
@@ -163,7 +165,7 @@ ready-first s valid =
       whole = refl;
       unlooked = refl;
       follow = λ p at is. following-fresh s p (nothing_shown s.decls) at (first-there s p at is);
-      fits = starts-all Fits s (λ k at is. start_at-fits s k at is) n;
+      fits = starts-all (IsFit s) s (λ k at is. start_at-fits s k at is) n;
     }
 
 unspent-fresh : (at : At) → length at.spots ≤ 0 → is_spent_at at ≡ false
@@ -186,33 +188,27 @@ pub world-first : (s : Parts) (shown : Shown) (made : List At) → shown ≡ not
 world-first s shown made nothing all = ap (λ (x : Shown). world x made) nothing ∙ ap (world (nothing_shown s.decls)) all
 
 -- services that start as those of a scenario do have its machines
-pub machines-first : (s : Parts) (work : State) (items : List (Option ℕ)) (clock : Clock) (sems : List (Option Sem)) (msgqs : List (Option Msgq)) (signals : List (Option Signal))
-    (chans : List (Option Channel)) (observers : List (Option Observer)) →
-    work ≡ work_start_of s → items ≡ items_of s.decls → clock ≡ new_clock → sems ≡ map sem_start s.decls → msgqs ≡ map msgq_start s.decls → signals ≡ map signal_start s.decls →
-    chans ≡ map chan_start s.decls → observers ≡ map observer_start s.decls → machines_from work items clock sems msgqs signals chans observers ≡ machines_of s
-machines-first s work items clock sems msgqs signals chans observers same_work same_items same_clock same_sems same_msgqs same_signals same_chans same_observers =
-    ap (λ (x : State). machines_from x items clock sems msgqs signals chans observers) same_work
-    ∙ ap (λ (x : List (Option ℕ)). machines_from (work_start_of s) x clock sems msgqs signals chans observers) same_items
-    ∙ ap (λ (x : Clock). machines_from (work_start_of s) (items_of s.decls) x sems msgqs signals chans observers) same_clock
-    ∙ ap (λ (x : List (Option Sem)). machines_from (work_start_of s) (items_of s.decls) new_clock x msgqs signals chans observers) same_sems
-    ∙ ap (λ (x : List (Option Msgq)). machines_from (work_start_of s) (items_of s.decls) new_clock (map sem_start s.decls) x signals chans observers) same_msgqs
-    ∙ ap (λ (x : List (Option Signal)). machines_from (work_start_of s) (items_of s.decls) new_clock (map sem_start s.decls) (map msgq_start s.decls) x chans observers) same_signals
-    ∙ ap (λ (x : List (Option Channel)). machines_from (work_start_of s) (items_of s.decls) new_clock (map sem_start s.decls) (map msgq_start s.decls) (map signal_start s.decls) x observers) same_chans
-    ∙ ap (machines_from (work_start_of s) (items_of s.decls) new_clock (map sem_start s.decls) (map msgq_start s.decls) (map signal_start s.decls) (map chan_start s.decls)) same_observers
+pub machines-first : (s : Parts) (p : Plain) →
+    work_start p.work ≡ work_start_of s → p.items.items ≡ items_of s.decls → clock_start p.clock ≡ new_clock →
+    objects_start p.table ≡ new_table (setup_of s) →
+    starts_of sem_start p.sems.items ≡ map machines.sem_start s.decls →
+    starts_of msgq_start p.msgqs.items ≡ map machines.msgq_start s.decls →
+    starts_of signal_start p.signals.items ≡ map machines.signal_start s.decls →
+    starts_of chan_start p.chans.items ≡ map machines.chan_start s.decls →
+    starts_of obs_start p.observers.items ≡ map machines.observer_start s.decls →
+    plain_machines p ≡ machines_of s
+machines-first s p same_work same_items same_clock same_table same_sems same_msgqs same_signals same_chans same_observers = cc
 
 -- and show nothing
-pub shown-first : (s : Parts) (work : List (Entry WorkOp WorkReply)) (clock : List (Entry ClockOp ClockReply)) (sems : List (List (Entry SemOp SemReply)))
-    (msgqs : List (List (Entry MsgqOp MsgqReply))) (signals : List (List (Entry SignalOp SignalReply))) (chans : List (List (Entry ChanOp ChanReply))) (observers : List (List (Entry ObsOp ObsReply))) →
-    work ≡ [] → clock ≡ [] → sems ≡ no_entries s.decls → msgqs ≡ no_entries s.decls → signals ≡ no_entries s.decls → chans ≡ no_entries s.decls → observers ≡ no_entries s.decls →
-    whole_shown work clock sems msgqs signals chans observers ≡ nothing_shown s.decls
-shown-first s work clock sems msgqs signals chans observers no_work no_clock no_sems no_msgqs no_signals no_chans no_observers =
-    ap (λ (h : List (Entry WorkOp WorkReply)). whole_shown h clock sems msgqs signals chans observers) no_work
-    ∙ ap (λ (h : List (Entry ClockOp ClockReply)). whole_shown [] h sems msgqs signals chans observers) no_clock
-    ∙ ap (λ (h : List (List (Entry SemOp SemReply))). whole_shown [] [] h msgqs signals chans observers) no_sems
-    ∙ ap (λ (h : List (List (Entry MsgqOp MsgqReply))). whole_shown [] [] (no_entries s.decls) h signals chans observers) no_msgqs
-    ∙ ap (λ (h : List (List (Entry SignalOp SignalReply))). whole_shown [] [] (no_entries s.decls) (no_entries s.decls) h chans observers) no_signals
-    ∙ ap (λ (h : List (List (Entry ChanOp ChanReply))). whole_shown [] [] (no_entries s.decls) (no_entries s.decls) (no_entries s.decls) h observers) no_chans
-    ∙ ap (whole_shown [] [] (no_entries s.decls) (no_entries s.decls) (no_entries s.decls) (no_entries s.decls)) no_observers
+pub shown-first : (s : Parts) (p : Plain) →
+    work_history p.work ≡ [] → clock_history p.clock ≡ [] → objects_history p.table ≡ [] →
+    histories_of sem_history p.sems.items ≡ no_entries s.decls →
+    histories_of msgq_history p.msgqs.items ≡ no_entries s.decls →
+    histories_of signal_history p.signals.items ≡ no_entries s.decls →
+    histories_of chan_history p.chans.items ≡ no_entries s.decls →
+    histories_of obs_history p.observers.items ≡ no_entries s.decls →
+    plain_shown p ≡ nothing_shown s.decls
+shown-first s p no_work no_clock no_table no_sems no_msgqs no_signals no_chans no_observers = cc
 
 -- one number more
 pub items_more : (decls : List Decl) (n : ℕ) → map (item_number decls) (range_with_len 0 n) ++ item_number decls n ∷ [] ≡ map (item_number decls) (range_with_len 0 (n + 1))

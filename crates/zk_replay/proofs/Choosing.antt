@@ -11,7 +11,10 @@ use Rattle.zk_worker.specs.declared.frames.Frame.{Frame}
 use Rattle.zk_worker.specs.declared.playing.Stepped.{Stepped}
 use Rattle.zk_worker.specs.declared.playing.Stepped.TheVariants.{Did, NotYet, Ended, Spent}
 use Rattle.zk_worker.specs.Places.{At}
-use Rattle.zk_worker.specs.Protocol.{attempts, frames_attempts}
+use Rattle.zk_worker.specs.declared.checks.Mode.{Mode}
+use Rattle.zk_worker.specs.declared.checks.Mode.TheVariants.{User}
+use Rattle.zk_worker.specs.Checks.{next_check}
+use Rattle.zk_worker.specs.Protocol.{attempts, checks_first, frames_attempts}
 use Rattle.zk_worker.specs.Follows.{is_spent_at, is_through}
 use Rattle.zk_worker.specs.Machines.{Machines}
 use Rattle.zk_worker.specs.Shown.{Shown, shown_after}
@@ -44,11 +47,16 @@ module _ (m : Machines) (shown : Shown) (who : Who) where
 through-none : (s : Parts) (at : At) → is_through at.frames ≡ true → attempts s at ≡ []
 through-none s at through = by_frames at.frames through
   where
-    by_room : (b : Bool) → cond b (frames_attempts s []) [] ≡ []
-    by_room true = refl
+    none-next : (mode : Mode) → checks_first (next_check s mode at.passed []) (frames_attempts s []) ≡ []
+    none-next User = refl
+    none-next mode = refl
+
+    by_room : (b : Bool) → cond b (checks_first (next_check s at.mode at.passed []) (frames_attempts s [])) [] ≡ []
+    by_room true = none-next at.mode
     by_room false = refl
 
-    by_frames : (frames : List Frame) → is_through frames ≡ true → cond (nat_lt (length at.spots) MOST_STEPS) (frames_attempts s frames) [] ≡ []
+    by_frames : (frames : List Frame) → is_through frames ≡ true →
+        cond (nat_lt (length at.spots) MOST_STEPS) (checks_first (next_check s at.mode at.passed frames) (frames_attempts s frames)) [] ≡ []
     by_frames [] is = by_room (nat_lt (length at.spots) MOST_STEPS)
     by_frames (frame ∷ below) is = absurd (cc)
 

@@ -6,25 +6,8 @@ use Rattle.std.proofs.lemmas.Bool.{and_from}
 use Rattle.std.proofs.lemmas.Bool.Decides.{nat_tests}
 use Rattle.std.proofs.lemmas.List.{length-set}
 use Rattle.std.proofs.lemmas.List.Elements.{All-head, All-tail}
-use Rattle.zk_base.specs.declared.ids.Entry.{Entry}
-use Rattle.zk_base.proofs.Lists.{and_second, cond_nil-at, All-at, list_all-at}
+use Rattle.zk_base.proofs.Lists.{and_second, All-at, list_all-at}
 use Rattle.zk_base.specs.Legal.{state_after}
-use Rattle.zk_model_wait.specs.declared.clock.ClockOp.{ClockOp}
-use Rattle.zk_model_wait.specs.declared.clock.ClockReply.{ClockReply}
-use Rattle.zk_model_wait.specs.declared.sem.SemOp.{SemOp}
-use Rattle.zk_model_wait.specs.declared.sem.SemReply.{SemReply}
-use Rattle.zk_model_wait.specs.declared.msgq.MsgqOp.{MsgqOp}
-use Rattle.zk_model_wait.specs.declared.msgq.MsgqReply.{MsgqReply}
-use Rattle.zk_model_wait.specs.declared.signal.SignalOp.{SignalOp}
-use Rattle.zk_model_wait.specs.declared.signal.SignalReply.{SignalReply}
-use Rattle.zk_model_bus.specs.declared.channel.ChanOp.{ChanOp}
-use Rattle.zk_model_bus.specs.declared.channel.ChanReply.{ChanReply}
-use Rattle.zk_model_bus.specs.declared.observer.ObsOp.{ObsOp}
-use Rattle.zk_model_bus.specs.declared.observer.ObsReply.{ObsReply}
-use Rattle.zk_trace.specs.declared.looks.ItemLook.{ItemLook}
-use Rattle.zk_trace.specs.declared.looks.SignalLook.{SignalLook}
-use Rattle.zk_trace.specs.Looked.{item_looks_of, signal_looks_of}
-use Rattle.zk_model_work.specs.declared.ops.WorkOp.{WorkOp}
 use Rattle.zk_model_work.specs.declared.ops.WorkOp.TheVariants as ops
 use Rattle.zk_model_work.specs.declared.ops.WorkReply.{WorkReply}
 use Rattle.zk_model_work.specs.declared.parts.Admission.{Admission}
@@ -46,18 +29,22 @@ use Rattle.zk_worker.specs.declared.frames.Role.{Role}
 use Rattle.zk_worker.specs.declared.frames.Role.TheVariants.{Worker}
 use Rattle.zk_worker.specs.declared.frames.Stage.{Stage}
 use Rattle.zk_worker.specs.declared.frames.Stage.TheVariants.{Start, Runs}
-use Rattle.zk_worker.specs.declared.log.Log.{Log}
 use Rattle.zk_worker.specs.Places.{At}
-use Rattle.zk_worker.specs.Protocol.{attempts, frames_attempts, role_attempts, after}
+use Rattle.zk_worker.specs.declared.checks.Mode.{Mode}
+use Rattle.zk_worker.specs.Checks.{next_check}
+use Rattle.zk_worker.specs.Protocol.{IsAhead, attempts, checks_first, frames_attempts, frames_progress, role_attempts, after}
+use Rattle.zk_worker.specs.Ranges.{IsFit}
+use Rattle.zk_worker.proofs.Replied.{replied-fits}
+use Rattle.zk_worker.proofs.StageFits.{ProgressFits, frames_progress-fits}
 use Rattle.zk_worker.specs.Follows.{log_of, is_done, is_between, is_spent_at}
 use Rattle.zk_worker.specs.Machines.{work_start_of, machines_of}
 use Rattle.zk_worker.specs.Attempt.{reply_in}
 use Rattle.zk_worker.proofs.Lists.{none-passes}
 use Rattle.zk_worker.proofs.ShownSteps.{made-of}
 use Rattle.zk_worker.proofs.Ranges.{same-lengths}
-use Rattle.zk_trace.specs.declared.trace.Ending.{Ending}
 use Rattle.zk_trace.specs.declared.trace.Ending.TheVariants as endings
 use Rattle.zk_trace.specs.declared.trace.Trace.{Trace}
+use Rattle.zk_trace.specs.Looked.{item_looks_of, signal_looks_of}
 use Rattle.zk_worker.specs.Choosing.{or_else, first_possible, chosen}
 use Rattle.zk_replay.specs.RoundRobin.{World, stepped, first, round, rounds, is_spent, IsRun}
 use Rattle.zk_replay.specs.Ready.{IsReady}
@@ -94,30 +81,38 @@ good-step : (s : Parts) (w : World) (p : ℕ) (at : At) (made : Step × StepRepl
     chosen (machines_of s) s w.shown at ≡ Some made → IsGood s (stepped s w p at (Some made))
 good-step s w p at (step, reply) good unspent is choice =
     let made = first_possible-is (machines_of s) w.shown at.who (attempts s at) (step, reply) choice in
-    let ahead = (cond_nil-at (nat_lt (length at.spots) MOST_STEPS) (frames_attempts s at.frames) made.place step made.is_there).1 in
-    by_step step reply made.place choice ahead made.answered
+    by_step step reply choice (made.place, made.is_there) made.answered
   where
-    elsewhere : (step : Step) (reply : StepReply) (place : ℕ) → IsElsewhere step → chosen (machines_of s) s w.shown at ≡ Some (step, reply) → slice_get (frames_attempts s at.frames) place ≡ Some step →
-        IsGood s (stepped s w p at (Some (step, reply)))
-    elsewhere step reply place other choice ahead =
-        good-from s w p at (step, reply) good.state good unspent is choice (tended-elsewhere s w good.state p at step reply place other good.tended is ahead)
+    fits : (step : Step) (reply : StepReply) → reply_in (machines_of s) w.shown at.who step ≡ Some reply → ProgressFits s.decls (frames_progress s at.frames step reply)
+    fits step reply answered =
+        frames_progress-fits s at.frames step reply (All-at (IsFit s) w.players p at good.ready.fits is).frames
+        (replied-fits s (machines_of s) w.shown at.who step reply good.ready.valid refl answered)
 
-    by_step : (step : Step) (reply : StepReply) (place : ℕ) → chosen (machines_of s) s w.shown at ≡ Some (step, reply) → slice_get (frames_attempts s at.frames) place ≡ Some step →
+    elsewhere : (step : Step) (reply : StepReply) → IsElsewhere step → chosen (machines_of s) s w.shown at ≡ Some (step, reply) → IsAhead s at step →
         reply_in (machines_of s) w.shown at.who step ≡ Some reply → IsGood s (stepped s w p at (Some (step, reply)))
-    by_step (steps.Work op) reply place choice ahead answered =
-        let from = made-of (λ (r : WorkReply). step_replies.Work r (length w.shown.work)) (work_reply (state_after work_machine (work_start_of s) w.shown.work) at.who op) reply answered in
+    elsewhere step reply other choice ahead answered =
+        good-from s w p at (step, reply) good.state good unspent is choice
+        (tended-elsewhere s w good.state p at step reply good.ready.valid other good.tended is ahead (fits step reply answered))
+
+    by_step : (step : Step) (reply : StepReply) → chosen (machines_of s) s w.shown at ≡ Some (step, reply) → IsAhead s at step →
+        reply_in (machines_of s) w.shown at.who step ≡ Some reply → IsGood s (stepped s w p at (Some (step, reply)))
+    by_step (steps.Work op) reply choice ahead answered =
+        let place = length w.shown.work in
+        let from = made-of (λ (r : WorkReply). step_replies.Work r place) (work_reply (state_after work_machine (work_start_of s) w.shown.work) at.who op) reply answered in
         let possible = ap (λ (t : State). work_reply t at.who op) good.tended.after ∙ from.1 in
-        let tended = tended-step s w good.state p at op from.0 (length w.shown.work) place good.tended is (good.ready.numbers p at is) ahead possible in
+        let progress = fits (steps.Work op) (step_replies.Work from.0 place) (answered ∙ ap (λ (r : StepReply). Some r) (sym from.2)) in
+        let tended = tended-step s w good.state p at op from.0 place good.ready.valid good.tended is (good.ready.numbers p at is) ahead possible progress in
         good-from s w p at (steps.Work op, reply) (work_next good.state at.who op) good unspent is choice
         (subst (λ (r : StepReply). IsTended s (stepped s w p at (Some (steps.Work op, r))) (work_next good.state at.who op)) from.2 tended)
-    by_step (steps.Clock op) reply place choice ahead answered = elsewhere (steps.Clock op) reply place tt choice ahead
-    by_step (steps.Sem object op) reply place choice ahead answered = elsewhere (steps.Sem object op) reply place tt choice ahead
-    by_step (steps.Msgq object op) reply place choice ahead answered = elsewhere (steps.Msgq object op) reply place tt choice ahead
-    by_step (steps.Signal object op) reply place choice ahead answered = elsewhere (steps.Signal object op) reply place tt choice ahead
-    by_step (steps.Chan object op) reply place choice ahead answered = elsewhere (steps.Chan object op) reply place tt choice ahead
-    by_step (steps.Obs object op) reply place choice ahead answered = elsewhere (steps.Obs object op) reply place tt choice ahead
-    by_step (steps.LookItem object) reply place choice ahead answered = elsewhere (steps.LookItem object) reply place tt choice ahead
-    by_step (steps.LookSignal object must) reply place choice ahead answered = elsewhere (steps.LookSignal object must) reply place tt choice ahead
+    by_step (steps.Clock op) reply choice ahead answered = elsewhere (steps.Clock op) reply tt choice ahead answered
+    by_step (steps.Table op) reply choice ahead answered = elsewhere (steps.Table op) reply tt choice ahead answered
+    by_step (steps.Sem object op) reply choice ahead answered = elsewhere (steps.Sem object op) reply tt choice ahead answered
+    by_step (steps.Msgq object op) reply choice ahead answered = elsewhere (steps.Msgq object op) reply tt choice ahead answered
+    by_step (steps.Signal object op) reply choice ahead answered = elsewhere (steps.Signal object op) reply tt choice ahead answered
+    by_step (steps.Chan object op) reply choice ahead answered = elsewhere (steps.Chan object op) reply tt choice ahead answered
+    by_step (steps.Obs object op) reply choice ahead answered = elsewhere (steps.Obs object op) reply tt choice ahead answered
+    by_step (steps.LookItem object) reply choice ahead answered = elsewhere (steps.LookItem object) reply tt choice ahead answered
+    by_step (steps.LookSignal object must) reply choice ahead answered = elsewhere (steps.LookSignal object must) reply tt choice ahead answered
 
 good-first : (s : Parts) → IsValid s → IsGood s (first s)
 good-first s valid = record {
@@ -185,7 +180,7 @@ module _ (s : Parts) (w : World) (good : IsGood s w) (still : round (machines_of
   between queue within =
       let there = worker-at queue within in
       let is_done_at = list_all-at (λ at. is_done at.frames) w.players (length (places is_thread s.decls) + queue) there.0 done there.1 in
-      done-ahead s queue there.0.frames good.state.admissions (good.tended.tended queue there.0 there.1 within) is_done_at
+      done-ahead s queue there.0.frames good.state.admissions (good.tended.tended queue there.0 there.1 within).tends is_done_at
 
   none-for : (queue : ℕ) → queue < length (places is_queue s.decls) → All (λ a. waits_for queue a ≡ false) good.state.admissions
   none-for queue within =
@@ -195,7 +190,10 @@ module _ (s : Parts) (w : World) (good : IsGood s w) (still : round (machines_of
       let only = between queue within in
       let none = round-still (machines_of s) s w still unspent (threads + queue) at (omega (arith, good.all_there)) there.1 in
       let ahead : attempts s at ≡ steps.Work (ops.Begin queue) ∷ [] =
-      ap (λ b. cond b (frames_attempts s at.frames) []) (short-unspent at (none-passes is_spent_at w.players (threads + queue) at unspent there.1)) ∙ only.0 in
+      ap (λ b. cond b (checks_first (next_check s at.mode at.passed at.frames) (frames_attempts s at.frames)) [])
+      (short-unspent at (none-passes is_spent_at w.players (threads + queue) at unspent there.1))
+      ∙ ap (λ (mode : Mode). checks_first (next_check s mode at.passed at.frames) (frames_attempts s at.frames)) (good.tended.tended queue at there.1 within).supervises
+      ∙ only.0 in
       let first_none = sym (ap (first_possible (machines_of s) w.shown at.who) ahead) ∙ none in
       let not_begun : work_reply good.state at.who (ops.Begin queue) ≡ None =
       ap (λ (t : State). work_reply t at.who (ops.Begin queue)) good.tended.after
@@ -239,43 +237,27 @@ ending-is : (s : Parts) (w : World) → IsValid s → IsRun (machines_of s) s w 
 ending-is s w valid run =
     ending-good s w (subst (λ (v : World). IsGood s v) (sym run.1) (good-rounds s run.0 valid)) run.2
 
--- equal parts make equal traces
-Trace-same : (e e' : Ending) (h h' : List (Entry WorkOp WorkReply)) (c c' : List (Entry ClockOp ClockReply)) (m m' : List (List (Entry SemOp SemReply)))
-    (q q' : List (List (Entry MsgqOp MsgqReply))) (g g' : List (List (Entry SignalOp SignalReply))) (a a' : List (List (Entry ChanOp ChanReply))) (o o' : List (List (Entry ObsOp ObsReply))) (i i' : List ItemLook) (k k' : List (List SignalLook)) (l l' : List Log) →
-    e ≡ e' → h ≡ h' → c ≡ c' → m ≡ m' → q ≡ q' → g ≡ g' → a ≡ a' → o ≡ o' → i ≡ i' → k ≡ k' → l ≡ l' →
-    ◌≡◌ {A = Trace} (record { ending = e; work = h; clock = c; sems = m; msgqs = q; signals = g; chans = a; observers = o; item_looks = i; signal_looks = k; logs = l })
-    (record { ending = e'; work = h'; clock = c'; sems = m'; msgqs = q'; signals = g'; chans = a'; observers = o'; item_looks = i'; signal_looks = k'; logs = l' })
-Trace-same e e' h h' c c' m m' q q' g g' a a' o o' i i' k k' l l' ee eh ec em eq eg ea eo ei ek el =
-    let P : Trace → Type 0 = λ x. ◌≡◌ {A = Trace} (record { ending = e; work = h; clock = c; sems = m; msgqs = q; signals = g; chans = a; observers = o; item_looks = i; signal_looks = k; logs = l }) x in
-    subst (λ (x : List Log). P (record { ending = e'; work = h'; clock = c'; sems = m'; msgqs = q'; signals = g'; chans = a'; observers = o'; item_looks = i'; signal_looks = k'; logs = x })) el
-    (subst (λ (x : List (List SignalLook)). P (record { ending = e'; work = h'; clock = c'; sems = m'; msgqs = q'; signals = g'; chans = a'; observers = o'; item_looks = i'; signal_looks = x; logs = l })) ek
-    (subst (λ (x : List ItemLook). P (record { ending = e'; work = h'; clock = c'; sems = m'; msgqs = q'; signals = g'; chans = a'; observers = o'; item_looks = x; signal_looks = k; logs = l })) ei
-    (subst (λ (x : List (List (Entry ObsOp ObsReply))). P (record { ending = e'; work = h'; clock = c'; sems = m'; msgqs = q'; signals = g'; chans = a'; observers = x; item_looks = i; signal_looks = k; logs = l })) eo
-    (subst (λ (x : List (List (Entry ChanOp ChanReply))). P (record { ending = e'; work = h'; clock = c'; sems = m'; msgqs = q'; signals = g'; chans = x; observers = o; item_looks = i; signal_looks = k; logs = l })) ea
-    (subst (λ (x : List (List (Entry SignalOp SignalReply))). P (record { ending = e'; work = h'; clock = c'; sems = m'; msgqs = q'; signals = x; chans = a; observers = o; item_looks = i; signal_looks = k; logs = l })) eg
-    (subst (λ (x : List (List (Entry MsgqOp MsgqReply))). P (record { ending = e'; work = h'; clock = c'; sems = m'; msgqs = x; signals = g; chans = a; observers = o; item_looks = i; signal_looks = k; logs = l })) eq
-    (subst (λ (x : List (List (Entry SemOp SemReply))). P (record { ending = e'; work = h'; clock = c'; sems = x; msgqs = q; signals = g; chans = a; observers = o; item_looks = i; signal_looks = k; logs = l })) em
-    (subst (λ (x : List (Entry ClockOp ClockReply)). P (record { ending = e'; work = h'; clock = x; sems = m; msgqs = q; signals = g; chans = a; observers = o; item_looks = i; signal_looks = k; logs = l })) ec
-    (subst (λ (x : List (Entry WorkOp WorkReply)). P (record { ending = e'; work = x; clock = c; sems = m; msgqs = q; signals = g; chans = a; observers = o; item_looks = i; signal_looks = k; logs = l })) eh
-    (subst (λ (x : Ending). P (record { ending = x; work = h; clock = c; sems = m; msgqs = q; signals = g; chans = a; observers = o; item_looks = i; signal_looks = k; logs = l })) ee refl))))))))))
-
 -- what the code hands out is the trace of the run
-pub replayed : (s : Parts) (old w : World) (ending : Ending) (work : List (Entry WorkOp WorkReply)) (clock : List (Entry ClockOp ClockReply)) (sems : List (List (Entry SemOp SemReply)))
-    (msgqs : List (List (Entry MsgqOp MsgqReply))) (signals : List (List (Entry SignalOp SignalReply))) (chans : List (List (Entry ChanOp ChanReply))) (observers : List (List (Entry ObsOp ObsReply))) (item_looks : List ItemLook) (signal_looks : List (List SignalLook)) (logs : List Log) → IsValid s →
+pub replayed : (s : Parts) (old w : World) (t : Trace) → IsValid s →
     old ≡ first s → (n : ℕ) → w ≡ rounds (machines_of s) s n old → round (machines_of s) s w ≡ w →
-    ending ≡ ending_by w.players → work ≡ w.shown.work → clock ≡ w.shown.clock → sems ≡ w.shown.sems → msgqs ≡ w.shown.msgqs → signals ≡ w.shown.signals → chans ≡ w.shown.chans → observers ≡ w.shown.observers →
-    item_looks ≡ item_looks_of logs → signal_looks ≡ signal_looks_of (length signals) logs → logs ≡ map log_of w.players →
-    IsReplay s (record { ending = ending; work = work; clock = clock; sems = sems; msgqs = msgqs; signals = signals; chans = chans; observers = observers; item_looks = item_looks; signal_looks = signal_looks; logs = logs })
-replayed s old w ending work clock sems msgqs signals chans observers item_looks signal_looks logs valid begins n so_far over end same_work same_clock same_sems same_msgqs same_signals same_chans same_observers same_item_looks same_signal_looks log =
-    let run : IsRun (machines_of s) s w = (n, so_far ∙ ap (rounds (machines_of s) s n) begins, over) in (
-      w,
-      run,
-      Trace-same ending (ending_of s w) work w.shown.work clock w.shown.clock sems w.shown.sems msgqs w.shown.msgqs signals w.shown.signals chans w.shown.chans observers w.shown.observers
-          item_looks (item_looks_of (map log_of w.players)) signal_looks (signal_looks_of (length w.shown.signals) (map log_of w.players)) logs (map log_of w.players)
-          (end ∙ ending-is s w valid run) same_work same_clock same_sems same_msgqs same_signals same_chans same_observers
-          (same_item_looks ∙ ap item_looks_of log)
-          (same_signal_looks ∙ ap (λ (h : List (List (Entry SignalOp SignalReply))). signal_looks_of (length h) logs) same_signals ∙ ap (signal_looks_of (length w.shown.signals)) log) log,
-    )
+    t.ending ≡ ending_by w.players →
+    t.work ≡ w.shown.work →
+    t.clock ≡ w.shown.clock →
+    t.table ≡ w.shown.table →
+    t.sems ≡ w.shown.sems →
+    t.msgqs ≡ w.shown.msgqs →
+    t.signals ≡ w.shown.signals →
+    t.chans ≡ w.shown.chans →
+    t.observers ≡ w.shown.observers →
+    t.item_looks ≡ item_looks_of t.logs →
+    t.signal_looks ≡ signal_looks_of (length t.signals) t.logs →
+    t.logs ≡ map log_of w.players →
+    IsReplay s t
+replayed s old w t valid begins n so_far over end same_work same_clock same_table same_sems same_msgqs same_signals same_chans same_observers same_item_looks same_signal_looks log =
+    let run : IsRun (machines_of s) s w = (n, so_far ∙ ap (rounds (machines_of s) s n) begins, over) in
+    let ends = ending-is s w valid run in
+    let same : (record t { logs = t.logs }) ≡ trace_of s w = cc in
+    (w, run, same)
 
 -- what an ending says of the players
 ended-parts : (spent done waits : Bool) → cond spent endings.Spent (cond (done && waits) endings.Ended endings.Stuck) ≡ endings.Ended → (spent ≡ false) × (done ≡ true)

@@ -1,30 +1,15 @@
 -- The trace of a run is lawful.
-use Rattle.std.proofs.Common.{◌≡◌, ◌⊎◌, ℕ, ◌<◌, ◌≤◌, Bool, true, false, ◌&&◌, ◌||◌, cond, Option, Some, None, List, [], ◌∷◌, length, map, inl, inr, refl, sym, ap, subst, ◌∙◌, arith}
+use Rattle.std.proofs.Common.{◌≡◌, ◌⊎◌, ℕ, suc, ◌<◌, ◌≤◌, Bool, true, false, ◌&&◌, ◌||◌, cond, Option, Some, None, List, [], ◌∷◌, length, map, inl, inr, refl, sym, ap, subst, ◌∙◌, arith}
 use Rattle.std.specs.List.{slice_get, slice_set, list_any, list_all}
 use Rattle.std.specs.Option.{option_map, option_and_then}
 use Rattle.std.proofs.lemmas.Bool.{or_parts}
 use Rattle.std.proofs.lemmas.List.{length-map, length-set}
 use Rattle.std.proofs.lemmas.Option.{slice_get-map, slice_get_within}
-use Rattle.zk_base.specs.declared.ids.Entry.{Entry}
 use Rattle.zk_base.specs.declared.seen.Seen.{Seen}
 use Rattle.zk_base.proofs.Lists.{All-at}
 use Rattle.zk_base.specs.Legal.{state_after}
-use Rattle.zk_model_wait.specs.declared.clock.ClockOp.{ClockOp}
-use Rattle.zk_model_wait.specs.declared.clock.ClockReply.{ClockReply}
-use Rattle.zk_model_wait.specs.declared.sem.SemOp.{SemOp}
-use Rattle.zk_model_wait.specs.declared.sem.SemReply.{SemReply}
-use Rattle.zk_model_wait.specs.declared.msgq.MsgqOp.{MsgqOp}
-use Rattle.zk_model_wait.specs.declared.msgq.MsgqReply.{MsgqReply}
-use Rattle.zk_model_wait.specs.declared.signal.SignalOp.{SignalOp}
-use Rattle.zk_model_wait.specs.declared.signal.SignalReply.{SignalReply}
-use Rattle.zk_model_bus.specs.declared.channel.ChanOp.{ChanOp}
-use Rattle.zk_model_bus.specs.declared.channel.ChanReply.{ChanReply}
-use Rattle.zk_model_bus.specs.declared.observer.ObsOp.{ObsOp}
-use Rattle.zk_model_bus.specs.declared.observer.ObsReply.{ObsReply}
 use Rattle.zk_worker.specs.Right.{LooksRight}
 use Rattle.zk_trace.specs.Look.{AreRight}
-use Rattle.zk_model_work.specs.declared.ops.WorkOp.{WorkOp}
-use Rattle.zk_model_work.specs.declared.ops.WorkReply.{WorkReply}
 use Rattle.zk_model_work.specs.Machine.{work_machine}
 use Rattle.zk_scenario.specs.Parts.{Parts}
 use Rattle.zk_scenario.specs.Players.{players}
@@ -38,13 +23,12 @@ use Rattle.zk_worker.specs.declared.log.PlayerState.TheVariants as states
 use Rattle.zk_worker.specs.declared.log.Log.{Log}
 use Rattle.zk_worker.specs.Places.{At}
 use Rattle.zk_worker.specs.Protocol.{attempts, after, spot_of}
-use Rattle.zk_worker.specs.Follows.{log_of, is_done, is_spent_at, IsFollowing, Follows}
+use Rattle.zk_worker.specs.Follows.{is_dead, log_of, is_done, is_spent_at, IsFollowing, Follows}
 use Rattle.zk_worker.specs.Machines.{Machines, work_start_of, machines_of}
 use Rattle.zk_worker.specs.Shown.{Shown, shown_at, shown_after}
 use Rattle.zk_worker.specs.Single.{step_of}
 use Rattle.zk_worker.proofs.Families.{none-there}
 use Rattle.zk_worker.proofs.Lists.{none-passes, there-mapped}
-use Rattle.zk_replay.specs.Alone.{whole_shown}
 use Rattle.zk_worker.proofs.ShownSteps.{IsMore, made-more}
 use Rattle.zk_trace.specs.declared.trace.Ending.TheVariants.{Ended, Stuck, Spent}
 use Rattle.zk_trace.specs.declared.trace.Trace.{Trace}
@@ -61,7 +45,8 @@ use Rattle.zk_replay.proofs.StillRounds.{first_possible-is, rounds-keep}
 use Rattle.zk_replay.proofs.Readiness.{ready-stepped}
 use Rattle.zk_replay.proofs.Beginning.{ready-first, first-players}
 use Rattle.zk_replay.proofs.Endings.{there-is}
-use Rattle.zk_replay.proofs.Legality.{run-legal}
+use Rattle.zk_replay.proofs.DeadPlayers.{dead-whole}
+use Rattle.zk_replay.proofs.Legality.{run-legal, Work, Clock, Table, Sems, Msgqs, Signals, Chans, Observers}
 use Rattle.zk_replay.proofs.OneRun.{none_goes_on}
 
 -- each entry is of a player that is there
@@ -71,6 +56,7 @@ AreKnown w = (spot : Spot) (number step : ℕ) → shown_at w.shown spot ≡ Som
 known-first : (s : Parts) → AreKnown (first s)
 known-first s (spots.Work place) number step is = absurd (cc)
 known-first s (spots.Clock place) number step is = absurd (cc)
+known-first s (spots.Table place) number step is = absurd (cc)
 known-first s (spots.Sem object place) number step is = absurd (none-there step_of s.decls object place (number, step) is)
 known-first s (spots.Msgq object place) number step is = absurd (none-there step_of s.decls object place (number, step) is)
 known-first s (spots.Signal object place) number step is = absurd (none-there step_of s.decls object place (number, step) is)
@@ -116,41 +102,47 @@ run-players s w run =
     (rounds-keep (machines_of s) s P (λ v p at new here unspent there choice. length-set v.players p (after s at new.0 new.1) ∙ here) run.0 (first s) (first-players s))
 
 -- what the logs say of the players
-spent-state : (a b : Bool) → is_spent_state (cond a states.Spent (cond b states.Done states.Standing)) ≡ a
-spent-state true b = refl
-spent-state false true = refl
-spent-state false false = refl
+spent-state : (a d b : Bool) → is_spent_state (cond a states.Spent (cond d states.Oops (cond b states.Done states.Standing))) ≡ a
+spent-state true d b = refl
+spent-state false true b = refl
+spent-state false false true = refl
+spent-state false false false = refl
 
-done-state : (a b : Bool) → a ≡ false → is_done_state (cond a states.Spent (cond b states.Done states.Standing)) ≡ b
-done-state true b unspent = absurd (cc)
-done-state false true unspent = refl
-done-state false false unspent = refl
+done-state : (a d b : Bool) → a ≡ false → (d ≡ true → b ≡ true) → is_done_state (cond a states.Spent (cond d states.Oops (cond b states.Done states.Standing))) ≡ b
+done-state true d b unspent whole = absurd (cc)
+done-state false true b unspent whole = sym (whole refl)
+done-state false false true unspent whole = refl
+done-state false false false unspent whole = refl
 
 any-spent : (xs : List At) → list_any (λ log. is_spent_state log.state) (map log_of xs) ≡ list_any is_spent_at xs
 any-spent [] = refl
 any-spent (x ∷ xs) =
-    ap (λ (b : Bool). b || (list_any (λ log. is_spent_state log.state) (map log_of xs))) (spent-state (is_spent_at x) (is_done x.frames))
+    ap (λ (b : Bool). b || (list_any (λ log. is_spent_state log.state) (map log_of xs))) (spent-state (is_spent_at x) (is_dead x.mode) (is_done x.frames))
     ∙ ap (λ (b : Bool). is_spent_at x || b) (any-spent xs)
 
-all-done : (xs : List At) → list_any is_spent_at xs ≡ false → list_all (λ log. is_done_state log.state) (map log_of xs) ≡ all_done xs
-all-done [] unspent = refl
-all-done (x ∷ xs) unspent =
+all-done : (xs : List At) → ((p : ℕ) (x : At) → slice_get xs p ≡ Some x → is_dead x.mode ≡ true → is_done x.frames ≡ true) → list_any is_spent_at xs ≡ false →
+    list_all (λ log. is_done_state log.state) (map log_of xs) ≡ all_done xs
+all-done [] whole unspent = refl
+all-done (x ∷ xs) whole unspent =
     let both = or_parts (is_spent_at x) (list_any is_spent_at xs) unspent in
-    ap (λ (b : Bool). b && list_all (λ log. is_done_state log.state) (map log_of xs)) (done-state (is_spent_at x) (is_done x.frames) both.0)
-    ∙ ap (λ (b : Bool). is_done x.frames && b) (all-done xs both.1)
+    ap (λ (b : Bool). b && list_all (λ log. is_done_state log.state) (map log_of xs)) (done-state (is_spent_at x) (is_dead x.mode) (is_done x.frames) both.0 (whole 0 x refl))
+    ∙ ap (λ (b : Bool). is_done x.frames && b) (all-done xs (λ p y there. whole (suc p) y there) both.1)
 
-ends-so : (s : Parts) (w : World) → ending_of s w ≡ lawful_ending s (trace_of s w)
-ends-so s w =
+ends-so : (s : Parts) (w : World) → IsReady s w → ending_of s w ≡ lawful_ending s (trace_of s w)
+ends-so s w ready =
     by_spent (is_spent w) refl
     ∙ sym (ap (λ (b : Bool). cond b Spent (cond (list_all (λ log. is_done_state log.state) (map log_of w.players) && waits) Ended Stuck)) (any-spent w.players))
   where
+    whole : (p : ℕ) (at : At) → slice_get w.players p ≡ Some at → is_dead at.mode ≡ true → is_done at.frames ≡ true
+    whole p at there dead = ap is_done (dead-whole s p w.shown at (ready.follow p at there) dead)
+
     waits : Bool
     waits = none_waits (state_after work_machine (work_start_of s) w.shown.work)
 
     by_spent : (b : Bool) → is_spent w ≡ b → cond b Spent (cond (all_done w.players && none_waits (state_after work_machine (work_start_of s) w.shown.work)) Ended Stuck)
         ≡ cond b Spent (cond (list_all (λ log. is_done_state log.state) (map log_of w.players) && none_waits (state_after work_machine (work_start_of s) w.shown.work)) Ended Stuck)
     by_spent true spent = refl
-    by_spent false unspent = sym (ap (λ (d : Bool). cond (d && none_waits (state_after work_machine (work_start_of s) w.shown.work)) Ended Stuck) (all-done w.players unspent))
+    by_spent false unspent = sym (ap (λ (d : Bool). cond (d && none_waits (state_after work_machine (work_start_of s) w.shown.work)) Ended Stuck) (all-done w.players whole unspent))
 
 -- where the ending isn't spent, no player has made all its steps
 unspent-ending : (s : Parts) (w : World) → (ending_of s w ≡ Spent → ⊥) → is_spent w ≡ false
@@ -162,13 +154,10 @@ unspent-ending s w never = by_spent (is_spent w) refl
     by_spent false none = none
 
 -- whole histories are all that is shown
-whole-same : (work : List (Entry WorkOp WorkReply)) (clock : List (Entry ClockOp ClockReply)) (sems : List (List (Entry SemOp SemReply))) (msgqs : List (List (Entry MsgqOp MsgqReply)))
-    (signals : List (List (Entry SignalOp SignalReply))) (chans : List (List (Entry ChanOp ChanReply))) (observers : List (List (Entry ObsOp ObsReply))) (looks : Option (List (List Seen))) (looked : Option ℕ) → looks ≡ None → looked ≡ None →
-    whole_shown work clock sems msgqs signals chans observers
-    ≡ (record { work = work; clock = clock; sems = sems; msgqs = msgqs; signals = signals; chans = chans; observers = observers; looks = looks; looked = looked })
-whole-same work clock sems msgqs signals chans observers None None whole unlooked = refl
-whole-same work clock sems msgqs signals chans observers (Some looks) looked whole unlooked = absurd (cc)
-whole-same work clock sems msgqs signals chans observers None (Some looked) whole unlooked = absurd (cc)
+whole-same : (shown : Shown) → shown.looks ≡ None → shown.looked ≡ None → (record shown { looks = None; looked = None }) ≡ shown
+whole-same shown whole unlooked =
+    ap (λ (looks : Option (List (List Seen))). record shown { looks = looks; looked = None }) (sym whole)
+    ∙ ap (λ (looked : Option ℕ). record shown { looked = looked }) (sym unlooked)
 
 module _ (s : Parts) (w : World) (valid : IsValid s) (run : IsRun (machines_of s) s w) where
   known : IsReady s w × AreKnown w
@@ -176,7 +165,7 @@ module _ (s : Parts) (w : World) (valid : IsValid s) (run : IsRun (machines_of s
 
   -- the trace shows what was shown
   shown-same : trace_shown (trace_of s w) ≡ w.shown
-  shown-same = whole-same w.shown.work w.shown.clock w.shown.sems w.shown.msgqs w.shown.signals w.shown.chans w.shown.observers w.shown.looks w.shown.looked known.0.whole known.0.unlooked
+  shown-same = whole-same w.shown known.0.whole known.0.unlooked
 
   abbrev follows : (number : ℕ) (log : Log) → slice_get (map log_of w.players) number ≡ Some log → Follows s number (trace_shown (trace_of s w)) log
   follows number log is =
@@ -220,7 +209,7 @@ module _ (s : Parts) (w : World) (valid : IsValid s) (run : IsRun (machines_of s
   legal : AreLegal s (trace_of s w)
   legal =
       let shown = run-legal s w valid run in
-      record { work = shown.work; clock = shown.clock; sems = shown.sems; msgqs = shown.msgqs; signals = shown.signals; chans = shown.chans; observers = shown.observers }
+      record { work = shown Work; clock = shown Clock; table = shown Table; sems = shown Sems; msgqs = shown Msgqs; signals = shown Signals; chans = shown Chans; observers = shown Observers }
 
   lawful-run : IsLawful s (trace_of s w)
   lawful-run = record {
@@ -229,7 +218,7 @@ module _ (s : Parts) (w : World) (valid : IsValid s) (run : IsRun (machines_of s
     log = record { logged = length-map w.players log_of ∙ run-players s w run; follow = follows };
     look = right;
     ending = record {
-      ends = ends-so s w;
+      ends = ends-so s w known.0;
       halts = λ never number log is.
           let found = there-mapped log_of w.players number log is in
           ap (λ (x : Shown). chosen (machines_of s) s x found.0) shown-same

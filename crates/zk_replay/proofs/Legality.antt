@@ -21,14 +21,14 @@ use Rattle.zk_model_wait.specs.Sem.{sem_machine}
 use Rattle.zk_model_wait.specs.Signal.{signal_machine}
 use Rattle.zk_model_bus.specs.Channel.{chan_machine}
 use Rattle.zk_model_bus.specs.Observer.{obs_machine}
-use Rattle.zk_worker.specs.Ranges.{FramesFit}
+use Rattle.zk_worker.specs.Ranges.{IsFit}
 use Rattle.zk_base.proofs.Lists.{All-at}
 use Rattle.zk_worker.specs.Machines.{Machines, machines_of, sem_start, msgq_start, signal_start, chan_start, observer_start}
 use Rattle.zk_worker.specs.Single.{answer_in}
 use Rattle.zk_worker.specs.Families.{Family, start_of, no_entries, with_entry, answer_at, takes_at}
 use Rattle.zk_worker.specs.Shown.{Shown, shown_after, IsLater}
 use Rattle.zk_worker.specs.Attempt.{reply_in, takes}
-use Rattle.zk_worker.proofs.Between.{above-work, above-clock, above-sems, above-msgqs, above-signals, above-chans, above-observers, log-later}
+use Rattle.zk_worker.proofs.Between.{above-work, above-clock, above-table, above-sems, above-msgqs, above-signals, above-chans, above-observers, log-later}
 use Rattle.zk_worker.proofs.Ranges.{ahead-takes}
 use Rattle.zk_worker.proofs.ShownSteps.{made-of}
 use Rattle.zk_worker.proofs.Lists.{none-passes}
@@ -40,15 +40,31 @@ use Rattle.zk_replay.proofs.StillRounds.{first_possible-is, rounds-keep}
 use Rattle.zk_replay.proofs.Readiness.{ready-stepped}
 use Rattle.zk_replay.proofs.Beginning.{ready-first}
 
+-- the services, all objects of a kind together
+pub data Service : Type 0 where
+  Work : Service
+  Clock : Service
+  Table : Service
+  Sems : Service
+  Msgqs : Service
+  Signals : Service
+  Chans : Service
+  Observers : Service
+
+-- what is shown of a service is legal
+abbrev pub IsLegalOf : Machines → Shown → Service → Type 0
+IsLegalOf m shown Work = IsLegal m.work m.work_start shown.work
+IsLegalOf m shown Clock = IsLegal m.clock m.clock_start shown.clock
+IsLegalOf m shown Table = IsLegal m.table m.table_start shown.table
+IsLegalOf m shown Sems = EachLegal m.sems shown.sems
+IsLegalOf m shown Msgqs = EachLegal m.msgqs shown.msgqs
+IsLegalOf m shown Signals = EachLegal m.signals shown.signals
+IsLegalOf m shown Chans = EachLegal m.chans shown.chans
+IsLegalOf m shown Observers = EachLegal m.observers shown.observers
+
 -- what is shown is legal, for the machines that the services have
-pub record IsLegalShown (m : Machines) (shown : Shown) : Type 0 where
-  pub work : IsLegal m.work m.work_start shown.work
-  pub clock : IsLegal m.clock m.clock_start shown.clock
-  pub sems : EachLegal m.sems shown.sems
-  pub msgqs : EachLegal m.msgqs shown.msgqs
-  pub signals : EachLegal m.signals shown.signals
-  pub chans : EachLegal m.chans shown.chans
-  pub observers : EachLegal m.observers shown.observers
+abbrev pub IsLegalShown : Machines → Shown → Type 0
+IsLegalShown m shown = (service : Service) → IsLegalOf m shown service
 
 module _ {S O R : Type 0} where
   -- nothing that was done is legal
@@ -119,110 +135,64 @@ module _ {S O R : Type 0} where
 -- a step that the machines answer keeps what is shown legal
 legal-after : (m : Machines) (shown : Shown) (who : Who) (number : ℕ) (step : Step) (reply : StepReply) → IsLegalShown m shown → reply_in m shown who step ≡ Some reply →
     takes m step ≡ true → IsLater shown who.number number → IsLegalShown m (shown_after shown who number step reply)
-legal-after m shown who number (steps.Work op) (step_replies.Work reply place) legal answered taken later =
+legal-after m shown who number (steps.Work op) (step_replies.Work reply place) legal answered taken later Work =
     let one = one-answer m.work m.work_start shown.work step_replies.Work who op (step_replies.Work reply place) answered in
     let same : one.0 ≡ reply = cc in
-    record {
-      work = IsLegal-snoc m.work m.work_start shown.work (entry who number op reply) legal.work (one.1 ∙ ap Some same) (above-work shown who.number number later) taken;
-      clock = legal.clock;
-      sems = legal.sems;
-      msgqs = legal.msgqs;
-      signals = legal.signals;
-      chans = legal.chans;
-      observers = legal.observers;
-    }
-legal-after m shown who number (steps.Clock op) (step_replies.Clock reply place) legal answered taken later =
+    IsLegal-snoc m.work m.work_start shown.work (entry who number op reply) (legal Work) (one.1 ∙ ap Some same) (above-work shown who.number number later) taken
+legal-after m shown who number (steps.Work op) (step_replies.Work reply place) legal answered taken later other = legal other
+legal-after m shown who number (steps.Clock op) (step_replies.Clock reply place) legal answered taken later Clock =
     let one = one-answer m.clock m.clock_start shown.clock step_replies.Clock who op (step_replies.Clock reply place) answered in
     let same : one.0 ≡ reply = cc in
-    record {
-      work = legal.work;
-      clock = IsLegal-snoc m.clock m.clock_start shown.clock (entry who number op reply) legal.clock (one.1 ∙ ap Some same) (above-clock shown who.number number later) taken;
-      sems = legal.sems;
-      msgqs = legal.msgqs;
-      signals = legal.signals;
-      chans = legal.chans;
-      observers = legal.observers;
-    }
-legal-after m shown who number (steps.Sem object op) (step_replies.Sem at reply place) legal answered taken later =
+    IsLegal-snoc m.clock m.clock_start shown.clock (entry who number op reply) (legal Clock) (one.1 ∙ ap Some same) (above-clock shown who.number number later) taken
+legal-after m shown who number (steps.Clock op) (step_replies.Clock reply place) legal answered taken later other = legal other
+legal-after m shown who number (steps.Table op) (step_replies.Table reply place) legal answered taken later Table =
+    let one = one-answer m.table m.table_start shown.table step_replies.Table who op (step_replies.Table reply place) answered in
+    let same : one.0 ≡ reply = cc in
+    IsLegal-snoc m.table m.table_start shown.table (entry who number op reply) (legal Table) (one.1 ∙ ap Some same) (above-table shown who.number number later) taken
+legal-after m shown who number (steps.Table op) (step_replies.Table reply place) legal answered taken later other = legal other
+legal-after m shown who number (steps.Sem object op) (step_replies.Sem at reply place) legal answered taken later Sems =
     let one = one-of-many m.sems shown.sems step_replies.Sem who object op (step_replies.Sem at reply place) answered in
     let same : one.reply ≡ reply = let tells = one.tells in cc in
-    record {
-      work = legal.work;
-      clock = legal.clock;
-      sems = entry-legal m.sems shown.sems (step_replies.Sem object) who number object op (step_replies.Sem at reply place) reply one same legal.sems taken
-          (λ h there. above-sems shown who.number number object h there later);
-      msgqs = legal.msgqs;
-      signals = legal.signals;
-      chans = legal.chans;
-      observers = legal.observers;
-    }
-legal-after m shown who number (steps.Msgq object op) (step_replies.Msgq at reply place) legal answered taken later =
+    entry-legal m.sems shown.sems (step_replies.Sem object) who number object op (step_replies.Sem at reply place) reply one same (legal Sems) taken
+    (λ h there. above-sems shown who.number number object h there later)
+legal-after m shown who number (steps.Sem object op) (step_replies.Sem at reply place) legal answered taken later other = legal other
+legal-after m shown who number (steps.Msgq object op) (step_replies.Msgq at reply place) legal answered taken later Msgqs =
     let one = one-of-many m.msgqs shown.msgqs step_replies.Msgq who object op (step_replies.Msgq at reply place) answered in
     let same : one.reply ≡ reply = let tells = one.tells in cc in
-    record {
-      work = legal.work;
-      clock = legal.clock;
-      sems = legal.sems;
-      msgqs = entry-legal m.msgqs shown.msgqs (step_replies.Msgq object) who number object op (step_replies.Msgq at reply place) reply one same legal.msgqs taken
-          (λ h there. above-msgqs shown who.number number object h there later);
-      signals = legal.signals;
-      chans = legal.chans;
-      observers = legal.observers;
-    }
-legal-after m shown who number (steps.Signal object op) (step_replies.Signal at reply place) legal answered taken later =
+    entry-legal m.msgqs shown.msgqs (step_replies.Msgq object) who number object op (step_replies.Msgq at reply place) reply one same (legal Msgqs) taken
+    (λ h there. above-msgqs shown who.number number object h there later)
+legal-after m shown who number (steps.Msgq object op) (step_replies.Msgq at reply place) legal answered taken later other = legal other
+legal-after m shown who number (steps.Signal object op) (step_replies.Signal at reply place) legal answered taken later Signals =
     let one = one-of-many m.signals shown.signals step_replies.Signal who object op (step_replies.Signal at reply place) answered in
     let same : one.reply ≡ reply = let tells = one.tells in cc in
-    record {
-      work = legal.work;
-      clock = legal.clock;
-      sems = legal.sems;
-      msgqs = legal.msgqs;
-      signals = entry-legal m.signals shown.signals (step_replies.Signal object) who number object op (step_replies.Signal at reply place) reply one same legal.signals taken
-          (λ h there. above-signals shown who.number number object h there later);
-      chans = legal.chans;
-      observers = legal.observers;
-    }
-legal-after m shown who number (steps.Chan object op) (step_replies.Chan at reply place) legal answered taken later =
+    entry-legal m.signals shown.signals (step_replies.Signal object) who number object op (step_replies.Signal at reply place) reply one same (legal Signals) taken
+    (λ h there. above-signals shown who.number number object h there later)
+legal-after m shown who number (steps.Signal object op) (step_replies.Signal at reply place) legal answered taken later other = legal other
+legal-after m shown who number (steps.Chan object op) (step_replies.Chan at reply place) legal answered taken later Chans =
     let one = one-of-many m.chans shown.chans step_replies.Chan who object op (step_replies.Chan at reply place) answered in
     let same : one.reply ≡ reply = let tells = one.tells in cc in
-    record {
-      work = legal.work;
-      clock = legal.clock;
-      sems = legal.sems;
-      msgqs = legal.msgqs;
-      signals = legal.signals;
-      chans = entry-legal m.chans shown.chans (step_replies.Chan object) who number object op (step_replies.Chan at reply place) reply one same legal.chans taken
-          (λ h there. above-chans shown who.number number object h there later);
-      observers = legal.observers;
-    }
-legal-after m shown who number (steps.Obs object op) (step_replies.Obs at reply place) legal answered taken later =
+    entry-legal m.chans shown.chans (step_replies.Chan object) who number object op (step_replies.Chan at reply place) reply one same (legal Chans) taken
+    (λ h there. above-chans shown who.number number object h there later)
+legal-after m shown who number (steps.Chan object op) (step_replies.Chan at reply place) legal answered taken later other = legal other
+legal-after m shown who number (steps.Obs object op) (step_replies.Obs at reply place) legal answered taken later Observers =
     let one = one-of-many m.observers shown.observers step_replies.Obs who object op (step_replies.Obs at reply place) answered in
     let same : one.reply ≡ reply = let tells = one.tells in cc in
-    record {
-      work = legal.work;
-      clock = legal.clock;
-      sems = legal.sems;
-      msgqs = legal.msgqs;
-      signals = legal.signals;
-      chans = legal.chans;
-      observers = entry-legal m.observers shown.observers (step_replies.Obs object) who number object op (step_replies.Obs at reply place) reply one same legal.observers taken
-          (λ h there. above-observers shown who.number number object h there later);
-    }
-legal-after m shown who number (steps.LookItem object) (step_replies.Flags flags at) legal answered taken later =
-    record { work = legal.work; clock = legal.clock; sems = legal.sems; msgqs = legal.msgqs; signals = legal.signals; chans = legal.chans; observers = legal.observers }
-legal-after m shown who number step reply legal answered taken later = legal
+    entry-legal m.observers shown.observers (step_replies.Obs object) who number object op (step_replies.Obs at reply place) reply one same (legal Observers) taken
+    (λ h there. above-observers shown who.number number object h there later)
+legal-after m shown who number (steps.Obs object op) (step_replies.Obs at reply place) legal answered taken later other = legal other
+legal-after m shown who number (steps.LookItem object) (step_replies.Flags flags at) legal answered taken later service = legal service
+legal-after m shown who number step reply legal answered taken later service = legal service
 
 -- nothing done is legal
 legal-first : (s : Parts) → IsLegalShown (machines_of s) (first s).shown
-legal-first s = record {
-  work = IsLegal-nil (machines_of s).work (machines_of s).work_start;
-  clock = IsLegal-nil (machines_of s).clock (machines_of s).clock_start;
-  sems = none-legal sem_machine sem_start s.decls;
-  msgqs = none-legal msgq_machine msgq_start s.decls;
-  signals = none-legal signal_machine signal_start s.decls;
-  chans = none-legal chan_machine chan_start s.decls;
-  observers = none-legal obs_machine observer_start s.decls;
-}
+legal-first s Work = IsLegal-nil (machines_of s).work (machines_of s).work_start
+legal-first s Clock = IsLegal-nil (machines_of s).clock (machines_of s).clock_start
+legal-first s Table = IsLegal-nil (machines_of s).table (machines_of s).table_start
+legal-first s Sems = none-legal sem_machine sem_start s.decls
+legal-first s Msgqs = none-legal msgq_machine msgq_start s.decls
+legal-first s Signals = none-legal signal_machine signal_start s.decls
+legal-first s Chans = none-legal chan_machine chan_start s.decls
+legal-first s Observers = none-legal obs_machine observer_start s.decls
 
 -- all that a run of a valid scenario shows is legal
 pub run-legal : (s : Parts) (w : World) → IsValid s → IsRun (machines_of s) s w → IsLegalShown (machines_of s) w.shown
@@ -234,6 +204,6 @@ run-legal s w valid run =
     let found = first_possible-is m v.shown at.who (attempts s at) made choice in (
       ready-stepped m s v p at made refl both.0 there (none-passes is_spent_at v.players p at unspent there) found,
       legal-after m v.shown at.who (length at.spots) made.0 made.1 both.1 found.answered
-          (ahead-takes s m at valid refl (All-at (λ a. FramesFit s.decls a.frames) v.players p at both.0.fits there) made.0 (found.place, found.is_there))
+          (ahead-takes s m at valid refl (All-at (IsFit s) v.players p at both.0.fits there) made.0 (found.place, found.is_there))
           (log-later at.who.number at.spots v.shown (both.0.shows p at there)),
     )) run.0 (first s) (ready-first s valid, legal-first s))).1

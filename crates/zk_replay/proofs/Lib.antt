@@ -12,3 +12,4 @@ pub mod Lawful
 pub mod Among
 pub mod Gathered
 pub mod LookedAt
+pub mod DeadPlayers

@@ -1,5 +1,5 @@
 -- Looks on services that nobody else uses: they leave all that is shown as it is.
-use Rattle.std.proofs.Common.{◌≡◌, ℕ, Bool, true, false, cond, nat_lt, Option, Some, None, Ok, List, [], ◌∷◌, length, ltb, get_or, refl, sym, ap, subst, ◌∙◌}
+use Rattle.std.proofs.Common.{◌≡◌, ℕ, ◌+◌, Bool, true, false, cond, nat_lt, Option, Some, None, Ok, List, [], ◌∷◌, length, ltb, get_or, refl, sym, ap, subst, ◌∙◌}
 use Rattle.std.specs.List.{slice_get}
 use Rattle.std.specs.Option.{option_map, option_map_or, option_and_then}
 use Rattle.std.proofs.lemmas.Bool.{ltb-true}
@@ -9,24 +9,14 @@ use Rattle.zk_base.specs.declared.ids.Entry.{Entry}
 use Rattle.zk_base.specs.declared.seen.Seen.{Seen}
 use Rattle.zk_base.specs.Legal.{state_after}
 use Rattle.zk_model_wait.specs.Signal.{Signal, new_signal, signal_seen, signal_machine}
-use Rattle.zk_model_wait.specs.declared.clock.ClockOp.{ClockOp}
-use Rattle.zk_model_wait.specs.declared.clock.ClockReply.{ClockReply}
-use Rattle.zk_model_wait.specs.declared.sem.SemOp.{SemOp}
-use Rattle.zk_model_wait.specs.declared.sem.SemReply.{SemReply}
-use Rattle.zk_model_wait.specs.declared.msgq.MsgqOp.{MsgqOp}
-use Rattle.zk_model_wait.specs.declared.msgq.MsgqReply.{MsgqReply}
 use Rattle.zk_model_wait.specs.declared.signal.SignalOp.{SignalOp}
 use Rattle.zk_model_wait.specs.declared.signal.SignalReply.{SignalReply}
-use Rattle.zk_model_bus.specs.declared.channel.ChanOp.{ChanOp}
-use Rattle.zk_model_bus.specs.declared.channel.ChanReply.{ChanReply}
-use Rattle.zk_model_bus.specs.declared.observer.ObsOp.{ObsOp}
-use Rattle.zk_model_bus.specs.declared.observer.ObsReply.{ObsReply}
 use Rattle.zk_model_work.specs.declared.ops.WorkOp.{WorkOp}
 use Rattle.zk_model_work.specs.declared.ops.WorkOp.TheVariants as work_ops
 use Rattle.zk_model_work.specs.declared.ops.WorkReply.{WorkReply}
 use Rattle.zk_model_work.specs.Machine.{work_machine, in_range, flags_of}
 use Rattle.zk_model_work.specs.State.{State}
-use Rattle.zk_work.specs.Laws.{ranges}
+use Rattle.zk_work.proofs.Owed.{ranges}
 use Rattle.zk_work.specs.Words.{work_word}
 use Rattle.zk_worker.specs.declared.steps.Step.{Step}
 use Rattle.zk_worker.specs.declared.steps.Step.TheVariants as steps
@@ -39,7 +29,6 @@ use Rattle.zk_worker.specs.Looks.{looks_at, found_by, look, look_at}
 use Rattle.zk_worker.proofs.Looking.{reads-whole}
 use Rattle.zk_worker.proofs.SignalWrites.{seen-state}
 use Rattle.zk_replay.specs.Objects.{history_of, histories_of}
-use Rattle.zk_replay.specs.Alone.{whole_shown}
 
 -- what is in range at first is in range after each history
 in_range-after : (start : State) (h : List (Entry WorkOp WorkReply)) → in_range (state_after work_machine start h) ≡ in_range start
@@ -78,13 +67,13 @@ flags-told start h items object item word there taken is =
     within : nat_lt item (state_after work_machine start h).items ≡ true
     within = ap (λ (f : WorkOp → Bool). f (work_ops.Remaining item)) (in_range-after start h) ∙ first
 
-module _ (work : List (Entry WorkOp WorkReply)) (clock : List (Entry ClockOp ClockReply)) (sems : List (List (Entry SemOp SemReply))) (msgqs : List (List (Entry MsgqOp MsgqReply)))
-    (signals : List (List (Entry SignalOp SignalReply))) (chans : List (List (Entry ChanOp ChanReply))) (observers : List (List (Entry ObsOp ObsReply))) (m : Machines) (who : Who) (number object : ℕ) where
-  abbrev pub old : Shown
-  old = whole_shown work clock sems msgqs signals chans observers
+-- what is shown is whole: no look is counted
+module _ (old : Shown) (whole : old.looks ≡ None) (unlooked : old.looked ≡ None) (m : Machines) (who : Who) (number object : ℕ) where
+  uncounted : old.looked ≡ option_map (λ n. number + 1) old.looked
+  uncounted = unlooked ∙ ap (option_map (λ (n : ℕ). number + 1)) (sym unlooked)
 
   item-still : (reply : StepReply) → old ≡ shown_after old who number (steps.LookItem object) reply
-  item-still (step_replies.Flags flags at) = refl
+  item-still (step_replies.Flags flags at) = ap (λ (looked : Option ℕ). record old { looked = looked }) uncounted
   item-still reply = refl
 
   -- a look at an item
@@ -94,7 +83,7 @@ module _ (work : List (Entry WorkOp WorkReply)) (clock : List (Entry ClockOp Clo
     found = old;
     since = refl;
     replied = is;
-    read_at = reads-whole m old who (steps.LookItem object) reply refl is;
+    read_at = reads-whole m old who (steps.LookItem object) reply whole is;
     shown = item-still reply;
   })
 
@@ -109,6 +98,6 @@ module _ (work : List (Entry WorkOp WorkReply)) (clock : List (Entry ClockOp Clo
         found = old;
         since = refl;
         replied = is;
-        read_at = reads-whole m old who (steps.LookSignal object must) reply refl is;
+        read_at = reads-whole m old who (steps.LookSignal object must) reply whole is;
         shown = refl;
       }

@@ -1,11 +1,12 @@
 -- What a run keeps in each turn.
-use Rattle.std.proofs.Common.{◌≡◌, ◌≢◌, ◌⊎◌, ℕ, ◌+◌, ◌*◌, ◌-◌, ◌^◌, ◌<◌, ◌≤◌, true, false, Option, Some, [], ◌∷◌, length, set, inl, inr, refl, sym, ap, subst, ◌∙◌, arith, length-append}
+use Rattle.std.proofs.Common.{◌≡◌, ◌≢◌, ◌⊎◌, ℕ, ◌+◌, ◌*◌, ◌-◌, ◌^◌, ◌<◌, ◌≤◌, true, false, Option, Some, List, [], ◌∷◌, ◌++◌, length, set, inl, inr, refl, sym, ap, subst, ◌∙◌, arith, length-append}
 use Rattle.std.specs.List.{slice_get, sum_by}
 use Rattle.std.proofs.lemmas.Bool.Decides.{nat_tests}
 use Rattle.std.proofs.lemmas.List.{length-set}
 use Rattle.std.proofs.lemmas.List.Sums.{sum_by-le}
 use Rattle.std.proofs.lemmas.List.Elements.{All-set}
 use Rattle.zk_base.proofs.Lists.{All-at}
+use Rattle.zk_base.specs.declared.ids.Who.{Who}
 use Rattle.zk_scenario.specs.Parts.{Parts}
 use Rattle.zk_worker.specs.declared.steps.TheConstants.{MOST_STEPS}
 use Rattle.zk_worker.specs.declared.steps.Step.{Step}
@@ -13,14 +14,17 @@ use Rattle.zk_worker.specs.declared.steps.StepReply.{StepReply}
 use Rattle.zk_worker.specs.Places.{At}
 use Rattle.zk_worker.specs.Protocol.{attempts, after, spot_of}
 use Rattle.zk_worker.specs.Follows.{is_spent_at, StandsMore, IsFollowing}
-use Rattle.zk_worker.specs.Ranges.{FramesFit}
+use Rattle.zk_worker.specs.Ranges.{IsFit}
 use Rattle.zk_worker.specs.Machines.{Machines, machines_of}
 use Rattle.zk_worker.specs.Attempt.{reply_in, IsMade}
 use Rattle.zk_worker.specs.Looks.{LookedBelow}
 use Rattle.zk_worker.specs.Right.{LooksRight}
 use Rattle.zk_worker.specs.Shown.{Shown, shown_after, ShowsLog, AreShort}
+use Rattle.zk_worker.specs.declared.steps.Spot.{Spot}
+use Rattle.zk_worker.proofs.CheckedSteps.{after-spots}
 use Rattle.zk_worker.proofs.Families.{each-short}
-use Rattle.zk_worker.proofs.Fits.{after-fits}
+use Rattle.zk_worker.proofs.FitsStill.{after-fits}
+use Rattle.zk_worker.proofs.PassedChecks.{replied-passes}
 use Rattle.zk_worker.proofs.Replied.{replied-fits}
 use Rattle.zk_worker.proofs.ShownSteps.{made-more, log-answered, log-others, unlooked-after, whole-after}
 use Rattle.zk_worker.proofs.Looking.{looks-stepped, looks-others, reads-whole}
@@ -38,6 +42,7 @@ short-shown s w ready =
     record {
       work = omega (arith, ready.few, ready.counted, most);
       clock = omega (arith, ready.few, ready.counted, most);
+      table = omega (arith, ready.few, ready.counted, most);
       sems = each-short w.shown.sems (2 ^ 32 - 1) (omega (arith, ready.few, ready.counted, most));
       msgqs = each-short w.shown.msgqs (2 ^ 32 - 1) (omega (arith, ready.few, ready.counted, most));
       signals = each-short w.shown.signals (2 ^ 32 - 1) (omega (arith, ready.few, ready.counted, most));
@@ -54,10 +59,12 @@ record IsOneMore (s : Parts) (at at' : At) : Type 0 where
   count : length at'.spots ≡ length at.spots + 1
 
 after-one : (s : Parts) (at : At) (step : Step) (reply : StepReply) → IsOneMore s at (after s at step reply)
-after-one s at step reply = record {
-  who = refl;
-  count = omega (arith, length-append at.spots (spot_of step reply ∷ []));
-}
+after-one s at step reply =
+    let kept = after-spots s at step reply in
+    record {
+      who = kept.0;
+      count = omega (arith, ap (λ (l : List Spot). length l) kept.1, length-append at.spots (spot_of step reply ∷ []));
+    }
 
 shows-after : (m : Machines) (s : Parts) (w : World) (p : ℕ) (at : At) (step : Step) (reply : StepReply) → IsReady s w → slice_get w.players p ≡ Some at → reply_in m w.shown at.who step ≡ Some reply →
     (q : ℕ) (other : At) → slice_get (set w.players p (after s at step reply)) q ≡ Some other → ShowsLog (shown_after w.shown at.who (length at.spots) step reply) other.who.number other.spots
@@ -66,8 +73,11 @@ shows-after m s w p at step reply ready is answered q other found = by_place (sl
     by_place : ((q ≡ p) × (other ≡ after s at step reply)) ⊎ ((q ≢ p) × (slice_get w.players q ≡ Some other)) →
         ShowsLog (shown_after w.shown at.who (length at.spots) step reply) other.who.number other.spots
     by_place (inl same) =
+        let kept = after-spots s at step reply in
         subst (λ (o : At). ShowsLog (shown_after w.shown at.who (length at.spots) step reply) o.who.number o.spots) (sym same.1)
-        (log-answered m w.shown at.who at.spots step reply (ready.shows p at is) answered)
+        (subst (λ (spots : List Spot). ShowsLog (shown_after w.shown at.who (length at.spots) step reply) (after s at step reply).who.number spots) (sym kept.1)
+        (subst (λ (who : Who). ShowsLog (shown_after w.shown at.who (length at.spots) step reply) who.number (at.spots ++ spot_of step reply ∷ [])) (sym kept.0)
+        (log-answered m w.shown at.who at.spots step reply (ready.shows p at is) answered)))
     by_place (inr apart) =
         let differ : other.who.number ≢ at.who.number = λ same. apart.0 (sym (ready.numbers q other apart.1) ∙ same ∙ ready.numbers p at is) in
         let unlooked = subst (λ (o : Option ℕ). LookedBelow o (length other.spots)) (sym (unlooked-after w.shown at.who (length at.spots) step reply ready.unlooked)) tt in
@@ -126,8 +136,8 @@ ready-stepped m s w p at made same ready is unspent found =
     let long = (made-more m w.shown at.who (length at.spots) made.0 made.1 found.answered).count in
     let count : At → ℕ = λ at. length at.spots in
     let Short : At → Type 0 = λ at. length at.spots ≤ MOST_STEPS in
-    let Fits : At → Type 0 = λ at. FramesFit s.decls at.frames in
     let told = replied-fits s m w.shown at.who made.0 made.1 ready.valid same found.answered in
+    let passes = replied-passes s m w.shown at.who made.0 made.1 same found.answered in
     record {
       valid = ready.valid;
       few = omega (arith, length-set w.players p at', ready.few);
@@ -139,7 +149,8 @@ ready-stepped m s w p at made same ready is unspent found =
       whole = whole-after w.shown at.who (length at.spots) made.0 made.1 ready.whole;
       unlooked = unlooked-after w.shown at.who (length at.spots) made.0 made.1 ready.unlooked;
       follow = follow-after m s w p at made ready is found;
-      fits = All-set Fits w.players p at' (after-fits s at made.0 made.1 (All-at Fits w.players p at ready.fits is) told) ready.fits;
+      fits = All-set (IsFit s) w.players p at'
+          (after-fits s at made.0 made.1 ready.valid (All-at (IsFit s) w.players p at ready.fits is) (found.place, found.is_there) told passes) ready.fits;
     }
 
 -- a step leaves fewer steps

@@ -11,6 +11,8 @@ use Rattle.zk_worker.specs.Machines.{Machines}
 use Rattle.zk_worker.specs.Attempt.{reply_in}
 use Rattle.zk_worker.specs.Shown.{Shown}
 use Rattle.zk_worker.specs.Choosing.{or_else, first_possible, chosen}
+use Rattle.zk_worker.specs.declared.steps.Spot.{Spot}
+use Rattle.zk_worker.proofs.CheckedSteps.{after-spots}
 use Rattle.zk_worker.proofs.Lists.{sum-set}
 use Rattle.zk_replay.specs.RoundRobin.{World, stepped, turn, turn_of, turns, round, rounds, is_spent}
 
@@ -88,7 +90,8 @@ module _ (m : Machines) (s : Parts) where
   steps-more : (w : World) (p : ℕ) (at : At) (made : Step × StepReply) → slice_get w.players p ≡ Some at → steps_of (stepped s w p at (Some made)) ≡ steps_of w + 1
   steps-more w p at made is =
       let count : At → ℕ = λ at. length at.spots in
-      omega (arith, sum-set count w.players p at (after s at made.0 made.1) is, length-append at.spots (spot_of made.0 made.1 ∷ []))
+      let longer = ap (λ (l : List Spot). length l) (after-spots s at made.0 made.1).1 in
+      omega (arith, sum-set count w.players p at (after s at made.0 made.1) is, longer, length-append at.spots (spot_of made.0 made.1 ∷ []))
 
   turns-longer : (w : World) (n p : ℕ) → steps_of w ≤ steps_of (turns m s w n p)
   turns-longer w n p =

@@ -15,7 +15,7 @@ use Rattle.zk_line.specs.declared.types.Decl.TheVariants as decls
 use Rattle.zk_line.specs.declared.types.Call.{Call}
 use Rattle.zk_line.specs.declared.types.Call.TheVariants as calls
 use Rattle.zk_scenario.specs.Parts.{Parts}
-use Rattle.zk_line.specs.Objects.{places_from, places, is_thread, is_queue, is_item, same_kind, number_of}
+use Rattle.zk_line.specs.Objects.{places_from, places, is_at, is_thread, is_queue, is_item, same_kind, number_of}
 use Rattle.zk_scenario.specs.Players.{players, calls_of}
 use Rattle.zk_line.proofs.Lists.{count_by-cons}
 use Rattle.zk_model_wait.specs.declared.clock.ClockOp.TheVariants as clock_ops
@@ -38,16 +38,19 @@ use Rattle.zk_worker.specs.declared.frames.Role.TheVariants.{Script, Worker}
 use Rattle.zk_worker.specs.declared.frames.Stage.{Stage}
 use Rattle.zk_worker.specs.declared.frames.Closing.{Closing}
 use Rattle.zk_worker.specs.declared.frames.Closing.TheVariants as closings
-use Rattle.zk_words.specs.declared.word.Word.{Word}
 use Rattle.zk_worker.specs.Places.{At}
-use Rattle.zk_worker.specs.Protocol.{call_attempts, frames_attempts, frames_progress, frames_after, call_progress, run_progress, is_over, settled, entered, first_frame, starting, start_at, after}
+use Rattle.zk_worker.specs.declared.checks.Mode.{Mode}
+use Rattle.zk_worker.specs.declared.checks.Mode.TheVariants.{Supervisor}
+use Rattle.zk_worker.specs.Checks.{next_check, mode_after}
+use Rattle.zk_worker.proofs.CheckedSteps.{turn}
+use Rattle.zk_worker.specs.Protocol.{IsAhead, call_attempts, frames_attempts, frames_progress, frames_after, call_progress, run_progress, is_over, settled, entered, first_frame, starting, start_at, after}
 use Rattle.zk_worker.specs.Machines.{workers, work_start_of, is_on}
 use Rattle.zk_worker.proofs.Lists.{slice_get-set}
 use Rattle.zk_replay.specs.RoundRobin.{World, starts, first, stepped}
-use Rattle.zk_replay.specs.Tending.{IsIdle, IsWorkers, IsScript, Tends, IsTended}
+use Rattle.zk_replay.specs.Tending.{IsIdle, IsWorkers, IsScript, Tends, Works, IsTended}
 use Rattle.zk_model_work.proofs.Runs.{IsCalled, idle-called, idle-ended, idle-next, begin-told, homes-next, workers-next}
-use Rattle.zk_model_work.specs.declared.ops.WorkReply.TheVariants as replies
 use Rattle.zk_model_bus.specs.declared.channel.ChanOp.TheVariants as chan_ops
+use Rattle.zk_model_bus.specs.declared.table.TableOp.TheVariants as table_ops
 use Rattle.zk_words.specs.declared.timeout.Timeout.{Timeout}
 use Rattle.zk_words.specs.declared.timeout.Timeout.TheVariants.{No, Forever, Ticks}
 use Rattle.zk_worker.specs.declared.frames.Waiting.{Waiting}
@@ -66,12 +69,15 @@ use Rattle.zk_worker.specs.Polls.{ask_step, watch_step, drop_step, poll_attempts
 use Rattle.zk_worker.proofs.PollSteps.{poll_attempts-each}
 use Rattle.zk_worker.specs.declared.frames.Progress.{Progress}
 use Rattle.zk_worker.specs.declared.frames.Progress.TheVariants.{Goes, Answers, Enters}
-use Rattle.zk_worker.specs.Calls.{plan_of, closing_step, plan_attempts, plan_progress}
+use Rattle.zk_worker.specs.Calls.{plan_of, closing_step, plan_attempts}
 use Rattle.zk_worker.specs.Waits.{open_step, end_step, quit_step, first_step, wait_attempts}
 use Rattle.zk_worker.specs.Publishes.{asks_for, use_step, visit_step, channel_attempts}
 use Rattle.zk_worker.specs.declared.frames.Using.{Using}
 use Rattle.zk_worker.specs.declared.frames.Using.TheVariants.{Publish, Notify, Read}
-use Rattle.zk_line.specs.Calls.{word_of}
+use Rattle.zk_line.specs.Calls.{is_user_call}
+use Rattle.zk_scenario.specs.Valid.{IsValid}
+use Rattle.zk_scenario.proofs.Valid.{user-owner}
+use Rattle.zk_worker.proofs.StageFits.{ProgressFits}
 use Rattle.zk_worker.specs.Shown.{Shown, shown_after}
 use Rattle.zk_base.specs.Legal.{state_after}
 use Rattle.zk_base.proofs.Lists.{All-at}
@@ -102,40 +108,42 @@ tends-settled s queue (frame ∷ next ∷ below) admissions tends =
     elim (is_over s frame.role frame.next) as (λ b. Tends s.decls queue (cond b (settled s (next ∷ below)) (frame ∷ next ∷ below)) admissions)
     [ true ↦ tends-settled s queue (next ∷ below) admissions tends.1 | false ↦ tends ]
 
-tends-entered : (ds : List Decl) (queue owner : ℕ) (frame : Frame) (below : List Frame) (admissions : List Admission) → Tends ds queue (frame ∷ below) admissions →
-    Tends ds queue (entered (frame ∷ below) owner) admissions
-tends-entered ds queue owner frame below admissions tends =
+tends-entered : (ds : List Decl) (queue owner : ℕ) (frame : Frame) (below : List Frame) (admissions : List Admission) → is_at is_thread ds owner ≡ false →
+    Tends ds queue (frame ∷ below) admissions → Tends ds queue (entered (frame ∷ below) owner) admissions
+tends-entered ds queue owner frame below admissions none tends =
     elim (nat_lt (length (frame ∷ below)) MOST_FRAMES) as (λ b. Tends ds queue (cond b (first_frame (Script owner) ∷ frame ∷ below) (frame ∷ below)) admissions)
-    [ true ↦ (tt, tends) | false ↦ tends ]
+    [ true ↦ (none, tends) | false ↦ tends ]
 
 -- the run of a worker after a step of its own
 own-run : (s : Parts) (st : State) (who : Who) (queue : ℕ) (role : Role) (next : ℕ) (stage : Stage) (op : WorkOp) (reply : WorkReply) (place k : ℕ) →
     IsWorkers s.decls queue role stage st.admissions → slice_get (frames_attempts s (record { role = role; next = next; stage = stage } ∷ [])) k ≡ Some (steps.Work op) →
-    work_reply st who op ≡ Some reply →
+    work_reply st who op ≡ Some reply → ProgressFits s.decls (frames_progress s (record { role = role; next = next; stage = stage } ∷ []) (steps.Work op) (step_replies.Work reply place)) →
     Tends s.decls queue (frames_after s (record { role = role; next = next; stage = stage } ∷ [])
     (frames_progress s (record { role = role; next = next; stage = stage } ∷ []) (steps.Work op) (step_replies.Work reply place))) (work_next st who op).admissions
-own-run s st who queue (Script owner) next stage op reply place k tends is made = absurd tends
-own-run s st who queue (Worker object) next Start op reply place k tends is made =
+own-run s st who queue (Script owner) next stage op reply place k tends is made fits = absurd tends
+own-run s st who queue (Worker object) next Start op reply place k tends is made fits =
     let step = slice_get-one (steps.Work (ops.Begin (number_of s.decls object))) (steps.Work op) k is in
     let begins : ops.Begin (number_of s.decls object) ≡ op = cc in
     let told = begin-told st who (number_of s.decls object) reply (ap (λ (o : WorkOp). work_reply st who o) begins ∙ made) in
     let frame : Frame = record { role = Worker object; next = next; stage = Start } in
     let new = (work_next st who op).admissions in
-    subst (λ (r : WorkReply). Tends s.decls queue (frames_after s (frame ∷ []) (frames_progress s (frame ∷ []) (steps.Work op) (step_replies.Work r place))) new) (sym told.2)
-    (by_item (slice_get (places is_item s.decls) told.0))
+    subst (λ (r : WorkReply). ProgressFits s.decls (frames_progress s (frame ∷ []) (steps.Work op) (step_replies.Work r place)) →
+    Tends s.decls queue (frames_after s (frame ∷ []) (frames_progress s (frame ∷ []) (steps.Work op) (step_replies.Work r place))) new) (sym told.2)
+    (by_item (slice_get (places is_item s.decls) told.0)) fits
   where
-    by_item : (owner : Option ℕ) → Tends s.decls queue (frames_after s (record { role = Worker object; next = next; stage = Start } ∷ []) (run_progress owner)) (work_next st who op).admissions
-    by_item None = tends.0
-    by_item (Some owner) =
+    by_item : (owner : Option ℕ) → ProgressFits s.decls (run_progress owner) →
+        Tends s.decls queue (frames_after s (record { role = Worker object; next = next; stage = Start } ∷ []) (run_progress owner)) (work_next st who op).admissions
+    by_item None fits = tends.0
+    by_item (Some owner) fits =
         let frame : Frame = record { role = Worker object; next = next; stage = Runs } in
-        tends-settled s queue (entered (frame ∷ []) owner) (work_next st who op).admissions (tends-entered s.decls queue owner frame [] (work_next st who op).admissions tends.0)
-own-run s st who queue (Worker object) next Runs op reply place k tends is made =
+        tends-settled s queue (entered (frame ∷ []) owner) (work_next st who op).admissions (tends-entered s.decls queue owner frame [] (work_next st who op).admissions fits.1 tends.0)
+own-run s st who queue (Worker object) next Runs op reply place k tends is made fits =
     let step = slice_get-one (steps.Work (ops.End (number_of s.decls object))) (steps.Work op) k is in
     let ends : ops.End (number_of s.decls object) ≡ op = cc in
     let idle : IsIdle queue (work_next st who (ops.End (number_of s.decls object))).admissions =
     subst (λ (q : ℕ). IsIdle q (work_next st who (ops.End (number_of s.decls object))).admissions) tends (idle-ended (number_of s.decls object) st.admissions) in
     (tends, subst (λ (o : WorkOp). IsIdle queue (work_next st who o).admissions) ends idle)
-own-run s st who queue (Worker object) next stage op reply place k tends is made = absurd tends
+own-run s st who queue (Worker object) next stage op reply place k tends is made fits = absurd tends
 
 -- a step at another service than the work service
 abbrev pub IsElsewhere : Step → Type 0
@@ -151,10 +159,15 @@ none-elsewhere s queue (Worker object) next Runs admissions step k elsewhere ten
     subst IsElsewhere (sym (slice_get-one (steps.Work (ops.End (number_of s.decls object))) step k is)) elsewhere
 none-elsewhere s queue role next stage admissions step k elsewhere tends is = tends
 
--- what a call of a script asks of a service
+-- what a call of a script asks of a service, and it makes nobody a user
 abbrev IsCalledStep : Step → Type 0
 IsCalledStep (steps.Work op) = IsCalled op
+IsCalledStep (steps.Table table_ops.EnterUser) = ⊥
 IsCalledStep step = Unit {0}
+
+stays-supervisor : (step : Step) → IsCalledStep step → mode_after Supervisor step ≡ Supervisor
+stays-supervisor (steps.Table table_ops.EnterUser) called = absurd called
+stays-supervisor step called = refl
 
 -- the steps that a call names are such
 abbrev IsCalledPlan : Plan → Type 0
@@ -165,9 +178,19 @@ IsCalledPlan (Wait waiting timeout) = Unit {0}
 IsCalledPlan (Poll timeout events) = Unit {0}
 IsCalledPlan (Channel chan using_ timeout) = Unit {0}
 
-plan_of-called : (decls : List Decl) (call : Call) → IsCalledPlan (plan_of decls call)
-plan_of-called decls (calls.Tick ticks) = (tt, tt)
-plan_of-called decls call = tt
+plan_of-called : (decls : List Decl) (call : Call) → is_user_call call ≡ false → IsCalledPlan (plan_of decls call)
+plan_of-called decls (calls.Tick ticks) other = (tt, tt)
+plan_of-called decls calls.User other = absurd (cc)
+plan_of-called decls call other = tt
+
+-- a script that isn't a thread's makes nobody a user
+no-user-call : (s : Parts) (owner next : ℕ) (call : Call) → IsValid s → is_at is_thread s.decls owner ≡ false → slice_get (calls_of s.scripts owner) next ≡ Some call →
+    is_user_call call ≡ false
+no-user-call s owner next call valid none there = by (is_user_call call) refl
+  where
+    by : (b : Bool) → is_user_call call ≡ b → is_user_call call ≡ false
+    by true makes = absurd (let is = user-owner s owner next call valid there makes in cc)
+    by false other = other
 
 one-called : (step : Step) → IsCalledStep step → All IsCalledStep (step ∷ [])
 one-called step called = All-cons IsCalledStep step [] called (All-nil IsCalledStep)
@@ -275,62 +298,102 @@ attempts-called (Poll timeout events) stage called = poll-called timeout events 
 attempts-called (Channel chan using_ timeout) stage called = channel-called chan using_ timeout stage
 attempts-called plan stage called = All-nil IsCalledStep
 
+call-called : (decls : List Decl) (call : Option Call) (stage : Stage) (step : Step) (k : ℕ) → ((own : Call) → call ≡ Some own → is_user_call own ≡ false) →
+    slice_get (call_attempts decls call stage) k ≡ Some step → IsCalledStep step
+call-called decls None stage step k other is = absurd (cc)
+call-called decls (Some call) stage step k other is =
+    All-at IsCalledStep (plan_attempts (plan_of decls call) stage) k step (attempts-called (plan_of decls call) stage (plan_of-called decls call (other call refl))) is
+
 -- the scripts of a worker after a step of the innermost one, which leaves the queue idle where a call asks for it
 own-script : (s : Parts) (queue : ℕ) (frame next : Frame) (below : List Frame) (step : Step) (reply : StepReply) (k : ℕ) (call : Option Call) (old new : List Admission) →
-    (IsCalledStep step → IsIdle queue old → IsIdle queue new) → IsScript frame.role → Tends s.decls queue (next ∷ below) old →
-    slice_get (call_attempts s.decls call frame.stage) k ≡ Some step →
+    (IsCalledStep step → IsIdle queue old → IsIdle queue new) → IsScript s.decls frame.role → Tends s.decls queue (next ∷ below) old →
+    ((own : Call) → call ≡ Some own → is_user_call own ≡ false) → slice_get (call_attempts s.decls call frame.stage) k ≡ Some step →
+    ProgressFits s.decls (call_progress s.decls call frame.stage step reply) →
     Tends s.decls queue (frames_after s (frame ∷ next ∷ below) (call_progress s.decls call frame.stage step reply)) new
-own-script s queue frame next below step reply k None old new keeps script tends is = absurd (cc)
-own-script s queue frame next below step reply k (Some call) old new keeps script tends is =
-    by_progress (plan_progress (word_of call) (plan_of s.decls call) frame.stage step reply)
+own-script s queue frame next below step reply k call old new keeps script tends other is fits = by_progress (call_progress s.decls call frame.stage step reply) fits
   where
-    called : IsCalledStep step
-    called = All-at IsCalledStep (plan_attempts (plan_of s.decls call) frame.stage) k step (attempts-called (plan_of s.decls call) frame.stage (plan_of-called s.decls call)) is
-
     kept : Tends s.decls queue (next ∷ below) new
-    kept = tends-keep s.decls queue (next ∷ below) old new (keeps called) tends
+    kept = tends-keep s.decls queue (next ∷ below) old new (keeps (call-called s.decls call frame.stage step k other is)) tends
 
-    by_progress : (progress : Progress) → Tends s.decls queue (frames_after s (frame ∷ next ∷ below) progress) new
-    by_progress (Goes stage) = (script, kept)
-    by_progress (Answers word answer) = tends-settled s queue (record frame { next = frame.next + 1; stage = Start } ∷ next ∷ below) new (script, kept)
-    by_progress (Enters owner stage) =
-        let frames : List Frame = record frame { stage = stage } ∷ next ∷ below in
-        tends-settled s queue (entered frames owner) new
-        (elim (nat_lt (length frames) MOST_FRAMES) as (λ b. Tends s.decls queue (cond b (first_frame (Script owner) ∷ frames) frames) new)
-        [ true ↦ (tt, (script, kept)) | false ↦ (script, kept) ])
+    by_progress : (progress : Progress) → ProgressFits s.decls progress → Tends s.decls queue (frames_after s (frame ∷ next ∷ below) progress) new
+    by_progress (Goes stage) fits = (script, kept)
+    by_progress (Answers word answer) fits = tends-settled s queue (record frame { next = frame.next + 1; stage = Start } ∷ next ∷ below) new (script, kept)
+    by_progress (Enters owner stage) fits =
+        let here : Frame = record frame { stage = stage } in
+        tends-settled s queue (entered (here ∷ next ∷ below) owner) new (tends-entered s.decls queue owner here (next ∷ below) new fits.1 (script, kept))
 
 -- the same of the open scripts and the run below
-own-scripts : (s : Parts) (queue : ℕ) (frame next : Frame) (below : List Frame) (step : Step) (reply : StepReply) (k : ℕ) (old new : List Admission) →
+own-scripts : (s : Parts) (queue : ℕ) (frame next : Frame) (below : List Frame) (step : Step) (reply : StepReply) (k : ℕ) (old new : List Admission) → IsValid s →
     (IsCalledStep step → IsIdle queue old → IsIdle queue new) → Tends s.decls queue (frame ∷ next ∷ below) old → slice_get (frames_attempts s (frame ∷ next ∷ below)) k ≡ Some step →
+    ProgressFits s.decls (frames_progress s (frame ∷ next ∷ below) step reply) →
     Tends s.decls queue (frames_after s (frame ∷ next ∷ below) (frames_progress s (frame ∷ next ∷ below) step reply)) new
-own-scripts s queue frame next below step reply k old new keeps tends is = by_role frame.role frame.next frame.stage tends.0 is
+own-scripts s queue frame next below step reply k old new valid keeps tends is fits = by_role frame.role frame.next frame.stage tends.0 is fits
   where
-    by_role : (role : Role) (at : ℕ) (stage : Stage) → IsScript role → slice_get (frames_attempts s (record { role = role; next = at; stage = stage } ∷ next ∷ below)) k ≡ Some step →
+    by_role : (role : Role) (at : ℕ) (stage : Stage) → IsScript s.decls role → slice_get (frames_attempts s (record { role = role; next = at; stage = stage } ∷ next ∷ below)) k ≡ Some step →
+        ProgressFits s.decls (frames_progress s (record { role = role; next = at; stage = stage } ∷ next ∷ below) step reply) →
         Tends s.decls queue (frames_after s (record { role = role; next = at; stage = stage } ∷ next ∷ below)
         (frames_progress s (record { role = role; next = at; stage = stage } ∷ next ∷ below) step reply)) new
-    by_role (Script owner) at stage script is =
-        own-script s queue (record { role = Script owner; next = at; stage = stage }) next below step reply k (slice_get (calls_of s.scripts owner) at) old new keeps tt tends.1 is
-    by_role (Worker object) at stage script is = absurd script
+    by_role (Script owner) at stage script is fits =
+        own-script s queue (record { role = Script owner; next = at; stage = stage }) next below step reply k (slice_get (calls_of s.scripts owner) at) old new keeps script tends.1
+        (λ call there. no-user-call s owner at call valid script there) is fits
+    by_role (Worker object) at stage script is fits = absurd script
 
 -- a worker tends its queue after each step of its own at the work service
-pub tends-own : (s : Parts) (st : State) (who : Who) (queue : ℕ) (frames : List Frame) (op : WorkOp) (reply : WorkReply) (place k : ℕ) →
+pub tends-own : (s : Parts) (st : State) (who : Who) (queue : ℕ) (frames : List Frame) (op : WorkOp) (reply : WorkReply) (place k : ℕ) → IsValid s →
     Tends s.decls queue frames st.admissions → slice_get (frames_attempts s frames) k ≡ Some (steps.Work op) → work_reply st who op ≡ Some reply →
+    ProgressFits s.decls (frames_progress s frames (steps.Work op) (step_replies.Work reply place)) →
     Tends s.decls queue (frames_after s frames (frames_progress s frames (steps.Work op) (step_replies.Work reply place))) (work_next st who op).admissions
-tends-own s st who queue [] op reply place k tends is made = absurd tends
-tends-own s st who queue (frame ∷ []) op reply place k tends is made = own-run s st who queue frame.role frame.next frame.stage op reply place k tends is made
-tends-own s st who queue (frame ∷ next ∷ below) op reply place k tends is made =
-    own-scripts s queue frame next below (steps.Work op) (step_replies.Work reply place) k st.admissions (work_next st who op).admissions
-    (λ called. idle-called st who op queue called) tends is
+tends-own s st who queue [] op reply place k valid tends is made fits = absurd tends
+tends-own s st who queue (frame ∷ []) op reply place k valid tends is made fits = own-run s st who queue frame.role frame.next frame.stage op reply place k tends is made fits
+tends-own s st who queue (frame ∷ next ∷ below) op reply place k valid tends is made fits =
+    own-scripts s queue frame next below (steps.Work op) (step_replies.Work reply place) k st.admissions (work_next st who op).admissions valid
+    (λ called. idle-called st who op queue called) tends is fits
 
 -- and after each at another service
-tends-elsewhere : (s : Parts) (queue : ℕ) (frames : List Frame) (admissions : List Admission) (step : Step) (reply : StepReply) (k : ℕ) → IsElsewhere step →
-    Tends s.decls queue frames admissions → slice_get (frames_attempts s frames) k ≡ Some step →
+tends-elsewhere : (s : Parts) (queue : ℕ) (frames : List Frame) (admissions : List Admission) (step : Step) (reply : StepReply) (k : ℕ) → IsValid s → IsElsewhere step →
+    Tends s.decls queue frames admissions → slice_get (frames_attempts s frames) k ≡ Some step → ProgressFits s.decls (frames_progress s frames step reply) →
     Tends s.decls queue (frames_after s frames (frames_progress s frames step reply)) admissions
-tends-elsewhere s queue [] admissions step reply k elsewhere tends is = absurd tends
-tends-elsewhere s queue (frame ∷ []) admissions step reply k elsewhere tends is =
+tends-elsewhere s queue [] admissions step reply k valid elsewhere tends is fits = absurd tends
+tends-elsewhere s queue (frame ∷ []) admissions step reply k valid elsewhere tends is fits =
     absurd (none-elsewhere s queue frame.role frame.next frame.stage admissions step k elsewhere tends is)
-tends-elsewhere s queue (frame ∷ next ∷ below) admissions step reply k elsewhere tends is =
-    own-scripts s queue frame next below step reply k admissions admissions (λ called idle. idle) tends is
+tends-elsewhere s queue (frame ∷ next ∷ below) admissions step reply k valid elsewhere tends is fits =
+    own-scripts s queue frame next below step reply k admissions admissions valid (λ called idle. idle) tends is fits
+
+-- a worker stays a supervisor
+own-supervises : (s : Parts) (queue : ℕ) (frames : List Frame) (admissions : List Admission) (step : Step) (k : ℕ) → IsValid s →
+    Tends s.decls queue frames admissions → slice_get (frames_attempts s frames) k ≡ Some step → mode_after Supervisor step ≡ Supervisor
+own-supervises s queue [] admissions step k valid tends is = absurd tends
+own-supervises s queue (frame ∷ []) admissions step k valid tends is = by_role frame.role frame.next frame.stage tends is
+  where
+    by_role : (role : Role) (next : ℕ) (stage : Stage) → IsWorkers s.decls queue role stage admissions →
+        slice_get (frames_attempts s (record { role = role; next = next; stage = stage } ∷ [])) k ≡ Some step → mode_after Supervisor step ≡ Supervisor
+    by_role (Worker object) next Start tends is =
+        subst (λ (made : Step). mode_after Supervisor made ≡ Supervisor) (slice_get-one (steps.Work (ops.Begin (number_of s.decls object))) step k is) refl
+    by_role (Worker object) next Runs tends is =
+        subst (λ (made : Step). mode_after Supervisor made ≡ Supervisor) (slice_get-one (steps.Work (ops.End (number_of s.decls object))) step k is) refl
+    by_role role next stage tends is = absurd tends
+own-supervises s queue (frame ∷ next ∷ below) admissions step k valid tends is = by_role frame.role frame.next frame.stage tends.0 is
+  where
+    by_role : (role : Role) (at : ℕ) (stage : Stage) → IsScript s.decls role →
+        slice_get (frames_attempts s (record { role = role; next = at; stage = stage } ∷ next ∷ below)) k ≡ Some step → mode_after Supervisor step ≡ Supervisor
+    by_role (Script owner) at stage script is =
+        stays-supervisor step (call-called s.decls (slice_get (calls_of s.scripts owner) at) stage step k (λ call there. no-user-call s owner at call valid script there) is)
+    by_role (Worker object) at stage script is = absurd script
+
+-- it goes on with what it has open: no call of it is checked
+works-on : (s : Parts) (queue : ℕ) (at : At) (step : Step) (reply : StepReply) (old new : List Admission) → IsValid s → Works s.decls queue at old →
+    ((k : ℕ) → slice_get (frames_attempts s at.frames) k ≡ Some step → Tends s.decls queue (frames_after s at.frames (frames_progress s at.frames step reply)) new) →
+    IsAhead s at step → Works s.decls queue (after s at step reply) new
+works-on s queue at step reply old new valid works next ahead =
+    turn (λ a. Works s.decls queue a new) s at step reply ahead
+    (λ check. let none = ap (λ (mode : Mode). next_check s mode at.passed at.frames) (sym works.supervises) ∙ check.comes in absurd (cc))
+    (λ own. record {
+      supervises = ap (λ (mode : Mode). mode_after mode step) works.supervises ∙ own-supervises s queue at.frames old step own.index valid works.tends own.ahead;
+      tends = next own.index own.ahead;
+    })
+
+works-keep : (ds : List Decl) (queue : ℕ) (at : At) (old new : List Admission) → (IsIdle queue old → IsIdle queue new) → Works ds queue at old → Works ds queue at new
+works-keep ds queue at old new keeps works = record { supervises = works.supervises; tends = tends-keep ds queue at.frames old new keeps works.tends }
 
 -- a number of a row
 row-at : (a n i : ℕ) → i < n → slice_get (range_with_len a n) i ≡ Some (a + i)
@@ -350,10 +413,10 @@ many-queues s w st tended =
     sym (length-map st.queues (λ (q : Queue). q.worker)) ∙ workers_long ∙ row
 
 -- each worker tends its queue after a step of any player
-pub tended-step : (s : Parts) (w : World) (st : State) (p : ℕ) (at : At) (op : WorkOp) (reply : WorkReply) (place k : ℕ) → IsTended s w st → slice_get w.players p ≡ Some at → at.who.number ≡ p →
-    slice_get (frames_attempts s at.frames) k ≡ Some (steps.Work op) → work_reply st at.who op ≡ Some reply →
+pub tended-step : (s : Parts) (w : World) (st : State) (p : ℕ) (at : At) (op : WorkOp) (reply : WorkReply) (place : ℕ) → IsValid s → IsTended s w st → slice_get w.players p ≡ Some at → at.who.number ≡ p →
+    IsAhead s at (steps.Work op) → work_reply st at.who op ≡ Some reply → ProgressFits s.decls (frames_progress s at.frames (steps.Work op) (step_replies.Work reply place)) →
     IsTended s (stepped s w p at (Some (steps.Work op, step_replies.Work reply place))) (work_next st at.who op)
-tended-step s w st p at op reply place k tended is number ahead made = record {
+tended-step s w st p at op reply place valid tended is number ahead made fits = record {
   after = ap (λ (t : State). work_next t at.who op) tended.after ∙ sym (state_after-snoc work_machine (work_start_of s) w.shown.work (entry at.who (length at.spots) op reply));
   homes = homes-next (length (places is_queue s.decls)) st at.who op (many-queues s w st tended) tended.homes;
   has_workers = workers-next st at.who op ∙ tended.has_workers;
@@ -363,13 +426,14 @@ tended-step s w st p at op reply place k tended is number ahead made = record {
     by_place : (queue : ℕ) (other : At) → queue < length (places is_queue s.decls) →
         ((length (places is_thread s.decls) + queue ≡ p) × (other ≡ after s at (steps.Work op) (step_replies.Work reply place)))
         ⊎ ((length (places is_thread s.decls) + queue ≢ p) × (slice_get w.players (length (places is_thread s.decls) + queue) ≡ Some other)) →
-        Tends s.decls queue other.frames (work_next st at.who op).admissions
+        Works s.decls queue other (work_next st at.who op).admissions
     by_place queue other within (inl same) =
         let mine = tended.tended queue at (ap (λ (n : ℕ). slice_get w.players n) same.0 ∙ is) within in
-        subst (λ (o : At). Tends s.decls queue o.frames (work_next st at.who op).admissions) (sym same.1)
-        (tends-own s st at.who queue at.frames op reply place k mine ahead made)
+        subst (λ (o : At). Works s.decls queue o (work_next st at.who op).admissions) (sym same.1)
+        (works-on s queue at (steps.Work op) (step_replies.Work reply place) st.admissions (work_next st at.who op).admissions valid mine
+        (λ k own. tends-own s st at.who queue at.frames op reply place k valid mine.tends own made fits) ahead)
     by_place queue other within (inr apart) =
-        tends-keep s.decls queue other.frames st.admissions (work_next st at.who op).admissions
+        works-keep s.decls queue other st.admissions (work_next st at.who op).admissions
         (idle-next st at.who op reply queue (length (places is_thread s.decls) + queue) (worker-of s w st queue tended within) (λ same. apart.0 (sym same ∙ number)) made)
         (tended.tended queue other apart.1 within)
 
@@ -377,6 +441,7 @@ tended-step s w st p at op reply place k tended is number ahead made = record {
 work-stays : (shown : Shown) (who : Who) (number : ℕ) (step : Step) (reply : StepReply) → IsElsewhere step → (shown_after shown who number step reply).work ≡ shown.work
 work-stays shown who number (steps.Work op) reply elsewhere = absurd elsewhere
 work-stays shown who number (steps.Clock op) (step_replies.Clock reply place) elsewhere = refl
+work-stays shown who number (steps.Table op) (step_replies.Table reply place) elsewhere = refl
 work-stays shown who number (steps.Sem object op) (step_replies.Sem at reply place) elsewhere = refl
 work-stays shown who number (steps.Msgq object op) (step_replies.Msgq at reply place) elsewhere = refl
 work-stays shown who number (steps.Signal object op) (step_replies.Signal at reply place) elsewhere = refl
@@ -386,9 +451,9 @@ work-stays shown who number (steps.LookItem object) (step_replies.Flags flags at
 work-stays shown who number step reply elsewhere = refl
 
 -- and after a step at another service
-pub tended-elsewhere : (s : Parts) (w : World) (st : State) (p : ℕ) (at : At) (step : Step) (reply : StepReply) (k : ℕ) → IsElsewhere step → IsTended s w st → slice_get w.players p ≡ Some at →
-    slice_get (frames_attempts s at.frames) k ≡ Some step → IsTended s (stepped s w p at (Some (step, reply))) st
-tended-elsewhere s w st p at step reply k elsewhere tended is ahead = record {
+pub tended-elsewhere : (s : Parts) (w : World) (st : State) (p : ℕ) (at : At) (step : Step) (reply : StepReply) → IsValid s → IsElsewhere step → IsTended s w st →
+    slice_get w.players p ≡ Some at → IsAhead s at step → ProgressFits s.decls (frames_progress s at.frames step reply) → IsTended s (stepped s w p at (Some (step, reply))) st
+tended-elsewhere s w st p at step reply valid elsewhere tended is ahead fits = record {
   after = tended.after ∙ ap (state_after work_machine (work_start_of s)) (sym (work-stays w.shown at.who (length at.spots) step reply elsewhere));
   homes = tended.homes;
   has_workers = tended.has_workers;
@@ -398,11 +463,12 @@ tended-elsewhere s w st p at step reply k elsewhere tended is ahead = record {
     by_place : (queue : ℕ) (other : At) → queue < length (places is_queue s.decls) →
         ((length (places is_thread s.decls) + queue ≡ p) × (other ≡ after s at step reply))
         ⊎ ((length (places is_thread s.decls) + queue ≢ p) × (slice_get w.players (length (places is_thread s.decls) + queue) ≡ Some other)) →
-        Tends s.decls queue other.frames st.admissions
+        Works s.decls queue other st.admissions
     by_place queue other within (inl same) =
         let mine = tended.tended queue at (ap (λ (n : ℕ). slice_get w.players n) same.0 ∙ is) within in
-        subst (λ (o : At). Tends s.decls queue o.frames st.admissions) (sym same.1)
-        (tends-elsewhere s queue at.frames st.admissions step reply k elsewhere mine ahead)
+        subst (λ (o : At). Works s.decls queue o st.admissions) (sym same.1)
+        (works-on s queue at step reply st.admissions st.admissions valid mine
+        (λ k own. tends-elsewhere s queue at.frames st.admissions step reply k valid elsewhere mine.tends own fits) ahead)
     by_place queue other within (inr apart) = tended.tended queue other apart.1 within
 
 -- the object of the n-th place of a kind has n before it
@@ -428,14 +494,14 @@ behind-first (x ∷ xs) ys q = let same : length (x ∷ xs) + q ≡ suc (length 
 
 -- the worker of a queue starts between two runs
 starting-tends : (s : Parts) (number queue object : ℕ) (decl : Decl) → is_queue decl ≡ true → slice_get s.decls object ≡ Some decl → count_by is_queue (take object s.decls) ≡ queue →
-    Tends s.decls queue (starting s number object decl).frames []
+    Works s.decls queue (starting s number object decl) []
 starting-tends s number queue object (decls.Queue name prio on) kind is count =
     let here : number_of s.decls object ≡ queue = ap (λ (o : Option Decl). option_map_or (λ d. count_by (same_kind d) (take object s.decls)) o 0) is ∙ count in
     let P : Admission → Type 0 = λ a. runs_on queue a ≡ false in
-    (here, All-nil P)
+    record { supervises = refl; tends = (here, All-nil P) }
 starting-tends s number queue object decl kind is count = absurd (cc)
 
-start-tends : (s : Parts) (queue : ℕ) (at : At) → start_at s (length (places is_thread s.decls) + queue) ≡ Some at → Tends s.decls queue at.frames []
+start-tends : (s : Parts) (queue : ℕ) (at : At) → start_at s (length (places is_thread s.decls) + queue) ≡ Some at → Works s.decls queue at []
 start-tends s queue at is =
     let number = length (places is_thread s.decls) + queue in
     let inner : ℕ → Option At = λ object. option_map (starting s number object) (slice_get s.decls object) in
@@ -443,14 +509,14 @@ start-tends s queue at is =
     (placed is_queue 0 s.decls queue object (sym (behind-first (places is_thread s.decls) (places is_queue s.decls) queue) ∙ found)) made)
   where
     by_place : (object : ℕ) → (k : ℕ) × (object ≡ 0 + k) × (d : Decl) × (slice_get s.decls k ≡ Some d) × (is_queue d ≡ true) × (count_by is_queue (take k s.decls) ≡ queue) →
-        option_map (starting s (length (places is_thread s.decls) + queue) object) (slice_get s.decls object) ≡ Some at → Tends s.decls queue at.frames []
+        option_map (starting s (length (places is_thread s.decls) + queue) object) (slice_get s.decls object) ≡ Some at → Works s.decls queue at []
     by_place object there made =
         let number = length (places is_thread s.decls) + queue in
         let same : there.0 ≡ object = omega (arith, there.1) in
         let declared : slice_get s.decls object ≡ Some there.2 = ap (λ (n : ℕ). slice_get s.decls n) (sym same) ∙ there.3 in
         let it : Some (starting s number object there.2) ≡ Some at = sym (ap (option_map (starting s number object)) declared) ∙ made in
         let is_it : starting s number object there.2 ≡ at = cc in
-        subst (λ (a : At). Tends s.decls queue a.frames []) is_it
+        subst (λ (a : At). Works s.decls queue a []) is_it
         (starting-tends s number queue object there.2 there.4 declared (ap (λ (n : ℕ). count_by is_queue (take n s.decls)) (sym same) ∙ there.5))
 
 fresh-workers : (ws : List ℕ) (on : List Bool) → length ws ≡ length on → map (λ (q : Queue). q.worker) (fresh_queues ws on) ≡ ws

@@ -5,7 +5,7 @@ use Rattle.zk_worker.specs.declared.steps.TheConstants.{MOST_STEPS}
 use Rattle.zk_scenario.specs.Valid.{IsValid}
 use Rattle.zk_worker.specs.Places.{At}
 use Rattle.zk_worker.specs.Follows.{IsFollowing}
-use Rattle.zk_worker.specs.Ranges.{FramesFit}
+use Rattle.zk_worker.specs.Ranges.{IsFit}
 use Rattle.zk_worker.specs.Machines.{machines_of}
 use Rattle.zk_worker.specs.Shown.{entry_count, ShowsLog}
 use Rattle.zk_worker.specs.Right.{LooksRight}
@@ -33,4 +33,4 @@ pub record IsReady (s : Parts) (w : World) : Type 0 where
   pub whole : w.shown.looks ≡ None
   pub unlooked : w.shown.looked ≡ None
   pub follow : (p : ℕ) (at : At) → slice_get w.players p ≡ Some at → IsFollowing s p w.shown at
-  pub fits : All (λ at. FramesFit s.decls at.frames) w.players
+  pub fits : All (IsFit s) w.players

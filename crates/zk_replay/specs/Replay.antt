@@ -13,7 +13,7 @@ use Rattle.zk_trace.specs.Ending.{none_waits}
 use Rattle.zk_trace.specs.Looked.{item_looks_of, signal_looks_of}
 use Rattle.zk_replay.specs.RoundRobin.{World, IsRun, is_spent}
 
--- each thread is through its script, and each worker is between two runs
+-- each thread is through its script or was ended by an oops, and each worker is between two runs
 abbrev pub all_done : List At → Bool
 all_done players = list_all (λ at. is_done at.frames) players
 
@@ -30,6 +30,7 @@ trace_of s w = record {
   ending = ending_of s w;
   work = w.shown.work;
   clock = w.shown.clock;
+  table = w.shown.table;
   sems = w.shown.sems;
   msgqs = w.shown.msgqs;
   signals = w.shown.signals;

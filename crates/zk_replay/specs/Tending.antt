@@ -2,11 +2,12 @@ use Rattle.std.specs.Prelude.{◌≡◌, ℕ, ◌+◌, ◌<◌, false, Some, Lis
 use Rattle.zk_base.specs.Legal.{state_after}
 use Rattle.zk_line.specs.declared.types.Decl.{Decl}
 use Rattle.zk_scenario.specs.Parts.{Parts}
-use Rattle.zk_line.specs.Objects.{places, number_of, is_thread, is_queue}
+use Rattle.zk_line.specs.Objects.{places, number_of, is_at, is_thread, is_queue}
 use Rattle.zk_model_work.specs.declared.parts.Admission.{Admission}
 use Rattle.zk_model_work.specs.Questions.{runs_on}
 use Rattle.zk_model_work.specs.State.{State}
 use Rattle.zk_model_work.specs.Machine.{work_machine}
+use Rattle.zk_worker.specs.declared.checks.Mode.TheVariants.{Supervisor}
 use Rattle.zk_worker.specs.declared.frames.Frame.{Frame}
 use Rattle.zk_worker.specs.declared.frames.Role.{Role}
 use Rattle.zk_worker.specs.declared.frames.Role.TheVariants.{Script, Worker}
@@ -27,19 +28,24 @@ IsWorkers decls queue (Worker object) Start admissions =
 IsWorkers decls queue (Worker object) Runs admissions = number_of decls object ≡ queue
 IsWorkers decls queue role stage admissions = ⊥
 
--- it is a script that is open
-abbrev pub IsScript : Role → Type 0
-IsScript (Script owner) = Unit {0}
-IsScript (Worker object) = ⊥
+-- it is a script that is open, and no thread's
+abbrev pub IsScript : List Decl → Role → Type 0
+IsScript decls (Script owner) = is_at is_thread decls owner ≡ false
+IsScript decls (Worker object) = ⊥
 
 -- these are a worker's open scripts and its run, which tends this queue
 abbrev pub Tends : List Decl → ℕ → List Frame → List Admission → Type 0
 Tends decls queue [] admissions = ⊥
 Tends decls queue (frame ∷ []) admissions = IsWorkers decls queue frame.role frame.stage admissions
 Tends decls queue (frame ∷ next ∷ below) admissions =
-    IsScript frame.role × Tends decls queue (next ∷ below) admissions
+    IsScript decls frame.role × Tends decls queue (next ∷ below) admissions
 
--- each admission is to a queue, each queue has its worker, and each worker tends its queue
+-- a player works at a queue: it tends the queue, and is no user
+pub record Works (decls : List Decl) (queue : ℕ) (at : At) (admissions : List Admission) : Type 0 where
+  pub supervises : at.mode ≡ Supervisor
+  pub tends : Tends decls queue at.frames admissions
+
+-- each admission is to a queue, each queue has its worker, and each worker works at its queue
 pub record IsTended (s : Parts) (w : World) (state : State) : Type 0 where
   pub after : state ≡ state_after work_machine (work_start_of s) w.shown.work
   pub homes : All (λ a. a.queue < length (places is_queue s.decls)) state.admissions
@@ -47,4 +53,4 @@ pub record IsTended (s : Parts) (w : World) (state : State) : Type 0 where
   pub tended : (queue : ℕ) (at : At) →
       slice_get w.players (length (places is_thread s.decls) + queue) ≡ Some at →
       queue < length (places is_queue s.decls) →
-      Tends s.decls queue at.frames state.admissions
+      Works s.decls queue at state.admissions

@@ -6,6 +6,7 @@ mod looks;
 mod objects;
 mod plain;
 mod run;
+mod table;
 mod turns;
 
 pub use laws::{none_goes_on, none_is_served, one_run};

@@ -1,27 +1,20 @@
 ghost use Rattle.std.specs.Prelude.{◌≡◌, true, Some, IfOk};
 ghost use Rattle.zk_base.specs.declared.ids.Who.{Who};
-ghost use Rattle.zk_bus.specs.Seen.{chan_start, chan_history};
-ghost use Rattle.zk_poll.specs.Seen.{signal_start, signal_history};
-ghost use Rattle.zk_subq.specs.Seen.{obs_start, obs_history};
 ghost use Rattle.zk_worker.specs.Attempt.{reply_in, takes};
 ghost use Rattle.zk_worker.specs.Looks.{look};
-ghost use Rattle.zk_msgq.specs.Seen.{msgq_start, msgq_history};
-ghost use Rattle.zk_sem.specs.Seen.{sem_start, sem_history};
-ghost use Rattle.zk_work.specs.Seen.{work_start, work_history};
-ghost use Rattle.zk_time.specs.ClockSeen.{clock_start, clock_history};
-ghost use Rattle.zk_replay.specs.Alone.{machines_from, whole_shown, plain_machines, plain_shown};
-ghost use Rattle.zk_replay.specs.Objects.{starts_of, histories_of};
+ghost use Rattle.zk_replay.specs.Alone.{plain_machines, plain_shown};
 
 use crate::objects::{act_at, histories_of};
 use std::alloc::Global;
 use zk_base::{Entry, Listed, NoMemory, Seen, Service, Who};
 use zk_bus::Channel;
-use zk_model_bus::{ChanOp, ChanReply, ObsOp, ObsReply};
+use zk_model_bus::{ChanOp, ChanReply, ObsOp, ObsReply, TableOp, TableReply};
 use zk_model_wait::{
     ClockOp, ClockReply, MsgqOp, MsgqReply, SemOp, SemReply, SignalOp, SignalReply,
 };
 use zk_model_work::{WorkOp, WorkReply};
 use zk_msgq::Msgq;
+use zk_objects::Objects;
 use zk_poll::Signal;
 use zk_sem::Sem;
 use zk_subq::Observer;
@@ -37,6 +30,8 @@ pub struct Histories {
     pub work: History<WorkOp, WorkReply>,
     /// Those of the clock.
     pub clock: History<ClockOp, ClockReply>,
+    /// Those of the object table.
+    pub table: History<TableOp, TableReply>,
     /// Those of each semaphore, by object number; an object of another kind has none.
     pub sems: Listed<History<SemOp, SemReply>>,
     /// Those of each message queue, likewise.
@@ -49,96 +44,50 @@ pub struct Histories {
     pub observers: Listed<History<ObsOp, ObsReply>>,
 }
 
-/// The services of one thread, which nobody else uses.
+/// The services of one thread, which nobody else uses, as far as they have come.
 #[derive(Drop)]
 pub struct Plain {
-    work: Work,
-    // The number of each item at the work service, by object number.
-    items: Vec<Option<u32>>,
-    clock: Clock,
-    // By object number.
-    sems: Vec<Option<Sem>>,
-    msgqs: Vec<Option<Msgq>>,
-    signals: Vec<Option<Signal>>,
-    chans: Vec<Option<Channel>>,
-    observers: Vec<Option<Observer>>,
+    /// The work service.
+    pub work: Work,
+    /// The number of each item at the work service, by object number; an object of another kind has none.
+    pub items: Vec<Option<u32>>,
+    /// The clock service.
+    pub clock: Clock,
+    /// The object table.
+    pub table: Objects,
+    /// Each semaphore, by object number; an object of another kind has none.
+    pub sems: Vec<Option<Sem>>,
+    /// Each message queue, likewise.
+    pub msgqs: Vec<Option<Msgq>>,
+    /// Each signal, likewise.
+    pub signals: Vec<Option<Signal>>,
+    /// Each channel, likewise.
+    pub chans: Vec<Option<Channel>>,
+    /// Each listener and subscriber, likewise.
+    pub observers: Vec<Option<Observer>>,
 }
 
 impl Plain {
-    /// These services, as far as they have come. By object number: the work service's numbers of the items, the semaphores,
-    /// the message queues, the signals, the channels and the observers.
-    pub fn new(
-        work: Work,
-        items: Vec<Option<u32>>,
-        clock: Clock,
-        sems: Vec<Option<Sem>>,
-        msgqs: Vec<Option<Msgq>>,
-        signals: Vec<Option<Signal>>,
-        chans: Vec<Option<Channel>>,
-        observers: Vec<Option<Observer>>,
-    ) -> Plain
-        ensures machines { plain_machines result ≡ machines_from (work_start work) items.items (clock_start clock)
-            (starts_of sem_start sems.items) (starts_of msgq_start msgqs.items) (starts_of signal_start signals.items)
-            (starts_of chan_start chans.items) (starts_of obs_start observers.items) }
-        ensures shown { plain_shown result ≡ whole_shown (work_history work) (clock_history clock)
-            (histories_of sem_history sems.items) (histories_of msgq_history msgqs.items)
-            (histories_of signal_history signals.items) (histories_of chan_history chans.items)
-            (histories_of obs_history observers.items) }
-    {
-        Plain {
-            work,
-            items,
-            clock,
-            sems,
-            msgqs,
-            signals,
-            chans,
-            observers,
-        }
-    }
-
-    /// All entries of the work service so far.
-    pub fn work(&self) -> &[Entry<WorkOp, WorkReply>]
-        ensures { result.now ≡ (plain_shown self.now).work }
-    {
-        self.work.history()
-    }
-
-    /// All entries of the clock so far.
-    pub fn clock(&self) -> &[Entry<ClockOp, ClockReply>]
-        ensures { result.now ≡ (plain_shown self.now).clock }
-    {
-        self.clock.history()
-    }
-
     /// All entries of each service. Only the lists of histories take memory.
     pub fn into_histories(self, alloc: Global) -> Result<Histories, NoMemory>
         ensures work { IfOk result (λ all. all.work ≡ (plain_shown self).work) }
         ensures clock { IfOk result (λ all. all.clock ≡ (plain_shown self).clock) }
+        ensures table { IfOk result (λ all. all.table ≡ (plain_shown self).table) }
         ensures sems { IfOk result (λ all. all.sems ≡ (plain_shown self).sems) }
         ensures msgqs { IfOk result (λ all. all.msgqs ≡ (plain_shown self).msgqs) }
         ensures signals { IfOk result (λ all. all.signals ≡ (plain_shown self).signals) }
         ensures chans { IfOk result (λ all. all.chans ≡ (plain_shown self).chans) }
         ensures observers { IfOk result (λ all. all.observers ≡ (plain_shown self).observers) }
     {
-        let Plain {
-            work,
-            clock,
-            sems,
-            msgqs,
-            signals,
-            chans,
-            observers,
-            ..
-        } = self;
         Ok(Histories {
-            work: History::from_vec(work.into_history()),
-            clock: History::from_vec(clock.into_history()),
-            sems: histories_of(alloc, sems)?,
-            msgqs: histories_of(alloc, msgqs)?,
-            signals: histories_of(alloc, signals)?,
-            chans: histories_of(alloc, chans)?,
-            observers: histories_of(alloc, observers)?,
+            work: History::from_vec(self.work.into_history()),
+            clock: History::from_vec(self.clock.into_history()),
+            table: History::from_vec(self.table.into_history()),
+            sems: histories_of(alloc, self.sems)?,
+            msgqs: histories_of(alloc, self.msgqs)?,
+            signals: histories_of(alloc, self.signals)?,
+            chans: histories_of(alloc, self.chans)?,
+            observers: histories_of(alloc, self.observers)?,
         })
     }
 
@@ -214,35 +163,30 @@ impl Services for Plain {
                 let reply = self.clock.act(who, number, *op)?;
                 Ok(reply.map(|reply| StepReply::Clock(reply, place)))
             }
+            Step::Table(op) => {
+                let place = self.table.history().len() as u64;
+                let reply = self.table.act(who, number, *op)?;
+                Ok(reply.map(|reply| StepReply::Table(reply, place)))
+            }
             Step::Sem(object, op) => {
-                match act_at(&mut self.sems, *object, who, number, *op)? {
-                    Some((reply, place)) => Ok(Some(StepReply::Sem(*object, reply, place))),
-                    None => Ok(None),
-                }
+                let made = act_at(&mut self.sems, *object, who, number, *op)?;
+                Ok(made.map(|made| StepReply::Sem(*object, made.0, made.1)))
             }
             Step::Msgq(object, op) => {
-                match act_at(&mut self.msgqs, *object, who, number, *op)? {
-                    Some((reply, place)) => Ok(Some(StepReply::Msgq(*object, reply, place))),
-                    None => Ok(None),
-                }
+                let made = act_at(&mut self.msgqs, *object, who, number, *op)?;
+                Ok(made.map(|made| StepReply::Msgq(*object, made.0, made.1)))
             }
             Step::Signal(object, op) => {
-                match act_at(&mut self.signals, *object, who, number, *op)? {
-                    Some((reply, place)) => Ok(Some(StepReply::Signal(*object, reply, place))),
-                    None => Ok(None),
-                }
+                let made = act_at(&mut self.signals, *object, who, number, *op)?;
+                Ok(made.map(|made| StepReply::Signal(*object, made.0, made.1)))
             }
             Step::Chan(object, op) => {
-                match act_at(&mut self.chans, *object, who, number, *op)? {
-                    Some((reply, place)) => Ok(Some(StepReply::Chan(*object, reply, place))),
-                    None => Ok(None),
-                }
+                let made = act_at(&mut self.chans, *object, who, number, *op)?;
+                Ok(made.map(|made| StepReply::Chan(*object, made.0, made.1)))
             }
             Step::Obs(object, op) => {
-                match act_at(&mut self.observers, *object, who, number, *op)? {
-                    Some((reply, place)) => Ok(Some(StepReply::Obs(*object, reply, place))),
-                    None => Ok(None),
-                }
+                let made = act_at(&mut self.observers, *object, who, number, *op)?;
+                Ok(made.map(|made| StepReply::Obs(*object, made.0, made.1)))
             }
             Step::LookItem(object) => Ok(Some(self.look_at_item(*object))),
             Step::LookSignal(object, must) => Ok(self.look_at_signal(*object, *must)),

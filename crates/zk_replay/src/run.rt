@@ -24,7 +24,8 @@ ghost use Rattle.zk_replay.specs.Ending.{ending_by};
 ghost use Rattle.zk_replay.specs.Over.{IsOver};
 
 use crate::looks::{item_looks, signal_looks};
-use crate::plain::{Histories, Plain};
+use crate::plain::Plain;
+use crate::table::first_table;
 use crate::turns::play_rounds;
 use std::alloc::Global;
 use zk_base::{NewRefused, NoMemory};
@@ -114,7 +115,7 @@ fn first_sem(alloc: Global, decl: &Decl) -> Option<Sem>
     ensures none { history_of sem_history result ≡ [] }
 {
     match decl {
-        Decl::Sem(_, initial, limit) => match Sem::new(alloc, *initial, *limit) {
+        Decl::Sem(_, initial, limit, _) => match Sem::new(alloc, *initial, *limit) {
             Ok(sem) => Some(sem),
             Err(_) => unreachable!(),
         },
@@ -144,7 +145,7 @@ fn first_msgq(alloc: Global, decl: &Decl) -> Result<Option<Msgq>, NoMemory>
     ensures none { IfOk result (λ msgq. history_of msgq_history msgq ≡ []) }
 {
     match decl {
-        Decl::Msgq(_, size, most) => match Msgq::new(alloc, *size, *most) {
+        Decl::Msgq(_, size, most, _) => match Msgq::new(alloc, *size, *most) {
             Ok(msgq) => Ok(Some(msgq)),
             Err(NewRefused::NoMemory) => Err(NoMemory),
             Err(NewRefused::Inval) => unreachable!(),
@@ -174,7 +175,7 @@ fn first_signal(alloc: Global, decl: &Decl) -> Option<Signal>
     ensures none { history_of signal_history result ≡ [] }
 {
     match decl {
-        Decl::Signal(_) => Some(Signal::new(alloc)),
+        Decl::Signal(..) => Some(Signal::new(alloc)),
         _ => None,
     }
 }
@@ -257,15 +258,17 @@ pub fn first_services(alloc: Global, scenario: &Scenario) -> Result<Plain, NoMem
     ensures shown { IfOk result (λ services. plain_shown services ≡ nothing_shown scenario.now.decls) }
     ensures valid { IsValid scenario.now }
 {
-    let work = first_work(alloc, scenario)?;
-    let items = item_numbers(alloc, scenario)?;
-    let sems = first_sems(alloc, scenario.decls())?;
-    let msgqs = first_msgqs(alloc, scenario.decls())?;
-    let signals = first_signals(alloc, scenario.decls())?;
-    let chans = first_chans(alloc, scenario.decls())?;
-    let observers = first_observers(alloc, scenario.decls())?;
-    let clock = Clock::new(alloc);
-    Ok(Plain::new(work, items, clock, sems, msgqs, signals, chans, observers))
+    Ok(Plain {
+        work: first_work(alloc, scenario)?,
+        items: item_numbers(alloc, scenario)?,
+        clock: Clock::new(alloc),
+        table: first_table(alloc, scenario)?,
+        sems: first_sems(alloc, scenario.decls())?,
+        msgqs: first_msgqs(alloc, scenario.decls())?,
+        signals: first_signals(alloc, scenario.decls())?,
+        chans: first_chans(alloc, scenario.decls())?,
+        observers: first_observers(alloc, scenario.decls())?,
+    })
 }
 
 /// The players of a scenario, none of which has made a step.
@@ -330,26 +333,19 @@ pub fn replay(alloc: Global, scenario: &Scenario) -> Result<Trace, NoMemory>
     play_rounds(&mut services, scenario, &mut players)?;
     let ending = ending_of(&players);
     let logs = logs_of(alloc, players)?;
-    let Histories {
-        work,
-        clock,
-        sems,
-        msgqs,
-        signals,
-        chans,
-        observers,
-    } = services.into_histories(alloc)?;
+    let all = services.into_histories(alloc)?;
     let item_looks = item_looks(alloc, logs.items())?;
-    let signal_looks = signal_looks(alloc, signals.items().len(), logs.items())?;
+    let signal_looks = signal_looks(alloc, all.signals.items().len(), logs.items())?;
     Ok(Trace {
         ending,
-        work,
-        clock,
-        sems,
-        msgqs,
-        signals,
-        chans,
-        observers,
+        work: all.work,
+        clock: all.clock,
+        table: all.table,
+        sems: all.sems,
+        msgqs: all.msgqs,
+        signals: all.signals,
+        chans: all.chans,
+        observers: all.observers,
         item_looks,
         signal_looks,
         logs,

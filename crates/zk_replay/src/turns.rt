@@ -1,7 +1,7 @@
 ghost use Rattle.std.specs.Prelude.{◌≡◌, ℕ, ◌+◌, ◌-◌, ◌^◌, ◌<◌, ◌≤◌, true, false, Some, None, length, is_some, vec_len, IfOk, OnErr};
 ghost use Rattle.zk_scenario.specs.Valid.{IsValid};
 ghost use Rattle.zk_worker.specs.Follows.{is_spent_at};
-ghost use Rattle.zk_worker.specs.Ranges.{FramesFit};
+ghost use Rattle.zk_worker.specs.Ranges.{IsFit};
 ghost use Rattle.zk_worker.specs.Machines.{machines_of};
 ghost use Rattle.zk_worker.specs.Shown.{ShowsLog, AreShort};
 ghost use Rattle.zk_worker.specs.Right.{LooksRight};
@@ -51,7 +51,7 @@ fn play<V: Services>(
 ) -> Result<Turn, NoMemory>
     requires valid { IsValid scenario.now }
     requires alone { IsAlone scenario.now (V.alone services.old) (V.machines services.old) (V.serves services.old) }
-    requires fits { FramesFit scenario.now.decls player.old.frames }
+    requires fits { IsFit scenario.now player.old }
     requires log { ShowsLog (V.shown services.old) player.old.who.number player.old.spots }
     requires looks { LooksRight (V.machines services.old) (V.shown services.old) player.old.spots }
     requires short { AreShort (V.shown services.old) }

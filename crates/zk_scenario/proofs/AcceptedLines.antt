@@ -9,7 +9,7 @@ use Rattle.std.proofs.Math.Seq.{take-append_seam}
 use Rattle.std.proofs.lemmas.List.Folds.{list_all-append}
 use Rattle.std.proofs.lemmas.List.Quantifiers.{position-Some}
 use Rattle.std.proofs.lemmas.List.Sums.{sum_by-append}
-use Rattle.std.proofs.lemmas.Option.{none-some, same_Some, slice_get_past, slice_get_within}
+use Rattle.std.proofs.lemmas.Option.{none-some, option_and_then_some, same_Some, slice_get_past, slice_get_within}
 use Rattle.zk_base.proofs.Lists.{none_from_is_some}
 use Rattle.zk_model_bus.specs.declared.kinds.Kind.{Kind}
 use Rattle.zk_model_bus.specs.declared.kinds.Need.TheVariants as need
@@ -25,25 +25,28 @@ use Rattle.zk_line.specs.declared.types.Declared.{Declared}
 use Rattle.zk_line.specs.declared.types.Arg.{Arg}
 use Rattle.zk_line.specs.declared.types.Call.{Call}
 use Rattle.zk_line.specs.Args.{args_of}
-use Rattle.zk_line.specs.Calls.{call_of}
+use Rattle.zk_line.specs.Calls.{call_of, word_of}
 use Rattle.zk_line.specs.Checks.{first_object, message_size, each_in_range, go_together, are_in_range, each_well_named, name_once, are_well_named, has_many_events, has_many_observers}
 use Rattle.zk_line.specs.Decls.{decl_of, permission_of}
 use Rattle.zk_line.specs.Fits.{call_fits, decl_fits, observers_fit, AreObserved}
-use Rattle.zk_line.specs.Objects.{object_of, is_at, is_met, names, plays_script}
+use Rattle.zk_line.specs.Objects.{object_of, is_at, is_user, is_item, is_listener, is_met, names, plays_script}
 use Rattle.zk_line.proofs.Fits.{call_fits-read, permission_fits-read, kind_of-read}
 use Rattle.zk_line.proofs.InRange.{decl_fits-read}
+use Rattle.zk_line.proofs.Inverse.{said_of-call_of}
 use Rattle.zk_line.proofs.Lists.{slice_get-append_left, slice_get-push, position-push}
 use Rattle.zk_line.proofs.Makes.{is_some-some}
 use Rattle.zk_line.proofs.Options.{one_part}
 use Rattle.zk_scenario.specs.declared.types.Script.{Script}
 use Rattle.zk_scenario.specs.declared.refused.Why.{Why}
 use Rattle.zk_scenario.specs.declared.refused.Why.TheVariants as why
+use Rattle.zk_scenario.specs.Free.{is_free, next_is_free, is_free_line}
 use Rattle.zk_scenario.specs.Parts.{Parts}
 use Rattle.zk_scenario.specs.Reading.{Reading, all_scripts, declared, permitted, begun, with_call, called, parts_of}
 use Rattle.zk_scenario.specs.Scripts.{script_of}
-use Rattle.zk_scenario.specs.Valid.{IsValid, OneEach, script_fits, call_count}
+use Rattle.zk_scenario.specs.Valid.{IsValid, OneEach, bars, call_stands, calls_fit, script_fits, script_stands, call_count}
 use Rattle.zk_scenario.specs.Verdict.{has_begun, has_script, is_barred, is_misplaced, is_full, is_past_limit, is_said_before, are_named, verdict, opened, after}
 use Rattle.zk_scenario.specs.Written.{is_allowed, AreInOrder}
+use Rattle.zk_scenario.proofs.FreeLines.{calls_pass-push}
 use Rattle.zk_scenario.proofs.InOrder.{in_order-declared, in_order-permitted, is_at-within}
 use Rattle.zk_scenario.proofs.Room.{HasRoom, or_none, room-push}
 use Rattle.zk_scenario.proofs.ScriptTables.{script_of-push}
@@ -52,7 +55,7 @@ use Rattle.zk_scenario.proofs.ScriptTables.{script_of-push}
 pub record Passes (r : Reading) (h : Head) (parts : List Placed) : Type 0 where
   pub placed : is_misplaced r h parts ≡ false
   pub in_range : are_in_range r.decls h parts ≡ true
-  pub well_named : are_well_named r.decls parts ≡ true
+  pub well_named : are_well_named (is_free_line r h) r.decls parts ≡ true
   pub new : option_map_or (is_said_before r h) (args_of r.decls parts) false ≡ false
   pub within : is_past_limit r h parts ≡ false
 
@@ -67,7 +70,7 @@ Passes-verdict r h parts e =
     let three = drop_test (not (are_named r h parts)) why.Name _ two.1 in
     let four = drop_test (is_past_limit r h parts) why.Limit _ three.1 in
     let again = option_map_or (is_said_before r h) (args_of r.decls parts) false in
-    let named = and_parts (are_well_named r.decls parts) (not again) (not-false _ three.0) in
+    let named = and_parts (are_well_named (is_free_line r h) r.decls parts) (not again) (not-false _ three.0) in
     record { placed = one.0; in_range = not-false _ two.0; well_named = named.0; new = not-true again named.1; within = four.0 }
 
 one_each-left : (ss : List Script) (s : Script) → OneEach (ss ++ s ∷ []) → OneEach ss
@@ -120,9 +123,9 @@ room-valid : (p : Parts) → IsValid p → HasRoom p.decls
 room-valid p valid = record { players = valid.players; queues = valid.queues; items = valid.items; sems = valid.sems; msgqs = valid.msgqs; signals = valid.signals; chans = valid.chans; observers = valid.observers }
 
 -- a scenario is valid, by what there is room for and what is said of its scripts
-IsValid-made : (p : Parts) → HasRoom p.decls → call_count p.scripts ≤ 4096 → list_all decl_fits p.decls ≡ true → AreObserved p.decls → AreInOrder p.decls p.written → list_all (script_fits p.decls) p.scripts ≡ true → OneEach p.scripts → IsValid p
-IsValid-made p room calls in_range observed in_order fit one_each =
-    record { players = room.players; queues = room.queues; items = room.items; sems = room.sems; msgqs = room.msgqs; signals = room.signals; chans = room.chans; observers = room.observers; calls = calls; in_range = in_range; observed = observed; in_order = in_order; fit = fit; one_each = one_each }
+IsValid-made : (p : Parts) → HasRoom p.decls → call_count p.scripts ≤ 4096 → list_all decl_fits p.decls ≡ true → AreObserved p.decls → AreInOrder p.decls p.written → list_all (script_fits p.decls) p.scripts ≡ true → list_all (script_stands p.decls) p.scripts ≡ true → OneEach p.scripts → IsValid p
+IsValid-made p room calls in_range observed in_order fit stand one_each =
+    record { players = room.players; queues = room.queues; items = room.items; sems = room.sems; msgqs = room.msgqs; signals = room.signals; chans = room.chans; observers = room.observers; calls = calls; in_range = in_range; observed = observed; in_order = in_order; fit = fit; stand = stand; one_each = one_each }
 
 -- the observers of each channel are declared before it, with one declaration more
 observed-push : (decls : List Decl) (d : Decl) → AreObserved decls → observers_fit decls d ≡ true → AreObserved (decls ++ d ∷ [])
@@ -147,6 +150,7 @@ valid-declared r d valid first room fits observed =
     (observed-push r.decls d valid.observed observed)
     (in_order-declared r.decls r.written d valid.in_order)
     (ap (list_all (script_fits (r.decls ++ d ∷ []))) none)
+    (ap (list_all (script_stands (r.decls ++ d ∷ []))) none)
     valid.one_each
 
 -- where no script is open, all scripts are those that have ended
@@ -159,6 +163,9 @@ call_count-push ss s = sum_by-append (λ x. length x.calls) ss (s ∷ []) ∙ ap
 fit-push : (decls : List Decl) (ss : List Script) (s : Script) → list_all (script_fits decls) (ss ++ s ∷ []) ≡ (list_all (script_fits decls) ss && script_fits decls s)
 fit-push decls ss s = all-push (script_fits decls) ss s
 
+stand-push : (decls : List Decl) (ss : List Script) (s : Script) → list_all (script_stands decls) (ss ++ s ∷ []) ≡ (list_all (script_stands decls) ss && script_stands decls s)
+stand-push decls ss s = all-push (script_stands decls) ss s
+
 valid-begun : (r : Reading) (owner : ℕ) → IsValid (parts_of r) → r.current ≡ None → is_at plays_script r.decls owner ≡ true → script_of r.scripts owner ≡ None → IsValid (parts_of (begun r (record { owner = owner; calls = [] })))
 valid-begun r owner valid none thread fresh =
     let s : Script = record { owner = owner; calls = [] } in
@@ -169,31 +176,44 @@ valid-begun r owner valid none thread fresh =
     valid.observed
     valid.in_order
     (fit-push r.decls r.scripts s ∙ and_from (list_all (script_fits r.decls) r.scripts) (script_fits r.decls s) (ap (list_all (script_fits r.decls)) (sym same) ∙ valid.fit) (and_from (is_at plays_script r.decls owner) true thread refl))
+    (stand-push r.decls r.scripts s ∙ and_from (list_all (script_stands r.decls) r.scripts) true (ap (list_all (script_stands r.decls)) (sym same) ∙ valid.stand) refl)
     (one_each-push r.scripts s (subst OneEach same valid.one_each) fresh)
 
-valid-called : (decls : List Decl) (written : List Declared) (ss : List Script) (s : Script) (c : Call) → IsValid (record { decls = decls; written = written; scripts = ss ++ s ∷ [] }) → call_fits decls c ≡ true → call_count (ss ++ s ∷ []) < 4096
+valid-called : (decls : List Decl) (written : List Declared) (ss : List Script) (s : Script) (c : Call) → IsValid (record { decls = decls; written = written; scripts = ss ++ s ∷ [] }) → call_fits (is_free decls s) decls c ≡ true → call_stands decls s.owner (is_free decls s) c ≡ true
+    → call_count (ss ++ s ∷ []) < 4096
     → IsValid (record { decls = decls; written = written; scripts = ss ++ with_call c s ∷ [] })
-valid-called decls written ss s c valid fits few =
+valid-called decls written ss s c valid fits stands few =
     let both = and_parts (list_all (script_fits decls) ss) (script_fits decls s) (sym (fit-push decls ss s) ∙ valid.fit) in
-    let own = and_parts (is_at plays_script decls s.owner) (list_all (call_fits decls) s.calls) both.1 in
-    let calls = list_all-append (call_fits decls) s.calls (c ∷ []) ∙ and_from (list_all (call_fits decls) s.calls) (call_fits decls c && true) own.1 (and_from (call_fits decls c) true fits refl) in
+    let user = is_at is_user decls s.owner in
+    let own = and_parts (is_at plays_script decls s.owner) (calls_fit user decls s.calls) both.1 in
+    let calls = calls_pass-push (λ f call. call_fits f decls call) user s.calls c ∙ and_from (calls_fit user decls s.calls) (call_fits (is_free decls s) decls c) own.1 fits in
+    let standing = and_parts (list_all (script_stands decls) ss) (script_stands decls s) (sym (stand-push decls ss s) ∙ valid.stand) in
+    let all_stand = calls_pass-push (call_stands decls s.owner) user s.calls c ∙ and_from (script_stands decls s) (call_stands decls s.owner (is_free decls s) c) standing.1 stands in
     IsValid-made (record { decls = decls; written = written; scripts = ss ++ with_call c s ∷ [] }) (room-valid (record { decls = decls; written = written; scripts = ss ++ s ∷ [] }) valid)
     (omega (arith, call_count-push ss s, call_count-push ss (with_call c s), length-append s.calls (c ∷ [])))
     valid.in_range
     valid.observed
     valid.in_order
-    (fit-push decls ss (with_call c s) ∙ and_from (list_all (script_fits decls) ss) (script_fits decls (with_call c s)) both.0 (and_from (is_at plays_script decls s.owner) (list_all (call_fits decls) (s.calls ++ c ∷ [])) own.0 calls))
+    (fit-push decls ss (with_call c s) ∙ and_from (list_all (script_fits decls) ss) (script_fits decls (with_call c s)) both.0 (and_from (is_at plays_script decls s.owner) (calls_fit user decls (s.calls ++ c ∷ [])) own.0 calls))
+    (stand-push decls ss (with_call c s) ∙ and_from (list_all (script_stands decls) ss) (script_stands decls (with_call c s)) standing.0 all_stand)
     (one_each-push ss (with_call c s) (one_each-left ss s valid.one_each) (one_each-fresh ss s valid.one_each))
 
 -- the script that ends has an owner of its own
 pub fresh-closed : (r : Reading) (s : Script) → IsValid (parts_of r) → r.current ≡ Some s → script_of r.scripts s.owner ≡ None
 fresh-closed r s valid e = one_each-fresh r.scripts s (subst (λ o. OneEach (r.scripts ++ option_to_list o)) e valid.one_each)
 
-called_fits : (r : Reading) (c : Call) → IsValid (parts_of r) → is_some r.current ≡ true → call_fits r.decls c ≡ true → nat_le 4096 (call_count (all_scripts r)) ≡ false → IsValid (parts_of (called r c))
-called_fits r c valid inside fits few =
+-- whether a call is barred in a script, where there is one
+abbrev barred_in : List Decl → Option Script → Word → Bool
+barred_in decls o w =
+    bars (option_map_or (is_free decls) o false) (option_map_or (λ script. is_at is_listener decls script.owner) o false) (option_map_or (λ script. is_at is_item decls script.owner) o false) w
+
+called_fits : (r : Reading) (c : Call) → IsValid (parts_of r) → is_some r.current ≡ true → call_fits (next_is_free r) r.decls c ≡ true → is_barred r (word_of c) ≡ false → nat_le 4096 (call_count (all_scripts r)) ≡ false → IsValid (parts_of (called r c))
+called_fits r c valid inside fits unbarred few =
     let s = is_some-some r.current inside in
     subst (λ o. IsValid (record { decls = r.decls; written = r.written; scripts = r.scripts ++ option_to_list (option_map (with_call c) o) })) (sym s.1)
-    (valid-called r.decls r.written r.scripts s.0 c (subst (λ o. IsValid (record { decls = r.decls; written = r.written; scripts = r.scripts ++ option_to_list o })) s.1 valid) fits
+    (valid-called r.decls r.written r.scripts s.0 c (subst (λ o. IsValid (record { decls = r.decls; written = r.written; scripts = r.scripts ++ option_to_list o })) s.1 valid)
+    (subst (λ o. call_fits (option_map_or (is_free r.decls) o false) r.decls c ≡ true) s.1 fits)
+    (ap not (subst (λ o. barred_in r.decls o (word_of c) ≡ false) s.1 unbarred))
     (subst (λ o. call_count (r.scripts ++ option_to_list o) < 4096) s.1 (leb-false 4096 (call_count (all_scripts r)) few)))
 
 -- a declaration to which no reason applies keeps what was read valid
@@ -202,7 +222,7 @@ pub IsValid-declared : (r : Reading) (k : Kind) (parts : List Placed) (d : Decl)
 IsValid-declared r k parts d form p made valid =
     let free = (or_none (is_full r.decls k) (has_many_observers parts) p.within).0 in
     let room = room-push r.decls d (ap (is_full r.decls) (kind_of-read r.decls k parts d made) ∙ free) (room-valid (parts_of r) valid) in
-    let fits = decl_fits-read r.decls k form.words d (sym (ap (are_in_range r.decls (head.Declare k)) form.placed) ∙ p.in_range) (sym (ap (are_well_named r.decls) form.placed) ∙ p.well_named)
+    let fits = decl_fits-read r.decls k form.words d (sym (ap (are_in_range r.decls (head.Declare k)) form.placed) ∙ p.in_range) (sym (ap (are_well_named false r.decls) form.placed) ∙ p.well_named)
     (sym (ap (λ ps. option_and_then (decl_of k) (args_of r.decls ps)) form.placed) ∙ made) in
     valid-declared r d valid p.placed room fits.0 fits.1
 
@@ -220,8 +240,8 @@ pub IsValid-permitted : (r : Reading) (parts : List Placed) (thread object : ℕ
 IsValid-permitted r parts thread object form p made valid =
     let size = message_size r.decls parts in
     let ranged = (and_parts (each_in_range size parts) (go_together head.Allow parts) p.in_range).0 in
-    let named = (and_parts (each_well_named r.decls parts) (name_once parts) p.well_named).0 in
-    let fits = permission_fits-read r.decls size form.words thread object (sym (ap (each_in_range size) form.placed) ∙ ranged) (sym (ap (each_well_named r.decls) form.placed) ∙ named)
+    let named = (and_parts (each_well_named false r.decls parts) (name_once parts) p.well_named).0 in
+    let fits = permission_fits-read r.decls size form.words thread object (sym (ap (each_in_range size) form.placed) ∙ ranged) (sym (ap (each_well_named false r.decls) form.placed) ∙ named)
     (sym (ap (λ ps. option_and_then permission_of (args_of r.decls ps)) form.placed) ∙ made) in
     let below = is_at-within (is_met need.Any) r.decls object fits.1 in
     IsValid-made (parts_of (permitted r thread object)) (room-valid (parts_of r) valid)
@@ -230,15 +250,16 @@ IsValid-permitted r parts thread object form p made valid =
     valid.observed
     (in_order-permitted r.decls r.written thread object valid.in_order fits.0 below (new_permission r parts thread object made p.new))
     valid.fit
+    valid.stand
     valid.one_each
 
 -- the one word of a script's head names its owner
 owner_of : (r : Reading) (parts : List Placed) (ws : List (List ℕ)) (owner : ℕ) → fits (slot.Owner ∷ []) Nothing ws ≡ true → parts ≡ placed_of (slot.Owner ∷ []) Nothing ws
-    → are_well_named r.decls parts ≡ true → first_object r.decls parts ≡ Some owner → is_at plays_script r.decls owner ≡ true
+    → are_well_named false r.decls parts ≡ true → first_object r.decls parts ≡ Some owner → is_at plays_script r.decls owner ≡ true
 owner_of r parts [] owner fit is named found = absurd (cc)
 owner_of r parts (w ∷ []) owner fit is named found =
     let said : object_of r.decls w ≡ Some owner = sym (ap (first_object r.decls) is) ∙ found in
-    let plays : names plays_script r.decls w ≡ true = (and_parts (names plays_script r.decls w) true (and_parts (each_well_named r.decls (placed_of (slot.Owner ∷ []) Nothing (w ∷ []))) true (sym (ap (are_well_named r.decls) is) ∙ named)).0).0 in
+    let plays : names plays_script r.decls w ≡ true = (and_parts (names plays_script r.decls w) true (and_parts (each_well_named false r.decls (placed_of (slot.Owner ∷ []) Nothing (w ∷ []))) true (sym (ap (are_well_named false r.decls) is) ∙ named)).0).0 in
     sym (ap (λ o. option_map_or (is_at plays_script r.decls) o false) said) ∙ plays
 owner_of r parts (w ∷ v ∷ ws) owner fit is named found = absurd (cc)
 
@@ -254,13 +275,18 @@ IsValid-opened r parts owner form p found valid =
 pub call_inside : (r : Reading) (w : Word) (parts : List Placed) → Passes r (head.Call w) parts → is_some r.current ≡ true
 call_inside r w parts p = not-false (is_some r.current) (or_none (not (is_some r.current)) (is_barred r w) p.placed).0
 
+-- and isn't barred there
+call_unbarred : (r : Reading) (w : Word) (parts : List Placed) → Passes r (head.Call w) parts → is_barred r w ≡ false
+call_unbarred r w parts p = (or_none (not (is_some r.current)) (is_barred r w) p.placed).1
+
 -- a call to which no reason applies keeps what was read valid
 pub IsValid-called : (r : Reading) (w : Word) (parts : List Placed) (c : Call) → IsForm (head.Call w) parts → Passes r (head.Call w) parts → option_and_then (call_of w) (args_of r.decls parts) ≡ Some c → IsValid (parts_of r)
     → IsValid (parts_of (called r c))
 IsValid-called r w parts c form p made valid =
     let ranged = (and_parts (each_in_range (message_size r.decls parts) parts) (go_together (head.Call w) parts) p.in_range).0 in
-    let fitting = call_fits-read r.decls w form.words c (sym (ap (λ ps. each_in_range (message_size r.decls ps) ps) form.placed) ∙ ranged) (sym (ap (each_well_named r.decls) form.placed) ∙ (and_parts (each_well_named r.decls parts) (name_once parts) p.well_named).0) (sym (ap (λ ps. option_and_then (call_of w) (args_of r.decls ps)) form.placed) ∙ made) in
-    called_fits r c valid (call_inside r w parts p) fitting (or_none (nat_le 4096 (call_count (all_scripts r))) (has_many_events parts) p.within).0
+    let fitting = call_fits-read (next_is_free r) r.decls w form.words c (sym (ap (λ ps. each_in_range (message_size r.decls ps) ps) form.placed) ∙ ranged) (sym (ap (each_well_named (next_is_free r) r.decls) form.placed) ∙ (and_parts (each_well_named (next_is_free r) r.decls parts) (name_once parts) p.well_named).0) (sym (ap (λ ps. option_and_then (call_of w) (args_of r.decls ps)) form.placed) ∙ made) in
+    let same : word_of c ≡ w = option_and_then_some {P = word_of c ≡ w} (call_of w) (args_of r.decls parts) c made (λ args is_args given. ap (λ said. said.word) (said_of-call_of w args c given)) in
+    called_fits r c valid (call_inside r w parts p) fitting (ap (is_barred r) same ∙ call_unbarred r w parts p) (or_none (nat_le 4096 (call_count (all_scripts r))) (has_many_events parts) p.within).0
 
 -- a line to which no reason applies keeps what was read valid
 pub IsValid-after : (r s : Reading) (h : Head) (parts : List Placed) → IsForm h parts → verdict r h parts ≡ None → after r h parts ≡ Some s → IsValid (parts_of r) → IsValid (parts_of s)

@@ -94,7 +94,8 @@ in_order-permitted decls written thread object held player declared new =
       take_all-length [] = refl
       take_all-length (x ∷ xs) = ap (λ ys. x ∷ ys) (take_all-length xs)
 
-any-push : {X : Type 0} (test : X → Bool) (xs : List X) (x : X) → list_any test (xs ++ x ∷ []) ≡ (test x || list_any test xs)
+-- one of the elements passes, with one more
+pub any-push : {X : Type 0} (test : X → Bool) (xs : List X) (x : X) → list_any test (xs ++ x ∷ []) ≡ (test x || list_any test xs)
 any-push test [] x = refl
 any-push test (y ∷ xs) x = ap (λ b. test y || b) (any-push test xs x) ∙ swap (test y) (test x) (list_any test xs) where
   swap : (a b c : Bool) → (a || (b || c)) ≡ (b || (a || c))

@@ -1,5 +1,6 @@
 pub mod AcceptedLines
 pub mod AlwaysSays
+pub mod FreeLines
 pub mod InOrder
 pub mod PairKeys
 pub mod ReadIsValid

@@ -152,7 +152,6 @@ read-line r s text valid e = by_line (line_of text) refl e where
   by_verdict h parts same (Some reason) passes here = absurd (cc)
 
   by_line : (l : Line) → line_of text ≡ l → taken r l ≡ Ok s → read_lines_of s ≡ read_lines_of r ++ text ∷ []
-  by_line line.Unbuilt same here = absurd (cc)
   by_line line.Misspelled same here = absurd (cc)
   by_line (line.Formed h parts) same here = by_verdict h parts same (verdict r h parts) refl here
 

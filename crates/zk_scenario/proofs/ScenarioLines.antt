@@ -1,5 +1,5 @@
 -- The lines of a scenario, part by part.
-use Rattle.std.proofs.Common.{◌≡◌, ℕ, zero, suc, ◌<◌, ◌≤◌, not, nat_lt, ◌&&◌, Some, List, [], ◌∷◌, ◌++◌, map, length, take, slice_get, codes, refl, sym, ap, ◌∙◌, arith}
+use Rattle.std.proofs.Common.{◌≡◌, ℕ, zero, suc, ◌<◌, Some, List, [], ◌∷◌, ◌++◌, map, length, take, slice_get, codes, refl, sym, ap, ◌∙◌, arith}
 use Rattle.std.specs.Option.{option_map_or}
 use Rattle.std.proofs.lemmas.Bool.{eqb-true}
 use Rattle.std.specs.List.{flat_map}
@@ -11,11 +11,11 @@ use Rattle.std.proofs.lemmas.List.Folds.{flat_map-map}
 use Rattle.zk_line.specs.declared.types.Decl.{Decl}
 use Rattle.zk_line.specs.declared.types.Declared.{Declared}
 use Rattle.zk_line.specs.declared.types.Declared.TheVariants.{Object, Allow}
-use Rattle.zk_line.specs.Objects.{is_at, is_thread, name_of, name_at}
+use Rattle.zk_line.specs.Objects.{is_thread, name_of, name_at}
 use Rattle.zk_line.proofs.Lists.{slice_get-append_left, slice_get-push}
 use Rattle.zk_scenario.specs.declared.types.Script.{Script}
 use Rattle.zk_line.specs.Text.{decl_line, call_line}
-use Rattle.zk_scenario.specs.Written.{is_object, objects_in, is_allowed, AreInOrder}
+use Rattle.zk_scenario.specs.Written.{is_object, objects_in, AreInOrder}
 use Rattle.zk_scenario.proofs.InOrder.{permission-declared, is_at-within, count_by-take-lt}
 use Rattle.zk_scenario.specs.Spelling.{object_line, declared_line, script_line, end_line, script_lines, body_lines, fed, lines_text}
 

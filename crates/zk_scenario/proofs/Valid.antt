@@ -1,24 +1,24 @@
--- What a valid scenario gives: its size, the numbers of its objects, and that each call fits.
-use Rattle.std.proofs.Common.{◌≡◌, ℕ, ◌+◌, ◌<◌, ◌≤◌, Bool, true, false, eqb, Option, None, Some, List, [], ◌∷◌, length, take, slice_get, get_or, count_by, refl, ap, ◌∙◌, arith, length-append}
-use Rattle.std.specs.List.{list_all}
+-- What a valid scenario gives: its size, the numbers of its objects, and that each call fits and stands where it may.
+use Rattle.std.proofs.Common.{◌≡◌, ℕ, suc, ◌+◌, ◌<◌, ◌≤◌, Bool, true, false, not, cond, eqb, ◌&&◌, ◌||◌, Option, None, Some, List, [], ◌∷◌, length, take, slice_get, count_by, refl, sym, ap, ◌∙◌, arith, length-append}
+use Rattle.std.specs.List.{list_all, list_any}
 use Rattle.std.specs.Option.{option_map_or}
-use Rattle.std.proofs.lemmas.Bool.{and_parts, and_from}
-use Rattle.std.proofs.lemmas.List.Quantifiers.{position-Some}
-use Rattle.std.proofs.lemmas.Option.{slice_get-get_or}
+use Rattle.std.proofs.lemmas.Bool.{and_parts, and_from, eqb-true}
 use Rattle.zk_base.proofs.Lists.{list_all-at}
 use Rattle.zk_line.specs.declared.types.Decl.{Decl}
 use Rattle.zk_line.specs.declared.types.Declared.TheVariants.{Allow}
+use Rattle.zk_line.specs.declared.types.Call.{Call}
+use Rattle.zk_line.specs.declared.types.Call.TheVariants.{User}
+use Rattle.zk_line.specs.Calls.{word_of, is_user_call}
 use Rattle.zk_line.specs.declared.types.Decl.TheVariants.{Thread, Queue, Item, Sem, Msgq, Signal, Listener, Sub, Chan}
 use Rattle.zk_scenario.specs.declared.types.Script.{Script}
-use Rattle.zk_line.specs.Objects.{is_at, plays_script, is_thread, is_queue, is_item, is_sem, is_msgq, is_signal, is_chan, is_observer, same_kind, places, number_of, player_count, observers_of}
+use Rattle.zk_line.specs.Objects.{is_at, is_user, plays_script, is_thread, is_queue, is_item, is_sem, is_msgq, is_signal, is_listener, is_chan, is_observer, same_kind, places, number_of, player_count, observers_of}
 use Rattle.zk_scenario.specs.Parts.{Parts}
 use Rattle.zk_scenario.specs.Players.{players, calls_of}
-use Rattle.zk_scenario.specs.Scripts.{script_of}
-use Rattle.zk_line.specs.Fits.{call_fits, decl_fits, observers_fit}
+use Rattle.zk_line.specs.Fits.{decl_fits, observers_fit}
 use Rattle.zk_line.proofs.Lists.{count_by-cons}
-use Rattle.zk_scenario.specs.Valid.{IsValid, script_fits}
+use Rattle.zk_scenario.specs.Valid.{IsValid, calls_pass, calls_fit, script_fits, is_supervisors, makes_user, bars, call_stands, script_stands}
 use Rattle.zk_scenario.proofs.InOrder.{count_by-take-lt, is_at-take, permission-declared}
-use Rattle.zk_scenario.proofs.ScriptTables.{calls_of-none, calls_of-some}
+use Rattle.zk_scenario.proofs.FreeLines.{calls_pass-at}
 use Rattle.zk_line.proofs.Tables.{length-places}
 
 -- the players of the table are as many as their count
@@ -132,19 +132,88 @@ permission-valid p n thread object valid e = permission-declared p.decls p.writt
 pub decl_fits-valid : (p : Parts) (object : ℕ) (d : Decl) → IsValid p → slice_get p.decls object ≡ Some d → decl_fits d ≡ true
 decl_fits-valid p object d valid e = list_all-at decl_fits p.decls object d valid.in_range e
 
--- each call of an object's script fits
-pub call_fits-calls_of : (p : Parts) (owner : ℕ) → IsValid p → list_all (call_fits p.decls) (calls_of p.scripts owner) ≡ true
-call_fits-calls_of p owner valid = by_place (script_of p.scripts owner) refl where
-  by_place : (o : Option ℕ) → script_of p.scripts owner ≡ o → list_all (call_fits p.decls) (calls_of p.scripts owner) ≡ true
-  by_place None e = ap (list_all (call_fits p.decls)) (calls_of-none p.scripts owner e)
-  by_place (Some k) e =
-      let d : Script = record { owner = 0; calls = [] } in
-      let script = get_or p.scripts k d in
-      let within = (position-Some (λ s. eqb s.owner owner) p.scripts k d e).0 in
-      let fits = list_all-at (script_fits p.decls) p.scripts k script valid.fit (slice_get-get_or p.scripts k d within) in
-      ap (list_all (call_fits p.decls)) (calls_of-some p.scripts owner k d e) ∙ (and_parts (is_at plays_script p.decls script.owner) (list_all (call_fits p.decls) script.calls) fits).1
+-- what holds of no calls, and of those of each script of an object, holds of the object's calls
+own_calls : (ss : List Script) (owner : ℕ) (P : List Call → Type 0) → P []
+    → ((n : ℕ) (script : Script) → slice_get ss n ≡ Some script → script.owner ≡ owner → P script.calls) → P (calls_of ss owner)
+own_calls [] owner P none each = none
+own_calls (s ∷ ss) owner P none each = by_owner (eqb s.owner owner) refl (own_calls ss owner P none (λ n. each (suc n))) where
+  by_owner : (b : Bool) → eqb s.owner owner ≡ b → P (calls_of ss owner) → P (cond b s.calls (calls_of ss owner))
+  by_owner true e rest = each 0 s refl (eqb-true s.owner owner e)
+  by_owner false e rest = rest
+
+-- the calls of an object's script fit; those of a user are free
+pub calls_fit-calls_of : (p : Parts) (owner : ℕ) → IsValid p → calls_fit (is_at is_user p.decls owner) p.decls (calls_of p.scripts owner) ≡ true
+calls_fit-calls_of p owner valid = own_calls p.scripts owner (λ calls. calls_fit (is_at is_user p.decls owner) p.decls calls ≡ true) refl own where
+  own : (n : ℕ) (script : Script) → slice_get p.scripts n ≡ Some script → script.owner ≡ owner → calls_fit (is_at is_user p.decls owner) p.decls script.calls ≡ true
+  own n script e same =
+      ap (λ k. calls_fit (is_at is_user p.decls k) p.decls script.calls) (sym same)
+      ∙ (and_parts (is_at plays_script p.decls script.owner) (calls_fit (is_at is_user p.decls script.owner) p.decls script.calls) (list_all-at (script_fits p.decls) p.scripts n script valid.fit e)).1
+
+-- the calls of an object's script stand where they may
+calls_stand-calls_of : (p : Parts) (owner : ℕ) → IsValid p → calls_pass (call_stands p.decls owner) (is_at is_user p.decls owner) (calls_of p.scripts owner) ≡ true
+calls_stand-calls_of p owner valid = own_calls p.scripts owner (λ calls. calls_pass (call_stands p.decls owner) (is_at is_user p.decls owner) calls ≡ true) refl own where
+  own : (n : ℕ) (script : Script) → slice_get p.scripts n ≡ Some script → script.owner ≡ owner → calls_pass (call_stands p.decls owner) (is_at is_user p.decls owner) script.calls ≡ true
+  own n script e same =
+      ap (λ k. calls_pass (call_stands p.decls k) (is_at is_user p.decls k) script.calls) (sym same) ∙ list_all-at (script_stands p.decls) p.scripts n script valid.stand e
+
+-- each call of an object's script stands where it may
+pub call_stands-at : (p : Parts) (owner next : ℕ) (call : Call) → IsValid p → slice_get (calls_of p.scripts owner) next ≡ Some call
+    → call_stands p.decls owner (is_at is_user p.decls owner || list_any is_user_call (take next (calls_of p.scripts owner))) call ≡ true
+call_stands-at p owner next call valid e =
+    calls_pass-at (call_stands p.decls owner) (is_at is_user p.decls owner) (calls_of p.scripts owner) next call (calls_stand-calls_of p owner valid) e
+
+-- a call that isn't barred is no supervisor's, where its line is free or its script a listener's
+unbarred : (supervisors free listener rest : Bool) → not (supervisors && (free || listener) || rest) ≡ true → (free || listener) ≡ true → supervisors ≡ false
+unbarred true free listener rest e here = absurd (cc)
+unbarred false free listener rest e here = refl
+
+-- a call in a free line of a script is none of the supervisors' calls
+pub stands-next : (p : Parts) (owner next : ℕ) (call : Call) → IsValid p → slice_get (calls_of p.scripts owner) next ≡ Some call
+    → (is_at is_user p.decls owner || list_any is_user_call (take next (calls_of p.scripts owner))) ≡ true → is_supervisors (word_of call) ≡ false
+stands-next p owner next call valid e free =
+    let loose = is_at is_user p.decls owner || list_any is_user_call (take next (calls_of p.scripts owner)) in
+    unbarred (is_supervisors (word_of call)) loose (is_at is_listener p.decls owner) (makes_user (word_of call) && is_at is_item p.decls owner)
+    (call_stands-at p owner next call valid e) (ap (λ b. b || is_at is_listener p.decls owner) free)
 
 -- each script is played by a thread, an item or a listener
 pub plays_script-owner : (p : Parts) (n : ℕ) (script : Script) → IsValid p → slice_get p.scripts n ≡ Some script → is_at plays_script p.decls script.owner ≡ true
 plays_script-owner p n script valid e =
-    (and_parts (is_at plays_script p.decls script.owner) (list_all (call_fits p.decls) script.calls) (list_all-at (script_fits p.decls) p.scripts n script valid.fit e)).0
+    (and_parts (is_at plays_script p.decls script.owner) (calls_fit (is_at is_user p.decls script.owner) p.decls script.calls) (list_all-at (script_fits p.decls) p.scripts n script valid.fit e)).0
+
+-- what has the call in its script that makes its caller a user plays scripts, and it is no item and no listener
+user_owner : (p : Parts) (owner next : ℕ) (call : Call) → IsValid p → slice_get (calls_of p.scripts owner) next ≡ Some call → is_user_call call ≡ true
+    → (is_at plays_script p.decls owner ≡ true) × (is_at is_item p.decls owner ≡ false) × (is_at is_listener p.decls owner ≡ false)
+user_owner p owner next call valid e makes = (plays, barred.0, barred.1) where
+  plays : is_at plays_script p.decls owner ≡ true
+  plays = own_calls p.scripts owner (λ calls. slice_get calls next ≡ Some call → is_at plays_script p.decls owner ≡ true) (λ none. absurd (cc))
+      (λ n script at same here. ap (is_at plays_script p.decls) (sym same) ∙ plays_script-owner p n script valid at) e
+
+  by_call : (c : Call) (free listener item : Bool) → is_user_call c ≡ true → not (bars free listener item (word_of c)) ≡ true → (item ≡ false) × (listener ≡ false)
+  by_call User false false false is stands = (refl, refl)
+  by_call User true listener item is stands = absurd (cc)
+  by_call User false true item is stands = absurd (cc)
+  by_call User false false true is stands = absurd (cc)
+  by_call c free listener item is stands = absurd (cc)
+
+  barred : (is_at is_item p.decls owner ≡ false) × (is_at is_listener p.decls owner ≡ false)
+  barred = by_call call (is_at is_user p.decls owner || list_any is_user_call (take next (calls_of p.scripts owner))) (is_at is_listener p.decls owner) (is_at is_item p.decls owner) makes (call_stands-at p owner next call valid e)
+
+-- whoever has the call in its script that makes its caller a user is no item
+pub user-no_item : (p : Parts) (owner next : ℕ) (call : Call) → IsValid p → slice_get (calls_of p.scripts owner) next ≡ Some call → is_user_call call ≡ true
+    → is_at is_item p.decls owner ≡ false
+user-no_item p owner next call valid e makes = (user_owner p owner next call valid e makes).1
+
+-- nor a listener
+pub user-no_listener : (p : Parts) (owner next : ℕ) (call : Call) → IsValid p → slice_get (calls_of p.scripts owner) next ≡ Some call → is_user_call call ≡ true
+    → is_at is_listener p.decls owner ≡ false
+user-no_listener p owner next call valid e makes = (user_owner p owner next call valid e makes).2
+
+-- it is a thread
+pub user-owner : (p : Parts) (owner next : ℕ) (call : Call) → IsValid p → slice_get (calls_of p.scripts owner) next ≡ Some call → is_user_call call ≡ true
+    → is_at is_thread p.decls owner ≡ true
+user-owner p owner next call valid e makes =
+    let is = user_owner p owner next call valid e makes in of_three (slice_get p.decls owner) is.0 is.1 is.2 where
+      of_three : (o : Option Decl) → option_map_or plays_script o false ≡ true → option_map_or is_item o false ≡ false → option_map_or is_listener o false ≡ false
+          → option_map_or is_thread o false ≡ true
+      of_three (Some (Thread name prio user)) plays item listener = refl
+      of_three o plays item listener = absurd (cc)

@@ -31,19 +31,12 @@ accepted false r = None
 
 -- a line behind those before it, by what its spelling says
 abbrev pub taken : Reading → Line → Result Reading Why
-taken r line.Unbuilt = Err why.Unbuilt
 taken r line.Misspelled = Err why.Line
 taken r (line.Formed head parts) = told (verdict r head parts) (after r head parts)
 
 -- a line behind those before it
 abbrev pub read_line : Reading → List ℕ → Result Reading Why
 read_line r text = taken r (line_of text)
-
--- why a last line without its line feed is refused
-abbrev pub unfed : Line → Why
-unfed line.Unbuilt = why.Unbuilt
-unfed line.Misspelled = why.Line
-unfed (line.Formed head parts) = why.Line
 
 -- the scenario of what was read, where no script is open
 abbrev pub ended_parts : Reading → Parts
@@ -56,7 +49,7 @@ ended n r = (if is_some r.current then Err (At n why.Order) else Ok (ended_parts
 -- what stands behind the last line feed: nothing, or a line without its feed
 abbrev pub at_end : ℕ → Reading → List ℕ → Result Parts ScenarioRefused
 at_end n r [] = ended n r
-at_end n r (b ∷ bs) = Err (At n (unfed (line_of (b ∷ bs))))
+at_end n r (b ∷ bs) = Err (At n why.Line)
 
 -- what follows a line, where that is accepted
 abbrev pub behind : ℕ → Result Reading Why → (Reading → Result Parts ScenarioRefused) → Result Parts ScenarioRefused

@@ -1,4 +1,6 @@
+pub mod Free
 pub mod Grammar
+pub mod Kept
 pub mod Parts
 pub mod Players
 pub mod Reading

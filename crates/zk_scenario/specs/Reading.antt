@@ -1,13 +1,10 @@
-use Rattle.std.specs.Prelude.{◌≡◌, ℕ, Option, None, Some, List, [], ◌∷◌, ◌++◌, length, option_map, option_to_list}
+use Rattle.std.specs.Prelude.{ℕ, Option, None, Some, List, [], ◌∷◌, ◌++◌, length, option_map, option_to_list}
 use Rattle.zk_line.specs.declared.types.Decl.{Decl}
 use Rattle.zk_line.specs.declared.types.Declared.{Declared}
 use Rattle.zk_line.specs.declared.types.Declared.TheVariants.{Object, Allow}
 use Rattle.zk_line.specs.declared.types.Call.{Call}
 use Rattle.zk_scenario.specs.declared.types.Script.{Script}
 use Rattle.zk_scenario.specs.Parts.{Parts}
-use Rattle.zk_scenario.specs.declared.pairs.Pairs.{Pairs}
-use Rattle.zk_scenario.specs.Valid.{IsValid, call_count}
-use Rattle.zk_scenario.specs.Written.{ArePermissions}
 
 -- what the lines so far said: the objects, the lines of their declarations and of permissions, the scripts that have
 -- ended, and the one that is open
@@ -52,9 +49,3 @@ closed r = record r { scripts = all_scripts r; current = None }
 -- the scenario of what was read
 abbrev pub parts_of : Reading → Parts
 parts_of r = record { decls = r.decls; written = r.written; scripts = all_scripts r }
-
--- what was read is valid, its calls are counted, and its permissions are kept
-pub record IsCounted (r : Reading) (calls : ℕ) (permissions : Pairs) : Type 0 where
-  pub valid : IsValid (parts_of r)
-  pub counted : calls ≡ call_count (all_scripts r)
-  pub permitted : ArePermissions r.written permissions

@@ -1,11 +1,10 @@
-use Rattle.std.specs.Prelude.{◌≡◌, ℕ, Bool, true, false, not, nat_le, nat_lt, ◌&&◌, ◌||◌, Option, None, Some, Result, Ok, Err, List, [], length, count_by, is_some, option_map, option_and_then, if◌then◌else◌}
+use Rattle.std.specs.Prelude.{◌≡◌, ℕ, Bool, false, not, nat_le, nat_lt, ◌&&◌, ◌||◌, Option, None, Some, Result, Ok, Err, List, [], length, count_by, is_some, option_map, option_and_then, if◌then◌else◌}
 use Rattle.std.specs.Option.{option_map_or}
 use Rattle.zk_model_bus.specs.declared.kinds.Kind.{Kind}
 use Rattle.zk_model_bus.specs.declared.kinds.Kind.TheVariants as kind
 use Rattle.zk_words.specs.declared.word.Head.{Head}
 use Rattle.zk_words.specs.declared.word.Head.TheVariants.{Declare, Allow, Script, End, Call}
 use Rattle.zk_words.specs.declared.word.Word.{Word}
-use Rattle.zk_words.specs.declared.word.Word.TheVariants as word
 use Rattle.zk_words.specs.Kinds.{makes_player}
 use Rattle.zk_words.specs.Parts.{Placed}
 use Rattle.zk_line.specs.declared.types.Arg.{Arg}
@@ -14,12 +13,13 @@ use Rattle.zk_line.specs.Args.{args_of}
 use Rattle.zk_line.specs.Calls.{call_of}
 use Rattle.zk_line.specs.Checks.{first_object, are_in_range, are_well_named, has_many_events, has_many_observers}
 use Rattle.zk_line.specs.Decls.{decl_of, permission_of}
-use Rattle.zk_line.specs.Objects.{counts_with, is_at, is_listener, player_count}
+use Rattle.zk_line.specs.Objects.{counts_with, is_at, is_item, is_listener, player_count}
 use Rattle.zk_scenario.specs.declared.refused.Why.{Why}
 use Rattle.zk_scenario.specs.declared.refused.Why.TheVariants as why
+use Rattle.zk_scenario.specs.Free.{next_is_free, is_free_line}
 use Rattle.zk_scenario.specs.Reading.{Reading, all_scripts, declared, permitted, begun, called, closed}
 use Rattle.zk_scenario.specs.Scripts.{script_of}
-use Rattle.zk_scenario.specs.Valid.{call_count}
+use Rattle.zk_scenario.specs.Valid.{bars, call_count}
 use Rattle.zk_scenario.specs.Written.{is_allowed}
 
 -- whether a script stands already, be it open or not
@@ -30,19 +30,16 @@ has_begun r = is_some r.current || nat_lt 0 (length r.scripts)
 abbrev pub has_script : Reading → Option ℕ → Bool
 has_script r object = option_map_or (λ owner. is_some (script_of r.scripts owner)) object false
 
--- whether a call is one that a listener doesn't make: it takes a permission away, gives one to all, or initialises
-abbrev pub is_supervisors : Word → Bool
-is_supervisors word.Revoke = true
-is_supervisors word.Public = true
-is_supervisors word.Init = true
-is_supervisors word = false
+-- whether a script is open, and it is that of an object whose declaration passes a test
+abbrev pub is_within : (Decl → Bool) → Reading → Bool
+is_within test r = option_map_or (λ script. is_at test r.decls script.owner) r.current false
 
 -- whether a call is one that may not stand in the open script
 abbrev pub is_barred : Reading → Word → Bool
-is_barred r word = is_supervisors word && option_map_or (λ script. is_at is_listener r.decls script.owner) r.current false
+is_barred r word = bars (next_is_free r) (is_within is_listener r) (is_within is_item r) word
 
--- whether the line may not stand there: declarations and permissions stand before all scripts, calls and ends in one,
--- some calls in no listener's, and a script's head outside of each, once for an object
+-- whether the line may not stand there: declarations and permissions stand before all scripts, calls and ends in one
+-- where they aren't barred, and a script's head outside of each, once for an object
 abbrev pub is_misplaced : Reading → Head → List Placed → Bool
 is_misplaced r (Declare kind) parts = has_begun r
 is_misplaced r Allow parts = has_begun r
@@ -83,7 +80,8 @@ is_said_before r head args = false
 -- whether the names of a line may stand where they do, and it says no permission again
 abbrev pub are_named : Reading → Head → List Placed → Bool
 are_named r head parts =
-    are_well_named r.decls parts && not (option_map_or (is_said_before r head) (args_of r.decls parts) false)
+    are_well_named (is_free_line r head) r.decls parts
+    && not (option_map_or (is_said_before r head) (args_of r.decls parts) false)
 
 -- the first reason that applies to a line behind these, if there is one
 abbrev pub verdict : Reading → Head → List Placed → Option Why

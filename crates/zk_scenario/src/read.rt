@@ -3,7 +3,7 @@ ghost use Rattle.zk_scenario.specs.Grammar.{read_pieces, read_lines, at_end, sce
 ghost use Rattle.zk_scenario.specs.Reading.{start};
 ghost use Rattle.zk_scenario.specs.Spelling.{text_of};
 
-use crate::reader::{Reader, unfed};
+use crate::reader::Reader;
 use crate::refused::{ScenarioRefused, Why};
 use crate::scenario::Scenario;
 use std::alloc::Global;
@@ -76,7 +76,7 @@ fn finish(reader: Reader, number: u32, piece: &[u8]) -> Result<Reader, ScenarioR
     ensures { AnswersReading result (at_end number reader piece.now) }
 {
     if !piece.is_empty() {
-        return Err(ScenarioRefused::At(number, unfed(piece)));
+        return Err(ScenarioRefused::At(number, Why::Line));
     }
     if reader.is_open() {
         return Err(ScenarioRefused::At(number, Why::Order));

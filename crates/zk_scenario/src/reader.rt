@@ -1,12 +1,13 @@
 ghost use Rattle.std.specs.Prelude.{◌≡◌, None, Some, OnOk, OnErr, IfOk, IsSome, is_some, [], option_map, option_and_then};
 ghost use Rattle.zk_words.specs.Lines.{line_of, IsForm};
 ghost use Rattle.zk_line.specs.Args.{args_of};
-ghost use Rattle.zk_line.specs.Objects.{object_of, name_of};
+ghost use Rattle.zk_line.specs.Objects.{object_of, name_of, is_item, is_listener};
 ghost use Rattle.zk_line.specs.Weights.{or_wrong};
-ghost use Rattle.zk_scenario.specs.Grammar.{read_line, told, answered, accepted, unfed};
+ghost use Rattle.zk_scenario.specs.Grammar.{read_line, told, answered, accepted};
+ghost use Rattle.zk_scenario.specs.Free.{next_is_free, is_free_line};
 ghost use Rattle.zk_scenario.specs.Reading.{start, declared, permitted, called, closed, with_call, parts_of};
-ghost use Rattle.zk_scenario.specs.Valid.{IsValid};
-ghost use Rattle.zk_scenario.specs.Verdict.{has_begun, has_script, is_supervisors, is_barred, is_misplaced, most, is_full, is_past_limit, is_said_before, verdict, Judges, opened, after};
+ghost use Rattle.zk_scenario.specs.Valid.{IsValid, is_supervisors, makes_user};
+ghost use Rattle.zk_scenario.specs.Verdict.{has_begun, has_script, is_within, is_barred, is_misplaced, most, is_full, is_past_limit, is_said_before, verdict, Judges, opened, after};
 
 use crate::pairs::Pairs;
 use crate::refused::Why;
@@ -17,7 +18,8 @@ use std::marker::Model;
 use zk_base::{Listed, NoMemory, make_room_for_one, push_within};
 use zk_line::{
     Arg, Args, Call, Decl, Declared, Objects, Ref, Wrong, call_of, decl_of, first_object,
-    has_many_events, has_many_observers, is_listener_at, permission_of, weigh,
+    has_many_events, has_many_observers, is_item_at, is_listener_at, is_user_at, is_user_call,
+    permission_of, weigh,
 };
 use zk_words::{Head, Kind, Line, Parts, Word, line_of, makes_player};
 
@@ -39,10 +41,13 @@ pub struct Reader {
     current: Option<Script>,
     // How many calls all scripts have, the open one too.
     calls: u32,
+    // Whether a call in the open script would stand in a free line.
+    free: bool,
 }
 
 impl Model for Reader {
-    ghost use Rattle.zk_scenario.specs.Reading.{Reading, IsCounted};
+    ghost use Rattle.zk_scenario.specs.Kept.{IsKept};
+    ghost use Rattle.zk_scenario.specs.Reading.{Reading};
 
     ghost Value = { Reading };
 
@@ -53,12 +58,12 @@ impl Model for Reader {
       current = a.current;
     } };
 
-    ghost invariant = { λ a. IsCounted (record {
+    ghost invariant = { λ a. IsKept (record {
       decls = a.objects;
       written = a.written.items;
       scripts = a.scripts;
       current = a.current;
-    }) a.calls a.permissions };
+    }) a.calls a.free a.permissions };
 }
 
 impl Reader {
@@ -73,6 +78,7 @@ impl Reader {
             scripts: Scripts::new(alloc),
             current: None,
             calls: 0,
+            free: false,
         }
     }
 
@@ -91,15 +97,46 @@ impl Reader {
         }
     }
 
+    fn next_is_free(&self) -> bool
+        ensures { result ≡ next_is_free self.now }
+    {
+        self.free
+    }
+
+    /// Whether a line is free.
+    fn is_free_line(&self, head: Head) -> bool
+        ensures { result ≡ is_free_line self.now head }
+    {
+        match head {
+            Head::Call(_) => self.next_is_free(),
+            _ => false,
+        }
+    }
+
+    fn is_within_listener(&self) -> bool
+        ensures { result ≡ is_within is_listener self.now }
+    {
+        match &self.current {
+            Some(script) => is_listener_at(self.objects.decls(), script.owner),
+            None => false,
+        }
+    }
+
+    fn is_within_item(&self) -> bool
+        ensures { result ≡ is_within is_item self.now }
+    {
+        match &self.current {
+            Some(script) => is_item_at(self.objects.decls(), script.owner),
+            None => false,
+        }
+    }
+
     /// Whether a call is one that may not stand in the open script.
     fn is_barred(&self, word: Word) -> bool
         ensures { result ≡ is_barred self.now word }
     {
-        is_supervisors(word)
-            && match &self.current {
-                Some(script) => is_listener_at(self.objects.decls(), script.owner),
-                None => false,
-            }
+        is_supervisors(word) && (self.next_is_free() || self.is_within_listener())
+            || makes_user(word) && self.is_within_item()
     }
 
     /// Whether the line may not stand there.
@@ -148,7 +185,7 @@ impl Reader {
         if self.is_misplaced(head, parts) {
             return Ok(Some(Why::Order));
         }
-        match weigh(args, &self.objects, head, parts)? {
+        match weigh(args, &self.objects, self.is_free_line(head), head, parts)? {
             Some(Wrong::OutOfRange) => Ok(Some(Why::Number)),
             Some(Wrong::Misnamed) => Ok(Some(Why::Name)),
             None => {
@@ -187,7 +224,6 @@ impl Reader {
         ensures { IfOk result (λ refusal. read_line self.old line.now ≡ answered refusal self.new) }
     {
         match line_of(line) {
-            Line::Unbuilt => Ok(Some(Why::Unbuilt)),
             Line::Misspelled => Ok(Some(Why::Line)),
             Line::Formed(head, parts) => self.read_form(alloc, args, head, &parts),
         }
@@ -228,6 +264,7 @@ impl Reader {
             scripts,
             current: _,
             calls: _,
+            free: _,
         } = self;
         (objects, written, scripts)
     }
@@ -327,6 +364,7 @@ impl Reader {
 
     /// One declaration more.
     fn declare(&mut self, alloc: Global, decl: Decl) -> Result<(), NoMemory>
+        requires between { self.old.current ≡ None }
         requires fresh { object_of self.old.decls (name_of decl) ≡ None }
         requires valid { IsValid (parts_of (declared self.old decl)) }
         ensures ok { OnOk result (self.new ≡ declared self.old decl) }
@@ -357,6 +395,7 @@ impl Reader {
         requires valid { IsValid (parts_of (opened self.old owner)) }
         ensures { self.new ≡ opened self.old owner }
     {
+        self.free = is_user_at(self.objects.decls(), owner);
         self.current = Some(Script {
             owner,
             calls: Listed::new(alloc),
@@ -372,6 +411,7 @@ impl Reader {
     {
         push_call(&mut self.current, call)?;
         self.calls += 1;
+        self.free = self.free || is_user_call(&call);
         Ok(())
     }
 
@@ -385,7 +425,10 @@ impl Reader {
             return Ok(());
         };
         match self.scripts.push(script) {
-            Ok(()) => Ok(()),
+            Ok(()) => {
+                self.free = false;
+                Ok(())
+            }
             Err(script) => {
                 self.current = Some(script);
                 Err(NoMemory)
@@ -411,17 +454,6 @@ fn most(kind: Kind) -> usize
     }
 }
 
-/// Why a last line without its line feed is refused.
-pub fn unfed(line: &[u8]) -> Why
-    ensures { result ≡ unfed (line_of line.now) }
-{
-    match line_of(line) {
-        Line::Unbuilt => Why::Unbuilt,
-        Line::Misspelled => Why::Line,
-        Line::Formed(_, _) => Why::Line,
-    }
-}
-
 /// One call more in the script, if there is one.
 fn push_call(current: &mut Option<Script>, call: Call) -> Result<(), NoMemory>
     ensures ok { OnOk result (current.new ≡ option_map (with_call call) current.old) }
@@ -434,7 +466,7 @@ fn push_call(current: &mut Option<Script>, call: Call) -> Result<(), NoMemory>
     }
 }
 
-/// Whether a call is one that a listener doesn't make: it takes a permission away, gives one to all, or initialises.
+/// Whether a call is a supervisor's: it takes a permission away, gives one to all, initialises, or makes its caller a user.
 fn is_supervisors(word: Word) -> bool
     ensures { result ≡ is_supervisors word }
 {
@@ -442,6 +474,16 @@ fn is_supervisors(word: Word) -> bool
         Word::Revoke => true,
         Word::Public => true,
         Word::Init => true,
+        Word::User => true,
+        _ => false,
+    }
+}
+
+fn makes_user(word: Word) -> bool
+    ensures { result ≡ makes_user word }
+{
+    match word {
+        Word::User => true,
         _ => false,
     }
 }

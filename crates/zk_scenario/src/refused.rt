@@ -23,8 +23,6 @@ pub enum Why {
     Limit,
     /// The input is too long.
     Length,
-    /// The grammar has the line, and this program can't play it yet.
-    Unbuilt,
 }
 
 impl Why {
@@ -40,7 +38,6 @@ impl Why {
             Why::Name => "name",
             Why::Limit => "limit",
             Why::Length => "length",
-            Why::Unbuilt => "unbuilt",
         }
     }
 }

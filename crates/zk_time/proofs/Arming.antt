@@ -25,12 +25,14 @@ first_above arms deadline p place = by p.index refl where
       let within = place.within in
       let inside_too : index < length arms = omega arith in
       let same : p.index - 1 ≡ index = omega arith in
-      let next : p.delta < (get_or arms index d).delta = subst (λ (i : ℕ). p.delta < (get_or arms i d).delta) same (place.next d (omega arith)) in
+      let next : p.delta < (get_or arms index d).delta =
+      subst (λ (i : ℕ). p.delta < (get_or arms i d).delta) same (place.next d (omega arith)) in
       let one_more : index + 1 ≡ p.index = omega arith in
       subst (λ (i : ℕ). FirstAbove p.delta (later i arms)) one_more
       (subst (FirstAbove p.delta) (sym (later_first index arms d inside_too)) next)
 
-insert-reversed : (arms : List Arm) (index : ℕ) (x : Arm) → reverse (insert arms index x) ≡ earlier index arms ++ x ∷ later index arms
+insert-reversed : (arms : List Arm) (index : ℕ) (x : Arm) →
+    reverse (insert arms index x) ≡ earlier index arms ++ x ∷ later index arms
 insert-reversed arms index x =
     reverse-append (take index arms) (x ∷ drop index arms)
     ∙ ap (λ (l : List Arm). l ++ later index arms) (reverse-append (x ∷ []) (drop index arms))
@@ -48,15 +50,18 @@ pub record Arms (items : ℕ) (arms shortened after : List Arm) (t : Timeouts) (
   pub free : is_armed t item ≡ false
   pub small : deadline < 2 ^ 64
 
-arms_reversed : (items : ℕ) (arms shortened after : List Arm) (t : Timeouts) (p : Place) (item queue deadline : ℕ) → Arms items arms shortened after t p item queue deadline →
-    reverse after ≡ earlier p.index arms ++ record { item = item; queue = queue; delta = p.delta } ∷ shorter p.delta (later p.index arms)
+arms_reversed : (items : ℕ) (arms shortened after : List Arm) (t : Timeouts) (p : Place) (item queue deadline : ℕ) →
+    Arms items arms shortened after t p item queue deadline →
+    reverse after ≡ earlier p.index arms ++ record { item = item; queue = queue; delta = p.delta } ∷ shorter p.delta
+    (later p.index arms)
 arms_reversed items arms shortened after t p item queue deadline a =
     let x : Arm = record { item = item; queue = queue; delta = p.delta } in
     ap reverse a.put ∙ insert-reversed shortened p.index x
     ∙ ap (λ (l : List Arm). l ++ x ∷ later p.index shortened) a.same ∙ ap (λ (l : List Arm). earlier p.index arms ++ x ∷ l) a.less
 
 -- it is seen behind all whose deadline isn't later
-pub arms_live : (items : ℕ) (arms shortened after : List Arm) (t : Timeouts) (p : Place) (item queue deadline : ℕ) → Arms items arms shortened after t p item queue deadline →
+pub arms_live : (items : ℕ) (arms shortened after : List Arm) (t : Timeouts) (p : Place) (item queue deadline : ℕ) →
+    Arms items arms shortened after t p item queue deadline →
     live_of after ≡ put_by (λ a. a.deadline) (record { item = item; queue = queue; deadline = deadline }) (live_of arms)
 arms_live items arms shortened after t p item queue deadline a =
     let front = earlier p.index arms in
@@ -73,29 +78,39 @@ arms_live items arms shortened after t p item queue deadline a =
     let Q : Timeout → Type 0 = λ t. t.deadline ≤ deadline in
     let R : Timeout → Type 0 = λ t. deadline < t.deadline in
     let within = All-weaker P Q (λ t h. omega arith) (timeouts_after 0 front) (upto_span 0 front) in
-    let past = subst (λ (n : ℕ). All (λ t. n < t.deadline) (timeouts_after (span front) back)) sum (all_above (span front) p.delta back above) in
+    let past = subst (λ (n : ℕ). All (λ t. n < t.deadline) (timeouts_after (span front) back)) sum
+    (all_above (span front) p.delta back above) in
     ap (timeouts_after 0) (arms_reversed items arms shortened after t p item queue deadline a)
     ∙ timeouts-append 0 front (x ∷ shorter p.delta back)
     ∙ ap (λ (n : ℕ). timeouts_after 0 front ++ timeouts_after n (x ∷ shorter p.delta back)) from_zero
-    ∙ ap (λ (l : List Timeout). timeouts_after 0 front ++ record { item = item; queue = queue; deadline = span front + p.delta } ∷ l) (timeouts-shorter (span front) p.delta back above)
-    ∙ ap (λ (n : ℕ). let z : Timeout = record { item = item; queue = queue; deadline = n } in timeouts_after 0 front ++ z ∷ timeouts_after (span front) back) sum
+    ∙ ap (λ (l : List Timeout). timeouts_after 0 front ++ record {
+      item = item;
+      queue = queue;
+      deadline = span front + p.delta;
+    } ∷ l) (timeouts-shorter (span front) p.delta back above)
+    ∙ ap (λ (n : ℕ). let z : Timeout = record { item = item; queue = queue; deadline = n } in
+    timeouts_after 0 front ++ z ∷ timeouts_after (span front) back) sum
     ∙ sym (put_by-between key y (timeouts_after 0 front) (timeouts_after (span front) back) within past)
     ∙ ap (put_by key y) (sym (live-parts p.index arms))
 
-pub arms_next : (items : ℕ) (arms shortened after : List Arm) (t : Timeouts) (p : Place) (item queue deadline : ℕ) → Arms items arms shortened after t p item queue deadline →
+pub arms_next : (items : ℕ) (arms shortened after : List Arm) (t : Timeouts) (p : Place) (item queue deadline : ℕ) →
+    Arms items arms shortened after t p item queue deadline →
     seen_of items after ≡ arm t item queue deadline
 arms_next items arms shortened after t p item queue deadline a =
-    ap (λ (l : List Timeout). let s : Timeouts = record { items = items; live = l } in s) (arms_live items arms shortened after t p item queue deadline a)
+    ap (λ (l : List Timeout). let s : Timeouts = record { items = items; live = l } in
+    s) (arms_live items arms shortened after t p item queue deadline a)
     ∙ ap (λ (t : Timeouts). arm t item queue deadline) a.view
 
-pub arms_ordered : (items : ℕ) (arms shortened after : List Arm) (t : Timeouts) (p : Place) (item queue deadline : ℕ) → Arms items arms shortened after t p item queue deadline →
+pub arms_ordered : (items : ℕ) (arms shortened after : List Arm) (t : Timeouts) (p : Place) (item queue deadline : ℕ) →
+    Arms items arms shortened after t p item queue deadline →
     IsOrdered (seen_of items after)
 arms_ordered items arms shortened after t p item queue deadline a =
     subst IsOrdered (sym (arms_next items arms shortened after t p item queue deadline a))
     (IsOrdered-arm t item queue deadline (ordered items arms t a.view a.kept) a.inside a.free a.small)
 
 -- all is kept
-pub arms_kept : (items : ℕ) (arms shortened after : List Arm) (t : Timeouts) (p : Place) (item queue deadline : ℕ) → Arms items arms shortened after t p item queue deadline →
+pub arms_kept : (items : ℕ) (arms shortened after : List Arm) (t : Timeouts) (p : Place) (item queue deadline : ℕ) →
+    Arms items arms shortened after t p item queue deadline →
     IsKept items after
 arms_kept items arms shortened after t p item queue deadline a =
     let o = arms_ordered items arms shortened after t p item queue deadline a in
@@ -114,11 +129,13 @@ arms_kept items arms shortened after t p item queue deadline a =
           ∙ ap (λ (n : ℕ). span (earlier p.index arms) + n) (span-cons x (shorter p.delta (later p.index arms)))
 
       whole : span arms ≡ span (earlier p.index arms) + span (later p.index arms)
-      whole = sym (span-reverse arms) ∙ ap span (reverse-parts p.index arms) ∙ span-append (earlier p.index arms) (later p.index arms)
+      whole = sym (span-reverse arms) ∙ ap span (reverse-parts p.index arms)
+          ∙ span-append (earlier p.index arms) (later p.index arms)
 
       fits : span after < 2 ^ 64
       fits = by (fewer p.delta (later p.index arms) (first_above arms deadline p a.place)) where
-        by : ((later p.index arms ≡ []) ⊎ (span (shorter p.delta (later p.index arms)) + p.delta ≡ span (later p.index arms))) → span after < 2 ^ 64
+        by : ((later p.index arms ≡ [])
+            ⊎ (span (shorter p.delta (later p.index arms)) + p.delta ≡ span (later p.index arms))) → span after < 2 ^ 64
         by (inl last) =
             let none : span (shorter p.delta (later p.index arms)) ≡ 0 = ap (λ (l : List Arm). span (shorter p.delta l)) last in
             let passed : span (earlier p.index arms) ≡ span (drop p.index arms) = span-reverse (drop p.index arms) in

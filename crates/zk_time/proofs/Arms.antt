@@ -21,13 +21,15 @@ pub span-reverse : (arms : List Arm) → span (reverse arms) ≡ span arms
 span-reverse arms = sum_by-IsPermutation (λ (a : Arm). a.delta) arms (reverse arms) (IsPermutation-reverse arms)
 
 -- one after another
-pub timeouts-append : (moment : ℕ) (xs ys : List Arm) → timeouts_after moment (xs ++ ys) ≡ timeouts_after moment xs ++ timeouts_after (moment + span xs) ys
+pub timeouts-append : (moment : ℕ) (xs ys : List Arm) →
+    timeouts_after moment (xs ++ ys) ≡ timeouts_after moment xs ++ timeouts_after (moment + span xs) ys
 timeouts-append moment [] ys = let same : moment ≡ moment + span [] = omega arith in ap (λ (n : ℕ). timeouts_after n ys) same
 timeouts-append moment (a ∷ xs) ys =
     let t : Timeout = record { item = a.item; queue = a.queue; deadline = moment + a.delta } in
     let front = timeouts_after (moment + a.delta) xs in
     let same : moment + a.delta + span xs ≡ moment + span (a ∷ xs) = omega (arith, span-cons a xs) in
-    ap (λ (l : List Timeout). t ∷ l) (timeouts-append (moment + a.delta) xs ys) ∙ ap (λ (n : ℕ). t ∷ (front ++ timeouts_after n ys)) same
+    ap (λ (l : List Timeout). t ∷ l) (timeouts-append (moment + a.delta) xs ys)
+    ∙ ap (λ (n : ℕ). t ∷ (front ++ timeouts_after n ys)) same
 
 -- none expires before the moment
 pub from_moment : (moment : ℕ) (arms : List Arm) → All (λ t. moment ≤ t.deadline) (timeouts_after moment arms)
@@ -35,7 +37,8 @@ from_moment moment [] = All-nil (λ (t : Timeout). moment ≤ t.deadline)
 from_moment moment (a ∷ arms) =
     let P : Timeout → Type 0 = λ t. moment ≤ t.deadline in
     All-cons P (record { item = a.item; queue = a.queue; deadline = moment + a.delta }) (timeouts_after (moment + a.delta) arms)
-    (omega arith) (All-weaker (λ t. moment + a.delta ≤ t.deadline) P (λ t h. omega arith) (timeouts_after (moment + a.delta) arms) (from_moment (moment + a.delta) arms))
+    (omega arith) (All-weaker (λ t. moment + a.delta ≤ t.deadline) P (λ t h. omega arith)
+    (timeouts_after (moment + a.delta) arms) (from_moment (moment + a.delta) arms))
 
 -- none expires after all deltas
 pub upto_span : (moment : ℕ) (arms : List Arm) → All (λ t. t.deadline ≤ moment + span arms) (timeouts_after moment arms)
@@ -44,7 +47,8 @@ upto_span moment (a ∷ arms) =
     let P : Timeout → Type 0 = λ t. t.deadline ≤ moment + span (a ∷ arms) in
     let more = span-cons a arms in
     All-cons P (record { item = a.item; queue = a.queue; deadline = moment + a.delta }) (timeouts_after (moment + a.delta) arms)
-    (omega arith) (All-weaker (λ t. t.deadline ≤ moment + a.delta + span arms) P (λ t h. omega arith) (timeouts_after (moment + a.delta) arms) (upto_span (moment + a.delta) arms))
+    (omega arith) (All-weaker (λ t. t.deadline ≤ moment + a.delta + span arms) P (λ t h. omega arith)
+    (timeouts_after (moment + a.delta) arms) (upto_span (moment + a.delta) arms))
 
 pub Ascends-timeouts : (moment : ℕ) (arms : List Arm) → Ascends (λ t. t.deadline) (timeouts_after moment arms)
 Ascends-timeouts moment [] = tt
@@ -57,15 +61,18 @@ length-timeouts moment (a ∷ arms) = ap suc (length-timeouts (moment + a.delta)
 pub length-live : (arms : List Arm) → length (live_of arms) ≡ length arms
 length-live arms = length-timeouts 0 (reverse arms) ∙ length-reverse arms
 
-list_any-timeouts : (item moment : ℕ) (arms : List Arm) → list_any (is_of item) (timeouts_after moment arms) ≡ list_any (is_arm_of item) arms
+list_any-timeouts : (item moment : ℕ) (arms : List Arm) →
+    list_any (is_of item) (timeouts_after moment arms) ≡ list_any (is_arm_of item) arms
 list_any-timeouts item moment [] = refl
 list_any-timeouts item moment (a ∷ arms) = ap (λ b. is_arm_of item a || b) (list_any-timeouts item (moment + a.delta) arms)
 
 pub list_any-live : (item : ℕ) (arms : List Arm) → list_any (is_of item) (live_of arms) ≡ list_any (is_arm_of item) arms
-list_any-live item arms = list_any-timeouts item 0 (reverse arms) ∙ sym (list_any-IsPermutation (is_arm_of item) arms (reverse arms) (IsPermutation-reverse arms))
+list_any-live item arms = list_any-timeouts item 0 (reverse arms)
+    ∙ sym (list_any-IsPermutation (is_arm_of item) arms (reverse arms) (IsPermutation-reverse arms))
 
 -- a first delta that counts from earlier
-pub timeouts-longer : (moment by : ℕ) (arms : List Arm) → timeouts_after moment (longer by arms) ≡ timeouts_after (moment + by) arms
+pub timeouts-longer : (moment by : ℕ) (arms : List Arm) →
+    timeouts_after moment (longer by arms) ≡ timeouts_after (moment + by) arms
 timeouts-longer moment by [] = refl
 timeouts-longer moment by (a ∷ arms) =
     let same : moment + (a.delta + by) ≡ moment + by + a.delta = omega arith in
@@ -77,19 +84,22 @@ FirstAbove by [] = Unit {0}
 FirstAbove by (a ∷ arms) = by < a.delta
 
 -- a first delta that counts from later
-pub timeouts-shorter : (moment by : ℕ) (arms : List Arm) → FirstAbove by arms → timeouts_after (moment + by) (shorter by arms) ≡ timeouts_after moment arms
+pub timeouts-shorter : (moment by : ℕ) (arms : List Arm) → FirstAbove by arms →
+    timeouts_after (moment + by) (shorter by arms) ≡ timeouts_after moment arms
 timeouts-shorter moment by [] above = refl
 timeouts-shorter moment by (a ∷ arms) above =
     let same : moment + by + (a.delta - by) ≡ moment + a.delta = omega arith in
     ap (λ (n : ℕ). let t : Timeout = record { item = a.item; queue = a.queue; deadline = n } in t ∷ timeouts_after n arms) same
 
 -- all of them expire after it
-pub all_above : (moment by : ℕ) (arms : List Arm) → FirstAbove by arms → All (λ t. moment + by < t.deadline) (timeouts_after moment arms)
+pub all_above : (moment by : ℕ) (arms : List Arm) → FirstAbove by arms →
+    All (λ t. moment + by < t.deadline) (timeouts_after moment arms)
 all_above moment by [] above = All-nil (λ (t : Timeout). moment + by < t.deadline)
 all_above moment by (a ∷ arms) above =
     let P : Timeout → Type 0 = λ t. moment + by < t.deadline in
     All-cons P (record { item = a.item; queue = a.queue; deadline = moment + a.delta }) (timeouts_after (moment + a.delta) arms)
-    (omega arith) (All-weaker (λ t. moment + a.delta ≤ t.deadline) P (λ t h. omega arith) (timeouts_after (moment + a.delta) arms) (from_moment (moment + a.delta) arms))
+    (omega arith) (All-weaker (λ t. moment + a.delta ≤ t.deadline) P (λ t h. omega arith)
+    (timeouts_after (moment + a.delta) arms) (from_moment (moment + a.delta) arms))
 
 pub span-longer : (by : ℕ) (arms : List Arm) → span (longer by arms) ≤ span arms + by
 span-longer by [] = omega arith
@@ -99,11 +109,17 @@ span-longer by (a ∷ arms) = omega (arith, span-cons a arms, span-cons (record 
 pub reverse-parts : (index : ℕ) (arms : List Arm) → reverse arms ≡ earlier index arms ++ later index arms
 reverse-parts index arms = ap reverse (sym (take-append-drop index arms)) ∙ reverse-append (take index arms) (drop index arms)
 
-pub live-parts : (index : ℕ) (arms : List Arm) → live_of arms ≡ timeouts_after 0 (earlier index arms) ++ timeouts_after (span (earlier index arms)) (later index arms)
-live-parts index arms = ap (timeouts_after 0) (reverse-parts index arms) ∙ timeouts-append 0 (earlier index arms) (later index arms) ∙ at where
-  at : timeouts_after 0 (earlier index arms) ++ timeouts_after (0 + span (earlier index arms)) (later index arms) ≡ timeouts_after 0 (earlier index arms) ++ timeouts_after (span (earlier index arms)) (later index arms)
-  at = let same : 0 + span (earlier index arms) ≡ span (earlier index arms) = omega arith in ap (λ (n : ℕ). timeouts_after 0 (earlier index arms) ++ timeouts_after n (later index arms)) same
+pub live-parts : (index : ℕ) (arms : List Arm) →
+    live_of arms ≡ timeouts_after 0 (earlier index arms) ++ timeouts_after (span (earlier index arms)) (later index arms)
+live-parts index arms = ap (timeouts_after 0) (reverse-parts index arms)
+    ∙ timeouts-append 0 (earlier index arms) (later index arms) ∙ at where
+      at : timeouts_after 0 (earlier index arms) ++ timeouts_after (0 + span (earlier index arms)) (later index arms)
+          ≡ timeouts_after 0 (earlier index arms) ++ timeouts_after (span (earlier index arms)) (later index arms)
+      at = let same : 0 + span (earlier index arms) ≡ span (earlier index arms) = omega arith in
+          ap (λ (n : ℕ). timeouts_after 0 (earlier index arms) ++ timeouts_after n (later index arms)) same
 
 -- the arms in front of a place, one more
-pub later_first : (index : ℕ) (arms : List Arm) (d : Arm) → index < length arms → later (index + 1) arms ≡ get_or arms index d ∷ later index arms
-later_first index arms d within = ap reverse (take_more arms index d within) ∙ reverse-append (take index arms) (get_or arms index d ∷ [])
+pub later_first : (index : ℕ) (arms : List Arm) (d : Arm) → index < length arms →
+    later (index + 1) arms ≡ get_or arms index d ∷ later index arms
+later_first index arms d within = ap reverse (take_more arms index d within)
+    ∙ reverse-append (take index arms) (get_or arms index d ∷ [])

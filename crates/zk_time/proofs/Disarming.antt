@@ -28,10 +28,11 @@ first_within p (a ∷ arms) = at (p a) (position_or_len p arms) (length arms) (l
 
 -- there is a place where the item is armed
 pub is_some-place : (item : ℕ) (arms : List Arm) → is_some (position (is_arm_of item) arms) ≡ list_any (is_of item) (live_of arms)
-is_some-place item arms = at (ltb (position_or_len (is_arm_of item) arms) (length arms)) ∙ first_within (is_arm_of item) arms ∙ sym (list_any-live item arms) where
-  at : (b : Bool) → is_some (cond b (Some (position_or_len (is_arm_of item) arms)) None) ≡ b
-  at true = refl
-  at false = refl
+is_some-place item arms = at (ltb (position_or_len (is_arm_of item) arms) (length arms))
+    ∙ first_within (is_arm_of item) arms ∙ sym (list_any-live item arms) where
+      at : (b : Bool) → is_some (cond b (Some (position_or_len (is_arm_of item) arms)) None) ≡ b
+      at true = refl
+      at false = refl
 
 -- an arm is taken out: the arms before and after, the next to expire first
 pub record Takes (items : ℕ) (arms after : List Arm) (t : Timeouts) (front : List Arm) (a : Arm) (back : List Arm) : Type 0 where
@@ -63,7 +64,8 @@ filter_absent item (x ∷ xs) none =
     ∙ ap (λ (l : List Timeout). x ∷ l) (filter_absent item xs parts.1)
 
 -- the others stay
-filter_around : (xs : List Timeout) (x : Timeout) (ys : List Timeout) → Differ (xs ++ x ∷ ys) → filter (λ a. not (is_of x.item a)) (xs ++ x ∷ ys) ≡ xs ++ ys
+filter_around : (xs : List Timeout) (x : Timeout) (ys : List Timeout) → Differ (xs ++ x ∷ ys) →
+    filter (λ a. not (is_of x.item a)) (xs ++ x ∷ ys) ≡ xs ++ ys
 filter_around xs x ys differ =
     let p : Timeout → Bool = λ a. not (is_of x.item a) in
     let around = Differ-around xs x ys differ in
@@ -72,26 +74,33 @@ filter_around xs x ys differ =
     ∙ ap (λ (l : List Timeout). l ++ filter p ys) (filter_absent x.item xs around.0)
     ∙ ap (λ (l : List Timeout). xs ++ l) (filter_absent x.item ys around.1)
 
-pub takes_live : (items : ℕ) (arms after : List Arm) (t : Timeouts) (front : List Arm) (a : Arm) (back : List Arm) → Takes items arms after t front a back →
+pub takes_live : (items : ℕ) (arms after : List Arm) (t : Timeouts) (front : List Arm) (a : Arm) (back : List Arm) →
+    Takes items arms after t front a back →
     live_of after ≡ filter (λ b. not (is_of a.item b)) (live_of arms)
 takes_live items arms after t front a back k =
     let was = before_live arms front a back k.before in
     after_live after front a back k.behind
-    ∙ sym (filter_around (timeouts_after 0 front) (said front a) (timeouts_after (0 + span front + a.delta) back) (subst Differ was k.kept.differ))
+    ∙ sym (filter_around (timeouts_after 0 front) (said front a) (timeouts_after (0 + span front + a.delta) back)
+    (subst Differ was k.kept.differ))
     ∙ ap (filter (λ b. not (is_of a.item b))) (sym was)
 
-pub takes_next : (items : ℕ) (arms after : List Arm) (t : Timeouts) (front : List Arm) (a : Arm) (back : List Arm) → Takes items arms after t front a back →
+pub takes_next : (items : ℕ) (arms after : List Arm) (t : Timeouts) (front : List Arm) (a : Arm) (back : List Arm) →
+    Takes items arms after t front a back →
     seen_of items after ≡ disarm t a.item
 takes_next items arms after t front a back k =
-    ap (λ (l : List Timeout). let s : Timeouts = record { items = items; live = l } in s) (takes_live items arms after t front a back k)
+    ap (λ (l : List Timeout). let s : Timeouts = record { items = items; live = l } in
+    s) (takes_live items arms after t front a back k)
     ∙ ap (λ (t : Timeouts). disarm t a.item) k.view
 
-pub takes_ordered : (items : ℕ) (arms after : List Arm) (t : Timeouts) (front : List Arm) (a : Arm) (back : List Arm) → Takes items arms after t front a back → IsOrdered (seen_of items after)
+pub takes_ordered : (items : ℕ) (arms after : List Arm) (t : Timeouts) (front : List Arm) (a : Arm) (back : List Arm) →
+    Takes items arms after t front a back → IsOrdered (seen_of items after)
 takes_ordered items arms after t front a back k =
-    subst IsOrdered (sym (takes_next items arms after t front a back k)) (IsOrdered-disarm t a.item (ordered items arms t k.view k.kept))
+    subst IsOrdered (sym (takes_next items arms after t front a back k))
+    (IsOrdered-disarm t a.item (ordered items arms t k.view k.kept))
 
 -- all is kept
-pub takes_kept : (items : ℕ) (arms after : List Arm) (t : Timeouts) (front : List Arm) (a : Arm) (back : List Arm) → Takes items arms after t front a back → IsKept items after
+pub takes_kept : (items : ℕ) (arms after : List Arm) (t : Timeouts) (front : List Arm) (a : Arm) (back : List Arm) →
+    Takes items arms after t front a back → IsKept items after
 takes_kept items arms after t front a back k =
     let o = takes_ordered items arms after t front a back k in
     let small = k.kept.fits in
@@ -100,14 +109,17 @@ takes_kept items arms after t front a back k =
     record { fits = omega (arith, was, now, span-cons a back, span-longer a.delta back); differ = o.differ; within = o.within }
 
 -- the arms around a place
-pub around_place : (arms : List Arm) (index : ℕ) (a : Arm) → index < length arms → a ≡ get_or arms index a → reverse arms ≡ earlier (index + 1) arms ++ a ∷ later index arms
+pub around_place : (arms : List Arm) (index : ℕ) (a : Arm) → index < length arms → a ≡ get_or arms index a →
+    reverse arms ≡ earlier (index + 1) arms ++ a ∷ later index arms
 around_place arms index a within here =
     reverse-parts (index + 1) arms ∙ ap (λ (l : List Arm). earlier (index + 1) arms ++ l) (later_first index arms a within)
     ∙ ap (λ (b : Arm). earlier (index + 1) arms ++ b ∷ later index arms) (sym here)
 
 -- an arm taken out at a place, and the one in front of the place made longer
 pub around_removed : (arms after : List Arm) (index by : ℕ) → index < length arms →
-    earlier index after ≡ earlier index (remove arms index) → later index after ≡ longer by (later index (remove arms index)) → reverse after ≡ earlier (index + 1) arms ++ longer by (later index arms)
+    earlier index after ≡ earlier index (remove arms index) →
+    later index after ≡ longer by (later index (remove arms index)) →
+    reverse after ≡ earlier (index + 1) arms ++ longer by (later index arms)
 around_removed arms after index by within same more =
     let long : length (take index arms) ≡ index = length-take-le index arms (omega arith) in
     let next : suc index ≡ index + 1 = omega arith in
@@ -115,18 +127,24 @@ around_removed arms after index by within same more =
     ∙ ap (λ (l : List Arm). reverse l ++ later index after) (drop_at (take index arms) (drop (suc index) arms) index long)
     ∙ ap (λ (n : ℕ). earlier n arms ++ later index after) next
     ∙ ap (λ (l : List Arm). earlier (index + 1) arms ++ l) more
-    ∙ ap (λ (l : List Arm). earlier (index + 1) arms ++ longer by (reverse l)) (take_at (take index arms) (drop (suc index) arms) index long)
+    ∙ ap (λ (l : List Arm). earlier (index + 1) arms ++ longer by (reverse l))
+    (take_at (take index arms) (drop (suc index) arms) index long)
 
 -- an item that isn't armed
-pub disarms_none : (items : ℕ) (arms : List Arm) (t : Timeouts) (item : ℕ) → seen_of items arms ≡ t → position (is_arm_of item) arms ≡ None → (is_armed t item ≡ false) × (disarm t item ≡ t)
+pub disarms_none : (items : ℕ) (arms : List Arm) (t : Timeouts) (item : ℕ) → seen_of items arms ≡ t →
+    position (is_arm_of item) arms ≡ None → (is_armed t item ≡ false) × (disarm t item ≡ t)
 disarms_none items arms t item view none =
     let absent = sym (is_some-place item arms) ∙ ap is_some none in
-    let made : (is_armed (seen_of items arms) item ≡ false) × (disarm (seen_of items arms) item ≡ seen_of items arms) =
-    (absent, ap (λ (l : List Timeout). let s : Timeouts = record { items = items; live = l } in s) (filter_absent item (live_of arms) absent)) in
+    let made : (is_armed (seen_of items arms) item ≡ false) × (disarm (seen_of items arms) item ≡ seen_of items arms) = (
+      absent,
+      ap (λ (l : List Timeout). let s : Timeouts = record { items = items; live = l } in
+          s) (filter_absent item (live_of arms) absent),
+    ) in
     subst (λ (t : Timeouts). (is_armed t item ≡ false) × (disarm t item ≡ t)) view made
 
 -- an item that is armed, at this place
-pub disarms_some : (items : ℕ) (arms : List Arm) (t : Timeouts) (item index : ℕ) (a : Arm) → seen_of items arms ≡ t → position (is_arm_of item) arms ≡ Some index → a ≡ get_or arms index a →
+pub disarms_some : (items : ℕ) (arms : List Arm) (t : Timeouts) (item index : ℕ) (a : Arm) → seen_of items arms ≡ t →
+    position (is_arm_of item) arms ≡ Some index → a ≡ get_or arms index a →
     (index < length arms) × (a.item ≡ item) × (is_armed t item ≡ true)
 disarms_some items arms t item index a view found here =
     let at = position-Some (is_arm_of item) arms index a found in
@@ -136,22 +154,27 @@ disarms_some items arms t item index a view found here =
 -- The first expires.
 
 -- the arm that expires next is kept last
-pub last_first : (arms : List Arm) (a : Arm) → slice_get arms (length arms - 1) ≡ Some a → reverse arms ≡ a ∷ later (length arms - 1) arms
+pub last_first : (arms : List Arm) (a : Arm) → slice_get arms (length arms - 1) ≡ Some a →
+    reverse arms ≡ a ∷ later (length arms - 1) arms
 last_first arms a last =
     let index = length arms - 1 in
     let within = slice_get_within arms index a last in
     let here = sym (get_or_from_slice_get arms index a a last) in
-    around_place arms index a within here ∙ ap (λ (l : List Arm). reverse l ++ a ∷ later index arms) (drop_all (index + 1) arms (omega arith))
+    around_place arms index a within here
+    ∙ ap (λ (l : List Arm). reverse l ++ a ∷ later index arms) (drop_all (index + 1) arms (omega arith))
 
 -- it is taken out
-pub takes_last : (items : ℕ) (arms popped after : List Arm) (t : Timeouts) (a : Arm) (index : ℕ) → seen_of items arms ≡ t → IsKept items arms → slice_get arms (length arms - 1) ≡ Some a →
-    popped ≡ take index arms → index ≡ length arms - 1 → earlier index after ≡ earlier index popped → later index after ≡ longer a.delta (later index popped) →
+pub takes_last : (items : ℕ) (arms popped after : List Arm) (t : Timeouts) (a : Arm) (index : ℕ) →
+    seen_of items arms ≡ t → IsKept items arms → slice_get arms (length arms - 1) ≡ Some a →
+    popped ≡ take index arms → index ≡ length arms - 1 → earlier index after ≡ earlier index popped →
+    later index after ≡ longer a.delta (later index popped) →
     Takes items arms after t [] a (later (length arms - 1) arms)
 takes_last items arms popped after t a index view kept last front at same more =
     let within : index ≤ length arms = omega arith in
     let long : length (take index arms) ≡ index = length-take-le index arms within in
     let none = same ∙ ap (earlier index) front ∙ ap reverse (drop_all index (take index arms) (omega arith)) in
-    let rest = more ∙ ap (λ (l : List Arm). longer a.delta (later index l)) front ∙ ap (λ (l : List Arm). longer a.delta (reverse l)) (take_all index (take index arms) (omega arith))
+    let rest = more ∙ ap (λ (l : List Arm). longer a.delta (later index l)) front
+    ∙ ap (λ (l : List Arm). longer a.delta (reverse l)) (take_all index (take index arms) (omega arith))
     ∙ ap (λ (n : ℕ). longer a.delta (later n arms)) at in
     record {
       view = view;

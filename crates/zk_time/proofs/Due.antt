@@ -11,21 +11,26 @@ use Rattle.zk_time.specs.Timeouts.{is_of, is_due, due_first, due_rest, Differ}
 use Rattle.zk_time.proofs.Disarming.{filter_absent}
 
 -- it is the first of those that have expired
-pub due_first-filter : (now : ℕ) (live : List Timeout) → Ascends (λ a. a.deadline) live → due_first now live ≡ slice_get (filter (is_due now) live) 0
+pub due_first-filter : (now : ℕ) (live : List Timeout) → Ascends (λ a. a.deadline) live →
+    due_first now live ≡ slice_get (filter (is_due now) live) 0
 due_first-filter now [] up = refl
 due_first-filter now (t ∷ rest) up = by (cases_Bool (is_due now t)) where
-  by : ((is_due now t ≡ true) ⊎ (is_due now t ≡ false)) → cond (is_due now t) (Some t) None ≡ slice_get (filter (is_due now) (t ∷ rest)) 0
-  by (inl due) = ap (λ b. cond b (Some t) None) due ∙ sym (ap (λ b. slice_get (cond b (t ∷ filter (is_due now) rest) (filter (is_due now) rest)) 0) due)
+  by : ((is_due now t ≡ true) ⊎ (is_due now t ≡ false)) →
+      cond (is_due now t) (Some t) None ≡ slice_get (filter (is_due now) (t ∷ rest)) 0
+  by (inl due) = ap (λ b. cond b (Some t) None) due
+      ∙ sym (ap (λ b. slice_get (cond b (t ∷ filter (is_due now) rest) (filter (is_due now) rest)) 0) due)
   by (inr early) =
       let none = filter-upto_none (λ (a : Timeout). a.deadline) now t rest up (leb-false t.deadline now early) in
       ap (λ b. cond b (Some t) None) early ∙ sym (ap (λ (l : List Timeout). slice_get l 0) none)
 
 -- without it the others stay
-pub due_rest-some : (now : ℕ) (live : List Timeout) (t : Timeout) → Differ live → due_first now live ≡ Some t → due_rest now live ≡ filter (λ a. not (is_of t.item a)) live
+pub due_rest-some : (now : ℕ) (live : List Timeout) (t : Timeout) → Differ live → due_first now live ≡ Some t →
+    due_rest now live ≡ filter (λ a. not (is_of t.item a)) live
 due_rest-some now [] t differ first = absurd (cc)
 due_rest-some now (a ∷ rest) t differ first = by (is_due now a) first where
   kept : rest ≡ filter (λ b. not (is_of a.item b)) (a ∷ rest)
-  kept = sym (ap (λ b. cond (not b) (a ∷ filter (λ b. not (is_of a.item b)) rest) (filter (λ b. not (is_of a.item b)) rest)) (eq-eqb a.item a.item refl) ∙ filter_absent a.item rest differ.0)
+  kept = sym (ap (λ b. cond (not b) (a ∷ filter (λ b. not (is_of a.item b)) rest)
+      (filter (λ b. not (is_of a.item b)) rest)) (eq-eqb a.item a.item refl) ∙ filter_absent a.item rest differ.0)
 
   by : (b : Bool) → cond b (Some a) None ≡ Some t → cond b rest (a ∷ rest) ≡ filter (λ b. not (is_of t.item b)) (a ∷ rest)
   by true is = let same : a ≡ t = cc in kept ∙ ap (λ (t : Timeout). filter (λ b. not (is_of t.item b)) (a ∷ rest)) same

@@ -30,7 +30,8 @@ Differ-filter p (x ∷ xs) differ = at (p x) (Differ-filter p xs differ.1) where
   at true rest = (list_any-filter_none (is_of x.item) p xs differ.0, rest)
   at false rest = rest
 
-pub Differ-put_by : (key : Timeout → ℕ) (x : Timeout) (xs : List Timeout) → Differ xs → list_any (is_of x.item) xs ≡ false → Differ (put_by key x xs)
+pub Differ-put_by : (key : Timeout → ℕ) (x : Timeout) (xs : List Timeout) → Differ xs →
+    list_any (is_of x.item) xs ≡ false → Differ (put_by key x xs)
 Differ-put_by key x [] differ free = (refl, tt)
 Differ-put_by key x (y ∷ ys) differ free = at (ltb (key x) (key y)) (Differ-put_by key x ys differ.1 parts.1) where
   parts : (is_of x.item y ≡ false) × (list_any (is_of x.item) ys ≡ false)
@@ -38,24 +39,37 @@ Differ-put_by key x (y ∷ ys) differ free = at (ltb (key x) (key y)) (Differ-pu
 
   at : (b : Bool) → Differ (put_by key x ys) → Differ (cond b (x ∷ y ∷ ys) (y ∷ put_by key x ys))
   at true rest = (free, differ)
-  at false rest = (list_any-put_by (is_of y.item) key x ys ∙ or_from (is_of y.item x) (list_any (is_of y.item) ys) (eqb-false_swap y.item x.item parts.0) differ.0, rest)
+  at false rest = (
+    list_any-put_by (is_of y.item) key x ys
+        ∙ or_from (is_of y.item x) (list_any (is_of y.item) ys) (eqb-false_swap y.item x.item parts.0) differ.0,
+    rest,
+  )
 
 -- around a timeout there is no other of its item
-pub Differ-around : (xs : List Timeout) (t : Timeout) (ys : List Timeout) → Differ (xs ++ t ∷ ys) → (list_any (is_of t.item) xs ≡ false) × (list_any (is_of t.item) ys ≡ false)
+pub Differ-around : (xs : List Timeout) (t : Timeout) (ys : List Timeout) → Differ (xs ++ t ∷ ys) →
+    (list_any (is_of t.item) xs ≡ false) × (list_any (is_of t.item) ys ≡ false)
 Differ-around [] t ys differ = (refl, differ.0)
 Differ-around (x ∷ xs) t ys differ =
-    let rest = Differ-around xs t ys differ.1 in
-    (or_from (is_of t.item x) (list_any (is_of t.item) xs) (eqb-false_swap t.item x.item (there xs differ.0)) rest.0, rest.1) where
+    let rest = Differ-around xs t ys differ.1 in (
+      or_from (is_of t.item x) (list_any (is_of t.item) xs) (eqb-false_swap t.item x.item (there xs differ.0)) rest.0,
+      rest.1,
+    ) where
       there : (xs : List Timeout) → list_any (is_of x.item) (xs ++ t ∷ ys) ≡ false → is_of x.item t ≡ false
       there [] none = (or_parts (is_of x.item t) (list_any (is_of x.item) ys) none).0
       there (z ∷ zs) none = there zs (or_parts (is_of x.item z) (list_any (is_of x.item) (zs ++ t ∷ ys)) none).1
 
 -- before the first arm
 pub IsOrdered-nothing : (items : ℕ) → IsOrdered (nothing_armed items)
-IsOrdered-nothing items = record { ascends = tt; differ = tt; within = All-nil (λ (a : Timeout). a.item < items); fits = All-nil (λ (a : Timeout). a.deadline < 2 ^ 64) }
+IsOrdered-nothing items = record {
+  ascends = tt;
+  differ = tt;
+  within = All-nil (λ (a : Timeout). a.item < items);
+  fits = All-nil (λ (a : Timeout). a.deadline < 2 ^ 64);
+}
 
 -- an item that isn't armed yet is
-pub IsOrdered-arm : (t : Timeouts) (item queue deadline : ℕ) → IsOrdered t → item < t.items → is_armed t item ≡ false → deadline < 2 ^ 64 → IsOrdered (arm t item queue deadline)
+pub IsOrdered-arm : (t : Timeouts) (item queue deadline : ℕ) → IsOrdered t → item < t.items → is_armed t item ≡ false →
+    deadline < 2 ^ 64 → IsOrdered (arm t item queue deadline)
 IsOrdered-arm t item queue deadline o inside free small =
     let key : Timeout → ℕ = λ a. a.deadline in
     let x : Timeout = record { item = item; queue = queue; deadline = deadline } in
@@ -80,7 +94,8 @@ IsOrdered-disarm t item o =
 -- the first expires
 pub IsOrdered-due : (t : Timeouts) (now : ℕ) → IsOrdered t → IsOrdered (drop_due t now)
 IsOrdered-due t now o = by t.live o.ascends o.differ o.within o.fits where
-  by : (live : List Timeout) → Ascends (λ a. a.deadline) live → Differ live → All (λ a. a.item < t.items) live → All (λ a. a.deadline < 2 ^ 64) live →
+  by : (live : List Timeout) → Ascends (λ a. a.deadline) live → Differ live → All (λ a. a.item < t.items) live →
+      All (λ a. a.deadline < 2 ^ 64) live →
       IsOrdered (record { items = t.items; live = due_rest now live })
   by [] ascends differ within fits = record { ascends = ascends; differ = differ; within = within; fits = fits }
   by (a ∷ rest) ascends differ within fits = at (is_due now a) where

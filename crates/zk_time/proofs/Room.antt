@@ -28,7 +28,8 @@ ordered items arms t view kept =
     } in
     subst IsOrdered view made
 
-apart : (item : ℕ) (xs : List Timeout) → list_any (is_of item) xs ≡ false → AllByRecursion (λ y. eqb item y ≡ false) (map (λ t. t.item) xs)
+apart : (item : ℕ) (xs : List Timeout) → list_any (is_of item) xs ≡ false →
+    AllByRecursion (λ y. eqb item y ≡ false) (map (λ t. t.item) xs)
 apart item [] none = tt
 apart item (x ∷ xs) none =
     let parts = or_parts (is_of item x) (list_any (is_of item) xs) none in
@@ -39,12 +40,14 @@ apart item (x ∷ xs) none =
 distinct : (xs : List Timeout) → Differ xs → IsDistinct eqb (map (λ t. t.item) xs)
 unfolding IsDistinct
 distinct [] differ = tt
-distinct (x ∷ xs) differ = IsDistinct-cons eqb x.item (map (λ (t : Timeout). t.item) xs) (apart x.item xs differ.0) (distinct xs differ.1)
+distinct (x ∷ xs) differ = IsDistinct-cons eqb x.item (map (λ (t : Timeout). t.item) xs) (apart x.item xs differ.0)
+    (distinct xs differ.1)
 
 below : (n : ℕ) (xs : List Timeout) → All (λ t. t.item < n) xs → (q : ℕ) → list_any (eqb q) (map (λ t. t.item) xs) ≡ true → q < n
 below n [] all q some = absurd (cc)
 below n (x ∷ xs) all q some = at (eqb q x.item) refl some (below n xs (All-tail (λ (t : Timeout). t.item < n) x xs all) q) where
-  at : (b : Bool) → eqb q x.item ≡ b → (b || list_any (eqb q) (map (λ t. t.item) xs)) ≡ true → (list_any (eqb q) (map (λ t. t.item) xs) ≡ true → q < n) → q < n
+  at : (b : Bool) → eqb q x.item ≡ b → (b || list_any (eqb q) (map (λ t. t.item) xs)) ≡ true →
+      (list_any (eqb q) (map (λ t. t.item) xs) ≡ true → q < n) → q < n
   at true is some rest =
       let head = All-head (λ (t : Timeout). t.item < n) x xs all in
       let same = eqb-true q x.item is in
@@ -58,10 +61,12 @@ length_fits n xs differ all =
     omega (arith, length-map xs (λ (t : Timeout). t.item))
 
 -- there is room for one that isn't armed
-pub fits_more : (items : ℕ) (arms : List Arm) (t : Timeouts) (item : ℕ) → seen_of items arms ≡ t → IsKept items arms → item < t.items → is_armed t item ≡ false → length arms < items
+pub fits_more : (items : ℕ) (arms : List Arm) (t : Timeouts) (item : ℕ) → seen_of items arms ≡ t → IsKept items arms →
+    item < t.items → is_armed t item ≡ false → length arms < items
 fits_more items arms t item view kept inside free =
     let small = ap (λ (t : Timeouts). t.items) view in
     let none = ap (λ (t : Timeouts). list_any (is_of item) t.live) view ∙ free in
     let x : Timeout = record { item = item; queue = 0; deadline = 0 } in
-    let more = length_fits items (x ∷ live_of arms) (none, kept.differ) (All-cons (λ (t : Timeout). t.item < items) x (live_of arms) (omega arith) kept.within) in
+    let more = length_fits items (x ∷ live_of arms) (none, kept.differ)
+    (All-cons (λ (t : Timeout). t.item < items) x (live_of arms) (omega arith) kept.within) in
     omega (arith, length-live arms)

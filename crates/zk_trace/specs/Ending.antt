@@ -21,9 +21,10 @@ abbrev pub is_spent_state : PlayerState → Bool
 is_spent_state states.Spent = true
 is_spent_state state = false
 
--- whether a thread is through its script, or a worker between two runs
+-- whether a thread is through its script or was ended by an oops, or a worker is between two runs
 abbrev pub is_done_state : PlayerState → Bool
 is_done_state states.Done = true
+is_done_state states.Oops = true
 is_done_state state = false
 
 -- no admission waits

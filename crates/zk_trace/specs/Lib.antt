@@ -12,7 +12,7 @@ pub mod Obs
 pub mod Looks
 pub mod Looked
 pub mod Text
-pub mod Fronts
+pub use Rattle.zk_base.specs.Fronts
 pub mod Shown
 pub mod Place
 pub mod History

@@ -102,5 +102,6 @@ call_word word = (call_row word).first
 -- how a player stands
 abbrev pub state_word : PlayerState → List ℕ
 state_word states.Spent = codes "spent"
+state_word states.Oops = codes "oops"
 state_word states.Done = codes "done"
 state_word states.Standing = codes "open"

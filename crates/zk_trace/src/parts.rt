@@ -7,14 +7,14 @@ ghost use Rattle.zk_trace.specs.Parts.{fixed_word, part_word, answer_part, each_
 use crate::looks::put_seen;
 use crate::names::{checked_name, item_name, name_at, put_names, queue_name, target_name};
 use crate::words::{
-    errno_word, need_word, put_admission, put_flags, put_hex, put_oops, put_ready, truth_word,
+    errno_word, need_word, put_admission, put_flags, put_oops, put_ready, truth_word,
     wait_word,
 };
 use std::marker::Model;
 use zk_base::{Errno, Few, Msg, NoMemory, put, put_decimal};
 use zk_model_bus::{Need, OopsWhy};
 use zk_scenario::Scenario;
-use zk_words::{Choice, choice_text};
+use zk_words::{Choice, choice_text, put_hex};
 use zk_worker::{Answer, Positions};
 
 /// A word of an operation behind its verb, or a word of a reply.

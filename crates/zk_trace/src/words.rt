@@ -2,7 +2,6 @@ ghost use Rattle.std.specs.Prelude.{◌≡◌, ◌++◌, ◌==◌, ◌<◌, deci
 ghost use Rattle.std.specs.Int.RustNames.{bit_and};
 ghost use Rattle.zk_trace.specs.Fronts.{StaysInFront};
 ghost use Rattle.zk_trace.specs.Words.{ending_word, errno_word, need_word, why_word, oops_word, admission_word, flag_letter, flag_letters, flags_word, truth_word, wait_word, position_text, positions_text, ready_word, call_word, state_word};
-ghost use Rattle.zk_words.specs.Hex.{digit_of, hex_text};
 
 use crate::Ending;
 use zk_base::{Errno, NoMemory, put, put_decimal};
@@ -130,17 +129,6 @@ pub fn wait_word(waits: bool) -> &'static [u8]
     if waits { b"wait" } else { b"no" }
 }
 
-/// Appends bytes in lower-case hexadecimal digits, two for each.
-pub fn put_hex(out: &mut Vec<u8>, bytes: &[u8]) -> Result<(), NoMemory>
-    ensures text { OnOk result (out.new.items ≡ out.old.items ++ hex_text bytes.now) }
-    ensures kept { OnErr result (StaysInFront out.old.items out.new.items) }
-{
-    for byte in bytes {
-        put(out, &[digit_of(*byte / 16), digit_of(*byte % 16)])?;
-    }
-    Ok(())
-}
-
 /// Appends the word `ready` and positions, each behind a space.
 pub fn put_ready(out: &mut Vec<u8>, positions: &[u8]) -> Result<(), NoMemory>
     ensures text { OnOk result (out.new.items ≡ out.old.items ++ ready_word positions.now) }
@@ -168,17 +156,6 @@ fn put_position(out: &mut Vec<u8>, position: u8) -> Result<(), NoMemory>
     put_decimal(out, u64::from(position))
 }
 
-fn digit_of(value: u8) -> u8
-    requires { value < 16 }
-    ensures { result ≡ digit_of value }
-{
-    if value < 10 {
-        value + b'0'
-    } else {
-        value - 10 + b'a'
-    }
-}
-
 /// A call, as it is spelled in a scenario.
 pub fn call_word(word: Word) -> &'static [u8]
     ensures { result.now ≡ call_word word }
@@ -192,6 +169,7 @@ pub fn state_word(state: PlayerState) -> &'static [u8]
 {
     match state {
         PlayerState::Spent => b"spent",
+        PlayerState::Oops => b"oops",
         PlayerState::Done => b"done",
         PlayerState::Standing => b"open",
     }

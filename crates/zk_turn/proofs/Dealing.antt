@@ -42,10 +42,22 @@ module _ {S O R T : Type 0} (legal : T → List (Entry O R) → Type 0) (fits : 
     tickets = refl;
     made = refl;
     each = λ j v there. subst (λ (u : View O R T). SeatStands origin [] 0 0 u) (only j v there).1
-        (record { seen = GoesOn-same ws []; ticket = tt; room = omega arith; player = omega arith; parts = tt; start = λ some_one. refl });
+        (record {
+          seen = GoesOn-same ws [];
+          ticket = tt;
+          room = omega arith;
+          player = omega arith;
+          parts = tt;
+          start = λ some_one. refl;
+        });
     apart = λ i j v w differ first second. absurd (differ ((only i v first).0 ∙ sym (only j w second).0));
     covered = let P : Entry O R → Type 0 = IsCovered (opened origin ws ∷ []) in All-nil P;
-    place = inl (record { service = service; there = refl; fit = fit; free = (λ j v there holds. subst (λ (u : View O R T). HoldsTurn u.stage → ⊥) (only j v there).1 (λ h. h) holds) });
+    place = inl (record {
+      service = service;
+      there = refl;
+      fit = fit;
+      free = (λ j v there holds. subst (λ (u : View O R T). HoldsTurn u.stage → ⊥) (only j v there).1 (λ h. h) holds);
+    });
   } where
     only : (j : ℕ) (v : View O R T) → get_elem? (opened origin ws ∷ []) j ≡ some v → (j ≡ 0) × (opened origin ws ≡ v)
     only zero v there = (refl, some-injective (opened origin ws) v there)
@@ -53,7 +65,8 @@ module _ {S O R T : Type 0} (legal : T → List (Entry O R) → Type 0) (fits : 
 
   -- the first player gets a seat of its own
   pub deals : (origin : T) (count id : ℕ) (start : T) (w : Who) (ws : List Who) → Differ (w ∷ ws) →
-      Splits (Turn legal fits origin count) id (opened start (w ∷ ws)) (dealt_from (opened start (w ∷ ws))) (dealt (opened start (w ∷ ws)))
+      Splits (Turn legal fits origin count) id (opened start (w ∷ ws)) (dealt_from (opened start (w ∷ ws)))
+      (dealt (opened start (w ∷ ws)))
   deals origin count id start w ws differ s r at =
       let v : View O R T = opened start (w ∷ ws) in
       let left : View O R T = opened start ws in
@@ -65,19 +78,23 @@ module _ {S O R T : Type 0} (legal : T → List (Entry O R) → Type 0) (fits : 
       (let sum = sum-set tickets_of s.views id v left at in let more = sum_by_push tickets_of views right in omega arith)
       (let sum = sum-set made_of s.views id v left at in let more = sum_by_push made_of views right in omega arith)
       (λ j u there. ⊎_elim
-      (λ t. ⊎_elim (λ q. subst (λ (x : View O R T). SeatStands origin r.history r.served r.drawn x) q.1 (left_stands ok)) (λ q. r.each j u q.1) (at_set s.views id j left u t))
+      (λ t. ⊎_elim (λ q. subst (λ (x : View O R T). SeatStands origin r.history r.served r.drawn x) q.1 (left_stands ok))
+      (λ q. r.each j u q.1) (at_set s.views id j left u t))
       (λ t. subst (λ (x : View O R T). SeatStands origin r.history r.served r.drawn x) t.1 (right_stands ok))
       (at-push views right u j there))
       (AllApart-push views right
       (AllApart-set s.views id left r.apart (λ j u else there. let was = r.apart id j v u (λ same. else (sym same)) at there in
       record { players = λ n a b. was.players n (or_right (eqb w.number n) (has ws n) a) b; tickets = λ t a b. a }))
       (λ j u there. ⊎_elim
-      (λ q. subst (λ (x : View O R T). AreApart x right) q.1 (record { players = λ n a b. first-apart w ws n differ.0 a b; tickets = λ t a b. a }))
-      (λ q. let was = r.apart id j v u (λ same. q.0 (sym same)) at q.1 in record { players = λ n a b. was.players n (has-first w ws n b) a; tickets = λ t a b. b })
+      (λ q. subst (λ (x : View O R T). AreApart x right) q.1
+      (record { players = λ n a b. first-apart w ws n differ.0 a b; tickets = λ t a b. a }))
+      (λ q. let was = r.apart id j v u (λ same. q.0 (sym same)) at q.1 in
+      record { players = λ n a b. was.players n (has-first w ws n b) a; tickets = λ t a b. b })
       (at_set s.views id j left u there)))
       covers
       (λ free j u there. ⊎_elim
-      (λ t. ⊎_elim (λ q. subst (λ (x : View O R T). HoldsTurn x.stage → ⊥) q.1 (λ h. h)) (λ q. free j u q.1) (at_set s.views id j left u t))
+      (λ t. ⊎_elim (λ q. subst (λ (x : View O R T). HoldsTurn x.stage → ⊥) q.1 (λ h. h)) (λ q. free j u q.1)
+      (at_set s.views id j left u t))
       (λ t. subst (λ (x : View O R T). HoldsTurn x.stage → ⊥) t.1 (λ h. h))
       (at-push views right u j there))
       (λ one. record {
@@ -86,10 +103,13 @@ module _ {S O R T : Type 0} (legal : T → List (Entry O R) → Type 0) (fits : 
         holds = one.holds;
         there =
             at_longer views (right ∷ []) one.place one.view
-            (set_else s.views id one.place left (λ same. subst (λ (x : View O R T). HoldsTurn x.stage → ⊥) (at-same s.views id v one.view at (subst (λ k. get_elem? s.views k ≡ some one.view) same one.there)) (λ h. h) one.holds) ∙ one.there);
+            (set_else s.views id one.place left (λ same. subst (λ (x : View O R T). HoldsTurn x.stage →
+            ⊥) (at-same s.views id v one.view at (subst (λ k. get_elem? s.views k ≡ some one.view) same one.there))
+            (λ h. h) one.holds) ∙ one.there);
       })
     where
-      left_stands : SeatStands origin r.history r.served r.drawn (opened start (w ∷ ws)) → SeatStands origin r.history r.served r.drawn (opened start ws)
+      left_stands : SeatStands origin r.history r.served r.drawn (opened start (w ∷ ws)) →
+          SeatStands origin r.history r.served r.drawn (opened start ws)
       left_stands ok = record {
         seen = GoesOn-fewer (w ∷ ws) ws [] r.history (λ e is. (or_parts (eqb w.number e.who.number) (is_by ws e) is).1) ok.seen;
         ticket = tt;
@@ -99,9 +119,11 @@ module _ {S O R T : Type 0} (legal : T → List (Entry O R) → Type 0) (fits : 
         start = λ some_one. ok.start (omega arith);
       }
 
-      right_stands : SeatStands origin r.history r.served r.drawn (opened start (w ∷ ws)) → SeatStands origin r.history r.served r.drawn (opened start (w ∷ []))
+      right_stands : SeatStands origin r.history r.served r.drawn (opened start (w ∷ ws)) →
+          SeatStands origin r.history r.served r.drawn (opened start (w ∷ []))
       right_stands ok = record {
-        seen = GoesOn-fewer (w ∷ ws) (w ∷ []) [] r.history (λ e is. ap (λ b. b || false) (or_parts (eqb w.number e.who.number) (is_by ws e) is).0) ok.seen;
+        seen = GoesOn-fewer (w ∷ ws) (w ∷ []) [] r.history
+            (λ e is. ap (λ b. b || false) (or_parts (eqb w.number e.who.number) (is_by ws e) is).0) ok.seen;
         ticket = tt;
         room = omega arith;
         player = omega arith;
@@ -109,20 +131,36 @@ module _ {S O R T : Type 0} (legal : T → List (Entry O R) → Type 0) (fits : 
         start = λ some_one. ok.start (omega arith);
       }
 
-      covers : (e : Entry O R) → IsCovered s.views e → IsCovered (set s.views id (opened start ws) ++ opened start (w ∷ []) ∷ []) e
+      covers : (e : Entry O R) → IsCovered s.views e →
+          IsCovered (set s.views id (opened start ws) ++ opened start (w ∷ []) ∷ []) e
       covers e was = which (ℕ_discrete was.place id) where
         which : Dec (was.place ≡ id) → IsCovered (set s.views id (opened start ws) ++ opened start (w ∷ []) ∷ []) e
         which (yes here) =
             let views = set s.views id (opened start ws) in
-            let same = at-same s.views id (opened start (w ∷ ws)) was.view at (subst (λ k. get_elem? s.views k ≡ some was.view) here was.there) in
+            let same = at-same s.views id (opened start (w ∷ ws)) was.view at
+            (subst (λ k. get_elem? s.views k ≡ some was.view) here was.there) in
             ⊎_elim
-            (λ first. record { place = length views; view = opened start (w ∷ []); there = at_last views (opened start (w ∷ [])) (length views) refl; theirs = or_left (eqb w.number e.who.number) false first })
-            (λ other. record { place = id; view = opened start ws; there = at_longer views (opened start (w ∷ []) ∷ []) id (opened start ws) (at-set_there s.views id (opened start (w ∷ ws)) (opened start ws) at); theirs = other })
-            (or_cases (eqb w.number e.who.number) (is_by ws e) (subst (λ (x : View O R T). is_by x.players e ≡ true) (sym same) was.theirs))
+            (λ first. record {
+              place = length views;
+              view = opened start (w ∷ []);
+              there = at_last views (opened start (w ∷ [])) (length views) refl;
+              theirs =
+                  or_left (eqb w.number e.who.number) false first;
+            })
+            (λ other. record {
+              place = id;
+              view = opened start ws;
+              there = at_longer views (opened start (w ∷ []) ∷ []) id (opened start ws)
+                  (at-set_there s.views id (opened start (w ∷ ws)) (opened start ws) at);
+              theirs = other;
+            })
+            (or_cases (eqb w.number e.who.number) (is_by ws e)
+            (subst (λ (x : View O R T). is_by x.players e ≡ true) (sym same) was.theirs))
         which (no else) = record {
           place = was.place;
           view = was.view;
-          there = at_longer (set s.views id (opened start ws)) (opened start (w ∷ []) ∷ []) was.place was.view (set_else s.views id was.place (opened start ws) else ∙ was.there);
+          there = at_longer (set s.views id (opened start ws)) (opened start (w ∷ []) ∷ []) was.place was.view
+              (set_else s.views id was.place (opened start ws) else ∙ was.there);
           theirs = was.theirs;
         }
 
@@ -132,18 +170,38 @@ module _ {S O R T : Type 0} (legal : T → List (Entry O R) → Type 0) (start :
       seat.table_id ≡ c.table.shared.table_id → seat.me ≡ (dealt (opened (start (given_to c)) (w ∷ ws)), []) →
       IsNewPass legal start c w record { seat = seat; who = w; room = 20000; front = 0 }
   dealt_pass w ws seat lawful table knows =
-      let new : IsNewPass legal start c w record { seat = knowing seat (dealt (opened (start (given_to c)) (w ∷ ws)), []); who = w; room = 20000; front = 0 } = record {
-        of_cell = record { table = table; idle = refl; slots = refl; first = ([], refl); room = omega arith; start = refl; front = refl; lawful = lawful };
+      let new : IsNewPass legal start c w record {
+        seat = knowing seat (dealt (opened (start (given_to c)) (w ∷ ws)), []);
+        who = w;
+        room = 20000;
+        front = 0;
+      } = record {
+        of_cell = record {
+          table = table;
+          idle = refl;
+          slots = refl;
+          first = ([], refl);
+          room = omega arith;
+          start = refl;
+          front = refl;
+          lawful = lawful;
+        };
         who = refl;
         players = refl;
         seen = refl;
         holds = refl;
         room = refl;
       } in
-      subst (λ (k : Me (Option S) (View O R T)). IsNewPass legal start c w record { seat = knowing seat k; who = w; room = 20000; front = 0 }) (sym knows) new
+      subst (λ (k : Me (Option S) (View O R T)). IsNewPass legal start c w record {
+        seat = knowing seat k;
+        who = w;
+        room = 20000;
+        front = 0;
+      }) (sym knows) new
 
   -- one more
-  pub AreNewPasses-push : (ws : List Who) (ps : List (Pass S O R T)) (w : Who) (p : Pass S O R T) → AreNewPasses legal start c ws ps → IsNewPass legal start c w p → AreNewPasses legal start c (ws ++ w ∷ []) (ps ++ p ∷ [])
+  pub AreNewPasses-push : (ws : List Who) (ps : List (Pass S O R T)) (w : Who) (p : Pass S O R T) →
+      AreNewPasses legal start c ws ps → IsNewPass legal start c w p → AreNewPasses legal start c (ws ++ w ∷ []) (ps ++ p ∷ [])
   AreNewPasses-push [] [] w p all one = (one, tt)
   AreNewPasses-push [] (q ∷ ps) w p all one = absurd all
   AreNewPasses-push (v ∷ ws) [] w p all one = absurd all
@@ -159,7 +217,8 @@ module _ {S O R T : Type 0} (legal : T → List (Entry O R) → Type 0) (start :
   AreNewPasses-some (v ∷ ws) w all = all
 
   -- the last one less
-  pub AreNewPasses-pop : (ws : List Who) (ps : List (Pass S O R T)) (w : Who) (p : Pass S O R T) → AreNewPasses legal start c (ws ++ w ∷ []) (ps ++ p ∷ []) → AreNewPasses legal start c ws ps × IsNewPass legal start c w p
+  pub AreNewPasses-pop : (ws : List Who) (ps : List (Pass S O R T)) (w : Who) (p : Pass S O R T) →
+      AreNewPasses legal start c (ws ++ w ∷ []) (ps ++ p ∷ []) → AreNewPasses legal start c ws ps × IsNewPass legal start c w p
   AreNewPasses-pop [] [] w p all = (tt, all.0)
   AreNewPasses-pop [] (q ∷ ps) w p all = absurd (AreNewPasses-none ps p all.1)
   AreNewPasses-pop (v ∷ ws) [] w p all = absurd (AreNewPasses-some ws w all.1)

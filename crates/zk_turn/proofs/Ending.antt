@@ -35,51 +35,64 @@ module _ {S O R T : Type 0} (legal : T → List (Entry O R) → Type 0) (fits : 
     pub lawful : legal origin v.seen
     pub mine : own v.players v.seen ≡ v.seen
 
-  ends : (origin : T) (count id : ℕ) (v : View O R T) (s : State (Option S) (View O R T)) (slot : Option S) → Turn legal fits origin count s → get_elem? s.views id ≡ some v → v.stage ≡ Idle → length v.players ≡ count →
+  ends : (origin : T) (count id : ℕ) (v : View O R T) (s : State (Option S) (View O R T)) (slot : Option S) →
+      Turn legal fits origin count s → get_elem? s.views id ≡ some v → v.stage ≡ Idle → length v.players ≡ count →
       ((x : Option S) → get_elem? s.homes 0 ≡ some (some x) → slot ≡ x) → ComesBack origin v slot
-  ends origin count id v s slot r at idle all same = ⊎_elim ended (λ one. absurd (nobody one.place one.view one.there one.holds)) r.place where
-    no_player : (j : ℕ) (u : View O R T) → j ≢ id → get_elem? s.views j ≡ some u → length u.players ≡ 0
-    no_player j u else there = let two = sum-two player_count s.views id j v u (λ e. else (sym e)) at there in let sum = r.players in omega arith
+  ends origin count id v s slot r at idle all same =
+      ⊎_elim ended (λ one. absurd (nobody one.place one.view one.there one.holds)) r.place where
+        no_player : (j : ℕ) (u : View O R T) → j ≢ id → get_elem? s.views j ≡ some u → length u.players ≡ 0
+        no_player j u else there = let two = sum-two player_count s.views id j v u (λ e. else (sym e)) at there in
+            let sum = r.players in omega arith
 
-    nobody : (j : ℕ) (u : View O R T) → get_elem? s.views j ≡ some u → HoldsTurn u.stage → ⊥
-    nobody j u there holds = which (ℕ_discrete j id) where
-      which : Dec (j ≡ id) → ⊥
-      which (yes here) = subst HoldsTurn (ap (λ (x : View O R T). x.stage) (at-same s.views id u v (subst (λ k. get_elem? s.views k ≡ some u) here there) at) ∙ idle) holds
-      which (no else) = let none = no_player j u else there in let player = (r.each j u there).player in ticketless u.stage (omega arith) holds
+        nobody : (j : ℕ) (u : View O R T) → get_elem? s.views j ≡ some u → HoldsTurn u.stage → ⊥
+        nobody j u there holds = which (ℕ_discrete j id) where
+          which : Dec (j ≡ id) → ⊥
+          which (yes here) = subst HoldsTurn
+              (ap (λ (x : View O R T). x.stage)
+              (at-same s.views id u v (subst (λ k. get_elem? s.views k ≡ some u) here there) at) ∙ idle) holds
+          which (no else) = let none = no_player j u else there in let player = (r.each j u there).player in
+              ticketless u.stage (omega arith) holds
 
-    by_mine : (e : Entry O R) → IsCovered s.views e → is_by v.players e ≡ true
-    by_mine e was = which (ℕ_discrete was.place id) where
-      which : Dec (was.place ≡ id) → is_by v.players e ≡ true
-      which (yes here) = subst (λ (x : View O R T). is_by x.players e ≡ true) (at-same s.views id was.view v (subst (λ k. get_elem? s.views k ≡ some was.view) here was.there) at) was.theirs
-      which (no else) = let none = has-nobody was.view.players e.who.number (no_player was.place was.view else was.there) in let theirs = was.theirs in absurd (cc)
+        by_mine : (e : Entry O R) → IsCovered s.views e → is_by v.players e ≡ true
+        by_mine e was = which (ℕ_discrete was.place id) where
+          which : Dec (was.place ≡ id) → is_by v.players e ≡ true
+          which (yes here) = subst (λ (x : View O R T). is_by x.players e ≡ true)
+              (at-same s.views id was.view v (subst (λ k. get_elem? s.views k ≡ some was.view) here was.there) at) was.theirs
+          which (no else) = let none = has-nobody was.view.players e.who.number (no_player was.place was.view else was.there)
+              in let theirs = was.theirs in absurd (cc)
 
-    all_mine : All (λ e. is_by v.players e ≡ true) r.history
-    all_mine = let P : Entry O R → Type 0 = λ e. is_by v.players e ≡ true in All-weaker (IsCovered s.views) P by_mine r.history r.covered
+        all_mine : All (λ e. is_by v.players e ≡ true) r.history
+        all_mine = let P : Entry O R → Type 0 = λ e. is_by v.players e ≡ true in
+            All-weaker (IsCovered s.views) P by_mine r.history r.covered
 
-    history_is : r.history ≡ v.seen
-    history_is = GoesOn-all v.players v.seen r.history (r.each id v at).seen all_mine
+        history_is : r.history ≡ v.seen
+        history_is = GoesOn-all v.players v.seen r.history (r.each id v at).seen all_mine
 
-    ended : IsHome legal fits origin r.history s → ComesBack origin v slot
-    ended home = record {
-      service = home.service;
-      there = same (Some home.service) home.there;
-      fit = subst (λ l. fits home.service origin l) history_is home.fit;
-      lawful = subst (λ l. legal origin l) history_is r.lawful;
-      mine = subst (λ l. own v.players l ≡ l) history_is (own-all v.players r.history all_mine);
-    }
+        ended : IsHome legal fits origin r.history s → ComesBack origin v slot
+        ended home = record {
+          service = home.service;
+          there = same (Some home.service) home.there;
+          fit = subst (λ l. fits home.service origin l) history_is home.fit;
+          lawful = subst (λ l. legal origin l) history_is r.lawful;
+          mine = subst (λ l. own v.players l ≡ l) history_is (own-all v.players r.history all_mine);
+        }
 
-  pub comes_back : (origin : T) (count id : ℕ) (v : View O R T) (words : List ℕ) (slots : List (Option S)) (slot : Option S) → v.stage ≡ Idle → length v.players ≡ count →
+  pub comes_back : (origin : T) (count id : ℕ) (v : View O R T) (words : List ℕ) (slots : List (Option S))
+      (slot : Option S) → v.stage ≡ Idle → length v.players ≡ count →
       Final (Seen (Turn legal fits origin count) id v) words slots → get_elem? slots 0 ≡ some slot → ComesBack origin v slot
   comes_back origin count id v words slots slot idle all last there =
-      ends origin count id v last.0 slot last.1.0 last.1.1 idle all (λ x home. some-injective slot x (sym there ∙ last.4 0 x home))
+      ends origin count id v last.0 slot last.1.0 last.1.1 idle all (λ x home. some-injective slot x (sym there
+      ∙ last.4 0 x home))
 
 -- what that says of the service which was taken out
-pub record IsTheService {S O R T : Type 0} (legal : T → List (Entry O R) → Type 0) (start : S → T) (history : S → List (Entry O R)) (origin : T) (v : View O R T) (service : S) : Type 0 where
+pub record IsTheService {S O R T : Type 0} (legal : T → List (Entry O R) → Type 0) (start : S → T)
+    (history : S → List (Entry O R)) (origin : T) (v : View O R T) (service : S) : Type 0 where
   pub is_seen : history service ≡ v.seen
   pub is_start : start service ≡ origin
   pub lawful : legal (start service) (history service)
 
-pub service_back : {S O R T : Type 0} (legal : T → List (Entry O R) → Type 0) (start : S → T) (history : S → List (Entry O R)) (origin : T) (v : View O R T) (slot : Option S) (service : S) →
+pub service_back : {S O R T : Type 0} (legal : T → List (Entry O R) → Type 0) (start : S → T)
+    (history : S → List (Entry O R)) (origin : T) (v : View O R T) (slot : Option S) (service : S) →
     ComesBack legal (Fits start history) origin v slot → slot ≡ Some service → IsTheService legal start history origin v service
 service_back {S} {O} {R} {T} legal start history origin v slot service back is =
     let same : back.service ≡ service = same_value (sym back.there ∙ is) in
@@ -87,8 +100,19 @@ service_back {S} {O} {R} {T} legal start history origin v slot service back is =
     record {
       is_seen = fit.history;
       is_start = fit.start;
-      lawful = subst (λ (s : T). legal s (history service)) (sym fit.start) (subst (λ (l : List (Entry O R)). legal origin l) (sym fit.history) back.lawful);
+      lawful = subst (λ (s : T). legal s (history service)) (sym fit.start)
+          (subst (λ (l : List (Entry O R)). legal origin l) (sym fit.history) back.lawful);
     }
   where
     same_value : Some back.service ≡ Some service → back.service ≡ service
     same_value e = cc
+
+-- both at once: what the service is that was in the slot
+pub service_ends : {S O R T : Type 0} (legal : T → List (Entry O R) → Type 0) (start : S → T)
+    (history : S → List (Entry O R)) (origin : T) (count id : ℕ) (v : View O R T) (words : List ℕ)
+    (slots : List (Option S)) (slot : Option S) (service : S) → v.stage ≡ Idle → length v.players ≡ count →
+    Final (Seen (Turn legal (Fits start history) origin count) id v) words slots → get_elem? slots 0 ≡ some slot →
+    slot ≡ Some service → IsTheService legal start history origin v service
+service_ends legal start history origin count id v words slots slot service idle all last there is =
+    service_back legal start history origin v slot service
+    (comes_back legal (Fits start history) origin count id v words slots slot idle all last there) is

@@ -60,20 +60,46 @@ module _ {S O R T : Type 0} (legal : T → List (Entry O R) → Type 0) (fits : 
         lawful = r.lawful;
         tickets = omega arith;
         made = refl;
-        mine = record { seen = ok.seen; ticket = (let out = r.tickets in omega arith, omega arith); room = ok.room; player = players; parts = ok.parts; start = ok.start };
+        mine = record {
+          seen = ok.seen;
+          ticket = (let out = r.tickets in omega arith, omega arith);
+          room = ok.room;
+          player = players;
+          parts = ok.parts;
+          start = ok.start;
+        };
         covered = r.covered;
       })
-      (λ j u else there was. record { seen = was.seen; ticket = TicketStands-drawn r.history r.served r.drawn u.seen u.stage was.ticket; room = was.room; player = was.player; parts = was.parts; start = was.start })
-      (λ j u else there t mine theirs. let within = ticket-within r.history r.served r.drawn u.seen u.stage t (r.each j u there).ticket theirs in let is : r.drawn ≡ t = mine in let below = within.1 in omega arith)
+      (λ j u else there was.
+      record {
+        seen = was.seen;
+        ticket = TicketStands-drawn r.history r.served r.drawn u.seen u.stage was.ticket;
+        room = was.room;
+        player = was.player;
+        parts = was.parts;
+        start = was.start;
+      })
+      (λ j u else there t mine theirs. let within = ticket-within r.history r.served r.drawn u.seen u.stage t
+      (r.each j u there).ticket theirs in let is : r.drawn ≡ t = mine in let below = within.1 in omega arith)
       (⊎_elim
-      (λ home. inl (record { service = home.service; there = home.there; fit = home.fit; free = NoneHolds-set s.views id w (λ j u else there. home.free j u there) (λ holds. holds) }))
+      (λ home. inl (record {
+        service = home.service;
+        there = home.there;
+        fit = home.fit;
+        free = NoneHolds-set s.views id w (λ j u else there. home.free j u there) (λ holds. holds);
+      }))
       (λ one. inr (SomeHolds-set s.views id v w at (λ holds. absurd (idle_holds_none v.stage idle holds)) one))
       r.place) in
       (w, keeps, tt, stands, record { ticket = r.drawn; shown = r.ticket_word; now = refl })
 
   -- a look that changes nothing
-  looks : (origin : T) (count : ℕ) (s : State (Option S) (View O R T)) (r : Turn legal fits origin count s) (id i : ℕ) (v : View O R T) → get_elem? s.views id ≡ some v →
-      Turn legal fits origin count record { words = set s.words i (get_or s.words i 0); homes = s.homes; views = set s.views id v }
+  looks : (origin : T) (count : ℕ) (s : State (Option S) (View O R T)) (r : Turn legal fits origin count s) (id i : ℕ)
+      (v : View O R T) → get_elem? s.views id ≡ some v →
+      Turn legal fits origin count record {
+        words = set s.words i (get_or s.words i 0);
+        homes = s.homes;
+        views = set s.views id v;
+      }
   looks origin count s r id i v at =
       moved legal fits origin count s r id v v r.history r.served r.drawn (set s.words i (get_or s.words i 0)) s.homes at
       (record {
@@ -92,11 +118,17 @@ module _ {S O R T : Type 0} (legal : T → List (Entry O R) → Type 0) (fits : 
       (λ j u else there was. was)
       (λ j u else there t mine theirs. (r.apart id j v u (λ same. else (sym same)) at there).tickets t mine theirs)
       (⊎_elim
-      (λ home. inl (record { service = home.service; there = home.there; fit = home.fit; free = NoneHolds-set s.views id v (λ j u else there. home.free j u there) (home.free id v at) }))
+      (λ home. inl (record {
+        service = home.service;
+        there = home.there;
+        fit = home.fit;
+        free = NoneHolds-set s.views id v (λ j u else there. home.free j u there) (home.free id v at);
+      }))
       (λ one. inr (SomeHolds-set s.views id v v at (λ holds. holds) one))
       r.place)
 
-  pub recalls : (origin : T) (count slots id : ℕ) (m : Me (Option S) (View O R T)) → Allows (Turn legal fits origin count) slots id m 0 (λ n. n) (Recalls (step slots 0 0 0 none) m)
+  pub recalls : (origin : T) (count slots id : ℕ) (m : Me (Option S) (View O R T)) →
+      Allows (Turn legal fits origin count) slots id m 0 (λ n. n) (Recalls (step slots 0 0 0 none) m)
   recalls origin count slots id m s r homes at bound =
       (m.0, keeps, tt, looks origin count s r id 0 m.0 at, record { same = refl; parts = (r.each id m.0 at).parts })
 
@@ -104,7 +136,9 @@ module _ {S O R T : Type 0} (legal : T → List (Entry O R) → Type 0) (fits : 
       Allows (Turn legal fits origin count) slots id m 1 (λ n. n) (Awaits legal fits (step slots 1 0 0 none) m)
   awaits origin count slots id m t waits s r homes at bound = look (ℕ_discrete (get_or s.words 1 0) (t % 2 ^ 64)) where
     Result : Type 0
-    Result = (w : View O R T) × (a : Act (Option S)) × Valid s.homes m.1 a × Turn legal fits origin count (stepped s 1 (get_or s.words 1 0) id m.1 w a) × Awaits legal fits (step slots 1 0 0 none) m (get_or s.words 1 0) (w, carried_after m.1 a)
+    Result = (w : View O R T) × (a : Act (Option S)) × Valid s.homes m.1 a
+        × Turn legal fits origin count (stepped s 1 (get_or s.words 1 0) id m.1 w a)
+        × Awaits legal fits (step slots 1 0 0 none) m (get_or s.words 1 0) (w, carried_after m.1 a)
 
     look : Dec (get_or s.words 1 0 ≡ t % 2 ^ 64) → Result
     look (no other) = (
@@ -112,7 +146,11 @@ module _ {S O R T : Type 0} (legal : T → List (Entry O R) → Type 0) (fits : 
       keeps,
       tt,
       looks origin count s r id 1 m.0 at,
-      (λ t' is. record { served = (λ found. absurd (other (found ∙ ap (λ (n : ℕ). n % 2 ^ 64) (same_ticket t' t m.0.stage is waits)))); not_yet = (λ differs. refl) }),
+      (λ t' is. record {
+        served
+            = (λ found. absurd (other (found ∙ ap (λ (n : ℕ). n % 2 ^ 64) (same_ticket t' t m.0.stage is waits))));
+        not_yet = (λ differs. refl);
+      }),
     )
     look (yes served) =
         let v = m.0 in
@@ -125,10 +163,14 @@ module _ {S O R T : Type 0} (legal : T → List (Entry O R) → Type 0) (fits : 
         conflict turn one =
             let v = m.0 in
             let u = one.view in
-            let theirs = holder_ticket r.history r.served r.drawn u.seen u.stage (r.each one.place u one.there).ticket one.holds in
+            let theirs = holder_ticket r.history r.served r.drawn u.seen u.stage (r.each one.place u one.there).ticket
+            one.holds in
             let differs : id ≢ one.place = λ same. waiting_holds_none u.stage t
-            (ap (λ (x : View O R T). x.stage) (at-same s.views one.place u v one.there (subst (λ k. get_elem? s.views k ≡ some v) same at)) ∙ waits) one.holds in
-            (r.apart id one.place v u differs at one.there).tickets r.served (subst (λ n. HasTicket v.stage n) (sym turn) (waiting_ticket v.stage t waits)) theirs
+            (ap (λ (x : View O R T). x.stage)
+            (at-same s.views one.place u v one.there (subst (λ k. get_elem? s.views k ≡ some v) same at))
+            ∙ waits) one.holds in
+            (r.apart id one.place v u differs at one.there).tickets r.served
+            (subst (λ n. HasTicket v.stage n) (sym turn) (waiting_ticket v.stage t waits)) theirs
 
         takes_it : r.served ≡ t → IsHome legal fits origin r.history s → Result
         takes_it turn home =
@@ -151,11 +193,19 @@ module _ {S O R T : Type 0} (legal : T → List (Entry O R) → Type 0) (fits : 
               lawful = r.lawful;
               tickets = omega arith;
               made = refl;
-              mine = record { seen = GoesOn-same v.players r.history; ticket = (sym turn, mine.1, refl); room = ok.room; player = omega arith; parts = tt; start = ok.start };
+              mine = record {
+                seen = GoesOn-same v.players r.history;
+                ticket = (sym turn, mine.1, refl);
+                room = ok.room;
+                player = omega arith;
+                parts = tt;
+                start = ok.start;
+              };
               covered = r.covered;
             })
             (λ j u else there was. was)
-            (λ j u else there k held theirs. (r.apart id j v u (λ same. else (sym same)) at there).tickets k (subst (λ n. HasTicket v.stage n) held (waiting_ticket v.stage t waits)) theirs)
+            (λ j u else there k held theirs. (r.apart id j v u (λ same. else (sym same)) at there).tickets k
+            (subst (λ n. HasTicket v.stage n) held (waiting_ticket v.stage t waits)) theirs)
             (inr (record { place = id; view = w; there = at-set_there s.views id v w at; holds = tt })) in (
               w,
               takes 0 (Some home.service),
@@ -166,7 +216,8 @@ module _ {S O R T : Type 0} (legal : T → List (Entry O R) → Type 0) (fits : 
                   service = home.service;
                   history = r.history;
                   now = (λ i. (holding v (same i) r.history, (0, Some home.service) ∷ m.1));
-                  fit = (λ start is_start. subst (λ q. fits home.service q r.history × legal q r.history) (same_start v.start origin start my_start is_start) (home.fit, r.lawful));
+                  fit = (λ start is_start. subst (λ q. fits home.service q r.history × legal q r.history)
+                      (same_start v.start origin start my_start is_start) (home.fit, r.lawful));
                   goes_on = ok.seen;
                   short = short_history legal fits origin count s r;
                 });
@@ -174,7 +225,8 @@ module _ {S O R T : Type 0} (legal : T → List (Entry O R) → Type 0) (fits : 
               }),
             )
 
-  pub publishes : (origin : T) (count slots id : ℕ) (m : Me (Option S) (View O R T)) (history : S → List (Entry O R)) → IsReady legal history m →
+  pub publishes : (origin : T) (count slots id : ℕ) (m : Me (Option S) (View O R T)) (history : S → List (Entry O R)) →
+      IsReady legal history m →
       Allows (Turn legal fits origin count) slots id m 2 (λ n. (n + 1) % 2 ^ 64) (Publishes history (step slots 2 1 0 none) m)
   publishes origin count slots id m history ready s r homes at bound =
       let v = m.0 in
@@ -192,7 +244,8 @@ module _ {S O R T : Type 0} (legal : T → List (Entry O R) → Type 0) (fits : 
       let long : length h ≡ length r.history + 1 = ap (λ l. length l) history_is ∙ length-append r.history (e ∷ []) in
       let short = short_history legal fits origin count s r in
       let next = (get_or s.words 2 0 + 1) % 2 ^ 64 in
-      let counts = get_or-set_same s.words 2 next 0 (let wide = r.words in omega arith) ∙ ap (λ (n : ℕ). (n + 1) % 2 ^ 64) r.count_word ∙ mod-eq_of_lt (omega arith) ∙ sym long in
+      let counts = get_or-set_same s.words 2 next 0 (let wide = r.words in omega arith)
+      ∙ ap (λ (n : ℕ). (n + 1) % 2 ^ 64) r.count_word ∙ mod-eq_of_lt (omega arith) ∙ sym long in
       let P : Entry O R → Type 0 = IsCovered s.views in
       let stands = moved legal fits origin count s r id v w h r.served r.drawn (set s.words 2 next) s.homes at
       (record {
@@ -205,14 +258,25 @@ module _ {S O R T : Type 0} (legal : T → List (Entry O R) → Type 0) (fits : 
         lawful = ready.lawful origin my_start;
         tickets = refl;
         made = omega arith;
-        mine = record { seen = GoesOn-same v.players h; ticket = subst (λ k. TicketStands h r.served r.drawn h k) (sym ready.holds) (mine.0, mine.1, refl); room = ready.room; player = some_player; parts = tt; start = ok.start };
-        covered = subst (All P) (sym history_is) (All-append P r.history (e ∷ []) r.covered (All-cons P e [] (record { place = id; view = v; there = at; theirs = ready.mine }) (All-nil P)));
+        mine = record {
+          seen = GoesOn-same v.players h;
+          ticket = subst (λ k. TicketStands h r.served r.drawn h k) (sym ready.holds) (mine.0, mine.1, refl);
+          room =
+              ready.room;
+          player = some_player;
+          parts = tt;
+          start = ok.start;
+        };
+        covered = subst (All P) (sym history_is)
+            (All-append P r.history (e ∷ []) r.covered
+            (All-cons P e [] (record { place = id; view = v; there = at; theirs = ready.mine }) (All-nil P)));
       })
       (λ j u else there was.
       let apart = r.apart id j v u (λ same. else (sym same)) at there in
       let not_theirs = false_of (is_by u.players e) (λ theirs. apart.players e.who.number ready.mine theirs) in
       record {
-        seen = subst (λ l. GoesOn u.players u.seen l) (sym history_is) (GoesOn-push u.players u.seen r.history e was.seen not_theirs);
+        seen = subst (λ l. GoesOn u.players u.seen l) (sym history_is)
+            (GoesOn-push u.players u.seen r.history e was.seen not_theirs);
         ticket = TicketStands-history r.history h r.served r.drawn u.seen u.stage (free j u else there).0 was.ticket;
         room = was.room;
         player = was.player;
@@ -220,7 +284,12 @@ module _ {S O R T : Type 0} (legal : T → List (Entry O R) → Type 0) (fits : 
         start = was.start;
       })
       (λ j u else there k held theirs. (r.apart id j v u (λ same. else (sym same)) at there).tickets k held theirs)
-      (inr (record { place = id; view = w; there = at-set_there s.views id v w at; holds = holds_turn v.stage ready.ticket ready.holds })) in
+      (inr (record {
+        place = id;
+        view = w;
+        there = at-set_there s.views id v w at;
+        holds = holds_turn v.stage ready.ticket ready.holds;
+      })) in
       (w, keeps, tt, stands, (λ y is. λ i. (with_entry v (history (same_out ready.service y m.1 ready.out is i)), m.1)))
 
   pub passes_on : (origin : T) (count slots id : ℕ) (m : Me (Option S) (View O R T)) → MayPass fits m →
@@ -252,7 +321,14 @@ module _ {S O R T : Type 0} (legal : T → List (Entry O R) → Type 0) (fits : 
         covered = r.covered;
       })
       (λ j u else there was. let f = free j u else there in
-      record { seen = was.seen; ticket = TicketStands-served r.history r.served r.drawn u.seen u.stage f.0 f.1 was.ticket; room = was.room; player = was.player; parts = was.parts; start = was.start })
+      record {
+        seen = was.seen;
+        ticket = TicketStands-served r.history r.served r.drawn u.seen u.stage f.0 f.1 was.ticket;
+        room = was.room;
+        player = was.player;
+        parts = was.parts;
+        start = was.start;
+      })
       (λ j u else there k held theirs. held)
       (inl (record {
         service = may.service;
@@ -263,6 +339,10 @@ module _ {S O R T : Type 0} (legal : T → List (Entry O R) → Type 0) (fits : 
         w,
         gives,
         tt,
-        subst (λ (c : List (ℕ × Option S)). Turn legal fits origin count record { words = set s.words 1 next; homes = put_back s.homes c; views = set s.views id w }) (sym may.out) stands,
+        subst (λ (c : List (ℕ × Option S)). Turn legal fits origin count record {
+          words = set s.words 1 next;
+          homes = put_back s.homes c;
+          views = set s.views id w;
+        }) (sym may.out) stands,
         refl,
       )

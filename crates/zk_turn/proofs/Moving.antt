@@ -23,9 +23,11 @@ use Rattle.zk_turn.proofs.Seats.{at-same, at-set_there, sum-set, sum-times, AllA
 pub word-other : (words : List ℕ) (i j n d : ℕ) → j ≢ i → get_or words j 0 ≡ d → get_or (set words i n) j 0 ≡ d
 word-other words i j n d differ is = get_or-set_other words i j n 0 differ ∙ is
 
-pub word-next : (words : List ℕ) (i n : ℕ) → i < length words → get_or words i 0 ≡ n % 2 ^ 64 → get_or (set words i ((get_or words i 0 + 1) % 2 ^ 64)) i 0 ≡ (n + 1) % 2 ^ 64
+pub word-next : (words : List ℕ) (i n : ℕ) → i < length words → get_or words i 0 ≡ n % 2 ^ 64 →
+    get_or (set words i ((get_or words i 0 + 1) % 2 ^ 64)) i 0 ≡ (n + 1) % 2 ^ 64
 word-next words i n within is =
-    get_or-set_same words i ((get_or words i 0 + 1) % 2 ^ 64) 0 within ∙ ap (λ (k : ℕ). (k + 1) % 2 ^ 64) is ∙ mod-add-mod n (2 ^ 64) 1
+    get_or-set_same words i ((get_or words i 0 + 1) % 2 ^ 64) 0 within ∙ ap (λ (k : ℕ). (k + 1) % 2 ^ 64) is
+    ∙ mod-add-mod n (2 ^ 64) 1
 
 -- a load leaves the words
 pub word-same : (words : List ℕ) (i j n : ℕ) → get_or words j 0 ≡ n → get_or (set words i (get_or words i 0)) j 0 ≡ n
@@ -33,7 +35,8 @@ word-same words i j n is = ap (λ ws. get_or ws j 0) (set-get_or words i 0) ∙ 
 
 module _ {O R T : Type 0} where
   -- what covers an entry still does where a seat's players stay
-  covered-still : (views : List (View O R T)) (id : ℕ) (v w : View O R T) → get_elem? views id ≡ some v → w.players ≡ v.players → (e : Entry O R) → IsCovered views e → IsCovered (set views id w) e
+  covered-still : (views : List (View O R T)) (id : ℕ) (v w : View O R T) → get_elem? views id ≡ some v →
+      w.players ≡ v.players → (e : Entry O R) → IsCovered views e → IsCovered (set views id w) e
   covered-still views id v w at same e covers = which (ℕ_discrete covers.place id) where
     which : Dec (covers.place ≡ id) → IsCovered (set views id w) e
     which (yes here) =
@@ -44,25 +47,39 @@ module _ {O R T : Type 0} where
           there = at-set_there views id v w at;
           theirs = ap (λ ws. is_by ws e) (same ∙ ap (λ (x : View O R T). x.players) read) ∙ covers.theirs;
         }
-    which (no else) = record { place = covers.place; view = covers.view; there = set_else views id covers.place w else ∙ covers.there; theirs = covers.theirs }
+    which (no else) = record {
+      place = covers.place;
+      view = covers.view;
+      there = set_else views id covers.place w else ∙ covers.there;
+      theirs = covers.theirs;
+    }
 
   pub NoneHolds-set : (views : List (View O R T)) (id : ℕ) (w : View O R T) →
-      ((j : ℕ) (u : View O R T) → j ≢ id → get_elem? views j ≡ some u → HoldsTurn u.stage → ⊥) → (HoldsTurn w.stage → ⊥) → NoneHolds (set views id w)
+      ((j : ℕ) (u : View O R T) → j ≢ id → get_elem? views j ≡ some u → HoldsTurn u.stage → ⊥) → (HoldsTurn w.stage → ⊥) →
+      NoneHolds (set views id w)
   NoneHolds-set views id w others mine j u there holds =
-      ⊎_elim (λ t. mine (subst (λ (x : View O R T). HoldsTurn x.stage) (sym t.1) holds)) (λ t. others j u t.0 t.1 holds) (at_set views id j w u there)
+      ⊎_elim (λ t. mine (subst (λ (x : View O R T). HoldsTurn x.stage) (sym t.1) holds)) (λ t. others j u t.0 t.1 holds)
+      (at_set views id j w u there)
 
-  pub SomeHolds-set : (views : List (View O R T)) (id : ℕ) (v w : View O R T) → get_elem? views id ≡ some v → (HoldsTurn v.stage → HoldsTurn w.stage) → SomeHolds views → SomeHolds (set views id w)
+  pub SomeHolds-set : (views : List (View O R T)) (id : ℕ) (v w : View O R T) → get_elem? views id ≡ some v →
+      (HoldsTurn v.stage → HoldsTurn w.stage) → SomeHolds views → SomeHolds (set views id w)
   SomeHolds-set views id v w at keep some_one = which (ℕ_discrete some_one.place id) where
     which : Dec (some_one.place ≡ id) → SomeHolds (set views id w)
     which (yes here) =
-        let read = at-same views id v some_one.view at (subst (λ k. get_elem? views k ≡ some some_one.view) here some_one.there) in
+        let read = at-same views id v some_one.view at
+        (subst (λ k. get_elem? views k ≡ some some_one.view) here some_one.there) in
         record {
           place = id;
           view = w;
           there = at-set_there views id v w at;
           holds = keep (subst (λ (x : View O R T). HoldsTurn x.stage) (sym read) some_one.holds);
         }
-    which (no else) = record { place = some_one.place; view = some_one.view; there = set_else views id some_one.place w else ∙ some_one.there; holds = some_one.holds }
+    which (no else) = record {
+      place = some_one.place;
+      view = some_one.view;
+      there = set_else views id some_one.place w else ∙ some_one.there;
+      holds = some_one.holds;
+    }
 
 -- stages
 pub holds_turn : (st : Stage) (t : ℕ) → st ≡ Holding t → HoldsTurn st
@@ -86,63 +103,83 @@ same_ticket t t' st is is' = ap number (sym is ∙ is') where
 
 module _ {O R : Type 0} where
   -- a ticket that is out lies between the one served and the ones drawn
-  pub ticket-within : (history : List (Entry O R)) (served drawn : ℕ) (seen : List (Entry O R)) (st : Stage) (t : ℕ) → TicketStands history served drawn seen st → HasTicket st t → (served ≤ t) × (t < drawn)
+  pub ticket-within : (history : List (Entry O R)) (served drawn : ℕ) (seen : List (Entry O R)) (st : Stage) (t : ℕ) →
+      TicketStands history served drawn seen st → HasTicket st t → (served ≤ t) × (t < drawn)
   ticket-within history served drawn seen Idle t ok has = absurd has
   ticket-within history served drawn seen (Waiting n) t ok has = subst (λ k. (served ≤ k) × (k < drawn)) has ok
-  ticket-within history served drawn seen (Holding n) t ok has = subst (λ k. (served ≤ k) × (k < drawn)) has (let is = ok.0 in omega arith, ok.1)
+  ticket-within history served drawn seen (Holding n) t ok has =
+      subst (λ k. (served ≤ k) × (k < drawn)) has (let is = ok.0 in omega arith, ok.1)
 
   -- one more was drawn
-  pub TicketStands-drawn : (history : List (Entry O R)) (served drawn : ℕ) (seen : List (Entry O R)) (st : Stage) → TicketStands history served drawn seen st → TicketStands history served (drawn + 1) seen st
+  pub TicketStands-drawn : (history : List (Entry O R)) (served drawn : ℕ) (seen : List (Entry O R)) (st : Stage) →
+      TicketStands history served drawn seen st → TicketStands history served (drawn + 1) seen st
   TicketStands-drawn history served drawn seen Idle ok = tt
   TicketStands-drawn history served drawn seen (Waiting n) ok = (ok.0, let below = ok.1 in omega arith)
   TicketStands-drawn history served drawn seen (Holding n) ok = (ok.0, let below = ok.1 in omega arith, ok.2)
 
   -- the history grew, and this seat doesn't hold the turn
-  pub TicketStands-history : (history history' : List (Entry O R)) (served drawn : ℕ) (seen : List (Entry O R)) (st : Stage) → (HoldsTurn st → ⊥) → TicketStands history served drawn seen st → TicketStands history' served drawn seen st
+  pub TicketStands-history : (history history' : List (Entry O R)) (served drawn : ℕ) (seen : List (Entry O R))
+      (st : Stage) → (HoldsTurn st → ⊥) → TicketStands history served drawn seen st → TicketStands history' served drawn seen st
   TicketStands-history history history' served drawn seen Idle free ok = tt
   TicketStands-history history history' served drawn seen (Waiting n) free ok = ok
   TicketStands-history history history' served drawn seen (Holding n) free ok = absurd (free tt)
 
   -- the next ticket is served, and this seat hasn't the one that was
-  pub TicketStands-served : (history : List (Entry O R)) (served drawn : ℕ) (seen : List (Entry O R)) (st : Stage) → (HoldsTurn st → ⊥) → (HasTicket st served → ⊥) → TicketStands history served drawn seen st → TicketStands history (served + 1) drawn seen st
+  pub TicketStands-served : (history : List (Entry O R)) (served drawn : ℕ) (seen : List (Entry O R)) (st : Stage) →
+      (HoldsTurn st → ⊥) → (HasTicket st served → ⊥) → TicketStands history served drawn seen st →
+      TicketStands history (served + 1) drawn seen st
   TicketStands-served history served drawn seen Idle free other ok = tt
-  TicketStands-served history served drawn seen (Waiting n) free other ok = (let least = ok.0 in let differ : n ≢ served = other in omega arith, ok.1)
+  TicketStands-served history served drawn seen (Waiting n) free other ok = (
+    let least = ok.0 in
+        let differ : n ≢ served = other in omega arith,
+    ok.1,
+  )
   TicketStands-served history served drawn seen (Holding n) free other ok = absurd (free tt)
 
   -- who holds the turn has the ticket served
-  pub holder_ticket : (history : List (Entry O R)) (served drawn : ℕ) (seen : List (Entry O R)) (st : Stage) → TicketStands history served drawn seen st → HoldsTurn st → HasTicket st served
+  pub holder_ticket : (history : List (Entry O R)) (served drawn : ℕ) (seen : List (Entry O R)) (st : Stage) →
+      TicketStands history served drawn seen st → HoldsTurn st → HasTicket st served
   holder_ticket history served drawn seen Idle ok holds = absurd holds
   holder_ticket history served drawn seen (Waiting n) ok holds = absurd holds
   holder_ticket history served drawn seen (Holding n) ok holds = ok.0
 
-  pub waiting-stands : (history : List (Entry O R)) (served drawn : ℕ) (seen : List (Entry O R)) (st : Stage) (t : ℕ) → st ≡ Waiting t → TicketStands history served drawn seen st → (served ≤ t) × (t < drawn)
+  pub waiting-stands : (history : List (Entry O R)) (served drawn : ℕ) (seen : List (Entry O R)) (st : Stage) (t : ℕ) →
+      st ≡ Waiting t → TicketStands history served drawn seen st → (served ≤ t) × (t < drawn)
   waiting-stands history served drawn seen st t is ok = subst (λ x. TicketStands history served drawn seen x) is ok
 
-  pub holding-stands : (history : List (Entry O R)) (served drawn : ℕ) (seen : List (Entry O R)) (st : Stage) (t : ℕ) → st ≡ Holding t → TicketStands history served drawn seen st → (t ≡ served) × (t < drawn) × (seen ≡ history)
+  pub holding-stands : (history : List (Entry O R)) (served drawn : ℕ) (seen : List (Entry O R)) (st : Stage) (t : ℕ) →
+      st ≡ Holding t → TicketStands history served drawn seen st → (t ≡ served) × (t < drawn) × (seen ≡ history)
   holding-stands history served drawn seen st t is ok = subst (λ x. TicketStands history served drawn seen x) is ok
 
 module _ {S O R T : Type 0} (legal : T → List (Entry O R) → Type 0) (fits : S → T → List (Entry O R) → Type 0) where
   -- the tickets out are no more than the players
-  pub few_out : (origin : T) (count : ℕ) (s : State (Option S) (View O R T)) (r : Turn legal fits origin count s) → r.drawn ≤ r.served + 256
+  pub few_out : (origin : T) (count : ℕ) (s : State (Option S) (View O R T)) (r : Turn legal fits origin count s) →
+      r.drawn ≤ r.served + 256
   few_out origin count s r =
-      let most = sum-times 1 tickets_of player_count s.views (λ j u there. let player = (r.each j u there).player in omega arith) in
+      let most = sum-times 1 tickets_of player_count s.views (λ j u there. let player = (r.each j u there).player in
+      omega arith) in
       let out = r.tickets in let all = r.players in let few = r.few in omega arith
 
   -- and the entries no more than all may add
-  pub short_history : (origin : T) (count : ℕ) (s : State (Option S) (View O R T)) (r : Turn legal fits origin count s) → length r.history ≤ most_entries * 256
+  pub short_history : (origin : T) (count : ℕ) (s : State (Option S) (View O R T)) (r : Turn legal fits origin count s) →
+      length r.history ≤ most_entries * 256
   short_history origin count s r =
       let most = sum-times most_entries made_of player_count s.views (λ j u there. (r.each j u there).room) in
       let made = r.made in let all = r.players in let few = r.few in omega arith
 
   -- while one has the ticket served, no other holds the turn or has that ticket
-  pub others_free : (origin : T) (count : ℕ) (s : State (Option S) (View O R T)) (r : Turn legal fits origin count s) (id : ℕ) (v : View O R T) → get_elem? s.views id ≡ some v → HasTicket v.stage r.served →
-      (j : ℕ) (u : View O R T) → j ≢ id → get_elem? s.views j ≡ some u → (HoldsTurn u.stage → ⊥) × (HasTicket u.stage r.served → ⊥)
+  pub others_free : (origin : T) (count : ℕ) (s : State (Option S) (View O R T)) (r : Turn legal fits origin count s)
+      (id : ℕ) (v : View O R T) → get_elem? s.views id ≡ some v → HasTicket v.stage r.served →
+      (j : ℕ) (u : View O R T) → j ≢ id → get_elem? s.views j ≡ some u →
+      (HoldsTurn u.stage → ⊥) × (HasTicket u.stage r.served → ⊥)
   others_free origin count s r id v at mine j u else there =
       let apart = (r.apart id j v u (λ same. else (sym same)) at there).tickets r.served mine in
       ((λ holds. apart (holder_ticket r.history r.served r.drawn u.seen u.stage (r.each j u there).ticket holds)), apart)
 
   -- what a changed table has to fulfil, beside what the views of the others say: its words, its history and its tickets
-  pub record Changed (origin : T) (count : ℕ) (s : State (Option S) (View O R T)) (r : Turn legal fits origin count s) (v w : View O R T) (history : List (Entry O R)) (served drawn : ℕ) (words : List ℕ) (homes : List (maths.Option (Option S))) : Type 0 where
+  pub record Changed (origin : T) (count : ℕ) (s : State (Option S) (View O R T)) (r : Turn legal fits origin count s)
+      (v w : View O R T) (history : List (Entry O R)) (served drawn : ℕ) (words : List ℕ)
+      (homes : List (maths.Option (Option S))) : Type 0 where
     pub players : w.players ≡ v.players
     pub wide : 3 ≤ length words
     pub slot : 0 < length homes
@@ -155,12 +192,16 @@ module _ {S O R T : Type 0} (legal : T → List (Entry O R) → Type 0) (fits : 
     pub mine : SeatStands origin history served drawn w
     pub covered : All (IsCovered s.views) history
 
-  pub moved : (origin : T) (count : ℕ) (s : State (Option S) (View O R T)) (r : Turn legal fits origin count s) (id : ℕ) (v w : View O R T) (history : List (Entry O R)) (served drawn : ℕ)
+  pub moved : (origin : T) (count : ℕ) (s : State (Option S) (View O R T)) (r : Turn legal fits origin count s) (id : ℕ)
+      (v w : View O R T) (history : List (Entry O R)) (served drawn : ℕ)
       (words : List ℕ) (homes : List (maths.Option (Option S))) →
       get_elem? s.views id ≡ some v → Changed origin count s r v w history served drawn words homes →
-      ((j : ℕ) (u : View O R T) → j ≢ id → get_elem? s.views j ≡ some u → SeatStands origin r.history r.served r.drawn u → SeatStands origin history served drawn u) →
-      ((j : ℕ) (u : View O R T) → j ≢ id → get_elem? s.views j ≡ some u → (t : ℕ) → HasTicket w.stage t → HasTicket u.stage t → ⊥) →
-      IsHome legal fits origin history record { words = words; homes = homes; views = set s.views id w } ⊎ SomeHolds (set s.views id w) →
+      ((j : ℕ) (u : View O R T) → j ≢ id → get_elem? s.views j ≡ some u → SeatStands origin r.history r.served r.drawn u →
+      SeatStands origin history served drawn u) →
+      ((j : ℕ) (u : View O R T) → j ≢ id → get_elem? s.views j ≡ some u → (t : ℕ) → HasTicket w.stage t →
+      HasTicket u.stage t → ⊥) →
+      IsHome legal fits origin history record { words = words; homes = homes; views = set s.views id w }
+      ⊎ SomeHolds (set s.views id w) →
       Turn legal fits origin count record { words = words; homes = homes; views = set s.views id w }
   moved origin count s r id v w history served drawn words homes at c others differ place = record {
     history = history;
@@ -173,12 +214,15 @@ module _ {S O R T : Type 0} (legal : T → List (Entry O R) → Type 0) (fits : 
     count_word = c.count_word;
     lawful = c.lawful;
     few = r.few;
-    players = let sum = sum-set player_count s.views id v w at in let same = ap (λ (ws : List Who). length ws) c.players in let all = r.players in omega arith;
+    players = let sum = sum-set player_count s.views id v w at in
+        let same = ap (λ (ws : List Who). length ws) c.players in let all = r.players in omega arith;
     tickets = let sum = sum-set tickets_of s.views id v w at in let out = r.tickets in let now = c.tickets in omega arith;
     made = let sum = sum-set made_of s.views id v w at in let made = r.made in let now = c.made in omega arith;
-    each = λ j u there. ⊎_elim (λ t. subst (λ (x : View O R T). SeatStands origin history served drawn x) t.1 c.mine) (λ t. others j u t.0 t.1 (r.each j u t.1)) (at_set s.views id j w u there);
+    each = λ j u there. ⊎_elim (λ t. subst (λ (x : View O R T). SeatStands origin history served drawn x) t.1 c.mine)
+        (λ t. others j u t.0 t.1 (r.each j u t.1)) (at_set s.views id j w u there);
     apart = AllApart-set s.views id w r.apart mine_apart;
-    covered = All-weaker (IsCovered s.views) (IsCovered (set s.views id w)) (covered-still s.views id v w at c.players) history c.covered;
+    covered = All-weaker (IsCovered s.views) (IsCovered (set s.views id w)) (covered-still s.views id v w at c.players)
+        history c.covered;
     place = place;
   } where
     mine_apart : (j : ℕ) (u : View O R T) → j ≢ id → get_elem? s.views j ≡ some u → AreApart w u
@@ -187,8 +231,10 @@ module _ {S O R T : Type 0} (legal : T → List (Entry O R) → Type 0) (fits : 
         record { players = λ n x y. was.players n (ap (λ ws. has ws n) (sym c.players) ∙ x) y; tickets = differ j u else there }
 
   -- the rule over other views of the same table: the same players, tickets and entries stand in them
-  pub Turn-views : (origin : T) (count : ℕ) (s : State (Option S) (View O R T)) (r : Turn legal fits origin count s) (views : List (View O R T)) →
-      sum_by player_count views ≡ sum_by player_count s.views → sum_by tickets_of views ≡ sum_by tickets_of s.views → sum_by made_of views ≡ sum_by made_of s.views →
+  pub Turn-views : (origin : T) (count : ℕ) (s : State (Option S) (View O R T)) (r : Turn legal fits origin count s)
+      (views : List (View O R T)) →
+      sum_by player_count views ≡ sum_by player_count s.views → sum_by tickets_of views ≡ sum_by tickets_of s.views →
+      sum_by made_of views ≡ sum_by made_of s.views →
       ((j : ℕ) (u : View O R T) → get_elem? views j ≡ some u → SeatStands origin r.history r.served r.drawn u) → AllApart views →
       ((e : Entry O R) → IsCovered s.views e → IsCovered views e) →
       (NoneHolds s.views → NoneHolds views) → (SomeHolds s.views → SomeHolds views) →

@@ -1,4 +1,5 @@
--- From the steps of a seat to turns and passes: what a seat knows from step to step, and what that says of the turn and of the pass.
+-- From the steps of a seat to turns and passes: what a seat knows from step to step, and what that says of the turn and
+-- of the pass.
 use Rattle.std.proofs.Common.{◌≡◌, ℕ, ◌+◌, ◌*◌, ◌-◌, ◌<◌, ◌≤◌, ◌^◌, max, Bool, true, false, ◌||◌, Some, None, Option, List, [], ◌∷◌, ◌++◌, length, refl, sym, ap, subst, ◌∙◌, arith, eq-eqb}
 use Rattle.std.proofs.lemmas.List.{length-append}
 use Rattle.atomic_table.specs.declared.shared.Seat.{Seat}
@@ -28,7 +29,8 @@ first_slot d [] = d
 first_slot d (slot ∷ slots) = slot.1
 
 -- what came out of the slot is what was taken with the turn
-pub taken_out : {S : Type 0} (slots others others' : List (ℕ × Option S)) (x y : S) (o : Option S) → slots ≡ (0, Some x) ∷ others → slots ≡ (0, o) ∷ others' → o ≡ Some y → x ≡ y
+pub taken_out : {S : Type 0} (slots others others' : List (ℕ × Option S)) (x y : S) (o : Option S) →
+    slots ≡ (0, Some x) ∷ others → slots ≡ (0, o) ∷ others' → o ≡ Some y → x ≡ y
 taken_out slots others others' x y o is is' out = ap (value_or x) (ap (first_slot None) (sym is ∙ is') ∙ out)
 
 same_start : {T : Type 0} (o : Option T) (a b : T) → o ≡ Some a → o ≡ Some b → a ≡ b
@@ -40,12 +42,14 @@ module _ {O R T : Type 0} where
   left false v h = v
   left true v h = with_entry v h
 
-  left-seen : (added : Bool) (v : View O R T) (h : List (Entry O R)) → HasAdded added v.players v.seen h → (left added v h).seen ≡ h
+  left-seen : (added : Bool) (v : View O R T) (h : List (Entry O R)) → HasAdded added v.players v.seen h →
+      (left added v h).seen ≡ h
   left-seen false v h is = sym is
   left-seen true v h is = refl
 
   -- which changes neither of these
-  left-keeps : {A : Type 0} (f : View O R T → A) (added : Bool) (v : View O R T) (h : List (Entry O R)) → f (with_entry v h) ≡ f v → f (left added v h) ≡ f v
+  left-keeps : {A : Type 0} (f : View O R T → A) (added : Bool) (v : View O R T) (h : List (Entry O R)) →
+      f (with_entry v h) ≡ f v → f (left added v h) ≡ f v
   left-keeps f false v h same = refl
   left-keeps f true v h same = same
 
@@ -62,27 +66,41 @@ module _ {S O R T : Type 0} where
   abbrev pub in_turn : View O R T → ℕ → ℕ → List (Entry O R) → Me (Option S) (View O R T)
   in_turn v drawn t history = (holding (staged v (Waiting drawn)) t history, (0, None) ∷ [])
 
-  pub slot_taken : (m m' : Me (Option S) (View O R T)) (w : View O R T) (x : S) → m' ≡ (w, (0, Some x) ∷ m.1) → m'.1 ≡ (0, Some x) ∷ rest m'.1
-  slot_taken m m' w x is = let now = ap (λ (k : Me (Option S) (View O R T)). k.1) is in now ∙ ap (λ (l : List (ℕ × Option S)). (0, Some x) ∷ rest l) (sym now)
+  pub slot_taken : (m m' : Me (Option S) (View O R T)) (w : View O R T) (x : S) → m' ≡ (w, (0, Some x) ∷ m.1) →
+      m'.1 ≡ (0, Some x) ∷ rest m'.1
+  slot_taken m m' w x is = let now = ap (λ (k : Me (Option S) (View O R T)). k.1) is in now
+      ∙ ap (λ (l : List (ℕ × Option S)). (0, Some x) ∷ rest l) (sym now)
 
   -- from the pass by the draw, the await and the exchange
-  pub in_turn-from : (v : View O R T) (drawn t : ℕ) (history : List (Entry O R)) (x : S) (m0 m1 m2 m3 : Me (Option S) (View O R T)) → m0.0 ≡ v → m0.1 ≡ [] →
-      m1 ≡ (staged m0.0 (Waiting drawn), m0.1) → m2 ≡ (holding m1.0 t history, (0, Some x) ∷ m1.1) → m3 ≡ (m2.0, (0, None) ∷ rest m2.1) → m3 ≡ in_turn v drawn t history
+  pub in_turn-from : (v : View O R T) (drawn t : ℕ) (history : List (Entry O R)) (x : S)
+      (m0 m1 m2 m3 : Me (Option S) (View O R T)) → m0.0 ≡ v → m0.1 ≡ [] →
+      m1 ≡ (staged m0.0 (Waiting drawn), m0.1) → m2 ≡ (holding m1.0 t history, (0, Some x) ∷ m1.1) →
+      m3 ≡ (m2.0, (0, None) ∷ rest m2.1) → m3 ≡ in_turn v drawn t history
   in_turn-from v drawn t history x m0 m1 m2 m3 v_is none_out drew came out =
-      out ∙ ap (λ (k : Me (Option S) (View O R T)). (k.0, (0, None) ∷ rest k.1)) came ∙ ap (λ (k : Me (Option S) (View O R T)). (holding k.0 t history, (0, None) ∷ k.1)) drew
+      out ∙ ap (λ (k : Me (Option S) (View O R T)). (k.0, (0, None) ∷ rest k.1)) came
+      ∙ ap (λ (k : Me (Option S) (View O R T)). (holding k.0 t history, (0, None) ∷ k.1)) drew
       ∙ ap (λ (u : View O R T). (holding (staged u (Waiting drawn)) t history, (0, None) ∷ m0.1)) v_is
       ∙ ap (λ (l : List (ℕ × Option S)). (holding (staged v (Waiting drawn)) t history, (0, None) ∷ l)) none_out
 
   -- the turn that comes of it
-  pub held_now : (legal : T → List (Entry O R) → Type 0) (start : S → T) (history_of : S → List (Entry O R)) (c : Cell S O R T) (p : Pass S O R T) (seat : Seat (Option S) (View O R T)) (x y : S)
-      (drawn t : ℕ) (history : List (Entry O R)) → IsPassOf legal start c p → 0 < p.room → seat.table_id ≡ p.seat.table_id → seat.me ≡ in_turn p.seat.me.0 drawn t history →
-      ((o : T) → p.seat.me.0.start ≡ Some o → Fits start history_of x o history × legal o history) → length history ≤ most_entries * 256 → x ≡ y →
+  pub held_now : (legal : T → List (Entry O R) → Type 0) (start : S → T) (history_of : S →
+      List (Entry O R)) (c : Cell S O R T) (p : Pass S O R T) (seat : Seat (Option S) (View O R T)) (x y : S)
+      (drawn t : ℕ) (history : List (Entry O R)) → IsPassOf legal start c p → 0 < p.room →
+      seat.table_id ≡ p.seat.table_id → seat.me ≡ in_turn p.seat.me.0 drawn t history →
+      ((o : T) → p.seat.me.0.start ≡ Some o → Fits start history_of x o history × legal o history) →
+      length history ≤ most_entries * 256 → x ≡ y →
       IsHeldOf legal start history_of c record { seat = seat; service = y; who = p.who; room = p.room; added = false }
   held_now legal start history_of c p seat x y drawn t history of_cell some table knows told short same =
       let v = p.seat.me.0 in
       let fits = told (start (given_to c)) of_cell.start in
       let fits_y = subst (λ z. Fits start history_of z (start (given_to c)) history) same fits.0 in
-      let now : IsHeld legal start history_of record { seat = knowing seat (in_turn v drawn t history); service = y; who = p.who; room = p.room; added = false } = record {
+      let now : IsHeld legal start history_of record {
+        seat = knowing seat (in_turn v drawn t history);
+        service = y;
+        who = p.who;
+        room = p.room;
+        added = false;
+      } = record {
         holds = (t, refl);
         slots = refl;
         first = of_cell.first;
@@ -90,21 +108,30 @@ module _ {S O R T : Type 0} where
         some_room = λ fresh. some;
         start = of_cell.start ∙ ap Some (sym fits_y.start);
         added = fits_y.history;
-        lawful = subst (λ s. legal s (history_of y)) (sym fits_y.start) (subst (λ l. legal (start (given_to c)) l) (sym fits_y.history) fits.1);
+        lawful = subst (λ s. legal s (history_of y)) (sym fits_y.start)
+            (subst (λ l. legal (start (given_to c)) l) (sym fits_y.history) fits.1);
         short = short;
       } in
       record {
         table = table ∙ of_cell.table;
-        held = subst (λ (k : Me (Option S) (View O R T)). IsHeld legal start history_of record { seat = knowing seat k; service = y; who = p.who; room = p.room; added = false }) (sym knows) now;
+        held = subst (λ (k : Me (Option S) (View O R T)). IsHeld legal start history_of record {
+          seat = knowing seat k;
+          service = y;
+          who = p.who;
+          room = p.room;
+          added = false;
+        }) (sym knows) now;
         same_start = fits_y.start;
       }
 
   -- the service lies in the slot again
-  pub back_in : (m m' : Me (Option S) (View O R T)) (x : S) → m.1 ≡ (0, None) ∷ [] → m' ≡ (m.0, (0, Some x) ∷ rest m.1) → m' ≡ (m.0, out_with x)
+  pub back_in : (m m' : Me (Option S) (View O R T)) (x : S) → m.1 ≡ (0, None) ∷ [] → m' ≡ (m.0, (0, Some x) ∷ rest m.1) →
+      m' ≡ (m.0, out_with x)
   back_in m m' x slots is = is ∙ ap (λ (l : List (ℕ × Option S)). (m.0, (0, Some x) ∷ rest l)) slots
 
   -- the entry may be published
-  pub ready_now : (legal : T → List (Entry O R) → Type 0) (start : S → T) (history_of : S → List (Entry O R)) (h : Held S O R T) (m : Me (Option S) (View O R T)) →
+  pub ready_now : (legal : T → List (Entry O R) → Type 0) (start : S → T) (history_of : S →
+      List (Entry O R)) (h : Held S O R T) (m : Me (Option S) (View O R T)) →
       IsHeld legal start history_of h → m ≡ (h.seat.me.0, out_with h.service) → h.added ≡ true → IsReady legal history_of m
   ready_now legal start history_of h m held is added =
       let one = subst (λ b. HasAdded b h.seat.me.0.players h.seat.me.0.seen (history_of h.service)) added held.added in
@@ -117,19 +144,25 @@ module _ {S O R T : Type 0} where
         holds = held.holds.1;
         out = refl;
         longer = one.1;
-        lawful = λ o is_o. subst (λ q. legal q (history_of h.service)) (same_start h.seat.me.0.start (start h.service) o held.start is_o) held.lawful;
+        lawful = λ o is_o. subst (λ q. legal q (history_of h.service))
+            (same_start h.seat.me.0.start (start h.service) o held.start is_o) held.lawful;
         mine = one.2;
         room = omega arith;
       } in
       subst (λ k. IsReady legal history_of k) (sym is) there
 
-  pub published_now : (history_of : S → List (Entry O R)) (added : Bool) (v : View O R T) (x : S) (m m' : Me (Option S) (View O R T)) → m ≡ (v, out_with x) → IsPublished history_of added m m' → m' ≡ (left added v (history_of x), out_with x)
+  pub published_now : (history_of : S → List (Entry O R)) (added : Bool) (v : View O R T) (x : S)
+      (m m' : Me (Option S) (View O R T)) → m ≡ (v, out_with x) → IsPublished history_of added m m' →
+      m' ≡ (left added v (history_of x), out_with x)
   published_now history_of false v x m m' is did = did ∙ is
-  published_now history_of true v x m m' is did = did x (ap (λ (k : Me (Option S) (View O R T)). k.1) is) ∙ ap (λ (k : Me (Option S) (View O R T)). (with_entry k.0 (history_of x), k.1)) is
+  published_now history_of true v x m m' is did = did x (ap (λ (k : Me (Option S) (View O R T)). k.1) is)
+      ∙ ap (λ (k : Me (Option S) (View O R T)). (with_entry k.0 (history_of x), k.1)) is
 
   -- the turn may be passed on
-  pub may_pass_now : (legal : T → List (Entry O R) → Type 0) (start : S → T) (history_of : S → List (Entry O R)) (h : Held S O R T) (m : Me (Option S) (View O R T)) →
-      IsHeld legal start history_of h → m ≡ (left h.added h.seat.me.0 (history_of h.service), out_with h.service) → MayPass (Fits start history_of) m
+  pub may_pass_now : (legal : T → List (Entry O R) → Type 0) (start : S → T) (history_of : S →
+      List (Entry O R)) (h : Held S O R T) (m : Me (Option S) (View O R T)) →
+      IsHeld legal start history_of h → m ≡ (left h.added h.seat.me.0 (history_of h.service), out_with h.service) →
+      MayPass (Fits start history_of) m
   may_pass_now legal start history_of h m held is =
       let v = h.seat.me.0 in
       let past = history_of h.service in
@@ -149,12 +182,15 @@ module _ {S O R T : Type 0} where
   abbrev pub free : Bool → View O R T → List (Entry O R) → Me (Option S) (View O R T)
   free added v h = (staged (left added v h) Idle, [])
 
-  pub free-from : (added : Bool) (v : View O R T) (h : List (Entry O R)) (x : S) (m m' : Me (Option S) (View O R T)) → m ≡ (left added v h, out_with x) → m' ≡ (staged m.0 Idle, rest m.1) → m' ≡ free added v h
+  pub free-from : (added : Bool) (v : View O R T) (h : List (Entry O R)) (x : S) (m m' : Me (Option S) (View O R T)) →
+      m ≡ (left added v h, out_with x) → m' ≡ (staged m.0 Idle, rest m.1) → m' ≡ free added v h
   free-from added v h x m m' was is = is ∙ ap (λ (k : Me (Option S) (View O R T)). (staged k.0 Idle, rest k.1)) was
 
   -- the pass that comes of it
-  pub pass_now : (legal : T → List (Entry O R) → Type 0) (start : S → T) (history_of : S → List (Entry O R)) (c : Cell S O R T) (h : Held S O R T) (seat : Seat (Option S) (View O R T)) (front : ℕ) →
-      IsHeldOf legal start history_of c h → seat.table_id ≡ h.seat.table_id → seat.me ≡ free h.added h.seat.me.0 (history_of h.service) → front ≡ length (history_of h.service) →
+  pub pass_now : (legal : T → List (Entry O R) → Type 0) (start : S → T) (history_of : S →
+      List (Entry O R)) (c : Cell S O R T) (h : Held S O R T) (seat : Seat (Option S) (View O R T)) (front : ℕ) →
+      IsHeldOf legal start history_of c h → seat.table_id ≡ h.seat.table_id →
+      seat.me ≡ free h.added h.seat.me.0 (history_of h.service) → front ≡ length (history_of h.service) →
       IsPassOf legal start c record { seat = seat; who = h.who; room = h.room; front = front }
   pass_now legal start history_of c h seat front of_cell table knows long =
       let held = of_cell.held in
@@ -163,7 +199,12 @@ module _ {S O R T : Type 0} where
       let seen = left-seen h.added v past held.added in
       let players = left-keeps (λ u. u.players) h.added v past refl in
       let made = left-made h.added v past in
-      let now : IsPassOf legal start c record { seat = knowing seat (free h.added v past); who = h.who; room = h.room; front = front } = record {
+      let now : IsPassOf legal start c record {
+        seat = knowing seat (free h.added v past);
+        who = h.who;
+        room = h.room;
+        front = front;
+      } = record {
         table = table ∙ of_cell.table;
         idle = refl;
         slots = refl;
@@ -173,21 +214,32 @@ module _ {S O R T : Type 0} where
         front = long ∙ ap (λ (l : List (Entry O R)). length l) (sym seen);
         lawful = subst (λ l. legal (start (given_to c)) l) (sym seen) (subst (λ s. legal s past) of_cell.same_start held.lawful);
       } in
-      subst (λ (k : Me (Option S) (View O R T)). IsPassOf legal start c record { seat = knowing seat k; who = h.who; room = h.room; front = front }) (sym knows) now
+      subst (λ (k : Me (Option S) (View O R T)). IsPassOf legal start c record {
+        seat = knowing seat k;
+        who = h.who;
+        room = h.room;
+        front = front;
+      }) (sym knows) now
 
   -- what it has seen, its players and its turns
-  pub free-seen : (added : Bool) (v : View O R T) (h : List (Entry O R)) (m : Me (Option S) (View O R T)) → HasAdded added v.players v.seen h → m ≡ free added v h → m.0.seen ≡ h
+  pub free-seen : (added : Bool) (v : View O R T) (h : List (Entry O R)) (m : Me (Option S) (View O R T)) →
+      HasAdded added v.players v.seen h → m ≡ free added v h → m.0.seen ≡ h
   free-seen added v h m one is = ap (λ (k : Me (Option S) (View O R T)). k.0.seen) is ∙ left-seen added v h one
 
-  pub free-players : (added : Bool) (v : View O R T) (h : List (Entry O R)) (m : Me (Option S) (View O R T)) → m ≡ free added v h → m.0.players ≡ v.players
-  free-players added v h m is = ap (λ (k : Me (Option S) (View O R T)). k.0.players) is ∙ left-keeps (λ u. u.players) added v h refl
+  pub free-players : (added : Bool) (v : View O R T) (h : List (Entry O R)) (m : Me (Option S) (View O R T)) →
+      m ≡ free added v h → m.0.players ≡ v.players
+  free-players added v h m is = ap (λ (k : Me (Option S) (View O R T)). k.0.players) is
+      ∙ left-keeps (λ u. u.players) added v h refl
 
-  pub free-holds : (added : Bool) (v : View O R T) (h : List (Entry O R)) (m : Me (Option S) (View O R T)) → m ≡ free added v h → m.0.holds ≡ v.holds
+  pub free-holds : (added : Bool) (v : View O R T) (h : List (Entry O R)) (m : Me (Option S) (View O R T)) →
+      m ≡ free added v h → m.0.holds ≡ v.holds
   free-holds added v h m is = ap (λ (k : Me (Option S) (View O R T)). k.0.holds) is ∙ left-keeps (λ u. u.holds) added v h refl
 
   -- the joined pass
-  pub joined_now : (legal : T → List (Entry O R) → Type 0) (start : S → T) (c : Cell S O R T) (p q : Pass S O R T) (seat : Seat (Option S) (View O R T)) (front : ℕ) →
-      IsPassOf legal start c p → IsPassOf legal start c q → seat.table_id ≡ p.seat.table_id → seat.me ≡ (joined p.seat.me.0 q.seat.me.0, p.seat.me.1) → front ≡ max p.front q.front →
+  pub joined_now : (legal : T → List (Entry O R) → Type 0) (start : S → T) (c : Cell S O R T) (p q : Pass S O R T)
+      (seat : Seat (Option S) (View O R T)) (front : ℕ) →
+      IsPassOf legal start c p → IsPassOf legal start c q → seat.table_id ≡ p.seat.table_id →
+      seat.me ≡ (joined p.seat.me.0 q.seat.me.0, p.seat.me.1) → front ≡ max p.front q.front →
       IsPassOf legal start c record { seat = seat; who = p.who; room = p.room; front = front }
   joined_now legal start c p q seat front mine theirs table knows long =
       let v = p.seat.me.0 in
@@ -195,29 +247,45 @@ module _ {S O R T : Type 0} where
       let first = mine.room in
       let second = theirs.room in
       let both = length-append v.players w.players in
-      let now : IsPassOf legal start c record { seat = knowing seat (joined v w, p.seat.me.1); who = p.who; room = p.room; front = front } = record {
+      let now : IsPassOf legal start c record {
+        seat = knowing seat (joined v w, p.seat.me.1);
+        who = p.who;
+        room = p.room;
+        front = front;
+      } = record {
         table = table ∙ mine.table;
         idle = refl;
         slots = mine.slots;
         first = (mine.first.0 ++ w.players, ap (λ (ws : List Who). ws ++ w.players) mine.first.1);
         room = omega arith;
         start = mine.start;
-        front = long ∙ ap (λ (n : ℕ). max n q.front) mine.front ∙ ap (λ (n : ℕ). max (length v.seen) n) theirs.front ∙ length-longer v.seen w.seen;
+        front = long ∙ ap (λ (n : ℕ). max n q.front) mine.front ∙ ap (λ (n : ℕ). max (length v.seen) n) theirs.front
+            ∙ length-longer v.seen w.seen;
         lawful = longer-either (legal (start (given_to c))) v.seen w.seen mine.lawful theirs.lawful;
       } in
-      subst (λ (k : Me (Option S) (View O R T)). IsPassOf legal start c record { seat = knowing seat k; who = p.who; room = p.room; front = front }) (sym knows) now
+      subst (λ (k : Me (Option S) (View O R T)). IsPassOf legal start c record {
+        seat = knowing seat k;
+        who = p.who;
+        room = p.room;
+        front = front;
+      }) (sym knows) now
 
   -- a turn in which no entry was added has room in the history
-  pub short_now : (legal : T → List (Entry O R) → Type 0) (start : S → T) (history_of : S → List (Entry O R)) (h : Held S O R T) → IsHeld legal start history_of h → h.added ≡ false → length (history_of h.service) < 2 ^ 32 - 1
+  pub short_now : (legal : T → List (Entry O R) → Type 0) (start : S → T) (history_of : S →
+      List (Entry O R)) (h : Held S O R T) → IsHeld legal start history_of h → h.added ≡ false →
+      length (history_of h.service) < 2 ^ 32 - 1
   short_now legal start history_of h held fresh =
       let same = subst (λ b. HasAdded b h.seat.me.0.players h.seat.me.0.seen (history_of h.service)) fresh held.added in
       let long = ap (λ (l : List (Entry O R)). length l) same in
       let short = held.short in omega arith
 
   -- the turn with its entry
-  pub acted_now : (m : Machine T O R) (start : S → T) (history_of : S → List (Entry O R)) (h : Held S O R T) (x : S) (step : ℕ) (op : O) (reply : R) →
-      IsHeld (IsLegal m) start history_of h → h.added ≡ false → h.seat.me.0.players ≡ h.who ∷ [] → IsAbove (history_of h.service) h.who.number step → m.in_range (start h.service) op ≡ true →
-      m.reply_of (state_after m (start h.service) (history_of h.service)) h.who op ≡ Some reply → history_of x ≡ history_of h.service ++ entry h.who step op reply ∷ [] → start x ≡ start h.service →
+  pub acted_now : (m : Machine T O R) (start : S → T) (history_of : S → List (Entry O R)) (h : Held S O R T) (x : S)
+      (step : ℕ) (op : O) (reply : R) →
+      IsHeld (IsLegal m) start history_of h → h.added ≡ false → h.seat.me.0.players ≡ h.who ∷ [] →
+      IsAbove (history_of h.service) h.who.number step → m.in_range (start h.service) op ≡ true →
+      m.reply_of (state_after m (start h.service) (history_of h.service)) h.who op ≡ Some reply →
+      history_of x ≡ history_of h.service ++ entry h.who step op reply ∷ [] → start x ≡ start h.service →
       IsHeld (IsLegal m) start history_of record { seat = h.seat; service = x; who = h.who; room = h.room - 1; added = true }
   acted_now m start history_of h x step op reply held fresh alone later range gives grew same =
       let e = entry h.who step op reply in
@@ -231,7 +299,12 @@ module _ {S O R T : Type 0} where
         room = let count = ap added_count fresh in let room = held.room in omega arith;
         some_room = λ wrong. absurd (cc);
         start = held.start ∙ ap Some (sym same);
-        added = (e, grew ∙ ap (λ (l : List (Entry O R)). l ++ e ∷ []) was, subst (λ (ws : List Who). is_by ws e ≡ true) (sym alone) (ap (λ b. b || false) (eq-eqb h.who.number h.who.number refl)));
+        added = (
+          e,
+          grew ∙ ap (λ (l : List (Entry O R)). l ++ e ∷ []) was,
+          subst (λ (ws : List Who). is_by ws e ≡ true) (sym alone)
+              (ap (λ b. b || false) (eq-eqb h.who.number h.who.number refl)),
+        );
         lawful = subst (λ s. IsLegal m s (history_of x)) (sym same) (subst (λ l. IsLegal m (start h.service) l) (sym grew) legal);
         short = held.short;
       }

@@ -15,21 +15,25 @@ neither_has false c first second = second
 
 pub has-append : (ws us : List Who) (number : ℕ) → has (ws ++ us) number ≡ (has ws number || has us number)
 has-append [] us number = refl
-has-append (w ∷ ws) us number = ap (λ b. eqb w.number number || b) (has-append ws us number) ∙ turned (eqb w.number number) (has ws number) (has us number) where
-  turned : (a b c : Bool) → (a || (b || c)) ≡ ((a || b) || c)
-  turned true b c = refl
-  turned false b c = refl
+has-append (w ∷ ws) us number = ap (λ b. eqb w.number number || b) (has-append ws us number)
+    ∙ turned (eqb w.number number) (has ws number) (has us number) where
+      turned : (a b c : Bool) → (a || (b || c)) ≡ ((a || b) || c)
+      turned true b c = refl
+      turned false b c = refl
 
 -- a list of one has what that one's number is
 pub has-one : (w : Who) (number : ℕ) → has (w ∷ []) number ≡ true → w.number ≡ number
-has-one w number is = ⊎_elim (λ same. eqb-true w.number number same) (λ none. absurd (cc)) (or_cases (eqb w.number number) false is)
+has-one w number is = ⊎_elim (λ same. eqb-true w.number number same) (λ none. absurd (cc))
+    (or_cases (eqb w.number number) false is)
 
 -- the first of a list is in it
 pub has-first : (w : Who) (ws : List Who) (number : ℕ) → has (w ∷ []) number ≡ true → has (w ∷ ws) number ≡ true
-has-first w ws number is = ⊎_elim (λ same. or_left (eqb w.number number) (has ws number) same) (λ none. absurd (cc)) (or_cases (eqb w.number number) false is)
+has-first w ws number is = ⊎_elim (λ same. or_left (eqb w.number number) (has ws number) same) (λ none. absurd (cc))
+    (or_cases (eqb w.number number) false is)
 
 -- where the first differs from the others, none of the others has its number
-pub first-apart : (w : Who) (ws : List Who) (number : ℕ) → has ws w.number ≡ false → has ws number ≡ true → has (w ∷ []) number ≡ true → ⊥
+pub first-apart : (w : Who) (ws : List Who) (number : ℕ) → has ws w.number ≡ false → has ws number ≡ true →
+    has (w ∷ []) number ≡ true → ⊥
 first-apart w ws number none theirs mine =
     let wrong = subst (λ n. has ws n ≡ true) (sym (has-one w number mine)) theirs in absurd (cc)
 
@@ -62,10 +66,12 @@ fronts (x ∷ short) (y ∷ long) c d same fits =
 
 module _ {O R : Type 0} where
   pub GoesOn-same : (ws : List Who) (h : List (Entry O R)) → GoesOn ws h h
-  GoesOn-same ws h = let P : Entry O R → Type 0 = λ e. is_by ws e ≡ false in record { later = []; longer = sym (append-nil h); others = All-nil P }
+  GoesOn-same ws h = let P : Entry O R → Type 0 = λ e. is_by ws e ≡ false in
+      record { later = []; longer = sym (append-nil h); others = All-nil P }
 
   -- an entry of another more
-  pub GoesOn-push : (ws : List Who) (seen h : List (Entry O R)) (e : Entry O R) → GoesOn ws seen h → is_by ws e ≡ false → GoesOn ws seen (h ++ e ∷ [])
+  pub GoesOn-push : (ws : List Who) (seen h : List (Entry O R)) (e : Entry O R) → GoesOn ws seen h → is_by ws e ≡ false →
+      GoesOn ws seen (h ++ e ∷ [])
   GoesOn-push ws seen h e goes other =
       let P : Entry O R → Type 0 = λ e. is_by ws e ≡ false in
       record {
@@ -75,7 +81,8 @@ module _ {O R : Type 0} where
       }
 
   -- fewer players
-  pub GoesOn-fewer : (ws us : List Who) (seen h : List (Entry O R)) → ((e : Entry O R) → is_by ws e ≡ false → is_by us e ≡ false) → GoesOn ws seen h → GoesOn us seen h
+  pub GoesOn-fewer : (ws us : List Who) (seen h : List (Entry O R)) →
+      ((e : Entry O R) → is_by ws e ≡ false → is_by us e ≡ false) → GoesOn ws seen h → GoesOn us seen h
   GoesOn-fewer ws us seen h fewer goes =
       let P : Entry O R → Type 0 = λ e. is_by ws e ≡ false in
       let Q : Entry O R → Type 0 = λ e. is_by us e ≡ false in
@@ -103,13 +110,15 @@ module _ {O R : Type 0} where
   -- of the players a history that goes on has what was seen
   pub own-GoesOn : (ws : List Who) (seen h : List (Entry O R)) → GoesOn ws seen h → own ws h ≡ own ws seen
   own-GoesOn ws seen h goes =
-      ap (own ws) goes.longer ∙ filter-append (is_by ws) seen goes.later ∙ ap (λ l. own ws seen ++ l) (own-none ws goes.later goes.others) ∙ append-nil (own ws seen)
+      ap (own ws) goes.longer ∙ filter-append (is_by ws) seen goes.later
+      ∙ ap (λ l. own ws seen ++ l) (own-none ws goes.later goes.others) ∙ append-nil (own ws seen)
 
   -- a history whose entries are all of the players is what they have seen of it
   pub GoesOn-all : (ws : List Who) (seen h : List (Entry O R)) → GoesOn ws seen h → All (λ e. is_by ws e ≡ true) h → h ≡ seen
   GoesOn-all ws seen h goes all =
       let P : Entry O R → Type 0 = λ e. is_by ws e ≡ true in
-      goes.longer ∙ ap (λ l. seen ++ l) (none goes.later (All-back P seen goes.later (subst (All P) goes.longer all)) goes.others) ∙ append-nil seen
+      goes.longer ∙ ap (λ l. seen ++ l)
+      (none goes.later (All-back P seen goes.later (subst (All P) goes.longer all)) goes.others) ∙ append-nil seen
     where
       none : (l : List (Entry O R)) → All (λ e. is_by ws e ≡ true) l → All (λ e. is_by ws e ≡ false) l → l ≡ []
       none [] mine others = refl
@@ -119,13 +128,15 @@ module _ {O R : Type 0} where
           let yes = All-head P e es mine in
           let no = All-head Q e es others in absurd (cc)
 
-  neither : (ws us : List Who) (l : List (Entry O R)) → All (λ e. is_by ws e ≡ false) l → All (λ e. is_by us e ≡ false) l → All (λ e. is_by (ws ++ us) e ≡ false) l
+  neither : (ws us : List Who) (l : List (Entry O R)) → All (λ e. is_by ws e ≡ false) l →
+      All (λ e. is_by us e ≡ false) l → All (λ e. is_by (ws ++ us) e ≡ false) l
   neither ws us [] first second = let P : Entry O R → Type 0 = λ e. is_by (ws ++ us) e ≡ false in All-nil P
   neither ws us (e ∷ es) first second =
       let P : Entry O R → Type 0 = λ e. is_by ws e ≡ false in
       let Q : Entry O R → Type 0 = λ e. is_by us e ≡ false in
       let B : Entry O R → Type 0 = λ e. is_by (ws ++ us) e ≡ false in
-      All-cons B e es (has-append ws us e.who.number ∙ neither_has (is_by ws e) (is_by us e) (All-head P e es first) (All-head Q e es second))
+      All-cons B e es (has-append ws us e.who.number
+      ∙ neither_has (is_by ws e) (is_by us e) (All-head P e es first) (All-head Q e es second))
       (neither ws us es (All-tail P e es first) (All-tail Q e es second))
 
   -- what two have seen goes on to the longer of both, and that to the whole history
@@ -134,7 +145,8 @@ module _ {O R : Type 0} where
     pub first : GoesOn ws xs seen
     pub second : GoesOn us ys seen
 
-  pub GoesOn-longer : (ws us : List Who) (xs ys history : List (Entry O R)) → GoesOn ws xs history → GoesOn us ys history → BothGoOn ws us xs ys history (longer xs ys)
+  pub GoesOn-longer : (ws us : List Who) (xs ys history : List (Entry O R)) → GoesOn ws xs history →
+      GoesOn us ys history → BothGoOn ws us xs ys history (longer xs ys)
   GoesOn-longer ws us xs ys history first second = by_length (cases_lt (length xs) (length ys)) where
     P : Entry O R → Type 0
     P = λ e. is_by ws e ≡ false
@@ -147,7 +159,11 @@ module _ {O R : Type 0} where
         let f = fronts xs ys first.later second.later (sym first.longer ∙ second.longer) (omega arith) in
         let others = subst (All P) f.behind_is first.others in
         subst (BothGoOn ws us xs ys history) (sym (ap (λ b. cond b ys xs) (lt-ltb (length xs) (length ys) below))) record {
-          whole = record { later = second.later; longer = second.longer; others = neither ws us second.later (All-back P f.more second.later others) second.others };
+          whole = record {
+            later = second.later;
+            longer = second.longer;
+            others = neither ws us second.later (All-back P f.more second.later others) second.others;
+          };
           first = record { later = f.more; longer = f.long_is; others = All-front P f.more second.later others };
           second = GoesOn-same us ys;
         }
@@ -155,7 +171,11 @@ module _ {O R : Type 0} where
         let f = fronts ys xs second.later first.later (sym second.longer ∙ first.longer) above in
         let others = subst (All Q) f.behind_is second.others in
         subst (BothGoOn ws us xs ys history) (sym (ap (λ b. cond b ys xs) (le-ltb (length xs) (length ys) above))) record {
-          whole = record { later = first.later; longer = first.longer; others = neither ws us first.later first.others (All-back Q f.more first.later others) };
+          whole = record {
+            later = first.later;
+            longer = first.longer;
+            others = neither ws us first.later first.others (All-back Q f.more first.later others);
+          };
           first = GoesOn-same ws xs;
           second = record { later = f.more; longer = f.long_is; others = All-front Q f.more first.later others };
         }

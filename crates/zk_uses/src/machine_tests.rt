@@ -81,6 +81,10 @@ const PLUGS: [Row; 12] = [
     (0, Submit(0, None), "Some(Sub(Fresh(1, 0)))"),
 ];
 
+/// Two delays that end at one moment.
+const BOTH_END: &str =
+    "Some(Now(5, Listed { items: [Expiry { item: 1, submitted: Fresh(0, 0) }, Expiry { item: 0, submitted: Fresh(1, 0) }] }))";
+
 /// Equal deadlines end in the order of arming, an item that is armed anew goes to the end, and what a
 /// queue refuses is told.
 const EXPIRES: [Row; 11] = [
@@ -91,11 +95,7 @@ const EXPIRES: [Row; 11] = [
     (0, Reschedule(0, 0, 5), "Some(Armed)"),
     (0, Announce(4), "Some(Now(4, Listed { items: [] }))"),
     (0, Remaining(2), "Some(Number(2))"),
-    (
-        0,
-        Announce(1),
-        "Some(Now(5, Listed { items: [Expiry { item: 1, submitted: Fresh(0, 0) }, Expiry { item: 0, submitted: Fresh(1, 0) }] }))",
-    ),
+    (0, Announce(1), BOTH_END),
     (
         0,
         Announce(1),

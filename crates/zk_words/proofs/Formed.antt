@@ -1,19 +1,18 @@
 -- A line is the text of the form that it is read as, and its words fill the slots of its row.
 use Rattle.std.proofs.Common.{◌≡◌, ℕ, Bool, true, false, cond, List, [], ◌∷◌, map, Option, Some, None, refl, sym, ap, ◌∙◌}
 use Rattle.std.specs.Prelude.{bytes_eq}
-use Rattle.std.specs.List.{list_all, list_any}
+use Rattle.std.specs.List.{list_all}
 use Rattle.std.proofs.lemmas.Bool.{and_parts}
 use Rattle.std.proofs.lemmas.Slice.Eq.{bytes_eq-Decides}
 use Rattle.std.proofs.lemmas.List.Splits.{join_with_byte-slice_split}
 use Rattle.zk_base.proofs.Lists.{find-passes}
 use Rattle.zk_words.specs.declared.word.Head.{Head}
-use Rattle.zk_words.specs.declared.line.Line.TheVariants.{Unbuilt, Misspelled, Formed}
-use Rattle.zk_words.specs.Lines.{head_of, are_behind, formed, rowless, line_after, line_of_words, line_of, form_words, IsForm}
+use Rattle.zk_words.specs.declared.line.Line.TheVariants.{Misspelled, Formed}
+use Rattle.zk_words.specs.Lines.{head_of, are_behind, line_after, line_of_words, line_of, form_words, IsForm}
 use Rattle.zk_words.specs.Parts.{Placed, parts_of, fits}
-use Rattle.zk_words.specs.Spelled.{part_is_spelled, part_is_later}
+use Rattle.zk_words.specs.Spelled.{part_is_spelled}
 use Rattle.zk_words.specs.Table.{heads, row_of}
 use Rattle.zk_words.specs.Text.{line_text}
-use Rattle.zk_words.specs.Unbuilt.{is_unbuilt}
 use Rattle.zk_words.specs.Pieces.{words_of}
 use Rattle.zk_words.proofs.Placed.{texts-parts_of}
 
@@ -25,29 +24,16 @@ head_spelled first head found =
 abbrev Spells : List (List ℕ) → Head → List Placed → Type 0
 Spells words head parts = (words ≡ form_words head parts) × IsForm head parts
 
--- a line that is formed has the parts that it is formed of
-formed_of : (h head : Head) (ps parts : List Placed) → formed h ps ≡ Formed head parts → (h ≡ head) × (ps ≡ parts)
-formed_of h head ps parts said = by_later (list_any part_is_later ps) said where
-  by_later : (b : Bool) → cond b Unbuilt (Formed h ps) ≡ Formed head parts → (h ≡ head) × (ps ≡ parts)
-  by_later true here = absurd (cc)
-  by_later false here = (cc, cc)
-
-rowless_none : (first : List ℕ) (head : Head) (parts : List Placed) → rowless first ≡ Formed head parts → ⊥
-rowless_none first head parts said = by_built (is_unbuilt first) said where
-  by_built : (b : Bool) → cond b Unbuilt Misspelled ≡ Formed head parts → ⊥
-  by_built true here = absurd (cc)
-  by_built false here = absurd (cc)
-
 after_spelled : (first : List ℕ) (words : List (List ℕ)) (found : Option Head) (head : Head) (parts : List Placed) → head_of first ≡ found
-    → line_after found first words ≡ Formed head parts → Spells (first ∷ words) head parts
-after_spelled first words None head parts is said = absurd (rowless_none first head parts said)
+    → line_after found words ≡ Formed head parts → Spells (first ∷ words) head parts
+after_spelled first words None head parts is said = absurd (cc)
 after_spelled first words (Some h) head parts is said = by_test (are_behind (row_of h) words) refl said where
   ps : List Placed
   ps = parts_of (row_of h).slots (row_of h).rest words
 
-  by_test : (behind : Bool) → are_behind (row_of h) words ≡ behind → cond behind (formed h ps) Misspelled ≡ Formed head parts → Spells (first ∷ words) head parts
+  by_test : (behind : Bool) → are_behind (row_of h) words ≡ behind → cond behind (Formed h ps) Misspelled ≡ Formed head parts → Spells (first ∷ words) head parts
   by_test true here same =
-      let are = formed_of h head ps parts same in
+      let are : (h ≡ head) × (ps ≡ parts) = (cc, cc) in
       let both = and_parts (fits (row_of h).slots (row_of h).rest words) (list_all part_is_spelled ps) here in
       let texts = texts-parts_of (row_of h).slots (row_of h).rest words both.0 in
       let spelled : first ≡ (row_of h).first = head_spelled first h is in (

@@ -1,4 +1,3 @@
-pub mod Behind
 pub mod FirstPiece
 pub mod Formed
 pub mod HexText

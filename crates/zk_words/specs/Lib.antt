@@ -10,5 +10,4 @@ pub mod Spelled
 pub mod Table
 pub mod Text
 pub mod Timeouts
-pub mod Unbuilt
 pub mod Validators

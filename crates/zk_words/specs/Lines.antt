@@ -1,14 +1,13 @@
 use Rattle.std.specs.Prelude.{◌≡◌, ℕ, Bool, true, Option, Some, None, List, [], ◌∷◌, map, find, if◌then◌else◌}
-use Rattle.std.specs.List.{list_all, list_any}
+use Rattle.std.specs.List.{list_all}
 use Rattle.std.specs.Str.{bytes_eq}
 use Rattle.zk_words.specs.declared.word.Head.{Head}
 use Rattle.zk_words.specs.declared.line.Line.{Line}
-use Rattle.zk_words.specs.declared.line.Line.TheVariants.{Unbuilt, Misspelled, Formed}
+use Rattle.zk_words.specs.declared.line.Line.TheVariants.{Misspelled, Formed}
 use Rattle.zk_words.specs.Parts.{Placed, parts_of, fits}
 use Rattle.zk_words.specs.Rows.{Form}
-use Rattle.zk_words.specs.Spelled.{part_is_spelled, part_is_later, are_spelled}
+use Rattle.zk_words.specs.Spelled.{part_is_spelled, are_spelled}
 use Rattle.zk_words.specs.Table.{heads, row_of}
-use Rattle.zk_words.specs.Unbuilt.{is_unbuilt}
 use Rattle.zk_words.specs.Pieces.{words_of}
 
 -- what a line's first word says that the line is
@@ -19,29 +18,21 @@ head_of first = find (λ head. bytes_eq first (row_of head).first) heads
 abbrev pub are_behind : Form → List (List ℕ) → Bool
 are_behind form words = are_spelled form.slots form.rest words
 
--- a line whose words are in their slots
-abbrev pub formed : Head → List Placed → Line
-formed head parts = (if list_any part_is_later parts then Unbuilt else Formed head parts)
-
 -- a line whose first word is known, by the words behind it
 abbrev pub line_behind : Head → List (List ℕ) → Line
 line_behind head words =
     let form = row_of head in
-    if are_behind form words then formed head (parts_of form.slots form.rest words) else Misspelled
-
--- a line whose first word has no row
-abbrev pub rowless : List ℕ → Line
-rowless first = (if is_unbuilt first then Unbuilt else Misspelled)
+    if are_behind form words then Formed head (parts_of form.slots form.rest words) else Misspelled
 
 -- a line, by the head that its first word is
-abbrev pub line_after : Option Head → List ℕ → List (List ℕ) → Line
-line_after None first words = rowless first
-line_after (Some head) first words = line_behind head words
+abbrev pub line_after : Option Head → List (List ℕ) → Line
+line_after None words = Misspelled
+line_after (Some head) words = line_behind head words
 
 -- what the words of a line say
 abbrev pub line_of_words : List (List ℕ) → Line
 line_of_words [] = Misspelled
-line_of_words (first ∷ words) = line_after (head_of first) first words
+line_of_words (first ∷ words) = line_after (head_of first) words
 
 -- what a line says by its spelling alone
 abbrev pub line_of : List ℕ → Line

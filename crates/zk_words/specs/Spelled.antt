@@ -1,5 +1,5 @@
-use Rattle.std.specs.Prelude.{ℕ, Bool, true, false, ◌&&◌, ◌||◌, List, is_some, codes, if◌then◌else◌}
-use Rattle.std.specs.List.{list_all, list_any}
+use Rattle.std.specs.Prelude.{ℕ, Bool, true, false, ◌&&◌, ◌||◌, List, is_some, codes}
+use Rattle.std.specs.List.{list_all}
 use Rattle.std.specs.Str.{bytes_eq}
 use Rattle.zk_base.specs.Names.{is_spelled}
 use Rattle.zk_words.specs.declared.slot.Choice.{Choice}
@@ -7,8 +7,6 @@ use Rattle.zk_words.specs.declared.slot.Choice.TheVariants.{Mode, State, Drain}
 use Rattle.zk_words.specs.declared.slot.Rest.{Rest}
 use Rattle.zk_words.specs.declared.slot.Slot.{Slot}
 use Rattle.zk_words.specs.declared.slot.Slot.TheVariants.{New, Owner, Object, Rawable, Number, Priority, Either, Hex, Wait, Event, Valid, Raw}
-use Rattle.zk_words.specs.declared.spelled.Spelling.{Spelling}
-use Rattle.zk_words.specs.declared.spelled.Spelling.TheVariants.{Wrong, Later, Right}
 use Rattle.zk_words.specs.Events.{is_event}
 use Rattle.zk_words.specs.Hex.{is_hex}
 use Rattle.zk_words.specs.Numbers.{is_number, priority_of}
@@ -51,24 +49,6 @@ is_spelled_in Raw word = bytes_eq word (codes "raw")
 abbrev pub part_is_spelled : Placed → Bool
 part_is_spelled part = is_spelled_in part.slot part.text
 
--- whether the grammar has the word in its slot, and the program can't play it yet: a thread that is a user
-abbrev pub is_later_in : Slot → List ℕ → Bool
-is_later_in (Either Mode) word = bytes_eq word (choice_text Mode true)
-is_later_in slot word = false
-
--- whether the word of a part is such a one
-abbrev pub part_is_later : Placed → Bool
-part_is_later part = is_later_in part.slot part.text
-
--- rightly spelled words, with one that can't be played yet or none
-abbrev pub right : Bool → Spelling
-right later = (if later then Later else Right)
-
 -- whether there is a word for each slot and a slot for each word, each spelled as its slot asks
 abbrev pub are_spelled : List Slot → Rest → List (List ℕ) → Bool
 are_spelled slots rest words = fits slots rest words && list_all part_is_spelled (parts_of slots rest words)
-
--- how words stand in their slots, where it is known whether one before them can't be played yet
-abbrev pub spelling_of : Bool → List Slot → Rest → List (List ℕ) → Spelling
-spelling_of later slots rest words =
-    if are_spelled slots rest words then right (later || list_any part_is_later (parts_of slots rest words)) else Wrong

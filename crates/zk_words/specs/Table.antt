@@ -154,6 +154,7 @@ call_row word.Release = exactly (codes "release") (object ∷ [])
 call_row word.Revoke = exactly (codes "revoke") (thread ∷ object ∷ [])
 call_row word.Public = exactly (codes "public") (object ∷ [])
 call_row word.Init = exactly (codes "init") (Rawable ∷ [])
+call_row word.User = exactly (codes "user") []
 
 -- the table: the form of each line behind the first
 abbrev pub row_of : Head → Form
@@ -163,7 +164,7 @@ row_of Script = exactly (codes "script") (Owner ∷ [])
 row_of End = exactly (codes "end") []
 row_of (Call word) = call_row word
 
--- the heads of the lines that are built
+-- the heads of all lines
 abbrev pub heads : List Head
 heads =
     Declare kind.Thread ∷ Declare kind.Queue ∷ Declare kind.Item
@@ -177,4 +178,5 @@ heads =
     ∷ Call word.Raise ∷ Call word.Clear ∷ Call word.Check ∷ Call word.Poll
     ∷ Call word.Claim ∷ Call word.Finish ∷ Call word.Publish ∷ Call word.Notify ∷ Call word.Read
     ∷ Call word.Mask ∷ Call word.Enable ∷ Call word.SubWait
-    ∷ Call word.Grant ∷ Call word.Release ∷ Call word.Revoke ∷ Call word.Public ∷ Call word.Init ∷ []
+    ∷ Call word.Grant ∷ Call word.Release ∷ Call word.Revoke ∷ Call word.Public ∷ Call word.Init
+    ∷ Call word.User ∷ []

@@ -1,8 +1,9 @@
-ghost use Rattle.std.specs.Prelude.{◌≡◌, ◌++◌, true, ◌<◌, OnOk};
+ghost use Rattle.std.specs.Prelude.{◌≡◌, ◌++◌, true, ◌<◌, OnOk, OnErr};
 ghost use Rattle.std.specs.List.{list_all};
+ghost use Rattle.zk_base.specs.Fronts.{StaysInFront};
 ghost use Rattle.zk_words.specs.Hex.{is_digit, digit_value, digit_of, is_hex, msg_of, byte_text, hex_text};
 
-use zk_base::{LONGEST_MESSAGE, Msg, NoMemory};
+use zk_base::{LONGEST_MESSAGE, Msg, NoMemory, put};
 
 /// Whether a word is a message in lower-case hexadecimal digits, two for each byte, of whatever length.
 pub fn is_hex(word: &[u8]) -> bool
@@ -56,9 +57,10 @@ pub fn digit_value(digit: u8) -> u8
     }
 }
 
-/// Appends bytes in lower-case hexadecimal digits, two for each. After an error a part may stand there.
+/// Appends bytes in lower-case hexadecimal digits, two for each. After an error a part may stand behind what was there.
 pub fn put_hex(out: &mut Vec<u8>, bytes: &[u8]) -> Result<(), NoMemory>
-    ensures { OnOk result (out.new.items ≡ out.old.items ++ hex_text bytes.now) }
+    ensures text { OnOk result (out.new.items ≡ out.old.items ++ hex_text bytes.now) }
+    ensures kept { OnErr result (StaysInFront out.old.items out.new.items) }
 {
     for byte in bytes {
         put_byte(out, *byte)?;
@@ -68,11 +70,10 @@ pub fn put_hex(out: &mut Vec<u8>, bytes: &[u8]) -> Result<(), NoMemory>
 
 /// Appends the two digits of a byte.
 pub fn put_byte(out: &mut Vec<u8>, byte: u8) -> Result<(), NoMemory>
-    ensures { OnOk result (out.new.items ≡ out.old.items ++ byte_text byte) }
+    ensures ok { OnOk result (out.new.items ≡ out.old.items ++ byte_text byte) }
+    ensures err { OnErr result (out.new.items ≡ out.old.items) }
 {
-    out.push(digit_of(byte / 16))?;
-    out.push(digit_of(byte % 16))?;
-    Ok(())
+    put(out, &[digit_of(byte / 16), digit_of(byte % 16)])
 }
 
 fn digit_of(value: u8) -> u8

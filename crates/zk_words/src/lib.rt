@@ -12,7 +12,6 @@ mod slot;
 mod spelled;
 mod table;
 mod timeout;
-mod unbuilt;
 mod validator;
 mod word;
 

@@ -1,18 +1,15 @@
 ghost use Rattle.std.specs.Prelude.{◌≡◌};
-ghost use Rattle.zk_words.specs.Lines.{line_behind, rowless, line_of};
+ghost use Rattle.zk_words.specs.Lines.{line_behind, line_of};
 
 use crate::parts::Parts;
 use crate::pieces::Words;
-use crate::spelled::{Spelling, spelling_of};
+use crate::spelled::are_spelled;
 use crate::table::{head_of, row_of};
-use crate::unbuilt::is_unbuilt;
 use crate::word::Head;
 
 /// One line of a scenario behind the first, by its spelling alone.
 #[derive(Debug, Drop)]
 pub enum Line<'a> {
-    /// The grammar has the line, and the program can't play it yet.
-    Unbuilt,
     /// No form of a line, or a wrong spelling.
     Misspelled,
     /// What the line is, and the words behind its first.
@@ -29,17 +26,7 @@ pub fn line_of(line: &[u8]) -> Line<'_>
     };
     match head_of(first) {
         Some(head) => line_behind(head, words),
-        None => rowless(first),
-    }
-}
-
-fn rowless(first: &[u8]) -> Line<'_>
-    ensures { result ≡ rowless first.now }
-{
-    if is_unbuilt(first) {
-        Line::Unbuilt
-    } else {
-        Line::Misspelled
+        None => Line::Misspelled,
     }
 }
 
@@ -47,9 +34,9 @@ fn line_behind<'a>(head: Head, words: Words<'a>) -> Line<'a>
     ensures { result ≡ line_behind head words.entry }
 {
     let row = row_of(head);
-    match spelling_of(&row, words.again()) {
-        Spelling::Wrong => Line::Misspelled,
-        Spelling::Later => Line::Unbuilt,
-        Spelling::Right => Line::Formed(head, Parts::of(&row, words)),
+    if are_spelled(&row, words.again()) {
+        Line::Formed(head, Parts::of(&row, words))
+    } else {
+        Line::Misspelled
     }
 }

@@ -1,7 +1,7 @@
-ghost use Rattle.std.specs.Prelude.{◌≡◌, false, []};
+ghost use Rattle.std.specs.Prelude.{◌≡◌, []};
 ghost use Rattle.std.specs.List.{list_all, list_any};
 ghost use Rattle.zk_words.specs.Events.{asks, is_event};
-ghost use Rattle.zk_words.specs.Spelled.{choice_text, same_choice, is_spelled_in, is_later_in, right, spelling_of};
+ghost use Rattle.zk_words.specs.Spelled.{choice_text, same_choice, is_spelled_in, are_spelled};
 
 use crate::event::{is_event, is_ignore};
 use crate::hex::is_hex;
@@ -39,83 +39,54 @@ pub fn same_choice(choice: Choice, other: Choice) -> bool
     }
 }
 
-/// How the words behind a line's first stand in the slots of its row.
-#[derive(Clone, Copy, Debug)]
-pub enum Spelling {
-    /// Not a word for each slot and a slot for each word, or a word that its slot doesn't take.
-    Wrong,
-    /// Rightly, with a word that the program can't play yet.
-    Later,
-    Right,
-}
-
-/// How the words stand in the slots of a row.
-#[tactic(auto, using(crate::proofs::Spellings::spelling_next))]
-pub fn spelling_of(row: &Row, words: Words<'_>) -> Spelling
-    ensures { result ≡ spelling_of false row.now.slots row.now.rest words.entry }
+/// Whether there is a word for each slot of a row and a slot for each word, each spelled as its slot asks.
+#[tactic(auto, using(crate::proofs::Spellings::spelled_next))]
+pub fn are_spelled(row: &Row, words: Words<'_>) -> bool
+    ensures { result ≡ are_spelled row.now.slots row.now.rest words.entry }
 {
     let mut words = words;
     let mut slots = row.slots;
-    let mut later = false;
     while let [slot, more @ ..] = slots {
         let Some(word) = words.next() else {
-            return Spelling::Wrong;
+            return false;
         };
         if !is_spelled_in(*slot, word) {
-            return Spelling::Wrong;
+            return false;
         }
-        later = later || is_later_in(*slot, word);
         slots = more;
     }
-    rest_spelling(later, row.rest, words)
+    rest_is_spelled(row.rest, words)
 }
 
-#[tactic(auto, using(crate::proofs::Spellings::events_spelling))]
-fn rest_spelling(later: bool, rest: Rest, words: Words<'_>) -> Spelling
-    ensures { result ≡ spelling_of later [] rest words.entry }
+#[tactic(auto, using(crate::proofs::Spellings::events_spelled))]
+fn rest_is_spelled(rest: Rest, words: Words<'_>) -> bool
+    ensures { result ≡ are_spelled [] rest words.entry }
 {
     let mut words = words;
     match rest {
-        Rest::Nothing => {
-            if words.next().is_some() {
-                return Spelling::Wrong;
-            }
-            right(later)
-        }
+        Rest::Nothing => words.next().is_none(),
         Rest::Maybe(slot) => {
             let Some(word) = words.next() else {
-                return right(later);
+                return true;
             };
-            if words.next().is_some() || !is_spelled_in(slot, word) {
-                return Spelling::Wrong;
-            }
-            right(later || is_later_in(slot, word))
+            words.next().is_none() && is_spelled_in(slot, word)
         }
-        Rest::Many(slot) => many_spelling(later, slot, words),
-        Rest::Events => {
-            if any_asks(words.again()) && are_events(words) {
-                right(later)
-            } else {
-                Spelling::Wrong
-            }
-        }
+        Rest::Many(slot) => all_are_spelled(slot, words),
+        Rest::Events => any_asks(words.again()) && are_events(words),
     }
 }
 
-/// How words stand that are all in one slot.
-#[tactic(auto, using(crate::proofs::Spellings::many_next, crate::proofs::Spellings::many_none))]
-fn many_spelling(later: bool, slot: Slot, words: Words<'_>) -> Spelling
-    ensures { result ≡ spelling_of later [] (Rest.Many slot) words.entry }
+/// Whether words that are all in one slot are spelled as it asks.
+fn all_are_spelled(slot: Slot, words: Words<'_>) -> bool
+    ensures { result ≡ are_spelled [] (Rest.Many slot) words.entry }
 {
     let mut words = words;
-    let mut later = later;
     while let Some(word) = words.next() {
         if !is_spelled_in(slot, word) {
-            return Spelling::Wrong;
+            return false;
         }
-        later = later || is_later_in(slot, word);
     }
-    right(later)
+    true
 }
 
 /// Whether one of the words of events asks for something.
@@ -144,16 +115,6 @@ fn are_events(words: Words<'_>) -> bool
     true
 }
 
-fn right(later: bool) -> Spelling
-    ensures { result ≡ right later }
-{
-    if later {
-        Spelling::Later
-    } else {
-        Spelling::Right
-    }
-}
-
 fn is_spelled_in(slot: Slot, word: &[u8]) -> bool
     ensures { result ≡ is_spelled_in slot word.now }
 {
@@ -172,14 +133,5 @@ fn is_spelled_in(slot: Slot, word: &[u8]) -> bool
         Slot::Event => is_event(word),
         Slot::Valid => validator_of(word).is_some(),
         Slot::Raw => word == b"raw".as_slice(),
-    }
-}
-
-fn is_later_in(slot: Slot, word: &[u8]) -> bool
-    ensures { result ≡ is_later_in slot word.now }
-{
-    match slot {
-        Slot::Either(Choice::Mode) => word == choice_text(Choice::Mode, true),
-        _ => false,
     }
 }

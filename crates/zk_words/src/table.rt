@@ -183,6 +183,7 @@ fn call_row(word: Word) -> Row
         Word::Revoke => exactly(b"revoke", &[THREAD, ANY]),
         Word::Public => exactly(b"public", &[ANY]),
         Word::Init => exactly(b"init", &[Slot::Rawable]),
+        Word::User => exactly(b"user", &[]),
     }
 }
 
@@ -198,7 +199,7 @@ macro_rules! return_first {
     };
 }
 
-/// The head of the line that this word begins, if one is built.
+/// The head of the line that this word begins.
 pub fn head_of(first: &[u8]) -> Option<Head>
     ensures { result ≡ head_of first.now }
 {
@@ -256,6 +257,7 @@ pub fn head_of(first: &[u8]) -> Option<Head>
         Head::Call(Word::Revoke),
         Head::Call(Word::Public),
         Head::Call(Word::Init),
+        Head::Call(Word::User),
     );
     None
 }

@@ -43,6 +43,7 @@ pub enum Word {
     Revoke,
     Public,
     Init,
+    User,
 }
 
 /// What a line's first word says that the line is.

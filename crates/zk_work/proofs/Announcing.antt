@@ -35,9 +35,12 @@ Ascends-drop (suc n) (t ∷ ts) ascends = Ascends-drop n ts ascends.1
 -- no submission counts an entry
 entries-next : (time : ℕ) (j : EngineState) → (expired_next time j).entries ≡ j.entries
 entries-next time j = by (due_first time j.timeouts.live) where
-  by : (o : Option Timeout) → (option_map_or (λ (t : Timeout). submitted (record j { timeouts = drop_due j.timeouts time }) t.item (answer_of j None t.item (Some t.queue))) o j).entries ≡ j.entries
+  by : (o : Option Timeout) →
+      (option_map_or (λ (t : Timeout). submitted (record j { timeouts = drop_due j.timeouts time }) t.item
+      (answer_of j None t.item (Some t.queue))) o j).entries ≡ j.entries
   by None = refl
-  by (Some t) = submitted-same (λ (i : EngineState). i.entries) (record j { timeouts = drop_due j.timeouts time }) t.item (answer_of j None t.item (Some t.queue)) (λ queue. refl)
+  by (Some t) = submitted-same (λ (i : EngineState). i.entries) (record j { timeouts = drop_due j.timeouts time }) t.item
+      (answer_of j None t.item (Some t.queue)) (λ queue. refl)
 
 pub entries-expired : (n time : ℕ) (k : EngineState) → (expired n time k).entries ≡ k.entries
 entries-expired zero time k = refl
@@ -49,31 +52,40 @@ module _ (k : EngineState) (s : State) (st : StandsFor k s) (time : ℕ) where
 
   -- the state in between, after so many of them
   abbrev mid : ℕ → State
-  mid n = record s { admissions = submit_arms s.marks s.queues None (take n (due time s.arms)) s.admissions; arms = map arm_for (drop n k.timeouts.live) }
+  mid n = record s {
+    admissions = submit_arms s.marks s.queues None (take n (due time s.arms)) s.admissions;
+    arms = map arm_for (drop n k.timeouts.live);
+  }
 
   -- what is due next is the machine's
-  next-same : (n : ℕ) → n < length (filter (is_due time) k.timeouts.live) → timeout_of (get_or (due time s.arms) n none) ≡ get_or k.timeouts.live n (timeout_of none)
+  next-same : (n : ℕ) → n < length (filter (is_due time) k.timeouts.live) →
+      timeout_of (get_or (due time s.arms) n none) ≡ get_or k.timeouts.live n (timeout_of none)
   next-same n within =
       sym (get_or-map timeout_of (due time s.arms) n none)
-      ∙ ap (λ (ts : List Timeout). get_or ts n (timeout_of none)) (timeouts-due s.arms time ∙ sym (ap (filter (is_due time)) st.arms))
+      ∙ ap (λ (ts : List Timeout). get_or ts n (timeout_of none)) (timeouts-due s.arms time
+      ∙ sym (ap (filter (is_due time)) st.arms))
       ∙ (front-due time k.timeouts.live n (timeout_of none) st.whole.ordered.ascends within).2
 
   long-same : length (due time s.arms) ≡ length (filter (is_due time) k.timeouts.live)
-  long-same = sym (length-map (due time s.arms) timeout_of) ∙ ap length (timeouts-due s.arms time ∙ sym (ap (filter (is_due time)) st.arms))
+  long-same = sym (length-map (due time s.arms) timeout_of)
+      ∙ ap length (timeouts-due s.arms time ∙ sym (ap (filter (is_due time)) st.arms))
 
   -- what is kept after so many
   live-mid : (n : ℕ) → StandsFor (expired n time k) (mid n) → (expired n time k).timeouts.live ≡ drop n k.timeouts.live
-  live-mid n stands = stands.arms ∙ timeouts-for (drop n k.timeouts.live) (Ascends-drop n k.timeouts.live st.whole.ordered.ascends)
+  live-mid n stands = stands.arms
+      ∙ timeouts-for (drop n k.timeouts.live) (Ascends-drop n k.timeouts.live st.whole.ordered.ascends)
 
   -- the first of them
   first-mid : (n : ℕ) → n < length (filter (is_due time) k.timeouts.live) → StandsFor (expired n time k) (mid n) →
-      (due_first time (expired n time k).timeouts.live ≡ Some (timeout_of (get_or (due time s.arms) n none))) × (due_rest time (expired n time k).timeouts.live ≡ drop (suc n) k.timeouts.live)
+      (due_first time (expired n time k).timeouts.live ≡ Some (timeout_of (get_or (due time s.arms) n none)))
+      × (due_rest time (expired n time k).timeouts.live ≡ drop (suc n) k.timeouts.live)
   first-mid n within stands =
       let live = live-mid n stands in
       let it = first-due time k.timeouts.live n (timeout_of none) st.whole.ordered.ascends within in
       (ap (due_first time) live ∙ it.0 ∙ ap (λ (t : Timeout). Some t) (sym (next-same n within)), ap (due_rest time) live ∙ it.1)
 
-  expired-more : (n : ℕ) → n < length (filter (is_due time) k.timeouts.live) → StandsFor (expired n time k) (mid n) → StandsFor (expired (suc n) time k) (mid (suc n))
+  expired-more : (n : ℕ) → n < length (filter (is_due time) k.timeouts.live) → StandsFor (expired n time k) (mid n) →
+      StandsFor (expired (suc n) time k) (mid (suc n))
   expired-more n within stands =
       let j = expired n time k in
       let a = get_or (due time s.arms) n none in
@@ -86,24 +98,33 @@ module _ (k : EngineState) (s : State) (st : StandsFor k s) (time : ℕ) where
       let item : a.item ≡ (get_or k.timeouts.live n (timeout_of none)).item = ap (λ (t : Timeout). t.item) (next-same n within) in
       let armed = st.whole.armed in
       let items = st.admissions.items in
-      let popped = rearmed j (mid n) (drop_due j.timeouts time) (map arm_for (drop (suc n) k.timeouts.live)) stands stands.whole.armed (IsOrdered-due j.timeouts time stands.whole.ordered) (omega arith)
-      (it.1 ∙ sym (timeouts-for (drop (suc n) k.timeouts.live) (Ascends-drop (suc n) k.timeouts.live st.whole.ordered.ascends))) in
+      let popped = rearmed j (mid n) (drop_due j.timeouts time) (map arm_for (drop (suc n) k.timeouts.live)) stands
+      stands.whole.armed (IsOrdered-due j.timeouts time stands.whole.ordered) (omega arith)
+      (it.1 ∙ sym (timeouts-for (drop (suc n) k.timeouts.live)
+      (Ascends-drop (suc n) k.timeouts.live st.whole.ordered.ascends))) in
       let P : EngineState = record j { timeouts = drop_due j.timeouts time } in
-      let done = submit-stands P (record (mid n) { arms = map arm_for (drop (suc n) k.timeouts.live) }) None a.item (Some a.queue) popped (omega arith) (omega arith) in
+      let done = submit-stands P (record (mid n) { arms = map arm_for (drop (suc n) k.timeouts.live) }) None a.item
+      (Some a.queue) popped (omega arith) (omega arith) in
       let suc_is : n + 1 ≡ suc n = omega arith in
       let more = submit_arms-more s.marks s.queues None (due time s.arms) n none s.admissions (mid n).admissions
-      (submit (mid n).admissions a.item (submission (machine_item (mid n).admissions s.marks a.item) s.queues None (Some a.queue)))
+      (submit (mid n).admissions a.item (submission (machine_item (mid n).admissions s.marks a.item) s.queues None
+      (Some a.queue)))
       (submission (machine_item (mid n).admissions s.marks a.item) s.queues None (Some a.queue)) (omega arith) refl refl refl in
-      subst (λ (o : Option Timeout). StandsFor (option_map_or (λ (t : Timeout). submitted P t.item (answer_of j None t.item (Some t.queue))) o j) (mid (suc n))) (sym it.0)
-      (subst (λ (xs : List Admission). StandsFor (submitted P a.item (answer_of j None a.item (Some a.queue))) (record s { admissions = xs; arms = map arm_for (drop (suc n) k.timeouts.live) }))
+      subst (λ (o : Option Timeout).
+      StandsFor (option_map_or (λ (t : Timeout). submitted P t.item (answer_of j None t.item (Some t.queue))) o j)
+      (mid (suc n))) (sym it.0)
+      (subst (λ (xs : List Admission). StandsFor (submitted P a.item (answer_of j None a.item (Some a.queue)))
+      (record s { admissions = xs; arms = map arm_for (drop (suc n) k.timeouts.live) }))
       (more ∙ ap (λ m. submit_arms s.marks s.queues None (take m (due time s.arms)) s.admissions) suc_is) done)
 
   expired-stands : (n : ℕ) → n ≤ length (filter (is_due time) k.timeouts.live) → StandsFor (expired n time k) (mid n)
-  expired-stands zero most = rearmed k s k.timeouts (map arm_for k.timeouts.live) st st.whole.armed st.whole.ordered st.whole.fewer (sym (timeouts-for k.timeouts.live st.whole.ordered.ascends))
+  expired-stands zero most = rearmed k s k.timeouts (map arm_for k.timeouts.live) st st.whole.armed st.whole.ordered
+      st.whole.fewer (sym (timeouts-for k.timeouts.live st.whole.ordered.ascends))
   expired-stands (suc n) most = expired-more n (omega arith) (expired-stands n (omega arith))
 
   -- what has become of them
-  told-same : (n : ℕ) → n ≤ length (filter (is_due time) k.timeouts.live) → told n time k ≡ expiries s.marks s.queues (take n (due time s.arms)) s.admissions
+  told-same : (n : ℕ) → n ≤ length (filter (is_due time) k.timeouts.live) →
+      told n time k ≡ expiries s.marks s.queues (take n (due time s.arms)) s.admissions
   told-same zero most = refl
   told-same (suc n) most =
       let j = expired n time k in
@@ -115,14 +136,18 @@ module _ (k : EngineState) (s : State) (st : StandsFor k s) (time : ℕ) where
       let suc_is : n + 1 ≡ suc n = omega arith in
       let answer = answer-same j (mid n) stands None a.item (Some a.queue) in
       let x : Expiry = record { item = a.item; submitted = answer_of j None a.item (Some a.queue) } in
-      let last : told (suc n) time k ≡ told n time k ++ x ∷ [] = ap (λ (o : Option Timeout). told n time k ++ option_to_list (option_map (expiry_of j) o)) it.0 in
-      expiries-more s.marks s.queues (due time s.arms) n none s.admissions (mid n).admissions (told n time k) (told (suc n) time k) x (omega arith) refl so_far answer refl last
+      let last : told (suc n) time k ≡ told n time k ++ x ∷ [] =
+      ap (λ (o : Option Timeout). told n time k ++ option_to_list (option_map (expiry_of j) o)) it.0 in
+      expiries-more s.marks s.queues (due time s.arms) n none s.admissions (mid n).admissions (told n time k)
+      (told (suc n) time k) x (omega arith) refl so_far answer refl last
       ∙ ap (λ m. expiries s.marks s.queues (take m (due time s.arms)) s.admissions) suc_is
 
   all_taken : take (length (filter (is_due time) k.timeouts.live)) (due time s.arms) ≡ due time s.arms
-  all_taken = ap (λ n. take n (due time s.arms)) (sym long-same) ∙ take_all (length (due time s.arms)) (due time s.arms) (omega arith)
+  all_taken = ap (λ n. take n (due time s.arms)) (sym long-same)
+      ∙ take_all (length (due time s.arms)) (due time s.arms) (omega arith)
 
-  pub told-all : told (length (filter (is_due time) k.timeouts.live)) time k ≡ expiries s.marks s.queues (due time s.arms) s.admissions
+  pub told-all : told (length (filter (is_due time) k.timeouts.live)) time k ≡ expiries s.marks s.queues (due time s.arms)
+      s.admissions
   told-all =
       let count = length (filter (is_due time) k.timeouts.live) in
       told-same count (omega arith) ∙ ap (λ (arms : List Arm). expiries s.marks s.queues arms s.admissions) all_taken
@@ -134,56 +159,98 @@ module _ (k : EngineState) (s : State) (st : StandsFor k s) (time : ℕ) where
       let count = length (filter (is_due time) k.timeouts.live) in
       let e = expired count time k in
       let stands = expired-stands count (omega arith) in
-      let left = live-mid count stands ∙ rest-due time k.timeouts.live st.whole.ordered.ascends ∙ ap (filter (λ (t : Timeout). not (is_due time t))) st.arms ∙ sym (timeouts-expire s.arms time) in
-      subst (λ (arms : List Arm). StandsFor e (record s { admissions = submit_arms s.marks s.queues None arms s.admissions; arms = expire s.arms time })) all_taken
-      (rearmed e (mid count) e.timeouts (expire s.arms time) stands stands.whole.armed stands.whole.ordered stands.whole.fewer left)
+      let left = live-mid count stands ∙ rest-due time k.timeouts.live st.whole.ordered.ascends
+      ∙ ap (filter (λ (t : Timeout). not (is_due time t))) st.arms ∙ sym (timeouts-expire s.arms time) in
+      subst (λ (arms : List Arm).
+      StandsFor e (record s {
+        admissions = submit_arms s.marks s.queues None arms s.admissions;
+        arms = expire s.arms time;
+      })) all_taken
+      (rearmed e (mid count) e.timeouts (expire s.arms time) stands stands.whole.armed stands.whole.ordered
+      stands.whole.fewer left)
 
 -- and so many ticks later, at an entry that is counted
-pub announced-stands : (k : EngineState) (s : State) (ticks : ℕ) → StandsFor k s → s.entries < 2 ^ 32 - 1 → ticks < 2 ^ 32 → StandsFor (record (engine.announced k ticks) { entries = k.entries + 1 }) (record (announce s ticks) { entries = s.entries + 1 })
+pub announced-stands : (k : EngineState) (s : State) (ticks : ℕ) → StandsFor k s → s.entries < 2 ^ 32 - 1 →
+    ticks < 2 ^ 32 → StandsFor (record (engine.announced k ticks) { entries = k.entries + 1 })
+    (record (announce s ticks) { entries = s.entries + 1 })
 announced-stands k s ticks st few short =
     let time = k.time + ticks in
     let e = expired (length (filter (is_due time) k.timeouts.live)) time k in
     let entries : e.entries ≡ k.entries = entries-expired (length (filter (is_due time) k.timeouts.live)) time k in
     let counted = counted-stands e _ (all-expired k s st time) few in
-    let timed : IsTimed time (e.entries + 1) = subst (λ n. IsTimed time (n + 1)) (sym entries) (IsTimed-ticks k.time k.entries ticks st.whole.timed short) in
+    let timed : IsTimed time (e.entries + 1) =
+    subst (λ n. IsTimed time (n + 1)) (sym entries) (IsTimed-ticks k.time k.entries ticks st.whole.timed short) in
     let done = retimed (record e { entries = e.entries + 1 }) _ time counted timed in
-    let later : StandsFor (record e { time = time; entries = k.entries + 1 }) (record s { time = time; admissions = submit_arms s.marks s.queues None (due time s.arms) s.admissions; arms = expire s.arms time; entries = s.entries + 1 }) =
-    subst (λ n. StandsFor (record e { time = time; entries = n + 1 }) (record s { time = time; admissions = submit_arms s.marks s.queues None (due time s.arms) s.admissions; arms = expire s.arms time; entries = s.entries + 1 })) entries done in
+    let later : StandsFor (record e { time = time; entries = k.entries + 1 })
+    (record s {
+      time = time;
+      admissions = submit_arms s.marks s.queues None (due time s.arms) s.admissions;
+      arms = expire s.arms time;
+      entries = s.entries + 1;
+    }) =
+    subst (λ n. StandsFor (record e { time = time; entries = n + 1 })
+    (record s {
+      time = time;
+      admissions = submit_arms s.marks s.queues None (due time s.arms) s.admissions;
+      arms = expire s.arms time;
+      entries = s.entries + 1;
+    })) entries done in
     subst (λ n. StandsFor (record e { time = time; entries = k.entries + 1 })
-    (record s { time = n + ticks; admissions = submit_arms s.marks s.queues None (due (n + ticks) s.arms) s.admissions; arms = expire s.arms (n + ticks); entries = s.entries + 1 })) st.time later
+    (record s {
+      time = n + ticks;
+      admissions = submit_arms s.marks s.queues None (due (n + ticks) s.arms) s.admissions;
+      arms = expire s.arms (n + ticks);
+      entries = s.entries + 1;
+    })) st.time later
 
-pub announce_reply-same : (k : EngineState) (s : State) (ticks : ℕ) → StandsFor k s → engine.announce_reply k ticks ≡ announce_reply s ticks
+pub announce_reply-same : (k : EngineState) (s : State) (ticks : ℕ) → StandsFor k s →
+    engine.announce_reply k ticks ≡ announce_reply s ticks
 announce_reply-same k s ticks st =
-    ap (Now (k.time + ticks)) (told-all k s st (k.time + ticks)) ∙ ap (λ n. Now (n + ticks) (expiries s.marks s.queues (due (n + ticks) s.arms) s.admissions)) st.time
+    ap (Now (k.time + ticks)) (told-all k s st (k.time + ticks))
+    ∙ ap (λ n. Now (n + ticks) (expiries s.marks s.queues (due (n + ticks) s.arms) s.admissions)) st.time
 
 -- what is armed after so many
-live-next : (time : ℕ) (j : EngineState) (t : Timeout) → due_first time j.timeouts.live ≡ Some t → (expired_next time j).timeouts.live ≡ due_rest time j.timeouts.live
+live-next : (time : ℕ) (j : EngineState) (t : Timeout) → due_first time j.timeouts.live ≡ Some t →
+    (expired_next time j).timeouts.live ≡ due_rest time j.timeouts.live
 live-next time j t is =
-    ap (λ (o : Option Timeout). (option_map_or (λ (t : Timeout). submitted (record j { timeouts = drop_due j.timeouts time }) t.item (answer_of j None t.item (Some t.queue))) o j).timeouts.live) is
-    ∙ ap (λ (ts : Timeouts). ts.live) (submitted-same (λ (i : EngineState). i.timeouts) (record j { timeouts = drop_due j.timeouts time }) t.item (answer_of j None t.item (Some t.queue)) (λ queue. refl))
+    ap (λ (o : Option Timeout).
+    (option_map_or (λ (t : Timeout). submitted (record j { timeouts = drop_due j.timeouts time }) t.item
+    (answer_of j None t.item (Some t.queue))) o j).timeouts.live) is
+    ∙ ap (λ (ts : Timeouts). ts.live)
+    (submitted-same (λ (i : EngineState). i.timeouts) (record j { timeouts = drop_due j.timeouts time }) t.item
+    (answer_of j None t.item (Some t.queue)) (λ queue. refl))
 
-live-expired : (n time : ℕ) (k : EngineState) → Ascends (λ t. t.deadline) k.timeouts.live → n ≤ length (filter (is_due time) k.timeouts.live) → (expired n time k).timeouts.live ≡ drop n k.timeouts.live
+live-expired : (n time : ℕ) (k : EngineState) → Ascends (λ t. t.deadline) k.timeouts.live →
+    n ≤ length (filter (is_due time) k.timeouts.live) → (expired n time k).timeouts.live ≡ drop n k.timeouts.live
 live-expired zero time k ascends most = refl
 live-expired (suc n) time k ascends most =
     let d : Timeout = record { item = 0; queue = 0; deadline = 0 } in
     let so_far = live-expired n time k ascends (omega arith) in
     let it = first-due time k.timeouts.live n d ascends (omega arith) in
-    live-next time (expired n time k) (get_or k.timeouts.live n d) (ap (due_first time) so_far ∙ it.0) ∙ ap (due_rest time) so_far ∙ it.1
+    live-next time (expired n time k) (get_or k.timeouts.live n d) (ap (due_first time) so_far ∙ it.0)
+    ∙ ap (due_rest time) so_far ∙ it.1
 
 -- one more of them is due
-pub next-due : (n time : ℕ) (k : EngineState) → Ascends (λ t. t.deadline) k.timeouts.live → n < length (filter (is_due time) k.timeouts.live) → is_some (due_first time (expired n time k).timeouts.live) ≡ true
+pub next-due : (n time : ℕ) (k : EngineState) → Ascends (λ t. t.deadline) k.timeouts.live →
+    n < length (filter (is_due time) k.timeouts.live) → is_some (due_first time (expired n time k).timeouts.live) ≡ true
 next-due n time k ascends within =
     let d : Timeout = record { item = 0; queue = 0; deadline = 0 } in
-    ap is_some (ap (due_first time) (live-expired n time k ascends (omega arith)) ∙ (first-due time k.timeouts.live n d ascends within).0)
+    ap is_some (ap (due_first time) (live-expired n time k ascends (omega arith))
+    ∙ (first-due time k.timeouts.live n d ascends within).0)
 
 -- and is told
-pub told-more : (n time : ℕ) (k j : EngineState) (one new : List Expiry) (x : Expiry) → j ≡ expired n time k → one ≡ told n time k → Some x ≡ option_map (expiry_of j) (due_first time j.timeouts.live) → new ≡ one ++ option_to_list (Some x) → new ≡ told (n + 1) time k
+pub told-more : (n time : ℕ) (k j : EngineState) (one new : List Expiry) (x : Expiry) → j ≡ expired n time k →
+    one ≡ told n time k → Some x ≡ option_map (expiry_of j) (due_first time j.timeouts.live) →
+    new ≡ one ++ option_to_list (Some x) → new ≡ told (n + 1) time k
 told-more n time k j one new x j_is one_is x_is new_is =
     let suc_is : n + 1 ≡ suc n = omega arith in
-    new_is ∙ ap (λ (l : List Expiry). l ++ option_to_list (Some x)) one_is ∙ ap (λ (o : Option Expiry). told n time k ++ option_to_list o) x_is
-    ∙ ap (λ (i : EngineState). told n time k ++ option_to_list (option_map (expiry_of i) (due_first time i.timeouts.live))) j_is ∙ sym (ap (λ m. told m time k) suc_is)
+    new_is ∙ ap (λ (l : List Expiry). l ++ option_to_list (Some x)) one_is
+    ∙ ap (λ (o : Option Expiry). told n time k ++ option_to_list o) x_is
+    ∙ ap (λ (i : EngineState). told n time k ++ option_to_list
+    (option_map (expiry_of i) (due_first time i.timeouts.live))) j_is ∙ sym (ap (λ m. told m time k) suc_is)
 
-pub expired-more_next : (n time : ℕ) (k j new : EngineState) → j ≡ expired n time k → new ≡ expired_next time j → new ≡ expired (n + 1) time k
+pub expired-more_next : (n time : ℕ) (k j new : EngineState) → j ≡ expired n time k → new ≡ expired_next time j →
+    new ≡ expired (n + 1) time k
 expired-more_next n time k j new j_is new_is =
     let suc_is : n + 1 ≡ suc n = omega arith in
     new_is ∙ ap (expired_next time) j_is ∙ sym (ap (λ m. expired m time k) suc_is)

@@ -19,7 +19,8 @@ use Rattle.zk_work.specs.Engine.{admitted, submitted}
 use Rattle.zk_work.proofs.Awaited.{AllThere}
 
 -- what a submission leaves alone, as each admission does
-pub submitted-same : {B : Type 0} (f : EngineState → B) (k : EngineState) (item : ℕ) (a : Submitted) → ((queue : ℕ) → f (admitted k item queue) ≡ f k) →
+pub submitted-same : {B : Type 0} (f : EngineState → B) (k : EngineState) (item : ℕ) (a : Submitted) →
+    ((queue : ℕ) → f (admitted k item queue) ≡ f k) →
     f (submitted k item a) ≡ f k
 submitted-same {B} f k item a same = by (admitted_to a) where
   by : (o : Option ℕ) → f (option_map_or (admitted k item) o k) ≡ f k
@@ -59,12 +60,14 @@ whole-beside k time entries t ws qs w counted timed fewer armed ordered queues =
 -- a change of the queues, at an entry that is counted
 queues-stand : (f : List Queue → List Queue) (k : EngineState) (s : State) → StandsFor k s →
     IsCounted (k.entries + 1) (f k.queues) → length (f k.queues) ≡ length k.queues →
-    StandsFor (record k { queues = f k.queues; entries = k.entries + 1 }) (record s { queues = f s.queues; entries = s.entries + 1 })
+    StandsFor (record k { queues = f k.queues; entries = k.entries + 1 })
+    (record s { queues = f s.queues; entries = s.entries + 1 })
 queues-stand f k s st counted same =
     let w = st.whole in
     let fewer = w.fewer in
     record {
-      whole = whole-beside k k.time (k.entries + 1) k.timeouts k.waits (f k.queues) w counted (IsTimed-more k.time k.entries w.timed) (omega arith)
+      whole = whole-beside k k.time (k.entries + 1) k.timeouts k.waits (f k.queues) w counted
+          (IsTimed-more k.time k.entries w.timed) (omega arith)
           w.armed w.ordered (same ∙ w.queues);
       time = st.time;
       entries = ap (λ n. n + 1) st.entries;
@@ -87,7 +90,8 @@ pub change-stands : (c : Change) (k : EngineState) (s : State) (queue : ℕ) →
     (record s { queues = change c s.queues queue; entries = s.entries + 1 })
 change-stands c k s queue st few =
     let entries = st.entries in
-    queues-stand (λ qs. change c qs queue) k s st (IsCounted-changed c k.entries queue k.queues st.whole.counted (omega arith)) (length-change c k.queues queue)
+    queues-stand (λ qs. change c qs queue) k s st
+    (IsCounted-changed c k.entries queue k.queues st.whole.counted (omega arith)) (length-change c k.queues queue)
 
 -- the queues after the start of a drain
 pub drains-stand : (idle plug : Bool) (k : EngineState) (s : State) (queue : ℕ) → StandsFor k s → s.entries < 2 ^ 32 - 1 →
@@ -96,11 +100,13 @@ pub drains-stand : (idle plug : Bool) (k : EngineState) (s : State) (queue : ℕ
 drains-stand idle plug k s queue st few =
     let entries = st.entries in
     let drained = IsCounted-drain idle plug k.entries queue k.queues st.whole.counted in
-    queues-stand (λ qs. drain idle plug qs queue) k s st (IsCounted-more k.entries (drain idle plug k.queues queue) drained (omega arith))
+    queues-stand (λ qs. drain idle plug qs queue) k s st
+    (IsCounted-more k.entries (drain idle plug k.queues queue) drained (omega arith))
     (length-drain idle plug k.queues queue)
 
 -- other waits
-pub waits-stand : (k : EngineState) (s : State) (ws all : List Wait) → StandsFor k s → ws ≡ unanswered all → AllThere s.admissions all →
+pub waits-stand : (k : EngineState) (s : State) (ws all : List Wait) → StandsFor k s → ws ≡ unanswered all →
+    AllThere s.admissions all →
     StandsFor (record k { waits = ws }) (record s { waits = all })
 waits-stand k s ws all st left there =
     let w = st.whole in
@@ -120,26 +126,32 @@ there-more : (xs : List Admission) (ws : List Wait) (o : Option Wait) →
 there-more xs ws None here all =
     let P : Wait → Type 0 = λ w. is_there xs w.awaited w.answered ≡ true in All-append P ws [] all (All-nil P)
 there-more xs ws (Some w) here all =
-    let P : Wait → Type 0 = λ w. is_there xs w.awaited w.answered ≡ true in All-append P ws (w ∷ []) all (All-cons P w [] (here w refl) (All-nil P))
+    let P : Wait → Type 0 =
+    λ w. is_there xs w.awaited w.answered ≡ true in All-append P ws (w ∷ []) all (All-cons P w [] (here w refl) (All-nil P))
 
 -- one wait more, which isn't answered
 unanswered-more : (ws : List Wait) (o : Option Wait) → ((w : Wait) → o ≡ Some w → w.answered ≡ false) →
     awaiting (unanswered ws) o ≡ unanswered (awaiting ws o)
 unanswered-more ws None still = append-nil (unanswered ws) ∙ sym (ap unanswered (append-nil ws))
 unanswered-more ws (Some w) still =
-    sym (filter-append (λ (w : Wait). not w.answered) ws (w ∷ []) ∙ ap (λ b. unanswered ws ++ cond (not b) (w ∷ []) []) (still w refl))
+    sym (filter-append (λ (w : Wait). not w.answered) ws (w ∷ [])
+    ∙ ap (λ b. unanswered ws ++ cond (not b) (w ∷ []) []) (still w refl))
 
 -- one wait more
-pub wait-stands : (o : Option Wait) (k : EngineState) (s : State) → StandsFor k s → ((w : Wait) → o ≡ Some w → w.answered ≡ false) →
+pub wait-stands : (o : Option Wait) (k : EngineState) (s : State) → StandsFor k s →
+    ((w : Wait) → o ≡ Some w → w.answered ≡ false) →
     ((w : Wait) → o ≡ Some w → is_there s.admissions w.awaited w.answered ≡ true) →
     StandsFor (record k { waits = awaiting k.waits o }) (record s { waits = awaiting s.waits o })
 wait-stands o k s st still there =
     waits-stand k s (awaiting k.waits o) (awaiting s.waits o) st
-    (ap (λ (ws : List Wait). awaiting ws o) st.waits.left ∙ unanswered-more s.waits o still) (there-more s.admissions s.waits o there st.waits.there)
+    (ap (λ (ws : List Wait). awaiting ws o) st.waits.left
+    ∙ unanswered-more s.waits o still) (there-more s.admissions s.waits o there st.waits.there)
 
 -- another timeout list, and the arms that it keeps
-pub rearmed : (k : EngineState) (s : State) (t : Timeouts) (arms : List Arm) → StandsFor k s → t.items ≡ k.active.items → IsOrdered t →
-    k.made + length t.live ≤ k.entries → t.live ≡ timeouts_of arms → StandsFor (record k { timeouts = t }) (record s { arms = arms })
+pub rearmed : (k : EngineState) (s : State) (t : Timeouts) (arms : List Arm) → StandsFor k s → t.items ≡ k.active.items →
+    IsOrdered t →
+    k.made + length t.live ≤ k.entries → t.live ≡ timeouts_of arms →
+    StandsFor (record k { timeouts = t }) (record s { arms = arms })
 rearmed k s t arms st items ordered fewer same =
     let w = st.whole in
     record {

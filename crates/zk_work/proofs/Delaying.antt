@@ -39,11 +39,13 @@ fewer-filter p ts =
     omega arith
 
 -- an item is disarmed
-pub disarmed-stands : (k : EngineState) (s : State) (item : ℕ) → StandsFor k s → StandsFor (disarmed k item) (record s { arms = disarm s.arms item })
+pub disarmed-stands : (k : EngineState) (s : State) (item : ℕ) → StandsFor k s →
+    StandsFor (disarmed k item) (record s { arms = disarm s.arms item })
 disarmed-stands k s item st =
     let fewer = st.whole.fewer in
     let less = fewer-filter (λ (t : Timeout). not (is_of item t)) k.timeouts.live in
-    rearmed k s (timeouts.disarm k.timeouts item) (disarm s.arms item) st st.whole.armed (IsOrdered-disarm k.timeouts item st.whole.ordered) (omega arith)
+    rearmed k s (timeouts.disarm k.timeouts item) (disarm s.arms item) st st.whole.armed
+    (IsOrdered-disarm k.timeouts item st.whole.ordered) (omega arith)
     (ap (filter (λ (t : Timeout). not (is_of item t))) st.arms ∙ sym (timeouts-disarm s.arms item))
 
 -- and is armed no longer
@@ -55,45 +57,69 @@ disarmed-free t item = none t.live where
     rest : List Timeout
     rest = filter (λ (b : Timeout). not (is_of item b)) ts
 
-    by : (b : Bool) → is_of item a ≡ b → list_any (is_of item) rest ≡ false → list_any (is_of item) (cond (not (is_of item a)) (a ∷ rest) rest) ≡ false
+    by : (b : Bool) → is_of item a ≡ b → list_any (is_of item) rest ≡ false →
+        list_any (is_of item) (cond (not (is_of item a)) (a ∷ rest) rest) ≡ false
     by true is so = ap (λ c. list_any (is_of item) (cond (not c) (a ∷ rest) rest)) is ∙ so
-    by false is so = ap (λ c. list_any (is_of item) (cond (not c) (a ∷ rest) rest)) is ∙ ap (λ c. c || list_any (is_of item) rest) is ∙ so
+    by false is so = ap (λ c. list_any (is_of item) (cond (not c) (a ∷ rest) rest)) is
+        ∙ ap (λ c. c || list_any (is_of item) rest) is ∙ so
 
 -- an item is armed
-pub armed-stands : (k : EngineState) (s : State) (item queue delay : ℕ) → StandsFor k s → item < s.items → is_armed k.timeouts item ≡ false → k.time + delay < 2 ^ 64 → k.made + length k.timeouts.live < k.entries →
-    StandsFor (record k { timeouts = timeouts.arm k.timeouts item queue (k.time + delay) }) (record s { arms = arm s.arms item queue (s.time + delay) })
+pub armed-stands : (k : EngineState) (s : State) (item queue delay : ℕ) → StandsFor k s → item < s.items →
+    is_armed k.timeouts item ≡ false → k.time + delay < 2 ^ 64 → k.made + length k.timeouts.live < k.entries →
+    StandsFor (record k { timeouts = timeouts.arm k.timeouts item queue (k.time + delay) })
+    (record s { arms = arm s.arms item queue (s.time + delay) })
 armed-stands k s item queue delay st item_in free fits room =
     let w = st.whole in
     let armed = w.armed in
     let items = st.admissions.items in
-    let long = length-put_by (λ (t : Timeout). t.deadline) (record { item = item; queue = queue; deadline = k.time + delay }) k.timeouts.live in
+    let long = length-put_by (λ (t : Timeout). t.deadline)
+    (record { item = item; queue = queue; deadline = k.time + delay }) k.timeouts.live in
     rearmed k s (timeouts.arm k.timeouts item queue (k.time + delay)) (arm s.arms item queue (s.time + delay)) st w.armed
     (IsOrdered-arm k.timeouts item queue (k.time + delay) w.ordered (omega arith) free fits) (omega arith)
-    (ap (λ (ts : List Timeout). Rattle.zk_base.specs.Order.put_by (λ (t : Timeout). t.deadline) (record { item = item; queue = queue; deadline = k.time + delay }) ts) st.arms
-    ∙ ap (λ n. Rattle.zk_base.specs.Order.put_by (λ (t : Timeout). t.deadline) (record { item = item; queue = queue; deadline = n + delay }) (timeouts_of s.arms)) st.time
+    (ap (λ (ts : List Timeout). Rattle.zk_base.specs.Order.put_by (λ (t : Timeout). t.deadline)
+    (record { item = item; queue = queue; deadline = k.time + delay }) ts) st.arms
+    ∙ ap (λ n. Rattle.zk_base.specs.Order.put_by (λ (t : Timeout). t.deadline)
+    (record { item = item; queue = queue; deadline = n + delay }) (timeouts_of s.arms)) st.time
     ∙ sym (timeouts-arm s.arms item queue (s.time + delay)))
 
 -- the time and the delay together
-pub deadline-fits : (time entries delay : ℕ) → IsTimed time entries → entries < 2 ^ 32 - 1 → delay < 2 ^ 32 → time + delay < 2 ^ 64
+pub deadline-fits : (time entries delay : ℕ) → IsTimed time entries → entries < 2 ^ 32 - 1 → delay < 2 ^ 32 →
+    time + delay < 2 ^ 64
 deadline-fits time entries delay timed few short = let bound = timed.bound in omega arith
 
 -- a submission by a player or by nobody
-pub submit-stands : (k : EngineState) (s : State) (caller : Option ℕ) (item : ℕ) (named : Option ℕ) → StandsFor k s → item < s.items → k.made + length k.timeouts.live < k.entries →
-    StandsFor (submitted k item (answer_of k caller item named)) (record s { admissions = submit s.admissions item (submission (machine_item s.admissions s.marks item) s.queues caller named) })
+pub submit-stands : (k : EngineState) (s : State) (caller : Option ℕ) (item : ℕ) (named : Option ℕ) → StandsFor k s →
+    item < s.items → k.made + length k.timeouts.live < k.entries →
+    StandsFor (submitted k item (answer_of k caller item named))
+    (record s {
+      admissions = submit s.admissions item
+          (submission (machine_item s.admissions s.marks item) s.queues caller named);
+    })
 submit-stands k s caller item named st item_in room =
-    subst (λ (a : Submitted). StandsFor (submitted k item a) (record s { admissions = submit s.admissions item (submission (machine_item s.admissions s.marks item) s.queues caller named) })) (sym (answer-same k s st caller item named)) (by (admitted_to answer) refl) where
+    subst (λ (a : Submitted). StandsFor (submitted k item a)
+    (record s {
+      admissions = submit s.admissions item
+          (submission (machine_item s.admissions s.marks item) s.queues caller named);
+    }))
+    (sym (answer-same k s st caller item named)) (by (admitted_to answer) refl) where
       answer : Submitted
       answer = submission (machine_item s.admissions s.marks item) s.queues caller named
 
       by : (to : Option ℕ) → admitted_to answer ≡ to →
-          StandsFor (option_map_or (admitted k item) to k) (record s { admissions = option_map_or (λ queue. s.admissions ++ record { item = item; queue = queue; life = Waiting } ∷ []) to s.admissions })
+          StandsFor (option_map_or (admitted k item) to k)
+          (record s {
+            admissions = option_map_or
+                (λ queue. s.admissions ++ record { item = item; queue = queue; life = Waiting } ∷ []) to s.admissions;
+          })
       by None is = st
       by (Some queue) is =
-          admitted-stands k s item queue named st (submission-admits (machine_item s.admissions s.marks item) s.queues caller named queue is) item_in
+          admitted-stands k s item queue named st
+          (submission-admits (machine_item s.admissions s.marks item) s.queues caller named queue is) item_in
           (submission-within (machine_item s.admissions s.marks item) s.queues caller named queue is) room
 
 -- whether the item is armed
-pub is_armed-same : (k : EngineState) (s : State) (item : ℕ) → StandsFor k s → is_armed k.timeouts item ≡ is_some (armed s.arms item)
+pub is_armed-same : (k : EngineState) (s : State) (item : ℕ) → StandsFor k s →
+    is_armed k.timeouts item ≡ is_some (armed s.arms item)
 is_armed-same k s item st = ap (list_any (is_of item)) st.arms ∙ armed-same s.arms item
 
 -- the item is pending alike
@@ -103,12 +129,18 @@ pending-same k s item st =
     ∙ ap (is_pending (machine_item s.admissions s.marks item)) (is_armed-same k s item st)
 
 -- an item that isn't armed is given a delay
-pub delayed-stands : (k : EngineState) (s : State) (who : Who) (item queue delay : ℕ) → StandsFor k s → item < s.items → is_armed k.timeouts item ≡ false → k.time + delay < 2 ^ 64 → k.made + length k.timeouts.live < k.entries →
+pub delayed-stands : (k : EngineState) (s : State) (who : Who) (item queue delay : ℕ) → StandsFor k s → item < s.items →
+    is_armed k.timeouts item ≡ false → k.time + delay < 2 ^ 64 → k.made + length k.timeouts.live < k.entries →
     StandsFor (engine.delayed k who item queue delay) (delayed s who item queue delay)
 delayed-stands k s who item queue delay st item_in free fits room = by (eqb delay 0) where
   by : (b : Bool) →
-      StandsFor (cond b (submitted k item (answer_of k (Some who.number) item (Some queue))) (record k { timeouts = timeouts.arm k.timeouts item queue (k.time + delay) }))
-      (cond b (record s { admissions = submit s.admissions item (submission (machine_item s.admissions s.marks item) s.queues (Some who.number) (Some queue)) }) (record s { arms = arm s.arms item queue (s.time + delay) }))
+      StandsFor (cond b (submitted k item (answer_of k (Some who.number) item (Some queue)))
+      (record k { timeouts = timeouts.arm k.timeouts item queue (k.time + delay) }))
+      (cond b (record s {
+        admissions = submit s.admissions item
+            (submission (machine_item s.admissions s.marks item) s.queues (Some who.number) (Some queue));
+      })
+      (record s { arms = arm s.arms item queue (s.time + delay) }))
   by true = submit-stands k s (Some who.number) item (Some queue) st item_in room
   by false = armed-stands k s item queue delay st item_in free fits room
 
@@ -119,12 +151,15 @@ delay_reply-same k s who item queue delay st =
     ap (λ (a : Submitted). delay_reply a delay) (answer-same k s st (Some who.number) item (Some queue))
 
 -- the timeout of the item's live arm
-found-arm : (k : EngineState) (s : State) (item : ℕ) → StandsFor k s → find (is_of item) k.timeouts.live ≡ option_map timeout_of (live_arm s.arms item)
+found-arm : (k : EngineState) (s : State) (item : ℕ) → StandsFor k s →
+    find (is_of item) k.timeouts.live ≡ option_map timeout_of (live_arm s.arms item)
 found-arm k s item st =
-    ap (find (is_of item)) st.arms ∙ found-same s.arms item (subst (λ (ts : List Timeout). timeouts.Differ ts) st.arms st.whole.ordered.differ)
+    ap (find (is_of item)) st.arms
+    ∙ found-same s.arms item (subst (λ (ts : List Timeout). timeouts.Differ ts) st.arms st.whole.ordered.differ)
 
 -- what is kept of it
-kept-arm : (f : Timeout → ℕ) (o : Option Arm) → option_map f (option_map timeout_of o) ≡ option_map (λ (a : Arm). f (timeout_of a)) o
+kept-arm : (f : Timeout → ℕ) (o : Option Arm) →
+    option_map f (option_map timeout_of o) ≡ option_map (λ (a : Arm). f (timeout_of a)) o
 kept-arm f None = refl
 kept-arm f (Some a) = refl
 
@@ -137,23 +172,31 @@ remaining-same k s item st =
     ∙ ap (remaining (machine_deadline s.arms item)) st.time
 
 -- a flush ends the item's delay
-queue-same : (k : EngineState) (s : State) (item : ℕ) → StandsFor k s → queue_of k.timeouts item ≡ option_map (λ (a : Arm). a.queue) (live_arm s.arms item)
+queue-same : (k : EngineState) (s : State) (item : ℕ) → StandsFor k s →
+    queue_of k.timeouts item ≡ option_map (λ (a : Arm). a.queue) (live_arm s.arms item)
 queue-same k s item st =
     let f : Timeout → ℕ = λ t. t.queue in
     ap (option_map f) (found-arm k s item st) ∙ kept-arm f (live_arm s.arms item)
 
 live-item : (arms : List Arm) (item : ℕ) (a : Arm) → live_arm arms item ≡ Some a → a.item ≡ item
 live-item [] item a is = absurd (cc)
-live-item (x ∷ xs) item a is = by (eqb x.item item) (Rattle.zk_model_work.specs.Questions.is_live x.fate) refl is (live-item xs item a) where
-  by : (i b : Bool) → eqb x.item item ≡ i → cond (i && b) (Some x) (live_arm xs item) ≡ Some a → (live_arm xs item ≡ Some a → a.item ≡ item) → a.item ≡ item
-  by true true same is rest = sym (ap (λ (c : Arm). c.item) (Rattle.std.proofs.lemmas.Option.same_Some x a is)) ∙ Rattle.std.proofs.lemmas.Bool.eqb-true x.item item same
-  by true false same is rest = rest is
-  by false b same is rest = rest is
+live-item (x ∷ xs) item a is = by (eqb x.item item) (Rattle.zk_model_work.specs.Questions.is_live x.fate) refl is
+    (live-item xs item a) where
+      by : (i b : Bool) → eqb x.item item ≡ i → cond (i && b) (Some x) (live_arm xs item) ≡ Some a →
+          (live_arm xs item ≡ Some a → a.item ≡ item) → a.item ≡ item
+      by true true same is rest = sym (ap (λ (c : Arm). c.item) (Rattle.std.proofs.lemmas.Option.same_Some x a is))
+          ∙ Rattle.std.proofs.lemmas.Bool.eqb-true x.item item same
+      by true false same is rest = rest is
+      by false b same is rest = rest is
 
-pub hurried-stands : (k : EngineState) (s : State) (who : Who) (item : ℕ) → StandsFor k s → item < s.items → k.made + length k.timeouts.live < k.entries →
+pub hurried-stands : (k : EngineState) (s : State) (who : Who) (item : ℕ) → StandsFor k s → item < s.items →
+    k.made + length k.timeouts.live < k.entries →
     StandsFor (engine.hurried k who item) (record s { admissions = hurried s who item; arms = disarm s.arms item })
 hurried-stands k s who item st item_in room =
-    subst (λ (o : Option ℕ). StandsFor (option_map_or (λ queue. submitted d item (answer_of d (Some who.number) item (Some queue))) o d) (record s { admissions = hurried s who item; arms = disarm s.arms item })) (sym (queue-same k s item st)) (by (live_arm s.arms item) refl) where
+    subst (λ (o : Option ℕ).
+    StandsFor (option_map_or (λ queue. submitted d item (answer_of d (Some who.number) item (Some queue))) o d)
+    (record s { admissions = hurried s who item; arms = disarm s.arms item })) (sym (queue-same k s item st))
+    (by (live_arm s.arms item) refl) where
       d : EngineState
       d = disarmed k item
 
@@ -164,65 +207,100 @@ hurried-stands k s who item st item_in room =
       stands = disarmed-stands k s item st
 
       by : (o : Option Arm) → live_arm s.arms item ≡ o →
-          StandsFor (option_map_or (λ queue. submitted d item (answer_of d (Some who.number) item (Some queue))) (option_map (λ (a : Arm). a.queue) o) d)
-          (record s { admissions = submit_arms s.marks s.queues (Some who.number) (option_to_list o) s.admissions; arms = disarm s.arms item })
+          StandsFor (option_map_or (λ queue. submitted d item (answer_of d (Some who.number) item (Some queue)))
+          (option_map (λ (a : Arm). a.queue) o) d)
+          (record s {
+            admissions = submit_arms s.marks s.queues (Some who.number) (option_to_list o) s.admissions;
+            arms = disarm s.arms item;
+          })
       by None is = stands
       by (Some a) is =
           let less = fewer-filter (λ (t : Timeout). not (is_of item t)) k.timeouts.live in
           subst (λ i. StandsFor (submitted d item (answer_of d (Some who.number) item (Some a.queue)))
-          (record s { admissions = submit s.admissions i (submission (machine_item s.admissions s.marks i) s.queues (Some who.number) (Some a.queue)); arms = disarm s.arms item })) (sym (live-item s.arms item a is))
+          (record s {
+            admissions = submit s.admissions i
+                (submission (machine_item s.admissions s.marks i) s.queues (Some who.number) (Some a.queue));
+            arms =
+                disarm s.arms item;
+          })) (sym (live-item s.arms item a is))
           (submit-stands d e (Some who.number) item (Some a.queue) stands item_in (omega arith))
 
 -- the start of a flush, behind an entry that is counted
-pub flush_start-stands : (k : EngineState) (s : State) (who : Who) (item : ℕ) → StandsFor k s → item < s.items → s.entries < 2 ^ 32 - 1 →
-    StandsFor (record (engine.flush_started k who item) { entries = k.entries + 1 }) (record (flush_start s who item) { entries = s.entries + 1 })
+pub flush_start-stands : (k : EngineState) (s : State) (who : Who) (item : ℕ) → StandsFor k s → item < s.items →
+    s.entries < 2 ^ 32 - 1 →
+    StandsFor (record (engine.flush_started k who item) { entries = k.entries + 1 })
+    (record (flush_start s who item) { entries = s.entries + 1 })
 flush_start-stands k s who item st item_in few =
     let fewer = st.whole.fewer in
     let c = counted-stands k s st few in
-    let h = hurried-stands (record k { entries = k.entries + 1 }) (record s { entries = s.entries + 1 }) who item c item_in (omega arith) in
+    let h = hurried-stands (record k { entries = k.entries + 1 }) (record s { entries = s.entries + 1 }) who item c
+    item_in (omega arith) in
     let e : State = record s { admissions = hurried s who item; arms = disarm s.arms item; entries = s.entries + 1 } in
     let K : EngineState = record (engine.hurried k who item) { entries = k.entries + 1 } in
     let same = entries_stay k who item in
     let H : StandsFor K e = subst (λ (j : EngineState). StandsFor j e) same h in
     let n = flushed_of s who item in
-    let wait : flush_wait (engine.hurried k who item).entries who (engine.flushed_of (engine.hurried k who item).active item) ≡ flush_wait s.entries who n =
+    let wait : flush_wait (engine.hurried k who item).entries who
+    (engine.flushed_of (engine.hurried k who item).active item) ≡ flush_wait s.entries who n =
     ap (λ p. flush_wait p who (engine.flushed_of (engine.hurried k who item).active item)) (entries_of k who item ∙ st.entries)
     ∙ ap (flush_wait s.entries who) (flushed-same K e H item) in
-    subst (λ (o : Option Wait). StandsFor (record (engine.hurried k who item) { waits = awaiting (engine.hurried k who item).waits o; entries = k.entries + 1 })
+    subst (λ (o : Option Wait).
+    StandsFor (record (engine.hurried k who item) {
+      waits = awaiting (engine.hurried k who item).waits o;
+      entries = k.entries + 1;
+    })
     (record (flush_start s who item) { entries = s.entries + 1 })) (sym wait)
     (wait-stands (flush_wait s.entries who n) K e H
     (λ w is. let new = new-wait K e H s.entries who Flush n w is in sym (ap (λ (v : Wait). v.answered) new.2))
     (λ w is. let new = new-wait K e H s.entries who Flush n w is in
-    subst (λ (v : Wait). is_there (hurried s who item) v.awaited v.answered ≡ true) new.2 (found-made (hurried s who item) item new.0 new.1))) where
-      entries_stay : (k : EngineState) (who : Who) (item : ℕ) → engine.hurried (record k { entries = k.entries + 1 }) who item ≡ record (engine.hurried k who item) { entries = k.entries + 1 }
+    subst (λ (v : Wait). is_there (hurried s who item) v.awaited v.answered ≡ true) new.2
+    (found-made (hurried s who item) item new.0 new.1))) where
+      entries_stay : (k : EngineState) (who : Who) (item : ℕ) →
+          engine.hurried (record k { entries = k.entries + 1 }) who item
+          ≡ record (engine.hurried k who item) { entries = k.entries + 1 }
       entries_stay k who item = by (queue_of k.timeouts item) where
         by : (o : Option ℕ) →
-            option_map_or (λ queue. submitted (record (disarmed k item) { entries = k.entries + 1 }) item (answer_of (disarmed k item) (Some who.number) item (Some queue))) o (record (disarmed k item) { entries = k.entries + 1 })
-            ≡ record (option_map_or (λ queue. submitted (disarmed k item) item (answer_of (disarmed k item) (Some who.number) item (Some queue))) o (disarmed k item)) { entries = k.entries + 1 }
+            option_map_or (λ queue. submitted (record (disarmed k item) { entries = k.entries + 1 }) item
+            (answer_of (disarmed k item) (Some who.number) item (Some queue))) o
+            (record (disarmed k item) { entries = k.entries + 1 })
+            ≡ record (option_map_or
+            (λ queue. submitted (disarmed k item) item
+            (answer_of (disarmed k item) (Some who.number) item (Some queue))) o (disarmed k item))
+            { entries = k.entries + 1 }
         by None = refl
         by (Some queue) = entries-later (disarmed k item) item (answer_of (disarmed k item) (Some who.number) item (Some queue))
 
       entries_of : (k : EngineState) (who : Who) (item : ℕ) → (engine.hurried k who item).entries ≡ k.entries
       entries_of k who item = by (queue_of k.timeouts item) where
-        by : (o : Option ℕ) → (option_map_or (λ queue. submitted (disarmed k item) item (answer_of (disarmed k item) (Some who.number) item (Some queue))) o (disarmed k item)).entries ≡ k.entries
+        by : (o : Option ℕ) →
+            (option_map_or (λ queue. submitted (disarmed k item) item
+            (answer_of (disarmed k item) (Some who.number) item (Some queue))) o (disarmed k item)).entries ≡ k.entries
         by None = refl
-        by (Some queue) = submitted-same (λ (j : EngineState). j.entries) (disarmed k item) item (answer_of (disarmed k item) (Some who.number) item (Some queue)) (λ queue. refl)
+        by (Some queue) = submitted-same (λ (j : EngineState). j.entries) (disarmed k item) item
+            (answer_of (disarmed k item) (Some who.number) item (Some queue)) (λ queue. refl)
 
 -- a cancel
 pub cancelled-stands : (k : EngineState) (s : State) (item : ℕ) → StandsFor k s → item < s.items → s.entries < 2 ^ 32 - 1 →
-    StandsFor (record (settled (disarmed k item) (cancelled k.active item)) { entries = k.entries + 1 }) (record (cancel s item) { entries = s.entries + 1 })
-cancelled-stands k s item st item_in few = cancel-stands (disarmed k item) (record s { arms = disarm s.arms item }) item (disarmed-stands k s item st) item_in few
+    StandsFor (record (settled (disarmed k item) (cancelled k.active item)) { entries = k.entries + 1 })
+    (record (cancel s item) { entries = s.entries + 1 })
+cancelled-stands k s item st item_in few = cancel-stands (disarmed k item) (record s { arms = disarm s.arms item }) item
+    (disarmed-stands k s item st) item_in few
 
 -- the start of a sync cancel
-pub cancel_start-stands : (k : EngineState) (s : State) (who : Who) (item : ℕ) → StandsFor k s → item < s.items → s.entries < 2 ^ 32 - 1 →
-    StandsFor (record (engine.cancel_started k who item) { entries = k.entries + 1 }) (record (cancel_start s who item) { entries = s.entries + 1 })
+pub cancel_start-stands : (k : EngineState) (s : State) (who : Who) (item : ℕ) → StandsFor k s → item < s.items →
+    s.entries < 2 ^ 32 - 1 →
+    StandsFor (record (engine.cancel_started k who item) { entries = k.entries + 1 })
+    (record (cancel_start s who item) { entries = s.entries + 1 })
 cancel_start-stands k s who item st item_in few =
     let run = running s.admissions item in
     let wait : cancel_wait k.entries who (active.running k.active item) ≡ cancel_wait s.entries who run =
-    ap (λ p. cancel_wait p who (active.running k.active item)) st.entries ∙ ap (cancel_wait s.entries who) (runs_by k s st item) in
+    ap (λ p. cancel_wait p who (active.running k.active item)) st.entries
+    ∙ ap (cancel_wait s.entries who) (runs_by k s st item) in
     let T : EngineState = record (settled (disarmed k item) (cancelled k.active item)) { entries = k.entries + 1 } in
-    subst (λ (o : Option Wait). StandsFor (record T { waits = awaiting k.waits o }) (record (cancel_start s who item) { entries = s.entries + 1 })) (sym wait)
-    (wait-stands (cancel_wait s.entries who run) T (record (cancel s item) { entries = s.entries + 1 }) (cancelled-stands k s item st item_in few)
+    subst (λ (o : Option Wait). StandsFor (record T { waits = awaiting k.waits o })
+    (record (cancel_start s who item) { entries = s.entries + 1 })) (sym wait)
+    (wait-stands (cancel_wait s.entries who run) T (record (cancel s item) { entries = s.entries + 1 })
+    (cancelled-stands k s item st item_in few)
     (λ w is. let new = new-wait k s st s.entries who Cancel run w is in sym (ap (λ (v : Wait). v.answered) new.2))
     (λ w is. let new = new-wait k s st s.entries who Cancel run w is in
     subst (λ (v : Wait). is_there (map (drop_one item) s.admissions) v.awaited v.answered ≡ true) new.2
@@ -233,7 +311,8 @@ pub next-whole : (k : EngineState) (time : ℕ) → IsWhole k → IsWhole (recor
 next-whole k time w =
     let fewer = w.fewer in
     let less = drop-less time k.timeouts.live in
-    whole-beside k k.time k.entries (drop_due k.timeouts time) k.waits k.queues w w.counted w.timed (omega arith) w.armed (IsOrdered-due k.timeouts time w.ordered) w.queues where
+    whole-beside k k.time k.entries (drop_due k.timeouts time) k.waits k.queues w w.counted w.timed (omega arith) w.armed
+    (IsOrdered-due k.timeouts time w.ordered) w.queues where
       drop-less : (time : ℕ) (ts : List Timeout) → length (due_rest time ts) ≤ length ts
       drop-less time [] = omega arith
       drop-less time (t ∷ ts) = by (is_due time t) where
@@ -254,10 +333,13 @@ pub disarmed-whole : (k : EngineState) (item : ℕ) → IsWhole k → IsWhole (d
 disarmed-whole k item w =
     let fewer = w.fewer in
     let less = fewer-filter (λ (t : Timeout). not (is_of item t)) k.timeouts.live in
-    whole-beside k k.time k.entries (timeouts.disarm k.timeouts item) k.waits k.queues w w.counted w.timed (omega arith) w.armed (IsOrdered-disarm k.timeouts item w.ordered) w.queues
+    whole-beside k k.time k.entries (timeouts.disarm k.timeouts item) k.waits k.queues w w.counted w.timed
+    (omega arith) w.armed (IsOrdered-disarm k.timeouts item w.ordered) w.queues
 
 -- a submission for which there is an entry
-pub submitted-whole : (k : EngineState) (item : ℕ) (a : Submitted) → IsWhole k → ((queue : ℕ) → admitted_to a ≡ Some queue → engine.MayAdmit k item queue) → k.made + length k.timeouts.live < k.entries → IsWhole (submitted k item a)
+pub submitted-whole : (k : EngineState) (item : ℕ) (a : Submitted) → IsWhole k →
+    ((queue : ℕ) → admitted_to a ≡ Some queue → engine.MayAdmit k item queue) →
+    k.made + length k.timeouts.live < k.entries → IsWhole (submitted k item a)
 submitted-whole k item a w may room = by (admitted_to a) refl where
   by : (o : Option ℕ) → admitted_to a ≡ o → IsWhole (option_map_or (admitted k item) o k)
   by None is = w

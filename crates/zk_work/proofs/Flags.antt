@@ -12,7 +12,14 @@ weight-most n false = omega arith
 -- all flags together
 pub flags-below : (running cancelling queued armed flushing : Bool) → busy_flags running cancelling queued armed flushing < 32
 flags-below running cancelling queued armed flushing =
-    omega (arith, weight-most 1 running, weight-most 2 cancelling, weight-most 4 queued, weight-most 8 armed, weight-most 16 flushing)
+    omega (
+      arith,
+      weight-most 1 running,
+      weight-most 2 cancelling,
+      weight-most 4 queued,
+      weight-most 8 armed,
+      weight-most 16 flushing,
+    )
 
 -- the word of any index
 pub word-below : (s : State) (index : ℕ) → work_word s index < 32

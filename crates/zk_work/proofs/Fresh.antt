@@ -23,7 +23,18 @@ alike {A} n i a = by (leb_tells n i) where
 
 -- nothing waits, runs or is marked
 pub fresh-stands : (items : ℕ) (workers : List ℕ) (started : List Bool) → length workers ≡ length started → length workers ≤ 8 →
-    StandsFor (record { time = 0; entries = 0; made = 0; running = 0; last = replicate items None; active = active.nothing_open items (length workers); timeouts = nothing_armed items; waits = []; queues = fresh_queues workers started })
+    StandsFor (record {
+      time = 0;
+      entries = 0;
+      made = 0;
+      running = 0;
+      last = replicate items None;
+      active = active.nothing_open items (length workers);
+      timeouts = nothing_armed items;
+      waits = [];
+      queues =
+          fresh_queues workers started;
+    })
     (start_of items workers started)
 fresh-stands items workers started same few =
     let long = length-fresh_queues workers started same in
@@ -66,13 +77,38 @@ fresh-stands items workers started same few =
       none t is = cc
 
 -- made of parts that are as said
-pub fresh_is : (items : ℕ) (workers : List ℕ) (started : List Bool) (waits : List Wait) (last : List (Option ℕ)) (o : active.Open) (t : Timeouts) (queues : List Queue) →
-    waits ≡ [] → last ≡ replicate items None → o ≡ active.nothing_open items (length workers) → t ≡ nothing_armed items → queues ≡ fresh_queues workers started → length workers ≡ length started → length workers ≤ 8 →
-    StandsFor (record { time = 0; entries = 0; made = 0; running = 0; last = last; active = o; timeouts = t; waits = waits; queues = queues }) (start_of items workers started)
+pub fresh_is : (items : ℕ) (workers : List ℕ) (started : List Bool) (waits : List Wait) (last : List (Option ℕ))
+    (o : active.Open) (t : Timeouts) (queues : List Queue) →
+    waits ≡ [] → last ≡ replicate items None → o ≡ active.nothing_open items (length workers) → t ≡ nothing_armed items →
+    queues ≡ fresh_queues workers started → length workers ≡ length started → length workers ≤ 8 →
+    StandsFor (record {
+      time = 0;
+      entries = 0;
+      made = 0;
+      running = 0;
+      last = last;
+      active = o;
+      timeouts = t;
+      waits = waits;
+      queues = queues;
+    }) (start_of items workers started)
 fresh_is items workers started waits last o t queues none last_is o_is t_is queues_are same few =
-    let K : List Wait → List (Option ℕ) → active.Open → Timeouts → List Queue → EngineState = λ ws l o t q. record { time = 0; entries = 0; made = 0; running = 0; last = l; active = o; timeouts = t; waits = ws; queues = q } in
+    let K : List Wait → List (Option ℕ) → active.Open → Timeouts → List Queue → EngineState =
+    λ ws l o t q. record {
+      time = 0;
+      entries = 0;
+      made = 0;
+      running = 0;
+      last = l;
+      active = o;
+      timeouts = t;
+      waits = ws;
+      queues = q;
+    } in
     let S : EngineState → Type 0 = λ k. StandsFor k (start_of items workers started) in
     let O = active.nothing_open items (length workers) in
     let N = replicate items None in
-    subst (λ ws. S (K ws last o t queues)) (sym none) (subst (λ l. S (K [] l o t queues)) (sym last_is) (subst (λ o. S (K [] N o t queues)) (sym o_is)
-    (subst (λ t. S (K [] N O t queues)) (sym t_is) (subst (λ qs. S (K [] N O (nothing_armed items) qs)) (sym queues_are) (fresh-stands items workers started same few)))))
+    subst (λ ws. S (K ws last o t queues)) (sym none)
+    (subst (λ l. S (K [] l o t queues)) (sym last_is) (subst (λ o. S (K [] N o t queues)) (sym o_is)
+    (subst (λ t. S (K [] N O t queues)) (sym t_is) (subst (λ qs. S (K [] N O (nothing_armed items) qs)) (sym queues_are)
+    (fresh-stands items workers started same few)))))

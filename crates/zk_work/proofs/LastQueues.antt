@@ -21,7 +21,8 @@ or-or : (o p q : Option ℕ) → option_or (option_or o p) q ≡ option_or o (op
 or-or None p q = refl
 or-or (Some n) p q = refl
 
-or-cond : (b : Bool) (a : Admission) (last : Option ℕ) → option_or (option_map (λ (a : Admission). a.queue) (cond b (Some a) None)) last ≡ cond b (Some a.queue) last
+or-cond : (b : Bool) (a : Admission) (last : Option ℕ) →
+    option_or (option_map (λ (a : Admission). a.queue) (cond b (Some a) None)) last ≡ cond b (Some a.queue) last
 or-cond true a last = refl
 or-cond false a last = refl
 
@@ -44,11 +45,13 @@ or-none (Some n) = refl
 last-from : (item : ℕ) (xs : List Admission) → last_queue xs item ≡ last_from None item xs
 last-from item xs = or-none (last_queue xs item) ∙ reads item xs None
 
-from-push : (item : ℕ) (xs : List Admission) (a : Admission) (last : Option ℕ) → last_from last item (xs ++ a ∷ []) ≡ cond (a.item == item) (Some a.queue) (last_from last item xs)
+from-push : (item : ℕ) (xs : List Admission) (a : Admission) (last : Option ℕ) →
+    last_from last item (xs ++ a ∷ []) ≡ cond (a.item == item) (Some a.queue) (last_from last item xs)
 from-push item [] a last = refl
 from-push item (x ∷ xs) a last = from-push item xs a (cond (x.item == item) (Some x.queue) last)
 
-from-map : (item : ℕ) (f : Admission → Admission) (xs : List Admission) (last : Option ℕ) → ((a : Admission) → (f a).item ≡ a.item) → ((a : Admission) → (f a).queue ≡ a.queue) →
+from-map : (item : ℕ) (f : Admission → Admission) (xs : List Admission) (last : Option ℕ) →
+    ((a : Admission) → (f a).item ≡ a.item) → ((a : Admission) → (f a).queue ≡ a.queue) →
     last_from last item (map f xs) ≡ last_from last item xs
 from-map item f [] last items queues = refl
 from-map item f (x ∷ xs) last items queues =
@@ -56,19 +59,24 @@ from-map item f (x ∷ xs) last items queues =
     ∙ ap (λ q. last_from (cond (x.item == item) (Some q) last) item (map f xs)) (queues x)
     ∙ from-map item f xs (cond (x.item == item) (Some x.queue) last) items queues
 
-from-set_life : (item : ℕ) (xs : List Admission) (m : ℕ) (life : Life) (last : Option ℕ) → last_from last item (set_life xs m life) ≡ last_from last item xs
+from-set_life : (item : ℕ) (xs : List Admission) (m : ℕ) (life : Life) (last : Option ℕ) →
+    last_from last item (set_life xs m life) ≡ last_from last item xs
 from-set_life item [] m life last = refl
 from-set_life item (x ∷ xs) zero life last = refl
 from-set_life item (x ∷ xs) (suc m) life last = from-set_life item xs m life (cond (x.item == item) (Some x.queue) last)
 
 -- one more admission is its item's last
-pub last-push : (item : ℕ) (xs : List Admission) (a : Admission) → last_queue (xs ++ a ∷ []) item ≡ cond (a.item == item) (Some a.queue) (last_queue xs item)
-last-push item xs a = last-from item (xs ++ a ∷ []) ∙ from-push item xs a None ∙ ap (cond (a.item == item) (Some a.queue)) (sym (last-from item xs))
+pub last-push : (item : ℕ) (xs : List Admission) (a : Admission) →
+    last_queue (xs ++ a ∷ []) item ≡ cond (a.item == item) (Some a.queue) (last_queue xs item)
+last-push item xs a = last-from item (xs ++ a ∷ []) ∙ from-push item xs a None
+    ∙ ap (cond (a.item == item) (Some a.queue)) (sym (last-from item xs))
 
 -- no other change moves one
-pub last-map : (item : ℕ) (f : Admission → Admission) (xs : List Admission) → ((a : Admission) → (f a).item ≡ a.item) → ((a : Admission) → (f a).queue ≡ a.queue) →
+pub last-map : (item : ℕ) (f : Admission → Admission) (xs : List Admission) → ((a : Admission) → (f a).item ≡ a.item) →
+    ((a : Admission) → (f a).queue ≡ a.queue) →
     last_queue (map f xs) item ≡ last_queue xs item
 last-map item f xs items queues = last-from item (map f xs) ∙ from-map item f xs None items queues ∙ sym (last-from item xs)
 
-pub last-set_life : (item : ℕ) (xs : List Admission) (m : ℕ) (life : Life) → last_queue (set_life xs m life) item ≡ last_queue xs item
+pub last-set_life : (item : ℕ) (xs : List Admission) (m : ℕ) (life : Life) →
+    last_queue (set_life xs m life) item ≡ last_queue xs item
 last-set_life item xs m life = last-from item (set_life xs m life) ∙ from-set_life item xs m life None ∙ sym (last-from item xs)

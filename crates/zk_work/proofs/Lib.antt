@@ -12,6 +12,7 @@ mod Fresh
 mod Items
 mod LastQueues
 mod Numbers
+pub mod Owed
 mod Replies
 mod Sound
 mod Steps

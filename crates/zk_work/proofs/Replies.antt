@@ -35,7 +35,8 @@ module _ (k : EngineState) (s : State) (st : StandsFor k s) where
   pub cancels : (item : ℕ) → (active.marks_of k.active item).cancelling ≡ is_cancelling s.admissions s.marks item
   cancels item = ap (λ (m : Marks). m.cancelling) (st.admissions.marks item)
 
-find-none : (p : Admission → Bool) (xs : List Admission) → ((m : ℕ) (a : Admission) → slice_get xs m ≡ Some a → p a ≡ false) → find p xs ≡ None
+find-none : (p : Admission → Bool) (xs : List Admission) →
+    ((m : ℕ) (a : Admission) → slice_get xs m ≡ Some a → p a ≡ false) → find p xs ≡ None
 find-none p [] none = refl
 find-none p (x ∷ xs) none = ap (λ b. cond b (Some x) (find p xs)) (none 0 x refl) ∙ find-none p xs (λ m a at. none (suc m) a at)
 
@@ -50,7 +51,8 @@ running_queue-last items xs marks item sound = by (running xs item) refl where
 
   by : (o : Option ℕ) → running xs item ≡ o → running_queue xs item ≡ cond (is_some o) (last_queue xs item) None
   by None is =
-      ap (option_map (λ (a : Admission). a.queue)) (find-none (runs_as item) xs (λ m a at. position-none (runs_as item) xs m a is at))
+      ap (option_map (λ (a : Admission). a.queue))
+      (find-none (runs_as item) xs (λ m a at. position-none (runs_as item) xs m a is at))
   by (Some n) is =
       let it = found (runs_as item) xs n is in
       let last = home it.place it.admission it.there it.passes in
@@ -79,20 +81,28 @@ module _ (k : EngineState) (s : State) (st : StandsFor k s) where
   -- what a queue runs, and the first in its line
   run-same : (queue : ℕ) → run s.admissions queue ≡ option_map (λ (t : Ticket). t.number) (active.run k.active queue)
   run-same queue =
-      position-first (runs_on queue) s.admissions ∙ ap (λ (ts : List Ticket). option_map (λ (t : Ticket). t.number) (first ts)) (sym (st.admissions.runs queue)) ∙ only (active.run k.active queue) where
-        only : (o : Option Ticket) → option_map (λ (t : Ticket). t.number) (first (option_to_list o)) ≡ option_map (λ (t : Ticket). t.number) o
+      position-first (runs_on queue) s.admissions
+      ∙ ap (λ (ts : List Ticket). option_map (λ (t : Ticket). t.number) (first ts)) (sym (st.admissions.runs queue))
+      ∙ only (active.run k.active queue) where
+        only : (o : Option Ticket) →
+            option_map (λ (t : Ticket). t.number) (first (option_to_list o)) ≡ option_map (λ (t : Ticket). t.number) o
         only None = refl
         only (Some t) = refl
 
 -- what is taken up
-taken-same : (queue : ℕ) (xs : List Admission) → option_map (λ (t : Ticket). Run t.item t.number) (first (tickets (waits_for queue) xs)) ≡ taken_up xs queue
+taken-same : (queue : ℕ) (xs : List Admission) →
+    option_map (λ (t : Ticket). Run t.item t.number) (first (tickets (waits_for queue) xs)) ≡ taken_up xs queue
 taken-same queue xs =
-    by (first (tickets (waits_for queue) xs)) refl ∙ ap (option_and_then (λ number. option_map (λ (a : Admission). Run a.item number) (slice_get xs number))) (sym first-same) where
+    by (first (tickets (waits_for queue) xs)) refl
+    ∙ ap (option_and_then (λ number. option_map (λ (a : Admission). Run a.item number) (slice_get xs number)))
+    (sym first-same) where
       first-same : first (line xs queue) ≡ option_map (λ (t : Ticket). t.number) (first (tickets (waits_for queue) xs))
       first-same = sym (first_of_places (waits_for queue) xs) ∙ position-first (waits_for queue) xs
 
       by : (o : Option Ticket) → first (tickets (waits_for queue) xs) ≡ o →
-          option_map (λ (t : Ticket). Run t.item t.number) o ≡ option_and_then (λ number. option_map (λ (a : Admission). Run a.item number) (slice_get xs number)) (option_map (λ (t : Ticket). t.number) o)
+          option_map (λ (t : Ticket). Run t.item t.number) o
+          ≡ option_and_then (λ number. option_map (λ (a : Admission). Run a.item number) (slice_get xs number))
+          (option_map (λ (t : Ticket). t.number) o)
       by None is = refl
       by (Some t) is =
           let st = first_stands 0 (waits_for queue) xs t is in
@@ -103,14 +113,18 @@ taken-same queue xs =
 
 -- a begin
 pub begin-same : (k : EngineState) (s : State) (st : StandsFor k s) (who : Who) (queue : ℕ) →
-    cond (is_worker k.queues queue who.number) (option_map (λ (t : Ticket). Run t.item t.number) (active.next k.active queue)) None
+    cond (is_worker k.queues queue who.number)
+    (option_map (λ (t : Ticket). Run t.item t.number) (active.next k.active queue)) None
     ≡ cond (may_begin s.admissions s.queues who queue) (taken_up s.admissions queue) None
 begin-same k s st who queue =
-    ap (λ (qs : List Queue). cond (is_worker qs queue who.number) (option_map (λ (t : Ticket). Run t.item t.number) (active.next k.active queue)) None) st.queues
+    ap (λ (qs : List Queue). cond (is_worker qs queue who.number)
+    (option_map (λ (t : Ticket). Run t.item t.number) (active.next k.active queue)) None) st.queues
     ∙ by (active.run k.active queue) (is_worker s.queues queue who.number)
-    ∙ ap (λ (o : Option ℕ). cond (is_worker s.queues queue who.number && is_none o) (taken_up s.admissions queue) None) (sym (run-same k s st queue)) where
+    ∙ ap (λ (o : Option ℕ). cond (is_worker s.queues queue who.number && is_none o) (taken_up s.admissions queue) None)
+    (sym (run-same k s st queue)) where
       lowest : option_map (λ (t : Ticket). Run t.item t.number) (first (active.line k.active queue)) ≡ taken_up s.admissions queue
-      lowest = ap (λ (ts : List Ticket). option_map (λ (t : Ticket). Run t.item t.number) (first ts)) (st.admissions.lines queue) ∙ taken-same queue s.admissions
+      lowest = ap (λ (ts : List Ticket). option_map (λ (t : Ticket). Run t.item t.number) (first ts))
+          (st.admissions.lines queue) ∙ taken-same queue s.admissions
 
       by : (r : Option Ticket) (b : Bool) →
           cond b (option_map (λ (t : Ticket). Run t.item t.number) (active.if_free r (first (active.line k.active queue)))) None
@@ -122,12 +136,17 @@ begin-same k s st who queue =
 
 -- an end
 pub end-same : (k : EngineState) (s : State) (st : StandsFor k s) (who : Who) (queue : ℕ) →
-    cond (is_worker k.queues queue who.number) (option_map (λ (t : Ticket). Done) (active.run k.active queue)) None ≡ cond (may_end s.admissions s.queues who queue) (Some Done) None
+    cond (is_worker k.queues queue who.number) (option_map (λ (t : Ticket). Done) (active.run k.active queue)) None
+    ≡ cond (may_end s.admissions s.queues who queue) (Some Done) None
 end-same k s st who queue =
-    ap (λ (qs : List Queue). cond (is_worker qs queue who.number) (option_map (λ (t : Ticket). Done) (active.run k.active queue)) None) st.queues
+    ap (λ (qs : List Queue). cond (is_worker qs queue who.number)
+    (option_map (λ (t : Ticket). Done) (active.run k.active queue)) None) st.queues
     ∙ by (active.run k.active queue) (is_worker s.queues queue who.number)
-    ∙ ap (λ (o : Option ℕ). cond (is_worker s.queues queue who.number && is_some o) (Some Done) None) (sym (run-same k s st queue)) where
-      by : (r : Option Ticket) (b : Bool) → cond b (option_map (λ (t : Ticket). Done) r) None ≡ cond (b && is_some (option_map (λ (t : Ticket). t.number) r)) (Some Done) None
+    ∙ ap (λ (o : Option ℕ). cond (is_worker s.queues queue who.number && is_some o) (Some Done) None)
+    (sym (run-same k s st queue)) where
+      by : (r : Option Ticket) (b : Bool) →
+          cond b (option_map (λ (t : Ticket). Done) r) None
+          ≡ cond (b && is_some (option_map (λ (t : Ticket). t.number) r)) (Some Done) None
       by None true = refl
       by None false = refl
       by (Some t) true = refl

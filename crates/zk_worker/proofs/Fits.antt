@@ -1,5 +1,5 @@
 -- The attempts of a player name items, queues, semaphores, message queues, signals, channels and observers that are declared.
-use Rattle.std.proofs.Common.{◌≡◌, ◌⊎◌, inl, inr, ℕ, zero, suc, ◌+◌, Bool, true, false, Option, Some, None, is_some, List, [], ◌∷◌, length, All, refl, ap, subst, arith, nat_lt, ◌&&◌}
+use Rattle.std.proofs.Common.{◌≡◌, ℕ, zero, suc, ◌+◌, Bool, true, false, Option, Some, None, is_some, List, [], ◌∷◌, length, All, refl, ap, subst, arith, nat_lt, ◌&&◌}
 use Rattle.std.specs.Option.{option_map, option_map_or, option_and_then}
 use Rattle.std.specs.List.{slice_get, list_all}
 use Rattle.std.proofs.lemmas.Bool.{and_parts, and_from, lt-ltb}
@@ -8,7 +8,7 @@ use Rattle.std.proofs.lemmas.Option.{option_and_then_some, same_Some}
 use Rattle.zk_base.proofs.Lists.{slice_get-one, cond_nil-at, list_all-at, All-at}
 use Rattle.zk_line.specs.declared.types.Decl.{Decl}
 use Rattle.zk_line.specs.declared.types.Decl.TheVariants as decl_kinds
-use Rattle.zk_line.specs.declared.types.Ref.TheVariants.{Known}
+use Rattle.zk_line.specs.declared.types.Ref.TheVariants.{Known, Unknown}
 use Rattle.zk_line.specs.declared.types.Call.{Call}
 use Rattle.zk_line.specs.declared.types.Call.TheVariants as calls
 use Rattle.zk_line.specs.Objects.{places, is_queue, is_item, is_sem, is_msgq, is_signal, is_chan, is_observer, is_met, can_be_raw, number_of, is_at, size_at}
@@ -29,7 +29,7 @@ use Rattle.zk_line.specs.Fits.{event_fits, call_fits}
 use Rattle.zk_scenario.specs.Valid.{IsValid}
 use Rattle.zk_line.proofs.Fits.{poll_fits}
 use Rattle.zk_line.proofs.Tables.{length-places}
-use Rattle.zk_scenario.proofs.Valid.{number_of-item, number_of-queue, call_fits-calls_of}
+use Rattle.zk_scenario.proofs.Valid.{number_of-item, number_of-queue}
 use Rattle.zk_worker.specs.declared.steps.TheConstants.{MOST_STEPS}
 use Rattle.zk_worker.specs.declared.steps.Step.{Step}
 use Rattle.zk_worker.specs.declared.steps.Step.TheVariants as steps
@@ -73,7 +73,7 @@ use Rattle.zk_worker.proofs.CheckedSteps.{IsCheck, IsOwn, one-or-other, check_at
 use Rattle.zk_worker.specs.Families.{is_declared}
 use Rattle.zk_worker.specs.TableSetup.{is_object}
 use Rattle.zk_worker.specs.Machines.{sem_start, msgq_start, signal_start, chan_start, observer_start}
-use Rattle.zk_worker.specs.Ranges.{step_fits, role_fits, AreObservers, StageFits, FrameFits, FramesFit, ReplyFits}
+use Rattle.zk_worker.specs.Ranges.{step_fits, role_fits, AreObservers, StageFits, FrameFits, FramesFit, HasObjects}
 use Rattle.zk_worker.proofs.PollSteps.{is_source, poll_attempts-fit}
 use Rattle.zk_worker.proofs.StageFits.{ProgressFits, frames_progress-fits}
 use Rattle.zk_worker.proofs.Limits.{settled-all, entered-all}
@@ -195,18 +195,19 @@ signal-declared decls signal more fits =
     starts decl is = absurd (cc)
 
 -- what an event of a fitting call names is declared as what it names
-event-source : (decls : List Decl) (event : Event) → event_fits decls event ≡ true → is_source decls event ≡ true
+event-source : (decls : List Decl) (event : Event) → event_fits false decls event ≡ true → is_source decls event ≡ true
 event-source decls events.Ignore fits = refl
 event-source decls (events.Sem (Known sem)) fits = sem-declared decls sem true (and_from (is_at is_sem decls sem) true fits refl)
 event-source decls (events.Msgq (Known queue)) fits = msgq-declared decls queue true (and_from (is_at is_msgq decls queue) true fits refl)
 event-source decls (events.Sig (Known signal)) fits = signal-declared decls signal true (and_from (is_at is_signal decls signal) true fits refl)
+event-source decls event fits = absurd (cc)
 
-events-sources : (decls : List Decl) (list : List Event) → list_all (event_fits decls) list ≡ true →
+events-sources : (decls : List Decl) (list : List Event) → list_all (event_fits false decls) list ≡ true →
     All (λ event. is_source decls event ≡ true) list
 events-sources decls [] fits = let P : Event → Type 0 = λ event. is_source decls event ≡ true in All-nil P
 events-sources decls (event ∷ more) fits =
     let P : Event → Type 0 = λ event. is_source decls event ≡ true in
-    let both = and_parts (event_fits decls event) (list_all (event_fits decls) more) fits in
+    let both = and_parts (event_fits false decls event) (list_all (event_fits false decls) more) fits in
     All-cons P event more (event-source decls event both.0) (events-sources decls more both.1)
 
 -- a thread, and an object for it
@@ -216,7 +217,12 @@ thread-object decls thread object fits =
     let both = and_parts (is_at (is_met need.Thread) decls thread) (is_object decls object && true) fits in
     and_from (is_at (is_met need.Thread) decls thread) (is_object decls object) both.0 (and_parts (is_object decls object) true both.1).0
 
-plan_of-fits : (decls : List Decl) (call : Call) → call_fits decls call ≡ true → PlanFits decls (plan_of decls call)
+-- a second object that is none's doesn't fit
+no-second : (a b : Bool) → (a && (false && b)) ≡ true → ⊥
+no-second true b fits = cc
+no-second false b fits = cc
+
+plan_of-fits : (decls : List Decl) (call : Call) → call_fits false decls call ≡ true → PlanFits decls (plan_of decls call)
 unfolding PlanFits waiting_fits
 plan_of-fits decls (calls.Submit (Known item) None) fits =
     and_from (nat_lt (number_of decls item) (length (places is_item decls))) true (item-alone decls item fits) refl
@@ -263,7 +269,15 @@ plan_of-fits decls (calls.Release (Known object)) fits = (and_parts (is_object d
 plan_of-fits decls (calls.Revoke (Known thread) (Known object)) fits = thread-object decls thread object fits
 plan_of-fits decls (calls.Public (Known object)) fits = (and_parts (is_object decls object) true fits).0
 plan_of-fits decls (calls.Init (Known object)) fits = at-any can_be_raw decls object (and_parts (is_at can_be_raw decls object) true fits).0
-plan_of-fits decls (calls.Poll timeout list) fits = events-sources decls list (poll_fits decls timeout list fits).1
+plan_of-fits decls calls.User fits = refl
+plan_of-fits decls (calls.Poll timeout list) fits = events-sources decls list (poll_fits false decls timeout list fits).1
+plan_of-fits decls (calls.Submit (Known item) (Some (Unknown name))) fits = absurd (no-second (is_at is_item decls item) true fits)
+plan_of-fits decls (calls.Schedule (Known item) (Unknown name) delay) fits = absurd (no-second (is_at is_item decls item) (is_between 0 1000000 delay && true) fits)
+plan_of-fits decls (calls.Reschedule (Known item) (Unknown name) delay) fits = absurd (no-second (is_at is_item decls item) (is_between 0 1000000 delay && true) fits)
+plan_of-fits decls (calls.Mask (Known chan) (Unknown name) on) fits = absurd (no-second (is_at is_chan decls chan) true fits)
+plan_of-fits decls (calls.Grant (Known thread) (Unknown name)) fits = absurd (no-second (is_at (is_met need.Thread) decls thread) true fits)
+plan_of-fits decls (calls.Revoke (Known thread) (Unknown name)) fits = absurd (no-second (is_at (is_met need.Thread) decls thread) true fits)
+plan_of-fits decls call fits = absurd (cc)
 
 -- the steps of a wait are at its object
 open-fits : (decls : List Decl) (waiting : Waiting) (waits : Bool) → waiting_fits decls waiting ≡ true →
@@ -379,14 +393,9 @@ plan_attempts-fit decls (Poll timeout list) stage k step fits at is =
 plan_attempts-fit decls (Channel chan using timeout) stage k step fits at is = channel_attempts-fit decls chan using timeout stage k step fits at is
 
 call_attempts-fit : (decls : List Decl) (call : Option Call) (stage : Stage) (k : ℕ) (step : Step) →
-    option_map_or (call_fits decls) call true ≡ true → StageFits decls stage → slice_get (call_attempts decls call stage) k ≡ Some step → step_fits decls step ≡ true
+    option_map_or (call_fits false decls) call true ≡ true → StageFits decls stage → slice_get (call_attempts decls call stage) k ≡ Some step → step_fits decls step ≡ true
 call_attempts-fit decls None stage k step fits at is = absurd (cc)
 call_attempts-fit decls (Some call) stage k step fits at is = plan_attempts-fit decls (plan_of decls call) stage k step (plan_of-fits decls call fits) at is
-
-call-fits : (decls : List Decl) (calls : List Call) (next : ℕ) (call : Option Call) → slice_get calls next ≡ call →
-    list_all (call_fits decls) calls ≡ true → option_map_or (call_fits decls) call true ≡ true
-call-fits decls calls next None is all = refl
-call-fits decls calls next (Some call) is all = list_all-at (call_fits decls) calls next call all is
 
 worker_attempts-fit : (decls : List Decl) (queue : ℕ) (stage : Stage) (k : ℕ) (step : Step) →
     nat_lt queue (length (places is_queue decls)) ≡ true → slice_get (worker_attempts queue stage) k ≡ Some step → step_fits decls step ≡ true
@@ -394,55 +403,34 @@ worker_attempts-fit decls queue stages.Start k step fits is = one-fits decls (st
 worker_attempts-fit decls queue stages.Runs k step fits is = one-fits decls (steps.Work (ops.End queue)) k step fits is
 worker_attempts-fit decls queue stage k step fits is = absurd (cc)
 
-role_attempts-fit : (s : Parts) (role : Role) (next : ℕ) (stage : Stage) (k : ℕ) (step : Step) → IsValid s →
+-- the next call of a script, where it has the objects that it needs
+call-met : (s : Parts) (owner next : ℕ) → HasObjects s (roles.Script owner) next → option_map_or (call_fits false s.decls) (slice_get (calls_of s.scripts owner) next) true ≡ true
+call-met s owner next met = by (slice_get (calls_of s.scripts owner) next) refl where
+  by : (o : Option Call) → slice_get (calls_of s.scripts owner) next ≡ o → option_map_or (call_fits false s.decls) o true ≡ true
+  by None there = refl
+  by (Some call) there = met call there
+
+role_attempts-fit : (s : Parts) (role : Role) (next : ℕ) (stage : Stage) (k : ℕ) (step : Step) → HasObjects s role next →
     role_fits s.decls role ≡ true → StageFits s.decls stage → slice_get (role_attempts s role next stage) k ≡ Some step → step_fits s.decls step ≡ true
-role_attempts-fit s (roles.Script owner) next stage k step valid fits at is =
-    call_attempts-fit s.decls (slice_get (calls_of s.scripts owner) next) stage k step
-    (call-fits s.decls (calls_of s.scripts owner) next (slice_get (calls_of s.scripts owner) next) refl (call_fits-calls_of s owner valid)) at is
-role_attempts-fit s (roles.Worker queue) next stage k step valid fits at is =
+role_attempts-fit s (roles.Script owner) next stage k step met fits at is =
+    call_attempts-fit s.decls (slice_get (calls_of s.scripts owner) next) stage k step (call-met s owner next met) at is
+role_attempts-fit s (roles.Worker queue) next stage k step met fits at is =
     worker_attempts-fit s.decls (number_of s.decls queue) stage k step (queue-fits s.decls queue fits) is
 
-frames_attempts-fit : (s : Parts) (frames : List Frame) (k : ℕ) (step : Step) → IsValid s →
+-- that of the innermost open script has them
+abbrev pub TopHasObjects : Parts → List Frame → Type 0
+TopHasObjects s [] = Unit {0}
+TopHasObjects s (frame ∷ below) = HasObjects s frame.role frame.next
+
+-- each attempt of what is open names what is declared
+pub frames_attempts-fit : (s : Parts) (frames : List Frame) (k : ℕ) (step : Step) → TopHasObjects s frames →
     FramesFit s.decls frames → slice_get (frames_attempts s frames) k ≡ Some step → step_fits s.decls step ≡ true
-frames_attempts-fit s [] k step valid fits is = absurd (cc)
-frames_attempts-fit s (frame ∷ below) k step valid fits is =
+frames_attempts-fit s [] k step met fits is = absurd (cc)
+frames_attempts-fit s (frame ∷ below) k step met fits is =
     let here = All-head (FrameFits s.decls) frame below fits in
-    role_attempts-fit s frame.role frame.next frame.stage k step valid here.0 here.1 is
+    role_attempts-fit s frame.role frame.next frame.stage k step met here.0 here.1 is
 
--- a check is of what is declared
-pub check-fits : (s : Parts) (passed : ℕ) (frames : List Frame) (check : Check) → IsValid s → top_check s passed frames ≡ Some check → step_fits s.decls (check_step check) ≡ true
-check-fits s passed [] check valid is = absurd (cc)
-check-fits s passed (frame ∷ below) check valid is = by_role frame.role frame.stage is where
-  of_needed : (call : Call) (n : Needed) → IsThere s.decls n → step_fits s.decls (check_step (check_of call n)) ≡ true
-  of_needed call n there = by n.object n.need there where
-    by : (object : Ref) (need : Need) → is_there s.decls object ≡ true → names_declared s.decls (table_ops.Check (ref_declared object) need) ≡ true
-    by (Known object) need there = there
-
-  by_call : (call : Option Call) → option_map_or (call_fits s.decls) call true ≡ true → option_and_then (call_check passed) call ≡ Some check → step_fits s.decls (check_step check) ≡ true
-  by_call None fits is = absurd (cc)
-  by_call (Some call) fits is = by_need (slice_get (needs_of call) passed) refl is where
-    by_need : (o : Option Needed) → slice_get (needs_of call) passed ≡ o → option_map (check_of call) o ≡ Some check → step_fits s.decls (check_step check) ≡ true
-    by_need None at is = absurd (cc)
-    by_need (Some n) at is = subst (λ (c : Check). step_fits s.decls (check_step c) ≡ true) (same_Some (check_of call n) check is)
-        (of_needed call n (All-at (IsThere s.decls) (needs_of call) passed n (needs-there s.decls call fits) at))
-
-  by_role : (role : Role) (stage : Stage) → role_check s passed role frame.next stage ≡ Some check → step_fits s.decls (check_step check) ≡ true
-  by_role (roles.Script owner) stages.Start is =
-      by_call (slice_get (calls_of s.scripts owner) frame.next)
-      (call-fits s.decls (calls_of s.scripts owner) frame.next (slice_get (calls_of s.scripts owner) frame.next) refl (call_fits-calls_of s owner valid)) is
-  by_role role stage is = absurd (cc)
-
--- each attempt of a player of a valid scenario names what is declared
-pub ahead-fits : (s : Parts) (at : At) (step : Step) → IsValid s → FramesFit s.decls at.frames → IsAhead s at step → step_fits s.decls step ≡ true
-ahead-fits s at step valid fits ahead =
-    by (one-or-other s at step ahead)
-  where
-    by : IsCheck s at step ⊎ IsOwn s at step → step_fits s.decls step ≡ true
-    by (inl is) = subst (λ (x : Step). step_fits s.decls x ≡ true) is.is_step
-        (check-fits s at.passed at.frames is.check valid (check-of-top s at.mode at.passed at.frames is.check is.comes))
-    by (inr is) = frames_attempts-fit s at.frames is.index step valid fits is.ahead
-
-frames_after-fit : (s : Parts) (frames : List Frame) (progress : Progress) → FramesFit s.decls frames → ProgressFits s.decls progress →
+pub frames_after-fit : (s : Parts) (frames : List Frame) (progress : Progress) → FramesFit s.decls frames → ProgressFits s.decls progress →
     FramesFit s.decls (frames_after s frames progress)
 frames_after-fit s [] progress fits more = fits
 frames_after-fit s (frame ∷ below) (Goes stage) fits more =
@@ -456,41 +444,15 @@ frames_after-fit s (frame ∷ below) (Enters owner stage) fits more =
     let F : Frame → Type 0 = FrameFits s.decls in
     let next = record frame { stage = stage } in
     settled-all F s (entered (next ∷ below) owner) (entered-all F (next ∷ below) owner (refl, tt)
-    (All-cons F next below ((All-head F frame below fits).0, more) (All-tail F frame below fits)))
-
--- a step keeps what fits, where its reply tells only of observers
-pub after-fits : (s : Parts) (at : At) (made : Step) (reply : StepReply) → FramesFit s.decls at.frames → ReplyFits s.decls reply →
-    FramesFit s.decls (after s at made reply).frames
-after-fits s at made reply fits told = by (check_at s at) where
-  by_why : (word : Word) (why : Option OopsWhy) (spot : Spot) → FramesFit s.decls (checked at word why spot).frames
-  by_why word None spot = fits
-  by_why word (Some why) spot = All-nil (FrameFits s.decls)
-
-  by : (check : Option Check) → FramesFit s.decls (after_by s at made reply check).frames
-  by (Some check) = by_why check.word (oops_in reply) (spot_of made reply)
-  by None = frames_after-fit s at.frames (frames_progress s at.frames made reply) fits (frames_progress-fits s at.frames made reply fits told)
+    (All-cons F next below ((All-head F frame below fits).0, more.0) (All-tail F frame below fits)))
 
 role_at-fits : (decls : List Decl) (object : ℕ) (decl : Decl) → slice_get decls object ≡ Some decl → role_fits decls (role_at decl object) ≡ true
 role_at-fits decls object (decl_kinds.Thread name prio user) is = refl
 role_at-fits decls object (decl_kinds.Queue name prio on) is = ap (λ (o : Option Decl). option_map_or is_queue o false) is
 role_at-fits decls object decl is = refl
 
-starting-fits : (s : Parts) (number object : ℕ) (decl : Decl) → slice_get s.decls object ≡ Some decl → FramesFit s.decls (starting s number object decl).frames
+pub starting-fits : (s : Parts) (number object : ℕ) (decl : Decl) → slice_get s.decls object ≡ Some decl → FramesFit s.decls (starting s number object decl).frames
 starting-fits s number object decl is =
     let F : Frame → Type 0 = FrameFits s.decls in
     let first = first_frame (role_at decl object) in
     settled-all F s (first ∷ []) (All-cons F first [] (role_at-fits s.decls object decl is, tt) (All-nil F))
-
--- a player that has made no step has its queue, where it is a worker
-pub start_at-fits : (s : Parts) (number : ℕ) (at : At) → start_at s number ≡ Some at → FramesFit s.decls at.frames
-start_at-fits s number at is =
-    let inner : ℕ → Option At = λ object. option_map (starting s number object) (slice_get s.decls object) in
-    option_and_then_some inner (slice_get (players s.decls) number) at is
-    (λ object found made. from_decl s number object (slice_get s.decls object) refl at made)
-  where
-    from_decl : (s : Parts) (number object : ℕ) (decl : Option Decl) → slice_get s.decls object ≡ decl → (at : At) →
-        option_map (starting s number object) decl ≡ Some at → FramesFit s.decls at.frames
-    from_decl s number object None is at made = absurd (cc)
-    from_decl s number object (Some decl) is at made =
-        let same : starting s number object decl ≡ at = cc in
-        subst (λ (a : At). FramesFit s.decls a.frames) same (starting-fits s number object decl is)

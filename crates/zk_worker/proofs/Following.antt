@@ -17,7 +17,8 @@ use Rattle.zk_worker.proofs.Between.{stands-longer}
 use Rattle.zk_worker.proofs.ShownSteps.{made-more}
 use Rattle.zk_worker.proofs.CheckedSteps.{after-spots}
 
-played-more : (s : Parts) (start : At) (made : List (Step × StepReply)) (at : At) (new : Step × StepReply) →
+-- one step more
+pub played-more : (s : Parts) (start : At) (made : List (Step × StepReply)) (at : At) (new : Step × StepReply) →
     IsPlayed s start made at → IsAhead s at new.0 → IsPlayed s start (made ++ new ∷ []) (after s at new.0 new.1)
 played-more s start [] at new is ahead =
     (subst (λ (a : At). IsAhead s a new.0) (sym is) ahead, ap (λ (a : At). after s a new.0 new.1) is)

@@ -11,11 +11,13 @@ pub mod PollAnswers
 pub mod PollLaws
 pub mod PollTells
 pub mod PollLogs
+pub mod FreeCalls
 pub mod PollServed
-pub mod StageFits
-pub mod Fits
 pub mod TableRanges
 pub mod TableSetups
+pub mod StageFits
+pub mod Fits
+pub mod FitsStill
 pub mod Ranges
 pub mod Families
 pub mod Between
@@ -23,7 +25,9 @@ pub mod ShownSteps
 pub mod Looking
 pub mod SignalWrites
 pub mod Replied
+pub mod PassedChecks
 pub mod Following
+pub mod UsersChecked
 pub mod Trying
 pub mod ChannelAnswers
 pub mod OpenScripts

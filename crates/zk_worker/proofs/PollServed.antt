@@ -17,7 +17,7 @@ use Rattle.zk_line.specs.declared.types.Call.TheVariants as calls
 use Rattle.zk_line.specs.Calls.{said_of}
 use Rattle.zk_line.specs.Checks.{size_said}
 use Rattle.zk_line.specs.Few.{is_few}
-use Rattle.zk_line.specs.Fits.{call_fits, args_fit}
+use Rattle.zk_line.specs.Fits.{args_fit}
 use Rattle.zk_words.specs.Table.{call_row}
 use Rattle.zk_model_wait.specs.declared.msgq.MsgqOp.{MsgqOp}
 use Rattle.zk_model_wait.specs.declared.msgq.MsgqOp.TheVariants as msgq_ops
@@ -33,7 +33,6 @@ use Rattle.zk_model_wait.specs.SemLaws.{polls as polls_sem}
 use Rattle.zk_scenario.specs.Parts.{Parts}
 use Rattle.zk_scenario.specs.Players.{calls_of}
 use Rattle.zk_scenario.specs.Valid.{IsValid}
-use Rattle.zk_scenario.proofs.Valid.{call_fits-calls_of}
 use Rattle.zk_words.specs.declared.timeout.Timeout.{Timeout}
 use Rattle.zk_words.specs.declared.word.Word.{Word}
 use Rattle.zk_words.specs.declared.word.Word.TheVariants as words
@@ -59,6 +58,9 @@ use Rattle.zk_worker.specs.Shown.{Shown, shown_at, is_look, ShowsLog}
 use Rattle.zk_line.specs.declared.events.Event.TheVariants as events_of
 use Rattle.zk_worker.specs.declared.frames.Mark.TheVariants as marks_of
 use Rattle.zk_worker.specs.Refs.{ref_object}
+use Rattle.zk_worker.specs.declared.frames.Role.TheVariants.{Script}
+use Rattle.zk_worker.specs.Ranges.{is_free_at}
+use Rattle.zk_worker.proofs.FreeCalls.{call_fits-next}
 use Rattle.zk_worker.proofs.PollLaws.{poll_laws}
 use Rattle.zk_worker.proofs.PollLogs.{each_poll_is_played}
 use Rattle.zk_worker.proofs.PollPlays.{Apart}
@@ -285,8 +287,9 @@ few-of : (s : Parts) (made : List Made) (a : Answered) (of : IsPollOf s made a) 
 few-of s made a of valid =
     let said = said_of (calls.Poll of.timeout of.events) in
     let form = call_row said.word in
-    let fits = list_all-at (call_fits s.decls) (calls_of s.scripts of.owner) of.next (calls.Poll of.timeout of.events) (call_fits-calls_of s of.owner valid) of.call in
-    few_events of.events (and_parts (is_few of.events) (args_fit s.decls (size_said s.decls said.args) form.slots form.rest said.args) fits).0
+    let free = is_free_at s (Script of.owner) of.next in
+    let fits = call_fits-next s of.owner of.next (calls.Poll of.timeout of.events) valid of.call in
+    few_events of.events (and_parts (is_few of.events) (args_fit free s.decls (size_said s.decls said.args) form.slots form.rest said.args) fits).0
 
 pub each_poll_keeps_its_laws : EachPollKeepsItsLaws
 each_poll_keeps_its_laws s number shown at is valid shows legal =

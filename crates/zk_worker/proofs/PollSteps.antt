@@ -9,7 +9,6 @@ use Rattle.std.proofs.lemmas.List.Elements.{All-nil, All-cons, All-head, All-tai
 use Rattle.std.proofs.lemmas.Option.{option_and_then_some}
 use Rattle.zk_base.proofs.Lists.{All-at}
 use Rattle.zk_line.specs.declared.types.Decl.{Decl}
-use Rattle.zk_line.specs.declared.types.Ref.TheVariants.{Known}
 use Rattle.zk_model_wait.specs.declared.clock.ClockOp.{ClockOp}
 use Rattle.zk_model_wait.specs.declared.clock.ClockOp.TheVariants as clock_ops
 use Rattle.zk_model_wait.specs.declared.msgq.MsgqOp.TheVariants as msgq_ops
@@ -32,6 +31,7 @@ use Rattle.zk_worker.specs.Families.{is_declared}
 use Rattle.zk_worker.specs.Machines.{sem_start, msgq_start, signal_start}
 use Rattle.zk_worker.specs.Ranges.{step_fits}
 use Rattle.zk_worker.specs.Polls.{fresh, is_armed, asks_more, unasked_from, ask_step, watch_step, drop_step, step_at, asking, dropping, watching, alarm_steps, is_closing, registers, polling, poll_start, poll_attempts}
+use Rattle.zk_worker.specs.Refs.{ref_object}
 
 abbrev Fit : List Decl → Step → Type 0
 Fit decls step = step_fits decls step ≡ true
@@ -39,28 +39,28 @@ Fit decls step = step_fits decls step ≡ true
 -- whether what an event names is declared as what it names
 abbrev pub is_source : List Decl → Event → Bool
 is_source decls Ignore = true
-is_source decls (Sem (Known sem)) = is_declared sem_start decls sem
-is_source decls (Msgq (Known queue)) = is_declared msgq_start decls queue
-is_source decls (Sig (Known signal)) = is_declared signal_start decls signal
+is_source decls (Sem sem) = is_declared sem_start decls (ref_object sem)
+is_source decls (Msgq queue) = is_declared msgq_start decls (ref_object queue)
+is_source decls (Sig signal) = is_declared signal_start decls (ref_object signal)
 
 same-fits : (decls : List Decl) (made step : Step) → Fit decls made → Some made ≡ Some step → Fit decls step
 same-fits decls made step fits is = let same : made ≡ step = cc in subst (λ (s : Step). Fit decls s) same fits
 
 ask-fits : (decls : List Decl) (registers : Bool) (event : Event) (step : Step) → is_source decls event ≡ true → ask_step registers event ≡ Some step → Fit decls step
 ask-fits decls registers Ignore step fits is = absurd (cc)
-ask-fits decls registers (Sem (Known sem)) step fits is = same-fits decls (steps.Sem sem (sem_ops.PollArm registers)) step fits is
-ask-fits decls registers (Msgq (Known queue)) step fits is = same-fits decls (steps.Msgq queue (msgq_ops.PollArm registers)) step fits is
-ask-fits decls registers (Sig (Known signal)) step fits is = same-fits decls (steps.LookSignal signal false) step fits is
+ask-fits decls registers (Sem sem) step fits is = same-fits decls (steps.Sem (ref_object sem) (sem_ops.PollArm registers)) step fits is
+ask-fits decls registers (Msgq queue) step fits is = same-fits decls (steps.Msgq (ref_object queue) (msgq_ops.PollArm registers)) step fits is
+ask-fits decls registers (Sig signal) step fits is = same-fits decls (steps.LookSignal (ref_object signal) false) step fits is
 
 watch-fits : (decls : List Decl) (event : Event) (mark : Mark) (step : Step) → is_source decls event ≡ true → watch_step event mark ≡ Some step → Fit decls step
-watch-fits decls (Sem (Known sem)) (Armed place) step fits is = same-fits decls (steps.Sem sem (sem_ops.PollEnd place)) step fits is
-watch-fits decls (Msgq (Known queue)) (Armed place) step fits is = same-fits decls (steps.Msgq queue (msgq_ops.PollEnd place)) step fits is
-watch-fits decls (Sig (Known signal)) mark step fits is = same-fits decls (steps.LookSignal signal true) step fits is
+watch-fits decls (Sem sem) (Armed place) step fits is = same-fits decls (steps.Sem (ref_object sem) (sem_ops.PollEnd place)) step fits is
+watch-fits decls (Msgq queue) (Armed place) step fits is = same-fits decls (steps.Msgq (ref_object queue) (msgq_ops.PollEnd place)) step fits is
+watch-fits decls (Sig signal) mark step fits is = same-fits decls (steps.LookSignal (ref_object signal) true) step fits is
 watch-fits decls event mark step fits is = absurd (cc)
 
 drop-fits : (decls : List Decl) (event : Event) (mark : Mark) (step : Step) → is_source decls event ≡ true → drop_step event mark ≡ Some step → Fit decls step
-drop-fits decls (Sem (Known sem)) (Armed place) step fits is = same-fits decls (steps.Sem sem (sem_ops.PollQuit place)) step fits is
-drop-fits decls (Msgq (Known queue)) (Armed place) step fits is = same-fits decls (steps.Msgq queue (msgq_ops.PollQuit place)) step fits is
+drop-fits decls (Sem sem) (Armed place) step fits is = same-fits decls (steps.Sem (ref_object sem) (sem_ops.PollQuit place)) step fits is
+drop-fits decls (Msgq queue) (Armed place) step fits is = same-fits decls (steps.Msgq (ref_object queue) (msgq_ops.PollQuit place)) step fits is
 drop-fits decls event mark step fits is = absurd (cc)
 
 option-each : (P : Step → Type 0) (step : Option Step) → ((s : Step) → step ≡ Some s → P s) → All P (option_to_list step)

@@ -20,11 +20,12 @@ use Rattle.zk_worker.specs.declared.steps.Step.{Step}
 use Rattle.zk_worker.specs.declared.steps.Step.TheVariants as steps
 use Rattle.zk_worker.specs.Places.{At}
 use Rattle.zk_worker.specs.Protocol.{IsAhead}
-use Rattle.zk_worker.specs.Ranges.{FramesFit, step_fits}
+use Rattle.zk_worker.specs.Ranges.{IsFit, step_fits}
 use Rattle.zk_worker.specs.Machines.{Machines, machines_of, workers, is_on, item_number, items_of, sem_start, msgq_start, signal_start, chan_start, observer_start}
 use Rattle.zk_worker.specs.Attempt.{takes}
 use Rattle.zk_worker.specs.Families.{is_declared}
-use Rattle.zk_worker.proofs.Fits.{ahead-fits, item-fits}
+use Rattle.zk_worker.proofs.Fits.{item-fits}
+use Rattle.zk_worker.proofs.FitsStill.{ahead-fits}
 use Rattle.zk_worker.proofs.Families.{takes-declared_one}
 use Rattle.zk_worker.proofs.TableRanges.{names-declared}
 
@@ -85,6 +86,6 @@ takes-declared s (steps.LookItem object) fits =
 takes-declared s (steps.LookSignal object must) fits = starts-declared signal_start s.decls object fits
 
 -- and so each attempt of a player of a valid scenario
-pub ahead-takes : (s : Parts) (m : Machines) (at : At) → IsValid s → m ≡ machines_of s → FramesFit s.decls at.frames → (step : Step) → IsAhead s at step → takes m step ≡ true
+pub ahead-takes : (s : Parts) (m : Machines) (at : At) → IsValid s → m ≡ machines_of s → IsFit s at → (step : Step) → IsAhead s at step → takes m step ≡ true
 ahead-takes s m at valid same fits = λ step ahead.
     subst (λ (n : Machines). takes n step ≡ true) (sym same) (takes-declared s step (ahead-fits s at step valid fits ahead))

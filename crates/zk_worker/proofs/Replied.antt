@@ -1,7 +1,7 @@
 -- The observers of which a channel of a scenario tells are declared.
-use Rattle.std.proofs.Common.{◌≡◌, ℕ, zero, suc, true, Option, Some, None, is_some, List, [], ◌∷◌, length, map, take, refl, sym, subst}
+use Rattle.std.proofs.Common.{◌≡◌, ℕ, zero, suc, true, false, Option, Some, None, is_some, List, [], ◌∷◌, length, map, take, refl, sym, subst, ap, ◌∙◌}
 use Rattle.std.specs.List.{slice_get, list_all}
-use Rattle.std.specs.Option.{option_map, option_and_then}
+use Rattle.std.specs.Option.{option_map, option_map_or, option_and_then}
 use Rattle.std.proofs.lemmas.Bool.{and_parts}
 use Rattle.std.proofs.lemmas.List.Elements.{All-nil, All-cons}
 use Rattle.std.proofs.lemmas.Option.{option_and_then_some, same_Some}
@@ -17,6 +17,8 @@ use Rattle.zk_model_bus.specs.declared.channel.ChanReply.{ChanReply}
 use Rattle.zk_model_bus.specs.declared.channel.ChanReply.TheVariants as chan_replies
 use Rattle.zk_model_bus.specs.Channel.{Channel, new_chan, chan_reply, chan_machine}
 use Rattle.zk_model_bus.specs.ChannelLaws.{ChanHistory}
+use Rattle.zk_model_bus.specs.Observer.{obs_machine}
+use Rattle.zk_model_bus.specs.declared.observer.ObsOp.{ObsOp}
 use Rattle.zk_model_bus.proofs.ChannelObservers.{TellsOnly, channel-tells}
 use Rattle.zk_worker.specs.declared.steps.Step.{Step}
 use Rattle.zk_worker.specs.declared.steps.Step.TheVariants as steps
@@ -96,6 +98,18 @@ chan-fits s shown who object op reply valid is =
         subst (λ (x : StepReply). ReplyFits s.decls x) (same_Some (step_replies.Chan object r (length h)) reply is)
         (tells-fit s.decls object r (length h) (declared-tells s valid object from.0 from.1 start from.2 h who op r told))
 
+-- an observer that replies is declared as one
+obs-declared : (s : Parts) (shown : Shown) (who : Who) (object : ℕ) (op : ObsOp) (reply : StepReply) →
+    answer_at (machines_of s).observers shown.observers step_replies.Obs who object op ≡ Some reply → is_declared observer_start s.decls object ≡ true
+obs-declared s shown who object op reply is =
+    let family = (machines_of s).observers in
+    option_and_then_some {P = is_declared observer_start s.decls object ≡ true}
+    (λ start. option_and_then (λ h. answer_in obs_machine start h (step_replies.Obs object) who op) (slice_get shown.observers object))
+    (start_of family object) reply is
+    (λ start started after.
+    let by = started-by observer_start s.decls object start started in
+    ap (λ (o : Option Decl). option_map_or (λ decl. is_some (observer_start decl)) o false) by.1 ∙ ap is_some by.2)
+
 -- the reply to a step of another service tells of no observers
 other-fits : (decls : List Decl) (tell : StepReply) (reply : StepReply) → tell ≡ reply → ReplyFits decls tell → ReplyFits decls reply
 other-fits decls tell reply same fits = subst (λ (x : StepReply). ReplyFits decls x) same fits
@@ -130,7 +144,7 @@ replied-fits s m shown who step reply valid same is = by_step step (subst (λ (n
     by_step (steps.Chan object op) is = chan-fits s shown who object op reply valid is
     by_step (steps.Obs object op) is =
         let from = answered-at (machines_of s).observers shown.observers step_replies.Obs who object op reply is in
-        other-fits s.decls (step_replies.Obs object from.reply (length from.history)) reply from.tells tt
+        other-fits s.decls (step_replies.Obs object from.reply (length from.history)) reply from.tells (obs-declared s shown who object op reply is)
     by_step (steps.LookItem object) is =
         let from = made-of (λ flags. step_replies.Flags flags (length shown.work)) (flags_after (machines_of s) shown.work object) reply is in
         other-fits s.decls (step_replies.Flags from.0 (length shown.work)) reply from.2 tt

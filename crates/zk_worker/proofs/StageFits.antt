@@ -1,12 +1,13 @@
 -- What the reply to a step does to a call keeps the observers that the call visits.
-use Rattle.std.proofs.Common.{◌≡◌, ℕ, Bool, true, false, cond, Option, Some, None, List, [], ◌∷◌}
+use Rattle.std.proofs.Common.{◌≡◌, ℕ, zero, suc, ◌+◌, Bool, true, false, cond, Option, Some, None, is_some, List, [], ◌∷◌, refl, sym, subst, arith}
 use Rattle.std.specs.List.{slice_get}
 use Rattle.std.proofs.lemmas.List.Elements.{All-head, All-tail}
 use Rattle.zk_line.specs.declared.types.Decl.{Decl}
 use Rattle.zk_line.specs.declared.types.Call.{Call}
 use Rattle.zk_line.specs.declared.events.Event.{Event}
 use Rattle.zk_line.specs.Calls.{word_of}
-use Rattle.zk_line.specs.Objects.{places, is_item}
+use Rattle.zk_line.specs.declared.types.Decl.TheVariants as decls_of
+use Rattle.zk_line.specs.Objects.{places, is_at, is_thread, is_item}
 use Rattle.zk_scenario.specs.Parts.{Parts}
 use Rattle.zk_scenario.specs.Players.{calls_of}
 use Rattle.zk_words.specs.declared.timeout.Timeout.{Timeout}
@@ -39,13 +40,14 @@ use Rattle.zk_worker.specs.Polls.{poll_answer, is_answered, poll_goes, poll_prog
 use Rattle.zk_worker.specs.Protocol.{run_progress, worker_progress, call_progress, role_progress, frames_progress}
 use Rattle.zk_worker.specs.Publishes.{rest_of, holds_progress, visit_progress, asking_progress, channel_progress}
 use Rattle.zk_worker.specs.Ranges.{AreObservers, StageFits, FrameFits, FramesFit, ReplyFits}
+use Rattle.zk_worker.proofs.TableSetups.{placed}
 use Rattle.zk_worker.specs.Waits.{opening_progress, until, wait_progress}
 
--- the observers that are left behind what a reply does are declared as such
+-- the observers that are left behind what a reply does are declared as such, and what is entered is no thread's script
 abbrev pub ProgressFits : List Decl → Progress → Type 0
 ProgressFits decls (Goes stage) = StageFits decls stage
 ProgressFits decls (Answers word answer) = Unit {0}
-ProgressFits decls (Enters owner stage) = StageFits decls stage
+ProgressFits decls (Enters owner stage) = StageFits decls stage × (is_at is_thread decls owner ≡ false)
 
 opening-fits : (decls : List Decl) (word : Word) (reply : StepReply) → ProgressFits decls (opening_progress word reply)
 opening-fits decls word (step_replies.Work work_replies.Wait place) = tt
@@ -82,16 +84,31 @@ poll_progress-fits decls word timeout events (Polls alarm marks) made reply fits
     poll_goes-fits decls word timeout events (alarm_after alarm reply) (marked marks (event_of events alarm marks made) (mark_of reply))
 poll_progress-fits decls word timeout events stage made reply fits = fits
 
+-- neither an item nor an observer is a thread
+no-thread-at : (test : Decl → Bool) (decls : List Decl) (object : ℕ) → ((d : Decl) → test d ≡ true → is_thread d ≡ false) → is_at test decls object ≡ true → is_at is_thread decls object ≡ false
+no-thread-at test [] object never is = absurd (cc)
+no-thread-at test (d ∷ ds) zero never is = never d is
+no-thread-at test (d ∷ ds) (suc object) never is = no-thread-at test ds object never is
+
+item-never : (d : Decl) → is_item d ≡ true → is_thread d ≡ false
+item-never (decls_of.Item name) is = refl
+item-never d is = absurd (cc)
+
+observer-never : (d : Decl) → is_some (observer_start d) ≡ true → is_thread d ≡ false
+observer-never (decls_of.Listener name) is = refl
+observer-never (decls_of.Sub name capacity) is = refl
+observer-never d is = absurd (cc)
+
 rest-fits : (decls : List Decl) (left : List ℕ) → AreObservers decls left → AreObservers decls (rest_of left)
 rest-fits decls [] are = are
 rest-fits decls (observer ∷ left) are = All-tail (λ o. is_declared observer_start decls o ≡ true) observer left are
 
-visit_progress-fits : (decls : List Decl) (word : Word) (left : List ℕ) (full : Bool) (reply : StepReply) → AreObservers decls left →
+visit_progress-fits : (decls : List Decl) (word : Word) (left : List ℕ) (full : Bool) (reply : StepReply) → AreObservers decls left → ReplyFits decls reply →
     ProgressFits decls (visit_progress word left full reply)
-visit_progress-fits decls word left full (step_replies.Obs observer obs_replies.Run place) are = rest-fits decls left are
-visit_progress-fits decls word left full (step_replies.Obs observer obs_replies.Full place) are = rest-fits decls left are
-visit_progress-fits decls word left full (step_replies.Obs observer reply place) are = rest-fits decls left are
-visit_progress-fits decls word left full reply are = tt
+visit_progress-fits decls word left full (step_replies.Obs observer obs_replies.Run place) are told = (rest-fits decls left are, no-thread-at (λ (d : Decl). is_some (observer_start d)) decls observer observer-never told)
+visit_progress-fits decls word left full (step_replies.Obs observer obs_replies.Full place) are told = rest-fits decls left are
+visit_progress-fits decls word left full (step_replies.Obs observer reply place) are told = rest-fits decls left are
+visit_progress-fits decls word left full reply are told = tt
 
 holds_progress-fits : (decls : List Decl) (word : Word) (reply : StepReply) → ReplyFits decls reply → ProgressFits decls (holds_progress word reply)
 holds_progress-fits decls word (step_replies.Chan chan (chan_replies.Observers told) place) fits = fits
@@ -105,7 +122,7 @@ asking_progress-fits decls word stage reply = wait_progress-fits decls word stag
 channel_progress-fits : (decls : List Decl) (word : Word) (stage : Stage) (reply : StepReply) → StageFits decls stage → ReplyFits decls reply →
     ProgressFits decls (channel_progress word stage reply)
 channel_progress-fits decls word Holds reply fits told = holds_progress-fits decls word reply told
-channel_progress-fits decls word (Visits left full) reply fits told = visit_progress-fits decls word left full reply fits
+channel_progress-fits decls word (Visits left full) reply fits told = visit_progress-fits decls word left full reply fits told
 channel_progress-fits decls word (Reads message) reply fits told = tt
 channel_progress-fits decls word stage reply fits told = asking_progress-fits decls word stage reply
 
@@ -120,12 +137,14 @@ plan_progress-fits decls word (Wait waiting timeout) stage made reply fits told 
 plan_progress-fits decls word (Poll timeout events) stage made reply fits told = poll_progress-fits decls word timeout events stage made reply fits
 plan_progress-fits decls word (Channel chan using timeout) stage made reply fits told = channel_progress-fits decls word stage reply fits told
 
-run-fits : (decls : List Decl) (owner : Option ℕ) → ProgressFits decls (run_progress owner)
-run-fits decls None = tt
-run-fits decls (Some owner) = tt
+run-fits : (decls : List Decl) (item : ℕ) (owner : Option ℕ) → slice_get (places is_item decls) item ≡ owner → ProgressFits decls (run_progress owner)
+run-fits decls item None is = tt
+run-fits decls item (Some owner) is =
+    let at = placed 0 is_item decls item owner is in
+    (tt, no-thread-at is_item decls owner item-never (subst (λ (o : ℕ). is_at is_item decls o ≡ true) (sym at.1) (subst (λ (o : ℕ). is_at is_item decls o ≡ true) (omega arith) at.2)))
 
 worker_progress-fits : (decls : List Decl) (stage : Stage) (reply : StepReply) → ProgressFits decls (worker_progress decls stage reply)
-worker_progress-fits decls Start (step_replies.Work (work_replies.Run item admission) place) = run-fits decls (slice_get (places is_item decls) item)
+worker_progress-fits decls Start (step_replies.Work (work_replies.Run item admission) place) = run-fits decls item (slice_get (places is_item decls) item) refl
 worker_progress-fits decls stage reply = tt
 
 call_progress-fits : (decls : List Decl) (call : Option Call) (stage : Stage) (made : Step) (reply : StepReply) → StageFits decls stage →

@@ -14,7 +14,7 @@ use Rattle.zk_scenario.specs.Parts.{Parts}
 use Rattle.zk_worker.specs.TableSetup.{setup_of, is_object, names_declared}
 
 -- the kinds of all objects say which of them meet a need
-met-at : (need : Need) (decls : List Decl) (object : ℕ) →
+pub met-at : (need : Need) (decls : List Decl) (object : ℕ) →
     option_map_or (tables.meets need) (slice_get (map kind_of decls) object) false ≡ is_at (is_met need) decls object
 met-at need [] object = refl
 met-at need (d ∷ ds) zero = refl

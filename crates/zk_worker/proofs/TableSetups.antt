@@ -26,7 +26,7 @@ use Rattle.zk_worker.specs.TableSetup.{thread_of, permission_of, setup_of}
 -- Objects of a kind, in declared order.
 
 -- each of them passes the test
-placed : (n : ℕ) (test : Decl → Bool) (ds : List Decl) (k object : ℕ) → slice_get (places_from n test ds) k ≡ Some object →
+pub placed : (n : ℕ) (test : Decl → Bool) (ds : List Decl) (k object : ℕ) → slice_get (places_from n test ds) k ≡ Some object →
     (j : ℕ) × (object ≡ n + j) × (is_at test ds j ≡ true)
 placed n test [] k object is = absurd (cc)
 placed n test (d ∷ ds) k object is = by (test d) refl k (λ m o at. placed (n + 1) test ds m o at) is where

@@ -86,6 +86,7 @@ plan_of decls (calls.Revoke thread object) =
     One (steps.Table (table_ops.Revoke (ref_object thread) (ref_object object)))
 plan_of decls (calls.Public object) = One (steps.Table (table_ops.Public (ref_object object)))
 plan_of decls (calls.Init object) = One (steps.Table (table_ops.Init (ref_object object)))
+plan_of decls calls.User = One (steps.Table table_ops.EnterUser)
 
 -- the step that ends a wait begun by the entry of this place
 abbrev pub closing_step : Closing → ℕ → Step

@@ -1,5 +1,6 @@
 pub mod Attempt
 pub mod Calls
+pub mod CheckLaws
 pub mod Checks
 pub mod Choosing
 pub mod Families

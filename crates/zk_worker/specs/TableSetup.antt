@@ -1,18 +1,12 @@
 use Rattle.std.specs.Prelude.{ℕ, Bool, true, false, not, ◌&&◌, Option, Some, None, List, map}
 use Rattle.zk_line.specs.declared.types.Decl.{Decl}
-use Rattle.zk_line.specs.declared.types.Decl.TheVariants.{Thread}
-use Rattle.zk_line.specs.Objects.{kind_of, is_raw, is_thread, is_at, is_met, number_of, places}
+use Rattle.zk_line.specs.Objects.{kind_of, is_raw, is_user, is_thread, is_at, is_met, number_of, places}
 use Rattle.zk_model_bus.specs.declared.kinds.Need.TheVariants as needs
 use Rattle.zk_model_bus.specs.declared.table.TableOp.{TableOp}
 use Rattle.zk_model_bus.specs.declared.table.TableOp.TheVariants as table_ops
 use Rattle.zk_model_bus.specs.Table.{Setup}
 use Rattle.zk_scenario.specs.Parts.{Parts}
 use Rattle.zk_scenario.specs.Written.{allowed}
-
--- whether a declaration is of a user thread
-abbrev pub is_user : Decl → Bool
-is_user (Thread name prio user) = user
-is_user decl = false
 
 -- a thread, as the number of its object and whether it is a user
 abbrev pub thread_of : List Decl → ℕ → ℕ × Bool

@@ -164,6 +164,7 @@ pub fn plan_of(scenario: &Scenario, call: &Call) -> Plan
         }
         Call::Public(object) => at_table(TableOp::Public(ref_object(*object))),
         Call::Init(object) => at_table(TableOp::Init(ref_object(*object))),
+        Call::User => at_table(TableOp::EnterUser),
     }
 }
 

@@ -3,6 +3,7 @@
 
 mod answers;
 mod calls;
+mod check_laws;
 mod checks;
 mod frames;
 mod log;
@@ -23,6 +24,7 @@ mod visit_laws;
 mod waits;
 
 pub use answers::{Answer, Answered, Answers};
+pub use check_laws::users_are_checked;
 pub use checks::{Check, Mode};
 pub use frames::{Alarm, Closing, Frame, Mark, Plan, Progress, Role, Stage, Using, Waiting};
 pub use log::{Log, PlayerState};

@@ -1,9 +1,10 @@
 ghost use Rattle.std.specs.Prelude.{◌≡◌, ℕ, ◌<◌, ◌≤◌, Bool, slice_get, reverse, length, IfOk, OnErr, Some};
 ghost use Rattle.zk_scenario.specs.Players.{players, prio_of};
+ghost use Rattle.zk_scenario.specs.Valid.{IsValid};
 ghost use Rattle.zk_worker.specs.Checks.{next_check};
 ghost use Rattle.zk_worker.specs.Protocol.{attempts, after, frames_progress, checked, moved, spot_of, start_at, starting, role_at, IsAhead};
 ghost use Rattle.zk_worker.specs.Follows.{state_at, log_of, is_done, is_through, is_between, is_spent_at, StandsMore, IsFollowing};
-ghost use Rattle.zk_worker.specs.Ranges.{FramesFit, ReplyFits};
+ghost use Rattle.zk_worker.specs.Ranges.{IsFit, ReplyFits, PassesFit};
 ghost use Rattle.zk_worker.specs.Machines.{Machines};
 ghost use Rattle.zk_worker.specs.Shown.{Shown, ShowsLog};
 ghost use Rattle.zk_worker.specs.Right.{LooksRight};
@@ -137,7 +138,7 @@ impl Player {
         ensures start { IfOk result (λ player. start_at scenario.now number ≡ Some player) }
 
         // What `step` asks for, and that it follows the scenario, whatever is shown.
-        ensures fits { IfOk result (λ player. FramesFit scenario.now.decls player.frames) }
+        ensures fits { IfOk result (λ player. IsFit scenario.now player) }
         ensures follows { IfOk result (λ player.
             (shown : Shown) → IsFollowing scenario.now number shown player) }
         ensures looks { IfOk result (λ player.
@@ -184,8 +185,9 @@ impl Player {
 
         // What `step` asks for stays, where services made this step.
         // It follows the scenario still, where this step is shown too.
-        ensures fits { FramesFit scenario.now.decls self.old.frames →
-            ReplyFits scenario.now.decls reply.now → FramesFit scenario.now.decls self.new.frames }
+        ensures fits { IsValid scenario.now → IsFit scenario.now self.old →
+            ReplyFits scenario.now.decls reply.now → PassesFit scenario.now.decls step.now reply.now →
+            IsFit scenario.now self.new }
         ensures looks { (alone : Bool) (m : Machines) (old new : Shown) →
             ShowsLog old self.old.who.number self.old.spots →
             IsMade alone m self.old.who (length self.old.spots) step.now reply.now old new →

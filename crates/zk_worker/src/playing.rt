@@ -3,7 +3,7 @@ ghost use Rattle.zk_base.specs.declared.ids.Who.{Who};
 ghost use Rattle.zk_scenario.specs.Valid.{IsValid};
 ghost use Rattle.zk_worker.specs.Protocol.{attempts, IsAhead};
 ghost use Rattle.zk_worker.specs.Follows.{IsFollowing};
-ghost use Rattle.zk_worker.specs.Ranges.{FramesFit};
+ghost use Rattle.zk_worker.specs.Ranges.{IsFit};
 ghost use Rattle.zk_worker.specs.Machines.{machines_of};
 ghost use Rattle.zk_worker.specs.Shown.{ShowsLog, AreShort, Between};
 ghost use Rattle.zk_worker.specs.Right.{LooksRight};
@@ -74,7 +74,7 @@ impl Player {
         requires valid { IsValid scenario.now }
         requires machines { V.machines services.old ≡ machines_of scenario.now }
         requires served { V.serves services.old self.old.who }
-        requires fits { FramesFit scenario.now.decls self.old.frames }
+        requires fits { IsFit scenario.now self.old }
         requires log { ShowsLog (V.shown services.old) self.old.who.number self.old.spots }
         requires looks { LooksRight (V.machines services.old) (V.shown services.old) self.old.spots }
         requires short { V.alone services.old ≡ true → AreShort (V.shown services.old) }
@@ -92,7 +92,7 @@ impl Player {
         ensures looks { LooksRight (V.machines services.new) (V.shown services.new) self.new.spots }
         ensures follows { (number : ℕ) → IsFollowing scenario.now number (V.shown services.old) self.old →
             IsFollowing scenario.now number (V.shown services.new) self.new }
-        ensures fits { FramesFit scenario.now.decls self.new.frames }
+        ensures fits { IsFit scenario.now self.new }
         ensures machines { V.machines services.new ≡ V.machines services.old }
         ensures serves { SamePlayers (V.serves services.old) (V.serves services.new) }
         ensures alone { V.alone services.new ≡ V.alone services.old }

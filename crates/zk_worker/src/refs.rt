@@ -3,20 +3,28 @@ ghost use Rattle.zk_worker.specs.Refs.{ref_object, ref_declared, ref_number};
 
 use zk_scenario::{Ref, Scenario};
 
-/// The object number of an object that a call names.
+/// A number that no object has: there are fewer.
+pub const NO_OBJECT: u32 = u32::MAX;
+
+/// The object number of an object that a call names. A name that no object has has a number that none has: the checks of a
+/// call that says such a name end its player before the call makes another step.
 pub fn ref_object(named: Ref) -> u32
     ensures { result ≡ ref_object named }
 {
-    let Ref::Known(object) = named;
-    object
+    match named {
+        Ref::Known(object) => object,
+        Ref::Unknown(_) => NO_OBJECT,
+    }
 }
 
 /// The object number of an object that a call names, if it is declared.
 pub fn ref_declared(named: Ref) -> Option<u32>
     ensures { result ≡ ref_declared named }
 {
-    let Ref::Known(object) = named;
-    Some(object)
+    match named {
+        Ref::Known(object) => Some(object),
+        Ref::Unknown(_) => None,
+    }
 }
 
 /// An object that a call names, by its number among those of its kind.

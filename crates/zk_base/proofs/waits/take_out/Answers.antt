@@ -12,7 +12,8 @@ returns-in-Some-clause-found g c = λ p found.
     ∙ slice_get-get_or c.args.items.now.items c.in-Some.at c.remove.result within ∙ cc)
 
 pub returns-in-Some-clause-rest : goal.returns-in-Some-clause-rest
-returns-in-Some-clause-rest g c = λ p found. c.remove.ensures.items ∙ remove-place p c.args.items.now.items c.in-Some.at (sym found ∙ c.in-Some.is)
+returns-in-Some-clause-rest g c = λ p found. c.remove.ensures.items
+    ∙ remove-place p c.args.items.now.items c.in-Some.at (sym found ∙ c.in-Some.is)
 
 pub returns-in-None-clause-found : goal.returns-in-None-clause-found
 returns-in-None-clause-found g c = λ p found. sym (find-none p c.args.items.now.items (sym found ∙ c.in-None.is))

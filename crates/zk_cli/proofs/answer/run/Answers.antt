@@ -12,8 +12,10 @@ use Rattle.zk_model_bus.specs.Channel.{Channel, new_chan, chan_machine}
 use Rattle.zk_model_bus.specs.ChannelLaws.{KeepsChannelLaws}
 use Rattle.zk_model_bus.specs.Observer.{Observer, new_obs, obs_machine}
 use Rattle.zk_model_bus.specs.ObserverLaws.{KeepsObserverLaws}
+use Rattle.zk_model_bus.specs.Table.{new_table, table_machine}
 use Rattle.zk_model_work.specs.Machine.{work_machine}
 use Rattle.zk_worker.specs.Machines.{work_start_of, machines_of}
+use Rattle.zk_worker.specs.TableSetup.{setup_of}
 use Rattle.zk_trace.specs.Text.{trace_text}
 use Rattle.zk_replay.proofs.Legality.{legal-one}
 use Rattle.zk_model_work.proofs.Drains.{undrained-fresh}
@@ -47,6 +49,10 @@ returns c =
       });
       clock_laws = λ front rest parts.
           c.keeps_clock_laws.ensures front (IsLegal-front clock_machine new_clock front rest (subst (IsLegal clock_machine new_clock) parts c.in_ok-trace.ensures.lawful.history.clock));
+      table_laws = λ front rest parts.
+          c.keeps_table_laws.ensures (setup_of c.args.scenario.now) front
+          (IsLegal-front table_machine (new_table (setup_of c.args.scenario.now)) front rest
+          (subst (IsLegal table_machine (new_table (setup_of c.args.scenario.now))) parts c.in_ok-trace.ensures.lawful.history.table));
       sem_laws = λ object start h starts there front rest parts.
           let from = sem-starts c.args.scenario.now.decls object start c.replay.ensures.valid.in_range starts in
           let began = starts ∙ ap Some from.is_new in

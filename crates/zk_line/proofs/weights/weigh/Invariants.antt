@@ -3,7 +3,7 @@ use Rattle.zk_line.proofs.ReadTo.{IsReadTo}
 use Rattle.zk_line.proofs.weights.weigh.Given as goal
 
 abbrev pub invariant-loop-part : goal.invariant-loop-part
-invariant-loop-part l = IsReadTo l.objects l.parts l.args l.left
+invariant-loop-part l = IsReadTo l.free l.objects l.parts l.args l.left
 
 abbrev pub decreases-loop-part : goal.decreases-loop-part
 decreases-loop-part l = length l.left

@@ -11,4 +11,5 @@ loop-observer-preserved c =
     let below = c.loop-observer-test.true in
     let same = c.loop-observer.auto.observers in
     ap (set ys i) c.mask_one.ensures
-    ∙ map_over_more (mask_one c.args.number c.args.on) c.args.observers.now ys i _ below c.loop-observer.invariant (get_or_default ys i _ _ (omega arith))
+    ∙ map_over_more (mask_one c.args.number c.args.on) c.args.observers.now ys i _ below c.loop-observer.invariant
+    (get_or_default ys i _ _ (omega arith))

@@ -15,8 +15,10 @@ loop-index-preserved c =
     let capacity = one.capacity in
     let told_len = c.tell.ensures.len in
     let told_capacity = c.tell.ensures.capacity in (
-      submit_arms-more marks queues None arms c.loop-index.index _ c.args.admissions.now.items c.loop-index.admissions.items _ c.submit_arm-expiry.result.submitted within so_far.0 one.answer one.admissions,
-      expiries-more marks queues arms c.loop-index.index _ c.args.admissions.now.items c.loop-index.admissions.items c.loop-index.told.items _ c.submit_arm-expiry.result within so_far.0 so_far.1 one.answer one.item c.tell.ensures.items,
+      submit_arms-more marks queues None arms c.loop-index.index _ c.args.admissions.now.items
+          c.loop-index.admissions.items _ c.submit_arm-expiry.result.submitted within so_far.0 one.answer one.admissions,
+      expiries-more marks queues arms c.loop-index.index _ c.args.admissions.now.items c.loop-index.admissions.items
+          c.loop-index.told.items _ c.submit_arm-expiry.result within so_far.0 so_far.1 one.answer one.item c.tell.ensures.items,
       omega arith,
       omega arith,
     )

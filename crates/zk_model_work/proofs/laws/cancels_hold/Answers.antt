@@ -1,5 +1,5 @@
 use Rattle.zk_model_work.proofs.Cancels.{none_waits_after_cancel, none_made_during_cancel, begun_made_after_cancel, begun_made_after_run}
-use Rattle.zk_model_work.proofs.Drains.{cancel_done_after_run}
+use Rattle.zk_model_work.proofs.AwaitedEnds.{cancel_done_after_run}
 use Rattle.zk_model_work.proofs.Tells.{cancel_tells_the_run}
 use Rattle.zk_model_work.proofs.Found.{cancel_start_tells_the_run}
 use Rattle.zk_model_work.proofs.laws.cancels_hold.Goals as goal

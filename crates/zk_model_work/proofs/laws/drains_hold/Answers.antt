@@ -1,4 +1,5 @@
-use Rattle.zk_model_work.proofs.Drains.{drain_admits_its_own, drains_until_it_rests, drain_ends_at_rest, drain_done_after_its_end, plugged_admits_none, plugged_rests}
+use Rattle.zk_model_work.proofs.AwaitedEnds.{drain_done_after_its_end}
+use Rattle.zk_model_work.proofs.Drains.{drain_admits_its_own, drains_until_it_rests, drain_ends_at_rest, plugged_admits_none, plugged_rests}
 use Rattle.zk_model_work.proofs.Queues.{draining_stays, drain_tells, plugged_as_asked, started_stays, start_tells}
 use Rattle.zk_model_work.proofs.laws.drains_hold.Goals as goal
 

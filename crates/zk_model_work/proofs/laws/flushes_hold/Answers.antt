@@ -1,4 +1,4 @@
-use Rattle.zk_model_work.proofs.Drains.{flush_done_after_its_end}
+use Rattle.zk_model_work.proofs.AwaitedEnds.{flush_done_after_its_end}
 use Rattle.zk_model_work.proofs.Found.{flush_waits_for_newest}
 use Rattle.zk_model_work.proofs.Pending.{flush_hurries}
 use Rattle.zk_model_work.proofs.laws.flushes_hold.Goals as goal

@@ -14,4 +14,5 @@ returns-in-Some-clause-items c =
 pub returns-in_default-clause-items : goal.returns-in_default-clause-items
 returns-in_default-clause-items c =
     let mine = is_at c.args.place in
-    sym (none-at c.args.place c.args.members.now.items (ap (position mine) (sym c.deref.ensures.value) ∙ sym c.place_of.ensures ∙ c.in_default.is))
+    sym (none-at c.args.place c.args.members.now.items (ap (position mine) (sym c.deref.ensures.value)
+    ∙ sym c.place_of.ensures ∙ c.in_default.is))

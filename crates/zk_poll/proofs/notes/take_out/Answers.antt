@@ -21,9 +21,11 @@ returns-in-Some-clause-rest c =
 pub returns-in-None-clause-found : goal.returns-in-None-clause-found
 returns-in-None-clause-found c =
     let mine = is_at c.args.place in
-    sym (find-none mine c.args.members.now.items (ap (position mine) (sym c.deref.ensures.value) ∙ sym c.place_of.ensures ∙ c.in-None.is))
+    sym (find-none mine c.args.members.now.items (ap (position mine) (sym c.deref.ensures.value) ∙ sym c.place_of.ensures
+    ∙ c.in-None.is))
 
 pub returns-in-None-clause-rest : goal.returns-in-None-clause-rest
 returns-in-None-clause-rest c =
     let mine = is_at c.args.place in
-    sym (without-none mine c.args.members.now.items (ap (position mine) (sym c.deref.ensures.value) ∙ sym c.place_of.ensures ∙ c.in-None.is))
+    sym (without-none mine c.args.members.now.items (ap (position mine) (sym c.deref.ensures.value)
+    ∙ sym c.place_of.ensures ∙ c.in-None.is))

@@ -5,7 +5,7 @@ use Rattle.zk_base.proofs.Lists.{All-at}
 use Rattle.zk_worker.specs.Places.{At}
 use Rattle.zk_worker.specs.Machines.{Machines, machines_of}
 use Rattle.zk_worker.specs.Right.{LooksRight}
-use Rattle.zk_worker.specs.Ranges.{FramesFit}
+use Rattle.zk_worker.specs.Ranges.{IsFit}
 use Rattle.zk_replay.specs.Turning.{world}
 use Rattle.zk_replay.proofs.Readiness.{short-shown}
 use Rattle.zk_replay.proofs.Rounds.{turned-if, turned-at}
@@ -15,7 +15,7 @@ pub play-requires-clause-fits : goal.play-requires-clause-fits
 play-requires-clause-fits g c =
     let players = c.args.players.now in
     let s = c.args.scenario.now in
-    let P : At → Type 0 = λ at. FramesFit s.decls at.frames in
+    let P : At → Type 0 = IsFit s in
     let is : slice_get players.items c.args.number ≡ Some c.index_mut-player.result.now =
     slice_get_read players.items (length players.items) c.args.number c.index_mut-player.result.now refl (omega (arith, c.requires.number, players.ok.0)) c.index_mut-player.ensures.value in
     All-at P players.items c.args.number c.index_mut-player.result.now c.requires.ready.fits is

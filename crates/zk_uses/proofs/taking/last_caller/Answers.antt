@@ -11,7 +11,8 @@ unreachable-requires g c =
     let cell = c.args.cell.now in
     let gone = c.in_default.ensures in
     let none = gone.items ∙ ap (λ l. l ++ []) (gone.rest ∙ ap (λ n. take (n - 1) c.args.passes.now.items) gone.cases.0) in
-    AreNewPasses-some legal start cell c.requires.0 c.args.who (subst (λ ps. AreNewPasses legal start cell (c.requires.0 ++ c.args.who ∷ []) ps) none c.requires.1)
+    AreNewPasses-some legal start cell c.requires.0 c.args.who
+    (subst (λ ps. AreNewPasses legal start cell (c.requires.0 ++ c.args.who ∷ []) ps) none c.requires.1)
 
 pub returns-clause-caller : goal.returns-clause-caller
 returns-clause-caller g c =

@@ -6,7 +6,8 @@ use Rattle.zk_work.proofs.active.settle.Goals as goal
 
 pub settle_one-requires-clause-counted : goal.settle_one-requires-clause-counted
 settle_one-requires-clause-counted c =
-    settled-next (λ (q : Queue). q.drained < 2 ^ 64 - 1) (is_idle c.args.active.now) c.args.queues.now c.loop-number.queues c.loop-number.number _
+    settled-next (λ (q : Queue). q.drained < 2 ^ 64 - 1) (is_idle c.args.active.now) c.args.queues.now
+    c.loop-number.queues c.loop-number.number _
     c.loop-number-test.true c.loop-number.invariant c.requires.counted
 
 pub loop-number-preserved : goal.loop-number-preserved
@@ -15,4 +16,5 @@ loop-number-preserved c =
     c.loop-number-test.true c.loop-number.invariant c.settle_one.ensures
 
 pub returns : goal.returns
-returns c = c.loop-number.invariant ∙ settled-all (is_idle c.args.active.now) 0 c.args.queues.now c.loop-number.number (omega arith)
+returns c = c.loop-number.invariant
+    ∙ settled-all (is_idle c.args.active.now) 0 c.args.queues.now c.loop-number.number (omega arith)

@@ -9,9 +9,9 @@ step-requires g c =
     let m = g.C.Engine.machine in
     let past = c.self.inside.past.items in
     let start = ap (λ v. v.start) c.self.view_is in
-    let same = ap (λ f. f c.args.op) (in_range-after m g.met.C.Engine.ranges c.self.inside.start past) in
+    let same = ap (λ f. f c.args.op) (in_range-after m c.counts_entries.ensures.ranges c.self.inside.start past) in
     let range = same ∙ ap (λ s. m.in_range s c.args.op) start ∙ c.requires.range in
-    let counted = entries-after m g.C.Engine.entries g.met.C.Engine.counts c.self.inside.start past in
+    let counted = entries-after m g.C.Engine.entries c.counts_entries.ensures.counts c.self.inside.start past in
     let long = ap (λ v. length v.history) c.self.view_is in
     let first = c.self.invariant.first in
     let short = c.requires.short in
@@ -31,13 +31,23 @@ invariant_of-self-in-Some g c =
     let owed = g.C.Engine.owed in
     let possible = steps.0 ∙ ap Some (sym steps.1) in
     let some = ap is_some possible in
-    let grown : vec_capacity c.self.inside.past ≤ vec_capacity c.push_within.new.items = omega (arith, c.make_room.ensures.capacity, c.push_within.ensures.capacity) in
+    let grown : vec_capacity c.self.inside.past ≤ vec_capacity c.push_within.new.items =
+    omega (arith, c.make_room.ensures.capacity, c.push_within.ensures.capacity) in
     let made : closes ≡ false → vec_len c.self.inside.past + owed s + 3 ≤ vec_capacity c.push_within.new.items =
-    λ still. omega (arith, c.in_ok-make_room.ensures.ok s c.self.invariant.stands_for still, c.make_room.ensures.len, c.push_within.ensures.capacity) in
-    let fits = room-step closes (owed s) (owed (m.next s c.args.who c.args.op)) (vec_len c.self.inside.past) (vec_capacity c.self.inside.past) (vec_capacity c.push_within.new.items)
-    c.self.invariant.room grown (λ closing. g.met.C.Engine.gives s c.args.who c.args.op closing some) made (g.met.C.Engine.adds s c.args.who c.args.op) in
-    IsRecorded-snoc m owed g.C.Engine.entries (g.C.Engine.stands_for c.self.inside.engine) (g.C.Engine.stands_for c.step.new.self) first past c.push_within.new.items.items
-    (vec_len c.self.inside.past) (vec_len c.push_within.new.items) (vec_capacity c.self.inside.past) (vec_capacity c.push_within.new.items) e c.self.invariant
+    λ still. omega (
+      arith,
+      c.in_ok-make_room.ensures.ok s c.self.invariant.stands_for still,
+      c.make_room.ensures.len,
+      c.push_within.ensures.capacity,
+    ) in
+    let fits = room-step closes (owed s) (owed (m.next s c.args.who c.args.op)) (vec_len c.self.inside.past)
+    (vec_capacity c.self.inside.past) (vec_capacity c.push_within.new.items)
+    c.self.invariant.room grown (λ closing. c.counts_entries.ensures.gives s c.args.who c.args.op closing some) made
+    (c.counts_entries.ensures.adds s c.args.who c.args.op) in
+    IsRecorded-snoc m owed g.C.Engine.entries (g.C.Engine.stands_for c.self.inside.engine)
+    (g.C.Engine.stands_for c.step.new.self) first past c.push_within.new.items.items
+    (vec_len c.self.inside.past) (vec_len c.push_within.new.items) (vec_capacity c.self.inside.past)
+    (vec_capacity c.push_within.new.items) e c.self.invariant
     (c.push_within.ensures.items ∙ ap (λ h. h ++ e ∷ []) c.make_room.ensures.items)
     (c.push_within.ensures.len ∙ ap (λ n. n + 1) c.make_room.ensures.len)
     possible
@@ -55,8 +65,12 @@ returns-in-Some-clause-room g c =
     let e = entry c.args.who c.args.step c.args.op c.in-Some.kept in
     let items = c.push_within.ensures.items ∙ ap (λ h. h ++ e ∷ []) c.make_room.ensures.items in
     let after = ap owed (ap (λ h. state_after m first h) items ∙ state_after-snoc m first past e) in
-    let adds = g.met.C.Engine.adds s c.args.who c.args.op in
+    let adds = c.counts_entries.ensures.adds s c.args.who c.args.op in
     let len = c.push_within.ensures.len ∙ ap (λ n. n + 1) c.make_room.ensures.len in
-    let grown : vec_capacity c.self.inside.past ≤ vec_capacity c.push_within.new.items = omega (arith, c.make_room.ensures.capacity, c.push_within.ensures.capacity) in
-    room-falls c.args.self.now.room (vec_len c.self.inside.past) (vec_len c.push_within.new.items) (owed s) (owed (state_after m first c.push_within.new.items.items)) (vec_capacity c.self.inside.past) (vec_capacity c.push_within.new.items)
-    (g.C.Engine.room c.self.inside.engine) (g.C.Engine.room c.step.new.self) (sym (ap (λ v. v.room) c.self.view_is)) len grown (omega (arith, after, adds)) c.step.ensures.room
+    let grown : vec_capacity c.self.inside.past ≤ vec_capacity c.push_within.new.items =
+    omega (arith, c.make_room.ensures.capacity, c.push_within.ensures.capacity) in
+    room-falls c.args.self.now.room (vec_len c.self.inside.past) (vec_len c.push_within.new.items) (owed s)
+    (owed (state_after m first c.push_within.new.items.items)) (vec_capacity c.self.inside.past)
+    (vec_capacity c.push_within.new.items)
+    (g.C.Engine.room c.self.inside.engine) (g.C.Engine.room c.step.new.self) (sym (ap (λ v. v.room) c.self.view_is)) len
+    grown (omega (arith, after, adds)) c.step.ensures.room

@@ -16,7 +16,8 @@ pub returns : goal.returns
 returns c =
     let setup = c.self.inside.setup in
     let word : Bool → TableEntry → Bool = λ before e. said setup c.args.player c.args.object before e.player e.op in
-    let whole = take_all c.loop-entry.entry-index c.deref-entry-items.result.now c.loop-entry-test.false ∙ c.deref-entry-items.ensures.value in
+    let whole = take_all c.loop-entry.entry-index c.deref-entry-items.result.now c.loop-entry-test.false
+    ∙ c.deref-entry-items.ensures.value in
     c.loop-entry.invariant
     ∙ ap (λ (es : List TableEntry). fold word (is_declared setup c.args.player c.args.object) es) whole
     ∙ ap (λ t. is_allowed t.table c.args.player c.args.object) c.self.view_is

@@ -11,6 +11,7 @@ invariant_of-self-2 c =
     let admissions = c.deref-3.result.now in
     let count : inside.entries ≡ c.args.self.now.entries = ap (λ (s : State). s.entries) c.self.view_is in
     let settled = c.settle.ensures ∙ ap (settle admissions) c.deref_mut-3.ensures.value in (
-      IsCounted-settle inside.entries inside.queues.len (is_empty_and_idle admissions) inside.queues.items c.settle.new.queues c.self.invariant.0 (omega arith) inside.queues.ok.0 settled,
+      IsCounted-settle inside.entries inside.queues.len (is_empty_and_idle admissions) inside.queues.items
+          c.settle.new.queues c.self.invariant.0 (omega arith) inside.queues.ok.0 settled,
       IsTimed-more inside.time inside.entries c.self.invariant.1,
     )

@@ -6,5 +6,8 @@ use Rattle.zk_model_work.proofs.state.WorkState.new.Goals as goal
 
 pub invariant_of-result : goal.invariant_of-result
 invariant_of-result c =
-    let P : List Queue → Type 0 = λ queues. IsCounted 0 queues in
-    (subst P (sym c.in_ok-queues.ensures) (IsCounted-fresh c.args.workers.now c.args.started.now c.requires.same c.requires.queues), IsTimed-fresh)
+    let P : List Queue → Type 0 = λ queues. IsCounted 0 queues in (
+      subst P (sym c.in_ok-queues.ensures)
+          (IsCounted-fresh c.args.workers.now c.args.started.now c.requires.same c.requires.queues),
+      IsTimed-fresh,
+    )

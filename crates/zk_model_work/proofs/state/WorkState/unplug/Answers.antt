@@ -11,7 +11,8 @@ invariant_of-self c =
     let count : inside.entries ≡ c.args.self.now.entries = ap (λ (s : State). s.entries) c.self.view_is in
     let changed = c.change.ensures ∙ ap (λ qs. change changes.Unplug qs c.args.queue) c.deref_mut.ensures.value in (
       IsCounted-written inside.entries inside.queues.len inside.queues.items c.change.new.queues
-          (subst (IsCounted inside.entries) (sym changed) (IsCounted-change changes.Unplug inside.entries c.args.queue inside.queues.items c.self.invariant.0))
+          (subst (IsCounted inside.entries) (sym changed)
+          (IsCounted-change changes.Unplug inside.entries c.args.queue inside.queues.items c.self.invariant.0))
           (omega arith) inside.queues.ok.0 (ap length changed ∙ length-change changes.Unplug inside.queues.items c.args.queue),
       IsTimed-more inside.time inside.entries c.self.invariant.1,
     )

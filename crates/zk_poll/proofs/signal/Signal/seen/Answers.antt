@@ -17,5 +17,6 @@ returns-in-Some-clause-seen c =
     c.left_by.result ≡ signal_seen (state_after signal_machine (signal_start shown) (signal_history shown)) in
     let here : Found inner = c.left_by.ensures
     ∙ last-write inner.start inner.history c.in-Some.entry.now c.history.ensures.legal.0
-    (c.in-Some.ensures.value ∙ ap (λ (h : List (Entry SignalOp SignalReply)). slice_get h (length h - 1)) c.history.ensures.history) in
+    (c.in-Some.ensures.value
+    ∙ ap (λ (h : List (Entry SignalOp SignalReply)). slice_get h (length h - 1)) c.history.ensures.history) in
     subst Found c.self.view_is here

@@ -7,7 +7,8 @@ use Rattle.zk_queue.proofs.line.Line.number_of.Goals as goal
 pub returns-in_err-place : goal.returns-in_err-place
 returns-in_err-place c =
     let same = c.deref.ensures.value ∙ ap (λ (h : LineView). h.tickets) c.self.view_is in
-    let none = place-none c.args.item c.args.self.now.tickets (ap (position (is_of c.args.item)) (sym same) ∙ sym c.place.ensures ∙ c.in_err-place.was) in
+    let none = place-none c.args.item c.args.self.now.tickets (ap (position (is_of c.args.item)) (sym same)
+    ∙ sym c.place.ensures ∙ c.in_err-place.was) in
     c.from_residual.ensures ∙ sym none.0
 
 pub returns : goal.returns

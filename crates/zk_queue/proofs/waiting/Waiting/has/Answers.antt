@@ -10,5 +10,6 @@ returns c =
     let items = ap (λ (w : InLine). w.items) c.self.view_is in
     let within : c.args.item < length places = omega arith in
     let read = place_read places c.args.item c.index.result.now within c.index.ensures in
-    c.is_some.ensures ∙ ap is_some (sym read) ∙ tells_some places (tickets_of c.self.inside.lines.items) c.args.item c.self.invariant.tells
+    c.is_some.ensures ∙ ap is_some (sym read)
+    ∙ tells_some places (tickets_of c.self.inside.lines.items) c.args.item c.self.invariant.tells
     ∙ ap (λ (w : InLine). is_some (number_among c.args.item w.lines)) c.self.view_is

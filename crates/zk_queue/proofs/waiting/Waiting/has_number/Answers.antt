@@ -4,7 +4,8 @@ use Rattle.zk_queue.specs.declared.ticket.Ticket.{Ticket}
 use Rattle.zk_queue.specs.Line.{LineView, InLine, has_number}
 use Rattle.zk_queue.proofs.waiting.Waiting.has_number.Goals as goal
 
-any-map : (p : List Ticket → Bool) (lines : List LineView) → list_any (λ (l : LineView). p l.tickets) lines ≡ list_any p (map (λ (l : LineView). l.tickets) lines)
+any-map : (p : List Ticket → Bool) (lines : List LineView) →
+    list_any (λ (l : LineView). p l.tickets) lines ≡ list_any p (map (λ (l : LineView). l.tickets) lines)
 any-map p [] = refl
 any-map p (l ∷ lines) = ap (λ b. p l.tickets || b) (any-map p lines)
 

@@ -8,7 +8,8 @@ use Rattle.zk_time.proofs.Looks.{deadline_none, deadline_some}
 use Rattle.zk_time.proofs.timeout_list.TimeoutList.deadline.Goals as goal
 
 -- the arms from the place on
-rest : (read arms : List Arm) (index : ℕ) → read ≡ arms → span (take (length read - index) (drop index read)) ≡ span (drop index arms)
+rest : (read arms : List Arm) (index : ℕ) → read ≡ arms →
+    span (take (length read - index) (drop index read)) ≡ span (drop index arms)
 rest read arms index same = ap span (take_rest read index) ∙ ap (λ (l : List Arm). span (drop index l)) same
 
 pub returns-in_err-index : goal.returns-in_err-index
@@ -27,4 +28,6 @@ pub returns : goal.returns
 returns c =
     let found = ap (position (is_arm_of c.args.item)) (sym c.deref.ensures.value) ∙ sym c.place_of.ensures ∙ c.in_ok-index.was in
     let same = c.span.ensures ∙ rest c.deref-2.result.now c.self.inside.arms.items c.in_ok-index.index c.deref-2.ensures.value in
-    ap (λ (n : ℕ). Some n) same ∙ deadline_some _ c.self.inside.arms.items c.args.self.now c.args.item c.in_ok-index.index c.self.view_is c.self.invariant found
+    ap (λ (n : ℕ). Some n) same
+    ∙ deadline_some _ c.self.inside.arms.items c.args.self.now c.args.item c.in_ok-index.index c.self.view_is
+    c.self.invariant found

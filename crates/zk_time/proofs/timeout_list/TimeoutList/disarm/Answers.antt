@@ -29,7 +29,8 @@ known c =
     let arms = c.self.inside.arms.items in
     let index = c.in-Some.index in
     let found = ap (position (is_arm_of c.args.item)) (sym c.deref.ensures.value) ∙ sym c.place_of.ensures ∙ c.in-Some.is in
-    let at = disarms_some _ arms c.args.self.now c.args.item index c.remove-arm.result c.self.view_is found c.remove-arm.ensures.value in
+    let at = disarms_some _ arms c.args.self.now c.args.item index c.remove-arm.result c.self.view_is found
+    c.remove-arm.ensures.value in
     let removed = c.deref_mut.ensures.value ∙ c.remove-arm.ensures.items in
     record {
       view = c.self.view_is;
@@ -42,25 +43,31 @@ known c =
 
 -- the items of the Vec after the write
 abbrev items_after : After-lengthen → List Arm
-items_after c = take c.remove-arm.new.self.len (c.lengthen.new.arms ++ drop (length c.lengthen.new.arms) c.remove-arm.new.self.items)
+items_after c = take c.remove-arm.new.self.len
+    (c.lengthen.new.arms ++ drop (length c.lengthen.new.arms) c.remove-arm.new.self.items)
 
 written : (c : After-lengthen) → items_after c ≡ c.lengthen.new.arms
-written c = take_at c.lengthen.new.arms (drop (length c.lengthen.new.arms) c.remove-arm.new.self.items) c.remove-arm.new.self.len (omega arith)
+written c = take_at c.lengthen.new.arms (drop (length c.lengthen.new.arms) c.remove-arm.new.self.items)
+    c.remove-arm.new.self.len (omega arith)
 
-seen : (c : After-lengthen) → seen_of c.remove-arm.new.self.cap (items_after c) ≡ seen_of (vec_capacity c.self.inside.arms) c.lengthen.new.arms
-seen c = ap (seen_of c.remove-arm.new.self.cap) (written c) ∙ ap (λ (n : ℕ). seen_of n c.lengthen.new.arms) c.remove-arm.ensures.capacity
+seen : (c : After-lengthen) →
+    seen_of c.remove-arm.new.self.cap (items_after c) ≡ seen_of (vec_capacity c.self.inside.arms) c.lengthen.new.arms
+seen c = ap (seen_of c.remove-arm.new.self.cap) (written c)
+    ∙ ap (λ (n : ℕ). seen_of n c.lengthen.new.arms) c.remove-arm.ensures.capacity
 
 its_item : (c : After-lengthen) → (c.remove-arm.result.item ≡ c.args.item) × (is_armed c.args.self.now c.args.item ≡ true)
 its_item c =
     let found = ap (position (is_arm_of c.args.item)) (sym c.deref.ensures.value) ∙ sym c.place_of.ensures ∙ c.in-Some.is in
-    let at = disarms_some _ c.self.inside.arms.items c.args.self.now c.args.item c.in-Some.index c.remove-arm.result c.self.view_is found c.remove-arm.ensures.value in
+    let at = disarms_some _ c.self.inside.arms.items c.args.self.now c.args.item c.in-Some.index c.remove-arm.result
+    c.self.view_is found c.remove-arm.ensures.value in
     (at.1, at.2)
 
 pub invariant_of-self : goal.invariant_of-self
 invariant_of-self c =
     let k = (goal.at.invariant_of-self c).After-lengthen in
     let kept = takes_kept _ _ _ _ _ _ _ (known k) in
-    subst (λ (n : ℕ). IsKept n (items_after k)) (sym c.remove-arm.ensures.capacity) (subst (IsKept (vec_capacity c.self.inside.arms)) (sym (written k)) kept)
+    subst (λ (n : ℕ). IsKept n (items_after k)) (sym c.remove-arm.ensures.capacity)
+    (subst (IsKept (vec_capacity c.self.inside.arms)) (sym (written k)) kept)
 
 pub returns-clause-reply : goal.returns-clause-reply
 returns-clause-reply c = sym (its_item (goal.at.returns-clause-reply c).After-lengthen).1

@@ -14,5 +14,6 @@ pub returns : goal.returns
 returns c =
     let found = ap (position (is_arm_of c.args.item)) (sym c.deref.ensures.value) ∙ sym c.place_of.ensures ∙ c.in_ok-index.was in
     let d = c.index.result.now in
-    let same = queue_some _ c.self.inside.arms.items c.args.self.now c.args.item c.in_ok-index.index d c.self.view_is c.self.invariant found in
+    let same = queue_some _ c.self.inside.arms.items c.args.self.now c.args.item c.in_ok-index.index d c.self.view_is
+    c.self.invariant found in
     ap (λ (a : Arm). Some a.queue) c.index.ensures ∙ same

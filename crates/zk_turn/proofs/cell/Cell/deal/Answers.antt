@@ -21,7 +21,8 @@ split_seat-dealt-requires g c =
     let count = length shared.key.players.items in (
       c.requires.table,
       wide,
-      subst (λ v. Splits (Turn legal fits origin count) c.args.seat.now.id v (dealt_from v) (dealt v)) (sym (ap (λ m. m.0) first.1))
+      subst (λ v. Splits (Turn legal fits origin count) c.args.seat.now.id v (dealt_from v) (dealt v))
+          (sym (ap (λ m. m.0) first.1))
           (deals legal fits origin count c.args.seat.now.id origin c.args.who first.0 first.2),
     )
 
@@ -29,5 +30,6 @@ pub returns-clause-pass : goal.returns-clause-pass
 returns-clause-pass g c =
     let origin = g.S.Service.start (given_to c.args.self.now) in
     let first = c.requires.first in
-    dealt_pass (IsLegal g.S.Service.machine) g.S.Service.start c.args.self.now c.args.who first.0 c.split_seat-dealt.result (IsLegal-nil g.S.Service.machine origin)
+    dealt_pass (IsLegal g.S.Service.machine) g.S.Service.start c.args.self.now c.args.who first.0
+    c.split_seat-dealt.result (IsLegal-nil g.S.Service.machine origin)
     (rw c.requires.table at c.split_seat-dealt.ensures.3) (rw first.1 at c.split_seat-dealt.ensures.4)

@@ -38,7 +38,8 @@ loop-index-preserved g c =
     let cell = c.args.self.now in
     let at_first = inv.1 ∙ ap (λ (ws : List Who). (opened (start (given_to cell)) ws, [])) is in
     let differ = subst Differ is inv.2 in
-    let passes = AreNewPasses-push legal start cell (take index players) c.loop-index.passes.items (get_or players index none) c.deal-pass.result inv.3 c.deal-pass.ensures.pass in
+    let passes = AreNewPasses-push legal start cell (take index players) c.loop-index.passes.items
+    (get_or players index none) c.deal-pass.result inv.3 c.deal-pass.ensures.pass in
     let long = ap (λ (ws : List Who). length ws) is in
     let room = inv.4 in
     let added = c.push_within.ensures.len in
@@ -47,6 +48,7 @@ loop-index-preserved g c =
       c.deal-pass.ensures.others (drop (index + 1) players) at_first,
       differ.1,
       subst (λ ps. AreNewPasses legal start cell (take (index + 1) players) ps) (sym c.push_within.ensures.items)
-          (subst (λ (ws : List Who). AreNewPasses legal start cell ws (c.loop-index.passes.items ++ c.deal-pass.result ∷ [])) (sym taken) passes),
+          (subst (λ (ws : List Who). AreNewPasses legal start cell ws
+          (c.loop-index.passes.items ++ c.deal-pass.result ∷ [])) (sym taken) passes),
       omega arith,
     )

@@ -18,7 +18,8 @@ fetch_add-ticket-requires g c =
     let some : 0 < length seat.me.0.players = omega arith in (
       c.requires.own.table,
       wide,
-      draws (IsLegal g.S.Service.machine) (Fits g.S.Service.start g.S.Service.history) (g.S.Service.start shared.key.service.value) (length shared.key.players.items) shared.table_id.slots seat.id seat.me
+      draws (IsLegal g.S.Service.machine) (Fits g.S.Service.start g.S.Service.history)
+          (g.S.Service.start shared.key.service.value) (length shared.key.players.items) shared.table_id.slots seat.id seat.me
           c.requires.own.idle some,
     )
 
@@ -35,11 +36,14 @@ returns-clause-own g c =
     let took = c.await_turn.ensures.took.1 in
     let drew = c.fetch_add-ticket.ensures.2 in
     let p = c.args.pass in
-    let knows = in_turn-from p.seat.me.0 drew.ticket ticket took.history took.service p.seat.me c.fetch_add-ticket.new.seat.me c.await_turn.new.seat.me c.exchange.new.seat.me
+    let knows = in_turn-from p.seat.me.0 drew.ticket ticket took.history took.service p.seat.me
+    c.fetch_add-ticket.new.seat.me c.await_turn.new.seat.me c.exchange.new.seat.me
     refl c.requires.own.slots drew.now took.now c.exchange.ensures.3 in
     let same = taken_out c.await_turn.new.seat.me.1 _ _ took.service c.in-Some.service c.exchange.result
-    (slot_taken c.fetch_add-ticket.new.seat.me c.await_turn.new.seat.me _ took.service took.now) c.exchange.ensures.2 c.in-Some.is in
-    held_now (IsLegal g.S.Service.machine) g.S.Service.start g.S.Service.history c.args.self.now p c.exchange.new.seat took.service c.in-Some.service drew.ticket ticket took.history
+    (slot_taken c.fetch_add-ticket.new.seat.me c.await_turn.new.seat.me _ took.service took.now) c.exchange.ensures.2
+    c.in-Some.is in
+    held_now (IsLegal g.S.Service.machine) g.S.Service.start g.S.Service.history c.args.self.now p c.exchange.new.seat
+    took.service c.in-Some.service drew.ticket ticket took.history
     c.requires.own c.requires.room (c.exchange.ensures.0 ∙ c.await_turn.ensures.table ∙ c.fetch_add-ticket.ensures.0) knows
     (λ o is. took.fit o (ap (λ m. m.0.start) drew.now ∙ is)) took.short same
 
@@ -49,7 +53,8 @@ returns-clause-mine g c =
     let drew = c.fetch_add-ticket.ensures.2 in
     let p = c.args.pass in
     let same = taken_out c.await_turn.new.seat.me.1 _ _ took.service c.in-Some.service c.exchange.result
-    (slot_taken c.fetch_add-ticket.new.seat.me c.await_turn.new.seat.me _ took.service took.now) c.exchange.ensures.2 c.in-Some.is in
+    (slot_taken c.fetch_add-ticket.new.seat.me c.await_turn.new.seat.me _ took.service took.now) c.exchange.ensures.2
+    c.in-Some.is in
     let told = took.fit (g.S.Service.start (given_to c.args.self.now)) (ap (λ m. m.0.start) drew.now ∙ c.requires.own.start) in
     let history_is = ap g.S.Service.history (sym same) ∙ told.0.history in
     let goes = subst (λ m. GoesOn m.0.players m.0.seen took.history) drew.now took.goes_on in

@@ -19,7 +19,9 @@ join_seat-requires g c =
       c.requires.other.table,
       c.requires.other.slots,
       wide,
-      merges (IsLegal g.S.Service.machine) (Fits g.S.Service.start g.S.Service.history) (g.S.Service.start shared.key.service.value) (length shared.key.players.items) p.seat.id q.seat.id p.seat.me.0 q.seat.me.0
+      merges (IsLegal g.S.Service.machine) (Fits g.S.Service.start g.S.Service.history)
+          (g.S.Service.start shared.key.service.value) (length shared.key.players.items) p.seat.id q.seat.id p.seat.me.0
+          q.seat.me.0
           c.requires.into.idle c.requires.other.idle some,
     )
 
@@ -31,10 +33,12 @@ load-into-requires g c =
     let wide : 0 < shared.table_id.words = omega arith in (
       c.join_seat.ensures.0 ∙ c.requires.into.table,
       wide,
-      recalls (IsLegal g.S.Service.machine) (Fits g.S.Service.start g.S.Service.history) (g.S.Service.start shared.key.service.value) (length shared.key.players.items) shared.table_id.slots seat.id seat.me,
+      recalls (IsLegal g.S.Service.machine) (Fits g.S.Service.start g.S.Service.history)
+          (g.S.Service.start shared.key.service.value) (length shared.key.players.items) shared.table_id.slots seat.id seat.me,
     )
 
 pub returns-clause-own : goal.returns-clause-own
 returns-clause-own g c =
-    joined_now (IsLegal g.S.Service.machine) g.S.Service.start c.args.self.now c.args.into.now c.args.other c.load-into.new.seat c.max-into.result c.requires.into c.requires.other
+    joined_now (IsLegal g.S.Service.machine) g.S.Service.start c.args.self.now c.args.into.now c.args.other
+    c.load-into.new.seat c.max-into.result c.requires.into c.requires.other
     (c.load-into.ensures.0 ∙ c.join_seat.ensures.0) (c.load-into.ensures.2.same ∙ c.join_seat.ensures.2) c.max-into.ensures

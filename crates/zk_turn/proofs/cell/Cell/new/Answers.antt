@@ -16,10 +16,12 @@ new-requires g c =
     let fits = Fits g.S.Service.start g.S.Service.history in
     let origin = g.S.Service.start c.of.result.value in
     let ws = c.extend_from_slice.new.self.items in
-    let copied = c.in_ok-extend_from_slice.ensures.items ∙ ap (λ (l : List Who). l ++ c.args.players.now) c.in_ok-copies.ensures.items in
+    let copied = c.in_ok-extend_from_slice.ensures.items
+    ∙ ap (λ (l : List Who). l ++ c.args.players.now) c.in_ok-copies.ensures.items in
     let long = ap (λ (l : List Who). length l) copied in
     let most = c.requires.few in
     let few : length ws ≤ 256 = omega arith in
     let slots_are = c.push_within.ensures.items ∙ ap (λ l. l ++ Some c.args.service ∷ []) c.in_ok-slots.ensures.items in
     subst (λ l. Turn legal fits origin (length ws) (opening (0 ∷ 0 ∷ 0 ∷ []) l (opened origin ws))) (sym slots_are)
-    (starts legal fits c.args.service origin ws few (IsLegal-nil machine origin) (record { history = c.requires.empty; start = ap g.S.Service.start (sym c.of.ensures) }))
+    (starts legal fits c.args.service origin ws few (IsLegal-nil machine origin)
+    (record { history = c.requires.empty; start = ap g.S.Service.start (sym c.of.ensures) }))

@@ -11,6 +11,7 @@ fetch_add-served-requires g c =
     let wide : 1 < shared.table_id.words = omega arith in (
       c.requires.table,
       wide,
-      passes_on (IsLegal g.S.Service.machine) (Fits g.S.Service.start g.S.Service.history) (g.S.Service.start shared.key.service.value) (length shared.key.players.items) shared.table_id.slots
+      passes_on (IsLegal g.S.Service.machine) (Fits g.S.Service.start g.S.Service.history)
+          (g.S.Service.start shared.key.service.value) (length shared.key.players.items) shared.table_id.slots
           c.args.seat.now.id c.args.seat.now.me c.requires.ready,
     )

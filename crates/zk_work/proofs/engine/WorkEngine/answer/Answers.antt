@@ -8,7 +8,8 @@ use Rattle.zk_work.proofs.engine.WorkEngine.answer.Goals as goal
 pub returns-clause-admits : goal.returns-clause-admits
 returns-clause-admits c = λ queue is.
     let queues = c.deref.result.now in
-    let same : length queues ≡ length c.args.self.now.state.queues = ap length (c.deref.ensures.value ∙ ap (λ (h : EngineView). h.state.queues) c.self.view_is) in
+    let same : length queues ≡ length c.args.self.now.state.queues =
+    ap length (c.deref.ensures.value ∙ ap (λ (h : EngineView). h.state.queues) c.self.view_is) in
     let i = c.item.result in
     let said = sym (ap admitted_to c.submission.ensures) ∙ is in
     let all = c.requires.whole.queues in

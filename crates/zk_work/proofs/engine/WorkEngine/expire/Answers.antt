@@ -9,9 +9,12 @@ expire_next-expiry-requires-clause-due c =
     let k = c.args.self.now.state in
     let so_far = c.loop.invariant.0 in
     let timeouts : c.self.inside.timeouts ≡ k.timeouts = ap (λ (h : EngineView). h.state.timeouts) c.self.view_is in
-    let count : c.count_due-end.result ≡ count_due k.timeouts c.args.time = c.count_due-end.ensures ∙ ap (λ (t : Timeouts). count_due t c.args.time) timeouts in
+    let count : c.count_due-end.result ≡ count_due k.timeouts c.args.time =
+    c.count_due-end.ensures ∙ ap (λ (t : Timeouts). count_due t c.args.time) timeouts in
     let within = c.loop-test.true in
-    ap (λ (j : EngineState). is_some (due_first c.args.time j.timeouts.live)) so_far ∙ next-due c.loop.counter c.args.time k c.requires.whole.ordered.ascends (omega arith)
+    ap (λ (j : EngineState). is_some (due_first c.args.time j.timeouts.live)) so_far
+    ∙ next-due c.loop.counter c.args.time k c.requires.whole.ordered.ascends (omega arith)
 
 pub returns-clause-entries : goal.returns-clause-entries
-returns-clause-entries c = ap (λ (j : EngineState). j.entries) c.loop.invariant.0 ∙ entries-expired c.loop.counter c.args.time c.args.self.now.state
+returns-clause-entries c = ap (λ (j : EngineState). j.entries) c.loop.invariant.0
+    ∙ entries-expired c.loop.counter c.args.time c.args.self.now.state

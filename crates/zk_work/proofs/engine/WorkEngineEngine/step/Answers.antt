@@ -18,8 +18,13 @@ pub returns-in-Some-clause-step : goal.returns-in-Some-clause-step
 returns-in-Some-clause-step c = λ s stands.
     let k = c.args.self.now.state in
     let said = c.in_ok-operate.ensures in
-    let both = stepped k s c.args.who c.args.op.now c.in-Some.reply c.requires.ready stands said.timely (sym said.reply ∙ c.in-Some.is) in
-    (both.0, c.copy_of-copy.ensures, subst (λ k. StandsFor k (work_next s c.args.who c.args.op.now)) (sym (said.next ∙ ap (after_reply k c.args.who c.args.op.now) c.in-Some.is)) both.1)
+    let both = stepped k s c.args.who c.args.op.now c.in-Some.reply c.requires.ready stands said.timely (sym said.reply
+    ∙ c.in-Some.is) in (
+      both.0,
+      c.copy_of-copy.ensures,
+      subst (λ k. StandsFor k (work_next s c.args.who c.args.op.now))
+          (sym (said.next ∙ ap (after_reply k c.args.who c.args.op.now) c.in-Some.is)) both.1,
+    )
 
 pub returns-in-Announce-clause-step : goal.returns-in-Announce-clause-step
 returns-in-Announce-clause-step c = λ s stands.
@@ -27,5 +32,10 @@ returns-in-Announce-clause-step c = λ s stands.
     let op = c.args.op.now in
     let said = c.in_ok-announce.ensures in
     let timely = subst IsTimely (sym c.in-Announce.is) said.timely in
-    let both = stepped k s c.args.who op c.in_ok-announce.field-0.0 c.requires.ready stands timely (ap (reply_of k c.args.who) c.in-Announce.is ∙ ap (λ (r : WorkReply). Some r) (sym said.reply)) in
-    (both.0, said.twice, subst (λ k. StandsFor k (work_next s c.args.who op)) (sym (said.next ∙ ap (entered k c.args.who) (sym c.in-Announce.is))) both.1)
+    let both = stepped k s c.args.who op c.in_ok-announce.field-0.0 c.requires.ready stands timely
+    (ap (reply_of k c.args.who) c.in-Announce.is ∙ ap (λ (r : WorkReply). Some r) (sym said.reply)) in (
+      both.0,
+      said.twice,
+      subst (λ k. StandsFor k (work_next s c.args.who op))
+          (sym (said.next ∙ ap (entered k c.args.who) (sym c.in-Announce.is))) both.1,
+    )

@@ -1,8 +1,8 @@
 use Rattle.std.proofs.Common.{refl, sym, subst, rules}
 use Rattle.zk_worker.specs.Places.{At}
 use Rattle.zk_worker.specs.Follows.{IsFollowing}
-use Rattle.zk_worker.specs.Ranges.{FramesFit}
-use Rattle.zk_worker.proofs.Fits.{after-fits}
+use Rattle.zk_worker.specs.Ranges.{IsFit}
+use Rattle.zk_worker.proofs.FitsStill.{after-fits}
 use Rattle.zk_worker.proofs.Looking.{looks-stepped}
 use Rattle.zk_worker.proofs.Following.{following-more}
 use Rattle.zk_worker.proofs.player.Player.made.Goals as goal
@@ -11,6 +11,11 @@ use Rattle.zk_worker.proofs.player.Player.made.Goals as goal
 
 pub returns-in-Some-clause-next : goal.returns-in-Some-clause-next
 returns-in-Some-clause-next c = search rules
+
+pub returns-in-Some-clause-fits : goal.returns-in-Some-clause-fits
+returns-in-Some-clause-fits c =
+    λ valid fits told passes. subst (λ (at : At). IsFit c.args.scenario.now at) (sym (returns-in-Some-clause-next c))
+    (after-fits c.args.scenario.now c.args.self.now c.args.step.now c.args.reply.now valid fits c.requires.ahead told passes)
 
 pub returns-in-Some-clause-follows : goal.returns-in-Some-clause-follows
 returns-in-Some-clause-follows c =
@@ -29,8 +34,8 @@ returns-in-None-clause-next c = search rules
 
 pub returns-in-None-clause-fits : goal.returns-in-None-clause-fits
 returns-in-None-clause-fits c =
-    λ fits told. subst (λ (at : At). FramesFit c.args.scenario.now.decls at.frames) (sym (returns-in-None-clause-next c))
-    (after-fits c.args.scenario.now c.args.self.now c.args.step.now c.args.reply.now fits told)
+    λ valid fits told passes. subst (λ (at : At). IsFit c.args.scenario.now at) (sym (returns-in-None-clause-next c))
+    (after-fits c.args.scenario.now c.args.self.now c.args.step.now c.args.reply.now valid fits c.requires.ahead told passes)
 
 pub returns-in-None-clause-follows : goal.returns-in-None-clause-follows
 returns-in-None-clause-follows c =

@@ -8,7 +8,7 @@ use Rattle.zk_worker.specs.Places.{At}
 use Rattle.zk_worker.specs.Protocol.{settled, first_frame, role_at}
 use Rattle.zk_worker.proofs.DeclaredObjects.{players-below}
 use Rattle.zk_worker.proofs.Starts.{At-same, start_at-found, start_at-fresh}
-use Rattle.zk_worker.proofs.Fits.{start_at-fits}
+use Rattle.zk_worker.proofs.FitsStill.{start_at-fits}
 use Rattle.zk_worker.proofs.Looking.{looks-fresh}
 use Rattle.zk_worker.proofs.Following.{following-fresh}
 use Rattle.zk_worker.proofs.player.Player.new.Goals as goal

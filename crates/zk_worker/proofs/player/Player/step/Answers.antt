@@ -4,6 +4,7 @@ use Rattle.zk_worker.proofs.ShownSteps.{log-stepped}
 use Rattle.zk_worker.proofs.Looking.{looks-still, looks-stepped}
 use Rattle.zk_worker.proofs.Following.{following-between, stands-made}
 use Rattle.zk_worker.proofs.Replied.{replied-fits}
+use Rattle.zk_worker.proofs.PassedChecks.{replied-passes}
 use Rattle.zk_worker.proofs.Trying.{tried-some, tried-none}
 use Rattle.zk_worker.proofs.player.Player.step.Goals as goal
 
@@ -31,8 +32,9 @@ returns-in-Some-clause-follows g c =
 pub returns-in-Some-clause-fits : goal.returns-in-Some-clause-fits
 returns-in-Some-clause-fits g c =
     let first = tried-some _ _ _ _ _ c.in-Some.step c.in-Some.reply _ _ _ _ _ c.in_ok-step.ensures.tried c.in-Some.is in
-    c.made.ensures.fits c.requires.fits
+    c.made.ensures.fits c.requires.valid c.requires.fits
     (replied-fits c.args.scenario.now _ first.made.found _ c.in-Some.step c.in-Some.reply c.requires.valid c.requires.machines first.made.replied)
+    (replied-passes c.args.scenario.now _ first.made.found _ c.in-Some.step c.in-Some.reply c.requires.machines first.made.replied)
 
 pub returns-in-None-clause-log : goal.returns-in-None-clause-log
 returns-in-None-clause-log g c =
