@@ -42,6 +42,10 @@ checks-kept s t lawful number log is =
       starts = follows.led.starts;
       made = follows.led.made;
       stands = subst (λ (x : List Spot). AllZip (Stands (trace_shown t)) x follows.led.made) steps follows.led.stands;
+      end = follows.end;
+      led = follows.led.played;
+      logged = follows.logged;
       checked = all.0;
-      ended = λ oops. subst (EndedByOops s follows.led.start follows.led.made) answers (all.1 (oops-dead follows.end (state ∙ oops)));
+      told = λ oops. oops-dead follows.end (state ∙ oops);
+      ended = λ dead. subst (EndedByOops s follows.led.start follows.led.made) answers (all.1 dead);
     }

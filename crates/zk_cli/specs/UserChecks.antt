@@ -4,7 +4,8 @@ use Rattle.zk_scenario.specs.Parts.{Parts}
 use Rattle.zk_worker.specs.declared.log.Log.{Log}
 use Rattle.zk_worker.specs.declared.log.PlayerState.TheVariants.{Oops}
 use Rattle.zk_worker.specs.CheckLaws.{AreChecked, EndedByOops}
-use Rattle.zk_worker.specs.Follows.{Stands}
+use Rattle.zk_worker.specs.declared.checks.Mode.TheVariants.{Dead}
+use Rattle.zk_worker.specs.Follows.{Stands, IsPlayed, log_of}
 use Rattle.zk_worker.specs.Places.{At}
 use Rattle.zk_worker.specs.PollLaws.{Made}
 use Rattle.zk_worker.specs.Protocol.{start_at}
@@ -12,16 +13,21 @@ use Rattle.zk_worker.specs.Shown.{Shown}
 use Rattle.zk_trace.specs.declared.trace.Trace.{Trace}
 use Rattle.zk_trace.specs.Shown.{trace_shown}
 
--- by the steps that a log's spots stand for, each step of a user's call but its checks comes behind all of these, one passed check
--- for each of the call's needs; and where the player is told as ended by an oops, its last step is a check that failed, before
--- which its call made its earlier checks alone, and its last answer says why
+-- by the steps that a log's spots stand for, which lead the player from its start to the place that is logged, each step of a
+-- user's call but its checks comes behind all of these, one passed check for each of the call's needs; and where a check has ended
+-- the player, as it has each that is told so, its last step is that check, before which its call made its earlier checks alone,
+-- and its last answer says why
 pub record ChecksFirst (s : Parts) (number : ℕ) (shown : Shown) (log : Log) : Type 0 where
   pub start : At
   pub starts : start_at s number ≡ Some start
   pub made : List Made
   pub stands : AllZip (Stands shown) log.steps made
+  pub end : At
+  pub led : IsPlayed s start made end
+  pub logged : log_of end ≡ log
   pub checked : AreChecked s start [] start made
-  pub ended : log.state ≡ Oops → EndedByOops s start made log.answers
+  pub told : log.state ≡ Oops → end.mode ≡ Dead
+  pub ended : end.mode ≡ Dead → EndedByOops s start made log.answers
 
 -- the log of each player of a trace is such a one
 abbrev pub EachChecksFirst : Parts → Trace → Type 0
