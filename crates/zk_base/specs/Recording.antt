@@ -10,7 +10,8 @@ Steps m s who op (Ok None) after = (m.reply_of s who op ≡ None) × after s
 Steps m s who op (Ok (Some two)) after = (m.reply_of s who op ≡ Some two.0) × (two.1 ≡ two.0) × after (m.next s who op)
 
 -- each entry is counted, what is in range stays so, an operation adds at most two owed entries, and a closing one gives one
-pub record CountsEntries {S O R : Type 0} (m : Machine S O R) (entries owed : S → ℕ) (closes : S → Who → O → Bool) : Type 0 where
+pub record CountsEntries {S O R : Type 0} (m : Machine S O R) (entries owed : S → ℕ)
+    (closes : S → Who → O → Bool) : Type 0 where
   pub counts : (s : S) (who : Who) (op : O) → entries (m.next s who op) ≡ entries s + 1
   pub ranges : (s : S) (who : Who) (op : O) → m.in_range (m.next s who op) ≡ m.in_range s
   pub adds : (s : S) (who : Who) (op : O) → owed (m.next s who op) ≤ owed s + 2

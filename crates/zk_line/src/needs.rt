@@ -31,13 +31,13 @@ fn one(object: Ref, need: Need, index: u32) -> Option<Needed>
     }
 }
 
-/// One of two needs.
-fn two(first: Needed, second: Needed, index: u32) -> Option<Needed>
-    ensures { result ≡ slice_get (first ∷ second ∷ []) index }
+/// The two needs of a call that names two objects.
+fn two(first: Ref, first_need: Need, second: Ref, second_need: Need, index: u32) -> Option<Needed>
+    ensures { result ≡ slice_get (needed first first_need ∷ needed second second_need ∷ []) index }
 {
     match index {
-        0 => Some(first),
-        1 => Some(second),
+        0 => Some(need_for(first, first_need)),
+        1 => Some(need_for(second, second_need)),
         _ => None,
     }
 }
@@ -48,11 +48,7 @@ fn item_maybe_queue(item: Ref, queue: Option<Ref>, index: u32) -> Option<Needed>
         (needed item Need.Item ∷ option_to_list (option_map (λ q. needed q Need.Queue) queue)) index }
 {
     match queue {
-        Some(queue) => two(
-            need_for(item, Need::Item),
-            need_for(queue, Need::Queue),
-            index,
-        ),
+        Some(queue) => two(item, Need::Item, queue, Need::Queue, index),
         None => one(item, Need::Item, index),
     }
 }
@@ -119,24 +115,12 @@ pub fn need_at(call: &Call, index: u32) -> Option<Needed>
         Call::Publish(chan, _, _) => one(*chan, Need::Chan, index),
         Call::Notify(chan, _) => one(*chan, Need::Chan, index),
         Call::Read(chan, _) => one(*chan, Need::Chan, index),
-        Call::Mask(chan, observer, _) => two(
-            need_for(*chan, Need::Chan),
-            need_for(*observer, Need::Obs),
-            index,
-        ),
+        Call::Mask(chan, observer, _) => two(*chan, Need::Chan, *observer, Need::Obs, index),
         Call::Enable(observer, _) => one(*observer, Need::Obs, index),
         Call::SubWait(sub, _) => one(*sub, Need::Sub, index),
-        Call::Grant(thread, object) => two(
-            need_for(*object, Need::Any),
-            need_for(*thread, Need::Thread),
-            index,
-        ),
+        Call::Grant(thread, object) => two(*object, Need::Any, *thread, Need::Thread, index),
         Call::Release(object) => one(*object, Need::Any, index),
-        Call::Revoke(thread, object) => two(
-            need_for(*thread, Need::Thread),
-            need_for(*object, Need::Any),
-            index,
-        ),
+        Call::Revoke(thread, object) => two(*thread, Need::Thread, *object, Need::Any, index),
         Call::Public(object) => one(*object, Need::Any, index),
         Call::Init(object) => one(*object, Need::Any, index),
         Call::User => None,

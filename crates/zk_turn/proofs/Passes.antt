@@ -186,6 +186,16 @@ module _ {S O R T : Type 0} where
       m ≡ (left added v h, out_with x) → m' ≡ (staged m.0 Idle, rest m.1) → m' ≡ free added v h
   free-from added v h x m m' was is = is ∙ ap (λ (k : Me (Option S) (View O R T)). (staged k.0 Idle, rest k.1)) was
 
+  -- from the turn by the exchange, the publishing and the passing on
+  pub free-behind : (history_of : S → List (Entry O R)) (h : Held S O R T) (m1 m2 m3 : Me (Option S) (View O R T)) →
+      h.seat.me.1 ≡ (0, None) ∷ [] → m1 ≡ (h.seat.me.0, (0, Some h.service) ∷ rest h.seat.me.1) →
+      IsPublished history_of h.added m1 m2 → m3 ≡ (staged m2.0 Idle, rest m2.1) →
+      m3 ≡ free h.added h.seat.me.0 (history_of h.service)
+  free-behind history_of h m1 m2 m3 slots exchanged published passed =
+      let in_slot = back_in h.seat.me m1 h.service slots exchanged in
+      let now = published_now history_of h.added h.seat.me.0 h.service m1 m2 in_slot published in
+      free-from h.added h.seat.me.0 (history_of h.service) h.service m2 m3 now passed
+
   -- the pass that comes of it
   pub pass_now : (legal : T → List (Entry O R) → Type 0) (start : S → T) (history_of : S →
       List (Entry O R)) (c : Cell S O R T) (h : Held S O R T) (seat : Seat (Option S) (View O R T)) (front : ℕ) →

@@ -1,6 +1,6 @@
 ghost use Rattle.std.specs.Prelude.{◌≡◌, slice_get, option_map};
 ghost use Rattle.zk_worker.specs.Calls.{plan_of, closing_step, plan_attempts, plan_progress};
-ghost use Rattle.zk_worker.specs.Refs.{ref_object};
+ghost use Rattle.zk_worker.specs.Refs.{ref_object, ref_number};
 
 use crate::polls::{poll_ahead, poll_progress};
 use crate::publishes::{channel_ahead, channel_progress};
@@ -8,10 +8,12 @@ use crate::refs::{queue_number, ref_number, ref_object};
 use crate::replies::answer_of;
 use crate::waits::{opening_progress, wait_ahead, wait_progress};
 use crate::{Closing, Plan, Progress, Stage, Step, StepReply, Using, Waiting, Word};
+use zk_base::Msg;
 use zk_model_bus::{ChanOp, ObsOp, TableOp};
 use zk_model_wait::{ClockOp, MsgqOp, SemOp, SignalOp};
 use zk_model_work::WorkOp;
 use zk_scenario::{Call, Ref, Scenario};
+use zk_words::Timeout;
 
 /// One step at the work service.
 fn one(op: WorkOp) -> Plan
@@ -25,6 +27,35 @@ fn pair(opening: WorkOp, closing: Closing) -> Plan
     ensures { result ≡ Plan.Pair (Step.Work opening) closing }
 {
     Plan::Pair(Step::Work(opening), closing)
+}
+
+fn submit(scenario: &Scenario, item: Ref, queue: Option<Ref>) -> Plan
+    ensures { result ≡ Plan.One (Step.Work (WorkOp.Submit
+        (ref_number scenario.now.decls item) (option_map (ref_number scenario.now.decls) queue))) }
+{
+    one(WorkOp::Submit(ref_number(scenario, item), queue_number(scenario, queue)))
+}
+
+fn schedule(scenario: &Scenario, item: Ref, queue: Ref, delay: u32) -> Plan
+    ensures { result ≡ Plan.One (Step.Work (WorkOp.Schedule
+        (ref_number scenario.now.decls item) (ref_number scenario.now.decls queue) delay)) }
+{
+    one(WorkOp::Schedule(
+        ref_number(scenario, item),
+        ref_number(scenario, queue),
+        delay,
+    ))
+}
+
+fn reschedule(scenario: &Scenario, item: Ref, queue: Ref, delay: u32) -> Plan
+    ensures { result ≡ Plan.One (Step.Work (WorkOp.Reschedule
+        (ref_number scenario.now.decls item) (ref_number scenario.now.decls queue) delay)) }
+{
+    one(WorkOp::Reschedule(
+        ref_number(scenario, item),
+        ref_number(scenario, queue),
+        delay,
+    ))
 }
 
 fn cancel_sync(item: u32) -> Plan
@@ -63,6 +94,13 @@ fn at_sem(sem: Ref, op: SemOp) -> Plan
     Plan::One(Step::Sem(ref_object(sem), op))
 }
 
+/// A put, which may wait for space.
+fn put(queue: Ref, message: Msg, timeout: Timeout) -> Plan
+    ensures { result ≡ Plan.Wait (Waiting.Put (ref_object queue) message) timeout }
+{
+    Plan::Wait(Waiting::Put(ref_object(queue), message), timeout)
+}
+
 /// One step at a message queue.
 fn at_msgq(queue: Ref, op: MsgqOp) -> Plan
     ensures { result ≡ Plan.One (Step.Msgq (ref_object queue) op) }
@@ -75,6 +113,13 @@ fn at_signal(signal: Ref, op: SignalOp) -> Plan
     ensures { result ≡ Plan.One (Step.Signal (ref_object signal) op) }
 {
     Plan::One(Step::Signal(ref_object(signal), op))
+}
+
+/// A call that gets a channel, uses it and frees it.
+fn uses(chan: Ref, usage: Using, timeout: Timeout) -> Plan
+    ensures { result ≡ Plan.Channel (ref_object chan) usage timeout }
+{
+    Plan::Channel(ref_object(chan), usage, timeout)
 }
 
 /// One step at a channel.
@@ -98,6 +143,18 @@ fn at_table(op: TableOp) -> Plan
     Plan::One(Step::Table(op))
 }
 
+fn grant(thread: Ref, object: Ref) -> Plan
+    ensures { result ≡ Plan.One (Step.Table (TableOp.Grant (ref_object thread) (ref_object object))) }
+{
+    at_table(TableOp::Grant(ref_object(thread), ref_object(object)))
+}
+
+fn revoke(thread: Ref, object: Ref) -> Plan
+    ensures { result ≡ Plan.One (Step.Table (TableOp.Revoke (ref_object thread) (ref_object object))) }
+{
+    at_table(TableOp::Revoke(ref_object(thread), ref_object(object)))
+}
+
 /// How a call goes.
 // In line, so that nothing is made of a plan that its caller doesn't ask for.
 #[inline(always)]
@@ -105,23 +162,12 @@ pub fn plan_of(scenario: &Scenario, call: &Call) -> Plan
     ensures { result ≡ plan_of scenario.now.decls call.now }
 {
     match call {
-        Call::Submit(item, queue) => one(WorkOp::Submit(
-            ref_number(scenario, *item),
-            queue_number(scenario, *queue),
-        )),
+        Call::Submit(item, queue) => submit(scenario, *item, *queue),
         Call::Cancel(item) => one(WorkOp::Cancel(ref_number(scenario, *item))),
         Call::CancelSync(item) => cancel_sync(ref_number(scenario, *item)),
         Call::Flush(item) => flush(ref_number(scenario, *item)),
-        Call::Schedule(item, queue, delay) => one(WorkOp::Schedule(
-            ref_number(scenario, *item),
-            ref_number(scenario, *queue),
-            *delay,
-        )),
-        Call::Reschedule(item, queue, delay) => one(WorkOp::Reschedule(
-            ref_number(scenario, *item),
-            ref_number(scenario, *queue),
-            *delay,
-        )),
+        Call::Schedule(item, queue, delay) => schedule(scenario, *item, *queue, *delay),
+        Call::Reschedule(item, queue, delay) => reschedule(scenario, *item, *queue, *delay),
         Call::Remaining(item) => one(WorkOp::Remaining(ref_number(scenario, *item))),
         Call::Busy(item) => Plan::One(Step::LookItem(ref_object(*item))),
         Call::Start(queue) => one(WorkOp::Start(ref_number(scenario, *queue))),
@@ -132,9 +178,7 @@ pub fn plan_of(scenario: &Scenario, call: &Call) -> Plan
         Call::Give(sem) => at_sem(*sem, SemOp::Give),
         Call::Reset(sem) => at_sem(*sem, SemOp::Reset),
         Call::Count(sem) => at_sem(*sem, SemOp::Count),
-        Call::Put(queue, message, timeout) => {
-            Plan::Wait(Waiting::Put(ref_object(*queue), *message), *timeout)
-        }
+        Call::Put(queue, message, timeout) => put(*queue, *message, *timeout),
         Call::Get(queue, timeout) => Plan::Wait(Waiting::Get(ref_object(*queue)), *timeout),
         Call::Peek(queue) => at_msgq(*queue, MsgqOp::Peek),
         Call::PeekAt(queue, index) => at_msgq(*queue, MsgqOp::PeekAt(*index)),
@@ -150,18 +194,12 @@ pub fn plan_of(scenario: &Scenario, call: &Call) -> Plan
         Call::Mask(chan, observer, on) => at_chan(*chan, ChanOp::Mask(ref_object(*observer), *on)),
         Call::Enable(observer, on) => at_observer(*observer, ObsOp::Enable(*on)),
         Call::SubWait(sub, timeout) => Plan::Wait(Waiting::SubWait(ref_object(*sub)), *timeout),
-        Call::Publish(chan, message, timeout) => {
-            Plan::Channel(ref_object(*chan), Using::Publish(*message), *timeout)
-        }
-        Call::Notify(chan, timeout) => Plan::Channel(ref_object(*chan), Using::Notify, *timeout),
-        Call::Read(chan, timeout) => Plan::Channel(ref_object(*chan), Using::Read, *timeout),
-        Call::Grant(thread, object) => {
-            at_table(TableOp::Grant(ref_object(*thread), ref_object(*object)))
-        }
+        Call::Publish(chan, message, timeout) => uses(*chan, Using::Publish(*message), *timeout),
+        Call::Notify(chan, timeout) => uses(*chan, Using::Notify, *timeout),
+        Call::Read(chan, timeout) => uses(*chan, Using::Read, *timeout),
+        Call::Grant(thread, object) => grant(*thread, *object),
         Call::Release(object) => at_table(TableOp::Release(ref_object(*object))),
-        Call::Revoke(thread, object) => {
-            at_table(TableOp::Revoke(ref_object(*thread), ref_object(*object)))
-        }
+        Call::Revoke(thread, object) => revoke(*thread, *object),
         Call::Public(object) => at_table(TableOp::Public(ref_object(*object))),
         Call::Init(object) => at_table(TableOp::Init(ref_object(*object))),
         Call::User => at_table(TableOp::EnterUser),
