@@ -7,7 +7,6 @@ use Rattle.zk_worker.specs.declared.checks.Mode.TheVariants.{Supervisor, User, D
 use Rattle.zk_worker.specs.declared.log.Log.{Log}
 use Rattle.zk_worker.specs.declared.log.PlayerState.TheVariants.{Spent, Oops, Done, Standing}
 use Rattle.zk_worker.specs.declared.steps.Spot.{Spot}
-use Rattle.zk_worker.specs.CheckLaws.{EndedByOops}
 use Rattle.zk_worker.specs.Follows.{Stands, is_spent_at, is_dead, is_done, state_at}
 use Rattle.zk_worker.specs.Places.{At}
 use Rattle.zk_worker.proofs.UsersChecked.{each_user_is_checked}
@@ -33,7 +32,6 @@ oops-dead at is = by (is_spent_at at) at.mode (is_done at.frames) is where
 pub checks-kept : (s : Parts) (t : Trace) → IsLawful s t → EachChecksFirst s t
 checks-kept s t lawful number log is =
     let follows = lawful.log.follow number log is in
-    let answers : follows.end.answers ≡ log.answers = ap (λ (l : Log). l.answers) follows.logged in
     let steps : follows.end.spots ≡ log.steps = ap (λ (l : Log). l.steps) follows.logged in
     let state : state_at follows.end ≡ log.state = ap (λ (l : Log). l.state) follows.logged in
     let all = each_user_is_checked s number (trace_shown t) follows.end follows.led in
@@ -47,5 +45,5 @@ checks-kept s t lawful number log is =
       logged = follows.logged;
       checked = all.0;
       told = λ oops. oops-dead follows.end (state ∙ oops);
-      ended = λ dead. subst (EndedByOops s follows.led.start follows.led.made) answers (all.1 dead);
+      ended = all.1;
     }

@@ -1,9 +1,9 @@
-use Rattle.std.specs.Prelude.{◌≡◌, ℕ, Some, List, [], slice_get}
+use Rattle.std.specs.Prelude.{◌≡◌, ℕ, true, Some, List, [], slice_get}
 use Rattle.std.specs.List.{AllZip}
 use Rattle.zk_scenario.specs.Parts.{Parts}
 use Rattle.zk_worker.specs.declared.log.Log.{Log}
 use Rattle.zk_worker.specs.declared.log.PlayerState.TheVariants.{Oops}
-use Rattle.zk_worker.specs.CheckLaws.{AreChecked, EndedByOops}
+use Rattle.zk_worker.specs.CheckLaws.{AreChecked, has_oops, EndedByOops}
 use Rattle.zk_worker.specs.declared.checks.Mode.TheVariants.{Dead}
 use Rattle.zk_worker.specs.Follows.{Stands, IsPlayed, log_of}
 use Rattle.zk_worker.specs.Places.{At}
@@ -13,10 +13,10 @@ use Rattle.zk_worker.specs.Shown.{Shown}
 use Rattle.zk_trace.specs.declared.trace.Trace.{Trace}
 use Rattle.zk_trace.specs.Shown.{trace_shown}
 
--- by the steps that a log's spots stand for, which lead the player from its start to the place that is logged, each step of a
--- user's call but its checks comes behind all of these, one passed check for each of the call's needs; and where a check has ended
--- the player, as it has each that is told so, its last step is that check, before which its call made its earlier checks alone,
--- and its last answer says why
+-- by the steps that a log's spots stand for, which lead the player from its start to the place that is logged, each
+-- check is one that a user's call has to make next, and each other step of a user's call comes behind all its checks;
+-- wherever a step, an answer or the place says that a check has ended the player, as it does of each that is told so,
+-- one has: as its last step, which its last answer tells
 pub record ChecksFirst (s : Parts) (number : ℕ) (shown : Shown) (log : Log) : Type 0 where
   pub start : At
   pub starts : start_at s number ≡ Some start
@@ -25,9 +25,9 @@ pub record ChecksFirst (s : Parts) (number : ℕ) (shown : Shown) (log : Log) : 
   pub end : At
   pub led : IsPlayed s start made end
   pub logged : log_of end ≡ log
-  pub checked : AreChecked s start [] start made
+  pub checked : AreChecked s number [] start made
   pub told : log.state ≡ Oops → end.mode ≡ Dead
-  pub ended : end.mode ≡ Dead → EndedByOops s start made log.answers
+  pub ended : has_oops made end ≡ true → EndedByOops s number made end
 
 -- the log of each player of a trace is such a one
 abbrev pub EachChecksFirst : Parts → Trace → Type 0

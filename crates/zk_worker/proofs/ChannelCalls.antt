@@ -49,7 +49,7 @@ use Rattle.zk_worker.specs.VisitLaws.{used_chan, is_use, is_free, is_full, visit
 use Rattle.zk_worker.proofs.ChannelAnswers.{ended-gives, quit-gives, enter-replies, offer-replies, is_call_reply, is_quit_reply, set-tells, list-tells, get-tells}
 use Rattle.zk_worker.proofs.ChannelSteps.{asking_op, use_op, asks-so, ends-so, quits-so, EachStep, each-step}
 use Rattle.zk_worker.proofs.OpenScripts.{plan_got}
-use Rattle.zk_worker.proofs.OtherCalls.{is_with_channel, wait-calm}
+use Rattle.zk_worker.proofs.OtherCalls.{is_with_channel, uses-none, wait-calm}
 use Rattle.zk_worker.proofs.OwnEntries.{HasReplied, answers-so}
 
 -- What is known of a call that waits for its channel, or has it.
@@ -195,7 +195,7 @@ used-got chan using_ timeout stages.Holds k step c there is =
 used-got chan using_ timeout (stages.Visits left full) k step c there is =
     sym (visit-used chan left) ∙ ap used_chan (slice_get-one (visit_step chan left) step k there) ∙ is
 used-got chan using_ timeout (stages.Reads message) k step c there is = ap used_chan (slice_get-one (steps.Chan chan ops.Free) step k there) ∙ is
-used-got chan using_ timeout stage k step c there is = let calm = wait-calm (asks_for chan using_) timeout stage k step there in absurd (cc)
+used-got chan using_ timeout stage k step c there is = let none = uses-none step (wait-calm (asks_for chan using_) timeout stage k step there) in absurd (cc)
 
 -- What is answered stays answered.
 

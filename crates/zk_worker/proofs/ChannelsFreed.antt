@@ -47,7 +47,7 @@ use Rattle.zk_worker.specs.declared.steps.Spot.{Spot}
 use Rattle.zk_worker.specs.Checks.{oops_in}
 use Rattle.zk_worker.specs.Protocol.{after_by, checked, spot_of}
 use Rattle.zk_worker.proofs.CheckedSteps.{check_at}
-use Rattle.zk_worker.proofs.OtherCalls.{is_channel, wait-calm, call-calm}
+use Rattle.zk_worker.proofs.OtherCalls.{is_channel, uses-none, wait-calm, call-calm}
 use Rattle.zk_worker.proofs.OwnEntries.{told-by}
 
 -- a step that uses no channel frees none
@@ -79,7 +79,7 @@ module _ (s : Parts) (chans : ChanHistories) (who : Who) (word : Word) where
   channel-frees chan u timeout (stages.Visits (observer ∷ left) full) k step reply there is replied = frees-not _ step k reply refl there is
   channel-frees chan u timeout (stages.Reads message) k step reply there is replied = (answers.Bytes message, refl)
   channel-frees chan u timeout stage k step reply there is replied =
-      let isnt = calm-frees step reply (wait-calm (asks_for chan u) timeout stage k step there) in absurd (cc)
+      let isnt = calm-frees step reply (uses-none step (wait-calm (asks_for chan u) timeout stage k step there)) in absurd (cc)
 
 -- the words of calls that use a channel
 channel-word : (decls : List Decl) (call : Call) → is_channel (plan_of decls call) ≡ true → (is_publish (word_of call) || is_read (word_of call)) ≡ true
@@ -101,7 +101,7 @@ module _ (s : Parts) (chans : ChanHistories) (who : Who) (step : Step) (reply : 
       (let ends = channel-frees s chans who (word_of call) chan u timeout stage k step reply (sym (ap (λ (p : Plan). slice_get (plan_attempts p stage) k) so) ∙ there) is replied in
       (word_of call, ends.0, ends.1, word))
   plan-frees call plan so stage k there =
-      let isnt = calm-frees step reply (call-calm s.decls call stage k step (ap is_channel so) there) in absurd (cc)
+      let isnt = calm-frees step reply (uses-none step (call-calm s.decls call stage k step (ap is_channel so) there)) in absurd (cc)
 
   call-frees : (call : Option Call) (stage : Stage) (k : ℕ) → slice_get (call_attempts s.decls call stage) k ≡ Some step → Ends (call_progress s.decls call stage step reply)
   call-frees None stage k there = absurd (cc)

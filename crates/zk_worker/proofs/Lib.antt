@@ -35,6 +35,7 @@ pub mod OwnEntries
 pub mod ChannelSteps
 pub mod HeldCalls
 pub mod OtherCalls
+pub mod OwnSteps
 pub mod ScriptsEntered
 pub mod LogsPlayed
 pub mod ChannelCalls

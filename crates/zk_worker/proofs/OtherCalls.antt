@@ -1,8 +1,9 @@
--- A step of a call that gets no channel for itself: it frees none and enters no script.
-use Rattle.std.proofs.Common.{◌≡◌, ◌≢◌, ℕ, zero, suc, Bool, true, false, not, ◌&&◌, cond, Option, Some, None, is_some, List, [], ◌∷◌, All, refl, subst}
-use Rattle.std.specs.List.{slice_get}
+-- A step of a call that gets no channel for itself: it frees none, is no check, and enters no script.
+use Rattle.std.proofs.Common.{◌≡◌, ◌≢◌, ℕ, zero, suc, Bool, true, false, not, ◌&&◌, ◌||◌, cond, Option, Some, None, is_some, List, [], ◌∷◌, All, refl, subst}
+use Rattle.std.specs.List.{slice_get, list_any}
 use Rattle.std.proofs.lemmas.Bool.{and_parts}
 use Rattle.std.proofs.lemmas.List.Elements.{All-nil, All-cons}
+use Rattle.zk_base.specs.declared.errors.Errno.TheVariants.{Again}
 use Rattle.zk_base.specs.declared.ids.Who.{Who}
 use Rattle.zk_base.proofs.Lists.{All-at, slice_get-one}
 use Rattle.zk_line.specs.declared.events.Event.{Event}
@@ -14,15 +15,20 @@ use Rattle.zk_model_bus.specs.declared.channel.ChanOp.{ChanOp}
 use Rattle.zk_model_bus.specs.declared.channel.ChanOp.TheVariants as ops
 use Rattle.zk_model_bus.specs.declared.channel.ChanReply.TheVariants as chan_replies
 use Rattle.zk_model_bus.specs.declared.observer.ObsReply.TheVariants as obs_replies
+use Rattle.zk_model_bus.specs.declared.table.TableReply.TheVariants as table_replies
 use Rattle.zk_model_wait.specs.declared.clock.ClockOp.TheVariants as clock_ops
 use Rattle.zk_model_wait.specs.declared.clock.ClockReply.TheVariants as clock_replies
 use Rattle.zk_model_wait.specs.declared.msgq.MsgqReply.TheVariants as msgq_replies
 use Rattle.zk_model_wait.specs.declared.sem.SemReply.TheVariants as sem_replies
+use Rattle.zk_model_work.specs.declared.ops.Submitted.{Submitted}
+use Rattle.zk_model_work.specs.declared.ops.Submitted.TheVariants as submissions
 use Rattle.zk_model_work.specs.declared.ops.WorkReply.TheVariants as work_replies
 use Rattle.zk_scenario.specs.Parts.{Parts}
 use Rattle.zk_words.specs.declared.timeout.Timeout.{Timeout}
 use Rattle.zk_words.specs.declared.timeout.Timeout.TheVariants.{No, Forever, Ticks}
 use Rattle.zk_words.specs.declared.word.Word.{Word}
+use Rattle.zk_worker.specs.declared.answers.Answer.{Answer}
+use Rattle.zk_worker.specs.declared.answers.Answer.TheVariants as answers
 use Rattle.zk_worker.specs.declared.steps.Step.{Step}
 use Rattle.zk_worker.specs.declared.steps.Step.TheVariants as steps
 use Rattle.zk_worker.specs.declared.steps.StepReply.{StepReply}
@@ -43,24 +49,37 @@ use Rattle.zk_worker.specs.declared.frames.Progress.{Progress}
 use Rattle.zk_worker.specs.declared.frames.Progress.TheVariants.{Goes, Answers, Enters}
 use Rattle.zk_worker.specs.Calls.{plan_of, closing_step, plan_attempts, plan_progress}
 use Rattle.zk_worker.specs.Waits.{open_step, end_step, quit_step, first_step, wait_attempts, opening_progress, until, wait_progress}
-use Rattle.zk_worker.specs.Polls.{poll_attempts, poll_progress, poll_goes, poll_answer, is_answered, ask_step, watch_step, drop_step, fresh, alarm_after, marked, event_of, mark_of}
+use Rattle.zk_worker.specs.Checks.{is_oops}
+use Rattle.zk_worker.specs.Replies.{submission_answer, answer_of}
+use Rattle.zk_worker.specs.Polls.{is_ready, ready_from, poll_attempts, poll_progress, poll_goes, poll_answer, is_answered, ask_step, watch_step, drop_step, fresh, alarm_after, marked, event_of, mark_of}
 use Rattle.zk_worker.specs.Publishes.{channel_progress}
 use Rattle.zk_worker.specs.StackLaws.{ChanHistories, IsReplied, chans_after}
+use Rattle.zk_worker.specs.CheckLaws.{is_check}
 use Rattle.zk_worker.specs.VisitLaws.{used_chan}
 use Rattle.zk_worker.proofs.OpenScripts.{plan_got, plan_waits, IsHeld, IsKept, IsKeptBy}
 use Rattle.zk_worker.proofs.OwnEntries.{has-replied, held-after, kept-quiet}
 use Rattle.zk_worker.proofs.PollSteps.{poll_attempts-each}
 
--- a step that only a call with a channel makes: it uses the channel
-abbrev pub uses_channel : Step → Bool
-uses_channel step = is_some (used_chan step)
+-- a step that uses a channel or is a check: no call makes one of its own that hasn't the channel
+abbrev pub uses_or_checks : Step → Bool
+uses_or_checks step = is_some (used_chan step) || is_check step
 
-not-free : (object : ℕ) (op : ChanOp) → uses_channel (steps.Chan object op) ≡ false → op ≢ ops.Free
+or-neither : (a b : Bool) → (a || b) ≡ false → (a ≡ false) × (b ≡ false)
+or-neither true b neither = absurd (cc)
+or-neither false b neither = (refl, neither)
+
+pub uses-none : (step : Step) → uses_or_checks step ≡ false → is_some (used_chan step) ≡ false
+uses-none step calm = (or-neither (is_some (used_chan step)) (is_check step) calm).0
+
+pub checks-none : (step : Step) → uses_or_checks step ≡ false → is_check step ≡ false
+checks-none step calm = (or-neither (is_some (used_chan step)) (is_check step) calm).1
+
+not-free : (object : ℕ) (op : ChanOp) → uses_or_checks (steps.Chan object op) ≡ false → op ≢ ops.Free
 not-free object ops.Free frees = absurd (cc)
 not-free object op frees = λ same. cc
 
 -- what a player holds it holds after each step of its own that frees no channel
-pub held-step : (s : Parts) (chans : ChanHistories) (who : Who) (n : ℕ) (step : Step) (reply : StepReply) → uses_channel step ≡ false → IsReplied s chans who step reply →
+pub held-step : (s : Parts) (chans : ChanHistories) (who : Who) (n : ℕ) (step : Step) (reply : StepReply) → uses_or_checks step ≡ false → IsReplied s chans who step reply →
     (chan : ℕ) → IsHeld s chans who.number chan → IsHeld s (chans_after chans who n step reply) who.number chan
 held-step s chans who n (steps.Chan object op) reply frees is chan held =
     let told = has-replied s chans who object op reply is in
@@ -69,31 +88,31 @@ held-step s chans who n (steps.Chan object op) reply frees is chan held =
 held-step s chans who n step reply frees is chan held = held
 
 -- what holds of one attempt
-of-one : (only : Step) (k : ℕ) (step : Step) → uses_channel only ≡ false → slice_get (only ∷ []) k ≡ Some step → uses_channel step ≡ false
-of-one only k step calm is = subst (λ (x : Step). uses_channel x ≡ false) (slice_get-one only step k is) calm
+of-one : (only : Step) (k : ℕ) (step : Step) → uses_or_checks only ≡ false → slice_get (only ∷ []) k ≡ Some step → uses_or_checks step ≡ false
+of-one only k step calm is = subst (λ (x : Step). uses_or_checks x ≡ false) (slice_get-one only step k is) calm
 
-open-calm : (waiting : Waiting) (waits : Bool) → uses_channel (open_step waiting waits) ≡ false
+open-calm : (waiting : Waiting) (waits : Bool) → uses_or_checks (open_step waiting waits) ≡ false
 open-calm (waitings.Take object) waits = refl
 open-calm waiting waits = refl
 
-end-calm : (waiting : Waiting) (place : ℕ) → uses_channel (end_step waiting place) ≡ false
+end-calm : (waiting : Waiting) (place : ℕ) → uses_or_checks (end_step waiting place) ≡ false
 end-calm (waitings.Take object) place = refl
 end-calm waiting place = refl
 
-quit-calm : (waiting : Waiting) (place : ℕ) → uses_channel (quit_step waiting place) ≡ false
+quit-calm : (waiting : Waiting) (place : ℕ) → uses_or_checks (quit_step waiting place) ≡ false
 quit-calm (waitings.Take object) place = refl
 quit-calm waiting place = refl
 
-closing-calm : (closing : Closing) (place : ℕ) → uses_channel (closing_step closing place) ≡ false
+closing-calm : (closing : Closing) (place : ℕ) → uses_or_checks (closing_step closing place) ≡ false
 closing-calm closings.Cancel place = refl
 closing-calm closing place = refl
 
-first-calm : (waiting : Waiting) (timeout : Timeout) → uses_channel (first_step waiting timeout) ≡ false
+first-calm : (waiting : Waiting) (timeout : Timeout) → uses_or_checks (first_step waiting timeout) ≡ false
 first-calm waiting No = open-calm waiting false
 first-calm waiting Forever = open-calm waiting true
 first-calm waiting (Ticks ticks) = refl
 
-pub wait-calm : (waiting : Waiting) (timeout : Timeout) (stage : Stage) (k : ℕ) (step : Step) → slice_get (wait_attempts waiting timeout stage) k ≡ Some step → uses_channel step ≡ false
+pub wait-calm : (waiting : Waiting) (timeout : Timeout) (stage : Stage) (k : ℕ) (step : Step) → slice_get (wait_attempts waiting timeout stage) k ≡ Some step → uses_or_checks step ≡ false
 wait-calm waiting timeout stages.Start k step is = of-one (first_step waiting timeout) k step (first-calm waiting timeout) is
 wait-calm waiting timeout (stages.Alarmed moment) k step is = of-one (open_step waiting true) k step (open-calm waiting true) is
 wait-calm waiting timeout (stages.Waits place) k step is = of-one (end_step waiting place) k step (end-calm waiting place) is
@@ -103,19 +122,19 @@ wait-calm waiting timeout (stages.Quits place) k step is = of-one (quit_step wai
 wait-calm waiting timeout stage k step is = absurd (cc)
 
 -- the steps of a poll are at semaphores, message queues and signals
-ask-calm : (registers : Bool) (event : Event) (step : Step) → Unit {0} → ask_step registers event ≡ Some step → uses_channel step ≡ false
+ask-calm : (registers : Bool) (event : Event) (step : Step) → Unit {0} → ask_step registers event ≡ Some step → uses_or_checks step ≡ false
 ask-calm registers events.Ignore step any is = absurd (cc)
 ask-calm registers (events.Sem sem) step any is = cc
 ask-calm registers (events.Msgq queue) step any is = cc
 ask-calm registers (events.Sig signal) step any is = cc
 
-watch-calm : (event : Event) (mark : Mark) (step : Step) → Unit {0} → watch_step event mark ≡ Some step → uses_channel step ≡ false
+watch-calm : (event : Event) (mark : Mark) (step : Step) → Unit {0} → watch_step event mark ≡ Some step → uses_or_checks step ≡ false
 watch-calm (events.Sem sem) (Armed place) step any is = cc
 watch-calm (events.Msgq queue) (Armed place) step any is = cc
 watch-calm (events.Sig signal) mark step any is = cc
 watch-calm event mark step any is = absurd (cc)
 
-drop-calm : (event : Event) (mark : Mark) (step : Step) → Unit {0} → drop_step event mark ≡ Some step → uses_channel step ≡ false
+drop-calm : (event : Event) (mark : Mark) (step : Step) → Unit {0} → drop_step event mark ≡ Some step → uses_or_checks step ≡ false
 drop-calm (events.Sem sem) (Armed place) step any is = cc
 drop-calm (events.Msgq queue) (Armed place) step any is = cc
 drop-calm event mark step any is = absurd (cc)
@@ -125,11 +144,11 @@ abbrev pub is_channel : Plan → Bool
 is_channel (plans.Channel chan using_ timeout) = true
 is_channel plan = false
 
--- the steps that a plan is made of use no channel
+-- the steps that a plan is made of use no channel and are no checks
 is_calm : Plan → Bool
-is_calm (plans.One step) = not (uses_channel step)
-is_calm (plans.Pair opening closing) = not (uses_channel opening)
-is_calm (plans.Twice first second) = not (uses_channel first) && not (uses_channel second)
+is_calm (plans.One step) = not (uses_or_checks step)
+is_calm (plans.Pair opening closing) = not (uses_or_checks opening)
+is_calm (plans.Twice first second) = not (uses_or_checks first) && not (uses_or_checks second)
 is_calm plan = true
 
 plan_of-calm : (decls : List Decl) (call : Call) → is_calm (plan_of decls call) ≡ true
@@ -142,41 +161,41 @@ not-so true is = absurd (cc)
 not-so false is = refl
 
 plan-calm : (plan : Plan) (stage : Stage) (k : ℕ) (step : Step) → is_channel plan ≡ false → is_calm plan ≡ true → slice_get (plan_attempts plan stage) k ≡ Some step →
-    uses_channel step ≡ false
+    uses_or_checks step ≡ false
 unfolding is_calm
-plan-calm (plans.One first) stages.Start k step other calm is = of-one first k step (not-so (uses_channel first) calm) is
+plan-calm (plans.One first) stages.Start k step other calm is = of-one first k step (not-so (uses_or_checks first) calm) is
 plan-calm (plans.One first) stage k step other calm is = absurd (cc)
-plan-calm (plans.Pair opening closing) stages.Start k step other calm is = of-one opening k step (not-so (uses_channel opening) calm) is
+plan-calm (plans.Pair opening closing) stages.Start k step other calm is = of-one opening k step (not-so (uses_or_checks opening) calm) is
 plan-calm (plans.Pair opening closing) (stages.Waits place) k step other calm is = of-one (closing_step closing place) k step (closing-calm closing place) is
 plan-calm (plans.Pair opening closing) stage k step other calm is = absurd (cc)
 plan-calm (plans.Twice first second) stages.Start k step other calm is =
-    of-one first k step (not-so (uses_channel first) (and_parts (not (uses_channel first)) (not (uses_channel second)) calm).0) is
+    of-one first k step (not-so (uses_or_checks first) (and_parts (not (uses_or_checks first)) (not (uses_or_checks second)) calm).0) is
 plan-calm (plans.Twice first second) stages.Halfway k step other calm is =
-    of-one second k step (not-so (uses_channel second) (and_parts (not (uses_channel first)) (not (uses_channel second)) calm).1) is
+    of-one second k step (not-so (uses_or_checks second) (and_parts (not (uses_or_checks first)) (not (uses_or_checks second)) calm).1) is
 plan-calm (plans.Twice first second) stage k step other calm is = absurd (cc)
 plan-calm (plans.Wait waiting timeout) stage k step other calm is = wait-calm waiting timeout stage k step is
 plan-calm (plans.Poll timeout list) stage k step other calm is =
-    let P : Step → Type 0 = λ x. uses_channel x ≡ false in
+    let P : Step → Type 0 = λ x. uses_or_checks x ≡ false in
     All-at P (poll_attempts timeout list stage) k step (poll-all timeout list stage) is
   where
     every : (list : List Event) → All (λ (event : Event). Unit {0}) list
     every [] = All-nil (λ (event : Event). Unit {0})
     every (event ∷ more) = All-cons (λ (event : Event). Unit {0}) event more tt (every more)
 
-    poll-all : (timeout : Timeout) (list : List Event) (stage : Stage) → All (λ (x : Step). uses_channel x ≡ false) (poll_attempts timeout list stage)
-    poll-all timeout list stage = poll_attempts-each (λ x. uses_channel x ≡ false) (λ event. Unit {0}) ask-calm watch-calm drop-calm (λ op. refl) timeout list stage (every list)
+    poll-all : (timeout : Timeout) (list : List Event) (stage : Stage) → All (λ (x : Step). uses_or_checks x ≡ false) (poll_attempts timeout list stage)
+    poll-all timeout list stage = poll_attempts-each (λ x. uses_or_checks x ≡ false) (λ event. Unit {0}) ask-calm watch-calm drop-calm (λ op. refl) timeout list stage (every list)
 plan-calm (plans.Channel chan using_ timeout) stage k step other calm is = absurd (cc)
 
 -- A reply by which no script is entered.
 
 -- the call goes on at such a stage, or is answered
-abbrev pub GoesWith : (Stage → Type 0) → (Word → Type 0) → Progress → Type 0
+abbrev pub GoesWith : (Stage → Type 0) → (Word → Answer → Type 0) → Progress → Type 0
 GoesWith P Q (Goes stage) = P stage
-GoesWith P Q (Answers word answer) = Q word
+GoesWith P Q (Answers word answer) = Q word answer
 GoesWith P Q (Enters owner stage) = ⊥
 
 abbrev pub EntersNone : Progress → Type 0
-EntersNone progress = GoesWith (λ stage. Unit {0}) (λ word. Unit {0}) progress
+EntersNone progress = GoesWith (λ stage. Unit {0}) (λ word answer. Unit {0}) progress
 
 -- a stage of a call that has its channel
 abbrev pub is_with_channel : Stage → Bool
@@ -185,7 +204,35 @@ is_with_channel (stages.Visits left full) = true
 is_with_channel (stages.Reads message) = true
 is_with_channel stage = false
 
-module _ (P : Stage → Type 0) (Q : Word → Type 0) (plain : (stage : Stage) → is_with_channel stage ≡ false → P stage) (word : Word) (answered : Q word) where
+-- what a step answers its call is no oops
+pub no-oops : (reply : StepReply) → is_oops (answer_of reply) ≡ false
+no-oops (step_replies.Work (work_replies.Sub submitted) place) = by submitted where
+  by : (submitted : Submitted) → is_oops (submission_answer submitted) ≡ false
+  by submissions.Already = refl
+  by (submissions.Fresh admission queue) = refl
+  by (submissions.Rerun admission queue) = refl
+  by (submissions.Refused errno) = refl
+no-oops (step_replies.Work reply place) = refl
+no-oops (step_replies.Table table_replies.Already place) = refl
+no-oops (step_replies.Table reply place) = refl
+no-oops (step_replies.Sem object sem_replies.Busy place) = refl
+no-oops (step_replies.Sem object reply place) = refl
+no-oops (step_replies.Msgq object msgq_replies.NoMsg place) = refl
+no-oops (step_replies.Msgq object reply place) = refl
+no-oops (step_replies.Chan object chan_replies.Busy place) = refl
+no-oops (step_replies.Chan object reply place) = refl
+no-oops (step_replies.Obs object obs_replies.NoMsg place) = refl
+no-oops (step_replies.Obs object reply place) = refl
+no-oops reply = refl
+
+no-oops-poll : (marks : List Mark) → is_oops (poll_answer marks) ≡ false
+no-oops-poll marks = by (list_any is_ready marks) where
+  by : (b : Bool) → is_oops (cond b (answers.Ready (ready_from 0 marks)) (answers.Refused Again)) ≡ false
+  by true = refl
+  by false = refl
+
+module _ (P : Stage → Type 0) (Q : Word → Answer → Type 0) (plain : (stage : Stage) → is_with_channel stage ≡ false → P stage) (word : Word)
+    (answered : (answer : Answer) → is_oops answer ≡ false → Q word answer) where
   opening-goes : (reply : StepReply) → GoesWith P Q (opening_progress word reply)
   opening-goes (step_replies.Work work_replies.Wait place) = plain (stages.Waits place) refl
   opening-goes (step_replies.Work (work_replies.WaitFor admission) place) = plain (stages.Waits place) refl
@@ -193,7 +240,7 @@ module _ (P : Stage → Type 0) (Q : Word → Type 0) (plain : (stage : Stage) �
   opening-goes (step_replies.Msgq object msgq_replies.Wait place) = plain (stages.Waits place) refl
   opening-goes (step_replies.Chan object chan_replies.Wait place) = plain (stages.Waits place) refl
   opening-goes (step_replies.Obs object obs_replies.Wait place) = plain (stages.Waits place) refl
-  opening-goes reply = answered
+  opening-goes reply = answered (answer_of reply) (no-oops reply)
 
   until-goes : (moment : ℕ) (progress : Progress) → GoesWith P Q progress → GoesWith P Q (until moment progress)
   until-goes moment (Goes (stages.Waits place)) goes = plain (stages.WaitsUntil place moment) refl
@@ -204,12 +251,12 @@ module _ (P : Stage → Type 0) (Q : Word → Type 0) (plain : (stage : Stage) �
   wait-goes stages.Start reply = opening-goes reply
   wait-goes (stages.Alarmed moment) reply = until-goes moment (opening_progress word reply) (opening-goes reply)
   wait-goes (stages.WaitsUntil place moment) (step_replies.Clock reply at) = plain (stages.Quits place) refl
-  wait-goes stage reply = answered
+  wait-goes stage reply = answered (answer_of reply) (no-oops reply)
 
   poll_goes-with : (timeout : Timeout) (list : List Event) (alarm : Alarm) (marks : List Mark) → GoesWith P Q (poll_goes word timeout list alarm marks)
   poll_goes-with timeout list alarm marks =
       elim (is_answered timeout list alarm marks) as (λ b. GoesWith P Q (cond b (Answers word (poll_answer marks)) (Goes (stages.Polls alarm marks))))
-      [ true ↦ answered | false ↦ plain (stages.Polls alarm marks) refl ]
+      [ true ↦ answered (poll_answer marks) (no-oops-poll marks) | false ↦ plain (stages.Polls alarm marks) refl ]
 
   poll-goes : (timeout : Timeout) (list : List Event) (stage : Stage) (made : Step) (reply : StepReply) → P stage → GoesWith P Q (poll_progress word timeout list stage made reply)
   poll-goes timeout list stages.Start made (step_replies.Clock (clock_replies.At moment) place) here = plain (stages.Polls (alarms.Due moment) fresh) refl
@@ -220,24 +267,24 @@ module _ (P : Stage → Type 0) (Q : Word → Type 0) (plain : (stage : Stage) �
   poll-goes timeout list stage made reply here = here
 
   pub plan-goes : (plan : Plan) (stage : Stage) (made : Step) (reply : StepReply) → is_channel plan ≡ false → P stage → GoesWith P Q (plan_progress word plan stage made reply)
-  plan-goes (plans.One step) stage made reply other here = answered
+  plan-goes (plans.One step) stage made reply other here = answered (answer_of reply) (no-oops reply)
   plan-goes (plans.Pair opening closing) stages.Start made reply other here = opening-goes reply
-  plan-goes (plans.Pair opening closing) stage made reply other here = answered
+  plan-goes (plans.Pair opening closing) stage made reply other here = answered (answer_of reply) (no-oops reply)
   plan-goes (plans.Twice first second) stages.Start made reply other here = plain stages.Halfway refl
-  plan-goes (plans.Twice first second) stage made reply other here = answered
+  plan-goes (plans.Twice first second) stage made reply other here = answered (answer_of reply) (no-oops reply)
   plan-goes (plans.Wait waiting timeout) stage made reply other here = wait-goes stage reply
   plan-goes (plans.Poll timeout list) stage made reply other here = poll-goes timeout list stage made reply here
   plan-goes (plans.Channel chan using_ timeout) stage made reply other here = absurd (cc)
 
 pub wait-plain : (word : Word) (stage : Stage) (reply : StepReply) → EntersNone (wait_progress word stage reply)
-wait-plain word = wait-goes (λ stage. Unit {0}) (λ word. Unit {0}) (λ stage is. tt) word tt
+wait-plain word = wait-goes (λ stage. Unit {0}) (λ word answer. Unit {0}) (λ stage is. tt) word (λ answer is. tt)
 
 pub plan-plain : (word : Word) (plan : Plan) (stage : Stage) (made : Step) (reply : StepReply) → is_channel plan ≡ false → EntersNone (plan_progress word plan stage made reply)
-plan-plain word plan stage made reply other = plan-goes (λ stage. Unit {0}) (λ word. Unit {0}) (λ stage is. tt) word tt plan stage made reply other tt
+plan-plain word plan stage made reply other = plan-goes (λ stage. Unit {0}) (λ word answer. Unit {0}) (λ stage is. tt) word (λ answer is. tt) plan stage made reply other tt
 
 -- the attempts of a call that uses no channel of its own are no such steps
 pub call-calm : (decls : List Decl) (call : Call) (stage : Stage) (k : ℕ) (step : Step) → is_channel (plan_of decls call) ≡ false → slice_get (plan_attempts (plan_of decls call) stage) k ≡ Some step →
-    uses_channel step ≡ false
+    uses_or_checks step ≡ false
 call-calm decls call stage k step other there = plan-calm (plan_of decls call) stage k step other (plan_of-calm decls call) there
 
 -- such a call holds no channel and waits for none

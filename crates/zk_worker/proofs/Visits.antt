@@ -43,7 +43,7 @@ use Rattle.zk_worker.proofs.ChannelsFreed.{free-answers, answered-still}
 use Rattle.zk_worker.proofs.Limits.{settled-all, entered-all}
 use Rattle.zk_worker.proofs.LogsPlayed.{cuts, start-of, log-played}
 use Rattle.zk_worker.proofs.OpenScripts.{plan_got, of_call, frame_got, got, AreKept, kept-among}
-use Rattle.zk_worker.proofs.OtherCalls.{is_channel, is_with_channel, GoesWith, plan-goes, call-calm}
+use Rattle.zk_worker.proofs.OtherCalls.{is_channel, is_with_channel, GoesWith, uses-none, plan-goes, call-calm}
 use Rattle.zk_worker.proofs.OwnEntries.{or-behind, not-again}
 use Rattle.zk_model_bus.specs.declared.table.OopsWhy.{OopsWhy}
 use Rattle.zk_worker.specs.declared.answers.Answer.TheVariants.{Oops}
@@ -85,7 +85,7 @@ module _ (s : Parts) (done : List Made) (number owner next : ℕ) (call : Call) 
   never-visits : (stage : Stage) → CallVisits s done owner next stage
   never-visits stage by = absurd (never-with by)
 
-  by_progress : (progress : Progress) → GoesWith (CallVisits s done owner next) UsesNoChannel progress → VisitsBy s done owner next number progress
+  by_progress : (progress : Progress) → GoesWith (CallVisits s done owner next) (λ word answer. UsesNoChannel word) progress → VisitsBy s done owner next number progress
   by_progress (Goes stage) goes = goes
   by_progress (Answers word answer) none = λ passed. let visits = none.0 in let reads = none.1 in (λ publish. absurd (cc), λ read. absurd (cc))
   by_progress (Enters object stage) goes = absurd goes
@@ -94,7 +94,8 @@ module _ (s : Parts) (done : List Made) (number owner next : ℕ) (call : Call) 
       VisitsBy s done owner next number (plan_progress (word_of call) (plan_of s.decls call) stage step reply)
   other-visits stage step reply =
       by_progress (plan_progress (word_of call) (plan_of s.decls call) stage step reply)
-      (plan-goes (CallVisits s done owner next) UsesNoChannel (λ stage plain. never-visits stage) (word_of call) (other-word s.decls call other) (plan_of s.decls call)
+      (plan-goes (CallVisits s done owner next) (λ word answer. UsesNoChannel word) (λ stage plain. never-visits stage) (word_of call)
+      (λ answer is. other-word s.decls call other) (plan_of s.decls call)
       stage step reply other (never-visits stage))
 
 -- The channel that a step uses is the one that the innermost script has.
@@ -104,7 +105,7 @@ plan-used : (decls : List Decl) (call : Call) (plan : Plan) → plan_of decls ca
 plan-used decls call (plans.Channel chan using_ timeout) is stage k step c there used =
     ap (λ (p : Plan). plan_got p stage) is
     ∙ used-got chan using_ timeout stage k step c (sym (ap (λ (p : Plan). slice_get (plan_attempts p stage) k) is) ∙ there) used
-plan-used decls call plan is stage k step c there used = let calm = call-calm decls call stage k step (ap is_channel is) there in absurd (cc)
+plan-used decls call plan is stage k step c there used = let none = uses-none step (call-calm decls call stage k step (ap is_channel is) there) in absurd (cc)
 
 call-used : (s : Parts) (call : Option Call) (stage : Stage) (k : ℕ) (step : Step) (c : ℕ) → slice_get (call_attempts s.decls call stage) k ≡ Some step → used_chan step ≡ Some c →
     option_and_then (λ (call : Call). plan_got (plan_of s.decls call) stage) call ≡ Some c

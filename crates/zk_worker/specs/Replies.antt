@@ -16,7 +16,7 @@ use Rattle.zk_base.specs.declared.errors.Errno.TheVariants.{Busy, Again, NoMsg, 
 use Rattle.zk_worker.specs.declared.steps.StepReply.{StepReply}
 use Rattle.zk_worker.specs.declared.steps.StepReply.TheVariants as step_replies
 use Rattle.zk_worker.specs.declared.answers.Answer.{Answer}
-use Rattle.zk_worker.specs.declared.answers.Answer.TheVariants.{Number, Flags, Truth, Refused, Bytes, Signal, Channel, Oops}
+use Rattle.zk_worker.specs.declared.answers.Answer.TheVariants.{Number, Flags, Truth, Refused, Bytes, Signal, Channel}
 
 -- what a submission answers
 abbrev pub submission_answer : Submitted → Answer
@@ -66,11 +66,10 @@ obs_answer obs_replies.Again = Refused Again
 obs_answer (obs_replies.Channel channel) = Channel channel
 obs_answer reply = Number 0
 
--- what a reply of the object table answers to a call
+-- what a reply of the object table answers to a call, other than to its checks
 abbrev pub table_answer : TableReply → Answer
-table_answer table_replies.Done = Number 0
 table_answer table_replies.Already = Refused Already
-table_answer (table_replies.Oops why) = Oops why
+table_answer reply = Number 0
 
 -- what the reply to a step answers to its call
 abbrev pub answer_of : StepReply → Answer
