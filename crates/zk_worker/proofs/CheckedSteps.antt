@@ -1,5 +1,5 @@
 -- A step of a player is the check that comes next, or where none does a step of its innermost open script or run.
-use Rattle.std.proofs.Common.{◌≡◌, ◌⊎◌, inl, inr, ℕ, ◌+◌, ◌≤◌, Bool, true, false, Option, Some, None, List, [], ◌∷◌, ◌++◌, length, nat_lt, refl, sym, ap, subst, ◌∙◌, arith}
+use Rattle.std.proofs.Common.{◌≡◌, ◌⊎◌, inl, inr, ℕ, ◌≤◌, Option, Some, None, List, [], ◌∷◌, ◌++◌, length, nat_lt, refl, sym, ap, subst, ◌∙◌}
 use Rattle.std.specs.List.{slice_get}
 use Rattle.zk_base.proofs.Lists.{slice_get-one, cond_nil-at}
 use Rattle.zk_base.specs.declared.ids.Who.{Who}
@@ -21,7 +21,7 @@ use Rattle.zk_worker.specs.declared.frames.Stage.TheVariants.{Start}
 use Rattle.zk_worker.specs.Checks.{role_check, top_check, next_check, check_step, oops_in}
 use Rattle.zk_worker.specs.Places.{At}
 use Rattle.zk_worker.specs.StackLaws.{ChanHistories, chans_after}
-use Rattle.zk_worker.specs.Protocol.{IsAhead, after, after_by, attempts, checks_first, checked, frames_attempts, frames_progress, moved, spot_of}
+use Rattle.zk_worker.specs.Protocol.{IsAhead, after, after_by, checks_first, checked, frames_attempts, frames_progress, moved, spot_of}
 
 -- the check that comes next, at a place of a player
 abbrev pub check_at : Parts → At → Option Check

@@ -1,18 +1,17 @@
 -- The attempts of a player name items, queues, semaphores, message queues, signals, channels and observers that are declared.
 use Rattle.std.proofs.Common.{◌≡◌, ℕ, zero, suc, ◌+◌, Bool, true, false, Option, Some, None, is_some, List, [], ◌∷◌, length, All, refl, ap, subst, arith, nat_lt, ◌&&◌}
-use Rattle.std.specs.Option.{option_map, option_map_or, option_and_then}
+use Rattle.std.specs.Option.{option_map_or}
 use Rattle.std.specs.List.{slice_get, list_all}
 use Rattle.std.proofs.lemmas.Bool.{and_parts, and_from, lt-ltb}
 use Rattle.std.proofs.lemmas.List.Elements.{All-nil, All-cons, All-head, All-tail}
-use Rattle.std.proofs.lemmas.Option.{option_and_then_some, same_Some}
-use Rattle.zk_base.proofs.Lists.{slice_get-one, cond_nil-at, list_all-at, All-at}
+use Rattle.zk_base.proofs.Lists.{slice_get-one, All-at}
 use Rattle.zk_line.specs.declared.types.Decl.{Decl}
 use Rattle.zk_line.specs.declared.types.Decl.TheVariants as decl_kinds
 use Rattle.zk_line.specs.declared.types.Ref.TheVariants.{Known, Unknown}
 use Rattle.zk_line.specs.declared.types.Call.{Call}
 use Rattle.zk_line.specs.declared.types.Call.TheVariants as calls
 use Rattle.zk_line.specs.Objects.{places, is_queue, is_item, is_sem, is_msgq, is_signal, is_chan, is_observer, is_met, can_be_raw, number_of, is_at, size_at}
-use Rattle.zk_scenario.specs.Players.{players, calls_of}
+use Rattle.zk_scenario.specs.Players.{calls_of}
 use Rattle.zk_model_bus.specs.declared.kinds.Need.TheVariants as need
 use Rattle.zk_scenario.specs.Parts.{Parts}
 use Rattle.zk_model_bus.specs.declared.channel.ChanOp.TheVariants as chan_ops
@@ -26,14 +25,11 @@ use Rattle.zk_line.specs.declared.events.Event.{Event}
 use Rattle.zk_line.specs.declared.events.Event.TheVariants as events
 use Rattle.zk_line.specs.Checks.{is_size}
 use Rattle.zk_line.specs.Fits.{event_fits, call_fits}
-use Rattle.zk_scenario.specs.Valid.{IsValid}
 use Rattle.zk_line.proofs.Fits.{poll_fits}
 use Rattle.zk_line.proofs.Tables.{length-places}
 use Rattle.zk_scenario.proofs.Valid.{number_of-item, number_of-queue}
-use Rattle.zk_worker.specs.declared.steps.TheConstants.{MOST_STEPS}
 use Rattle.zk_worker.specs.declared.steps.Step.{Step}
 use Rattle.zk_worker.specs.declared.steps.Step.TheVariants as steps
-use Rattle.zk_worker.specs.declared.steps.StepReply.{StepReply}
 use Rattle.zk_worker.specs.declared.frames.Frame.{Frame}
 use Rattle.zk_worker.specs.declared.frames.Closing.{Closing}
 use Rattle.zk_worker.specs.declared.frames.Closing.TheVariants as closings
@@ -52,30 +48,15 @@ use Rattle.zk_worker.specs.declared.frames.Progress.TheVariants.{Goes, Answers, 
 use Rattle.zk_worker.specs.Calls.{plan_of, closing_step, plan_attempts}
 use Rattle.zk_worker.specs.Publishes.{asks_for, use_step, visit_step, channel_attempts}
 use Rattle.zk_worker.specs.Waits.{open_step, end_step, quit_step, first_step, wait_attempts}
-use Rattle.zk_worker.specs.Places.{At}
 use Rattle.zk_worker.specs.Polls.{poll_attempts}
-use Rattle.zk_worker.specs.Protocol.{worker_attempts, call_attempts, role_attempts, frames_attempts, IsAhead, after, frames_after, frames_progress, entered, first_frame, role_at, starting, start_at}
-use Rattle.zk_line.proofs.NeedsThere.{at-any, needs-there}
-use Rattle.zk_line.specs.Needs.{needs_of, is_there, IsThere}
-use Rattle.zk_line.specs.declared.needs.Needed.{Needed}
-use Rattle.zk_line.specs.declared.types.Ref.{Ref}
-use Rattle.zk_model_bus.specs.declared.kinds.Need.{Need}
-use Rattle.zk_model_bus.specs.declared.table.OopsWhy.{OopsWhy}
-use Rattle.zk_model_bus.specs.declared.table.TableOp.TheVariants as table_ops
-use Rattle.zk_words.specs.declared.word.Word.{Word}
-use Rattle.zk_worker.specs.declared.checks.Check.{Check}
-use Rattle.zk_worker.specs.declared.steps.Spot.{Spot}
-use Rattle.zk_worker.specs.Checks.{check_of, call_check, role_check, top_check, check_step, oops_in}
-use Rattle.zk_worker.specs.Protocol.{after_by, checked, spot_of}
-use Rattle.zk_worker.specs.Refs.{ref_declared}
-use Rattle.zk_worker.specs.TableSetup.{names_declared}
-use Rattle.zk_worker.proofs.CheckedSteps.{IsCheck, IsOwn, one-or-other, check_at, check-of-top}
+use Rattle.zk_worker.specs.Protocol.{worker_attempts, call_attempts, role_attempts, frames_attempts, frames_after, entered, first_frame, role_at, starting}
+use Rattle.zk_line.proofs.NeedsThere.{at-any}
 use Rattle.zk_worker.specs.Families.{is_declared}
 use Rattle.zk_worker.specs.TableSetup.{is_object}
 use Rattle.zk_worker.specs.Machines.{sem_start, msgq_start, signal_start, chan_start, observer_start}
 use Rattle.zk_worker.specs.Ranges.{step_fits, role_fits, AreObservers, StageFits, FrameFits, FramesFit, HasObjects}
 use Rattle.zk_worker.proofs.PollSteps.{is_source, poll_attempts-fit}
-use Rattle.zk_worker.proofs.StageFits.{ProgressFits, frames_progress-fits}
+use Rattle.zk_worker.proofs.StageFits.{ProgressFits}
 use Rattle.zk_worker.proofs.Limits.{settled-all, entered-all}
 
 -- an item that a call names is one of the items

@@ -1,5 +1,5 @@
 -- All that a player of a valid scenario attempts is in range, and stays so with each step.
-use Rattle.std.proofs.Common.{◌≡◌, ◌⊎◌, inl, inr, ℕ, zero, suc, ◌+◌, Bool, true, false, ◌||◌, Option, Some, None, List, [], ◌∷◌, ◌++◌, length, take, All, refl, sym, ap, subst, ◌∙◌, arith}
+use Rattle.std.proofs.Common.{◌≡◌, ◌⊎◌, inl, inr, ℕ, zero, suc, ◌+◌, Bool, true, false, ◌||◌, Option, Some, None, List, [], ◌∷◌, take, All, refl, sym, ap, subst, ◌∙◌, arith}
 use Rattle.std.specs.List.{slice_get, list_any}
 use Rattle.std.specs.Option.{option_map, option_map_or, option_and_then}
 use Rattle.std.proofs.lemmas.List.Elements.{All-nil, All-cons, All-head, All-tail, All-weaker}
@@ -37,10 +37,10 @@ use Rattle.zk_worker.specs.declared.steps.StepReply.{StepReply}
 use Rattle.zk_worker.specs.Checks.{check_of, call_check, role_check, top_check, next_check, check_step, oops_in, mode_after, start_mode}
 use Rattle.zk_worker.specs.Places.{At}
 use Rattle.zk_worker.specs.Protocol.{IsAhead, after, checked, moved, call_attempts, frames_attempts, frames_progress, frames_after, entered, first_frame, role_at, spot_of, starting, start_at}
-use Rattle.zk_worker.specs.Ranges.{step_fits, FramesFit, ReplyFits, HasObjects, is_start, HasBegun, is_free_at, IsUsers, ArePassedAt, ArePassed, IsFit, IsAsked, PassesFit}
+use Rattle.zk_worker.specs.Ranges.{step_fits, ReplyFits, HasBegun, is_free_at, IsUsers, ArePassedAt, ArePassed, IsFit, IsAsked, PassesFit}
 use Rattle.zk_worker.specs.Refs.{ref_declared}
 use Rattle.zk_worker.specs.TableSetup.{names_declared}
-use Rattle.zk_worker.proofs.CheckedSteps.{IsCheck, IsOwn, one-or-other, turn, check_at, check-of-top}
+use Rattle.zk_worker.proofs.CheckedSteps.{IsCheck, IsOwn, one-or-other, turn, check-of-top}
 use Rattle.zk_worker.proofs.Fits.{TopHasObjects, frames_attempts-fit, frames_after-fit, starting-fits}
 use Rattle.zk_worker.proofs.FreeCalls.{next-there, own-objects}
 use Rattle.zk_worker.proofs.Limits.{settled-all, entered-all}

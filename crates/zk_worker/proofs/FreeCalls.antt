@@ -1,5 +1,5 @@
 -- A call of a free line makes another step only where it has the objects that it needs.
-use Rattle.std.proofs.Common.{◌≡◌, ◌⊎◌, inl, inr, ℕ, zero, suc, ◌+◌, ◌≤◌, Bool, true, false, ◌&&◌, ◌||◌, Option, Some, None, List, [], ◌∷◌, ◌++◌, length, take, All, refl, sym, ap, subst, ◌∙◌, arith}
+use Rattle.std.proofs.Common.{◌≡◌, ℕ, zero, suc, Bool, true, false, ◌||◌, Option, Some, None, List, [], ◌∷◌, take, All, refl, sym, ap, subst, ◌∙◌}
 use Rattle.std.specs.List.{slice_get, list_any}
 use Rattle.std.specs.Option.{option_map, option_and_then}
 use Rattle.std.proofs.lemmas.Bool.{and_parts}
@@ -17,7 +17,6 @@ use Rattle.zk_scenario.specs.Parts.{Parts}
 use Rattle.zk_scenario.specs.Players.{calls_of}
 use Rattle.zk_scenario.specs.Valid.{IsValid, calls_fit}
 use Rattle.zk_scenario.proofs.Valid.{calls_fit-calls_of}
-use Rattle.zk_worker.specs.declared.checks.Check.{Check}
 use Rattle.zk_worker.specs.declared.checks.Mode.{Mode}
 use Rattle.zk_worker.specs.declared.checks.Mode.TheVariants.{User}
 use Rattle.zk_worker.specs.declared.frames.Frame.{Frame}
@@ -25,7 +24,7 @@ use Rattle.zk_worker.specs.declared.frames.Role.{Role}
 use Rattle.zk_worker.specs.declared.frames.Role.TheVariants.{Script, Worker}
 use Rattle.zk_worker.specs.declared.frames.Stage.{Stage}
 use Rattle.zk_worker.specs.declared.frames.Stage.TheVariants.{Start}
-use Rattle.zk_worker.specs.Checks.{check_of, call_check, role_check, next_check}
+use Rattle.zk_worker.specs.Checks.{check_of, call_check, next_check}
 use Rattle.zk_worker.specs.Ranges.{HasObjects, is_start, is_free_at, ArePassedAt}
 
 -- a call among others fits by whether its line is free

@@ -1,16 +1,13 @@
 -- The channels that the open scripts of a player hold, and the one that the innermost waits for, while others make their entries.
-use Rattle.std.proofs.Common.{◌≡◌, ◌≢◌, ◌⊎◌, inl, inr, ℕ, zero, suc, ◌+◌, ◌<◌, ◌≤◌, Bool, true, false, eqb, Option, Some, None, is_some, option_to_list, List, [], ◌∷◌, ◌++◌, length, length-append, All, refl, sym, ap, subst, ◌∙◌, arith}
+use Rattle.std.proofs.Common.{◌≡◌, ◌⊎◌, inl, inr, ℕ, zero, suc, ◌+◌, ◌≤◌, Bool, true, false, eqb, Option, Some, None, is_some, option_to_list, List, [], ◌∷◌, ◌++◌, length, length-append, All, refl, sym, ap, subst, ◌∙◌, arith}
 use Rattle.std.specs.List.{slice_get, list_any, IsDistinct}
 use Rattle.std.specs.Option.{option_map, option_and_then}
 use Rattle.std.proofs.lemmas.Option.{option_and_then_some, same_Some}
-use Rattle.zk_base.specs.declared.ids.Entry.{Entry}
 use Rattle.zk_base.specs.Legal.{state_after}
 use Rattle.zk_base.proofs.Histories.{state_after-append}
 use Rattle.zk_line.specs.declared.types.Call.{Call}
 use Rattle.zk_scenario.specs.Parts.{Parts}
 use Rattle.zk_scenario.specs.Players.{calls_of}
-use Rattle.zk_model_bus.specs.declared.channel.ChanOp.{ChanOp}
-use Rattle.zk_model_bus.specs.declared.channel.ChanReply.{ChanReply}
 use Rattle.zk_model_bus.specs.declared.channel.Manner.{Manner}
 use Rattle.zk_model_bus.specs.Channel.{Channel, is_claim, chan_machine}
 use Rattle.zk_model_bus.specs.ChannelLaws.{ChanHistory}
@@ -25,7 +22,6 @@ use Rattle.zk_worker.specs.declared.frames.Stage.TheVariants as stages
 use Rattle.zk_worker.specs.declared.frames.Progress.{Progress}
 use Rattle.zk_worker.specs.declared.frames.Progress.TheVariants.{Goes, Answers, Enters}
 use Rattle.zk_worker.specs.Calls.{plan_of}
-use Rattle.zk_worker.specs.Single.{OthersGrew}
 use Rattle.zk_worker.specs.Families.{start_of, EachGrew}
 use Rattle.zk_worker.specs.Machines.{machines_of}
 use Rattle.zk_worker.specs.StackLaws.{ChanHistories}

@@ -15,7 +15,6 @@ use Rattle.zk_scenario.specs.Parts.{Parts}
 use Rattle.zk_scenario.specs.Players.{calls_of}
 use Rattle.zk_words.specs.declared.timeout.Timeout.{Timeout}
 use Rattle.zk_words.specs.declared.word.Word.{Word}
-use Rattle.zk_worker.specs.declared.answers.Answer.{Answer}
 use Rattle.zk_worker.specs.declared.frames.Frame.{Frame}
 use Rattle.zk_worker.specs.declared.frames.Plan.{Plan}
 use Rattle.zk_worker.specs.declared.frames.Plan.TheVariants as plans
@@ -36,7 +35,6 @@ use Rattle.zk_worker.specs.CheckLaws.{is_check}
 use Rattle.zk_worker.specs.Checks.{is_oops}
 use Rattle.zk_worker.specs.Protocol.{call_attempts, call_progress, frames_attempts, frames_progress, role_attempts, role_progress, run_progress, worker_attempts, worker_progress}
 use Rattle.zk_worker.specs.Publishes.{asks_for, use_step, visit_step, channel_attempts, channel_progress, visits_answer}
-use Rattle.zk_worker.specs.Replies.{answer_of}
 use Rattle.zk_worker.specs.Waits.{wait_progress}
 use Rattle.zk_worker.proofs.OtherCalls.{is_channel, GoesWith, checks-none, no-oops, wait-calm, wait-goes, call-calm, plan-goes}
 

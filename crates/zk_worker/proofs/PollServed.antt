@@ -10,7 +10,7 @@ use Rattle.zk_base.specs.declared.ids.Entry.{Entry}
 use Rattle.zk_base.specs.History.{IsEntry}
 use Rattle.zk_base.specs.Legal.{Replays, state_after}
 use Rattle.zk_base.proofs.Histories.{Replays-rest}
-use Rattle.zk_base.proofs.Lists.{All-at, All-front, All-back, list_all-at}
+use Rattle.zk_base.proofs.Lists.{All-at, All-front, All-back}
 use Rattle.zk_line.specs.declared.events.Event.{Event}
 use Rattle.zk_line.specs.declared.events.TheConstants.{MOST_EVENTS}
 use Rattle.zk_line.specs.declared.types.Call.TheVariants as calls
@@ -31,7 +31,6 @@ use Rattle.zk_model_wait.specs.Clock.{new_clock, clock_machine}
 use Rattle.zk_model_wait.specs.MsgqLaws.{polls as polls_msgq}
 use Rattle.zk_model_wait.specs.SemLaws.{polls as polls_sem}
 use Rattle.zk_scenario.specs.Parts.{Parts}
-use Rattle.zk_scenario.specs.Players.{calls_of}
 use Rattle.zk_scenario.specs.Valid.{IsValid}
 use Rattle.zk_words.specs.declared.timeout.Timeout.{Timeout}
 use Rattle.zk_words.specs.declared.word.Word.{Word}

@@ -9,7 +9,6 @@ use Rattle.std.proofs.lemmas.Map.Made.{length-le_from_is_member}
 use Rattle.std.proofs.lemmas.List.Elements.{All-nil, All-cons, All-head, All-tail}
 use Rattle.zk_base.specs.declared.ids.Who.{Who}
 use Rattle.zk_base.specs.Legal.{state_after}
-use Rattle.zk_base.proofs.Lists.{cond_nil-at}
 use Rattle.zk_base.proofs.WaitsOnce.{eqb-same}
 use Rattle.zk_line.proofs.Tables.{length-places}
 use Rattle.zk_line.specs.Objects.{places, places_from, is_chan}
@@ -24,7 +23,6 @@ use Rattle.zk_scenario.specs.Valid.{IsValid}
 use Rattle.zk_words.specs.declared.word.Word.{Word}
 use Rattle.zk_model_work.specs.declared.ops.WorkReply.TheVariants as work_replies
 use Rattle.zk_worker.specs.declared.answers.Answer.{Answer}
-use Rattle.zk_worker.specs.declared.steps.TheConstants.{MOST_STEPS}
 use Rattle.zk_worker.specs.declared.steps.Step.{Step}
 use Rattle.zk_worker.specs.declared.steps.StepReply.{StepReply}
 use Rattle.zk_worker.specs.declared.steps.StepReply.TheVariants as step_replies
@@ -47,7 +45,7 @@ use Rattle.zk_worker.specs.PollLaws.{Made}
 use Rattle.zk_worker.specs.Protocol.{call_attempts, call_progress, role_attempts, role_progress, worker_progress, run_progress, frames_attempts, frames_progress, is_over, settled, entered, first_frame, frames_after, after, role_at, starting, start_at}
 use Rattle.zk_worker.specs.StackLaws.{ChanHistories, IsReplied, chans_after, IsPlayedAmong, HasRoomFor, AlwaysHasRoom, EachScriptIsEntered}
 use Rattle.zk_model_bus.specs.declared.table.OopsWhy.{OopsWhy}
-use Rattle.zk_worker.specs.Checks.{check_step, oops_in}
+use Rattle.zk_worker.specs.Checks.{oops_in}
 use Rattle.zk_worker.specs.Protocol.{IsAhead, checked, spot_of}
 use Rattle.zk_worker.proofs.CheckedSteps.{IsCheck, turn, check-apart, after-spots}
 use Rattle.zk_worker.proofs.HeldCalls.{channel-kept}

@@ -1,6 +1,6 @@
 -- What a valid scenario declares of objects, threads and permissions fits together.
-use Rattle.std.proofs.Common.{◌≡◌, ℕ, zero, suc, ◌+◌, ◌<◌, ◌≤◌, Bool, true, false, cond, nat_lt, not, ◌&&◌, Option, Some, None, List, [], ◌∷◌, ◌++◌, length, map, take, count_by, All, refl, sym, ap, subst, ◌∙◌, arith}
-use Rattle.std.specs.List.{slice_get, flat_map}
+use Rattle.std.proofs.Common.{◌≡◌, ℕ, zero, suc, ◌+◌, ◌<◌, Bool, true, false, cond, nat_lt, not, ◌&&◌, Option, Some, None, List, [], ◌∷◌, length, map, take, count_by, All, refl, sym, ap, subst, ◌∙◌, arith}
+use Rattle.std.specs.List.{slice_get}
 use Rattle.std.proofs.lemmas.Bool.{and_parts}
 use Rattle.std.proofs.lemmas.Bool.Decides.{nat_tests}
 use Rattle.std.proofs.lemmas.List.{length-map}
@@ -12,7 +12,7 @@ use Rattle.zk_line.proofs.Tables.{length-places}
 use Rattle.zk_line.specs.declared.types.Decl.{Decl}
 use Rattle.zk_line.specs.declared.types.Declared.{Declared}
 use Rattle.zk_line.specs.declared.types.Declared.TheVariants.{Object, Allow}
-use Rattle.zk_line.specs.Objects.{kind_of, is_at, is_thread, is_raw, number_of, places_from, places}
+use Rattle.zk_line.specs.Objects.{kind_of, is_at, is_thread, is_raw, places_from, places}
 use Rattle.zk_model_bus.specs.declared.kinds.Kind.{Kind}
 use Rattle.zk_model_bus.specs.declared.kinds.Kind.TheVariants as kinds
 use Rattle.zk_model_bus.specs.Table as tables
@@ -20,7 +20,7 @@ use Rattle.zk_model_bus.specs.Table.{IsSetup}
 use Rattle.zk_scenario.proofs.Valid.{number_of-thread}
 use Rattle.zk_scenario.specs.Parts.{Parts}
 use Rattle.zk_scenario.specs.Valid.{IsValid}
-use Rattle.zk_scenario.specs.Written.{is_object, objects_in, is_allowed, permission_in, permissions, allowed, follows, AreInOrder}
+use Rattle.zk_scenario.specs.Written.{is_object, objects_in, is_allowed, permission_in, permissions, allowed, AreInOrder}
 use Rattle.zk_worker.specs.TableSetup.{thread_of, permission_of, setup_of}
 
 -- Objects of a kind, in declared order.

@@ -1,10 +1,10 @@
 -- A user's call makes its checks before all else, and a check that fails is its player's last step.
-use Rattle.std.proofs.Common.{◌≡◌, ◌⊎◌, inl, inr, ℕ, zero, suc, ◌+◌, Bool, true, false, cond, ◌&&◌, ◌||◌, nat_lt, Option, Some, None, is_some, List, [], ◌∷◌, ◌++◌, map, take, length, length-append, append-nil, append_assoc, refl, sym, ap, subst, ◌∙◌, arith}
+use Rattle.std.proofs.Common.{◌≡◌, ◌⊎◌, inl, inr, ℕ, zero, suc, ◌+◌, Bool, true, false, cond, ◌&&◌, ◌||◌, nat_lt, Option, Some, None, is_some, List, [], ◌∷◌, ◌++◌, take, length, length-append, append-nil, append_assoc, refl, sym, ap, subst, ◌∙◌, arith}
 use Rattle.std.specs.List.{slice_get, list_any, AllZip}
 use Rattle.std.specs.Option.{option_map, option_map_or, option_and_then}
 use Rattle.std.proofs.lemmas.List.Folds.{list_any-append}
 use Rattle.std.proofs.lemmas.Option.{option_and_then_some, slice_get-map, same_Some}
-use Rattle.zk_base.proofs.Lists.{slice_get-one, cond_nil-at}
+use Rattle.zk_base.proofs.Lists.{cond_nil-at}
 use Rattle.zk_line.specs.Calls.{word_of}
 use Rattle.zk_line.specs.Needs.{needs_of}
 use Rattle.zk_line.specs.Objects.{is_at, is_user}
@@ -34,14 +34,13 @@ use Rattle.zk_model_bus.specs.declared.table.TableOp.TheVariants as table_ops
 use Rattle.zk_worker.specs.declared.steps.Spot.{Spot}
 use Rattle.zk_worker.specs.declared.steps.Step.{Step}
 use Rattle.zk_worker.specs.declared.steps.Step.TheVariants as steps
-use Rattle.zk_worker.specs.declared.steps.StepReply.{StepReply}
 use Rattle.zk_worker.specs.CheckLaws.{checks_of, Passes, ArePassed, is_check, fails, enters_user, starts_as_user, is_user_behind, IsLed}
-use Rattle.zk_worker.specs.CheckLaws.{BeginsCall, IsNextCheck, IsBehindChecks, IsCheckedIn, IsChecked, AreChecked, tells_oops, has_oops, EndedByOops, EachUserIsChecked}
+use Rattle.zk_worker.specs.CheckLaws.{IsNextCheck, IsBehindChecks, IsCheckedIn, IsChecked, AreChecked, tells_oops, has_oops, EndedByOops, EachUserIsChecked}
 use Rattle.zk_worker.specs.Checks.{check_of, call_check, role_check, top_check, next_check, check_step, oops_in, is_oops, mode_after, start_mode}
-use Rattle.zk_worker.specs.Follows.{IsPlayed, IsFollowing, is_dead}
+use Rattle.zk_worker.specs.Follows.{IsPlayed, is_dead}
 use Rattle.zk_worker.specs.Places.{At}
 use Rattle.zk_worker.specs.PollLaws.{Made}
-use Rattle.zk_worker.specs.Protocol.{IsAhead, attempts, checks_first, after, after_by, checked, moved, call_attempts, frames_attempts, frames_progress, frames_after, answers_after, is_over, settled, entered, first_frame, role_at, spot_of, starting, start_at}
+use Rattle.zk_worker.specs.Protocol.{IsAhead, checks_first, after, after_by, checked, moved, call_attempts, frames_attempts, frames_progress, frames_after, answers_after, is_over, settled, entered, first_frame, role_at, spot_of, starting, start_at}
 use Rattle.zk_worker.specs.Ranges.{is_start}
 use Rattle.zk_worker.proofs.CheckedSteps.{IsCheck, IsOwn, one-or-other, check_at, check-of-top, check-starts}
 use Rattle.zk_worker.proofs.CheckedSteps.{after-spots}

@@ -1,12 +1,12 @@
 -- A publish or notify that came to its end has visited the observers that it was told, and a read has read; no step uses a channel that its player doesn't own, and each freeing ends such a call.
-use Rattle.std.proofs.Common.{◌≡◌, ℕ, ◌+◌, Bool, true, false, eqb, ◌||◌, nat_lt, Option, Some, None, option_to_list, List, [], ◌∷◌, ◌++◌, length, length-append, append_assoc, append-nil, All, refl, sym, ap, subst, ◌∙◌, arith}
+use Rattle.std.proofs.Common.{◌≡◌, ℕ, ◌+◌, Bool, true, false, eqb, ◌||◌, Option, Some, None, option_to_list, List, [], ◌∷◌, ◌++◌, length, length-append, append_assoc, append-nil, All, refl, sym, ap, subst, ◌∙◌, arith}
 use Rattle.std.specs.List.{slice_get, list_any, IsDistinct}
 use Rattle.std.specs.Option.{option_map, option_map_or, option_and_then}
 use Rattle.std.proofs.lemmas.Bool.Decides.{nat_tests}
 use Rattle.std.proofs.lemmas.List.Elements.{All-nil, All-cons, All-append, All-head, All-tail}
 use Rattle.std.proofs.lemmas.Option.{option_and_then_some, same_Some}
 use Rattle.zk_base.specs.declared.ids.Who.{Who}
-use Rattle.zk_base.proofs.Lists.{cond_nil-at, slice_get-one}
+use Rattle.zk_base.proofs.Lists.{slice_get-one}
 use Rattle.zk_line.specs.Calls.{word_of}
 use Rattle.zk_line.specs.declared.types.Call.{Call}
 use Rattle.zk_line.specs.declared.types.Call.TheVariants as calls
@@ -27,7 +27,6 @@ use Rattle.zk_worker.specs.declared.frames.Role.{Role}
 use Rattle.zk_worker.specs.declared.frames.Role.TheVariants.{Script, Worker}
 use Rattle.zk_worker.specs.declared.frames.Stage.{Stage}
 use Rattle.zk_worker.specs.declared.frames.Stage.TheVariants as stages
-use Rattle.zk_worker.specs.declared.steps.TheConstants.{MOST_STEPS}
 use Rattle.zk_worker.specs.declared.steps.Step.{Step}
 use Rattle.zk_worker.specs.declared.steps.Step.TheVariants as steps
 use Rattle.zk_worker.specs.declared.steps.StepReply.{StepReply}

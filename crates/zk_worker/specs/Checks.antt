@@ -14,7 +14,7 @@ use Rattle.zk_worker.specs.declared.answers.Answer.{Answer}
 use Rattle.zk_worker.specs.declared.answers.Answer.TheVariants.{Oops}
 use Rattle.zk_worker.specs.declared.checks.Check.{Check}
 use Rattle.zk_worker.specs.declared.checks.Mode.{Mode}
-use Rattle.zk_worker.specs.declared.checks.Mode.TheVariants.{Supervisor, User, Dead}
+use Rattle.zk_worker.specs.declared.checks.Mode.TheVariants.{Supervisor, User}
 use Rattle.zk_worker.specs.declared.frames.Frame.{Frame}
 use Rattle.zk_worker.specs.declared.frames.Role.{Role}
 use Rattle.zk_worker.specs.declared.frames.Role.TheVariants.{Script}

@@ -1,4 +1,4 @@
-use Rattle.std.specs.Prelude.{ℕ, Bool, true, false, not, ◌&&◌, Option, Some, None, List, map}
+use Rattle.std.specs.Prelude.{ℕ, Bool, true, not, ◌&&◌, Some, None, List, map}
 use Rattle.zk_line.specs.declared.types.Decl.{Decl}
 use Rattle.zk_line.specs.Objects.{kind_of, is_raw, is_user, is_thread, is_at, is_met, number_of, places}
 use Rattle.zk_model_bus.specs.declared.kinds.Need.TheVariants as needs
