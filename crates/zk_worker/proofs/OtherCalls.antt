@@ -87,9 +87,12 @@ held-step s chans who n (steps.Chan object op) reply frees is chan held =
     (held-after s chans who n object chan op told.reply held (λ same. not-free object op frees))
 held-step s chans who n step reply frees is chan held = held
 
--- what holds of one attempt
+-- what a test says of one attempt
+pub only-one : (test : Step → Bool) (only : Step) (k : ℕ) (step : Step) → test only ≡ false → slice_get (only ∷ []) k ≡ Some step → test step ≡ false
+only-one test only k step fails is = subst (λ (x : Step). test x ≡ false) (slice_get-one only step k is) fails
+
 of-one : (only : Step) (k : ℕ) (step : Step) → uses_or_checks only ≡ false → slice_get (only ∷ []) k ≡ Some step → uses_or_checks step ≡ false
-of-one only k step calm is = subst (λ (x : Step). uses_or_checks x ≡ false) (slice_get-one only step k is) calm
+of-one only k step calm is = only-one uses_or_checks only k step calm is
 
 open-calm : (waiting : Waiting) (waits : Bool) → uses_or_checks (open_step waiting waits) ≡ false
 open-calm (waitings.Take object) waits = refl

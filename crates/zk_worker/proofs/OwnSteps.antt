@@ -1,7 +1,6 @@
 -- A step of an open script or run, other than the checks of a user's call, is no check, and its call is answered by no oops.
 use Rattle.std.proofs.Common.{◌≡◌, ℕ, Bool, true, false, Option, Some, None, List, [], ◌∷◌, refl, sym, subst}
 use Rattle.std.specs.List.{slice_get}
-use Rattle.zk_base.proofs.Lists.{slice_get-one}
 use Rattle.zk_line.specs.Calls.{word_of}
 use Rattle.zk_line.specs.Objects.{number_of, places, is_item}
 use Rattle.zk_line.specs.declared.types.Call.{Call}
@@ -36,25 +35,21 @@ use Rattle.zk_worker.specs.Checks.{is_oops}
 use Rattle.zk_worker.specs.Protocol.{call_attempts, call_progress, frames_attempts, frames_progress, role_attempts, role_progress, run_progress, worker_attempts, worker_progress}
 use Rattle.zk_worker.specs.Publishes.{asks_for, use_step, visit_step, channel_attempts, channel_progress, visits_answer}
 use Rattle.zk_worker.specs.Waits.{wait_progress}
-use Rattle.zk_worker.proofs.OtherCalls.{is_channel, GoesWith, checks-none, no-oops, wait-calm, wait-goes, call-calm, plan-goes}
+use Rattle.zk_worker.proofs.OtherCalls.{is_channel, GoesWith, only-one, checks-none, no-oops, wait-calm, wait-goes, call-calm, plan-goes}
 
 -- No check.
 
--- what holds of one attempt
-only-one : (only : Step) (k : ℕ) (step : Step) → is_check only ≡ false → slice_get (only ∷ []) k ≡ Some step → is_check step ≡ false
-only-one only k step plain is = subst (λ (x : Step). is_check x ≡ false) (slice_get-one only step k is) plain
-
 channel-no-check : (chan : ℕ) (using_ : Using) (timeout : Timeout) (stage : Stage) (k : ℕ) (step : Step) → slice_get (channel_attempts chan using_ timeout stage) k ≡ Some step → is_check step ≡ false
-channel-no-check chan using_ timeout stages.Holds k step is = only-one (use_step chan using_) k step (by using_) is where
+channel-no-check chan using_ timeout stages.Holds k step is = only-one is_check (use_step chan using_) k step (by using_) is where
   by : (using_ : Using) → is_check (use_step chan using_) ≡ false
   by (Publish message) = refl
   by Notify = refl
   by Read = refl
-channel-no-check chan using_ timeout (stages.Visits left full) k step is = only-one (visit_step chan left) k step (by left) is where
+channel-no-check chan using_ timeout (stages.Visits left full) k step is = only-one is_check (visit_step chan left) k step (by left) is where
   by : (left : List ℕ) → is_check (visit_step chan left) ≡ false
   by [] = refl
   by (observer ∷ more) = refl
-channel-no-check chan using_ timeout (stages.Reads message) k step is = only-one (steps.Chan chan chan_ops.Free) k step refl is
+channel-no-check chan using_ timeout (stages.Reads message) k step is = only-one is_check (steps.Chan chan chan_ops.Free) k step refl is
 channel-no-check chan using_ timeout stage k step is = checks-none step (wait-calm (asks_for chan using_) timeout stage k step is)
 
 plan-no-check : (decls : List Decl) (call : Call) (plan : Plan) → plan_of decls call ≡ plan → (stage : Stage) (k : ℕ) (step : Step) → slice_get (plan_attempts (plan_of decls call) stage) k ≡ Some step →
@@ -68,8 +63,8 @@ call-no-check decls None stage k step is = absurd (cc)
 call-no-check decls (Some call) stage k step is = plan-no-check decls call (plan_of decls call) refl stage k step is
 
 worker-no-check : (queue : ℕ) (stage : Stage) (k : ℕ) (step : Step) → slice_get (worker_attempts queue stage) k ≡ Some step → is_check step ≡ false
-worker-no-check queue stages.Start k step is = only-one (steps.Work (work_ops.Begin queue)) k step refl is
-worker-no-check queue stages.Runs k step is = only-one (steps.Work (work_ops.End queue)) k step refl is
+worker-no-check queue stages.Start k step is = only-one is_check (steps.Work (work_ops.Begin queue)) k step refl is
+worker-no-check queue stages.Runs k step is = only-one is_check (steps.Work (work_ops.End queue)) k step refl is
 worker-no-check queue stage k step is = absurd (cc)
 
 -- a script or run makes none of its own

@@ -53,6 +53,7 @@ use Rattle.zk_worker.specs.declared.answers.Answer.TheVariants.{Oops}
 use Rattle.zk_worker.specs.declared.checks.Check.{Check}
 use Rattle.zk_worker.specs.Checks.{is_oops, oops_in, top_check}
 use Rattle.zk_worker.specs.Protocol.{checked, moved}
+use Rattle.zk_worker.proofs.OtherCalls.{EntersNone, plan-plain}
 use Rattle.zk_worker.proofs.CheckedSteps.{IsCheck, IsOwn, turn, check-of-top, check-starts}
 
 -- where a step answers a call, it answers it as the call that it is
@@ -124,23 +125,6 @@ plan-call word (Twice first second) stage made reply = refl
 plan-call word (Wait waiting timeout) stage made reply = wait-call word stage reply
 plan-call word (Poll timeout events) stage made reply = poll-call word timeout events stage made reply
 plan-call word (Channel chan using timeout) stage made reply = channel-call word stage reply
-
--- a poll enters no script
-abbrev EntersNone : Progress → Type 0
-EntersNone (Enters owner stage) = ⊥
-EntersNone progress = Unit {0}
-
-goes-enters : (word : Word) (timeout : Timeout) (events : List Event) (alarm : Alarm) (marks : List Mark) → EntersNone (poll_goes word timeout events alarm marks)
-goes-enters word timeout events alarm marks = by (is_answered timeout events alarm marks) where
-  by : (b : Bool) → EntersNone (cond b (Answers word (poll_answer marks)) (Goes (Polls alarm marks)))
-  by true = tt
-  by false = tt
-
-poll-enters : (word : Word) (timeout : Timeout) (events : List Event) (stage : Stage) (made : Step) (reply : StepReply) → EntersNone (poll_progress word timeout events stage made reply)
-poll-enters word timeout events Start made (step_replies.Clock (clock_replies.At moment) place) = tt
-poll-enters word timeout events Start made reply = goes-enters word timeout events (alarm_after Unset reply) (marked fresh (event_of events Unset fresh made) (mark_of reply))
-poll-enters word timeout events (Polls alarm marks) made reply = goes-enters word timeout events (alarm_after alarm reply) (marked marks (event_of events alarm marks made) (mark_of reply))
-poll-enters word timeout events stage made reply = tt
 
 -- a call of this word is a poll
 poll-word : (call : Call) → word_of call ≡ words.Poll → (timeout : Timeout) × (events : List Event) × (call ≡ calls.Poll timeout events)
@@ -235,7 +219,7 @@ role-enters : (s : Parts) (m : Made) (role : Role) (next : ℕ) (stage : Stage) 
 role-enters s m (Worker queue) next stage index owner end ahead comes = tt
 role-enters s m (Script at) next stage index owner end ahead comes = λ timeout events call.
     let leads = poll-leads s at next stage m index (Enters owner end) timeout events call ahead comes in
-    subst EntersNone leads.comes (poll-enters words.Poll timeout events stage m.0 m.1)
+    subst EntersNone leads.comes (plan-plain words.Poll (Poll timeout events) stage m.0 m.1 refl)
 
 run-answers : (owner : Option ℕ) (word : Word) (answer : Answer) → run_progress owner ≡ Answers word answer → ⊥
 run-answers None word answer is = cc
