@@ -1,5 +1,6 @@
-ghost use Rattle.std.specs.Prelude.{◌≡◌, [], ◌∷◌, ◌++◌, map, OnOk};
+ghost use Rattle.std.specs.Prelude.{◌≡◌, [], ◌∷◌, ◌++◌, map, OnOk, OnErr};
 ghost use Rattle.std.specs.Fmt.{signed_decimal};
+ghost use Rattle.zk_base.specs.Fronts.{StaysInFront};
 ghost use Rattle.zk_line.specs.Args.{arg_text, event_text, ref_name};
 ghost use Rattle.zk_line.specs.Calls.{standing, events_said};
 ghost use Rattle.zk_line.specs.Decls.{channel_said, objects_said};
@@ -18,9 +19,10 @@ use zk_base::{NoMemory, put, put_decimal};
 use zk_words::{Head, Source, Timeout, choice_text, put_hex, put_validator, row_of, source_text};
 
 /// Appends the line of a declaration. As below, no line feed is written, and after an error a part of
-/// the line may stand there.
+/// the line may stand behind what was there.
 pub fn put_decl(out: &mut Vec<u8>, decls: &[Decl], decl: &Decl) -> Result<(), NoMemory>
-    ensures { OnOk result (out.new.items ≡ out.old.items ++ decl_line decls.now decl.now) }
+    ensures text { OnOk result (out.new.items ≡ out.old.items ++ decl_line decls.now decl.now) }
+    ensures kept { OnErr result (StaysInFront out.old.items out.new.items) }
 {
     let written = written_of(decl);
     put_said(out, decls, Head::Declare(written.kind), &written.args)?;
@@ -34,7 +36,8 @@ pub fn put_allow(
     thread: u32,
     object: u32,
 ) -> Result<(), NoMemory>
-    ensures { OnOk result (out.new.items ≡ out.old.items ++ allow_line decls.now thread object) }
+    ensures text { OnOk result (out.new.items ≡ out.old.items ++ allow_line decls.now thread object) }
+    ensures kept { OnErr result (StaysInFront out.old.items out.new.items) }
 {
     let thread = Arg::Object(Ref::Known(thread));
     let object = Arg::Object(Ref::Known(object));
@@ -43,7 +46,8 @@ pub fn put_allow(
 
 /// The line of a call.
 pub fn put_call(out: &mut Vec<u8>, decls: &[Decl], call: &Call) -> Result<(), NoMemory>
-    ensures { OnOk result (out.new.items ≡ out.old.items ++ call_line decls.now call.now) }
+    ensures text { OnOk result (out.new.items ≡ out.old.items ++ call_line decls.now call.now) }
+    ensures kept { OnErr result (StaysInFront out.old.items out.new.items) }
 {
     let said = said_of(call);
     put_said(out, decls, Head::Call(said.word), &said.args)?;
@@ -57,21 +61,24 @@ pub fn put_said(
     head: Head,
     args: &[Option<Arg>],
 ) -> Result<(), NoMemory>
-    ensures { OnOk result (out.new.items ≡ out.old.items ++ said_line decls.now head (standing args.now)) }
+    ensures text { OnOk result (out.new.items ≡ out.old.items ++ said_line decls.now head (standing args.now)) }
+    ensures kept { OnErr result (StaysInFront out.old.items out.new.items) }
 {
     put_first(out, head)?;
     put_args(out, decls, args)
 }
 
 fn put_first(out: &mut Vec<u8>, head: Head) -> Result<(), NoMemory>
-    ensures { OnOk result (out.new.items ≡ out.old.items ++ (row_of head).first) }
+    ensures text { OnOk result (out.new.items ≡ out.old.items ++ (row_of head).first) }
+    ensures kept { OnErr result (StaysInFront out.old.items out.new.items) }
 {
     put(out, row_of(head).first)
 }
 
 fn put_args(out: &mut Vec<u8>, decls: &[Decl], args: &[Option<Arg>]) -> Result<(), NoMemory>
-    ensures { OnOk result
+    ensures text { OnOk result
         (out.new.items ≡ out.old.items ++ behind (map (arg_text decls.now) (standing args.now))) }
+    ensures kept { OnErr result (StaysInFront out.old.items out.new.items) }
 {
     let mut args = args;
     while let [arg, more @ ..] = args {
@@ -82,8 +89,9 @@ fn put_args(out: &mut Vec<u8>, decls: &[Decl], args: &[Option<Arg>]) -> Result<(
 }
 
 fn put_some(out: &mut Vec<u8>, decls: &[Decl], arg: &Option<Arg>) -> Result<(), NoMemory>
-    ensures { OnOk result
+    ensures text { OnOk result
         (out.new.items ≡ out.old.items ++ behind (map (arg_text decls.now) (standing (arg.now ∷ [])))) }
+    ensures kept { OnErr result (StaysInFront out.old.items out.new.items) }
 {
     match arg {
         Some(arg) => {
@@ -96,7 +104,8 @@ fn put_some(out: &mut Vec<u8>, decls: &[Decl], arg: &Option<Arg>) -> Result<(), 
 
 /// The one spelling of what a word says.
 fn put_arg(out: &mut Vec<u8>, decls: &[Decl], arg: &Arg) -> Result<(), NoMemory>
-    ensures { OnOk result (out.new.items ≡ out.old.items ++ arg_text decls.now arg.now) }
+    ensures text { OnOk result (out.new.items ≡ out.old.items ++ arg_text decls.now arg.now) }
+    ensures kept { OnErr result (StaysInFront out.old.items out.new.items) }
 {
     match arg {
         Arg::Name(name) => put(out, name.bytes()),
@@ -114,8 +123,9 @@ fn put_arg(out: &mut Vec<u8>, decls: &[Decl], arg: &Arg) -> Result<(), NoMemory>
 
 /// What stands behind the name of a channel, where there is one.
 fn put_channel(out: &mut Vec<u8>, decls: &[Decl], channel: &Option<Channel>) -> Result<(), NoMemory>
-    ensures { OnOk result
+    ensures text { OnOk result
         (out.new.items ≡ out.old.items ++ behind (map (arg_text decls.now) (channel_said channel.now))) }
+    ensures kept { OnErr result (StaysInFront out.old.items out.new.items) }
 {
     match channel {
         Some(channel) => {
@@ -132,8 +142,9 @@ fn put_channel(out: &mut Vec<u8>, decls: &[Decl], channel: &Option<Channel>) -> 
 }
 
 fn put_objects(out: &mut Vec<u8>, decls: &[Decl], objects: &[u32]) -> Result<(), NoMemory>
-    ensures { OnOk result
+    ensures text { OnOk result
         (out.new.items ≡ out.old.items ++ behind (map (arg_text decls.now) (objects_said objects.now))) }
+    ensures kept { OnErr result (StaysInFront out.old.items out.new.items) }
 {
     let mut objects = objects;
     while let [object, more @ ..] = objects {
@@ -146,8 +157,9 @@ fn put_objects(out: &mut Vec<u8>, decls: &[Decl], objects: &[u32]) -> Result<(),
 
 /// The events of a poll, each behind a space, where there are any.
 fn put_events(out: &mut Vec<u8>, decls: &[Decl], events: &Option<Events>) -> Result<(), NoMemory>
-    ensures { OnOk result
+    ensures text { OnOk result
         (out.new.items ≡ out.old.items ++ behind (map (arg_text decls.now) (events_said events.now))) }
+    ensures kept { OnErr result (StaysInFront out.old.items out.new.items) }
 {
     match events {
         Some(events) => put_each_event(out, decls, events.items()),
@@ -156,8 +168,9 @@ fn put_events(out: &mut Vec<u8>, decls: &[Decl], events: &Option<Events>) -> Res
 }
 
 fn put_each_event(out: &mut Vec<u8>, decls: &[Decl], events: &[Event]) -> Result<(), NoMemory>
-    ensures { OnOk result
+    ensures text { OnOk result
         (out.new.items ≡ out.old.items ++ behind (map (arg_text decls.now) (map Arg.Event events.now))) }
+    ensures kept { OnErr result (StaysInFront out.old.items out.new.items) }
 {
     let mut events = events;
     while let [event, more @ ..] = events {
@@ -169,7 +182,8 @@ fn put_each_event(out: &mut Vec<u8>, decls: &[Decl], events: &[Event]) -> Result
 }
 
 fn put_event(out: &mut Vec<u8>, decls: &[Decl], event: &Event) -> Result<(), NoMemory>
-    ensures { OnOk result (out.new.items ≡ out.old.items ++ event_text decls.now event.now) }
+    ensures text { OnOk result (out.new.items ≡ out.old.items ++ event_text decls.now event.now) }
+    ensures kept { OnErr result (StaysInFront out.old.items out.new.items) }
 {
     match event {
         Event::Ignore => put(out, b"ignore"),
@@ -185,22 +199,25 @@ fn put_source(
     source: Source,
     object: &Ref,
 ) -> Result<(), NoMemory>
-    ensures { OnOk result
+    ensures text { OnOk result
         (out.new.items ≡ out.old.items ++ source_text source ++ ref_name decls.now object.now) }
+    ensures kept { OnErr result (StaysInFront out.old.items out.new.items) }
 {
     put(out, source_text(source))?;
     put(out, ref_name(decls, object))
 }
 
 fn put_priority(out: &mut Vec<u8>, prio: i8) -> Result<(), NoMemory>
-    ensures { OnOk result (out.new.items ≡ out.old.items ++ signed_decimal prio) }
+    ensures text { OnOk result (out.new.items ≡ out.old.items ++ signed_decimal prio) }
+    ensures kept { OnErr result (StaysInFront out.old.items out.new.items) }
 {
     let mut digits = Buffer::new();
     put(out, digits.format(prio).as_bytes())
 }
 
 fn put_wait(out: &mut Vec<u8>, wait: Timeout) -> Result<(), NoMemory>
-    ensures { OnOk result (out.new.items ≡ out.old.items ++ wait_text wait) }
+    ensures text { OnOk result (out.new.items ≡ out.old.items ++ wait_text wait) }
+    ensures kept { OnErr result (StaysInFront out.old.items out.new.items) }
 {
     match wait {
         Timeout::No => put(out, b"no"),

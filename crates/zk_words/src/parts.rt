@@ -56,7 +56,7 @@ impl<'a> Parts<'a> {
     /// The next word with its slot.
     #[tactic(auto, using(crate::proofs::Placed::parts_of_none))]
     pub fn next(&mut self) -> Option<Part<'a>>
-        ensures { MatchOption result (self.old ≡ [])
+        ensures { MatchOption result ((self.old ≡ []) × (self.new ≡ []))
             (λ part. self.old ≡ placed part.slot part.text.now ∷ self.new) }
     {
         let Some(text) = self.words.next() else {

@@ -50,7 +50,7 @@ impl<'a, const SEPARATOR: u8> Pieces<'a, SEPARATOR> {
 
     /// The next piece, and nothing from the end of the text on.
     pub fn next(&mut self) -> Option<&'a [u8]>
-        ensures { MatchOption result (self.old ≡ []) (λ piece. self.old ≡ piece.now ∷ self.new) }
+        ensures { MatchOption result ((self.old ≡ []) × (self.new ≡ [])) (λ piece. self.old ≡ piece.now ∷ self.new) }
     {
         if !self.more {
             return None;

@@ -1,4 +1,5 @@
-ghost use Rattle.std.specs.Prelude.{◌≡◌, ◌++◌, OnOk};
+ghost use Rattle.std.specs.Prelude.{◌≡◌, ◌++◌, OnOk, OnErr};
+ghost use Rattle.zk_base.specs.Fronts.{StaysInFront};
 ghost use Rattle.zk_words.specs.Validators.{byte_of, validator_of, validator_text};
 
 use crate::event::behind;
@@ -33,9 +34,10 @@ fn byte_of(word: &[u8]) -> Option<u8>
     }
 }
 
-/// Appends the one spelling of what messages a channel takes. After an error a part may stand there.
+/// Appends the one spelling of what messages a channel takes. After an error a part may stand behind what was there.
 pub fn put_validator(out: &mut Vec<u8>, valid: Valid) -> Result<(), NoMemory>
-    ensures { OnOk result (out.new.items ≡ out.old.items ++ validator_text valid) }
+    ensures text { OnOk result (out.new.items ≡ out.old.items ++ validator_text valid) }
+    ensures kept { OnErr result (StaysInFront out.old.items out.new.items) }
 {
     match valid {
         Valid::Any => put(out, b"any"),
