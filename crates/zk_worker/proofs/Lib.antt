@@ -35,6 +35,7 @@ pub mod OwnEntries
 pub mod ChannelSteps
 pub mod HeldCalls
 pub mod OtherCalls
+pub mod CallsPlayed
 pub mod OwnSteps
 pub mod ScriptsEntered
 pub mod LogsPlayed

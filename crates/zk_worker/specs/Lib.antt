@@ -1,4 +1,5 @@
 pub mod Attempt
+pub mod CallLaws
 pub mod Calls
 pub mod CheckLaws
 pub mod Checks

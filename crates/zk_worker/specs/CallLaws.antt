@@ -1,0 +1,121 @@
+use Rattle.std.specs.Prelude.{◌≡◌, ◌⊎◌, ℕ, ◌+◌, ◌||◌, Bool, true, false, Option, Some, None, List, [], ◌∷◌, ◌++◌, length, slice_get, All}
+use Rattle.zk_line.specs.Calls.{word_of}
+use Rattle.zk_line.specs.declared.types.Call.{Call}
+use Rattle.zk_model_bus.specs.declared.channel.ChanReply.TheVariants as chan_replies
+use Rattle.zk_model_bus.specs.declared.observer.ObsReply.TheVariants as obs_replies
+use Rattle.zk_model_wait.specs.declared.clock.ClockOp.TheVariants as clock_ops
+use Rattle.zk_model_wait.specs.declared.clock.ClockReply.TheVariants as clock_replies
+use Rattle.zk_model_wait.specs.declared.msgq.MsgqReply.TheVariants as msgq_replies
+use Rattle.zk_model_wait.specs.declared.sem.SemReply.TheVariants as sem_replies
+use Rattle.zk_model_work.specs.declared.ops.WorkReply.TheVariants as work_replies
+use Rattle.zk_scenario.specs.Parts.{Parts}
+use Rattle.zk_words.specs.declared.timeout.Timeout.TheVariants.{No, Forever, Ticks}
+use Rattle.zk_words.specs.declared.word.Word.{Word}
+use Rattle.zk_worker.specs.declared.answers.Answer.{Answer}
+use Rattle.zk_worker.specs.declared.answers.Answered.{Answered}
+use Rattle.zk_worker.specs.declared.frames.Frame.{Frame}
+use Rattle.zk_worker.specs.declared.frames.Plan.{Plan}
+use Rattle.zk_worker.specs.declared.frames.Plan.TheVariants.{One, Pair, Twice, Wait, Poll, Channel}
+use Rattle.zk_worker.specs.declared.frames.Waiting.{Waiting}
+use Rattle.zk_worker.specs.declared.steps.Step.{Step}
+use Rattle.zk_worker.specs.declared.steps.Step.TheVariants as steps
+use Rattle.zk_worker.specs.declared.steps.StepReply.{StepReply}
+use Rattle.zk_worker.specs.declared.steps.StepReply.TheVariants as step_replies
+use Rattle.zk_worker.specs.Calls.{plan_of, closing_step}
+use Rattle.zk_worker.specs.CheckLaws.{BeginsCall}
+use Rattle.zk_worker.specs.Checks.{is_oops}
+use Rattle.zk_worker.specs.Follows.{IsFollowing}
+use Rattle.zk_worker.specs.Places.{At}
+use Rattle.zk_worker.specs.PollLaws.{Made}
+use Rattle.zk_worker.specs.Replies.{answer_of}
+use Rattle.zk_worker.specs.Shown.{Shown}
+use Rattle.zk_worker.specs.StackLogs.{ShowsLegalClock}
+use Rattle.zk_worker.specs.VisitLaws.{is_publish, is_read}
+use Rattle.zk_worker.specs.Waits.{open_step, end_step, quit_step}
+
+-- the place of the entry by which a call waits, where this reply tells it to
+abbrev pub waits_at : StepReply → Option ℕ
+waits_at (step_replies.Work work_replies.Wait place) = Some place
+waits_at (step_replies.Work (work_replies.WaitFor admission) place) = Some place
+waits_at (step_replies.Sem object sem_replies.Wait place) = Some place
+waits_at (step_replies.Msgq object msgq_replies.Wait place) = Some place
+waits_at (step_replies.Chan object chan_replies.Wait place) = Some place
+waits_at (step_replies.Obs object obs_replies.Wait place) = Some place
+waits_at reply = None
+
+-- this step alone was made, and its reply is the answer
+abbrev pub IsToldBy : Step → List Made → Answer → Type 0
+IsToldBy step play answer = (reply : StepReply) × (play ≡ (step, reply) ∷ []) × (answer ≡ answer_of reply)
+
+-- these two were made, and the reply to the second is the answer
+abbrev pub IsToldByBoth : Step → Step → List Made → Answer → Type 0
+IsToldByBoth first second play answer =
+    (earlier reply : StepReply) × (play ≡ (first, earlier) ∷ (second, reply) ∷ []) × (answer ≡ answer_of reply)
+
+-- the step that may begin a wait began none, and its reply is the answer
+abbrev pub IsToldAtOnce : Step → List Made → Answer → Type 0
+IsToldAtOnce opening play answer =
+    (reply : StepReply) × (waits_at reply ≡ None) × (play ≡ (opening, reply) ∷ []) × (answer ≡ answer_of reply)
+
+-- it began a wait, the next step was the end of that wait, and the reply to this is the answer
+abbrev pub IsToldAtTheEnd : Step → (ℕ → Step) → List Made → Answer → Type 0
+IsToldAtTheEnd opening closing play answer =
+    (waited reply : StepReply) × (place : ℕ) × (waits_at waited ≡ Some place)
+    × (play ≡ (opening, waited) ∷ (closing place, reply) ∷ []) × (answer ≡ answer_of reply)
+
+-- one of the two
+abbrev pub IsTold : Step → (ℕ → Step) → List Made → Answer → Type 0
+IsTold opening closing play answer =
+    IsToldAtOnce opening play answer ⊎ IsToldAtTheEnd opening closing play answer
+
+-- it began a wait, the alarm of this moment ended, then the wait was given up, and the reply to that is the answer
+abbrev pub IsGivenUp : Waiting → ℕ → List Made → Answer → Type 0
+IsGivenUp waiting moment play answer =
+    (waited due reply : StepReply) × (place : ℕ) × (waits_at waited ≡ Some place)
+    × (play ≡ (open_step waiting true, waited) ∷ (steps.Clock (clock_ops.AlarmEnd moment), due) ∷ (quit_step waiting place, reply) ∷ [])
+    × (answer ≡ answer_of reply)
+
+-- an alarm was set first, for so many ticks; then the call was told as one that waits forever is, or gave its wait up
+abbrev pub IsToldWithin : Waiting → ℕ → List Made → Answer → Type 0
+IsToldWithin waiting ticks play answer =
+    (moment place : ℕ) × (more : List Made)
+    × (play ≡ (steps.Clock (clock_ops.Alarm ticks), step_replies.Clock (clock_replies.At moment) place) ∷ more)
+    × (IsTold (open_step waiting true) (end_step waiting) more answer ⊎ IsGivenUp waiting moment more answer)
+
+-- a call that goes by this plan made just these steps, and was answered so; of polls and of calls that use a channel other laws
+-- speak
+abbrev pub IsMadeBy : Plan → List Made → Answer → Type 0
+IsMadeBy (One step) play answer = IsToldBy step play answer
+IsMadeBy (Pair opening closing) play answer = IsTold opening (closing_step closing) play answer
+IsMadeBy (Twice first second) play answer = IsToldByBoth first second play answer
+IsMadeBy (Wait waiting No) play answer = IsTold (open_step waiting false) (end_step waiting) play answer
+IsMadeBy (Wait waiting Forever) play answer = IsTold (open_step waiting true) (end_step waiting) play answer
+IsMadeBy (Wait waiting (Ticks ticks)) play answer = IsToldWithin waiting ticks play answer
+IsMadeBy (Poll timeout events) play answer = Unit {0}
+IsMadeBy (Channel chan using_ timeout) play answer = Unit {0}
+
+-- an answered call: the player stood at its beginning, it was the next call of the innermost open script, and these steps, side by
+-- side, were made for it, up to the one that was answered
+pub record IsCallOf (s : Parts) (number : ℕ) (made : List Made) (a : Answered) : Type 0 where
+  pub owner : ℕ
+  pub next : ℕ
+  pub call : Call
+  pub below : List Frame
+  pub is_word : a.word ≡ word_of call
+  pub before : List Made
+  pub play : List Made
+  pub rest : List Made
+  pub whole : made ≡ before ++ (play ++ rest)
+  pub last : a.step + 1 ≡ length before + length play
+  pub begins : BeginsCall s number before owner next call below
+  pub made_so : IsMadeBy (plan_of s.decls call) play a.answer
+
+-- the call visits observers, or reads a channel: its steps don't stand side by side
+abbrev pub is_with_visits : Word → Bool
+is_with_visits word = is_publish word || is_read word
+
+-- of each player that follows a scenario, where what is shown of the clock is legal: each answered call but these, and but those
+-- that a failed check ended, made the steps that it is to make, and no other
+abbrev pub EachCallIsMade : Type 0
+EachCallIsMade = (s : Parts) (number : ℕ) (shown : Shown) (at : At) (is : IsFollowing s number shown at) → ShowsLegalClock shown →
+    All (λ a. is_oops a.answer ≡ false → is_with_visits a.word ≡ false → IsCallOf s number is.made a) at.answers
