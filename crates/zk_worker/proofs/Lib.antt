@@ -36,6 +36,8 @@ pub mod ChannelSteps
 pub mod HeldCalls
 pub mod OtherCalls
 pub mod CallsPlayed
+pub mod CallsMade
+pub mod CallLogs
 pub mod OwnSteps
 pub mod ScriptsEntered
 pub mod LogsPlayed

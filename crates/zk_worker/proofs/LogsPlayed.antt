@@ -251,7 +251,7 @@ clock-tells-from c (x ∷ xs) zero e replays there =
     subst (λ (y : Entry ClockOp ClockReply). clock_may_tell y.op y.reply ≡ true) (same_Some x e there) (clock-told c x.who x.op x.reply replays.0)
 clock-tells-from c (x ∷ xs) (suc place) e replays there = clock-tells-from (clock_machine.next c x.who x.op) xs place e replays.1 there
 
-clock-tells : (h : List (Entry ClockOp ClockReply)) (place : ℕ) (e : Entry ClockOp ClockReply) → Replays clock_machine new_clock h → slice_get h place ≡ Some e →
+pub clock-tells : (h : List (Entry ClockOp ClockReply)) (place : ℕ) (e : Entry ClockOp ClockReply) → Replays clock_machine new_clock h → slice_get h place ≡ Some e →
     clock_may_tell e.op e.reply ≡ true
 clock-tells = clock-tells-from new_clock
 
