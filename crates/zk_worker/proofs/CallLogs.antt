@@ -1,28 +1,43 @@
 -- Each call in the log of a player, but those that use a channel, made the steps that its form says.
-use Rattle.std.proofs.Common.{◌≡◌, ℕ, Bool, true, false, Some, List, [], ◌∷◌, ◌++◌, All, refl, sym, subst}
+use Rattle.std.proofs.Common.{◌≡◌, ◌⊎◌, inl, inr, ℕ, true, false, Option, Some, None, List, [], ◌∷◌, ◌++◌, All, refl, sym, ap, subst}
 use Rattle.std.specs.List.{slice_get, AllZip}
-use Rattle.std.proofs.lemmas.List.Elements.{All-nil, All-cons, All-weaker}
-use Rattle.zk_base.proofs.Lists.{All-front, All-back}
+use Rattle.std.proofs.lemmas.List.Elements.{All-nil, All-cons, All-push, All-head, All-tail, All-weaker}
+use Rattle.zk_base.proofs.Lists.{All-front, All-back, slice_get-one}
 use Rattle.zk_base.proofs.WaitsOnce.{eqb-same}
 use Rattle.zk_base.specs.declared.ids.Entry.{Entry}
 use Rattle.zk_line.specs.Calls.{word_of}
+use Rattle.zk_line.specs.Objects.{number_of}
+use Rattle.zk_line.specs.declared.types.Call.{Call}
 use Rattle.zk_model_wait.specs.declared.clock.ClockOp.{ClockOp}
 use Rattle.zk_model_wait.specs.declared.clock.ClockReply.{ClockReply}
+use Rattle.zk_model_work.specs.declared.ops.WorkOp.TheVariants as work_ops
 use Rattle.zk_scenario.specs.Parts.{Parts}
+use Rattle.zk_scenario.specs.Players.{calls_of}
 use Rattle.zk_worker.specs.declared.answers.Answered.{Answered}
+use Rattle.zk_worker.specs.declared.checks.Check.{Check}
+use Rattle.zk_worker.specs.declared.frames.Frame.{Frame}
+use Rattle.zk_worker.specs.declared.frames.Role.{Role}
+use Rattle.zk_worker.specs.declared.frames.Role.TheVariants.{Script, Worker}
+use Rattle.zk_worker.specs.declared.frames.Stage.{Stage}
+use Rattle.zk_worker.specs.declared.frames.Stage.TheVariants as stages
+use Rattle.zk_worker.specs.declared.steps.Step.{Step}
 use Rattle.zk_worker.specs.declared.steps.Spot.{Spot}
 use Rattle.zk_worker.specs.declared.steps.Spot.TheVariants as spots
 use Rattle.zk_worker.specs.declared.steps.Step.TheVariants as steps
 use Rattle.zk_worker.specs.declared.steps.StepReply.TheVariants as step_replies
-use Rattle.zk_worker.specs.CallLaws.{is_with_visits, IsCallOf, EachCallIsMade}
+use Rattle.zk_worker.specs.CallLaws.{is_with_visits, IsStepOf, IsOfIts, IsOfCall, AreOfCalls, IsCallOf, EachCallIsMade}
 use Rattle.zk_worker.specs.Calls.{plan_of}
-use Rattle.zk_worker.specs.Checks.{is_oops}
-use Rattle.zk_worker.specs.Follows.{Stands}
+use Rattle.zk_worker.specs.CheckLaws.{is_check}
+use Rattle.zk_worker.specs.Checks.{is_oops, check_step, role_check, top_check}
+use Rattle.zk_worker.specs.Follows.{Stands, IsPlayed}
+use Rattle.zk_worker.specs.Places.{At}
 use Rattle.zk_worker.specs.PollLaws.{Made}
+use Rattle.zk_worker.specs.Protocol.{IsAhead, after, call_attempts, role_attempts, frames_attempts, worker_attempts}
 use Rattle.zk_worker.specs.Shown.{Shown}
 use Rattle.zk_worker.specs.StackLogs.{ShowsLegalClock}
-use Rattle.zk_worker.proofs.CallsMade.{IsFit, made-so}
-use Rattle.zk_worker.proofs.CallsPlayed.{IsPlayOf, each_call_is_played}
+use Rattle.zk_worker.proofs.CheckedSteps.{IsCheck, IsOwn, one-or-other, check-of-top}
+use Rattle.zk_worker.proofs.CallsMade.{IsFit, made-so, may-come}
+use Rattle.zk_worker.proofs.CallsPlayed.{IsPlayOf, PlaysOn, AreOpen, Holds, other-plan, holds-step, holds-start, each_call_is_played}
 use Rattle.zk_worker.proofs.LogsPlayed.{clock-tells}
 use Rattle.zk_worker.proofs.ShownSteps.{made-of}
 
@@ -64,9 +79,74 @@ call-of s number made a fit of = record {
       (All-front IsFit of.play of.rest (All-back IsFit of.before (of.play ++ of.rest) (subst (All IsFit) of.whole fit)));
 }
 
+-- Each step.
+
+-- the attempts of a worker begin and end runs
+worker-step : (queue : ℕ) (stage : Stage) (index : ℕ) (step : Step) → slice_get (worker_attempts queue stage) index ≡ Some step →
+    (step ≡ steps.Work (work_ops.Begin queue)) ⊎ (step ≡ steps.Work (work_ops.End queue))
+worker-step queue stages.Start index step is = inl (sym (slice_get-one (steps.Work (work_ops.Begin queue)) step index is))
+worker-step queue stages.Runs index step is = inr (sym (slice_get-one (steps.Work (work_ops.End queue)) step index is))
+worker-step queue stage index step is = absurd (cc)
+
+module _ (s : Parts) (number : ℕ) (front : List Made) (fit : All IsFit front) where
+  -- an attempt of a script is a step of its next call
+  script-step : (below : List Frame) (owner next : ℕ) (stage : Stage) (index : ℕ) (step : Step) → PlaysOn s number front below (Script owner) next stage →
+      slice_get (role_attempts s (Script owner) next stage) index ≡ Some step →
+      (call : Call) × (slice_get (calls_of s.scripts owner) next ≡ Some call) × (is_with_visits (word_of call) ≡ false → IsStepOf s number front owner next call below step)
+  script-step below owner next stage index step plays ahead = by (slice_get (calls_of s.scripts owner) next) refl ahead where
+    by : (o : Option Call) → slice_get (calls_of s.scripts owner) next ≡ o → slice_get (call_attempts s.decls o stage) index ≡ Some step →
+        (call : Call) × (slice_get (calls_of s.scripts owner) next ≡ Some call) × (is_with_visits (word_of call) ≡ false → IsStepOf s number front owner next call below step)
+    by None there ahead = absurd (cc)
+    by (Some call) there ahead = (
+      call,
+      there,
+      λ other. let was = plays call there (other-plan s.decls call other) in record {
+        before = was.before;
+        play = was.play;
+        whole = was.whole;
+        begins = was.begins;
+        may = may-come (word_of call) (plan_of s.decls call) was.play stage index step was.led ahead (All-back IsFit was.before was.play (subst (All IsFit) was.whole fit));
+      },
+    )
+
+  own-step : (frames : List Frame) (index : ℕ) (step : Step) → AreOpen s number front frames → slice_get (frames_attempts s frames) index ≡ Some step → IsOfCall s number front frames step
+  own-step [] index step are ahead = absurd (cc)
+  own-step (frame ∷ below) index step are ahead = by frame.role are.0 ahead where
+    by : (role : Role) → PlaysOn s number front below role frame.next frame.stage → slice_get (role_attempts s role frame.next frame.stage) index ≡ Some step →
+        IsOfIts s number front role frame.next below step
+    by (Worker queue) plays ahead = worker-step (number_of s.decls queue) frame.stage index step ahead
+    by (Script owner) plays ahead = λ other. script-step below owner frame.next frame.stage index step plays ahead
+
+  -- only a script makes checks
+  check-step : (passed : ℕ) (frames : List Frame) (check : Check) (step : Step) → top_check s passed frames ≡ Some check → check_step check ≡ step → IsOfCall s number front frames step
+  check-step passed [] check step is makes = absurd (cc)
+  check-step passed (frame ∷ below) check step is makes = by frame.role is where
+    by : (role : Role) → role_check s passed role frame.next frame.stage ≡ Some check → IsOfIts s number front role frame.next below step
+    by (Worker queue) is = absurd (cc)
+    by (Script owner) is = λ isnt. absurd (let checks = ap is_check makes in cc)
+
+  step-of : (at : At) (step : Step) → Holds s number front at → IsAhead s at step → IsOfCall s number front at.frames step
+  step-of at step holds ahead = by (one-or-other s at step ahead) where
+    by : IsCheck s at step ⊎ IsOwn s at step → IsOfCall s number front at.frames step
+    by (inl is) = check-step at.passed at.frames is.check step (check-of-top s at.mode at.passed at.frames is.check is.comes) is.is_step
+    by (inr is) = own-step at.frames is.index step holds.frames is.ahead
+
+are-of-calls : (s : Parts) (number : ℕ) (front made : List Made) (at end : At) → Holds s number front at → IsPlayed s at made end → All IsFit front → All IsFit made → AreOfCalls s number front at made
+are-of-calls s number front [] at end holds led first fit = tt
+are-of-calls s number front (m ∷ more) at end holds led first fit = (
+  step-of s number front first at m.0 holds led.0,
+  are-of-calls s number (front ++ m ∷ []) more (after s at m.0 m.1) end (holds-step s number front m at holds led.0) led.1
+      (All-push IsFit front m first (All-head IsFit m more fit)) (All-tail IsFit m more fit),
+)
+
+-- Each player.
+
 pub each_call_is_made : EachCallIsMade
 each_call_is_made s number shown at is timed =
-    All-weaker (λ (a : Answered). is_oops a.answer ≡ false → is_with_visits a.word ≡ false → IsPlayOf s number is.made a)
-    (λ (a : Answered). is_oops a.answer ≡ false → is_with_visits a.word ≡ false → IsCallOf s number is.made a)
-    (λ a played passed other. call-of s number is.made a (all-fit shown timed at.spots is.made is.stands) (played passed other)) at.answers
-    (each_call_is_played s number at is.start is.made is.starts is.played)
+    let fit = all-fit shown timed at.spots is.made is.stands in (
+      are-of-calls s number [] is.made is.start at (holds-start s number is.start is.starts) is.played (All-nil IsFit) fit,
+      All-weaker (λ (a : Answered). is_oops a.answer ≡ false → is_with_visits a.word ≡ false → IsPlayOf s number is.made a)
+          (λ (a : Answered). is_oops a.answer ≡ false → is_with_visits a.word ≡ false → IsCallOf s number is.made a)
+          (λ a played passed other. call-of s number is.made a fit (played passed other)) at.answers
+          (each_call_is_played s number at is.start is.made is.starts is.played),
+    )

@@ -29,7 +29,7 @@ use Rattle.zk_worker.specs.declared.steps.Step.{Step}
 use Rattle.zk_worker.specs.declared.steps.Step.TheVariants as steps
 use Rattle.zk_worker.specs.declared.steps.StepReply.{StepReply}
 use Rattle.zk_worker.specs.declared.steps.StepReply.TheVariants as step_replies
-use Rattle.zk_worker.specs.CallLaws.{waits_at, IsToldBy, IsToldByBoth, IsToldAtOnce, IsToldAtTheEnd, IsTold, IsGivenUp, IsToldWithin, IsMadeBy}
+use Rattle.zk_worker.specs.CallLaws.{waits_at, IsToldBy, IsToldByBoth, IsToldAtOnce, IsToldAtTheEnd, IsTold, IsGivenUp, IsToldWithin, IsMadeBy, MayComeIn, MayQuit, MayCome}
 use Rattle.zk_worker.specs.Calls.{closing_step, plan_attempts, plan_progress}
 use Rattle.zk_worker.specs.PollLaws.{Made}
 use Rattle.zk_worker.specs.Replies.{answer_of}
@@ -348,3 +348,139 @@ made-so word (Wait waiting (Ticks ticks)) play answer done fit =
     told-within word waiting ticks done.front done.last done.stage play answer done.whole done.led done.answered (subst (All IsFit) done.whole fit)
 made-so word (Poll timeout events) play answer done fit = tt
 made-so word (Channel chan using_ timeout) play answer done fit = tt
+
+-- The step that comes next.
+
+-- the one attempt there is comes next
+comes-one : (first : Step) (index : ℕ) (step : Step) → slice_get (first ∷ []) index ≡ Some step → step ≡ first
+comes-one first index step is = sym (slice_get-one first step index is)
+
+next-one : (word : Word) (first : Step) (play : List Made) (stage : Stage) (index : ℕ) (step : Step) → LeadsOn word (One first) stages.Start play stage →
+    slice_get (plan_attempts (One first) stage) index ≡ Some step → (play ≡ []) × (step ≡ first)
+next-one word first [] stage index step led ahead = (refl, comes-one first index step (ap (λ (t : Stage). slice_get (plan_attempts (One first) t) index) led ∙ ahead))
+next-one word first (m ∷ more) stage index step led ahead = absurd (let goes = led.1.comes in cc)
+
+next-both : (word : Word) (first second : Step) (play : List Made) (stage : Stage) (index : ℕ) (step : Step) → LeadsOn word (Twice first second) stages.Start play stage →
+    slice_get (plan_attempts (Twice first second) stage) index ≡ Some step → MayCome (Twice first second) play step
+next-both word first second [] stage index step led ahead = inl (refl, comes-one first index step (ap (λ (t : Stage). slice_get (plan_attempts (Twice first second) t) index) led ∙ ahead))
+next-both word first second (m ∷ []) stage index step led ahead =
+    let half : stages.Halfway ≡ stage = (let goes = led.1.comes in let end = led.2 in cc) in
+    let earlier : m ≡ (first, m.1) = made-one first led.1.index m led.1.ahead in
+    inr (m.1, ap (λ (x : Made). x ∷ []) earlier, comes-one second index step (ap (λ (t : Stage). slice_get (plan_attempts (Twice first second) t) index) half ∙ ahead))
+next-both word first second (m ∷ n ∷ more) stage index step led ahead =
+    absurd (let half : stages.Halfway ≡ led.0 = (let goes = led.1.comes in cc) in
+    let comes = ap (λ (t : Stage). plan_progress word (Twice first second) t n.0 n.1) half ∙ led.2.1.comes in cc)
+
+module _ (word : Word) (plan : Plan) (start : Stage) (opening : Step) (closing : ℕ → Step) (waiting_at : ℕ → Stage) (opens_so : plan_attempts plan start ≡ opening ∷ [])
+    (begins : Begins word plan start opening closing waiting_at opens_so) (ends : Ends word plan start opening closing waiting_at opens_so) where
+  next-wait : (play : List Made) (stage : Stage) (index : ℕ) (step : Step) → LeadsOn word plan start play stage → slice_get (plan_attempts plan stage) index ≡ Some step → All IsFit play →
+      MayComeIn opening closing play step
+  unfolding Begins
+  next-wait [] stage index step led ahead fit =
+      inl (refl, comes-one opening index step (ap (λ (l : List Step). slice_get l index) (sym opens_so) ∙ ap (λ (t : Stage). slice_get (plan_attempts plan t) index) led ∙ ahead))
+  next-wait (m ∷ []) stage index step led ahead fit =
+      let first : m ≡ (opening, m.1) = made-one opening led.1.index m (ap (λ (l : List Step). slice_get l led.1.index) (sym opens_so) ∙ led.1.ahead) in
+      let waits = (begins m (Goes led.0) (All-head IsFit m [] fit) first led.1.comes).0 led.0 refl in
+      let at : waiting_at waits.0 ≡ stage = waits.2 ∙ led.2 in
+      inr (
+        m.1,
+        waits.0,
+        waits.1,
+        ap (λ (x : Made). x ∷ []) first,
+        comes-one (closing waits.0) index step (ap (λ (l : List Step). slice_get l index) (sym (ends.attempts waits.0)) ∙ ap (λ (t : Stage). slice_get (plan_attempts plan t) index) at ∙ ahead),
+      )
+  next-wait (m ∷ n ∷ more) stage index step led ahead fit =
+      absurd (let first : m ≡ (opening, m.1) = made-one opening led.1.index m (ap (λ (l : List Step). slice_get l led.1.index) (sym opens_so) ∙ led.1.ahead) in
+      let waits = (begins m (Goes led.0) (All-head IsFit m (n ∷ more) fit) first led.1.comes).0 led.0 refl in
+      let then = led.2 in
+      let at : slice_get (closing waits.0 ∷ []) then.1.index ≡ Some n.0 =
+      ap (λ (l : List Step). slice_get l then.1.index) (sym (ends.attempts waits.0)) ∙ ap (λ (t : Stage). slice_get (plan_attempts plan t) then.1.index) waits.2 ∙ then.1.ahead in
+      let second : n ≡ (closing waits.0, n.1) = made-one (closing waits.0) then.1.index n at in
+      let comes : Answers word (answer_of n.1) ≡ Goes then.0 =
+      sym (ends.comes waits.0 n (All-head IsFit n more (All-tail IsFit m (n ∷ more) fit)) second) ∙ ap (λ (t : Stage). plan_progress word plan t n.0 n.1) waits.2 ∙ then.1.comes in
+      cc)
+
+module _ (word : Word) (waiting : Waiting) (ticks moment : ℕ) where
+  abbrev timed : Plan
+  timed = Wait waiting (Ticks ticks)
+
+  next-alarmed : (play : List Made) (stage : Stage) (index : ℕ) (step : Step) → LeadsOn word timed (stages.Alarmed moment) play stage → slice_get (plan_attempts timed stage) index ≡ Some step →
+      All IsFit play → MayComeIn (open_step waiting true) (end_step waiting) play step ⊎ MayQuit waiting moment play step
+  next-alarmed [] stage index step led ahead fit =
+      inl (inl (refl, comes-one (open_step waiting true) index step (ap (λ (t : Stage). slice_get (plan_attempts timed t) index) led ∙ ahead)))
+  next-alarmed (o ∷ []) stage index step led ahead fit =
+      let first = opened word waiting ticks moment o (Goes led.0) led.1 in
+      let waits = until-goes word moment o.1 led.0 led.1.comes in
+      by waits.0 waits.1 first index (ap (λ (t : Stage). slice_get (plan_attempts timed t) index) (waits.2 ∙ led.2) ∙ ahead)
+    where
+      by : (place : ℕ) → waits_at o.1 ≡ Some place → o ≡ (open_step waiting true, o.1) → (index : ℕ) →
+          slice_get (end_step waiting place ∷ steps.Clock (clock_ops.AlarmEnd moment) ∷ []) index ≡ Some step →
+          MayComeIn (open_step waiting true) (end_step waiting) (o ∷ []) step ⊎ MayQuit waiting moment (o ∷ []) step
+      by place waits first zero at = inl (inr (o.1, place, waits, ap (λ (x : Made). x ∷ []) first, sym (same_Some (end_step waiting place) step at)))
+      by place waits first (suc index) at = inr (o.1, place, waits, inl (ap (λ (x : Made). x ∷ []) first, comes-one (steps.Clock (clock_ops.AlarmEnd moment)) index step at))
+  next-alarmed (o ∷ c ∷ more) stage index step led ahead fit =
+      let first = opened word waiting ticks moment o (Goes led.0) led.1 in
+      let waits = until-goes word moment o.1 led.0 led.1.comes in
+      let then = led.2 in
+      let here = leads-at word waiting ticks moment led.0 (stages.WaitsUntil waits.0 moment) c (Goes then.0) waits.2 then.1 in
+      by more waits.0 waits.1 first then.0 (ends-or-due word waiting ticks moment waits.0 c (Goes then.0) here (All-head IsFit c more (All-tail IsFit o (c ∷ more) fit))) then.2
+    where
+      by : (more : List Made) (place : ℕ) → waits_at o.1 ≡ Some place → o ≡ (open_step waiting true, o.1) → (end : Stage) →
+          ((c ≡ (end_step waiting place, c.1)) × (Goes end ≡ Answers word (answer_of c.1)))
+          ⊎ ((c ≡ (steps.Clock (clock_ops.AlarmEnd moment), c.1)) × (Goes end ≡ Goes (stages.Quits place))) → LeadsOn word timed end more stage →
+          MayComeIn (open_step waiting true) (end_step waiting) (o ∷ c ∷ more) step ⊎ MayQuit waiting moment (o ∷ c ∷ more) step
+      by more place waits first end (inl ends) rest = absurd (let never = ends.1 in cc)
+      by [] place waits first end (inr due) rest =
+          let at : stages.Quits place ≡ stage = (let goes = due.1 in cc) in
+          inr (
+            o.1,
+            place,
+            waits,
+            inr (
+              c.1,
+              ap (λ (x : Made). x ∷ c ∷ []) first ∙ ap (λ (x : Made). (open_step waiting true, o.1) ∷ x ∷ []) due.0,
+              comes-one (quit_step waiting place) index step (ap (λ (t : Stage). slice_get (plan_attempts timed t) index) at ∙ ahead),
+            ),
+          )
+      by (d ∷ others) place waits first end (inr due) rest =
+          absurd (let at : stages.Quits place ≡ end = (let goes = due.1 in cc) in
+          let here = leads-at word waiting ticks moment end (stages.Quits place) d (Goes rest.0) at rest.1 in
+          let never = here.comes in cc)
+
+next-within : (word : Word) (waiting : Waiting) (ticks : ℕ) (play : List Made) (stage : Stage) (index : ℕ) (step : Step) → LeadsOn word (Wait waiting (Ticks ticks)) stages.Start play stage →
+    slice_get (plan_attempts (Wait waiting (Ticks ticks)) stage) index ≡ Some step → All IsFit play → MayCome (Wait waiting (Ticks ticks)) play step
+next-within word waiting ticks [] stage index step led ahead fit =
+    inl (refl, comes-one (steps.Clock (clock_ops.Alarm ticks)) index step (ap (λ (t : Stage). slice_get (plan_attempts (Wait waiting (Ticks ticks)) t) index) led ∙ ahead))
+next-within word waiting ticks (m ∷ more) stage index step led ahead fit =
+    let same : m ≡ (steps.Clock (clock_ops.Alarm ticks), m.1) = made-one (steps.Clock (clock_ops.Alarm ticks)) led.1.index m led.1.ahead in
+    let at = alarm-at ticks m.1 (fits-step (steps.Clock (clock_ops.Alarm ticks)) m (All-head IsFit m more fit) same) in
+    let goes : stages.Alarmed at.0 ≡ led.0 = (let comes = ap (wait_progress word stages.Start) (sym at.2) ∙ led.1.comes in cc) in
+    let rest : LeadsOn word (Wait waiting (Ticks ticks)) (stages.Alarmed at.0) more stage = subst (λ (t : Stage). LeadsOn word (Wait waiting (Ticks ticks)) t more stage) (sym goes) led.2 in
+    inr (
+      at.0,
+      at.1,
+      more,
+      ap (λ (x : Made). x ∷ more) same ∙ ap (λ (r : StepReply). (steps.Clock (clock_ops.Alarm ticks), r) ∷ more) at.2,
+      next-alarmed word waiting ticks at.0 more stage index step rest ahead (All-tail IsFit m more fit),
+    )
+
+-- an attempt of a call may come behind the steps that led it there
+pub may-come : (word : Word) (plan : Plan) (play : List Made) (stage : Stage) (index : ℕ) (step : Step) → LeadsOn word plan stages.Start play stage → slice_get (plan_attempts plan stage) index ≡ Some step →
+    All IsFit play → MayCome plan play step
+unfolding Begins
+may-come word (One first) play stage index step led ahead fit = next-one word first play stage index step led ahead
+may-come word (Pair opening closing) play stage index step led ahead fit =
+    next-wait word (Pair opening closing) stages.Start opening (closing_step closing) stages.Waits refl (λ made progress fits same comes. opens-so word made.1 progress comes)
+    (record { attempts = λ place. refl; comes = λ place made fits same. refl }) play stage index step led ahead fit
+may-come word (Twice first second) play stage index step led ahead fit = next-both word first second play stage index step led ahead
+may-come word (Wait waiting No) play stage index step led ahead fit =
+    next-wait word (Wait waiting No) stages.Start (open_step waiting false) (end_step waiting) stages.Waits refl
+    (λ made progress fits same comes. opens-so word made.1 progress (sym (starts-so word waiting false made.1 (fits-step (open_step waiting false) made fits same)) ∙ comes))
+    (record { attempts = λ place. refl; comes = λ place made fits same. refl }) play stage index step led ahead fit
+may-come word (Wait waiting Forever) play stage index step led ahead fit =
+    next-wait word (Wait waiting Forever) stages.Start (open_step waiting true) (end_step waiting) stages.Waits refl
+    (λ made progress fits same comes. opens-so word made.1 progress (sym (starts-so word waiting true made.1 (fits-step (open_step waiting true) made fits same)) ∙ comes))
+    (record { attempts = λ place. refl; comes = λ place made fits same. refl }) play stage index step led ahead fit
+may-come word (Wait waiting (Ticks ticks)) play stage index step led ahead fit = next-within word waiting ticks play stage index step led ahead fit
+may-come word (Poll timeout events) play stage index step led ahead fit = tt
+may-come word (Channel chan using_ timeout) play stage index step led ahead fit = tt

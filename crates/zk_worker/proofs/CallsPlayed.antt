@@ -169,30 +169,30 @@ pub record IsPlayOf (s : Parts) (number : ℕ) (made : List Made) (a : Answered)
 -- What is open.
 
 -- the steps since the player stood at the beginning of a call led it to its stage
-record PlayTo (s : Parts) (number : ℕ) (made : List Made) (owner next : ℕ) (below : List Frame) (call : Call) (stage : Stage) : Type 0 where
-  before : List Made
-  play : List Made
-  whole : made ≡ before ++ play
-  begins : BeginsCall s number before owner next call below
-  led : LeadsOn (word_of call) (plan_of s.decls call) Start play stage
+pub record PlayTo (s : Parts) (number : ℕ) (made : List Made) (owner next : ℕ) (below : List Frame) (call : Call) (stage : Stage) : Type 0 where
+  pub before : List Made
+  pub play : List Made
+  pub whole : made ≡ before ++ play
+  pub begins : BeginsCall s number before owner next call below
+  pub led : LeadsOn (word_of call) (plan_of s.decls call) Start play stage
 
 -- so it is of an open script at a call that uses no channel
-abbrev PlaysOn : Parts → ℕ → List Made → List Frame → Role → ℕ → Stage → Type 0
+abbrev pub PlaysOn : Parts → ℕ → List Made → List Frame → Role → ℕ → Stage → Type 0
 PlaysOn s number made below (Worker queue) next stage = Unit {0}
 PlaysOn s number made below (Script owner) next stage =
     (call : Call) → slice_get (calls_of s.scripts owner) next ≡ Some call → is_channel (plan_of s.decls call) ≡ false → PlayTo s number made owner next below call stage
 
 -- what isn't at such a call: the run of a worker, and a script at a call that uses a channel
-abbrev IsAtNone : Parts → Role → ℕ → Type 0
+abbrev pub IsAtNone : Parts → Role → ℕ → Type 0
 IsAtNone s (Worker queue) next = Unit {0}
 IsAtNone s (Script owner) next = (call : Call) → slice_get (calls_of s.scripts owner) next ≡ Some call → is_channel (plan_of s.decls call) ≡ true
 
-abbrev AreAtNone : Parts → List Frame → Type 0
+abbrev pub AreAtNone : Parts → List Frame → Type 0
 AreAtNone s [] = Unit {0}
 AreAtNone s (frame ∷ below) = IsAtNone s frame.role frame.next × AreAtNone s below
 
 -- and behind the innermost nothing that is open is at such a call
-abbrev AreOpen : Parts → ℕ → List Made → List Frame → Type 0
+abbrev pub AreOpen : Parts → ℕ → List Made → List Frame → Type 0
 AreOpen s number made [] = Unit {0}
 AreOpen s number made (frame ∷ below) = PlaysOn s number made below frame.role frame.next frame.stage × AreAtNone s below
 
@@ -268,7 +268,7 @@ worker-answers decls Start (step_replies.Work (replies.Run item admission) place
 worker-answers decls stage reply word answer is = cc
 
 -- the words of calls that use no channel
-other-plan : (decls : List Decl) (call : Call) → is_with_visits (word_of call) ≡ false → is_channel (plan_of decls call) ≡ false
+pub other-plan : (decls : List Decl) (call : Call) → is_with_visits (word_of call) ≡ false → is_channel (plan_of decls call) ≡ false
 other-plan decls (calls.Publish channel message timeout) is = absurd (cc)
 other-plan decls (calls.Notify channel timeout) is = absurd (cc)
 other-plan decls (calls.Read channel timeout) is = absurd (cc)
@@ -285,7 +285,7 @@ enters-channel s m (Script at) next stage index owner end ahead comes = λ call 
       absurd (let leads = call-leads s at next stage m index (Enters owner end) call there ahead comes in
       subst EntersNone leads.comes (plan-plain (word_of call) (plan_of s.decls call) stage m.0 m.1 is))
 
-Played : Parts → ℕ → List Made → Answered → Type 0
+pub Played : Parts → ℕ → List Made → Answered → Type 0
 Played s number made a = is_oops a.answer ≡ false → is_with_visits a.word ≡ false → IsPlayOf s number made a
 
 module _ (s : Parts) (number : ℕ) (made : List Made) (m : Made) where
@@ -394,11 +394,11 @@ module _ (s : Parts) (number : ℕ) (made : List Made) (m : Made) where
         (λ passed other. role-answers below frame.role frame.next frame.stage index count word answer are.0 ahead comes many other)
 
 -- what holds of a player with these steps
-record Holds (s : Parts) (number : ℕ) (made : List Made) (at : At) : Type 0 where
-  led : IsLed s number made at
-  frames : AreOpen s number made at.frames
-  many : length at.spots ≡ length made
-  answered : All (Played s number made) at.answers
+pub record Holds (s : Parts) (number : ℕ) (made : List Made) (at : At) : Type 0 where
+  pub led : IsLed s number made at
+  pub frames : AreOpen s number made at.frames
+  pub many : length at.spots ≡ length made
+  pub answered : All (Played s number made) at.answers
 
 -- a call that is at its checks has made no step of its own
 open-checked : (s : Parts) (number : ℕ) (made longer : List Made) (passed : ℕ) (frames : List Frame) (check : Check) (now : At) → IsLed s number longer now → now.frames ≡ frames →
@@ -407,7 +407,7 @@ open-checked s number made longer passed [] check now led same is are = tt
 open-checked s number made longer passed (frame ∷ below) check now led same is are =
     fresh-open s number longer now (frame ∷ below) led same (inl (ap is_start (check-starts s passed frame.role frame.next frame.stage check is)), are.1)
 
-holds-step : (s : Parts) (number : ℕ) (made : List Made) (m : Made) (at : At) → Holds s number made at → IsAhead s at m.0 → Holds s number (made ++ m ∷ []) (after s at m.0 m.1)
+pub holds-step : (s : Parts) (number : ℕ) (made : List Made) (m : Made) (at : At) → Holds s number made at → IsAhead s at m.0 → Holds s number (made ++ m ∷ []) (after s at m.0 m.1)
 unfolding Played
 holds-step s number made m at holds ahead =
     turn (λ (now : At). IsLed s number all now → Holds s number all now) s at m.0 m.1 ahead (λ is. by_check is (oops_in m.1)) by_own
@@ -449,7 +449,7 @@ holds-played s number (m ∷ more) made at end holds played =
     subst (λ (xs : List Made). Holds s number xs end) (append_assoc made (m ∷ []) more)
     (holds-played s number more (made ++ m ∷ []) (after s at m.0 m.1) end (holds-step s number made m at holds played.0) played.1)
 
-holds-start : (s : Parts) (number : ℕ) (at : At) → start_at s number ≡ Some at → Holds s number [] at
+pub holds-start : (s : Parts) (number : ℕ) (at : At) → start_at s number ≡ Some at → Holds s number [] at
 holds-start s number at is =
     let inner : ℕ → Option At = λ object. option_map (starting s number object) (slice_get s.decls object) in
     option_and_then_some inner (slice_get (players s.decls) number) at is (λ object found made. by_decl object (slice_get s.decls object) made)

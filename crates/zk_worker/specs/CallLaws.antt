@@ -1,5 +1,6 @@
 use Rattle.std.specs.Prelude.{◌≡◌, ◌⊎◌, ℕ, ◌+◌, ◌||◌, Bool, true, false, Option, Some, None, List, [], ◌∷◌, ◌++◌, length, slice_get, All}
 use Rattle.zk_line.specs.Calls.{word_of}
+use Rattle.zk_line.specs.Objects.{number_of}
 use Rattle.zk_line.specs.declared.types.Call.{Call}
 use Rattle.zk_model_bus.specs.declared.channel.ChanReply.TheVariants as chan_replies
 use Rattle.zk_model_bus.specs.declared.observer.ObsReply.TheVariants as obs_replies
@@ -7,8 +8,10 @@ use Rattle.zk_model_wait.specs.declared.clock.ClockOp.TheVariants as clock_ops
 use Rattle.zk_model_wait.specs.declared.clock.ClockReply.TheVariants as clock_replies
 use Rattle.zk_model_wait.specs.declared.msgq.MsgqReply.TheVariants as msgq_replies
 use Rattle.zk_model_wait.specs.declared.sem.SemReply.TheVariants as sem_replies
+use Rattle.zk_model_work.specs.declared.ops.WorkOp.TheVariants as work_ops
 use Rattle.zk_model_work.specs.declared.ops.WorkReply.TheVariants as work_replies
 use Rattle.zk_scenario.specs.Parts.{Parts}
+use Rattle.zk_scenario.specs.Players.{calls_of}
 use Rattle.zk_words.specs.declared.timeout.Timeout.TheVariants.{No, Forever, Ticks}
 use Rattle.zk_words.specs.declared.word.Word.{Word}
 use Rattle.zk_worker.specs.declared.answers.Answer.{Answer}
@@ -16,17 +19,20 @@ use Rattle.zk_worker.specs.declared.answers.Answered.{Answered}
 use Rattle.zk_worker.specs.declared.frames.Frame.{Frame}
 use Rattle.zk_worker.specs.declared.frames.Plan.{Plan}
 use Rattle.zk_worker.specs.declared.frames.Plan.TheVariants.{One, Pair, Twice, Wait, Poll, Channel}
+use Rattle.zk_worker.specs.declared.frames.Role.{Role}
+use Rattle.zk_worker.specs.declared.frames.Role.TheVariants.{Script, Worker}
 use Rattle.zk_worker.specs.declared.frames.Waiting.{Waiting}
 use Rattle.zk_worker.specs.declared.steps.Step.{Step}
 use Rattle.zk_worker.specs.declared.steps.Step.TheVariants as steps
 use Rattle.zk_worker.specs.declared.steps.StepReply.{StepReply}
 use Rattle.zk_worker.specs.declared.steps.StepReply.TheVariants as step_replies
 use Rattle.zk_worker.specs.Calls.{plan_of, closing_step}
-use Rattle.zk_worker.specs.CheckLaws.{BeginsCall}
+use Rattle.zk_worker.specs.CheckLaws.{is_check, BeginsCall}
 use Rattle.zk_worker.specs.Checks.{is_oops}
 use Rattle.zk_worker.specs.Follows.{IsFollowing}
 use Rattle.zk_worker.specs.Places.{At}
 use Rattle.zk_worker.specs.PollLaws.{Made}
+use Rattle.zk_worker.specs.Protocol.{after}
 use Rattle.zk_worker.specs.Replies.{answer_of}
 use Rattle.zk_worker.specs.Shown.{Shown}
 use Rattle.zk_worker.specs.StackLogs.{ShowsLegalClock}
@@ -72,7 +78,8 @@ IsTold opening closing play answer =
 abbrev pub IsGivenUp : Waiting → ℕ → List Made → Answer → Type 0
 IsGivenUp waiting moment play answer =
     (waited due reply : StepReply) × (place : ℕ) × (waits_at waited ≡ Some place)
-    × (play ≡ (open_step waiting true, waited) ∷ (steps.Clock (clock_ops.AlarmEnd moment), due) ∷ (quit_step waiting place, reply) ∷ [])
+    × (play ≡ (open_step waiting true, waited) ∷ (steps.Clock (clock_ops.AlarmEnd moment), due)
+    ∷ (quit_step waiting place, reply) ∷ [])
     × (answer ≡ answer_of reply)
 
 -- an alarm was set first, for so many ticks; then the call was told as one that waits forever is, or gave its wait up
@@ -94,8 +101,71 @@ IsMadeBy (Wait waiting (Ticks ticks)) play answer = IsToldWithin waiting ticks p
 IsMadeBy (Poll timeout events) play answer = Unit {0}
 IsMadeBy (Channel chan using_ timeout) play answer = Unit {0}
 
--- an answered call: the player stood at its beginning, it was the next call of the innermost open script, and these steps, side by
--- side, were made for it, up to the one that was answered
+-- of a call that may begin a wait with this step, and end it so, this step may come behind these
+abbrev pub MayComeIn : Step → (ℕ → Step) → List Made → Step → Type 0
+MayComeIn opening closing play step =
+    ((play ≡ []) × (step ≡ opening))
+    ⊎ ((waited : StepReply) × (place : ℕ) × (waits_at waited ≡ Some place) × (play ≡ (opening, waited) ∷ [])
+    × (step ≡ closing place))
+
+-- of a call that waits until this moment, the end of its alarm may come, and then that it gives its wait up
+abbrev pub MayQuit : Waiting → ℕ → List Made → Step → Type 0
+MayQuit waiting moment play step =
+    (waited : StepReply) × (place : ℕ) × (waits_at waited ≡ Some place)
+    × (((play ≡ (open_step waiting true, waited) ∷ []) × (step ≡ steps.Clock (clock_ops.AlarmEnd moment)))
+    ⊎ ((due : StepReply) × (play ≡ (open_step waiting true, waited) ∷ (steps.Clock (clock_ops.AlarmEnd moment), due) ∷ [])
+    × (step ≡ quit_step waiting place)))
+
+-- of a call that goes by this plan this step may come behind these, which were made for it
+abbrev pub MayCome : Plan → List Made → Step → Type 0
+MayCome (One first) play step = (play ≡ []) × (step ≡ first)
+MayCome (Pair opening closing) play step = MayComeIn opening (closing_step closing) play step
+MayCome (Twice first second) play step =
+    ((play ≡ []) × (step ≡ first)) ⊎ ((earlier : StepReply) × (play ≡ (first, earlier) ∷ []) × (step ≡ second))
+MayCome (Wait waiting No) play step = MayComeIn (open_step waiting false) (end_step waiting) play step
+MayCome (Wait waiting Forever) play step = MayComeIn (open_step waiting true) (end_step waiting) play step
+MayCome (Wait waiting (Ticks ticks)) play step =
+    ((play ≡ []) × (step ≡ steps.Clock (clock_ops.Alarm ticks)))
+    ⊎ ((moment place : ℕ) × (more : List Made)
+    × (play ≡ (steps.Clock (clock_ops.Alarm ticks), step_replies.Clock (clock_replies.At moment) place) ∷ more)
+    × (MayComeIn (open_step waiting true) (end_step waiting) more step ⊎ MayQuit waiting moment more step))
+MayCome (Poll timeout events) play step = Unit {0}
+MayCome (Channel chan using_ timeout) play step = Unit {0}
+
+-- the call visits observers, or reads a channel: its steps don't stand side by side
+abbrev pub is_with_visits : Word → Bool
+is_with_visits word = is_publish word || is_read word
+
+-- the step may come behind those that were made for a call since its player stood at its beginning
+pub record IsStepOf (s : Parts) (number : ℕ) (front : List Made) (owner next : ℕ) (call : Call) (below : List Frame)
+    (step : Step) : Type 0 where
+  pub before : List Made
+  pub play : List Made
+  pub whole : front ≡ before ++ play
+  pub begins : BeginsCall s number before owner next call below
+  pub may : MayCome (plan_of s.decls call) play step
+
+-- a worker begins and ends runs of its queue, and a script makes checks, and the steps of its next call
+abbrev pub IsOfIts : Parts → ℕ → List Made → Role → ℕ → List Frame → Step → Type 0
+IsOfIts s number front (Worker queue) next below step =
+    (step ≡ steps.Work (work_ops.Begin (number_of s.decls queue))) ⊎ (step ≡ steps.Work (work_ops.End (number_of s.decls queue)))
+IsOfIts s number front (Script owner) next below step = is_check step ≡ false →
+    (call : Call) × (slice_get (calls_of s.scripts owner) next ≡ Some call)
+    × (is_with_visits (word_of call) ≡ false → IsStepOf s number front owner next call below step)
+
+-- so it is with the step of a player's innermost open script or run
+abbrev pub IsOfCall : Parts → ℕ → List Made → List Frame → Step → Type 0
+IsOfCall s number front [] step = ⊥
+IsOfCall s number front (frame ∷ below) step = IsOfIts s number front frame.role frame.next below step
+
+-- and with each of these steps, which go on from a place of the player, behind those in front
+abbrev pub AreOfCalls : Parts → ℕ → List Made → At → List Made → Type 0
+AreOfCalls s number front at [] = Unit {0}
+AreOfCalls s number front at (made ∷ more) =
+    IsOfCall s number front at.frames made.0 × AreOfCalls s number (front ++ made ∷ []) (after s at made.0 made.1) more
+
+-- an answered call: the player stood at its beginning, it was the next call of the innermost open script, and these steps,
+-- side by side, were made for it, up to the one that was answered
 pub record IsCallOf (s : Parts) (number : ℕ) (made : List Made) (a : Answered) : Type 0 where
   pub owner : ℕ
   pub next : ℕ
@@ -110,12 +180,9 @@ pub record IsCallOf (s : Parts) (number : ℕ) (made : List Made) (a : Answered)
   pub begins : BeginsCall s number before owner next call below
   pub made_so : IsMadeBy (plan_of s.decls call) play a.answer
 
--- the call visits observers, or reads a channel: its steps don't stand side by side
-abbrev pub is_with_visits : Word → Bool
-is_with_visits word = is_publish word || is_read word
-
--- of each player that follows a scenario, where what is shown of the clock is legal: each answered call but these, and but those
--- that a failed check ended, made the steps that it is to make, and no other
+-- of each player that follows a scenario, where what is shown of the clock is legal: each of its steps is of a call or a run, and
+-- each call that is answered, but these and but those that a failed check ended, made the steps that it is to make
 abbrev pub EachCallIsMade : Type 0
 EachCallIsMade = (s : Parts) (number : ℕ) (shown : Shown) (at : At) (is : IsFollowing s number shown at) → ShowsLegalClock shown →
-    All (λ a. is_oops a.answer ≡ false → is_with_visits a.word ≡ false → IsCallOf s number is.made a) at.answers
+    AreOfCalls s number [] is.start is.made
+    × All (λ a. is_oops a.answer ≡ false → is_with_visits a.word ≡ false → IsCallOf s number is.made a) at.answers

@@ -2,6 +2,7 @@
 #![tactic(auto)]
 
 mod answers;
+mod call_laws;
 mod calls;
 mod check_laws;
 mod checks;
@@ -24,6 +25,7 @@ mod visit_laws;
 mod waits;
 
 pub use answers::{Answer, Answered, Answers};
+pub use call_laws::calls_are_made;
 pub use check_laws::users_are_checked;
 pub use checks::{Check, Mode};
 pub use frames::{Alarm, Closing, Frame, Mark, Plan, Progress, Role, Stage, Using, Waiting};
