@@ -3,5 +3,6 @@ pub mod Outcomes
 pub mod PollsKept
 pub mod ScriptsKept
 pub mod ChecksKept
+pub mod CallsKept
 pub mod PublishesKept
 pub mod Starts

@@ -1,4 +1,5 @@
 pub mod Answer
+pub mod CallsMade
 pub mod Input
 pub mod Moments
 pub mod Output

@@ -1,8 +1,7 @@
 -- Each call that a player answers, but those that use a channel, made the steps that its form says, and no other.
 use Rattle.std.proofs.Common.{◌≡◌, ◌⊎◌, inl, inr, ℕ, zero, suc, Bool, true, false, Option, Some, None, List, [], ◌∷◌, ◌++◌, All, refl, sym, ap, subst, ◌∙◌}
-use Rattle.std.specs.List.{slice_get, AllZip}
-use Rattle.std.specs.Option.{option_map}
-use Rattle.std.proofs.lemmas.List.Elements.{All-head, All-tail, All-weaker}
+use Rattle.std.specs.List.{slice_get}
+use Rattle.std.proofs.lemmas.List.Elements.{All-head, All-tail}
 use Rattle.std.proofs.lemmas.Option.{same_Some}
 use Rattle.zk_base.proofs.Lists.{slice_get-one}
 use Rattle.zk_model_bus.specs.declared.channel.ChanReply.TheVariants as chan_replies
@@ -12,7 +11,6 @@ use Rattle.zk_model_wait.specs.declared.clock.ClockReply.TheVariants as clock_re
 use Rattle.zk_model_wait.specs.declared.msgq.MsgqReply.TheVariants as msgq_replies
 use Rattle.zk_model_wait.specs.declared.sem.SemReply.TheVariants as sem_replies
 use Rattle.zk_model_work.specs.declared.ops.WorkReply.TheVariants as work_replies
-use Rattle.zk_words.specs.declared.timeout.Timeout.{Timeout}
 use Rattle.zk_words.specs.declared.timeout.Timeout.TheVariants.{No, Forever, Ticks}
 use Rattle.zk_words.specs.declared.word.Word.{Word}
 use Rattle.zk_worker.specs.declared.answers.Answer.{Answer}
@@ -20,7 +18,7 @@ use Rattle.zk_worker.specs.declared.frames.Closing.{Closing}
 use Rattle.zk_worker.specs.declared.frames.Plan.{Plan}
 use Rattle.zk_worker.specs.declared.frames.Plan.TheVariants.{One, Pair, Twice, Wait, Poll, Channel}
 use Rattle.zk_worker.specs.declared.frames.Progress.{Progress}
-use Rattle.zk_worker.specs.declared.frames.Progress.TheVariants.{Goes, Answers, Enters}
+use Rattle.zk_worker.specs.declared.frames.Progress.TheVariants.{Goes, Answers}
 use Rattle.zk_worker.specs.declared.frames.Stage.{Stage}
 use Rattle.zk_worker.specs.declared.frames.Stage.TheVariants as stages
 use Rattle.zk_worker.specs.declared.frames.Waiting.{Waiting}
@@ -29,14 +27,13 @@ use Rattle.zk_worker.specs.declared.steps.Step.{Step}
 use Rattle.zk_worker.specs.declared.steps.Step.TheVariants as steps
 use Rattle.zk_worker.specs.declared.steps.StepReply.{StepReply}
 use Rattle.zk_worker.specs.declared.steps.StepReply.TheVariants as step_replies
-use Rattle.zk_worker.specs.CallLaws.{waits_at, IsToldBy, IsToldByBoth, IsToldAtOnce, IsToldAtTheEnd, IsTold, IsGivenUp, IsToldWithin, IsMadeBy, MayComeIn, MayQuit, MayCome}
+use Rattle.zk_worker.specs.CallLaws.{waits_at, IsToldBy, IsToldByBoth, IsTold, IsGivenUp, IsToldWithin, IsMadeBy, MayComeIn, MayQuit, MayCome}
 use Rattle.zk_worker.specs.Calls.{closing_step, plan_attempts, plan_progress}
 use Rattle.zk_worker.specs.PollLaws.{Made}
 use Rattle.zk_worker.specs.Replies.{answer_of}
 use Rattle.zk_worker.specs.StackLaws.{is_reply_to}
-use Rattle.zk_worker.specs.Waits.{open_step, end_step, quit_step, first_step, opening_progress, until, wait_progress}
+use Rattle.zk_worker.specs.Waits.{open_step, end_step, quit_step, opening_progress, until, wait_progress}
 use Rattle.zk_worker.proofs.CallsPlayed.{Leads, LeadsOn, IsDone}
-use Rattle.zk_worker.proofs.OtherCalls.{is_channel}
 
 -- the reply is of the step's service
 abbrev pub IsFit : Made → Type 0

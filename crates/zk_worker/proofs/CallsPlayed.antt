@@ -46,14 +46,14 @@ use Rattle.zk_worker.specs.CallLaws.{is_with_visits}
 use Rattle.zk_worker.specs.Calls.{plan_of, plan_attempts, plan_progress}
 use Rattle.zk_worker.specs.CheckLaws.{IsLed, BeginsCall}
 use Rattle.zk_worker.specs.Checks.{is_oops, oops_in, top_check}
-use Rattle.zk_worker.specs.Follows.{IsPlayed, IsFollowing}
+use Rattle.zk_worker.specs.Follows.{IsPlayed}
 use Rattle.zk_worker.specs.Places.{At}
 use Rattle.zk_worker.specs.Polls.{poll_answer, is_answered, poll_goes, poll_progress, event_of, marked, mark_of, alarm_after, fresh}
 use Rattle.zk_worker.specs.PollLaws.{Made}
 use Rattle.zk_worker.specs.Publishes.{holds_progress, visit_progress, asking_progress, channel_progress}
 use Rattle.zk_worker.specs.Ranges.{is_start}
 use Rattle.zk_worker.specs.Waits.{opening_progress, until, wait_progress}
-use Rattle.zk_worker.specs.Protocol.{IsAhead, after, after_by, checked, moved, call_attempts, role_attempts, frames_attempts, call_progress, worker_progress, run_progress, role_progress, is_over, settled, entered, first_frame, frames_progress, frames_after, answers_after, spot_of, starting, start_at, role_at}
+use Rattle.zk_worker.specs.Protocol.{IsAhead, after, checked, moved, call_attempts, role_attempts, frames_attempts, call_progress, worker_progress, run_progress, role_progress, is_over, settled, entered, first_frame, frames_progress, frames_after, answers_after, spot_of, starting, start_at, role_at}
 use Rattle.zk_worker.proofs.CheckedSteps.{IsCheck, IsOwn, turn, check-of-top, check-starts}
 use Rattle.zk_worker.proofs.Following.{played-more}
 use Rattle.zk_worker.proofs.OtherCalls.{is_channel, EntersNone, plan-plain}

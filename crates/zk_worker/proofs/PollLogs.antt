@@ -1,5 +1,5 @@
 -- Each poll that a player answers has its play among the player's steps.
-use Rattle.std.proofs.Common.{◌≡◌, ℕ, false, Some, List, [], ◌∷◌, All, refl, sym, ap, subst, ◌∙◌}
+use Rattle.std.proofs.Common.{◌≡◌, ℕ, false, Some, List, [], ◌∷◌, refl, sym, ap, subst, ◌∙◌}
 use Rattle.std.proofs.lemmas.List.Elements.{All-weaker}
 use Rattle.zk_line.specs.declared.types.Call.{Call}
 use Rattle.zk_line.specs.declared.types.Call.TheVariants as calls
@@ -16,7 +16,7 @@ use Rattle.zk_worker.specs.declared.frames.Stage.{Stage}
 use Rattle.zk_worker.specs.CallLaws.{is_with_visits}
 use Rattle.zk_worker.specs.Calls.{plan_of}
 use Rattle.zk_worker.specs.Checks.{is_oops}
-use Rattle.zk_worker.specs.PollLaws.{Made, Leads, LeadsOn, IsAnswered}
+use Rattle.zk_worker.specs.PollLaws.{Made, LeadsOn, IsAnswered}
 use Rattle.zk_worker.specs.PollLogs.{IsPollOf, EachPollIsPlayed}
 use Rattle.zk_worker.proofs.CallsPlayed as plays
 use Rattle.zk_worker.proofs.CallsPlayed.{IsPlayOf, IsDone, each_call_is_played}

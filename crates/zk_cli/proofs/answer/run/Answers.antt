@@ -22,6 +22,7 @@ use Rattle.zk_model_work.proofs.Drains.{undrained-fresh}
 use Rattle.zk_cli.specs.Answer.{IsOutput}
 use Rattle.zk_cli.proofs.Outcomes.{output-run}
 use Rattle.zk_cli.proofs.PollsKept.{polls-kept}
+use Rattle.zk_cli.proofs.CallsKept.{calls-kept}
 use Rattle.zk_cli.proofs.ChecksKept.{checks-kept}
 use Rattle.zk_cli.proofs.PublishesKept.{publishes-kept}
 use Rattle.zk_cli.proofs.ScriptsKept.{scripts-kept}
@@ -90,6 +91,7 @@ returns c =
       scripts = scripts-kept c.args.scenario.now trace c.replay.ensures.valid c.in_ok-trace.ensures.lawful;
       publishes = publishes-kept c.args.scenario.now trace c.replay.ensures.valid c.in_ok-trace.ensures.lawful;
       checks = checks-kept c.args.scenario.now trace c.in_ok-trace.ensures.lawful;
+      calls = calls-kept c.args.scenario.now trace c.in_ok-trace.ensures.lawful;
       over = c.in_ok-trace.ensures.over;
       ends = refl;
       printed = c.in_ok-put_trace.ensures.text ∙ ap (λ (text : List ℕ). text ++ trace_text c.args.scenario.now trace) c.requires.spelled;
