@@ -1,11 +1,11 @@
 -- The calls of a lawful trace made the steps of their forms.
-use Rattle.std.proofs.Common.{◌≡◌, false, List, All, ap, subst}
+use Rattle.std.proofs.Common.{◌≡◌, ◌⊎◌, false, List, All, ap, subst}
 use Rattle.std.specs.List.{AllZip}
 use Rattle.zk_scenario.specs.Parts.{Parts}
 use Rattle.zk_worker.specs.declared.answers.Answered.{Answered}
 use Rattle.zk_worker.specs.declared.log.Log.{Log}
 use Rattle.zk_worker.specs.declared.steps.Spot.{Spot}
-use Rattle.zk_worker.specs.CallLaws.{is_with_visits, IsCallOf}
+use Rattle.zk_worker.specs.CallLaws.{IsCallOf, IsUseOf}
 use Rattle.zk_worker.specs.Checks.{is_oops}
 use Rattle.zk_worker.specs.Follows.{Stands}
 use Rattle.zk_worker.proofs.CallLogs.{each_call_is_made}
@@ -30,5 +30,5 @@ calls-kept s t lawful number log is =
       led = follows.led.played;
       logged = follows.logged;
       steps = all.0;
-      answered = subst (All (λ (a : Answered). is_oops a.answer ≡ false → is_with_visits a.word ≡ false → IsCallOf s number follows.led.made a)) answers all.1;
+      answered = subst (All (λ (a : Answered). is_oops a.answer ≡ false → IsCallOf s number follows.led.made a ⊎ IsUseOf follows.led.made a)) answers all.1;
     }

@@ -1,8 +1,8 @@
-use Rattle.std.specs.Prelude.{◌≡◌, ℕ, false, Some, List, [], slice_get, All}
+use Rattle.std.specs.Prelude.{◌≡◌, ◌⊎◌, ℕ, false, Some, List, [], slice_get, All}
 use Rattle.std.specs.List.{AllZip}
 use Rattle.zk_scenario.specs.Parts.{Parts}
 use Rattle.zk_worker.specs.declared.log.Log.{Log}
-use Rattle.zk_worker.specs.CallLaws.{is_with_visits, IsCallOf, AreOfCalls}
+use Rattle.zk_worker.specs.CallLaws.{AreOfCalls, IsCallOf, IsUseOf}
 use Rattle.zk_worker.specs.Checks.{is_oops}
 use Rattle.zk_worker.specs.Follows.{Stands, IsPlayed, log_of}
 use Rattle.zk_worker.specs.Places.{At}
@@ -13,8 +13,8 @@ use Rattle.zk_trace.specs.declared.trace.Trace.{Trace}
 use Rattle.zk_trace.specs.Shown.{trace_shown}
 
 -- the steps that a log's spots stand for lead the player from its start to the place that is logged; each is of a run, a
--- check, or one that its next call has to make; and each call that is answered, but for publishes, notifies and reads, made
--- just the steps of its form, side by side
+-- check, or one that its next call has to make; and each call that is answered made just the steps of its form, side by
+-- side, or its last one used a channel, as a publish, a notify or a read does that has it
 pub record MakesItsCalls (s : Parts) (number : ℕ) (shown : Shown) (log : Log) : Type 0 where
   pub start : At
   pub starts : start_at s number ≡ Some start
@@ -24,7 +24,7 @@ pub record MakesItsCalls (s : Parts) (number : ℕ) (shown : Shown) (log : Log) 
   pub led : IsPlayed s start made end
   pub logged : log_of end ≡ log
   pub steps : AreOfCalls s number [] start made
-  pub answered : All (λ a. is_oops a.answer ≡ false → is_with_visits a.word ≡ false → IsCallOf s number made a) log.answers
+  pub answered : All (λ a. is_oops a.answer ≡ false → IsCallOf s number made a ⊎ IsUseOf made a) log.answers
 
 -- the log of each player of a trace is such a one
 abbrev pub EachMakesItsCalls : Parts → Trace → Type 0

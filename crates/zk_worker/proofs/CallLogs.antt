@@ -1,5 +1,5 @@
 -- Each call in the log of a player, but those that use a channel, made the steps that its form says.
-use Rattle.std.proofs.Common.{◌≡◌, ◌⊎◌, inl, inr, ℕ, false, Option, Some, None, List, [], ◌∷◌, ◌++◌, All, refl, sym, ap, subst}
+use Rattle.std.proofs.Common.{◌≡◌, ◌⊎◌, inl, inr, ℕ, Bool, true, false, Option, Some, None, List, [], ◌∷◌, ◌++◌, All, refl, sym, ap, subst}
 use Rattle.std.specs.List.{slice_get, AllZip}
 use Rattle.std.proofs.lemmas.List.Elements.{All-nil, All-cons, All-push, All-head, All-tail, All-weaker}
 use Rattle.zk_base.proofs.Lists.{All-front, All-back, slice_get-one}
@@ -25,8 +25,8 @@ use Rattle.zk_worker.specs.declared.steps.Spot.{Spot}
 use Rattle.zk_worker.specs.declared.steps.Spot.TheVariants as spots
 use Rattle.zk_worker.specs.declared.steps.Step.TheVariants as steps
 use Rattle.zk_worker.specs.declared.steps.StepReply.TheVariants as step_replies
-use Rattle.zk_worker.specs.CallLaws.{is_with_visits, IsStepOf, IsOfIts, IsOfCall, AreOfCalls, IsCallOf, EachCallIsMade}
-use Rattle.zk_worker.specs.Calls.{plan_of}
+use Rattle.zk_worker.specs.CallLaws.{is_in_use, IsStepOf, IsOfIts, IsOfCall, AreOfCalls, IsCallOf, IsUseOf, EachCallIsMade}
+use Rattle.zk_worker.specs.Calls.{plan_of, plan_attempts}
 use Rattle.zk_worker.specs.CheckLaws.{is_check}
 use Rattle.zk_worker.specs.Checks.{is_oops, check_step, role_check, top_check}
 use Rattle.zk_worker.specs.Follows.{Stands, IsPlayed}
@@ -37,7 +37,8 @@ use Rattle.zk_worker.specs.Shown.{Shown}
 use Rattle.zk_worker.specs.StackLogs.{ShowsLegalClock}
 use Rattle.zk_worker.proofs.CheckedSteps.{IsCheck, IsOwn, one-or-other, check-of-top}
 use Rattle.zk_worker.proofs.CallsMade.{IsFit, made-so, may-come}
-use Rattle.zk_worker.proofs.CallsPlayed.{IsPlayOf, PlaysOn, AreOpen, Holds, other-plan, holds-step, holds-start, each_call_is_played}
+use Rattle.zk_worker.proofs.CallsPlayed.{IsPlayOf, PlaysOn, AreOpen, Holds, call-uses, holds-step, holds-start, each_call_is_played}
+use Rattle.zk_worker.proofs.OtherCalls.{is_with_channel}
 use Rattle.zk_worker.proofs.LogsPlayed.{clock-tells}
 use Rattle.zk_worker.proofs.ShownSteps.{made-of}
 
@@ -92,22 +93,23 @@ module _ (s : Parts) (number : ℕ) (front : List Made) (fit : All IsFit front) 
   -- an attempt of a script is a step of its next call
   script-step : (below : List Frame) (owner next : ℕ) (stage : Stage) (index : ℕ) (step : Step) → PlaysOn s number front below (Script owner) next stage →
       slice_get (role_attempts s (Script owner) next stage) index ≡ Some step →
-      (call : Call) × (slice_get (calls_of s.scripts owner) next ≡ Some call) × (is_with_visits (word_of call) ≡ false → IsStepOf s number front owner next call below step)
+      (call : Call) × (slice_get (calls_of s.scripts owner) next ≡ Some call) × (is_in_use (word_of call) step ≡ false → IsStepOf s number front owner next call below step)
   script-step below owner next stage index step plays ahead = by (slice_get (calls_of s.scripts owner) next) refl ahead where
     by : (o : Option Call) → slice_get (calls_of s.scripts owner) next ≡ o → slice_get (call_attempts s.decls o stage) index ≡ Some step →
-        (call : Call) × (slice_get (calls_of s.scripts owner) next ≡ Some call) × (is_with_visits (word_of call) ≡ false → IsStepOf s number front owner next call below step)
+        (call : Call) × (slice_get (calls_of s.scripts owner) next ≡ Some call) × (is_in_use (word_of call) step ≡ false → IsStepOf s number front owner next call below step)
     by None there ahead = absurd (cc)
-    by (Some call) there ahead = (
-      call,
-      there,
-      λ other. let was = plays call there (other-plan s.decls call other) in record {
-        before = was.before;
-        play = was.play;
-        whole = was.whole;
-        begins = was.begins;
-        may = may-come (word_of call) (plan_of s.decls call) was.play stage index step was.led ahead (All-back IsFit was.before was.play (subst (All IsFit) was.whole fit));
-      },
-    )
+    by (Some call) there ahead = (call, there, λ other. at call there ahead other (is_with_channel stage) refl) where
+      at : (call : Call) → slice_get (calls_of s.scripts owner) next ≡ Some call → slice_get (plan_attempts (plan_of s.decls call) stage) index ≡ Some step → is_in_use (word_of call) step ≡ false →
+          (b : Bool) → is_with_channel stage ≡ b → IsStepOf s number front owner next call below step
+      at call there ahead other true with = absurd (let uses = call-uses s.decls call stage index step with ahead in cc)
+      at call there ahead other false asks =
+          let was = plays call there asks in record {
+            before = was.before;
+            play = was.play;
+            whole = was.whole;
+            begins = was.begins;
+            may = may-come (word_of call) (plan_of s.decls call) was.play stage index step was.led asks ahead (All-back IsFit was.before was.play (subst (All IsFit) was.whole fit));
+          }
 
   own-step : (frames : List Frame) (index : ℕ) (step : Step) → AreOpen s number front frames → slice_get (frames_attempts s frames) index ≡ Some step → IsOfCall s number front frames step
   own-step [] index step are ahead = absurd (cc)
@@ -141,12 +143,16 @@ are-of-calls s number front (m ∷ more) at end holds led first fit = (
 
 -- Each player.
 
+either-of : (s : Parts) (number : ℕ) (made : List Made) (a : Answered) → All IsFit made → IsPlayOf s number made a ⊎ IsUseOf made a → IsCallOf s number made a ⊎ IsUseOf made a
+either-of s number made a fit (inl of) = inl (call-of s number made a fit of)
+either-of s number made a fit (inr of) = inr of
+
 pub each_call_is_made : EachCallIsMade
 each_call_is_made s number shown at is timed =
     let fit = all-fit shown timed at.spots is.made is.stands in (
       are-of-calls s number [] is.made is.start at (holds-start s number is.start is.starts) is.played (All-nil IsFit) fit,
-      All-weaker (λ (a : Answered). is_oops a.answer ≡ false → is_with_visits a.word ≡ false → IsPlayOf s number is.made a)
-          (λ (a : Answered). is_oops a.answer ≡ false → is_with_visits a.word ≡ false → IsCallOf s number is.made a)
-          (λ a played passed other. call-of s number is.made a fit (played passed other)) at.answers
+      All-weaker (λ (a : Answered). is_oops a.answer ≡ false → IsPlayOf s number is.made a ⊎ IsUseOf is.made a)
+          (λ (a : Answered). is_oops a.answer ≡ false → IsCallOf s number is.made a ⊎ IsUseOf is.made a)
+          (λ a played passed. either-of s number is.made a fit (played passed)) at.answers
           (each_call_is_played s number at is.start is.made is.starts is.played),
     )

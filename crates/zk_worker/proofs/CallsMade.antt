@@ -11,6 +11,7 @@ use Rattle.zk_model_wait.specs.declared.clock.ClockReply.TheVariants as clock_re
 use Rattle.zk_model_wait.specs.declared.msgq.MsgqReply.TheVariants as msgq_replies
 use Rattle.zk_model_wait.specs.declared.sem.SemReply.TheVariants as sem_replies
 use Rattle.zk_model_work.specs.declared.ops.WorkReply.TheVariants as work_replies
+use Rattle.zk_words.specs.declared.timeout.Timeout.{Timeout}
 use Rattle.zk_words.specs.declared.timeout.Timeout.TheVariants.{No, Forever, Ticks}
 use Rattle.zk_words.specs.declared.word.Word.{Word}
 use Rattle.zk_worker.specs.declared.answers.Answer.{Answer}
@@ -21,19 +22,22 @@ use Rattle.zk_worker.specs.declared.frames.Progress.{Progress}
 use Rattle.zk_worker.specs.declared.frames.Progress.TheVariants.{Goes, Answers}
 use Rattle.zk_worker.specs.declared.frames.Stage.{Stage}
 use Rattle.zk_worker.specs.declared.frames.Stage.TheVariants as stages
+use Rattle.zk_worker.specs.declared.frames.Using.{Using}
 use Rattle.zk_worker.specs.declared.frames.Waiting.{Waiting}
 use Rattle.zk_worker.specs.declared.frames.Waiting.TheVariants as waitings
 use Rattle.zk_worker.specs.declared.steps.Step.{Step}
 use Rattle.zk_worker.specs.declared.steps.Step.TheVariants as steps
 use Rattle.zk_worker.specs.declared.steps.StepReply.{StepReply}
 use Rattle.zk_worker.specs.declared.steps.StepReply.TheVariants as step_replies
-use Rattle.zk_worker.specs.CallLaws.{waits_at, IsToldBy, IsToldByBoth, IsTold, IsGivenUp, IsToldWithin, IsMadeBy, MayComeIn, MayQuit, MayCome}
+use Rattle.zk_worker.specs.CallLaws.{waits_at, IsToldBy, IsToldByBoth, IsTold, IsGivenUp, IsToldWithin, IsServed, IsMadeBy, MayComeIn, MayQuit, MayAsk, MayCome}
 use Rattle.zk_worker.specs.Calls.{closing_step, plan_attempts, plan_progress}
 use Rattle.zk_worker.specs.PollLaws.{Made}
+use Rattle.zk_worker.specs.Publishes.{asks_for, channel_attempts, asking_progress, channel_progress}
 use Rattle.zk_worker.specs.Replies.{answer_of}
 use Rattle.zk_worker.specs.StackLaws.{is_reply_to}
-use Rattle.zk_worker.specs.Waits.{open_step, end_step, quit_step, opening_progress, until, wait_progress}
-use Rattle.zk_worker.proofs.CallsPlayed.{Leads, LeadsOn, IsDone}
+use Rattle.zk_worker.specs.Waits.{open_step, end_step, quit_step, wait_attempts, opening_progress, until, wait_progress}
+use Rattle.zk_worker.proofs.CallsPlayed.{Leads, LeadsOn, IsDone, plan-stays}
+use Rattle.zk_worker.proofs.OtherCalls.{is_with_channel}
 
 -- the reply is of the step's service
 abbrev pub IsFit : Made → Type 0
@@ -333,18 +337,77 @@ told-within word waiting ticks (m ∷ more) last stage play answer whole led ans
       told-alarmed word waiting ticks at.0 more last stage answer rest answered (All-tail IsFit m (more ++ last ∷ []) fit),
     )
 
+-- A call that asks for its channel.
+
+-- until it has that, it makes the steps of a wait
+ask-attempts : (chan : ℕ) (using_ : Using) (timeout : Timeout) (stage : Stage) → is_with_channel stage ≡ false → channel_attempts chan using_ timeout stage ≡ wait_attempts (asks_for chan using_) timeout stage
+ask-attempts chan using_ timeout stages.Holds asks = absurd (cc)
+ask-attempts chan using_ timeout (stages.Visits left full) asks = absurd (cc)
+ask-attempts chan using_ timeout (stages.Reads message) asks = absurd (cc)
+ask-attempts chan using_ timeout stage asks = refl
+
+ask-progress : (word : Word) (stage : Stage) (reply : StepReply) → is_with_channel stage ≡ false → channel_progress word stage reply ≡ asking_progress word stage reply
+ask-progress word stages.Holds reply asks = absurd (cc)
+ask-progress word (stages.Visits left full) reply asks = absurd (cc)
+ask-progress word (stages.Reads message) reply asks = absurd (cc)
+ask-progress word stage reply asks = refl
+
+asking-waits : (word : Word) (stage : Stage) (reply : StepReply) (progress : Progress) → asking_progress word stage reply ≡ progress → (progress ≡ Goes stages.Holds → ⊥) → wait_progress word stage reply ≡ progress
+asking-waits word stage (step_replies.Chan chan chan_replies.Got place) progress comes other = absurd (other (sym comes))
+asking-waits word stage reply progress comes other = comes
+
+as-wait : (word : Word) (chan : ℕ) (using_ : Using) (timeout : Timeout) (stage : Stage) (made : Made) (progress : Progress) → is_with_channel stage ≡ false → (progress ≡ Goes stages.Holds → ⊥) →
+    Leads word (Channel chan using_ timeout) stage made progress → Leads word (Wait (asks_for chan using_) timeout) stage made progress
+as-wait word chan using_ timeout stage made progress asks other leads = record {
+  index = leads.index;
+  ahead = ap (λ (l : List Step). slice_get l leads.index) (sym (ask-attempts chan using_ timeout stage asks)) ∙ leads.ahead;
+  comes = asking-waits word stage made.1 progress (sym (ask-progress word stage made.1 asks) ∙ leads.comes) other;
+}
+
+-- before a stage without its channel it hadn't that either
+asks-first : (word : Word) (form : Plan) (stage : Stage) (play : List Made) (end : Stage) → LeadsOn word form stage play end → is_with_channel end ≡ false → is_with_channel stage ≡ false
+asks-first word form stage [] end led asks = ap is_with_channel led ∙ asks
+asks-first word form stage (m ∷ more) end led asks =
+    plan-stays word form stage led.1.index m led.0 led.1.ahead led.1.comes (asks-first word form led.0 more end led.2 asks)
+
+waits-on : (word : Word) (chan : ℕ) (using_ : Using) (timeout : Timeout) (stage : Stage) (play : List Made) (end : Stage) → LeadsOn word (Channel chan using_ timeout) stage play end →
+    is_with_channel end ≡ false → LeadsOn word (Wait (asks_for chan using_) timeout) stage play end
+waits-on word chan using_ timeout stage [] end led asks = led
+waits-on word chan using_ timeout stage (m ∷ more) end led asks =
+    let next = asks-first word (Channel chan using_ timeout) led.0 more end led.2 asks in
+    let here = asks-first word (Channel chan using_ timeout) stage (m ∷ more) end led asks in (
+      led.0,
+      as-wait word chan using_ timeout stage m (Goes led.0) here (λ holds. let with : led.0 ≡ stages.Holds = cc in let never = ap is_with_channel with in cc) led.1,
+      waits-on word chan using_ timeout led.0 more end led.2 asks,
+    )
+
+asked : (word : Word) (chan : ℕ) (using_ : Using) (timeout : Timeout) (play : List Made) (answer : Answer) → IsDone word (Channel chan using_ timeout) play answer →
+    IsDone word (Wait (asks_for chan using_) timeout) play answer
+asked word chan using_ timeout play answer done = record {
+  front = done.front;
+  last = done.last;
+  stage = done.stage;
+  whole = done.whole;
+  led = waits-on word chan using_ timeout stages.Start done.front done.stage done.led done.asks;
+  asks = done.asks;
+  answered = as-wait word chan using_ timeout done.stage done.last (Answers word answer) done.asks (λ is. cc) done.answered;
+}
+
 -- By the form of the call.
+
+served : (word : Word) (waiting : Waiting) (timeout : Timeout) (play : List Made) (answer : Answer) → IsDone word (Wait waiting timeout) play answer → All IsFit play → IsServed waiting timeout play answer
+served word waiting No play answer done fit = told-no word waiting play answer done fit
+served word waiting Forever play answer done fit = told-forever word waiting play answer done fit
+served word waiting (Ticks ticks) play answer done fit =
+    told-within word waiting ticks done.front done.last done.stage play answer done.whole done.led done.answered (subst (All IsFit) done.whole fit)
 
 pub made-so : (word : Word) (plan : Plan) (play : List Made) (answer : Answer) → IsDone word plan play answer → All IsFit play → IsMadeBy plan play answer
 made-so word (One step) play answer done fit = told-one word step done.front done.last done.stage play answer done.whole done.led done.answered
 made-so word (Pair opening closing) play answer done fit = told-pair word opening closing (play, answer, done) fit
 made-so word (Twice first second) play answer done fit = told-both word first second done.front done.last done.stage play answer done.whole done.led done.answered
-made-so word (Wait waiting No) play answer done fit = told-no word waiting play answer done fit
-made-so word (Wait waiting Forever) play answer done fit = told-forever word waiting play answer done fit
-made-so word (Wait waiting (Ticks ticks)) play answer done fit =
-    told-within word waiting ticks done.front done.last done.stage play answer done.whole done.led done.answered (subst (All IsFit) done.whole fit)
+made-so word (Wait waiting timeout) play answer done fit = served word waiting timeout play answer done fit
 made-so word (Poll timeout events) play answer done fit = tt
-made-so word (Channel chan using_ timeout) play answer done fit = tt
+made-so word (Channel chan using_ timeout) play answer done fit = served word (asks_for chan using_) timeout play answer (asked word chan using_ timeout play answer done) fit
 
 -- The step that comes next.
 
@@ -445,7 +508,7 @@ module _ (word : Word) (waiting : Waiting) (ticks moment : ℕ) where
           let never = here.comes in cc)
 
 next-within : (word : Word) (waiting : Waiting) (ticks : ℕ) (play : List Made) (stage : Stage) (index : ℕ) (step : Step) → LeadsOn word (Wait waiting (Ticks ticks)) stages.Start play stage →
-    slice_get (plan_attempts (Wait waiting (Ticks ticks)) stage) index ≡ Some step → All IsFit play → MayCome (Wait waiting (Ticks ticks)) play step
+    slice_get (plan_attempts (Wait waiting (Ticks ticks)) stage) index ≡ Some step → All IsFit play → MayAsk waiting (Ticks ticks) play step
 next-within word waiting ticks [] stage index step led ahead fit =
     inl (refl, comes-one (steps.Clock (clock_ops.Alarm ticks)) index step (ap (λ (t : Stage). slice_get (plan_attempts (Wait waiting (Ticks ticks)) t) index) led ∙ ahead))
 next-within word waiting ticks (m ∷ more) stage index step led ahead fit =
@@ -461,23 +524,30 @@ next-within word waiting ticks (m ∷ more) stage index step led ahead fit =
       next-alarmed word waiting ticks at.0 more stage index step rest ahead (All-tail IsFit m more fit),
     )
 
--- an attempt of a call may come behind the steps that led it there
-pub may-come : (word : Word) (plan : Plan) (play : List Made) (stage : Stage) (index : ℕ) (step : Step) → LeadsOn word plan stages.Start play stage → slice_get (plan_attempts plan stage) index ≡ Some step →
-    All IsFit play → MayCome plan play step
+may-ask : (word : Word) (waiting : Waiting) (timeout : Timeout) (play : List Made) (stage : Stage) (index : ℕ) (step : Step) → LeadsOn word (Wait waiting timeout) stages.Start play stage →
+    slice_get (plan_attempts (Wait waiting timeout) stage) index ≡ Some step → All IsFit play → MayAsk waiting timeout play step
 unfolding Begins
-may-come word (One first) play stage index step led ahead fit = next-one word first play stage index step led ahead
-may-come word (Pair opening closing) play stage index step led ahead fit =
-    next-wait word (Pair opening closing) stages.Start opening (closing_step closing) stages.Waits refl (λ made progress fits same comes. opens-so word made.1 progress comes)
-    (record { attempts = λ place. refl; comes = λ place made fits same. refl }) play stage index step led ahead fit
-may-come word (Twice first second) play stage index step led ahead fit = next-both word first second play stage index step led ahead
-may-come word (Wait waiting No) play stage index step led ahead fit =
+may-ask word waiting No play stage index step led ahead fit =
     next-wait word (Wait waiting No) stages.Start (open_step waiting false) (end_step waiting) stages.Waits refl
     (λ made progress fits same comes. opens-so word made.1 progress (sym (starts-so word waiting false made.1 (fits-step (open_step waiting false) made fits same)) ∙ comes))
     (record { attempts = λ place. refl; comes = λ place made fits same. refl }) play stage index step led ahead fit
-may-come word (Wait waiting Forever) play stage index step led ahead fit =
+may-ask word waiting Forever play stage index step led ahead fit =
     next-wait word (Wait waiting Forever) stages.Start (open_step waiting true) (end_step waiting) stages.Waits refl
     (λ made progress fits same comes. opens-so word made.1 progress (sym (starts-so word waiting true made.1 (fits-step (open_step waiting true) made fits same)) ∙ comes))
     (record { attempts = λ place. refl; comes = λ place made fits same. refl }) play stage index step led ahead fit
-may-come word (Wait waiting (Ticks ticks)) play stage index step led ahead fit = next-within word waiting ticks play stage index step led ahead fit
-may-come word (Poll timeout events) play stage index step led ahead fit = tt
-may-come word (Channel chan using_ timeout) play stage index step led ahead fit = tt
+may-ask word waiting (Ticks ticks) play stage index step led ahead fit = next-within word waiting ticks play stage index step led ahead fit
+
+-- an attempt of a call that hasn't a channel may come behind the steps that led it there
+pub may-come : (word : Word) (plan : Plan) (play : List Made) (stage : Stage) (index : ℕ) (step : Step) → LeadsOn word plan stages.Start play stage → is_with_channel stage ≡ false →
+    slice_get (plan_attempts plan stage) index ≡ Some step → All IsFit play → MayCome plan play step
+unfolding Begins
+may-come word (One first) play stage index step led asks ahead fit = next-one word first play stage index step led ahead
+may-come word (Pair opening closing) play stage index step led asks ahead fit =
+    next-wait word (Pair opening closing) stages.Start opening (closing_step closing) stages.Waits refl (λ made progress fits same comes. opens-so word made.1 progress comes)
+    (record { attempts = λ place. refl; comes = λ place made fits same. refl }) play stage index step led ahead fit
+may-come word (Twice first second) play stage index step led asks ahead fit = next-both word first second play stage index step led ahead
+may-come word (Wait waiting timeout) play stage index step led asks ahead fit = may-ask word waiting timeout play stage index step led ahead fit
+may-come word (Poll timeout events) play stage index step led asks ahead fit = tt
+may-come word (Channel chan using_ timeout) play stage index step led asks ahead fit =
+    may-ask word (asks_for chan using_) timeout play stage index step (waits-on word chan using_ timeout stages.Start play stage led asks)
+    (ap (λ (l : List Step). slice_get l index) (sym (ask-attempts chan using_ timeout stage asks)) ∙ ahead) fit

@@ -82,7 +82,7 @@ module _ (s : Parts) (chans : ChanHistories) (who : Who) (word : Word) where
       let isnt = calm-frees step reply (uses-none step (wait-calm (asks_for chan u) timeout stage k step there)) in absurd (cc)
 
 -- the words of calls that use a channel
-channel-word : (decls : List Decl) (call : Call) → is_channel (plan_of decls call) ≡ true → (is_publish (word_of call) || is_read (word_of call)) ≡ true
+pub channel-word : (decls : List Decl) (call : Call) → is_channel (plan_of decls call) ≡ true → (is_publish (word_of call) || is_read (word_of call)) ≡ true
 channel-word decls (calls.Publish channel message timeout) is = refl
 channel-word decls (calls.Notify channel timeout) is = refl
 channel-word decls (calls.Read channel timeout) is = refl

@@ -1,5 +1,5 @@
 -- Each poll that a player answers has its play among the player's steps.
-use Rattle.std.proofs.Common.{◌≡◌, ℕ, false, Some, List, [], ◌∷◌, refl, sym, ap, subst, ◌∙◌}
+use Rattle.std.proofs.Common.{◌≡◌, ◌⊎◌, inl, inr, ℕ, false, Some, List, [], ◌∷◌, refl, sym, ap, subst, ◌∙◌}
 use Rattle.std.proofs.lemmas.List.Elements.{All-weaker}
 use Rattle.zk_line.specs.declared.types.Call.{Call}
 use Rattle.zk_line.specs.declared.types.Call.TheVariants as calls
@@ -13,7 +13,7 @@ use Rattle.zk_worker.specs.declared.answers.Answer.{Answer}
 use Rattle.zk_worker.specs.declared.answers.Answered.{Answered}
 use Rattle.zk_worker.specs.declared.frames.Plan.TheVariants.{Poll}
 use Rattle.zk_worker.specs.declared.frames.Stage.{Stage}
-use Rattle.zk_worker.specs.CallLaws.{is_with_visits}
+use Rattle.zk_worker.specs.CallLaws.{is_in_use, IsUseOf}
 use Rattle.zk_worker.specs.Calls.{plan_of}
 use Rattle.zk_worker.specs.Checks.{is_oops}
 use Rattle.zk_worker.specs.PollLaws.{Made, LeadsOn, IsAnswered}
@@ -61,9 +61,14 @@ of-play s number made a poll of =
       answered = subst (λ (w : Word). IsAnswered w polls.0 polls.1 of.play a.answer) (sym poll) (poll-done words.Poll polls.0 polls.1 of.play a.answer done);
     }
 
+-- a poll uses no channel
+polls : (s : Parts) (number : ℕ) (made : List Made) (a : Answered) → a.word ≡ words.Poll → IsPlayOf s number made a ⊎ IsUseOf made a → IsPollOf s made a
+polls s number made a poll (inl of) = of-play s number made a poll of
+polls s number made a poll (inr of) = absurd (let uses = ap (λ (w : Word). is_in_use w of.step.0) (sym poll) ∙ of.in_use in cc)
+
 pub each_poll_is_played : EachPollIsPlayed
 each_poll_is_played s number shown at is =
-    All-weaker (λ (a : Answered). is_oops a.answer ≡ false → is_with_visits a.word ≡ false → IsPlayOf s number is.made a)
+    All-weaker (λ (a : Answered). is_oops a.answer ≡ false → IsPlayOf s number is.made a ⊎ IsUseOf is.made a)
     (λ (a : Answered). a.word ≡ words.Poll → is_oops a.answer ≡ false → IsPollOf s is.made a)
-    (λ a played poll passed. of-play s number is.made a poll (played passed (ap is_with_visits poll))) at.answers
+    (λ a played poll passed. polls s number is.made a poll (played passed)) at.answers
     (each_call_is_played s number at is.start is.made is.starts is.played)

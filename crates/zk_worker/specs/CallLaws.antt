@@ -1,4 +1,4 @@
-use Rattle.std.specs.Prelude.{◌≡◌, ◌⊎◌, ℕ, ◌+◌, ◌||◌, Bool, true, false, Option, Some, None, List, [], ◌∷◌, ◌++◌, length, slice_get, All}
+use Rattle.std.specs.Prelude.{◌≡◌, ◌⊎◌, ℕ, ◌+◌, ◌&&◌, ◌||◌, Bool, true, false, is_some, Option, Some, None, List, [], ◌∷◌, ◌++◌, length, slice_get, All}
 use Rattle.zk_line.specs.Calls.{word_of}
 use Rattle.zk_line.specs.Objects.{number_of}
 use Rattle.zk_line.specs.declared.types.Call.{Call}
@@ -12,6 +12,7 @@ use Rattle.zk_model_work.specs.declared.ops.WorkOp.TheVariants as work_ops
 use Rattle.zk_model_work.specs.declared.ops.WorkReply.TheVariants as work_replies
 use Rattle.zk_scenario.specs.Parts.{Parts}
 use Rattle.zk_scenario.specs.Players.{calls_of}
+use Rattle.zk_words.specs.declared.timeout.Timeout.{Timeout}
 use Rattle.zk_words.specs.declared.timeout.Timeout.TheVariants.{No, Forever, Ticks}
 use Rattle.zk_words.specs.declared.word.Word.{Word}
 use Rattle.zk_worker.specs.declared.answers.Answer.{Answer}
@@ -33,10 +34,11 @@ use Rattle.zk_worker.specs.Follows.{IsFollowing}
 use Rattle.zk_worker.specs.Places.{At}
 use Rattle.zk_worker.specs.PollLaws.{Made}
 use Rattle.zk_worker.specs.Protocol.{after}
+use Rattle.zk_worker.specs.Publishes.{asks_for}
 use Rattle.zk_worker.specs.Replies.{answer_of}
 use Rattle.zk_worker.specs.Shown.{Shown}
 use Rattle.zk_worker.specs.StackLogs.{ShowsLegalClock}
-use Rattle.zk_worker.specs.VisitLaws.{is_publish, is_read}
+use Rattle.zk_worker.specs.VisitLaws.{used_chan, is_publish, is_read}
 use Rattle.zk_worker.specs.Waits.{open_step, end_step, quit_step}
 
 -- the place of the entry by which a call waits, where this reply tells it to
@@ -89,17 +91,21 @@ IsToldWithin waiting ticks play answer =
     × (play ≡ (steps.Clock (clock_ops.Alarm ticks), step_replies.Clock (clock_replies.At moment) place) ∷ more)
     × (IsTold (open_step waiting true) (end_step waiting) more answer ⊎ IsGivenUp waiting moment more answer)
 
--- a call that goes by this plan made just these steps, and was answered so; of polls and of calls that use a channel other laws
--- speak
+-- a call that asks for this and waits so long, if it has to, made just these steps, and was answered so
+abbrev pub IsServed : Waiting → Timeout → List Made → Answer → Type 0
+IsServed waiting No play answer = IsTold (open_step waiting false) (end_step waiting) play answer
+IsServed waiting Forever play answer = IsTold (open_step waiting true) (end_step waiting) play answer
+IsServed waiting (Ticks ticks) play answer = IsToldWithin waiting ticks play answer
+
+-- a call that goes by this plan made just these steps, and was answered so: one that uses a channel only asked for it; of polls
+-- other laws speak
 abbrev pub IsMadeBy : Plan → List Made → Answer → Type 0
 IsMadeBy (One step) play answer = IsToldBy step play answer
 IsMadeBy (Pair opening closing) play answer = IsTold opening (closing_step closing) play answer
 IsMadeBy (Twice first second) play answer = IsToldByBoth first second play answer
-IsMadeBy (Wait waiting No) play answer = IsTold (open_step waiting false) (end_step waiting) play answer
-IsMadeBy (Wait waiting Forever) play answer = IsTold (open_step waiting true) (end_step waiting) play answer
-IsMadeBy (Wait waiting (Ticks ticks)) play answer = IsToldWithin waiting ticks play answer
+IsMadeBy (Wait waiting timeout) play answer = IsServed waiting timeout play answer
 IsMadeBy (Poll timeout events) play answer = Unit {0}
-IsMadeBy (Channel chan using_ timeout) play answer = Unit {0}
+IsMadeBy (Channel chan using_ timeout) play answer = IsServed (asks_for chan using_) timeout play answer
 
 -- of a call that may begin a wait with this step, and end it so, this step may come behind these
 abbrev pub MayComeIn : Step → (ℕ → Step) → List Made → Step → Type 0
@@ -116,25 +122,29 @@ MayQuit waiting moment play step =
     ⊎ ((due : StepReply) × (play ≡ (open_step waiting true, waited) ∷ (steps.Clock (clock_ops.AlarmEnd moment), due) ∷ [])
     × (step ≡ quit_step waiting place)))
 
--- of a call that goes by this plan this step may come behind these, which were made for it
+-- of a call that asks for this and waits so long, if it has to, this step may come behind these
+abbrev pub MayAsk : Waiting → Timeout → List Made → Step → Type 0
+MayAsk waiting No play step = MayComeIn (open_step waiting false) (end_step waiting) play step
+MayAsk waiting Forever play step = MayComeIn (open_step waiting true) (end_step waiting) play step
+MayAsk waiting (Ticks ticks) play step =
+    ((play ≡ []) × (step ≡ steps.Clock (clock_ops.Alarm ticks)))
+    ⊎ ((moment place : ℕ) × (more : List Made)
+    × (play ≡ (steps.Clock (clock_ops.Alarm ticks), step_replies.Clock (clock_replies.At moment) place) ∷ more)
+    × (MayComeIn (open_step waiting true) (end_step waiting) more step ⊎ MayQuit waiting moment more step))
+
+-- of a call that goes by this plan this step may come behind these, which were made for it: one that uses a channel asks for it
 abbrev pub MayCome : Plan → List Made → Step → Type 0
 MayCome (One first) play step = (play ≡ []) × (step ≡ first)
 MayCome (Pair opening closing) play step = MayComeIn opening (closing_step closing) play step
 MayCome (Twice first second) play step =
     ((play ≡ []) × (step ≡ first)) ⊎ ((earlier : StepReply) × (play ≡ (first, earlier) ∷ []) × (step ≡ second))
-MayCome (Wait waiting No) play step = MayComeIn (open_step waiting false) (end_step waiting) play step
-MayCome (Wait waiting Forever) play step = MayComeIn (open_step waiting true) (end_step waiting) play step
-MayCome (Wait waiting (Ticks ticks)) play step =
-    ((play ≡ []) × (step ≡ steps.Clock (clock_ops.Alarm ticks)))
-    ⊎ ((moment place : ℕ) × (more : List Made)
-    × (play ≡ (steps.Clock (clock_ops.Alarm ticks), step_replies.Clock (clock_replies.At moment) place) ∷ more)
-    × (MayComeIn (open_step waiting true) (end_step waiting) more step ⊎ MayQuit waiting moment more step))
+MayCome (Wait waiting timeout) play step = MayAsk waiting timeout play step
 MayCome (Poll timeout events) play step = Unit {0}
-MayCome (Channel chan using_ timeout) play step = Unit {0}
+MayCome (Channel chan using_ timeout) play step = MayAsk (asks_for chan using_) timeout play step
 
--- the call visits observers, or reads a channel: its steps don't stand side by side
-abbrev pub is_with_visits : Word → Bool
-is_with_visits word = is_publish word || is_read word
+-- a publish, a notify or a read makes a step that uses a channel
+abbrev pub is_in_use : Word → Step → Bool
+is_in_use word step = (is_publish word || is_read word) && is_some (used_chan step)
 
 -- the step may come behind those that were made for a call since its player stood at its beginning
 pub record IsStepOf (s : Parts) (number : ℕ) (front : List Made) (owner next : ℕ) (call : Call) (below : List Frame)
@@ -145,13 +155,14 @@ pub record IsStepOf (s : Parts) (number : ℕ) (front : List Made) (owner next :
   pub begins : BeginsCall s number before owner next call below
   pub may : MayCome (plan_of s.decls call) play step
 
--- a worker begins and ends runs of its queue, and a script makes checks, and the steps of its next call
+-- a worker begins and ends runs of its queue. A script makes checks, and the steps of its next call: those that use the channel
+-- of a publish, a notify or a read, and each other only where it may come behind those of this call
 abbrev pub IsOfIts : Parts → ℕ → List Made → Role → ℕ → List Frame → Step → Type 0
 IsOfIts s number front (Worker queue) next below step =
     (step ≡ steps.Work (work_ops.Begin (number_of s.decls queue))) ⊎ (step ≡ steps.Work (work_ops.End (number_of s.decls queue)))
 IsOfIts s number front (Script owner) next below step = is_check step ≡ false →
     (call : Call) × (slice_get (calls_of s.scripts owner) next ≡ Some call)
-    × (is_with_visits (word_of call) ≡ false → IsStepOf s number front owner next call below step)
+    × (is_in_use (word_of call) step ≡ false → IsStepOf s number front owner next call below step)
 
 -- so it is with the step of a player's innermost open script or run
 abbrev pub IsOfCall : Parts → ℕ → List Made → List Frame → Step → Type 0
@@ -180,9 +191,19 @@ pub record IsCallOf (s : Parts) (number : ℕ) (made : List Made) (a : Answered)
   pub begins : BeginsCall s number before owner next call below
   pub made_so : IsMadeBy (plan_of s.decls call) play a.answer
 
+-- the answer came with a step by which a publish, a notify or a read used a channel
+pub record IsUseOf (made : List Made) (a : Answered) : Type 0 where
+  pub front : List Made
+  pub step : Made
+  pub rest : List Made
+  pub whole : made ≡ front ++ step ∷ rest
+  pub last : a.step ≡ length front
+  pub in_use : is_in_use a.word step.0 ≡ true
+
 -- of each player that follows a scenario, where what is shown of the clock is legal: each of its steps is of a call or a run, and
--- each call that is answered, but these and but those that a failed check ended, made the steps that it is to make
+-- each call that is answered, but those that a failed check ended, made the steps that it is to make, or its last one used a
+-- channel
 abbrev pub EachCallIsMade : Type 0
 EachCallIsMade = (s : Parts) (number : ℕ) (shown : Shown) (at : At) (is : IsFollowing s number shown at) → ShowsLegalClock shown →
     AreOfCalls s number [] is.start is.made
-    × All (λ a. is_oops a.answer ≡ false → is_with_visits a.word ≡ false → IsCallOf s number is.made a) at.answers
+    × All (λ a. is_oops a.answer ≡ false → IsCallOf s number is.made a ⊎ IsUseOf is.made a) at.answers
