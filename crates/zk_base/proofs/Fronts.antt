@@ -1,10 +1,7 @@
 -- What stays in front of a text that grows.
-use Rattle.std.proofs.Common.{◌≡◌, ℕ, List, [], ◌++◌, sym, ap, ◌∙◌}
-use Rattle.std.proofs.lemmas.List.{append-nil, append_assoc}
+use Rattle.std.proofs.Common.{◌≡◌, ℕ, List, ◌++◌, ap, ◌∙◌}
+use Rattle.std.proofs.lemmas.List.{append_assoc}
 use Rattle.zk_base.specs.Fronts.{StaysInFront}
-
-pub front_same : (xs ys : List ℕ) → ys ≡ xs → StaysInFront xs ys
-front_same xs ys same = record { more = []; behind = same ∙ sym (append-nil xs) }
 
 pub front_put : (xs ys zs : List ℕ) → zs ≡ xs ++ ys → StaysInFront xs zs
 front_put xs ys zs put = record { more = ys; behind = put }

@@ -1,9 +1,9 @@
 -- Elements by key: one more, a filter, a map, a bound, and the place where one is put in.
-use Rattle.std.proofs.Common.{◌≡◌, ℕ, suc, ◌+◌, ◌<◌, ◌≤◌, Bool, true, false, not, ◌||◌, cond, ltb, leb, Some, List, [], ◌∷◌, ◌++◌, length, map, reverse, take, drop, All, refl, sym, ap, subst, ◌∙◌, ◌⊎◌, inl, inr, arith}
-use Rattle.std.specs.List.{filter, list_any, Contains, insert, position_or_len, find, slice_get}
-use Rattle.std.proofs.lemmas.Bool.{lt-ltb, le-ltb, le-leb, lt-leb, cases_lt}
-use Rattle.std.proofs.lemmas.List.{append-nil, append_assoc, reverse-append, take-append-drop}
-use Rattle.std.proofs.lemmas.List.Elements.{All-nil, All-cons, All-head, All-tail, All-weaker, All-push, All-filter, All-contains, All-contains_itself, filter_agree}
+use Rattle.std.proofs.Common.{◌≡◌, ℕ, suc, ◌+◌, ◌<◌, ◌≤◌, Bool, true, false, not, ◌||◌, cond, ltb, leb, Some, List, [], ◌∷◌, ◌++◌, length, map, All, refl, sym, ap, subst, ◌∙◌, ◌⊎◌, inl, inr, arith}
+use Rattle.std.specs.List.{filter, list_any, insert, position_or_len, find, slice_get}
+use Rattle.std.proofs.lemmas.Bool.{lt-ltb, le-ltb, lt-leb, cases_lt}
+use Rattle.std.proofs.lemmas.List.{append-nil, append_assoc}
+use Rattle.std.proofs.lemmas.List.Elements.{All-nil, All-cons, All-head, All-tail, All-weaker, All-filter}
 use Rattle.zk_base.specs.Order.{put_by, put_all_by, by_key, Ascends}
 use Rattle.zk_base.proofs.Lists.{All-front, All-back}
 
@@ -49,16 +49,6 @@ All-put_by {A} P key x (y ∷ ys) here all =
     (All-cons P x (y ∷ ys) here all)
     (All-cons P y (put_by key x ys) (All-head P y ys all) (All-put_by P key x ys here (All-tail P y ys all)))
 
-pub All-from_put_by : {A : Type 0} (P : A → Type 0) (key : A → ℕ) (x : A) (xs : List A) → All P (put_by key x xs) → P x × All P xs
-All-from_put_by P key x [] all = (All-head P x [] all, All-nil P)
-All-from_put_by {A} P key x (y ∷ ys) all = at (ltb (key x) (key y)) (All-from_put_by P key x ys) all where
-  at : (b : Bool) → (All P (put_by key x ys) → P x × All P ys) → All P (cond b (x ∷ y ∷ ys) (y ∷ put_by key x ys)) →
-      P x × All P (y ∷ ys)
-  at true rest all = (All-head P x (y ∷ ys) all, All-tail P x (y ∷ ys) all)
-  at false rest all =
-      let parts = rest (All-tail P y (put_by key x ys) all) in
-      (parts.0, All-cons P y ys (All-head P y (put_by key x ys) all) parts.1)
-
 pub length-put_by : {A : Type 0} (key : A → ℕ) (x : A) (xs : List A) → length (put_by key x xs) ≡ length xs + 1
 length-put_by key x [] = refl
 length-put_by {A} key x (y ∷ ys) =
@@ -90,25 +80,6 @@ list_any-put_by {A} p key x (y ∷ ys) =
     (y ∷ put_by key x ys)
     refl
     (ap (λ b. p y || b) (list_any-put_by p key x ys) ∙ or_swap (p y) (p x) (list_any p ys))
-
--- what is in the list stays in it
-pub Contains-put_by : {A : Type 0} (key : A → ℕ) (x : A) (xs : List A) (a : A) → Contains xs a → Contains (put_by key x xs) a
-Contains-put_by {A} key x xs a held =
-    let all = All-from_put_by (Contains (put_by key x xs)) key x xs (All-contains_itself (put_by key x xs)) in
-    All-contains (Contains (put_by key x xs)) xs a all.1 held
-
--- and what is put in is in it
-pub Contains-put_by_new : {A : Type 0} (key : A → ℕ) (x : A) (xs : List A) → Contains (put_by key x xs) x
-Contains-put_by_new {A} key x xs =
-    (All-from_put_by (Contains (put_by key x xs)) key x xs (All-contains_itself (put_by key x xs))).0
-
--- nothing else is in it
-pub Contains-from_put_by : {A : Type 0} (key : A → ℕ) (x : A) (xs : List A) (a : A) → Contains (put_by key x xs) a →
-    (x ≡ a) ⊎ Contains xs a
-Contains-from_put_by {A} key x xs a held =
-    let P : A → Type 0 = λ b. (x ≡ b) ⊎ Contains xs b in
-    All-contains P (put_by key x xs) a
-    (All-put_by P key x xs (inl refl) (All-weaker (Contains xs) P (λ b h. inr h) xs (All-contains_itself xs))) held
 
 -- no key falls still
 pub Ascends-put_by : {A : Type 0} (key : A → ℕ) (x : A) (xs : List A) → Ascends key xs → Ascends key (put_by key x xs)
@@ -163,18 +134,6 @@ filter-put_by {A} p key x (y ∷ ys) up = by (cases_lt (key x) (key y)) (filter-
       ap (filter p) (put_by-below key x y ys below) ∙ ap (λ (l : List A). cond (p x) l kept) (sym first)
   by (inr above) rest = ap (filter p) (put_by-above key x y ys above) ∙ later (p x) (p y) above rest
 
--- what passes is put in among those that pass
-pub filter-put_by_kept : {A : Type 0} (p : A → Bool) (key : A → ℕ) (x : A) (xs : List A) → Ascends key xs → p x ≡ true →
-    filter p (put_by key x xs) ≡ put_by key x (filter p xs)
-filter-put_by_kept {A} p key x xs up passes = filter-put_by p key x xs up
-    ∙ ap (λ b. cond b (put_by key x (filter p xs)) (filter p xs)) passes
-
--- what fails is nowhere among them
-pub filter-put_by_lost : {A : Type 0} (p : A → Bool) (key : A → ℕ) (x : A) (xs : List A) → Ascends key xs → p x ≡ false →
-    filter p (put_by key x xs) ≡ filter p xs
-filter-put_by_lost {A} p key x xs up fails = filter-put_by p key x xs up
-    ∙ ap (λ b. cond b (put_by key x (filter p xs)) (filter p xs)) fails
-
 pub Ascends-filter : {A : Type 0} (p : A → Bool) (key : A → ℕ) (xs : List A) → Ascends key xs → Ascends key (filter p xs)
 Ascends-filter p key [] up = tt
 Ascends-filter {A} p key (x ∷ xs) up =
@@ -196,13 +155,6 @@ by_key-append key xs ys = put_all_by-append key [] xs ys
 pub by_key-snoc : {A : Type 0} (key : A → ℕ) (xs : List A) (x : A) → by_key key (xs ++ x ∷ []) ≡ put_by key x (by_key key xs)
 by_key-snoc key xs x = by_key-append key xs (x ∷ [])
 
-Ascends-put_all_by : {A : Type 0} (key : A → ℕ) (sorted xs : List A) → Ascends key sorted → Ascends key (put_all_by key sorted xs)
-Ascends-put_all_by key sorted [] up = up
-Ascends-put_all_by key sorted (x ∷ xs) up = Ascends-put_all_by key (put_by key x sorted) xs (Ascends-put_by key x sorted up)
-
-pub Ascends-by_key : {A : Type 0} (key : A → ℕ) (xs : List A) → Ascends key (by_key key xs)
-Ascends-by_key key xs = Ascends-put_all_by key [] xs tt
-
 All-put_all_by : {A : Type 0} (P : A → Type 0) (key : A → ℕ) (sorted xs : List A) → All P sorted → All P xs →
     All P (put_all_by key sorted xs)
 All-put_all_by P key sorted [] front all = front
@@ -211,27 +163,6 @@ All-put_all_by P key sorted (x ∷ xs) front all =
 
 pub All-by_key : {A : Type 0} (P : A → Type 0) (key : A → ℕ) (xs : List A) → All P xs → All P (by_key key xs)
 All-by_key P key xs all = All-put_all_by P key [] xs (All-nil P) all
-
-All-from_put_all_by : {A : Type 0} (P : A → Type 0) (key : A → ℕ) (sorted xs : List A) →
-    All P (put_all_by key sorted xs) → All P sorted × All P xs
-All-from_put_all_by P key sorted [] all = (all, All-nil P)
-All-from_put_all_by P key sorted (x ∷ xs) all =
-    let rest = All-from_put_all_by P key (put_by key x sorted) xs all in
-    let parts = All-from_put_by P key x sorted rest.0 in
-    (parts.1, All-cons P x xs parts.0 rest.1)
-
-pub All-from_by_key : {A : Type 0} (P : A → Type 0) (key : A → ℕ) (xs : List A) → All P (by_key key xs) → All P xs
-All-from_by_key P key xs all = (All-from_put_all_by P key [] xs all).1
-
--- both hold the same elements
-pub Contains-by_key : {A : Type 0} (key : A → ℕ) (xs : List A) (a : A) → Contains xs a → Contains (by_key key xs) a
-Contains-by_key {A} key xs a held =
-    All-contains (Contains (by_key key xs)) xs a
-    (All-from_by_key (Contains (by_key key xs)) key xs (All-contains_itself (by_key key xs))) held
-
-pub Contains-from_by_key : {A : Type 0} (key : A → ℕ) (xs : List A) (a : A) → Contains (by_key key xs) a → Contains xs a
-Contains-from_by_key {A} key xs a held =
-    All-contains (Contains xs) (by_key key xs) a (All-by_key (Contains xs) key xs (All-contains_itself xs)) held
 
 length-put_all_by : {A : Type 0} (key : A → ℕ) (sorted xs : List A) →
     length (put_all_by key sorted xs) ≡ length sorted + length xs
@@ -354,20 +285,6 @@ above_all {A} key bound x xs up above =
     let Q : A → Type 0 = λ y. bound < key y in
     All-cons Q x xs above (All-weaker P Q (λ y h. omega arith) xs up.0)
 
--- the head is among those up to the bound
-pub filter-upto_head : {A : Type 0} (key : A → ℕ) (bound : ℕ) (x : A) (xs : List A) → key x ≤ bound →
-    filter (λ a. leb (key a) bound) (x ∷ xs) ≡ x ∷ filter (λ a. leb (key a) bound) xs
-filter-upto_head {A} key bound x xs within =
-    let rest = filter (λ (a : A). leb (key a) bound) xs in
-    ap (λ b. cond b (x ∷ rest) rest) (le-leb (key x) bound within)
-
--- and not among those past it
-pub filter-past_head : {A : Type 0} (key : A → ℕ) (bound : ℕ) (x : A) (xs : List A) → key x ≤ bound →
-    filter (λ a. not (leb (key a) bound)) (x ∷ xs) ≡ filter (λ a. not (leb (key a) bound)) xs
-filter-past_head {A} key bound x xs within =
-    let rest = filter (λ (a : A). not (leb (key a) bound)) xs in
-    ap (λ b. cond (not b) (x ∷ rest) rest) (le-leb (key x) bound within)
-
 -- where the head is past the bound, all are
 pub filter-upto_none : {A : Type 0} (key : A → ℕ) (bound : ℕ) (x : A) (xs : List A) → Ascends key (x ∷ xs) →
     bound < key x → filter (λ a. leb (key a) bound) (x ∷ xs) ≡ []
@@ -383,33 +300,6 @@ filter-past_all {A} key bound x xs up above =
     (All-weaker (λ y. bound < key y) (λ y. not (leb (key y) bound) ≡ true) (λ y h. ap not (lt-leb (key y) bound h))
     (x ∷ xs) (above_all key bound x xs up above))
 
--- those up to the bound and those past it are the list
-pub upto-append-past : {A : Type 0} (key : A → ℕ) (bound : ℕ) (xs : List A) → Ascends key xs →
-    filter (λ a. leb (key a) bound) xs ++ filter (λ a. not (leb (key a) bound)) xs ≡ xs
-upto-append-past key bound [] up = refl
-upto-append-past {A} key bound (x ∷ xs) up = by (cases_lt bound (key x)) (upto-append-past key bound xs up.1) where
-  by : ((bound < key x) ⊎ (key x ≤ bound)) → filter (λ a. leb (key a) bound) xs ++ filter (λ a. not (leb (key a) bound)) xs ≡ xs →
-      filter (λ a. leb (key a) bound) (x ∷ xs) ++ filter (λ a. not (leb (key a) bound)) (x ∷ xs) ≡ x ∷ xs
-  by (inl above) rest =
-      ap (λ (l : List A). l ++ filter (λ a. not (leb (key a) bound)) (x ∷ xs)) (filter-upto_none key bound x xs up above)
-      ∙ filter-past_all key bound x xs up above
-  by (inr within) rest =
-      ap (λ (l : List A). l ++ filter (λ a. not (leb (key a) bound)) (x ∷ xs)) (filter-upto_head key bound x xs within)
-      ∙ ap (λ (l : List A). x ∷ (filter (λ a. leb (key a) bound) xs ++ l)) (filter-past_head key bound x xs within)
-      ∙ ap (λ (l : List A). x ∷ l) rest
-
--- the test for those past the bound, said by `<`
-pub not-leb : (a b : ℕ) → not (leb a b) ≡ ltb b a
-not-leb a b = by (cases_lt b a) where
-  by : ((b < a) ⊎ (a ≤ b)) → not (leb a b) ≡ ltb b a
-  by (inl above) = ap not (lt-leb a b above) ∙ sym (lt-ltb b a above)
-  by (inr within) = ap not (le-leb a b within) ∙ sym (le-ltb b a within)
-
-pub filter-past_above : {A : Type 0} (key : A → ℕ) (bound : ℕ) (xs : List A) →
-    filter (λ a. not (leb (key a) bound)) xs ≡ filter (λ a. ltb bound (key a)) xs
-filter-past_above key bound xs = filter_agree (λ a. not (leb (key a) bound)) (λ a. ltb bound (key a))
-    (λ a. not-leb (key a) bound) xs
-
 -- The place where one is put in: in front of the first one whose key is above its own.
 
 pub put_by-insert : {A : Type 0} (key : A → ℕ) (x : A) (xs : List A) →
@@ -423,65 +313,3 @@ put_by-insert {A} key x (y ∷ ys) = at (ltb (key x) (key y)) (position_or_len (
       at false n rest =
           let next : suc n ≡ 1 + n = omega arith in
           ap (λ (l : List A). y ∷ l) rest ∙ ap (λ (i : ℕ). insert (y ∷ ys) i x) next
-
--- all whose keys are above its own stay behind
-pub put_by-append_below : {A : Type 0} (key : A → ℕ) (x : A) (xs ys : List A) → All (λ y. key x < key y) ys →
-    put_by key x (xs ++ ys) ≡ put_by key x xs ++ ys
-put_by-append_below key x [] ys below = put_by-first key x ys below
-put_by-append_below {A} key x (z ∷ xs) ys below = at (ltb (key x) (key z)) (put_by-append_below key x xs ys below) where
-  at : (b : Bool) → put_by key x (xs ++ ys) ≡ put_by key x xs ++ ys →
-      cond b (x ∷ z ∷ (xs ++ ys)) (z ∷ put_by key x (xs ++ ys)) ≡ cond b (x ∷ z ∷ xs) (z ∷ put_by key x xs) ++ ys
-  at true rest = refl
-  at false rest = ap (λ (l : List A). z ∷ l) rest
-
-reverse-cons : {A : Type 0} (x : A) (xs : List A) → reverse (x ∷ xs) ≡ reverse xs ++ x ∷ []
-reverse-cons x xs = reverse-append (x ∷ []) xs
-
-pub All-reverse : {A : Type 0} (P : A → Type 0) (xs : List A) → All P xs → All P (reverse xs)
-All-reverse P [] all = all
-All-reverse P (x ∷ xs) all =
-    subst (All P) (sym (reverse-cons x xs)) (All-push P (reverse xs) x (All-reverse P xs (All-tail P x xs all))
-    (All-head P x xs all))
-
--- a list that is kept highest key first: at a place that parts the keys above its own from the others
-pub put_by-reverse_at : {A : Type 0} (key : A → ℕ) (x : A) (xs : List A) (i : ℕ) → All (λ y. key x < key y) (take i xs) →
-    All (λ y. key y ≤ key x) (drop i xs) → put_by key x (reverse xs) ≡ reverse (insert xs i x)
-put_by-reverse_at {A} key x xs i above within =
-    let front = take i xs in
-    let back = drop i xs in
-    let parts = ap reverse (sym (take-append-drop i xs)) ∙ reverse-append front back in
-    ap (put_by key x) parts
-    ∙ put_by-between key x (reverse back) (reverse front) (All-reverse (λ y. key y ≤ key x) back within)
-    (All-reverse (λ y. key x < key y) front above)
-    ∙ sym (append_assoc (reverse back) (x ∷ []) (reverse front))
-    ∙ ap (λ (l : List A). l ++ reverse front) (sym (reverse-cons x back))
-    ∙ sym (reverse-append front (x ∷ back))
-
--- in such a list that place is the first one whose key isn't above its own
-pub put_by-reverse : {A : Type 0} (key : A → ℕ) (x : A) (xs : List A) → Ascends key (reverse xs) →
-    put_by key x (reverse xs) ≡ reverse (insert xs (position_or_len (λ y. leb (key y) (key x)) xs) x)
-put_by-reverse key x [] up = refl
-put_by-reverse {A} key x (y ∷ ys) up = by (cases_lt (key x) (key y)) (put_by-reverse key x ys parts.0) where
-  parts : Ascends key (reverse ys) × Ascends key (y ∷ []) × All (λ z. All (λ w. key z ≤ key w) (y ∷ [])) (reverse ys)
-  parts = Ascends-parts key (reverse ys) (y ∷ []) (subst (Ascends key) (reverse-cons y ys) up)
-
-  by : ((key x < key y) ⊎ (key y ≤ key x)) →
-      put_by key x (reverse ys) ≡ reverse (insert ys (position_or_len (λ z. leb (key z) (key x)) ys) x) →
-      put_by key x (reverse (y ∷ ys)) ≡ reverse (insert (y ∷ ys) (position_or_len (λ z. leb (key z) (key x)) (y ∷ ys)) x)
-  by (inl above) rest =
-      let n = position_or_len (λ z. leb (key z) (key x)) ys in
-      let next : suc n ≡ 1 + n = omega arith in
-      let Q : A → Type 0 = λ z. key x < key z in
-      let at = ap (λ b. cond (not b) (1 + n) 0) (lt-leb (key y) (key x) above) in
-      ap (put_by key x) (reverse-cons y ys) ∙ put_by-append_below key x (reverse ys) (y ∷ []) (All-cons Q y [] above (All-nil Q))
-      ∙ ap (λ (l : List A). l ++ y ∷ []) rest ∙ sym (reverse-cons y (insert ys n x))
-      ∙ ap (λ (i : ℕ). reverse (insert (y ∷ ys) i x)) (next ∙ sym at)
-  by (inr within) rest =
-      let n = position_or_len (λ z. leb (key z) (key x)) ys in
-      let P : A → Type 0 = λ z. key z ≤ key x in
-      let Q : A → Type 0 = λ z. All (λ w. key z ≤ key w) (y ∷ []) in
-      let Q_gives : (z : A) → Q z → P z = λ z h. (let le = All-head (λ w. key z ≤ key w) y [] h in omega arith) in
-      let all = All-push P (reverse ys) y (All-weaker Q P Q_gives (reverse ys) parts.2) within in
-      let at = ap (λ b. cond (not b) (1 + n) 0) (le-leb (key y) (key x) within) in
-      put_by-last key x (reverse (y ∷ ys)) (subst (All P) (sym (reverse-cons y ys)) all)
-      ∙ sym (reverse-cons x (y ∷ ys)) ∙ ap (λ (i : ℕ). reverse (insert (y ∷ ys) i x)) (sym at)

@@ -4,7 +4,9 @@ pub mod Fews
 pub mod Fronts
 pub mod History
 pub mod InMemory
+pub mod Kinds
 pub mod Legal
+pub mod Limits
 pub mod Lists
 pub mod Messages
 pub mod Names
@@ -13,5 +15,7 @@ pub mod Padded
 pub mod Padding
 pub mod Recording
 pub mod Shown
+pub mod Touched
+pub mod Validators
 pub mod WaitLaws
 pub mod Waits

@@ -6,6 +6,7 @@ use Rattle.std.proofs.lemmas.Bool.Decides.{nat_tests}
 use Rattle.std.proofs.Math.Seq.{drop-append_seam, take-append_seam}
 use Rattle.std.specs.Cmp.{first_so, second_so}
 use Rattle.std.specs.List.{list_all}
+use Rattle.zk_base.specs.Limits.{longest_message, longest_name}
 use Rattle.zk_base.specs.Names.{is_name, is_spelled, is_reserved, is_lower, is_name_byte}
 use Rattle.zk_base.specs.Messages.{is_message}
 use Rattle.zk_base.specs.Padded.{padded, IsPadded}
@@ -44,17 +45,17 @@ module _ (width : ℕ) (is_right : List ℕ → Bool) where
         whole : (n : ℕ) → n ≤ width → n + (width - n) ≡ width
         whole n w = omega arith
 
--- a name has at most 16 bytes
-pub length-name : (text : List ℕ) → is_name text ≡ true → length text ≤ 16
+-- a name isn't longer than the longest
+pub length-name : (text : List ℕ) → is_name text ≡ true → length text ≤ longest_name
 length-name [] named = omega arith
 length-name (b ∷ bs) named =
     let spelled = first_so (is_spelled (b ∷ bs)) (not (is_reserved (b ∷ bs))) named in
-    let front = first_so (is_lower b && nat_lt (length bs) 16) (list_all is_name_byte bs) spelled in
-    let short = ltb-true (length bs) 16 (second_so (is_lower b) (nat_lt (length bs) 16) front) in
+    let front = first_so (is_lower b && nat_lt (length bs) longest_name) (list_all is_name_byte bs) spelled in
+    let short = ltb-true (length bs) longest_name (second_so (is_lower b) (nat_lt (length bs) longest_name) front) in
     omega arith
 
--- a message has at most 64
-pub length-message : (bytes : List ℕ) → is_message bytes ≡ true → length bytes ≤ 64
+-- nor is a message
+pub length-message : (bytes : List ℕ) → is_message bytes ≡ true → length bytes ≤ longest_message
 length-message bytes is =
-    let within = second_so (nat_le 1 (length bytes)) (nat_le (length bytes) 64) is in
+    let within = second_so (nat_le 1 (length bytes)) (nat_le (length bytes) longest_message) is in
     grind (arith, nat_tests)

@@ -1,8 +1,10 @@
-ghost use Rattle.std.specs.Prelude.{◌≡◌, ℕ, ◌+◌, ◌-◌, ◌^◌, ◌<◌, ◌≤◌, Bool, true, false, IsOk, IfOk};
+ghost use Rattle.std.specs.Prelude.{◌≡◌, ℕ, ◌+◌, ◌<◌, ◌≤◌, Bool, true, false, List, IsOk, IfOk};
 ghost use Rattle.zk_base.specs.declared.ids.Who.{Who};
 ghost use Rattle.zk_base.specs.History.{AddsNone};
 ghost use Rattle.zk_base.specs.Legal.{Machine};
+ghost use Rattle.zk_base.specs.Limits.{most_entries};
 ghost use Rattle.zk_base.specs.Recording.{CountsEntries, Steps};
+ghost use Rattle.zk_base.specs.Touched.{LeavesOthers};
 
 use crate::{NoMemory, Who};
 
@@ -43,6 +45,9 @@ pub trait Engine: Drop {
     /// How many words are published for looks: those of the indices below it.
     const WORDS: u32;
 
+    /// The indices of the words that the last operation may have changed.
+    ghost touched: { Self → List ℕ };
+
     /// One operation. The reply comes twice, since one of them is kept in the history.
     fn step(
         &mut self,
@@ -50,8 +55,10 @@ pub trait Engine: Drop {
         op: &Self::Op,
     ) -> Result<Option<(Self::Reply, Self::Reply)>, NoMemory>
         requires ready { (s : Self.State) × stands_for self.old s
-            × (machine.in_range s op.now ≡ true) × (entries s < 2 ^ 32 - 1) }
+            × (machine.in_range s op.now ≡ true) × (entries s < most_entries) }
         ensures step { (s : Self.State) → stands_for self.old s → Steps machine s who op.now result (stands_for self.new) }
+        ensures touched { (s after : Self.State) → stands_for self.old s → stands_for self.new after →
+            LeavesOthers WORDS (touched self.new) (word s) (word after) }
         ensures closing { (s : Self.State) → stands_for self.old s → closes s who op.now ≡ true → IsOk result }
         ensures roomy { 3 ≤ room self.old → grows op.now ≡ false → IsOk result }
         ensures room { room self.old ≤ room self.new + 3 }
@@ -69,6 +76,10 @@ pub trait Engine: Drop {
     fn word(&self, index: u32) -> u32
         ensures word { (s : Self.State) → stands_for self.now s → result ≡ word s index }
         ensures small { index < WORDS → result < 65536 };
+
+    /// The indices of the words that the last operation may have changed: each other word is as it was before it.
+    fn touched(&self) -> &[u32]
+        ensures { result.now ≡ touched self.now };
 
     /// Makes room for three changes.
     fn reserve(&mut self) -> Result<(), NoMemory>

@@ -1,5 +1,6 @@
 ghost use Rattle.std.specs.Prelude.{◌≡◌, ◌<◌, ◌≤◌, [], ◌∷◌, ◌++◌, Some, None, if◌then◌else◌, length};
 ghost use Rattle.zk_base.specs.Fews.{is_few};
+ghost use Rattle.zk_base.specs.Limits.{most_few};
 
 use std::marker::Model;
 
@@ -17,6 +18,7 @@ pub struct Few {
 impl Model for Few {
     ghost use Rattle.std.specs.Prelude.{ℕ, List, take, length};
     ghost use Rattle.zk_base.specs.Fews.{is_few};
+    ghost use Rattle.zk_base.specs.Limits.{most_few};
     ghost use Rattle.zk_base.specs.Padded.{padded, IsPadded};
     ghost use Rattle.zk_base.specs.Padding.{padded-take, length-padded};
 
@@ -24,13 +26,13 @@ impl Model for Few {
 
     ghost view = { λ f. take f.len f.numbers };
 
-    ghost invariant = { λ f. IsPadded 8 is_few f.numbers f.len };
+    ghost invariant = { λ f. IsPadded most_few is_few f.numbers f.len };
 
-    ghost inverse = { λ v. record { numbers = padded 8 v; len = length v } };
+    ghost inverse = { λ v. record { numbers = padded most_few v; len = length v } };
 
     ghost inverse_ok = { λ f held. λ i. record {
-      numbers = padded-take 8 is_few f.numbers f.len held i;
-      len = length-padded 8 is_few f.numbers f.len held i;
+      numbers = padded-take most_few is_few f.numbers f.len held i;
+      len = length-padded most_few is_few f.numbers f.len held i;
     } };
 }
 
@@ -62,7 +64,7 @@ impl Few {
 
     /// One number more, behind the others.
     pub fn push(&mut self, number: u32)
-        requires { length self.old < 8 }
+        requires { length self.old < most_few }
         ensures { self.new ≡ self.old ++ number ∷ [] }
     {
         self.numbers[self.len] = number;
@@ -72,10 +74,31 @@ impl Few {
     /// Its numbers.
     pub fn numbers(&self) -> &[u32]
         ensures same { result.now ≡ self.now }
-        ensures few { length result.now ≤ 8 }
+        ensures few { length result.now ≤ most_few }
     {
         &self.numbers[..self.len]
     }
+}
+
+impl PartialEq for Few {
+    ghost use Rattle.std.specs.Prelude.{◌==◌};
+    ghost use Rattle.std.specs.Cmp.{partial_equiv_from_equiv, nat_eq_equiv};
+    ghost use Rattle.std.specs.Cmp.Lexicographic.{pointwise, lists_equiv};
+
+    ghost eq = { pointwise ◌==◌ };
+
+    ghost laws = { partial_equiv_from_equiv (lists_equiv nat_eq_equiv) };
+
+    fn eq(&self, other: &Few) -> bool {
+        self.numbers() == other.numbers()
+    }
+}
+
+impl Eq for Few {
+    ghost use Rattle.std.specs.Cmp.{nat_eq_equiv};
+    ghost use Rattle.std.specs.Cmp.Lexicographic.{lists_equiv};
+
+    ghost laws = { lists_equiv nat_eq_equiv };
 }
 
 /// Whether so many numbers are few.

@@ -8,7 +8,7 @@ pub struct Who {
 }
 
 /// One line of a service's history: who did what, and what was answered.
-#[derive(Debug, Drop)]
+#[derive(Debug, Drop, PartialEq)]
 pub struct Entry<O, R> {
     /// The player whose step this was.
     pub who: Who,

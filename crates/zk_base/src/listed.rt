@@ -61,3 +61,15 @@ impl<T> Listed<T> {
         Ok(())
     }
 }
+
+impl<T: PartialEq> PartialEq for Listed<T> {
+    ghost use Rattle.std.specs.Cmp.Lexicographic.{pointwise, lists_per};
+
+    ghost eq = { pointwise T.eq };
+
+    ghost laws = { lists_per T.laws };
+
+    fn eq(&self, other: &Listed<T>) -> bool {
+        self.items() == other.items()
+    }
+}

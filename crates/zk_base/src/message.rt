@@ -17,6 +17,7 @@ pub struct Msg {
 impl Model for Msg {
     ghost use Rattle.std.specs.Prelude.{ℕ, List, take, length};
     ghost use Rattle.zk_base.specs.Messages.{is_message};
+    ghost use Rattle.zk_base.specs.Limits.{longest_message};
     ghost use Rattle.zk_base.specs.Padded.{padded, IsPadded};
     ghost use Rattle.zk_base.specs.Padding.{padded-take, length-padded};
 
@@ -24,13 +25,13 @@ impl Model for Msg {
 
     ghost view = { λ m. take m.len m.bytes };
 
-    ghost invariant = { λ m. IsPadded 64 is_message m.bytes m.len };
+    ghost invariant = { λ m. IsPadded longest_message is_message m.bytes m.len };
 
-    ghost inverse = { λ v. record { bytes = padded 64 v; len = length v } };
+    ghost inverse = { λ v. record { bytes = padded longest_message v; len = length v } };
 
     ghost inverse_ok = { λ m held. λ i. record {
-      bytes = padded-take 64 is_message m.bytes m.len held i;
-      len = length-padded 64 is_message m.bytes m.len held i;
+      bytes = padded-take longest_message is_message m.bytes m.len held i;
+      len = length-padded longest_message is_message m.bytes m.len held i;
     } };
 }
 
@@ -56,6 +57,27 @@ impl Msg {
     {
         &self.bytes[..self.len]
     }
+}
+
+impl PartialEq for Msg {
+    ghost use Rattle.std.specs.Prelude.{◌==◌};
+    ghost use Rattle.std.specs.Cmp.{partial_equiv_from_equiv, nat_eq_equiv};
+    ghost use Rattle.std.specs.Cmp.Lexicographic.{pointwise, lists_equiv};
+
+    ghost eq = { pointwise ◌==◌ };
+
+    ghost laws = { partial_equiv_from_equiv (lists_equiv nat_eq_equiv) };
+
+    fn eq(&self, other: &Msg) -> bool {
+        self.bytes() == other.bytes()
+    }
+}
+
+impl Eq for Msg {
+    ghost use Rattle.std.specs.Cmp.{nat_eq_equiv};
+    ghost use Rattle.std.specs.Cmp.Lexicographic.{lists_equiv};
+
+    ghost laws = { lists_equiv nat_eq_equiv };
 }
 
 /// Whether so many bytes are a message.

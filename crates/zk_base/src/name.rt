@@ -21,6 +21,7 @@ pub struct Name {
 impl Model for Name {
     ghost use Rattle.std.specs.Prelude.{◌≡◌, ℕ, List, take, length};
     ghost use Rattle.zk_base.specs.Names.{is_name};
+    ghost use Rattle.zk_base.specs.Limits.{longest_name};
     ghost use Rattle.zk_base.specs.Padded.{padded, IsPadded};
     ghost use Rattle.zk_base.specs.Padding.{padded-take, length-padded};
 
@@ -28,13 +29,13 @@ impl Model for Name {
 
     ghost view = { λ n. take n.len n.bytes };
 
-    ghost invariant = { λ n. IsPadded 16 is_name n.bytes n.len };
+    ghost invariant = { λ n. IsPadded longest_name is_name n.bytes n.len };
 
-    ghost inverse = { λ v. record { bytes = padded 16 v; len = length v } };
+    ghost inverse = { λ v. record { bytes = padded longest_name v; len = length v } };
 
     ghost inverse_ok = { λ n held. λ i. record {
-      bytes = padded-take 16 is_name n.bytes n.len held i;
-      len = length-padded 16 is_name n.bytes n.len held i;
+      bytes = padded-take longest_name is_name n.bytes n.len held i;
+      len = length-padded longest_name is_name n.bytes n.len held i;
     } };
 }
 
@@ -60,6 +61,27 @@ impl Name {
     {
         &self.bytes[..self.len]
     }
+}
+
+impl PartialEq for Name {
+    ghost use Rattle.std.specs.Prelude.{◌==◌};
+    ghost use Rattle.std.specs.Cmp.{partial_equiv_from_equiv, nat_eq_equiv};
+    ghost use Rattle.std.specs.Cmp.Lexicographic.{pointwise, lists_equiv};
+
+    ghost eq = { pointwise ◌==◌ };
+
+    ghost laws = { partial_equiv_from_equiv (lists_equiv nat_eq_equiv) };
+
+    fn eq(&self, other: &Name) -> bool {
+        self.bytes() == other.bytes()
+    }
+}
+
+impl Eq for Name {
+    ghost use Rattle.std.specs.Cmp.{nat_eq_equiv};
+    ghost use Rattle.std.specs.Cmp.Lexicographic.{lists_equiv};
+
+    ghost laws = { lists_equiv nat_eq_equiv };
 }
 
 /// Whether these bytes are a name.

@@ -24,7 +24,7 @@ impl<S: Store> Engine for PlainEngine<S> {
 
     type State = S::State;
 
-    ghost use Rattle.std.specs.Prelude.{◌≡◌, false};
+    ghost use Rattle.std.specs.Prelude.{◌≡◌, false, []};
 
     ghost stands_for = { λ e s. S.state e.store ≡ s };
 
@@ -47,6 +47,8 @@ impl<S: Store> Engine for PlainEngine<S> {
 
     const WORDS: u32 = 0;
 
+    ghost touched = { λ e. [] };
+
     fn step(&mut self, who: Who, op: &S::Op) -> Result<Option<(S::Reply, S::Reply)>, NoMemory> {
         match self.store.next(who, op)? {
             None => Ok(None),
@@ -67,6 +69,10 @@ impl<S: Store> Engine for PlainEngine<S> {
 
     fn word(&self, _index: u32) -> u32 {
         0
+    }
+
+    fn touched(&self) -> &[u32] {
+        &[]
     }
 
     fn reserve(&mut self) -> Result<(), NoMemory> {

@@ -3,11 +3,13 @@ ghost use Rattle.std.specs.Prelude.{◌≡◌, ◌+◌, ◌<◌, ◌≤◌, true
 use crate::{Engine, Entry, NoMemory, Service, Who, push_within};
 use std::alloc::Global;
 use std::marker::Model;
+use std::snapshot::Snapshot;
 
 /// An engine with its history: the history, its room and its legality stand here once for all services.
 #[derive(Drop)]
 pub struct Recorded<C: Engine> {
-    start: C::State,
+    // What it was made of, which only contracts see: it takes no memory.
+    start: Snapshot<C::State>,
     engine: C,
     past: Vec<Entry<C::Op, C::Reply>>,
 }
@@ -21,23 +23,26 @@ impl<C: Engine> Model for Recorded<C> {
     ghost Value = { Shown C.State C.Op C.Reply };
 
     ghost view = { λ a. record {
-      start = a.start;
+      start = a.start.value;
       history = a.past.items;
-      room = min (vec_capacity a.past - (vec_len a.past + C.owed (state_after C.machine a.start a.past.items))) (C.room a.engine);
+      room =
+          min (vec_capacity a.past - (vec_len a.past + C.owed (state_after C.machine a.start.value a.past.items)))
+          (C.room a.engine);
+      touched = C.touched a.engine;
     } };
 
     ghost invariant = { λ a.
-        IsRecorded C.machine C.owed C.entries (C.stands_for a.engine) a.start a.past.items
+        IsRecorded C.machine C.owed C.entries (C.stands_for a.engine) a.start.value a.past.items
         (vec_len a.past) (vec_capacity a.past) };
 }
 
 impl<C: Engine> Recorded<C> {
     /// An engine with an empty history. The start value is what contracts see as the machine's first state.
-    pub fn new(alloc: Global, start: C::State, engine: C) -> Recorded<C>
-        requires same { C.stands_for engine start }
-        requires none { C.owed start ≡ 0 }
-        requires first { C.entries start ≡ 0 }
-        ensures start { result.start ≡ start }
+    pub fn new(alloc: Global, start: Snapshot<C::State>, engine: C) -> Recorded<C>
+        requires same { C.stands_for engine start.value }
+        requires none { C.owed start.value ≡ 0 }
+        requires first { C.entries start.value ≡ 0 }
+        ensures start { result.start ≡ start.value }
         ensures history { result.history ≡ [] }
     {
         Recorded {
@@ -98,6 +103,8 @@ impl<C: Engine> Service for Recorded<C> {
 
     const WORDS: u32 = C::WORDS;
 
+    ghost touched = { λ a. a.touched };
+
     fn act(&mut self, who: Who, step: u32, op: C::Op) -> Result<Option<C::Reply>, NoMemory> {
         C::counts_entries();
         make_room(&self.engine, &mut self.past, who, &op)?;
@@ -126,6 +133,10 @@ impl<C: Engine> Service for Recorded<C> {
 
     fn word(&self, index: u32) -> u32 {
         self.engine.word(index)
+    }
+
+    fn touched(&self) -> &[u32] {
+        self.engine.touched()
     }
 
     fn room(&self) -> u64 {

@@ -1,8 +1,10 @@
-ghost use Rattle.std.specs.Prelude.{◌≡◌, ℕ, ◌+◌, ◌-◌, ◌^◌, ◌<◌, ◌≤◌, Bool, true, false, List, length, Option, IsOk, IfOk, OnErr};
+ghost use Rattle.std.specs.Prelude.{◌≡◌, ℕ, ◌+◌, ◌<◌, ◌≤◌, Bool, true, false, List, length, Option, IsOk, IfOk, OnErr};
 ghost use Rattle.zk_base.specs.declared.ids.Who.{Who};
 ghost use Rattle.zk_base.specs.declared.ids.Entry.{Entry};
 ghost use Rattle.zk_base.specs.History.{extended, AddsNone, IsAbove};
 ghost use Rattle.zk_base.specs.Legal.{Machine, state_after, IsLegal};
+ghost use Rattle.zk_base.specs.Limits.{most_entries};
+ghost use Rattle.zk_base.specs.Touched.{LeavesOthers};
 
 use crate::{Entry, NoMemory, Who};
 
@@ -43,13 +45,16 @@ pub trait Service: Drop {
     /// How many words are published for looks: those of the indices below it.
     const WORDS: u32;
 
+    /// The indices of the words that the last `act` may have changed.
+    ghost touched: { Self → List ℕ };
+
     /// Makes one entry, or says that the machine doesn't let it stand.
     ///
     /// The step is the number of this step among all steps of the player, at whatever service.
     fn act(&mut self, who: Who, step: u32, op: Self::Op) -> Result<Option<Self::Reply>, NoMemory>
         requires later { IsAbove (history self.old) who.number step }
         requires range { machine.in_range (start self.old) op ≡ true }
-        requires short { length (history self.old) < 2 ^ 32 - 1 }
+        requires short { length (history self.old) < most_entries }
 
         // The machine's answer, and one entry just where there is one.
         ensures reply { IfOk result (λ reply.
@@ -58,6 +63,9 @@ pub trait Service: Drop {
             history self.new ≡ extended (history self.old) who step op reply) }
         ensures err { OnErr result (history self.new ≡ history self.old) }
         ensures start { start self.new ≡ start self.old }
+        ensures touched { LeavesOthers WORDS (touched self.new)
+            (word (state_after machine (start self.old) (history self.old)))
+            (word (state_after machine (start self.new) (history self.new))) }
 
         // Memory: a closing operation takes none, and no other but a growing one takes any where there is room for 3.
         ensures closing { closes (state_after machine (start self.old) (history self.old)) who op ≡ true → IsOk result }
@@ -77,6 +85,10 @@ pub trait Service: Drop {
     fn word(&self, index: u32) -> u32
         ensures word { result ≡ word (state_after machine (start self.now) (history self.now)) index }
         ensures small { index < WORDS → result < 65536 };
+
+    /// The indices of the words that the last `act` may have changed: each other word is as it was before it.
+    fn touched(&self) -> &[u32]
+        ensures { result.now ≡ touched self.now };
 
     /// How many entries fit beside the owed ones.
     fn room(&self) -> u64

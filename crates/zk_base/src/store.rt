@@ -1,7 +1,8 @@
-ghost use Rattle.std.specs.Prelude.{◌≡◌, ℕ, ◌+◌, ◌-◌, ◌^◌, ◌<◌, ◌≤◌, Bool, true, IsOk, IfOk, OnErr};
+ghost use Rattle.std.specs.Prelude.{◌≡◌, ℕ, ◌+◌, ◌<◌, ◌≤◌, Bool, true, IsOk, IfOk, OnErr};
 ghost use Rattle.zk_base.specs.declared.ids.Who.{Who};
 ghost use Rattle.zk_base.specs.History.{AddsNone};
 ghost use Rattle.zk_base.specs.Legal.{Machine, after_reply};
+ghost use Rattle.zk_base.specs.Limits.{most_entries};
 ghost use Rattle.zk_base.specs.Recording.{CountsEntries};
 
 use crate::{NoMemory, Who};
@@ -36,7 +37,7 @@ pub trait Store: Drop {
     ///
     /// `None` says that the operation isn't possible now.
     fn next(&mut self, who: Who, op: &Self::Op) -> Result<Option<Self::Reply>, NoMemory>
-        requires { entries (state self.old) < 2 ^ 32 - 1 }
+        requires { entries (state self.old) < most_entries }
         ensures reply { IfOk result (λ reply. reply ≡ machine.reply_of (state self.old) who op.now) }
         ensures next { IfOk result (λ reply.
             state self.new ≡ after_reply machine (state self.old) who op.now reply) }

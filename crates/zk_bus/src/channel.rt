@@ -3,6 +3,7 @@ ghost use Rattle.zk_model_bus.specs.Channel.{new_chan};
 ghost use Rattle.zk_bus.specs.Seen.{chan_start, chan_history};
 
 use std::alloc::Global;
+use std::snapshot::Snapshot;
 use zk_base::{Entry, Msg, NoMemory, PlainEngine, Recorded, Service, Who};
 use zk_model_bus::{ChanOp, ChanReply, ChanState, ChanStore, Valid};
 
@@ -25,8 +26,9 @@ impl Channel {
         ensures start { IfOk result (λ channel. chan_start channel ≡ new_chan initial valid observers.now) }
         ensures history { IfOk result (λ channel. chan_history channel ≡ []) }
     {
-        let start = ChanState::new(alloc, initial, valid, observers)?;
-        let engine = PlainEngine::new(ChanStore::new(alloc, initial, valid, observers)?);
+        let state = ChanState::new(alloc, initial, valid, observers)?;
+        let start = Snapshot::of(&state);
+        let engine = PlainEngine::new(state.into_store());
         Ok(Channel {
             inner: Recorded::new(alloc, start, engine),
         })
@@ -63,6 +65,8 @@ impl Service for Channel {
 
     const WORDS: u32 = 0;
 
+    ghost touched = { λ s. s.inner.touched };
+
     fn act(&mut self, who: Who, step: u32, op: ChanOp) -> Result<Option<ChanReply>, NoMemory> {
         self.inner.act(who, step, op)
     }
@@ -73,6 +77,10 @@ impl Service for Channel {
 
     fn word(&self, index: u32) -> u32 {
         self.inner.word(index)
+    }
+
+    fn touched(&self) -> &[u32] {
+        self.inner.touched()
     }
 
     fn room(&self) -> u64 {

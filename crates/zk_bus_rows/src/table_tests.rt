@@ -122,10 +122,10 @@ fn attempt<R: Abort>(
     step: u32,
     row: &Row,
 ) -> Result<(), NoMemory>
-    requires below { IsTried step objects.old }
+    requires below { IsTried one_user step objects.old }
     requires few { step < 100 }
     requires range { names_objects one_user row.now.op ≡ true }
-    ensures { IfOk result (λ _. IsTried (step + 1) objects.new) }
+    ensures { IfOk result (λ _. IsTried one_user (step + 1) objects.new) }
 {
     let who = Who {
         number: row.player,
@@ -144,7 +144,7 @@ fn play<R: Abort>(
     objects: Objects,
     rows: &[Row],
 ) -> Result<Objects, NoMemory>
-    requires fresh { IsTried 0 objects }
+    requires fresh { IsTried one_user 0 objects }
     requires few { length rows.now < 100 }
     requires range { list_all (λ row. names_objects one_user row.op) rows.now ≡ true }
 {
@@ -157,7 +157,7 @@ fn play<R: Abort>(
 
 /// A new table over the user thread and the two semaphores.
 fn made(alloc: Global) -> Result<Objects, NoMemory>
-    ensures { IfOk result (λ objects. IsTried 0 objects) }
+    ensures { IfOk result (λ objects. IsTried one_user 0 objects) }
 {
     let setup = one_user(alloc)?;
     Objects::new(alloc, &setup)

@@ -5,10 +5,10 @@ use Rattle.zk_scenario.specs.Parts.{Parts}
 use Rattle.zk_worker.specs.declared.answers.Answered.{Answered}
 use Rattle.zk_worker.specs.declared.log.Log.{Log}
 use Rattle.zk_worker.specs.declared.steps.Spot.{Spot}
-use Rattle.zk_worker.specs.CallLaws.{IsCallOf, IsUseOf}
+use Rattle.zk_player_laws.specs.CallLaws.{IsCallOf, IsUseOf}
 use Rattle.zk_worker.specs.Checks.{is_oops}
 use Rattle.zk_worker.specs.Follows.{Stands}
-use Rattle.zk_worker.proofs.CallLogs.{each_call_is_made}
+use Rattle.zk_player_laws.proofs.CallLogs.{each_call_is_made}
 use Rattle.zk_trace.specs.declared.trace.Trace.{Trace}
 use Rattle.zk_trace.specs.Lawful.{IsLawful}
 use Rattle.zk_trace.specs.Shown.{trace_shown}

@@ -9,15 +9,15 @@ use Rattle.zk_worker.specs.declared.log.PlayerState.TheVariants.{Spent, Oops, Do
 use Rattle.zk_worker.specs.declared.steps.Spot.{Spot}
 use Rattle.zk_worker.specs.Follows.{Stands, is_spent_at, is_dead, is_done, state_at}
 use Rattle.zk_worker.specs.Places.{At}
-use Rattle.zk_worker.proofs.UsersChecked.{each_user_is_checked}
+use Rattle.zk_player_laws.proofs.UsersChecked.{each_user_is_checked}
 use Rattle.zk_trace.specs.declared.trace.Trace.{Trace}
 use Rattle.zk_trace.specs.Lawful.{IsLawful}
 use Rattle.zk_trace.specs.Shown.{trace_shown}
 use Rattle.zk_cli.specs.UserChecks.{EachChecksFirst}
 
 -- who is told as ended by an oops is so
-oops-dead : (at : At) → state_at at ≡ Oops → at.mode ≡ Dead
-oops-dead at is = by (is_spent_at at) at.mode (is_done at.frames) is where
+oops-dead : (s : Parts) (at : At) → state_at s at ≡ Oops → at.mode ≡ Dead
+oops-dead s at is = by (is_spent_at s at) at.mode (is_done at.frames) is where
   by_done : (done : Bool) → cond done Done Standing ≡ Oops → {A : Type 0} → A
   by_done true is = absurd (cc)
   by_done false is = absurd (cc)
@@ -33,7 +33,7 @@ pub checks-kept : (s : Parts) (t : Trace) → IsLawful s t → EachChecksFirst s
 checks-kept s t lawful number log is =
     let follows = lawful.log.follow number log is in
     let steps : follows.end.spots ≡ log.steps = ap (λ (l : Log). l.steps) follows.logged in
-    let state : state_at follows.end ≡ log.state = ap (λ (l : Log). l.state) follows.logged in
+    let state : state_at s follows.end ≡ log.state = ap (λ (l : Log). l.state) follows.logged in
     let all = each_user_is_checked s number (trace_shown t) follows.end follows.led in
     record {
       start = follows.led.start;
@@ -44,6 +44,6 @@ checks-kept s t lawful number log is =
       led = follows.led.played;
       logged = follows.logged;
       checked = all.0;
-      told = λ oops. oops-dead follows.end (state ∙ oops);
+      told = λ oops. oops-dead s follows.end (state ∙ oops);
       ended = all.1;
     }

@@ -4,5 +4,8 @@ pub mod PollsKept
 pub mod ScriptsKept
 pub mod ChecksKept
 pub mod CallsKept
+pub mod ToldPlayers
 pub mod PublishesKept
 pub mod Starts
+pub mod PlaysKept
+pub mod AttemptsKept

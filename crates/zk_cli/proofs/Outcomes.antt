@@ -14,10 +14,12 @@ use Rattle.zk_scenario.specs.declared.refused.ScenarioRefused.TheVariants as ref
 use Rattle.zk_scenario.specs.Grammar.{scenario_of, read_pieces, pieces_of}
 use Rattle.zk_trace.specs.declared.trace.Ending.{Ending}
 use Rattle.zk_trace.specs.declared.trace.Ending.TheVariants as endings
+use Rattle.zk_cli.specs.declared.form.Form.{Form}
+use Rattle.zk_cli.specs.declared.form.Form.TheVariants.{Replay}
 use Rattle.zk_cli.specs.Input.{HasRead}
 use Rattle.zk_cli.specs.Output.{AppendsFront}
 use Rattle.zk_cli.specs.Answer.{IsRun, IsRefusal, IsOutput, status_of}
-use Rattle.zk_cli.specs.Top.{is_replay, words_refused, Prints, PrintsFront, HasReadAll, IsAnswer, HasInput, MayEnd, Answered, answered, cut_short, unmade, Went, no_form, no_form_cut, unread, no_memory, printed, cut}
+use Rattle.zk_cli.specs.Top.{form_of, words_refused, Prints, PrintsFront, HasReadAll, IsAnswer, HasInput, MayEnd, Answered, answered, cut_short, unmade, Went, no_form, no_form_cut, unread, no_memory, printed, cut}
 
 -- what was not written to stays
 pub Keeps-same : (held : Option (List ℕ)) → Keeps held held
@@ -88,9 +90,13 @@ PrintsFront-read (Some input) None old new read status output has is wrote = abs
 PrintsFront-read (Some input) (Some rest) old new read status output has is wrote =
     (status, output, IsOutput-front status 1048577 input output refl (subst (λ (i : List ℕ). IsOutput status i output) has.0 is), wrote)
 
+-- there is one form
+pub form-replay : (form : Form) → form ≡ Replay
+form-replay Replay = refl
+
 -- an input that was read and answered
 pub Went-answered : (words : List (List ℕ)) (left left' old new : Option (List ℕ)) (reads reads' writes writes' : ℕ) (status : Status) (read : List ℕ) →
-    is_replay words ≡ true → HasRead left left' read → Answered read old new writes writes' status → Went words left left' old new reads reads' writes writes' status
+    form_of words ≡ Some Replay → HasRead left left' read → Answered read old new writes writes' status → Went words left left' old new reads reads' writes writes' status
 Went-answered words left left' old new reads reads' writes writes' status read form has (answered status' output is wrote) =
     printed status' form (IsAnswer-output status' read output is) (HasReadAll-read left left' read has) (Prints-read left left' old new read status' output has is wrote)
 Went-answered words left left' old new reads reads' writes writes' status read form has (cut_short status' output is wrote rose) =
@@ -99,7 +105,7 @@ Went-answered words left left' old new reads reads' writes writes' status read f
 
 -- words that are no form
 pub Went-refused : (words : List (List ℕ)) (left left' old new : Option (List ℕ)) (reads reads' writes writes' : ℕ) (status : Status) →
-    is_replay words ≡ false → ((status ≡ Words) × Appends old new words_refused) ⊎ ((status ≡ WriteFault) × AppendsFront old new words_refused × Rose writes writes') → Went words left left' old new reads reads' writes writes' status
+    form_of words ≡ None → ((status ≡ Words) × Appends old new words_refused) ⊎ ((status ≡ WriteFault) × AppendsFront old new words_refused × Rose writes writes') → Went words left left' old new reads reads' writes writes' status
 Went-refused words left left' old new reads reads' writes writes' status other refused =
     let W : Status → Type 0 = λ s. Went words left left' old new reads reads' writes writes' s in
     elim refused [ inl all ↦ subst W (sym all.0) (no_form other all.1) | inr short ↦ subst W (sym short.0) (no_form_cut other short.1 short.2) ]
@@ -115,7 +121,7 @@ module _ (words : List (List ℕ)) (left left' old new : Option (List ℕ)) (rea
   Went-prints status which (cut form all prints rose) is same = absurd (subst IsAnswer (sym same) is)
 
   -- status 1 comes only for words that are no form, and says so
-  pub Went-words : (status : Status) → Went words left left' old new reads reads' writes writes' status → status ≡ Words → (is_replay words ≡ false) × Appends old new words_refused
+  pub Went-words : (status : Status) → Went words left left' old new reads reads' writes writes' status → status ≡ Words → (form_of words ≡ None) × Appends old new words_refused
   Went-words status (no_form other wrote) same = (other, wrote)
   Went-words status (no_form_cut other front rose) same = absurd (cc)
   Went-words status (unread form rose keeps) same = absurd (cc)
@@ -124,7 +130,7 @@ module _ (words : List (List ℕ)) (left left' old new : Option (List ℕ)) (rea
   Went-words status (cut form all prints rose) same = absurd (cc)
 
   -- words that are no form are told so, unless the sink fails
-  pub Went-no_form : (status : Status) → Went words left left' old new reads reads' writes writes' status → is_replay words ≡ false → (status ≡ Words) ⊎ (status ≡ WriteFault)
+  pub Went-no_form : (status : Status) → Went words left left' old new reads reads' writes writes' status → form_of words ≡ None → (status ≡ Words) ⊎ (status ≡ WriteFault)
   Went-no_form status (no_form other wrote) not = inl refl
   Went-no_form status (no_form_cut other front rose) not = inr refl
   Went-no_form status (unread form rose keeps) not = absurd (cc)
@@ -160,7 +166,7 @@ module _ (words : List (List ℕ)) (left left' old new : Option (List ℕ)) (rea
   Went-nothing status (cut form all prints rose) which = elim which [ inl same ↦ absurd (cc) | inr same ↦ absurd (cc) ]
 
   -- after a fault of writing the sink has a front of the output
-  pub Went-front : (status : Status) → Went words left left' old new reads reads' writes writes' status → is_replay words ≡ true → status ≡ WriteFault → PrintsFront left old new
+  pub Went-front : (status : Status) → Went words left left' old new reads reads' writes writes' status → form_of words ≡ Some Replay → status ≡ WriteFault → PrintsFront left old new
   Went-front status (no_form other wrote) form same = absurd (cc)
   Went-front status (no_form_cut other front rose) form same = absurd (cc)
   Went-front status (unread form' rose keeps) form same = absurd (cc)
@@ -170,7 +176,7 @@ module _ (words : List (List ℕ)) (left left' old new : Option (List ℕ)) (rea
 
   -- and of the line that refuses the words, where they are no form
   pub Went-words_front : (status : Status) → Went words left left' old new reads reads' writes writes' status →
-      is_replay words ≡ false → status ≡ WriteFault → AppendsFront old new words_refused
+      form_of words ≡ None → status ≡ WriteFault → AppendsFront old new words_refused
   Went-words_front status (no_form other wrote) not same = absurd (cc)
   Went-words_front status (no_form_cut other front rose) not same = front
   Went-words_front status (unread form rose keeps) not same = absurd (cc)
@@ -179,7 +185,7 @@ module _ (words : List (List ℕ)) (left left' old new : Option (List ℕ)) (rea
   Went-words_front status (cut form all prints rose) not same = absurd (cc)
 
   -- the input was read where its output was written
-  pub Went-read : (status : Status) → Went words left left' old new reads reads' writes writes' status → is_replay words ≡ true → HasInput status → HasReadAll left left'
+  pub Went-read : (status : Status) → Went words left left' old new reads reads' writes writes' status → form_of words ≡ Some Replay → HasInput status → HasReadAll left left'
   Went-read status (no_form other wrote) form has = absurd has
   Went-read status (no_form_cut other front rose) form has = absurd (cc)
   Went-read status (unread form' rose keeps) form has = absurd has
@@ -215,7 +221,7 @@ MayEnd-prints status (Some input) old new prints = MayEnd-output status input pr
 
 -- which statuses can come for an input
 pub Went-complete : (words : List (List ℕ)) (left left' old new : Option (List ℕ)) (reads reads' writes writes' : ℕ) (status : Status) →
-    Went words left left' old new reads reads' writes writes' status → is_replay words ≡ true → IfSome left (λ input. MayEnd (scenario_of input) status)
+    Went words left left' old new reads reads' writes writes' status → form_of words ≡ Some Replay → IfSome left (λ input. MayEnd (scenario_of input) status)
 Went-complete words left left' old new reads reads' writes writes' status (no_form other wrote) form = absurd (cc)
 Went-complete words left left' old new reads reads' writes writes' status (no_form_cut other front rose) form = absurd (cc)
 Went-complete words left left' old new reads reads' writes writes' status (unread form' rose keeps) form = MayEnd-fault ReadFault (λ said. tt) left

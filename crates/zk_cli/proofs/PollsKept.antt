@@ -19,9 +19,10 @@ use Rattle.zk_worker.specs.declared.steps.Spot.{Spot}
 use Rattle.zk_worker.specs.Follows.{Stands}
 use Rattle.zk_worker.specs.Machines.{machines_of}
 use Rattle.zk_worker.specs.Checks.{is_oops}
-use Rattle.zk_worker.specs.PollLogs.{ShowsLegal, IsLawfulPollOf}
+use Rattle.zk_player_laws.specs.PollLogs.{ShowsLegal, IsLawfulPollOf}
 use Rattle.zk_worker.specs.Shown.{ShowsLog}
-use Rattle.zk_worker.proofs.PollServed.{each_poll_keeps_its_laws}
+use Rattle.zk_player_laws.proofs.OpenPolls.{each_open_poll_goes_on}
+use Rattle.zk_player_laws.proofs.PollServed.{each_poll_keeps_its_laws}
 use Rattle.zk_trace.specs.declared.trace.Trace.{Trace}
 use Rattle.zk_trace.specs.History.{IsLegalAt, AreLegal}
 use Rattle.zk_trace.specs.Lawful.{IsLawful}
@@ -31,9 +32,9 @@ use Rattle.zk_cli.specs.Polls.{EachKeepsPolls}
 use Rattle.zk_cli.proofs.Starts.{sem-starts, msgq-starts}
 
 -- a trace shows of each player just its log
-pub shows-log : (t : Trace) (number : ℕ) (log : Log) → IsPlaced t → slice_get t.logs number ≡ Some log →
+pub shows-log : (s : Parts) (t : Trace) (number : ℕ) (log : Log) → IsPlaced s t → slice_get t.logs number ≡ Some log →
     ShowsLog (trace_shown t) number log.steps
-shows-log t number log placed is = record {
+shows-log s t number log placed is = record {
   each = λ step spot there no_look. placed.stands number step spot log is there no_look;
   no_other = λ step spot shown.
       sym (ap (option_and_then (λ (l : Log). slice_get l.steps step)) is) ∙ placed.each spot number step shown;
@@ -84,10 +85,17 @@ pub polls-kept : (s : Parts) (t : Trace) → IsValid s → IsLawful s t → Each
 polls-kept s t valid lawful number log is =
     let follows = lawful.log.follow number log is in
     let steps : follows.end.spots ≡ log.steps = ap (λ (l : Log). l.steps) follows.logged in
-    let shows = subst (ShowsLog (trace_shown t) number) (sym steps) (shows-log t number log lawful.place is) in
-    let all = each_poll_keeps_its_laws s number (trace_shown t) follows.end follows.led valid shows (shows-legal s valid.in_range t lawful.history) in
+    let shows = subst (ShowsLog (trace_shown t) number) (sym steps) (shows-log s t number log lawful.place is) in
+    let legal = shows-legal s valid.in_range t lawful.history in
+    let all = each_poll_keeps_its_laws s number (trace_shown t) follows.end follows.led valid shows legal in
     record {
+      start = follows.led.start;
+      starts = follows.led.starts;
       made = follows.led.made;
       stands = subst (λ (x : List Spot). AllZip (Stands (trace_shown t)) x follows.led.made) steps follows.led.stands;
-      polls = subst (All (λ (a : Answered). a.word ≡ words.Poll → is_oops a.answer ≡ false → IsLawfulPollOf s follows.led.made a)) (ap (λ (l : Log). l.answers) follows.logged) all;
+      end = follows.end;
+      led = follows.led.played;
+      logged = follows.logged;
+      polls = subst (All (λ (a : Answered). a.word ≡ words.Poll → is_oops a.answer ≡ false → IsLawfulPollOf s number follows.led.made a)) (ap (λ (l : Log). l.answers) follows.logged) all;
+      goes_on = each_open_poll_goes_on s number (trace_shown t) follows.end follows.led valid shows legal;
     }

@@ -8,8 +8,8 @@ use Rattle.zk_worker.specs.declared.log.Log.{Log}
 use Rattle.zk_worker.specs.declared.steps.Spot.{Spot}
 use Rattle.zk_worker.specs.Follows.{Stands}
 use Rattle.zk_worker.specs.Shown.{ShowsLog}
-use Rattle.zk_worker.specs.VisitLaws.{UsesOrIsRefused, AreAnswered}
-use Rattle.zk_worker.proofs.Visits.{each_publish_visits}
+use Rattle.zk_player_laws.specs.VisitLaws.{UsesOrIsRefused, AreAnswered}
+use Rattle.zk_player_laws.proofs.Visits.{each_publish_visits}
 use Rattle.zk_trace.specs.declared.trace.Trace.{Trace}
 use Rattle.zk_trace.specs.Lawful.{IsLawful}
 use Rattle.zk_trace.specs.Shown.{trace_shown}
@@ -23,7 +23,7 @@ publishes-kept s t valid lawful number log is =
     let follows = lawful.log.follow number log is in
     let answers : follows.end.answers ≡ log.answers = ap (λ (l : Log). l.answers) follows.logged in
     let steps : follows.end.spots ≡ log.steps = ap (λ (l : Log). l.steps) follows.logged in
-    let shows = subst (ShowsLog (trace_shown t) number) (sym steps) (shows-log t number log lawful.place is) in
+    let shows = subst (ShowsLog (trace_shown t) number) (sym steps) (shows-log s t number log lawful.place is) in
     let all = each_publish_visits s number (trace_shown t) follows.end follows.led valid shows lawful.history.clock (chans-legal s t lawful.history) in
     record {
       made = follows.led.made;

@@ -12,8 +12,8 @@ use Rattle.zk_worker.specs.Families.{start_of}
 use Rattle.zk_worker.specs.Follows.{Stands}
 use Rattle.zk_worker.specs.Machines.{machines_of}
 use Rattle.zk_worker.specs.Shown.{ShowsLog}
-use Rattle.zk_worker.specs.StackLogs.{ShowsLegalChans}
-use Rattle.zk_worker.proofs.LogsPlayed.{each_log_enters_its_scripts}
+use Rattle.zk_player_laws.specs.StackLogs.{ShowsLegalChans}
+use Rattle.zk_player_laws.proofs.LogsPlayed.{each_log_enters_its_scripts}
 use Rattle.zk_trace.specs.declared.trace.Trace.{Trace}
 use Rattle.zk_trace.specs.History.{IsLegalAt, AreLegal}
 use Rattle.zk_trace.specs.Lawful.{IsLawful}
@@ -37,7 +37,7 @@ pub scripts-kept : (s : Parts) (t : Trace) → IsValid s → IsLawful s t → Ea
 scripts-kept s t valid lawful number log is =
     let follows = lawful.log.follow number log is in
     let steps : follows.end.spots ≡ log.steps = ap (λ (l : Log). l.steps) follows.logged in
-    let shows = subst (ShowsLog (trace_shown t) number) (sym steps) (shows-log t number log lawful.place is) in
+    let shows = subst (ShowsLog (trace_shown t) number) (sym steps) (shows-log s t number log lawful.place is) in
     record {
       start = follows.led.start;
       made = follows.led.made;

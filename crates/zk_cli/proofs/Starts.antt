@@ -6,7 +6,7 @@ use Rattle.std.proofs.lemmas.Bool.{and_parts, leb-true}
 use Rattle.zk_model_wait.specs.Sem as sem
 use Rattle.zk_model_wait.specs.Msgq as msgq
 use Rattle.zk_model_wait.specs.Signal as signal
-use Rattle.zk_model_bus.specs.declared.channel.Valid.{Valid}
+use Rattle.zk_base.specs.declared.validator.Valid.{Valid}
 use Rattle.zk_model_bus.specs.Channel as chan
 use Rattle.zk_model_bus.specs.Observer as obs
 use Rattle.zk_words.specs.Numbers.{is_between}

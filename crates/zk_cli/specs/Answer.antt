@@ -23,18 +23,23 @@ use Rattle.zk_trace.specs.Text.{trace_text}
 use Rattle.zk_trace.specs.Lawful.{IsLawful}
 use Rattle.zk_replay.specs.Replay.{IsReplay}
 use Rattle.zk_replay.specs.Over.{IsOver}
+use Rattle.zk_cli.specs.Attempts.{EachAttemptsItsCalls}
 use Rattle.zk_cli.specs.CallsMade.{EachMakesItsCalls}
 use Rattle.zk_cli.specs.Moments.{AtEachMoment, AtEachObject}
+use Rattle.zk_cli.specs.Plays.{EachPlaysItsScripts}
 use Rattle.zk_cli.specs.Polls.{EachKeepsPolls}
 use Rattle.zk_cli.specs.Publishes.{EachVisitsAsTold}
 use Rattle.zk_cli.specs.UserChecks.{EachChecksFirst}
 use Rattle.zk_cli.specs.Refusal.{refusal_text}
 use Rattle.zk_cli.specs.Scripts.{EachEntersItsScripts}
+use Rattle.zk_cli.specs.Told.{EachTellsItsPlayer}
 
 -- the input is the text of a scenario, and the output is that text and the trace of its round robin run, which ends so;
 -- the trace is lawful for the scenario, its histories keep the laws at each moment, its polls keep theirs, each script is
 -- entered that was to be, each publish and notify has visited its observers or was refused, each user's call was checked before
--- all else, each other call made the steps of its form, and where the run has ended each admission has ended or was dropped
+-- all else, each other call made the steps of its form, each player has played its script call by call, with what that opened,
+-- and attempted what came next at each moment, each log tells what its player answered and how it stands, and where the run has
+-- ended each admission has ended or was dropped
 pub record IsRun (ending : Ending) (input output : List ℕ) : Type 0 where
   pub scenario : Parts
   pub trace : Trace
@@ -55,6 +60,9 @@ pub record IsRun (ending : Ending) (input output : List ℕ) : Type 0 where
   pub publishes : EachVisitsAsTold scenario trace
   pub checks : EachChecksFirst scenario trace
   pub calls : EachMakesItsCalls scenario trace
+  pub plays : EachPlaysItsScripts scenario trace
+  pub attempts : EachAttemptsItsCalls scenario trace
+  pub told : EachTellsItsPlayer scenario trace
   pub over : IsOver scenario trace
   pub ends : trace.ending ≡ ending
   pub printed : output ≡ text_of scenario ++ trace_text scenario trace

@@ -2,11 +2,10 @@ use Rattle.std.specs.Prelude.{◌≡◌, ◌⊎◌, ℕ, false, Some, List, [], 
 use Rattle.std.specs.List.{AllZip}
 use Rattle.zk_scenario.specs.Parts.{Parts}
 use Rattle.zk_worker.specs.declared.log.Log.{Log}
-use Rattle.zk_worker.specs.CallLaws.{AreOfCalls, IsCallOf, IsUseOf}
+use Rattle.zk_player_laws.specs.CallLaws.{AreOfCalls, IsCallOf, IsUseOf}
 use Rattle.zk_worker.specs.Checks.{is_oops}
-use Rattle.zk_worker.specs.Follows.{Stands, IsPlayed, log_of}
+use Rattle.zk_worker.specs.Follows.{Made, Stands, IsPlayed, log_of}
 use Rattle.zk_worker.specs.Places.{At}
-use Rattle.zk_worker.specs.PollLaws.{Made}
 use Rattle.zk_worker.specs.Protocol.{start_at}
 use Rattle.zk_worker.specs.Shown.{Shown}
 use Rattle.zk_trace.specs.declared.trace.Trace.{Trace}
@@ -22,7 +21,7 @@ pub record MakesItsCalls (s : Parts) (number : ℕ) (shown : Shown) (log : Log) 
   pub stands : AllZip (Stands shown) log.steps made
   pub end : At
   pub led : IsPlayed s start made end
-  pub logged : log_of end ≡ log
+  pub logged : log_of s end ≡ log
   pub steps : AreOfCalls s number [] start made
   pub answered : All (λ a. is_oops a.answer ≡ false → IsCallOf s number made a ⊎ IsUseOf made a) log.answers
 

@@ -16,7 +16,7 @@ Moves (Some input) None old new n = ⊥
 Moves (Some input) (Some left) old new n =
     (piece : List ℕ) × (input ≡ piece ++ left) × (new ≡ old ++ piece) × (n ≡ 0 → left ≡ [])
 
--- a fault of reading comes only where the count of faults rose
+-- a fault of reading comes only where the count of faults rose, and want of memory leaves the count
 abbrev pub IsCaused : ℕ → ℕ → NoInput → Type 0
 IsCaused old new Fault = Rose old new
-IsCaused old new NoMemory = ⊤
+IsCaused old new NoMemory = new ≡ old

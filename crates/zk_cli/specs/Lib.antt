@@ -1,11 +1,14 @@
 pub mod Answer
+pub mod Attempts
 pub mod CallsMade
 pub mod Input
 pub mod Moments
 pub mod Output
+pub mod Plays
 pub mod Polls
 pub mod Publishes
 pub mod UserChecks
 pub mod Refusal
 pub mod Scripts
+pub mod Told
 pub mod Top

@@ -2,10 +2,9 @@ use Rattle.std.specs.Prelude.{◌≡◌, ℕ, Some, List, [], slice_get, All}
 use Rattle.std.specs.List.{AllZip}
 use Rattle.zk_scenario.specs.Parts.{Parts}
 use Rattle.zk_worker.specs.declared.log.Log.{Log}
-use Rattle.zk_worker.specs.Follows.{Stands}
-use Rattle.zk_worker.specs.PollLaws.{Made}
+use Rattle.zk_worker.specs.Follows.{Made, Stands}
 use Rattle.zk_worker.specs.Shown.{Shown}
-use Rattle.zk_worker.specs.VisitLaws.{UsesOrIsRefused, AreOwned, AreAnswered}
+use Rattle.zk_player_laws.specs.VisitLaws.{UsesOrIsRefused, AreOwned, AreAnswered}
 use Rattle.zk_trace.specs.declared.trace.Trace.{Trace}
 use Rattle.zk_trace.specs.Shown.{trace_shown}
 

@@ -2,12 +2,11 @@ use Rattle.std.specs.Prelude.{◌≡◌, ℕ, Some, List, slice_get}
 use Rattle.std.specs.List.{AllZip}
 use Rattle.zk_scenario.specs.Parts.{Parts}
 use Rattle.zk_worker.specs.declared.log.Log.{Log}
-use Rattle.zk_worker.specs.Follows.{Stands}
+use Rattle.zk_worker.specs.Follows.{Made, Stands}
 use Rattle.zk_worker.specs.Places.{At}
-use Rattle.zk_worker.specs.PollLaws.{Made}
 use Rattle.zk_worker.specs.Protocol.{start_at}
 use Rattle.zk_worker.specs.Shown.{Shown}
-use Rattle.zk_worker.specs.StackLaws.{AlwaysHasRoom}
+use Rattle.zk_player_laws.specs.StackLaws.{AlwaysHasRoom}
 use Rattle.zk_trace.specs.declared.trace.Trace.{Trace}
 use Rattle.zk_trace.specs.Shown.{trace_shown}
 

@@ -1,4 +1,4 @@
-use Rattle.std.specs.Prelude.{◌≡◌, ℕ, Bool, true, false, Option, Some, None, Result, Ok, Err, List, [], ◌∷◌, drop, codes, IfSome, ⊤}
+use Rattle.std.specs.Prelude.{◌≡◌, ℕ, if◌then◌else◌, Option, Some, None, Result, Ok, Err, List, [], ◌∷◌, drop, codes, IfSome, ⊤}
 use Rattle.std.specs.Str.{bytes_eq}
 use Rattle.std.specs.Io.KnownBytes.{Appends, Keeps}
 use Rattle.zk_base.specs.Causes.{Rose}
@@ -6,13 +6,15 @@ use Rattle.zk_base.specs.declared.errors.Status.{Status}
 use Rattle.zk_base.specs.declared.errors.Status.TheVariants.{Success, Words, Refused, Stuck, Spent, ReadFault, WriteFault, NoMemory}
 use Rattle.zk_scenario.specs.Parts.{Parts}
 use Rattle.zk_scenario.specs.declared.refused.ScenarioRefused.{ScenarioRefused}
+use Rattle.zk_cli.specs.declared.form.Form.{Form}
+use Rattle.zk_cli.specs.declared.form.Form.TheVariants.{Replay}
 use Rattle.zk_cli.specs.Output.{AppendsFront}
 use Rattle.zk_cli.specs.Answer.{IsOutput}
 
--- the words of the form `replay`
-abbrev pub is_replay : List (List ℕ) → Bool
-is_replay (word ∷ []) = bytes_eq word (codes "replay")
-is_replay words = false
+-- the form that the words ask for, if they are those of one: the word `replay` alone
+abbrev pub form_of : List (List ℕ) → Option Form
+form_of (word ∷ []) = if bytes_eq word (codes "replay") then Some Replay else None
+form_of words = None
 
 -- what is printed where the words are no form
 abbrev pub words_refused : List ℕ
@@ -73,16 +75,16 @@ pub data Answered (input : List ℕ) (old new : Option (List ℕ)) (faults fault
 -- how a call went
 pub data Went (words : List (List ℕ)) (left left' old new : Option (List ℕ))
     (reads reads' writes writes' : ℕ) : Status → Type 0 where
-  no_form : is_replay words ≡ false → Appends old new words_refused →
+  no_form : form_of words ≡ None → Appends old new words_refused →
       Went words left left' old new reads reads' writes writes' Words
-  no_form_cut : is_replay words ≡ false → AppendsFront old new words_refused →
+  no_form_cut : form_of words ≡ None → AppendsFront old new words_refused →
       Rose writes writes' → Went words left left' old new reads reads' writes writes' WriteFault
-  unread : is_replay words ≡ true → Rose reads reads' → Keeps old new →
+  unread : form_of words ≡ Some Replay → Rose reads reads' → Keeps old new →
       Went words left left' old new reads reads' writes writes' ReadFault
-  no_memory : is_replay words ≡ true → Keeps old new →
+  no_memory : form_of words ≡ Some Replay → Keeps old new →
       Went words left left' old new reads reads' writes writes' NoMemory
-  printed : (status : Status) → is_replay words ≡ true → IsAnswer status → HasReadAll left left' →
+  printed : (status : Status) → form_of words ≡ Some Replay → IsAnswer status → HasReadAll left left' →
       Prints left old new (IsOutput status) →
       Went words left left' old new reads reads' writes writes' status
-  cut : is_replay words ≡ true → HasReadAll left left' → PrintsFront left old new →
+  cut : form_of words ≡ Some Replay → HasReadAll left left' → PrintsFront left old new →
       Rose writes writes' → Went words left left' old new reads reads' writes writes' WriteFault

@@ -3,11 +3,10 @@ use Rattle.std.specs.List.{AllZip}
 use Rattle.zk_scenario.specs.Parts.{Parts}
 use Rattle.zk_worker.specs.declared.log.Log.{Log}
 use Rattle.zk_worker.specs.declared.log.PlayerState.TheVariants.{Oops}
-use Rattle.zk_worker.specs.CheckLaws.{AreChecked, has_oops, EndedByOops}
+use Rattle.zk_player_laws.specs.CheckLaws.{AreChecked, has_oops, EndedByOops}
 use Rattle.zk_worker.specs.declared.checks.Mode.TheVariants.{Dead}
-use Rattle.zk_worker.specs.Follows.{Stands, IsPlayed, log_of}
+use Rattle.zk_worker.specs.Follows.{Made, Stands, IsPlayed, log_of}
 use Rattle.zk_worker.specs.Places.{At}
-use Rattle.zk_worker.specs.PollLaws.{Made}
 use Rattle.zk_worker.specs.Protocol.{start_at}
 use Rattle.zk_worker.specs.Shown.{Shown}
 use Rattle.zk_trace.specs.declared.trace.Trace.{Trace}
@@ -24,7 +23,7 @@ pub record ChecksFirst (s : Parts) (number : ℕ) (shown : Shown) (log : Log) : 
   pub stands : AllZip (Stands shown) log.steps made
   pub end : At
   pub led : IsPlayed s start made end
-  pub logged : log_of end ≡ log
+  pub logged : log_of s end ≡ log
   pub checked : AreChecked s number [] start made
   pub told : log.state ≡ Oops → end.mode ≡ Dead
   pub ended : has_oops made end ≡ true → EndedByOops s number made end

@@ -47,6 +47,7 @@ impl From<Failed> for NoInput {
 pub fn read_input<S: Source>(alloc: Global, source: &mut S) -> Result<Vec<u8>, NoInput>
     ensures bytes { IfOk result (λ read. HasRead (S.left source.old) (S.left source.new) read.items) }
     ensures fault { IfErr result (λ e. IsCaused (S.faults source.old) (S.faults source.new) e) }
+    ensures counts { IfOk result (λ _. S.faults source.new ≡ S.faults source.old) }
 {
     let mut bytes = Vec::new(alloc);
     for _ in 0..LIMIT + 1 {
@@ -67,7 +68,7 @@ fn read_some<S: Source>(source: &mut S, bytes: &mut Vec<u8>) -> Result<usize, No
     ensures size { IfOk result (λ n. vec_len bytes.new ≡ vec_len bytes.old + n) }
     ensures within { IfOk result (λ n. vec_len bytes.new ≤ LIMIT + 1) }
     ensures fault { IfErr result (λ e. IsCaused (S.faults source.old) (S.faults source.new) e) }
-    ensures counts { S.faults source.old ≤ S.faults source.new }
+    ensures counts { IfOk result (λ _. S.faults source.new ≡ S.faults source.old) }
 {
     let mut chunk = [0; CHUNK];
     let most = CHUNK.min(LIMIT + 1 - bytes.len());

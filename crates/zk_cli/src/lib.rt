@@ -2,9 +2,11 @@
 #![tactic(auto)]
 
 mod answer;
+mod form;
 mod input;
 mod output;
 mod top;
 
+pub use form::Form;
 pub use input::LIMIT;
 pub use top::zk_plain;

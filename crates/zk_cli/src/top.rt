@@ -1,19 +1,20 @@
-ghost use Rattle.std.specs.Prelude.{◌≡◌, ◌⊎◌, true, false, map, codes, IfSome, string_bytes};
+ghost use Rattle.std.specs.Prelude.{◌≡◌, ◌≢◌, ◌⊎◌, true, false, map, codes, IfSome, string_bytes};
 ghost use Rattle.std.specs.Io.KnownBytes.{Appends, Keeps};
 ghost use Rattle.zk_base.specs.Causes.{Rose};
 ghost use Rattle.zk_scenario.specs.Grammar.{scenario_of};
 ghost use Rattle.zk_cli.specs.Output.{AppendsFront};
 ghost use Rattle.zk_cli.specs.Answer.{IsOutput};
-ghost use Rattle.zk_cli.specs.Top.{is_replay, words_refused, Prints, PrintsFront, HasReadAll, HasInput, MayEnd, Answered, Went};
+ghost use Rattle.zk_cli.specs.Top.{form_of, words_refused, Prints, PrintsFront, HasReadAll, HasInput, MayEnd, Answered, Went};
 
 use crate::answer::output_of;
+use crate::form::{Form, form_of};
 use crate::input::{NoInput, read_input};
 use crate::output::write_text;
 use std::alloc::Global;
 use zk_base::{Sink, Source, Status};
 
-/// The program over any source and any sink. Its form is `replay`: it reads a scenario, plays it on one thread by round
-/// robin, and prints the scenario's text and the trace. It always returns.
+/// The program over any source and any sink. Its only form is `replay`: it reads a scenario, plays it on one thread by
+/// round robin, and prints the scenario's text and the trace. It always returns.
 ///
 /// The words are those behind the program's name. The whole output is made in memory and then written, piece after
 /// piece; writing takes no memory. What is said of the input and the output is said where the source and the sink tell
@@ -25,35 +26,39 @@ pub fn zk_plain<S: Source, K: Sink>(
     sink: &mut K,
 ) -> Status
     // What each status that prints says of the input and the output.
-    ensures success { result ≡ Status.Success →
+    ensures success { form_of (map string_bytes words.now) ≡ Some Form.Replay → result ≡ Status.Success →
         Prints (S.left source.old) (K.held sink.old) (K.held sink.new) (IsOutput Status.Success) }
-    ensures stuck { result ≡ Status.Stuck →
+    ensures stuck { form_of (map string_bytes words.now) ≡ Some Form.Replay → result ≡ Status.Stuck →
         Prints (S.left source.old) (K.held sink.old) (K.held sink.new) (IsOutput Status.Stuck) }
-    ensures spent { result ≡ Status.Spent →
+    ensures spent { form_of (map string_bytes words.now) ≡ Some Form.Replay → result ≡ Status.Spent →
         Prints (S.left source.old) (K.held sink.old) (K.held sink.new) (IsOutput Status.Spent) }
-    ensures refused { result ≡ Status.Refused →
+    ensures refused { form_of (map string_bytes words.now) ≡ Some Form.Replay → result ≡ Status.Refused →
         Prints (S.left source.old) (K.held sink.old) (K.held sink.new) (IsOutput Status.Refused) }
     ensures words { result ≡ Status.Words → Appends (K.held sink.old) (K.held sink.new) words_refused }
 
     // When each status comes.
-    ensures a_form { result ≡ Status.Words → is_replay (map string_bytes words.now) ≡ false }
-    ensures no_form { is_replay (map string_bytes words.now) ≡ false →
+    ensures a_form { result ≡ Status.Words → form_of (map string_bytes words.now) ≡ None }
+    ensures no_form { form_of (map string_bytes words.now) ≡ None →
         (result ≡ Status.Words) ⊎ (result ≡ Status.WriteFault) }
-    ensures complete { is_replay (map string_bytes words.now) ≡ true →
+    ensures complete { form_of (map string_bytes words.now) ≡ Some Form.Replay →
         IfSome (S.left source.old) (λ input. MayEnd (scenario_of input) result) }
     ensures read_fault { result ≡ Status.ReadFault → Rose (S.faults source.old) (S.faults source.new) }
     ensures write_fault { result ≡ Status.WriteFault → Rose (K.faults sink.old) (K.faults sink.new) }
 
+    // Each count of faults stays but for its own status.
+    ensures reads { result ≢ Status.ReadFault → S.faults source.new ≡ S.faults source.old }
+    ensures writes { result ≢ Status.WriteFault → K.faults sink.new ≡ K.faults sink.old }
+
     // Where nothing, or not all, was written.
     ensures nothing { (result ≡ Status.ReadFault) ⊎ (result ≡ Status.NoMemory) →
         Keeps (K.held sink.old) (K.held sink.new) }
-    ensures front { is_replay (map string_bytes words.now) ≡ true → result ≡ Status.WriteFault →
+    ensures front { form_of (map string_bytes words.now) ≡ Some Form.Replay → result ≡ Status.WriteFault →
         PrintsFront (S.left source.old) (K.held sink.old) (K.held sink.new) }
-    ensures words_front { is_replay (map string_bytes words.now) ≡ false → result ≡ Status.WriteFault →
+    ensures words_front { form_of (map string_bytes words.now) ≡ None → result ≡ Status.WriteFault →
         AppendsFront (K.held sink.old) (K.held sink.new) words_refused }
 
     // Where the input was read to its end, or to one byte above the limit.
-    ensures read { is_replay (map string_bytes words.now) ≡ true → HasInput result →
+    ensures read { form_of (map string_bytes words.now) ≡ Some Form.Replay → HasInput result →
         HasReadAll (S.left source.old) (S.left source.new) }
 {
     plain(alloc, words, source, sink)
@@ -65,32 +70,26 @@ fn plain<S: Source, K: Sink>(
     source: &mut S,
     sink: &mut K,
 ) -> Status
-    ensures { Went (map string_bytes words.now) (S.left source.old) (S.left source.new) (K.held sink.old) (K.held sink.new)
+    ensures went { Went (map string_bytes words.now) (S.left source.old) (S.left source.new) (K.held sink.old) (K.held sink.new)
         (S.faults source.old) (S.faults source.new) (K.faults sink.old) (K.faults sink.new) result }
+    ensures reads { result ≢ Status.ReadFault → S.faults source.new ≡ S.faults source.old }
+    ensures writes { result ≢ Status.WriteFault → K.faults sink.new ≡ K.faults sink.old }
 {
-    if !is_replay(words) {
-        return refuse_words(sink);
-    }
-    match read_input(alloc, source) {
-        Ok(input) => answer(alloc, input, sink),
-        Err(NoInput::Fault) => Status::ReadFault,
-        Err(NoInput::NoMemory) => Status::NoMemory,
-    }
-}
-
-fn is_replay(words: &[String]) -> bool
-    ensures { result ≡ is_replay (map string_bytes words.now) }
-{
-    match words {
-        [word] => word.as_bytes() == b"replay".as_slice(),
-        _ => false,
+    match form_of(words) {
+        None => refuse_words(sink),
+        Some(Form::Replay) => match read_input(alloc, source) {
+            Ok(input) => answer(alloc, input, sink),
+            Err(NoInput::Fault) => Status::ReadFault,
+            Err(NoInput::NoMemory) => Status::NoMemory,
+        },
     }
 }
 
 fn refuse_words<K: Sink>(sink: &mut K) -> Status
-    ensures { ((result ≡ Status.Words) × Appends (K.held sink.old) (K.held sink.new) words_refused)
+    ensures refused { ((result ≡ Status.Words) × Appends (K.held sink.old) (K.held sink.new) words_refused)
         ⊎ ((result ≡ Status.WriteFault) × AppendsFront (K.held sink.old) (K.held sink.new) words_refused
         × Rose (K.faults sink.old) (K.faults sink.new)) }
+    ensures writes { result ≢ Status.WriteFault → K.faults sink.new ≡ K.faults sink.old }
 {
     match write_text(sink, b"refused words\n") {
         Ok(()) => Status::Words,
@@ -100,7 +99,8 @@ fn refuse_words<K: Sink>(sink: &mut K) -> Status
 
 /// Prints the output for this input.
 fn answer<K: Sink>(alloc: Global, input: Vec<u8>, sink: &mut K) -> Status
-    ensures { Answered input.items (K.held sink.old) (K.held sink.new) (K.faults sink.old) (K.faults sink.new) result }
+    ensures answered { Answered input.items (K.held sink.old) (K.held sink.new) (K.faults sink.old) (K.faults sink.new) result }
+    ensures writes { result ≢ Status.WriteFault → K.faults sink.new ≡ K.faults sink.old }
 {
     let Ok((output, status)) = output_of(alloc, input) else {
         return Status::NoMemory;

@@ -8,9 +8,9 @@ use Rattle.std.proofs.lemmas.Bool.{and_parts, and_from}
 use Rattle.std.proofs.lemmas.List.Quantifiers.{position-Some}
 use Rattle.std.proofs.lemmas.Option.{cond_some, option_and_then_some, same_Some, slice_get-get_or}
 use Rattle.zk_base.specs.Names.{is_name}
-use Rattle.zk_model_bus.specs.declared.kinds.Kind.{Kind}
-use Rattle.zk_model_bus.specs.declared.kinds.Need.{Need}
-use Rattle.zk_model_bus.specs.declared.kinds.Need.TheVariants as need
+use Rattle.zk_base.specs.declared.kinds.Kind.{Kind}
+use Rattle.zk_base.specs.declared.kinds.Need.{Need}
+use Rattle.zk_base.specs.declared.kinds.Need.TheVariants as need
 use Rattle.zk_words.specs.declared.slot.Slot.{Slot}
 use Rattle.zk_words.specs.declared.slot.Slot.TheVariants as slot
 use Rattle.zk_words.specs.declared.slot.Rest.{Rest}
@@ -204,11 +204,12 @@ pub kind_of-read : (decls : List Decl) (k : Kind) (parts : List Placed) (d : Dec
 kind_of-read decls k parts d made =
     option_and_then_some (decl_of k) (args_of decls parts) d made (λ args is_args given. ap (λ w. w.kind) (written_of-decl_of k args d given))
 
--- a word that says a name stands for a new object
-fresh : (free : Bool) (decls : List Decl) (s : Slot) (w name : List ℕ) → is_well_named free decls s w ≡ true → arg_of decls s w ≡ Some (arg.Name name) → object_of decls name ≡ None
+-- a word that says a name is a well formed one, which stands for a new object
+fresh : (free : Bool) (decls : List Decl) (s : Slot) (w name : List ℕ) → is_well_named free decls s w ≡ true → arg_of decls s w ≡ Some (arg.Name name) → (is_name name ≡ true) × (object_of decls name ≡ None)
 fresh free decls slot.New w name named said =
     let is : w ≡ name = cc (cond_some (is_name w) (arg.Name w) (arg.Name name) said).1 in
-    ap (object_of decls) (sym is) ∙ none (object_of decls w) (and_parts (is_name w) (not (is_some (object_of decls w))) named).1 where
+    let both = and_parts (is_name w) (not (is_some (object_of decls w))) named in
+    (ap is_name (sym is) ∙ both.0, ap (object_of decls) (sym is) ∙ none (object_of decls w) both.1) where
       none : (o : Option ℕ) → not (is_some o) ≡ true → o ≡ None
       none None e = refl
       none (Some k) e = absurd (cc)
@@ -236,14 +237,15 @@ first_name (decl.Listener name) = (_, refl)
 first_name (decl.Sub name capacity) = (_, refl)
 first_name (decl.Chan name message valid observers) = (_, refl)
 
--- the name of what a line declares is no other's
-pub fresh-read : (free : Bool) (decls : List Decl) (k : Kind) (parts : List Placed) (d : Decl) → each_well_named free decls parts ≡ true → option_and_then (decl_of k) (args_of decls parts) ≡ Some d → object_of decls (name_of d) ≡ None
-fresh-read free decls k parts d named made =
+-- the name of what a line declares is well formed, and no other's
+pub new_name-read : (free : Bool) (decls : List Decl) (k : Kind) (parts : List Placed) (d : Decl) → each_well_named free decls parts ≡ true → option_and_then (decl_of k) (args_of decls parts) ≡ Some d
+    → (is_name (name_of d) ≡ true) × (object_of decls (name_of d) ≡ None)
+new_name-read free decls k parts d named made =
     option_and_then_some (decl_of k) (args_of decls parts) d made
     (λ args is_args given.
     let first = first_name d in
     by_parts parts named (is_args ∙ ap Some (sym (ap (λ w. w.args) (written_of-decl_of k args d given)) ∙ first.1))) where
-      by_parts : {more : List Arg} (ps : List Placed) → each_well_named free decls ps ≡ true → args_of decls ps ≡ Some (arg.Name (name_of d) ∷ more) → object_of decls (name_of d) ≡ None
+      by_parts : {more : List Arg} (ps : List Placed) → each_well_named free decls ps ≡ true → args_of decls ps ≡ Some (arg.Name (name_of d) ∷ more) → (is_name (name_of d) ≡ true) × (object_of decls (name_of d) ≡ None)
       by_parts [] all said = absurd (cc)
       by_parts {more} (p ∷ ps) all said =
           option_and_then_some _ (arg_of decls p.slot p.text) (arg.Name (name_of d) ∷ more) said
@@ -251,3 +253,6 @@ fresh-read free decls k parts d named made =
           let rest = one_part (λ xs. a ∷ xs) (args_of decls ps) (arg.Name (name_of d) ∷ more) given in
           let same : a ≡ arg.Name (name_of d) = cc rest.2 in
           fresh free decls p.slot p.text (name_of d) (and_parts (is_well_named free decls p.slot p.text) (each_well_named free decls ps) all).0 (is_a ∙ ap Some same))
+
+pub fresh-read : (free : Bool) (decls : List Decl) (k : Kind) (parts : List Placed) (d : Decl) → each_well_named free decls parts ≡ true → option_and_then (decl_of k) (args_of decls parts) ≡ Some d → object_of decls (name_of d) ≡ None
+fresh-read free decls k parts d named made = (new_name-read free decls k parts d named made).1

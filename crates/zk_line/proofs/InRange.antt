@@ -7,12 +7,12 @@ use Rattle.std.specs.Cmp.Lexicographic.{bytes_decides}
 use Rattle.std.specs.Option.{option_map_or}
 use Rattle.std.proofs.lemmas.Bool.{and_parts, and_from, eqb-true, not-true}
 use Rattle.std.proofs.lemmas.Option.{cond_some, option_and_then_some, same_Some}
-use Rattle.zk_model_bus.specs.declared.kinds.Kind.{Kind}
-use Rattle.zk_model_bus.specs.declared.kinds.Kind.TheVariants as kind
+use Rattle.zk_base.specs.declared.kinds.Kind.{Kind}
+use Rattle.zk_base.specs.declared.kinds.Kind.TheVariants as kind
 use Rattle.zk_words.specs.declared.slot.Slot.TheVariants as slot
 use Rattle.zk_base.specs.Fews.{is_few}
 use Rattle.zk_base.specs.Messages.{is_message}
-use Rattle.zk_model_bus.specs.declared.channel.Valid.{Valid}
+use Rattle.zk_base.specs.declared.validator.Valid.{Valid}
 use Rattle.zk_words.specs.declared.slot.Rest.TheVariants.{Maybe, Many}
 use Rattle.zk_words.specs.declared.word.Head.TheVariants.{Declare}
 use Rattle.zk_words.specs.Numbers.{is_between, number_of, number_in}

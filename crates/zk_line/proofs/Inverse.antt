@@ -6,11 +6,11 @@ use Rattle.std.proofs.lemmas.List.{length-map}
 use Rattle.std.proofs.Math.Bool.{and-false}
 use Rattle.std.proofs.lemmas.Option.{cond_some, option_and_then_some, same_Some}
 use Rattle.zk_base.specs.Fews as fews
-use Rattle.zk_model_bus.specs.declared.channel.Valid.{Valid}
+use Rattle.zk_base.specs.declared.validator.Valid.{Valid}
 use Rattle.zk_words.specs.declared.slot.Choice.{Choice}
 use Rattle.zk_words.specs.declared.slot.Choice.TheVariants.{Mode, State, Drain}
-use Rattle.zk_model_bus.specs.declared.kinds.Kind.{Kind}
-use Rattle.zk_model_bus.specs.declared.kinds.Kind.TheVariants as kind
+use Rattle.zk_base.specs.declared.kinds.Kind.{Kind}
+use Rattle.zk_base.specs.declared.kinds.Kind.TheVariants as kind
 use Rattle.zk_words.specs.declared.timeout.Timeout.{Timeout}
 use Rattle.zk_words.specs.declared.word.Word.{Word}
 use Rattle.zk_words.specs.declared.word.Word.TheVariants as word

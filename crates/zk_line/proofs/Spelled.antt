@@ -12,7 +12,7 @@ use Rattle.zk_base.specs.Names.{is_name}
 use Rattle.zk_words.specs.declared.slot.Choice.{Choice}
 use Rattle.zk_words.specs.declared.slot.Slot.{Slot}
 use Rattle.zk_words.specs.declared.slot.Slot.TheVariants as slot
-use Rattle.zk_model_bus.specs.declared.kinds.Kind.{Kind}
+use Rattle.zk_base.specs.declared.kinds.Kind.{Kind}
 use Rattle.zk_words.specs.declared.word.Word.{Word}
 use Rattle.zk_words.specs.declared.word.Head.TheVariants as head
 use Rattle.zk_words.specs.declared.event.Source.{Source}

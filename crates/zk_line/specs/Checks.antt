@@ -3,9 +3,9 @@ use Rattle.std.specs.List.{list_all, list_any}
 use Rattle.std.specs.Str.{bytes_eq}
 use Rattle.std.specs.Option.{option_flatten, option_map_or}
 use Rattle.zk_base.specs.Names.{is_name}
-use Rattle.zk_model_bus.specs.declared.kinds.Kind.TheVariants as kind
-use Rattle.zk_model_bus.specs.declared.kinds.Need.{Need}
-use Rattle.zk_model_bus.specs.declared.kinds.Need.TheVariants as need
+use Rattle.zk_base.specs.declared.kinds.Kind.TheVariants as kind
+use Rattle.zk_base.specs.declared.kinds.Need.{Need}
+use Rattle.zk_base.specs.declared.kinds.Need.TheVariants as need
 use Rattle.zk_words.specs.declared.slot.Slot.{Slot}
 use Rattle.zk_words.specs.declared.slot.Slot.TheVariants.{New, Owner, Object, Rawable, Number, Priority, Hex, Wait, Event}
 use Rattle.zk_words.specs.declared.word.Head.{Head}

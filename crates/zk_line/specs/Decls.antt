@@ -1,7 +1,7 @@
 use Rattle.std.specs.Prelude.{ℕ, Bool, true, false, List, [], ◌∷◌, length, map, Option, None, Some, option_map}
 use Rattle.zk_words.specs.declared.slot.Choice.TheVariants.{Mode, State}
-use Rattle.zk_model_bus.specs.declared.kinds.Kind.{Kind}
-use Rattle.zk_model_bus.specs.declared.kinds.Kind.TheVariants as kind
+use Rattle.zk_base.specs.declared.kinds.Kind.{Kind}
+use Rattle.zk_base.specs.declared.kinds.Kind.TheVariants as kind
 use Rattle.zk_line.specs.declared.types.Decl.{Decl}
 use Rattle.zk_line.specs.declared.types.Decl.TheVariants as decl
 use Rattle.zk_line.specs.declared.types.Arg.{Arg}

@@ -2,8 +2,8 @@ use Rattle.std.specs.Prelude.{◌≡◌, ℕ, Bool, true, false, not, ◌==◌, 
 use Rattle.std.specs.List.{list_all, list_any}
 use Rattle.zk_base.specs.Fews as fews
 use Rattle.zk_base.specs.Messages.{is_message}
-use Rattle.zk_model_bus.specs.declared.kinds.Need.{Need}
-use Rattle.zk_model_bus.specs.declared.kinds.Need.TheVariants as need
+use Rattle.zk_base.specs.declared.kinds.Need.{Need}
+use Rattle.zk_base.specs.declared.kinds.Need.TheVariants as need
 use Rattle.zk_words.specs.declared.slot.Slot.{Slot}
 use Rattle.zk_words.specs.declared.slot.Slot.TheVariants as slot
 use Rattle.zk_words.specs.declared.slot.Rest.{Rest}

@@ -1,7 +1,7 @@
 use Rattle.std.specs.Prelude.{◌≡◌, Bool, true, false, Option, Some, None, List, [], ◌∷◌, ◌++◌, option_to_list}
 use Rattle.std.specs.List.{filter_map}
-use Rattle.zk_model_bus.specs.declared.kinds.Need.{Need}
-use Rattle.zk_model_bus.specs.declared.kinds.Need.TheVariants as need
+use Rattle.zk_base.specs.declared.kinds.Need.{Need}
+use Rattle.zk_base.specs.declared.kinds.Need.TheVariants as need
 use Rattle.zk_words.specs.declared.slot.Slot.{Slot}
 use Rattle.zk_words.specs.declared.slot.Slot.TheVariants as slot
 use Rattle.zk_words.specs.declared.slot.Rest.{Rest}

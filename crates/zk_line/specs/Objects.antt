@@ -1,12 +1,13 @@
-use Rattle.std.specs.Prelude.{◌≡◌, ℕ, ◌^◌, ◌+◌, ◌<◌, Bool, false, if◌then◌else◌, Option, Some, None, List, [], ◌∷◌, ◌++◌, take, length, count_by, slice_get, unwrap_or, option_and_then}
+use Rattle.std.specs.Prelude.{◌≡◌, ℕ, ◌^◌, ◌+◌, ◌<◌, Bool, true, false, if◌then◌else◌, Option, Some, None, List, [], ◌∷◌, ◌++◌, take, length, count_by, slice_get, unwrap_or, option_and_then}
 use Rattle.std.specs.List.{position}
 use Rattle.std.specs.Option.{option_map_or}
 use Rattle.std.specs.Str.{bytes_eq}
-use Rattle.zk_model_bus.specs.declared.kinds.Kind.{Kind}
-use Rattle.zk_model_bus.specs.declared.kinds.Kind.TheVariants as kind
-use Rattle.zk_model_bus.specs.declared.kinds.Need.{Need}
-use Rattle.zk_model_bus.specs.declared.kinds.Need.TheVariants as need
-use Rattle.zk_model_bus.specs.Table as tables
+use Rattle.zk_base.specs.declared.kinds.Kind.{Kind}
+use Rattle.zk_base.specs.declared.kinds.Kind.TheVariants as kind
+use Rattle.zk_base.specs.declared.kinds.Need.{Need}
+use Rattle.zk_base.specs.declared.kinds.Need.TheVariants as need
+use Rattle.zk_base.specs.Kinds as base
+use Rattle.zk_base.specs.Names.{is_name}
 use Rattle.zk_words.specs.Kinds as kinds
 use Rattle.zk_line.specs.declared.kind_lists.Lists.{Lists}
 use Rattle.zk_line.specs.declared.names.Names.{Names}
@@ -40,7 +41,7 @@ name_of (Chan name message valid observers) = name
 
 -- whether a declaration is of a kind
 abbrev pub is_of : Kind → Decl → Bool
-is_of kind decl = tables.same_kind (kind_of decl) kind
+is_of kind decl = base.same_kind (kind_of decl) kind
 
 -- whether a declaration is of a thread
 abbrev pub is_thread : Decl → Bool
@@ -81,7 +82,7 @@ is_chan decl = is_of kind.Chan decl
 
 -- whether what is declared meets a need
 abbrev pub is_met : Need → Decl → Bool
-is_met need decl = tables.meets need (kind_of decl)
+is_met need decl = base.meets need (kind_of decl)
 
 -- whether a declaration is of an observer: a subscriber or a listener
 abbrev pub is_observer : Decl → Bool
@@ -141,6 +142,11 @@ object_of decls name = position (λ d. bytes_eq (name_of d) name) decls
 -- the name of an object
 abbrev pub name_at : List Decl → ℕ → List ℕ
 name_at decls object = option_map_or name_of (slice_get decls object) []
+
+-- each declared name is well formed, and is found as that of its own object, so it is no other's
+pub record AreNames (decls : List Decl) : Type 0 where
+  pub formed : (object : ℕ) (d : Decl) → slice_get decls object ≡ Some d → is_name (name_of d) ≡ true
+  pub distinct : (object : ℕ) (d : Decl) → slice_get decls object ≡ Some d → object_of decls (name_of d) ≡ Some object
 
 -- whether an object is declared, and its declaration passes a test
 abbrev pub is_at : (Decl → Bool) → List Decl → ℕ → Bool

@@ -1,6 +1,6 @@
 use Rattle.std.specs.Prelude.{ℕ, ℤ, Bool, true, false, nat_lt, ◌==◌, List, [], ◌∷◌, length, Option, Some, None, option_map, option_and_then, if◌then◌else◌}
 use Rattle.zk_base.specs.Fews as fews
-use Rattle.zk_model_bus.specs.declared.channel.Valid.{Valid}
+use Rattle.zk_base.specs.declared.validator.Valid.{Valid}
 use Rattle.zk_words.specs.declared.slot.Choice.{Choice}
 use Rattle.zk_words.specs.declared.timeout.Timeout.{Timeout}
 use Rattle.zk_words.specs.Spelled.{same_choice}

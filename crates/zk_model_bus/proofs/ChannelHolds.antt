@@ -27,9 +27,10 @@ use Rattle.zk_model_bus.specs.declared.channel.ChanOp.{ChanOp}
 use Rattle.zk_model_bus.specs.declared.channel.ChanOp.TheVariants as ops
 use Rattle.zk_model_bus.specs.declared.channel.ChanReply.{ChanReply}
 use Rattle.zk_model_bus.specs.declared.channel.ChanReply.TheVariants.{Got, NoMsg, Observers, Bytes, Done, Inval}
-use Rattle.zk_model_bus.specs.Channel.{Channel, new_chan, is_valid, holds, is_claim, has_claimed, has_entered, told_of, gain_reply, gain, held_by, handed_on, chan_reply, chan_changed, chan_next, chan_machine}
+use Rattle.zk_model_bus.specs.Channel.{Channel, new_chan, holds, is_claim, has_claimed, has_entered, told_of, gain_reply, gain, held_by, handed_on, chan_reply, chan_changed, chan_next, chan_machine}
+use Rattle.zk_base.specs.Validators.{is_valid}
 use Rattle.zk_model_bus.specs.ChannelWaits.{call_decides, callers}
-use Rattle.zk_model_bus.specs.ChannelLaws.{ChanHistory, OfEachChan, chan_after_all, IsHolder, manner_of, uses, frees, is_freed, is_freed_by, GotIt, HandedIt, Gains, Moves, Unmoved, HolderGainedItLast, GainedOnlyWhereFree, HandedOnAtOnce, HandedOnByAFree, OnlyTheHolderUses, FreedInItsManner, HolderMayUse, OneUsesAtATime}
+use Rattle.zk_model_bus.specs.ChannelLaws.{ChanHistory, OfEachChan, chan_after_all, IsHolder, manner_of, uses, frees, is_freed, is_freed_by, GotIt, HandedIt, Gains, Moves, Unmoved, HolderGainedItLast, GainedOnlyWhereFree, DecidesOneWait, HandedOnAtOnce, HandedOnByAFree, OnlyTheHolderUses, FreedInItsManner, HolderMayUse, OneUsesAtATime}
 use Rattle.zk_model_bus.proofs.ChannelWaits.{has_callers, first_callers}
 
 -- what an entry of a history is answered
@@ -170,14 +171,22 @@ module _ (first : Channel) (start : IsFirst callers first) where
       ap (λ (d : Channel). d.waits) (state_after-snoc chan_machine first front e)
       ∙ ap (λ (d : Channel). d.waits) (freed-hands c e.who e.op e.reply told is)
 
+  -- the wait that it decides is that of the first who waits
+  freed-decides : (front : ChanHistory) (e : Entry ChanOp ChanReply) (d : Decision ChanReply) →
+      chan_reply (chan_after_all first front) e.who e.op ≡ Some e.reply → is_freed e ≡ true →
+      IsDecidedBy chan_machine callers first front e d →
+      (w : Waiter Manner) × (slice_get (chan_after_all first front).waits.waiting 0 ≡ Some w) × (decide Got w ≡ d)
+  freed-decides front e d told is decides =
+      let c = chan_after_all first front in
+      new-first c.waits c.waits.waiting d decides.before
+      (subst (λ (ws : Waits Manner ChanReply). Contains ws.decided d) (freed-after front e told is) decides.after)
+
   handed-holds : (front : ChanHistory) (e : Entry ChanOp ChanReply) (holder : Holder) → Replays chan_machine first front →
       chan_reply (chan_after_all first front) e.who e.op ≡ Some e.reply → is_freed e ≡ true → HandedIt first front e holder →
       (chan_next (chan_after_all first front) e.who e.op).holder ≡ Some holder
   handed-holds front e holder replays told is handed =
       let c = chan_after_all first front in
-      let after = subst (λ (ws : Waits Manner ChanReply). Contains ws.decided handed.d) (freed-after front e told is)
-      handed.decided.after in
-      let found = new-first c.waits c.waits.waiting handed.d handed.decided.before after in
+      let found = freed-decides front e handed.d told is handed.decided in
       let w = found.0 in
       let own = subst (λ (p : ℕ). WasOpened callers front p w.who w.matter)
       (ap (λ (d : Decision ChanReply). d.place) found.2) (first-opened front w replays found.1) in
@@ -364,6 +373,16 @@ gained_only_where_free message valid observers h legal = record {
 
   start : IsFirst callers new
   start = first_callers message valid observers
+
+pub decides_one_wait : OfEachChan DecidesOneWait
+decides_one_wait message valid observers h legal front e d other at decides also =
+    let new = new_chan message valid observers in
+    let start = first_callers message valid observers in
+    let told = replied new h front e legal.0 at in
+    let freed = (handed-frees new start h front e d legal.0 at decides).0 in
+    let one = freed-decides new start front e d told freed decides in
+    let two = freed-decides new start front e other told freed also in
+    sym one.2 ∙ ap (decide Got) (same_Some one.0 two.0 (sym one.1 ∙ two.1)) ∙ two.2
 
 pub handed_on_by_a_free : OfEachChan HandedOnByAFree
 handed_on_by_a_free message valid observers h legal front e d at decides =

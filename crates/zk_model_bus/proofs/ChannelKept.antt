@@ -19,7 +19,8 @@ use Rattle.zk_model_bus.specs.declared.channel.ChanOp.{ChanOp}
 use Rattle.zk_model_bus.specs.declared.channel.ChanOp.TheVariants as ops
 use Rattle.zk_model_bus.specs.declared.channel.ChanReply.{ChanReply}
 use Rattle.zk_model_bus.specs.declared.channel.ChanReply.TheVariants.{Got, Wait, Again, NoMsg}
-use Rattle.zk_model_bus.specs.Channel.{Channel, is_valid, is_claim, has_claimed, has_entered, holds, gain_reply, gain, held_by, handed_on, chan_reply, chan_next, chan_machine}
+use Rattle.zk_model_bus.specs.Channel.{Channel, is_claim, has_claimed, has_entered, holds, gain_reply, gain, held_by, handed_on, chan_reply, chan_next, chan_machine}
+use Rattle.zk_base.specs.Validators.{is_valid}
 use Rattle.zk_model_bus.specs.ChannelLaws.{ChanHistory, manner_of}
 use Rattle.zk_model_bus.proofs.ChannelHolds.{own-holds}
 

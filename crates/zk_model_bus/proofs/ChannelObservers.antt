@@ -14,12 +14,13 @@ use Rattle.zk_model_bus.specs.declared.channel.ChanObserver.{ChanObserver}
 use Rattle.zk_model_bus.specs.declared.channel.Holder.{Holder}
 use Rattle.zk_model_bus.specs.declared.channel.Manner.{Manner}
 use Rattle.zk_model_bus.specs.declared.channel.Manner.TheVariants as manners
-use Rattle.zk_model_bus.specs.declared.channel.Valid.{Valid}
+use Rattle.zk_base.specs.declared.validator.Valid.{Valid}
 use Rattle.zk_model_bus.specs.declared.channel.ChanOp.{ChanOp}
 use Rattle.zk_model_bus.specs.declared.channel.ChanOp.TheVariants as ops
 use Rattle.zk_model_bus.specs.declared.channel.ChanReply.{ChanReply}
 use Rattle.zk_model_bus.specs.declared.channel.ChanReply.TheVariants.{Got, Again, NoMsg, Observers, Bytes, Done, Inval}
-use Rattle.zk_model_bus.specs.Channel.{Channel, unmasked, new_chan, is_valid, holds, has_claimed, has_entered, is_observer, told_of, mask_one, masked, gain_reply, gain, handed_on, chan_changed, chan_reply, chan_next, chan_machine}
+use Rattle.zk_model_bus.specs.Channel.{Channel, unmasked, new_chan, holds, has_claimed, has_entered, is_observer, told_of, mask_one, masked, gain_reply, gain, handed_on, chan_changed, chan_reply, chan_next, chan_machine}
+use Rattle.zk_base.specs.Validators.{is_valid}
 use Rattle.zk_model_bus.specs.ChannelLaws.{ChanHistory}
 
 -- What holds of the observers that a channel had at first holds of those that it tells, in every history.

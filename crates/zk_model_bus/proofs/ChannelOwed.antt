@@ -16,7 +16,8 @@ use Rattle.zk_model_bus.specs.declared.channel.ChanOp.{ChanOp}
 use Rattle.zk_model_bus.specs.declared.channel.ChanOp.TheVariants as ops
 use Rattle.zk_model_bus.specs.declared.channel.ChanReply.{ChanReply}
 use Rattle.zk_model_bus.specs.declared.channel.ChanReply.TheVariants.{Got, Again, Done}
-use Rattle.zk_model_bus.specs.Channel.{Channel, owed_entries, chan_reply, chan_next, chan_in_range, chan_closes, is_valid, is_claim, holds, has_claimed, has_entered, gain, held_by, handed_on}
+use Rattle.zk_model_bus.specs.Channel.{Channel, owed_entries, chan_reply, chan_next, chan_in_range, chan_closes, is_claim, holds, has_claimed, has_entered, gain, held_by, handed_on}
+use Rattle.zk_base.specs.Validators.{is_valid}
 
 -- each entry is counted
 pub counts : (c : Channel) (who : Who) (op : ChanOp) → (chan_next c who op).entries ≡ c.entries + 1

@@ -11,13 +11,14 @@ use Rattle.zk_model_bus.specs.declared.channel.ChanObserver.{ChanObserver}
 use Rattle.zk_model_bus.specs.declared.channel.Holder.{Holder}
 use Rattle.zk_model_bus.specs.declared.channel.Manner.{Manner}
 use Rattle.zk_model_bus.specs.declared.channel.Manner.TheVariants as manners
-use Rattle.zk_model_bus.specs.declared.channel.Valid.{Valid}
-use Rattle.zk_model_bus.specs.declared.channel.Valid.TheVariants as valids
+use Rattle.zk_base.specs.declared.validator.Valid.{Valid}
+use Rattle.zk_base.specs.declared.validator.Valid.TheVariants as valids
 use Rattle.zk_model_bus.specs.declared.channel.ChanOp.{ChanOp}
 use Rattle.zk_model_bus.specs.declared.channel.ChanOp.TheVariants as ops
 use Rattle.zk_model_bus.specs.declared.channel.ChanReply.{ChanReply}
 use Rattle.zk_model_bus.specs.declared.channel.ChanReply.TheVariants.{NoMsg, Observers, Bytes, Done, Inval}
-use Rattle.zk_model_bus.specs.Channel.{Channel, unmasked, new_chan, is_valid, holds, has_claimed, has_entered, is_observer, told_of, masked, gain_reply, gain, handed_on, chan_reply, chan_next, chan_machine}
+use Rattle.zk_model_bus.specs.Channel.{Channel, unmasked, new_chan, holds, has_claimed, has_entered, is_observer, told_of, masked, gain_reply, gain, handed_on, chan_reply, chan_next, chan_machine}
+use Rattle.zk_base.specs.Validators.{is_valid}
 use Rattle.zk_model_bus.specs.ChannelLaws.{ChanHistory, OfEachChan, chan_after_all, waits_of, asks_observers, IsAboveBound, IsRefused, CallIsTold, set_by, last_set, masked_by, last_mask, numbers, RefusedByItsValidator, CallWaitsOnlyWhereHeld, GetTellsTheLastSet, ListTellsTheUnmasked, MaskKnowsItsObservers, MayAlways}
 use Rattle.zk_model_bus.proofs.ChannelHolds.{replied, replied-as, was-given}
 

@@ -8,12 +8,13 @@ use Rattle.zk_base.proofs.WaitsKept.{keeps_waits}
 use Rattle.zk_model_bus.specs.declared.channel.Holder.{Holder}
 use Rattle.zk_model_bus.specs.declared.channel.Manner.{Manner}
 use Rattle.zk_model_bus.specs.declared.channel.Manner.TheVariants as manners
-use Rattle.zk_model_bus.specs.declared.channel.Valid.{Valid}
+use Rattle.zk_base.specs.declared.validator.Valid.{Valid}
 use Rattle.zk_model_bus.specs.declared.channel.ChanOp.{ChanOp}
 use Rattle.zk_model_bus.specs.declared.channel.ChanOp.TheVariants as ops
 use Rattle.zk_model_bus.specs.declared.channel.ChanReply.{ChanReply}
 use Rattle.zk_model_bus.specs.declared.channel.ChanReply.TheVariants.{Got, Busy, Wait, NoMsg, Done, Inval}
-use Rattle.zk_model_bus.specs.Channel.{Channel, new_chan, is_valid, holds, has_claimed, has_entered, gain_reply, gain, handed_on, chan_reply, chan_next, chan_machine}
+use Rattle.zk_model_bus.specs.Channel.{Channel, new_chan, holds, has_claimed, has_entered, gain_reply, gain, handed_on, chan_reply, chan_next, chan_machine}
+use Rattle.zk_base.specs.Validators.{is_valid}
 use Rattle.zk_model_bus.specs.ChannelWaits.{call_opens, call_decides, callers}
 use Rattle.zk_model_bus.specs.ChannelLaws.{OfEachChan}
 

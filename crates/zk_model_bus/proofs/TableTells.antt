@@ -11,8 +11,8 @@ use Rattle.zk_base.specs.History.{IsEntry}
 use Rattle.zk_base.specs.Legal.{Replays, state_after}
 use Rattle.zk_base.proofs.Histories.{Replays-front, Replays-rest}
 use Rattle.zk_base.proofs.WaitsOnce.{eqb-same}
-use Rattle.zk_model_bus.specs.declared.kinds.Kind.{Kind}
-use Rattle.zk_model_bus.specs.declared.kinds.Need.{Need}
+use Rattle.zk_base.specs.declared.kinds.Kind.{Kind}
+use Rattle.zk_base.specs.declared.kinds.Need.{Need}
 use Rattle.zk_model_bus.specs.declared.table.OopsWhy.{OopsWhy}
 use Rattle.zk_model_bus.specs.declared.table.OopsWhy.TheVariants.{NoObject, WrongKind, NotGranted, NotInit}
 use Rattle.zk_model_bus.specs.declared.table.TableEntry.{TableEntry}
@@ -20,7 +20,8 @@ use Rattle.zk_model_bus.specs.declared.table.TableOp.{TableOp}
 use Rattle.zk_model_bus.specs.declared.table.TableOp.TheVariants as ops
 use Rattle.zk_model_bus.specs.declared.table.TableReply.{TableReply}
 use Rattle.zk_model_bus.specs.declared.table.TableReply.TheVariants.{Done, Already, Oops}
-use Rattle.zk_model_bus.specs.Table.{Setup, Table, new_table, meets, is_any, has_kind, is_declared, said, is_allowed, publishes, is_public, initialises, begins_ready, was_initialised, is_ready, enters, begins_as_user, has_entered, is_user, is_oops, is_dead, is_for, may, check_reply, answer, table_reply, entry_of, table_next, table_machine}
+use Rattle.zk_model_bus.specs.Table.{Setup, Table, new_table, has_kind, is_declared, said, is_allowed, publishes, is_public, initialises, begins_ready, was_initialised, is_ready, enters, begins_as_user, has_entered, is_user, is_oops, is_dead, is_for, may, check_reply, answer, table_reply, entry_of, table_next, table_machine}
+use Rattle.zk_base.specs.Kinds.{meets, is_any}
 use Rattle.zk_model_bus.specs.TableLaws.{TableHistory, OfEachTable, speaks_of, Speaks, is_grant, Unspoken, GrantedLast, IsGranted, IsPublic, IsReady, IsUser, HasOops, is_check, is_for_all, is_for_supervisors, is_just_done, IsOfCheck, IsPossible, NoObjectExactly, WrongKindFirst, GrantStands, PublicForGood, NoneWithoutAGrant, ReadyForGood, NoneBeforeInit, InitDoneOnce, IsAnswered, DeadMakesNoEntry, UsersAreChecked, UserForGood, LivingMay}
 
 abbrev TableStep : Type 0

@@ -4,13 +4,13 @@ use Rattle.std.specs.Option.{option_map_or}
 use Rattle.zk_base.specs.declared.ids.Who.{Who}
 use Rattle.zk_base.specs.declared.waits.Waiter.{Waiter}
 use Rattle.zk_base.specs.Legal.{Machine}
+use Rattle.zk_base.specs.Validators.{is_valid}
 use Rattle.zk_base.specs.Waits.{Waits, no_waits, open_waits, joined, ended, quitted, first_decided, decision_of, quit_answer}
 use Rattle.zk_model_bus.specs.declared.channel.ChanObserver.{ChanObserver}
 use Rattle.zk_model_bus.specs.declared.channel.Holder.{Holder}
 use Rattle.zk_model_bus.specs.declared.channel.Manner.{Manner}
 use Rattle.zk_model_bus.specs.declared.channel.Manner.TheVariants as manners
-use Rattle.zk_model_bus.specs.declared.channel.Valid.{Valid}
-use Rattle.zk_model_bus.specs.declared.channel.Valid.TheVariants as valids
+use Rattle.zk_base.specs.declared.validator.Valid.{Valid}
 use Rattle.zk_model_bus.specs.declared.channel.ChanOp.{ChanOp}
 use Rattle.zk_model_bus.specs.declared.channel.ChanOp.TheVariants as ops
 use Rattle.zk_model_bus.specs.declared.channel.ChanReply.{ChanReply}
@@ -56,11 +56,6 @@ pub record IsCalled (c : Channel) : Type 0 where
   pub observed : length c.observers ≤ 8
   pub few : c.entries < 2 ^ 32
   pub called : open_waits c.waits ≤ c.entries
-
--- the validator takes a message whose first byte isn't above its bound, or any message
-abbrev pub is_valid : Valid → List ℕ → Bool
-is_valid valids.Any message = true
-is_valid (valids.Max bound) message = option_map_or (λ byte. nat_le byte bound) (slice_get message 0) true
 
 -- the caller holds the channel
 abbrev pub holds : Channel → Who → Bool

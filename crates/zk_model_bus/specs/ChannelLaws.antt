@@ -9,8 +9,8 @@ use Rattle.zk_base.specs.WaitLaws.{WasOpened, IsDecidedBy, KeepsWaits}
 use Rattle.zk_model_bus.specs.declared.channel.Holder.{Holder}
 use Rattle.zk_model_bus.specs.declared.channel.Manner.{Manner}
 use Rattle.zk_model_bus.specs.declared.channel.Manner.TheVariants as manners
-use Rattle.zk_model_bus.specs.declared.channel.Valid.{Valid}
-use Rattle.zk_model_bus.specs.declared.channel.Valid.TheVariants as valids
+use Rattle.zk_base.specs.declared.validator.Valid.{Valid}
+use Rattle.zk_base.specs.declared.validator.Valid.TheVariants as valids
 use Rattle.zk_model_bus.specs.declared.channel.ChanOp.{ChanOp}
 use Rattle.zk_model_bus.specs.declared.channel.ChanOp.TheVariants as ops
 use Rattle.zk_model_bus.specs.declared.channel.ChanReply.{ChanReply}
@@ -169,6 +169,11 @@ pub record GainedOnlyWhereFree (c : Channel) (h : ChanHistory) : Type 0 where
   pub one : (front : ChanHistory) (e : Entry ChanOp ChanReply) (holder other : Holder) → IsEntry h front e →
       Gains c front e holder → Gains c front e other → holder ≡ other
 
+-- an entry decides one wait at most
+abbrev pub DecidesOneWait : Channel → ChanHistory → Type 0
+DecidesOneWait c h = (front : ChanHistory) (e : Entry ChanOp ChanReply) (d other : Decision ChanReply) → IsEntry h front e →
+    IsDecidedBy chan_machine callers c front e d → IsDecidedBy chan_machine callers c front e other → d ≡ other
+
 -- nobody waits where nobody holds the channel
 abbrev pub HandedOnAtOnce : Channel → ChanHistory → Type 0
 HandedOnAtOnce c h = (chan_after_all c h).holder ≡ None → (chan_after_all c h).waits.waiting ≡ []
@@ -247,6 +252,7 @@ OneUsesAtATime c h = (front middle rest : ChanHistory) (e f : Entry ChanOp ChanR
 pub record KeepsChannelLaws (c : Channel) (h : ChanHistory) : Type 0 where
   pub holder : HolderGainedItLast c h
   pub gained : GainedOnlyWhereFree c h
+  pub one_wait : DecidesOneWait c h
   pub at_once : HandedOnAtOnce c h
   pub by_free : HandedOnByAFree c h
   pub only : OnlyTheHolderUses c h

@@ -3,15 +3,16 @@ use Rattle.zk_base.specs.declared.ids.Who.{Who}
 use Rattle.zk_base.specs.declared.ids.Entry.{Entry}
 use Rattle.zk_base.specs.History.{IsEntry}
 use Rattle.zk_base.specs.Legal.{state_after, IsLegal}
-use Rattle.zk_model_bus.specs.declared.kinds.Kind.{Kind}
-use Rattle.zk_model_bus.specs.declared.kinds.Need.{Need}
+use Rattle.zk_base.specs.declared.kinds.Kind.{Kind}
+use Rattle.zk_base.specs.declared.kinds.Need.{Need}
 use Rattle.zk_model_bus.specs.declared.table.OopsWhy.{OopsWhy}
 use Rattle.zk_model_bus.specs.declared.table.OopsWhy.TheVariants.{NoObject, WrongKind, NotGranted, NotInit}
 use Rattle.zk_model_bus.specs.declared.table.TableOp.{TableOp}
 use Rattle.zk_model_bus.specs.declared.table.TableOp.TheVariants as ops
 use Rattle.zk_model_bus.specs.declared.table.TableReply.{TableReply}
 use Rattle.zk_model_bus.specs.declared.table.TableReply.TheVariants.{Done, Already, Oops}
-use Rattle.zk_model_bus.specs.Table.{Setup, new_table, meets, is_any, is_thread, is_declared, begins_ready, begins_as_user, table_reply, table_machine}
+use Rattle.zk_model_bus.specs.Table.{Setup, new_table, is_thread, is_declared, begins_ready, begins_as_user, table_reply, table_machine}
+use Rattle.zk_base.specs.Kinds.{meets, is_any}
 
 -- a history of the object table
 abbrev pub TableHistory : Type 0

@@ -1,15 +1,17 @@
 ghost use Rattle.std.specs.Prelude.{◌≡◌, true, false, ◌+◌, ◌-◌, ◌^◌, ◌<◌, ◌≤◌, Some, length, map, vec_len, IsOk, IfOk, OnErr};
 ghost use Rattle.std.specs.List.{list_any};
 ghost use Rattle.zk_base.specs.History.{AddsNone};
+ghost use Rattle.zk_base.specs.Validators.{is_valid};
 ghost use Rattle.zk_base.specs.Waits.{open_waits};
-ghost use Rattle.zk_model_bus.specs.Channel.{unmasked, new_chan, is_valid, holds, is_claim, has_claimed, has_entered, is_observer, told_of, mask_one, masked, gain_reply, gain, held_by, handed_on, chan_reply, chan_next, chan_after, may_wait};
+ghost use Rattle.zk_base.specs.Limits.{most_entries};
+ghost use Rattle.zk_model_bus.specs.Channel.{unmasked, new_chan, holds, is_claim, has_claimed, has_entered, is_observer, told_of, mask_one, masked, gain_reply, gain, held_by, handed_on, chan_reply, chan_next, chan_after, may_wait};
 
 use std::alloc::Global;
 use std::marker::Model;
-use zk_base::{Few, Msg, NoMemory, Store, WaitList, Waiter, Who};
+use zk_base::{Few, Msg, NoMemory, Store, Valid, WaitList, Waiter, Who};
 
 /// What can be asked of a channel.
-#[derive(Clone, Copy, Debug)]
+#[derive(Clone, Copy, Debug, PartialEq, Eq)]
 pub enum ChanOp {
     /// Gets the channel for a message that its validator takes. Where it is held the caller waits, if this is true. The
     /// opening of Zephyr's `zbus_chan_pub`.
@@ -38,7 +40,7 @@ pub enum ChanOp {
 }
 
 /// What a channel answers.
-#[derive(Clone, Copy, Debug)]
+#[derive(Clone, Copy, Debug, PartialEq, Eq)]
 pub enum ChanReply {
     /// The caller holds the channel.
     Got,
@@ -58,15 +60,6 @@ pub enum ChanReply {
     Done,
     /// The caller hasn't claimed the channel, or the observer isn't one of its.
     Inval,
-}
-
-/// What messages a channel takes: the function of Zephyr's `ZBUS_CHAN_DEFINE`.
-#[derive(Clone, Copy, Debug, PartialEq, Eq)]
-pub enum Valid {
-    /// All of them.
-    Any,
-    /// Those whose first byte isn't above this.
-    Max(u8),
 }
 
 /// By which call a player holds a channel.
@@ -166,6 +159,14 @@ impl ChanState {
             store: ChanStore::new(alloc, initial, valid, observers)?,
         })
     }
+
+    /// The same state with its memory, as an engine keeps it.
+    pub fn into_store(self) -> ChanStore
+        ensures { result.chan ≡ self }
+    {
+        let ChanState { store } = self;
+        store
+    }
 }
 
 /// These observers, none of them masked.
@@ -180,16 +181,6 @@ fn all_unmasked(alloc: Global, numbers: &[u32]) -> Result<Vec<ChanObserver>, NoM
         })?;
     }
     Ok(observers)
-}
-
-/// The validator takes the message.
-fn is_valid(valid: Valid, message: &Msg) -> bool
-    ensures { result ≡ is_valid valid message.now }
-{
-    match (valid, message.bytes().first()) {
-        (Valid::Max(bound), Some(first)) => *first <= bound,
-        _ => true,
-    }
 }
 
 fn is_claim(manner: Manner) -> bool
@@ -284,7 +275,7 @@ impl ChanStore {
 
     /// A call for the channel, in this manner.
     fn gain(&mut self, who: Who, manner: Manner, waits: bool) -> Result<ChanReply, NoMemory>
-        requires { self.old.chan.entries < 2 ^ 32 - 1 }
+        requires { self.old.chan.entries < most_entries }
         ensures reply { IfOk result (λ reply. reply ≡ gain_reply self.old.chan.holder waits) }
         ensures next { IfOk result (λ _. self.new.chan
             ≡ record (gain self.old.chan.holder self.old.chan who manner waits) {
@@ -317,7 +308,7 @@ impl ChanStore {
     }
 
     fn offer(&mut self, who: Who, message: Msg, waits: bool) -> Result<ChanReply, NoMemory>
-        requires { self.old.chan.entries < 2 ^ 32 - 1 }
+        requires { self.old.chan.entries < most_entries }
         ensures reply { IfOk result (λ reply.
             Some reply ≡ chan_reply self.old.chan who (ChanOp.Offer message waits)) }
         ensures next { IfOk result (λ _.
@@ -328,7 +319,7 @@ impl ChanStore {
         ensures room { self.old.room ≤ self.new.room + 1 }
         ensures kept { OnErr result (self.old.room ≤ self.new.room) }
     {
-        if is_valid(self.valid, &message) {
+        if self.valid.takes(&message) {
             return self.gain(who, Manner::Offer, waits);
         }
         self.entries += 1;
@@ -336,7 +327,7 @@ impl ChanStore {
     }
 
     fn claim_end(&mut self, who: Who, place: u64) -> Option<ChanReply>
-        requires { self.old.chan.entries < 2 ^ 32 - 1 }
+        requires { self.old.chan.entries < most_entries }
         ensures reply { result ≡ chan_reply self.old.chan who (ChanOp.ClaimEnd place) }
         ensures next { self.new.chan ≡ chan_after self.old.chan who (ChanOp.ClaimEnd place) result }
         ensures room { self.old.room ≤ self.new.room }
@@ -347,7 +338,7 @@ impl ChanStore {
     }
 
     fn claim_quit(&mut self, who: Who, place: u64) -> Option<ChanReply>
-        requires { self.old.chan.entries < 2 ^ 32 - 1 }
+        requires { self.old.chan.entries < most_entries }
         ensures reply { result ≡ chan_reply self.old.chan who (ChanOp.ClaimQuit place) }
         ensures next { self.new.chan ≡ chan_after self.old.chan who (ChanOp.ClaimQuit place) result }
         ensures room { self.old.room ≤ self.new.room }
@@ -388,7 +379,7 @@ impl ChanStore {
     }
 
     fn set(&mut self, who: Who, message: Msg) -> Option<ChanReply>
-        requires { self.old.chan.entries < 2 ^ 32 - 1 }
+        requires { self.old.chan.entries < most_entries }
         ensures reply { result ≡ chan_reply self.old.chan who (ChanOp.Set message) }
         ensures next { self.new.chan ≡ chan_after self.old.chan who (ChanOp.Set message) result }
         ensures room { self.old.room ≤ self.new.room }
@@ -402,7 +393,7 @@ impl ChanStore {
     }
 
     fn list(&mut self, who: Who) -> Option<ChanReply>
-        requires { self.old.chan.entries < 2 ^ 32 - 1 }
+        requires { self.old.chan.entries < most_entries }
         ensures reply { result ≡ chan_reply self.old.chan who ChanOp.List }
         ensures next { self.new.chan ≡ chan_after self.old.chan who ChanOp.List result }
         ensures room { self.old.room ≤ self.new.room }
@@ -415,7 +406,7 @@ impl ChanStore {
     }
 
     fn get(&mut self, who: Who) -> Option<ChanReply>
-        requires { self.old.chan.entries < 2 ^ 32 - 1 }
+        requires { self.old.chan.entries < most_entries }
         ensures reply { result ≡ chan_reply self.old.chan who ChanOp.Get }
         ensures next { self.new.chan ≡ chan_after self.old.chan who ChanOp.Get result }
         ensures room { self.old.room ≤ self.new.room }
@@ -437,7 +428,7 @@ impl ChanStore {
     }
 
     fn free(&mut self, who: Who) -> Option<ChanReply>
-        requires { self.old.chan.entries < 2 ^ 32 - 1 }
+        requires { self.old.chan.entries < most_entries }
         ensures reply { result ≡ chan_reply self.old.chan who ChanOp.Free }
         ensures next { self.new.chan ≡ chan_after self.old.chan who ChanOp.Free result }
         ensures room { self.old.room ≤ self.new.room }
@@ -451,7 +442,7 @@ impl ChanStore {
     }
 
     fn finish(&mut self, who: Who) -> ChanReply
-        requires { self.old.chan.entries < 2 ^ 32 - 1 }
+        requires { self.old.chan.entries < most_entries }
         ensures reply { Some result ≡ chan_reply self.old.chan who ChanOp.Finish }
         ensures next { self.new.chan ≡ chan_next self.old.chan who ChanOp.Finish }
         ensures room { self.old.room ≤ self.new.room }
@@ -466,7 +457,7 @@ impl ChanStore {
     }
 
     fn mask(&mut self, who: Who, observer: u32, on: bool) -> ChanReply
-        requires { self.old.chan.entries < 2 ^ 32 - 1 }
+        requires { self.old.chan.entries < most_entries }
         ensures reply { Some result ≡ chan_reply self.old.chan who (ChanOp.Mask observer on) }
         ensures next { self.new.chan ≡ chan_next self.old.chan who (ChanOp.Mask observer on) }
         ensures room { self.old.room ≤ self.new.room }
@@ -490,7 +481,7 @@ pub fn chan_next(
     who: Who,
     op: &ChanOp,
 ) -> Result<Option<ChanReply>, NoMemory>
-    requires { store.old.chan.entries < 2 ^ 32 - 1 }
+    requires { store.old.chan.entries < most_entries }
     ensures reply { IfOk result (λ reply. reply ≡ chan_reply store.old.chan who op.now) }
     ensures next { IfOk result (λ reply. store.new.chan ≡ chan_after store.old.chan who op.now reply) }
     ensures unchanged { OnErr result (store.new.chan ≡ store.old.chan) }

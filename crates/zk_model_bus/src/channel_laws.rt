@@ -1,13 +1,14 @@
 ghost use Rattle.zk_base.specs.WaitLaws.{KeepsWaits};
 ghost use Rattle.zk_model_bus.specs.Channel.{Channel, chan_machine};
 ghost use Rattle.zk_model_bus.specs.ChannelWaits.{callers};
-ghost use Rattle.zk_model_bus.specs.ChannelLaws.{ChanHistory, OfEachChan, HolderGainedItLast, GainedOnlyWhereFree, HandedOnAtOnce, HandedOnByAFree, OnlyTheHolderUses, FreedInItsManner, HolderMayUse, OneUsesAtATime, GetTellsTheLastSet, ListTellsTheUnmasked, MaskKnowsItsObservers, RefusedByItsValidator, CallWaitsOnlyWhereHeld, MayAlways, KeepsChannelLaws};
+ghost use Rattle.zk_model_bus.specs.ChannelLaws.{ChanHistory, OfEachChan, HolderGainedItLast, GainedOnlyWhereFree, DecidesOneWait, HandedOnAtOnce, HandedOnByAFree, OnlyTheHolderUses, FreedInItsManner, HolderMayUse, OneUsesAtATime, GetTellsTheLastSet, ListTellsTheUnmasked, MaskKnowsItsObservers, RefusedByItsValidator, CallWaitsOnlyWhereHeld, MayAlways, KeepsChannelLaws};
 
 /// Of every legal history of a channel: one player holds it at a time, from the entry that got it or handed it on until it
 /// is freed; a channel that is freed goes to the first who waits; and only its holder uses and frees it, and may do so.
 pub fn one_holds()
     ensures holder { OfEachChan HolderGainedItLast }
     ensures gained { OfEachChan GainedOnlyWhereFree }
+    ensures one_wait { OfEachChan DecidesOneWait }
     ensures at_once { OfEachChan HandedOnAtOnce }
     ensures by_free { OfEachChan HandedOnByAFree }
     ensures only { OfEachChan OnlyTheHolderUses }

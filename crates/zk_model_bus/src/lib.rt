@@ -4,19 +4,17 @@
 
 mod channel;
 mod channel_laws;
-mod kinds;
 mod observer;
 mod observer_laws;
 mod table;
 mod table_laws;
 
 pub use channel::{
-    ChanObserver, ChanOp, ChanReply, ChanState, ChanStore, Holder, Manner, Valid, chan_next,
+    ChanObserver, ChanOp, ChanReply, ChanState, ChanStore, Holder, Manner, chan_next,
 };
 pub use channel_laws::{
     channel_calls_are_told, channel_waits_end, keeps_channel_laws, message_holds, one_holds,
 };
-pub use kinds::{Kind, Need, same_kind};
 pub use observer::{ObsOp, ObsReply, ObsState, ObsStore, obs_next};
 pub use observer_laws::{
     keeps_observer_laws, observer_calls_are_told, observer_waits_end, off_holds, taken_in_order,
@@ -28,3 +26,4 @@ pub use table::{
 pub use table_laws::{
     checks_are_told, grants_stand, keeps_table_laws, oops_is_last, ready_for_good, user_for_good,
 };
+pub use zk_base::{Kind, Need, Valid, same_kind};

@@ -1,6 +1,7 @@
 ghost use Rattle.std.specs.Prelude.{◌≡◌, true, false, ◌+◌, ◌-◌, ◌^◌, ◌<◌, ◌≤◌, ◌++◌, ◌∷◌, [], Some, None, length, IsOk, IfOk, OnErr};
 ghost use Rattle.circular_buffer.specs.Buffer.{buffer};
 ghost use Rattle.zk_base.specs.History.{AddsNone};
+ghost use Rattle.zk_base.specs.Limits.{most_entries};
 ghost use Rattle.zk_model_bus.specs.Observer.{new_obs, visit_reply, visited, obs_reply, obs_next, obs_after, may_wait};
 
 use circular_buffer::HeapCircularBuffer;
@@ -9,7 +10,7 @@ use std::marker::Model;
 use zk_base::{NoMemory, Store, WaitList, Waiter, Who};
 
 /// What can be asked of an observer: a listener or a subscriber.
-#[derive(Clone, Copy, Debug)]
+#[derive(Clone, Copy, Debug, PartialEq, Eq)]
 pub enum ObsOp {
     /// Tells it of a message of the channel of this number.
     Visit(u32),
@@ -114,6 +115,14 @@ impl ObsState {
             store: ObsStore::subscriber(alloc, capacity)?,
         })
     }
+
+    /// The same state with its memory, as an engine keeps it.
+    pub fn into_store(self) -> ObsStore
+        ensures { result.obs ≡ self }
+    {
+        let ObsState { store } = self;
+        store
+    }
 }
 
 /// One channel more behind the others, for which there is room.
@@ -170,7 +179,7 @@ impl ObsStore {
     }
 
     fn visit(&mut self, who: Who, channel: u32) -> ObsReply
-        requires { self.old.obs.entries < 2 ^ 32 - 1 }
+        requires { self.old.obs.entries < most_entries }
         ensures reply { Some result ≡ obs_reply self.old.obs who (ObsOp.Visit channel) }
         ensures next { self.new.obs ≡ obs_next self.old.obs who (ObsOp.Visit channel) }
         ensures room { self.old.room ≤ self.new.room }
@@ -184,7 +193,7 @@ impl ObsStore {
     }
 
     fn take(&mut self, who: Who, waits: bool) -> Result<Option<ObsReply>, NoMemory>
-        requires { self.old.obs.entries < 2 ^ 32 - 1 }
+        requires { self.old.obs.entries < most_entries }
         ensures reply { IfOk result (λ reply. reply ≡ obs_reply self.old.obs who (ObsOp.Take waits)) }
         ensures next { IfOk result (λ reply.
             self.new.obs ≡ obs_after self.old.obs who (ObsOp.Take waits) reply) }
@@ -213,7 +222,7 @@ impl ObsStore {
     }
 
     fn take_end(&mut self, who: Who, place: u64) -> Option<ObsReply>
-        requires { self.old.obs.entries < 2 ^ 32 - 1 }
+        requires { self.old.obs.entries < most_entries }
         ensures reply { result ≡ obs_reply self.old.obs who (ObsOp.TakeEnd place) }
         ensures next { self.new.obs ≡ obs_after self.old.obs who (ObsOp.TakeEnd place) result }
         ensures room { self.old.room ≤ self.new.room }
@@ -224,7 +233,7 @@ impl ObsStore {
     }
 
     fn take_quit(&mut self, who: Who, place: u64) -> Option<ObsReply>
-        requires { self.old.obs.entries < 2 ^ 32 - 1 }
+        requires { self.old.obs.entries < most_entries }
         ensures reply { result ≡ obs_reply self.old.obs who (ObsOp.TakeQuit place) }
         ensures next { self.new.obs ≡ obs_after self.old.obs who (ObsOp.TakeQuit place) result }
         ensures room { self.old.room ≤ self.new.room }
@@ -235,7 +244,7 @@ impl ObsStore {
     }
 
     fn enable(&mut self, who: Who, on: bool) -> ObsReply
-        requires { self.old.obs.entries < 2 ^ 32 - 1 }
+        requires { self.old.obs.entries < most_entries }
         ensures reply { Some result ≡ obs_reply self.old.obs who (ObsOp.Enable on) }
         ensures next { self.new.obs ≡ obs_next self.old.obs who (ObsOp.Enable on) }
         ensures room { self.old.room ≤ self.new.room }
@@ -250,7 +259,7 @@ impl ObsStore {
 ///
 /// `None` says that the operation isn't possible now. Only a `Take` that waits takes memory.
 pub fn obs_next(store: &mut ObsStore, who: Who, op: &ObsOp) -> Result<Option<ObsReply>, NoMemory>
-    requires { store.old.obs.entries < 2 ^ 32 - 1 }
+    requires { store.old.obs.entries < most_entries }
     ensures reply { IfOk result (λ reply. reply ≡ obs_reply store.old.obs who op.now) }
     ensures next { IfOk result (λ reply. store.new.obs ≡ obs_after store.old.obs who op.now reply) }
     ensures unchanged { OnErr result (store.new.obs ≡ store.old.obs) }

@@ -1,11 +1,11 @@
 ghost use Rattle.std.specs.Prelude.{◌≡◌, true, false, ◌+◌, ◌-◌, ◌^◌, ◌<◌, ◌≤◌, length, vec_len, IsOk, IfOk, OnErr};
 ghost use Rattle.zk_base.specs.History.{AddsNone};
+ghost use Rattle.zk_base.specs.Limits.{most_entries};
 ghost use Rattle.zk_model_bus.specs.Table.{IsSetup, new_table, has_kind, is_thread, is_declared, said, is_allowed, publishes, is_public, initialises, begins_ready, was_initialised, is_ready, enters, begins_as_user, has_entered, is_user, is_oops, is_dead, is_for, may, check_reply, answer, table_reply, table_after};
 
-use crate::kinds::{Kind, Need};
 use std::alloc::Global;
 use std::marker::Model;
-use zk_base::{NoMemory, Who};
+use zk_base::{Kind, Need, NoMemory, Who};
 
 /// What can be asked of the object table. A thread is named by its object.
 #[derive(Clone, Copy, Debug, PartialEq, Eq)]
@@ -399,7 +399,7 @@ pub fn table_next(
     who: Who,
     op: &TableOp,
 ) -> Result<Option<TableReply>, NoMemory>
-    requires { length store.old.table.entries < 2 ^ 32 - 1 }
+    requires { length store.old.table.entries < most_entries }
     ensures reply { IfOk result (λ reply. reply ≡ table_reply store.old.table who op.now) }
     ensures next { IfOk result (λ reply. store.new.table ≡ table_after store.old.table who op.now reply) }
     ensures unchanged { OnErr result (store.new.table ≡ store.old.table) }

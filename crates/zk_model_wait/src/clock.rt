@@ -1,6 +1,7 @@
 ghost use Rattle.std.specs.Prelude.{◌≡◌, false, ◌+◌, ◌-◌, ◌^◌, ◌<◌, ◌≤◌, ◌++◌, ◌∷◌, [], position, length, vec_len, vec_capacity, if◌then◌else◌, IsOk, IfOk, OnOk, OnErr};
 ghost use Rattle.zk_base.specs.History.{AddsNone};
 ghost use Rattle.zk_base.specs.Lists.{without_first};
+ghost use Rattle.zk_base.specs.Limits.{most_entries};
 ghost use Rattle.zk_model_wait.specs.Clock.{new_clock, is_alarm, has_alarm, is_due, clock_reply, after_reply, sets_alarm};
 
 use std::alloc::Global;
@@ -8,7 +9,7 @@ use std::marker::Model;
 use zk_base::{NoMemory, Store, Who};
 
 /// What can be asked of the clock. Time is counted in ticks, from 0.
-#[derive(Clone, Copy, Debug)]
+#[derive(Clone, Copy, Debug, PartialEq, Eq)]
 pub enum ClockOp {
     /// So many ticks pass. Zephyr's `sys_clock_announce`.
     Announce(u32),
@@ -19,7 +20,7 @@ pub enum ClockOp {
 }
 
 /// What the clock answers.
-#[derive(Clone, Copy, Debug)]
+#[derive(Clone, Copy, Debug, PartialEq, Eq)]
 pub enum ClockReply {
     /// The time from now on, in ticks.
     Now(u64),
@@ -30,7 +31,7 @@ pub enum ClockReply {
 }
 
 /// An alarm that was set and hasn't ended.
-#[derive(Clone, Copy, Debug)]
+#[derive(Clone, Copy, Debug, PartialEq, Eq)]
 pub struct Alarm {
     /// The player who set it.
     pub player: u32,
@@ -141,6 +142,14 @@ impl ClockState {
             store: ClockStore::new(alloc),
         }
     }
+
+    /// The same state with its memory, as an engine keeps it.
+    pub fn into_store(self) -> ClockStore
+        ensures { result.clock ≡ self }
+    {
+        let ClockState { store } = self;
+        store
+    }
 }
 
 impl ClockStore {
@@ -156,7 +165,7 @@ impl ClockStore {
     }
 
     fn announce(&mut self, who: Who, ticks: u32) -> Option<ClockReply>
-        requires { self.old.clock.entries < 2 ^ 32 - 1 }
+        requires { self.old.clock.entries < most_entries }
         ensures reply { result ≡ clock_reply self.old.clock who (ClockOp.Announce ticks) }
         ensures next { self.new.clock
             ≡ after_reply self.old.clock who (ClockOp.Announce ticks) result }
@@ -168,7 +177,7 @@ impl ClockStore {
     }
 
     fn alarm(&mut self, who: Who, ticks: u32) -> Result<Option<ClockReply>, NoMemory>
-        requires { self.old.clock.entries < 2 ^ 32 - 1 }
+        requires { self.old.clock.entries < most_entries }
         ensures reply { IfOk result (λ reply.
             reply ≡ clock_reply self.old.clock who (ClockOp.Alarm ticks)) }
         ensures next { IfOk result (λ reply.
@@ -185,7 +194,7 @@ impl ClockStore {
     }
 
     fn alarm_end(&mut self, who: Who, moment: u64) -> Option<ClockReply>
-        requires { self.old.clock.entries < 2 ^ 32 - 1 }
+        requires { self.old.clock.entries < most_entries }
         ensures reply { result ≡ clock_reply self.old.clock who (ClockOp.AlarmEnd moment) }
         ensures next { self.new.clock
             ≡ after_reply self.old.clock who (ClockOp.AlarmEnd moment) result }
@@ -208,7 +217,7 @@ pub fn clock_next(
     who: Who,
     op: &ClockOp,
 ) -> Result<Option<ClockReply>, NoMemory>
-    requires { store.old.clock.entries < 2 ^ 32 - 1 }
+    requires { store.old.clock.entries < most_entries }
     ensures reply { IfOk result (λ reply. reply ≡ clock_reply store.old.clock who op.now) }
     ensures next { IfOk result (λ reply.
         store.new.clock ≡ after_reply store.old.clock who op.now reply) }

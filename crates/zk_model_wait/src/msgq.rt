@@ -2,6 +2,7 @@ ghost use Rattle.std.specs.Prelude.{◌≡◌, true, false, ◌+◌, ◌-◌, �
 ghost use Rattle.circular_buffer.specs.Buffer.{buffer};
 ghost use Rattle.zk_base.specs.declared.ids.Who.{Who};
 ghost use Rattle.zk_base.specs.History.{AddsNone};
+ghost use Rattle.zk_base.specs.Limits.{most_entries};
 ghost use Rattle.zk_model_wait.specs.Msgq.{new_msgq, peek_reply, moved_in, only_looks, msgq_reply, msgq_after, may_wait};
 
 use circular_buffer::HeapCircularBuffer;
@@ -10,7 +11,7 @@ use std::marker::Model;
 use zk_base::{Msg, NoMemory, Store, WaitList, Waiter, Who};
 
 /// What can be asked of a message queue.
-#[derive(Clone, Copy, Debug)]
+#[derive(Clone, Copy, Debug, PartialEq, Eq)]
 pub enum MsgqOp {
     /// Puts a message in. Where the queue is full the caller waits, if this is true. Zephyr's `k_msgq_put`.
     Put(Msg, bool),
@@ -44,7 +45,7 @@ pub enum MsgqOp {
 }
 
 /// What a message queue answers.
-#[derive(Clone, Copy, Debug)]
+#[derive(Clone, Copy, Debug, PartialEq, Eq)]
 pub enum MsgqReply {
     /// It is done.
     Done,
@@ -134,6 +135,14 @@ impl MsgqState {
             store: MsgqStore::new(alloc, most)?,
         })
     }
+
+    /// The same state with its memory, as an engine keeps it.
+    pub fn into_store(self) -> MsgqStore
+        ensures { result.msgq ≡ self }
+    {
+        let MsgqState { store } = self;
+        store
+    }
 }
 
 /// One message more behind the others, for which there is room.
@@ -160,7 +169,7 @@ impl MsgqStore {
     }
 
     fn put(&mut self, who: Who, message: Msg, waits: bool) -> Result<Option<MsgqReply>, NoMemory>
-        requires { self.old.msgq.entries < 2 ^ 32 - 1 }
+        requires { self.old.msgq.entries < most_entries }
         ensures reply { IfOk result (λ reply.
             reply ≡ msgq_reply self.old.msgq who (MsgqOp.Put message waits)) }
         ensures next { IfOk result (λ reply.
@@ -192,7 +201,7 @@ impl MsgqStore {
     }
 
     fn put_end(&mut self, who: Who, place: u64) -> Option<MsgqReply>
-        requires { self.old.msgq.entries < 2 ^ 32 - 1 }
+        requires { self.old.msgq.entries < most_entries }
         ensures reply { result ≡ msgq_reply self.old.msgq who (MsgqOp.PutEnd place) }
         ensures next { self.new.msgq ≡ msgq_after self.old.msgq who (MsgqOp.PutEnd place) result }
         ensures room { self.old.room ≤ self.new.room }
@@ -203,7 +212,7 @@ impl MsgqStore {
     }
 
     fn put_quit(&mut self, who: Who, place: u64) -> Option<MsgqReply>
-        requires { self.old.msgq.entries < 2 ^ 32 - 1 }
+        requires { self.old.msgq.entries < most_entries }
         ensures reply { result ≡ msgq_reply self.old.msgq who (MsgqOp.PutQuit place) }
         ensures next { self.new.msgq ≡ msgq_after self.old.msgq who (MsgqOp.PutQuit place) result }
         ensures room { self.old.room ≤ self.new.room }
@@ -226,7 +235,7 @@ impl MsgqStore {
     }
 
     fn get(&mut self, who: Who, waits: bool) -> Result<Option<MsgqReply>, NoMemory>
-        requires { self.old.msgq.entries < 2 ^ 32 - 1 }
+        requires { self.old.msgq.entries < most_entries }
         ensures reply { IfOk result (λ reply. reply ≡ msgq_reply self.old.msgq who (MsgqOp.Get waits)) }
         ensures next { IfOk result (λ reply.
             self.new.msgq ≡ msgq_after self.old.msgq who (MsgqOp.Get waits) reply) }
@@ -255,7 +264,7 @@ impl MsgqStore {
     }
 
     fn get_end(&mut self, who: Who, place: u64) -> Option<MsgqReply>
-        requires { self.old.msgq.entries < 2 ^ 32 - 1 }
+        requires { self.old.msgq.entries < most_entries }
         ensures reply { result ≡ msgq_reply self.old.msgq who (MsgqOp.GetEnd place) }
         ensures next { self.new.msgq ≡ msgq_after self.old.msgq who (MsgqOp.GetEnd place) result }
         ensures room { self.old.room ≤ self.new.room }
@@ -266,7 +275,7 @@ impl MsgqStore {
     }
 
     fn get_quit(&mut self, who: Who, place: u64) -> Option<MsgqReply>
-        requires { self.old.msgq.entries < 2 ^ 32 - 1 }
+        requires { self.old.msgq.entries < most_entries }
         ensures reply { result ≡ msgq_reply self.old.msgq who (MsgqOp.GetQuit place) }
         ensures next { self.new.msgq ≡ msgq_after self.old.msgq who (MsgqOp.GetQuit place) result }
         ensures room { self.old.room ≤ self.new.room }
@@ -277,7 +286,7 @@ impl MsgqStore {
     }
 
     fn purge(&mut self, who: Who) -> MsgqReply
-        requires { self.old.msgq.entries < 2 ^ 32 - 1 }
+        requires { self.old.msgq.entries < most_entries }
         ensures reply { Some result ≡ msgq_reply self.old.msgq who MsgqOp.Purge }
         ensures next { self.new.msgq ≡ msgq_after self.old.msgq who MsgqOp.Purge (Some result) }
         ensures room { self.old.room ≤ self.new.room }
@@ -289,7 +298,7 @@ impl MsgqStore {
     }
 
     fn poll_arm(&mut self, who: Who, waits: bool) -> Result<Option<MsgqReply>, NoMemory>
-        requires { self.old.msgq.entries < 2 ^ 32 - 1 }
+        requires { self.old.msgq.entries < most_entries }
         ensures reply { IfOk result (λ reply.
             reply ≡ msgq_reply self.old.msgq who (MsgqOp.PollArm waits)) }
         ensures next { IfOk result (λ reply.
@@ -317,7 +326,7 @@ impl MsgqStore {
     }
 
     fn poll_end(&mut self, who: Who, place: u64) -> Option<MsgqReply>
-        requires { self.old.msgq.entries < 2 ^ 32 - 1 }
+        requires { self.old.msgq.entries < most_entries }
         ensures reply { result ≡ msgq_reply self.old.msgq who (MsgqOp.PollEnd place) }
         ensures next { self.new.msgq ≡ msgq_after self.old.msgq who (MsgqOp.PollEnd place) result }
         ensures room { self.old.room ≤ self.new.room }
@@ -328,7 +337,7 @@ impl MsgqStore {
     }
 
     fn poll_quit(&mut self, who: Who, place: u64) -> Option<MsgqReply>
-        requires { self.old.msgq.entries < 2 ^ 32 - 1 }
+        requires { self.old.msgq.entries < most_entries }
         ensures reply { result ≡ msgq_reply self.old.msgq who (MsgqOp.PollQuit place) }
         ensures next { self.new.msgq ≡ msgq_after self.old.msgq who (MsgqOp.PollQuit place) result }
         ensures room { self.old.room ≤ self.new.room }
@@ -350,7 +359,7 @@ impl MsgqStore {
 
     /// An operation that only looks is counted.
     fn count(&mut self)
-        requires { self.old.msgq.entries < 2 ^ 32 - 1 }
+        requires { self.old.msgq.entries < most_entries }
         ensures next { self.new.msgq ≡ record self.old.msgq { entries = self.old.msgq.entries + 1 } }
         ensures room { self.old.room ≤ self.new.room }
     {
@@ -379,7 +388,7 @@ pub fn msgq_next(
     who: Who,
     op: &MsgqOp,
 ) -> Result<Option<MsgqReply>, NoMemory>
-    requires { store.old.msgq.entries < 2 ^ 32 - 1 }
+    requires { store.old.msgq.entries < most_entries }
     ensures reply { IfOk result (λ reply. reply ≡ msgq_reply store.old.msgq who op.now) }
     ensures next { IfOk result (λ reply. store.new.msgq ≡ msgq_after store.old.msgq who op.now reply) }
     ensures unchanged { OnErr result (store.new.msgq ≡ store.old.msgq) }

@@ -1,5 +1,6 @@
 ghost use Rattle.std.specs.Prelude.{◌≡◌, true, false, ◌+◌, ◌-◌, ◌^◌, ◌<◌, ◌≤◌, [], Some, IsOk, IfOk, OnOk, OnErr};
 ghost use Rattle.zk_base.specs.History.{AddsNone};
+ghost use Rattle.zk_base.specs.Limits.{most_entries};
 ghost use Rattle.zk_model_wait.specs.Sem.{new_sem, give_to, sem_reply, sem_after, may_wait};
 
 use std::alloc::Global;
@@ -7,7 +8,7 @@ use std::marker::Model;
 use zk_base::{NoMemory, Store, WaitList, Waiter, Who};
 
 /// What can be asked of a semaphore.
-#[derive(Clone, Copy, Debug)]
+#[derive(Clone, Copy, Debug, PartialEq, Eq)]
 pub enum SemOp {
     /// Takes one off the count. At 0 the caller waits, where this is true. Zephyr's `k_sem_take`.
     Take(bool),
@@ -118,6 +119,14 @@ impl SemState {
             store: SemStore::new(alloc, initial, limit),
         }
     }
+
+    /// The same state with its memory, as an engine keeps it.
+    pub fn into_store(self) -> SemStore
+        ensures { result.sem ≡ self }
+    {
+        let SemState { store } = self;
+        store
+    }
 }
 
 impl SemStore {
@@ -136,7 +145,7 @@ impl SemStore {
     }
 
     fn take(&mut self, who: Who, waits: bool) -> Result<Option<SemReply>, NoMemory>
-        requires { self.old.sem.entries < 2 ^ 32 - 1 }
+        requires { self.old.sem.entries < most_entries }
         ensures reply { IfOk result (λ reply. reply ≡ sem_reply self.old.sem who (SemOp.Take waits)) }
         ensures next { IfOk result (λ reply.
             self.new.sem ≡ sem_after self.old.sem who (SemOp.Take waits) reply) }
@@ -164,7 +173,7 @@ impl SemStore {
     }
 
     fn take_end(&mut self, who: Who, place: u64) -> Option<SemReply>
-        requires { self.old.sem.entries < 2 ^ 32 - 1 }
+        requires { self.old.sem.entries < most_entries }
         ensures reply { result ≡ sem_reply self.old.sem who (SemOp.TakeEnd place) }
         ensures next { self.new.sem ≡ sem_after self.old.sem who (SemOp.TakeEnd place) result }
         ensures room { self.old.room ≤ self.new.room }
@@ -175,7 +184,7 @@ impl SemStore {
     }
 
     fn take_quit(&mut self, who: Who, place: u64) -> Option<SemReply>
-        requires { self.old.sem.entries < 2 ^ 32 - 1 }
+        requires { self.old.sem.entries < most_entries }
         ensures reply { result ≡ sem_reply self.old.sem who (SemOp.TakeQuit place) }
         ensures next { self.new.sem ≡ sem_after self.old.sem who (SemOp.TakeQuit place) result }
         ensures room { self.old.room ≤ self.new.room }
@@ -187,7 +196,7 @@ impl SemStore {
 
     /// A give where nobody waits: the count is raised up to the limit, and the first poller that isn't notified yet is.
     fn raise(&mut self)
-        requires { self.old.sem.entries < 2 ^ 32 - 1 }
+        requires { self.old.sem.entries < most_entries }
         ensures next { self.new.sem ≡ give_to [] self.old.sem }
         ensures room { self.old.room ≤ self.new.room }
     {
@@ -198,7 +207,7 @@ impl SemStore {
     }
 
     fn give(&mut self, who: Who) -> SemReply
-        requires { self.old.sem.entries < 2 ^ 32 - 1 }
+        requires { self.old.sem.entries < most_entries }
         ensures reply { Some result ≡ sem_reply self.old.sem who SemOp.Give }
         ensures next { self.new.sem ≡ sem_after self.old.sem who SemOp.Give (Some result) }
         ensures room { self.old.room ≤ self.new.room }
@@ -214,7 +223,7 @@ impl SemStore {
     }
 
     fn reset(&mut self, who: Who) -> SemReply
-        requires { self.old.sem.entries < 2 ^ 32 - 1 }
+        requires { self.old.sem.entries < most_entries }
         ensures reply { Some result ≡ sem_reply self.old.sem who SemOp.Reset }
         ensures next { self.new.sem ≡ sem_after self.old.sem who SemOp.Reset (Some result) }
         ensures room { self.old.room ≤ self.new.room }
@@ -226,7 +235,7 @@ impl SemStore {
     }
 
     fn count(&mut self, who: Who) -> SemReply
-        requires { self.old.sem.entries < 2 ^ 32 - 1 }
+        requires { self.old.sem.entries < most_entries }
         ensures reply { Some result ≡ sem_reply self.old.sem who SemOp.Count }
         ensures next { self.new.sem ≡ sem_after self.old.sem who SemOp.Count (Some result) }
         ensures room { self.old.room ≤ self.new.room }
@@ -236,7 +245,7 @@ impl SemStore {
     }
 
     fn poll_arm(&mut self, who: Who, waits: bool) -> Result<Option<SemReply>, NoMemory>
-        requires { self.old.sem.entries < 2 ^ 32 - 1 }
+        requires { self.old.sem.entries < most_entries }
         ensures reply { IfOk result (λ reply.
             reply ≡ sem_reply self.old.sem who (SemOp.PollArm waits)) }
         ensures next { IfOk result (λ reply.
@@ -264,7 +273,7 @@ impl SemStore {
     }
 
     fn poll_end(&mut self, who: Who, place: u64) -> Option<SemReply>
-        requires { self.old.sem.entries < 2 ^ 32 - 1 }
+        requires { self.old.sem.entries < most_entries }
         ensures reply { result ≡ sem_reply self.old.sem who (SemOp.PollEnd place) }
         ensures next { self.new.sem ≡ sem_after self.old.sem who (SemOp.PollEnd place) result }
         ensures room { self.old.room ≤ self.new.room }
@@ -275,7 +284,7 @@ impl SemStore {
     }
 
     fn poll_quit(&mut self, who: Who, place: u64) -> Option<SemReply>
-        requires { self.old.sem.entries < 2 ^ 32 - 1 }
+        requires { self.old.sem.entries < most_entries }
         ensures reply { result ≡ sem_reply self.old.sem who (SemOp.PollQuit place) }
         ensures next { self.new.sem ≡ sem_after self.old.sem who (SemOp.PollQuit place) result }
         ensures room { self.old.room ≤ self.new.room }
@@ -290,7 +299,7 @@ impl SemStore {
 ///
 /// `None` says that the operation isn't possible now. Only a `Take` or a `PollArm` that waits takes memory.
 pub fn sem_next(store: &mut SemStore, who: Who, op: &SemOp) -> Result<Option<SemReply>, NoMemory>
-    requires { store.old.sem.entries < 2 ^ 32 - 1 }
+    requires { store.old.sem.entries < most_entries }
     ensures reply { IfOk result (λ reply. reply ≡ sem_reply store.old.sem who op.now) }
     ensures next { IfOk result (λ reply. store.new.sem ≡ sem_after store.old.sem who op.now reply) }
     ensures unchanged { OnErr result (store.new.sem ≡ store.old.sem) }

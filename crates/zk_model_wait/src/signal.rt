@@ -1,5 +1,6 @@
 ghost use Rattle.std.specs.Prelude.{◌≡◌, ◌+◌, ◌-◌, ◌^◌, ◌<◌, ◌≤◌, length, IsOk, IfOk, OnErr};
 ghost use Rattle.zk_base.specs.History.{AddsNone};
+ghost use Rattle.zk_base.specs.Limits.{most_entries};
 ghost use Rattle.zk_model_wait.specs.Signal.{new_signal, signal_reply, signal_after};
 
 use std::alloc::Global;
@@ -99,7 +100,7 @@ pub fn signal_next(
     who: Who,
     op: &SignalOp,
 ) -> Result<Option<SignalReply>, NoMemory>
-    requires { length store.old.signal.writes < 2 ^ 32 - 1 }
+    requires { length store.old.signal.writes < most_entries }
     ensures reply { IfOk result (λ reply. reply ≡ signal_reply store.old.signal who op.now) }
     ensures next { IfOk result (λ reply.
         store.new.signal ≡ signal_after store.old.signal who op.now reply) }

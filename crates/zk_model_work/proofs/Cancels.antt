@@ -75,7 +75,7 @@ Marked-next s who (Begin queue) number marked = marked
 Marked-next s who (End queue) number marked = marked
 
 -- what has become of an admission in a state
-abbrev life_at : State → ℕ → Option Life
+abbrev pub life_at : State → ℕ → Option Life
 life_at s number = option_map (λ a. a.life) (slice_get s.admissions number)
 
 -- a marked run of an item, which is being cancelled by it
@@ -230,7 +230,7 @@ pub record During (s : State) (item number : ℕ) : Type 0 where
   pub cancelled : Cancelled s item number
   pub none : NoneWaits item s.admissions
 
-During-after : (s : State) (during : List (Entry WorkOp WorkReply)) (item number : ℕ) →
+pub During-after : (s : State) (during : List (Entry WorkOp WorkReply)) (item number : ℕ) →
     life_at (state_after work_machine s during) number ≡ Some Running → During s item number →
     During (state_after work_machine s during) item number
 During-after s [] item number still it = it
@@ -295,7 +295,7 @@ Cancelled-entry s who op item number (inl is) found = subst (λ (o : WorkOp). Ca
 Cancelled-entry s who op item number (inr is) found = subst (λ (o : WorkOp). Cancelled (work_next s who o) item number)
     (sym is) (Cancelled-start s who item number found)
 
-During-entry : (s : State) (who : Who) (op : WorkOp) (item number : ℕ) → Cancels item op →
+pub During-entry : (s : State) (who : Who) (op : WorkOp) (item number : ℕ) → Cancels item op →
     running s.admissions item ≡ Some number → During (work_next s who op) item number
 During-entry s who op item number is found = record {
   cancelled = Cancelled-entry s who op item number is found;

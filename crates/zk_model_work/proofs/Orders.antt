@@ -1,26 +1,34 @@
 -- In what order an announce tells the items of the arms that expire.
-use Rattle.std.proofs.Common.{◌≡◌, ℕ, zero, suc, ◌+◌, ◌<◌, ◌≤◌, ◌⊎◌, inl, inr, Bool, true, false, ◌||◌, cond, eqb, ltb, leb, Option, Some, None, option_map, List, [], ◌∷◌, map, filter, get_or, slice_get, All, refl, sym, ap, subst, ◌∙◌, add-zero, arith}
+use Rattle.std.proofs.Common.{◌≡◌, ℕ, zero, suc, ◌+◌, ◌<◌, ◌≤◌, ◌⊎◌, inl, inr, Bool, true, false, ◌||◌, cond, eqb, ltb, leb, Option, Some, None, option_map, List, [], ◌∷◌, length, map, filter, get_or, slice_get, All, refl, sym, ap, subst, ◌∙◌, add-zero, arith}
 use Rattle.std.specs.Cmp.{first_so, second_so}
 use Rattle.std.specs.List.{list_any}
 use Rattle.std.proofs.lemmas.Bool.{eqb-true, eq-eqb, cases_lt, and_from}
 use Rattle.std.proofs.lemmas.Bool.Decides.{nat_tests}
+use Rattle.std.proofs.lemmas.List.{length-append}
 use Rattle.std.proofs.lemmas.List.Elements.{All-nil, All-cons, All-head, All-tail, All-filter, All-weaker}
 use Rattle.std.proofs.lemmas.Option.{same_Some, slice_get-map, slice_get_within, get_or_from_slice_get}
 use Rattle.zk_base.specs.Order.{put_by, put_all_by, by_key}
 use Rattle.zk_base.proofs.Order.{All-put_by, All-by_key, map-by_key, list_any-by_key}
+use Rattle.zk_model_work.specs.declared.parts.Admission.{Admission}
 use Rattle.zk_model_work.specs.declared.parts.Arm.{Arm}
+use Rattle.zk_model_work.specs.declared.parts.Item.{Item}
+use Rattle.zk_model_work.specs.declared.parts.Queue.{Queue}
 use Rattle.zk_model_work.specs.declared.ops.WorkOp.{WorkOp}
+use Rattle.zk_model_work.specs.declared.ops.Submitted.{Submitted}
+use Rattle.zk_model_work.specs.declared.ops.Submitted.TheVariants.{Already, Fresh, Rerun, Refused}
 use Rattle.zk_model_work.specs.declared.ops.Expiry.{Expiry}
 use Rattle.zk_model_work.specs.declared.ops.WorkReply.{WorkReply}
 use Rattle.zk_model_work.specs.declared.ops.WorkReply.TheVariants.{Now}
-use Rattle.zk_model_work.specs.Questions.{is_live, is_due, due}
+use Rattle.zk_model_work.specs.Questions.{is_live, is_due, due, item_of}
 use Rattle.zk_model_work.specs.State.{State}
-use Rattle.zk_model_work.specs.Machine.{expiries, announce_reply, work_reply, work_next}
-use Rattle.zk_model_work.specs.Histories.{OfEach, IsDueAt, AreToldInOrder}
-use Rattle.zk_model_work.specs.Laws.{ExpireInOrder}
+use Rattle.zk_model_work.specs.Answers.{submission}
+use Rattle.zk_model_work.specs.Machine.{submit, expiries, announce_reply, work_reply, work_next}
+use Rattle.zk_model_work.specs.Histories.{OfEach, IsDueAt, AreToldInOrder, told_number}
+use Rattle.zk_model_work.specs.Laws.{ExpireInOrder, AdmittedInOrder}
 use Rattle.zk_model_work.proofs.Delays.{one_live_arm, told_items}
-use Rattle.zk_model_work.proofs.Entries.{at_each_in}
+use Rattle.zk_model_work.proofs.Entries.{at_each, at_each_in}
 use Rattle.zk_model_work.proofs.Replies.{OneIsLive, live-is}
+use Rattle.zk_model_work.proofs.Submissions.{Says, says, waiting_one}
 use Rattle.zk_model_work.proofs.Waits.{any-at}
 
 -- an arm with its place
@@ -306,3 +314,74 @@ expire_in_order = at_each_in OneIsLive one_live_arm _ (λ s e one is ticks time 
       both.0 ∙ ap (λ (o : WorkOp). (work_next s e.who o).time) (sym op),
       in-order s time told one (both.1 ∙ ap (λ t. expiries s.marks s.queues (due t s.arms) s.admissions) (sym both.0)),
     ))
+
+-- In what order their admissions are numbered.
+
+-- a submission that is admitted has the next number
+number-next : (i : Item) (queues : List Queue) (caller named : Option ℕ) (n : ℕ) →
+    told_number (submission i queues caller named) ≡ Some n → n ≡ i.next
+number-next i queues caller named n = by (submission i queues caller named) (says i queues caller named) where
+  by : (answer : Submitted) → Says i queues caller named answer → told_number answer ≡ Some n → n ≡ i.next
+  by Already so is = absurd (cc)
+  by (Fresh m queue) so is = sym (same_Some m n is) ∙ so.0
+  by (Rerun m queue) so is = sym (same_Some m n is) ∙ so.0
+  by (Refused cause) so is = absurd (cc)
+
+-- and then there is one more
+longer : (xs : List Admission) (item : ℕ) (answer : Submitted) → length xs ≤ length (submit xs item answer)
+longer xs item Already = omega arith
+longer xs item (Fresh n queue) = let long = length-append xs (waiting_one item queue ∷ []) in omega arith
+longer xs item (Rerun n queue) = let long = length-append xs (waiting_one item queue ∷ []) in omega arith
+longer xs item (Refused cause) = omega arith
+
+one-longer : (xs : List Admission) (item : ℕ) (answer : Submitted) (n : ℕ) → told_number answer ≡ Some n →
+    length (submit xs item answer) ≡ length xs + 1
+one-longer xs item Already n is = absurd (cc)
+one-longer xs item (Fresh m queue) n is = length-append xs (waiting_one item queue ∷ [])
+one-longer xs item (Rerun m queue) n is = length-append xs (waiting_one item queue ∷ [])
+one-longer xs item (Refused cause) n is = absurd (cc)
+
+-- what is told of the arms that expire
+module _ (marks : List ℕ) (queues : List Queue) where
+  abbrev answer-of : Arm → List Admission → Submitted
+  answer-of a xs = submission (item_of xs marks a.item) queues None (Some a.queue)
+
+  -- each number is new
+  number-new : (arms : List Arm) (xs : List Admission) (k n : ℕ) (x : Expiry) →
+      slice_get (expiries marks queues arms xs) k ≡ Some x → told_number x.submitted ≡ Some n → length xs ≤ n
+  number-new [] xs k n x at is = absurd (cc)
+  number-new (a ∷ arms) xs zero n x at is =
+      let x_is = same_Some (record { item = a.item; submitted = answer-of a xs }) x at in
+      let next : n ≡ length xs = number-next (item_of xs marks a.item) queues None (Some a.queue) n
+      (ap (λ (y : Expiry). told_number y.submitted) x_is ∙ is) in
+      omega arith
+  number-new (a ∷ arms) xs (suc k) n x at is =
+      let rest = number-new arms (submit xs a.item (answer-of a xs)) k n x at is in
+      let long = longer xs a.item (answer-of a xs) in
+      omega arith
+
+  -- and they rise
+  numbers-rise : (arms : List Arm) (xs : List Admission) (k m n o : ℕ) (x y : Expiry) → k < m →
+      slice_get (expiries marks queues arms xs) k ≡ Some x → slice_get (expiries marks queues arms xs) m ≡ Some y →
+      told_number x.submitted ≡ Some n → told_number y.submitted ≡ Some o → n < o
+  numbers-rise [] xs k m n o x y below at there first second = absurd (cc)
+  numbers-rise (a ∷ arms) xs k zero n o x y below at there first second = absurd (omega arith)
+  numbers-rise (a ∷ arms) xs zero (suc m) n o x y below at there first second =
+      let x_is = same_Some (record { item = a.item; submitted = answer-of a xs }) x at in
+      let told = ap (λ (z : Expiry). told_number z.submitted) x_is ∙ first in
+      let next : n ≡ length xs = number-next (item_of xs marks a.item) queues None (Some a.queue) n told in
+      let long = one-longer xs a.item (answer-of a xs) n told in
+      let rest = number-new arms (submit xs a.item (answer-of a xs)) m o y there second in
+      omega arith
+  numbers-rise (a ∷ arms) xs (suc k) (suc m) n o x y below at there first second =
+      numbers-rise arms (submit xs a.item (answer-of a xs)) k m n o x y (omega arith) at there first second
+
+pub admitted_in_order : OfEach AdmittedInOrder
+admitted_in_order = at_each _ (λ s e is ticks time number next first second told x y op reply below at there one other.
+    let now = s.time + ticks in
+    let said : List Expiry = expiries s.marks s.queues (due now s.arms) s.admissions in
+    let both = same_now time now told said e.reply
+    (same_Some (announce_reply s ticks) e.reply (ap (work_reply s e.who) (sym op) ∙ is)) reply in
+    numbers-rise s.marks s.queues (due now s.arms) s.admissions number next first second x y below
+    (ap (λ (l : List Expiry). slice_get l number) (sym both.1) ∙ at)
+    (ap (λ (l : List Expiry). slice_get l next) (sym both.1) ∙ there) one other)

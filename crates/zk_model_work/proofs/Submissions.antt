@@ -1,6 +1,6 @@
 -- What a submission is answered, and what it makes.
 use Rattle.std.proofs.Common.{◌≡◌, ℕ, zero, suc, ◌+◌, ◌≤◌, ◌⊎◌, inl, inr, Bool, true, false, not, ◌&&◌, ◌||◌, cond, eqb, ltb, leb, get_or, Option, Some, None, is_some, option_map, List, [], ◌∷◌, ◌++◌, length, find, filter, slice_get, All, refl, sym, ap, subst, ◌∙◌, append_assoc, arith}
-use Rattle.std.specs.Cmp.{first_so}
+use Rattle.std.specs.Cmp.{first_so, second_so}
 use Rattle.std.specs.List.{position, list_any}
 use Rattle.std.specs.Option.{option_map_or, option_or}
 use Rattle.std.proofs.lemmas.Bool.{eqb-true, false≢true, and_right}
@@ -11,6 +11,7 @@ use Rattle.zk_base.specs.declared.ids.Who.{Who}
 use Rattle.zk_base.specs.declared.errors.Errno.{Errno}
 use Rattle.zk_base.specs.declared.errors.Errno.TheVariants as errnos
 use Rattle.zk_base.specs.Legal.{state_after}
+use Rattle.zk_base.proofs.Histories.{state_after-append}
 use Rattle.zk_base.specs.Order.{put_by, put_all_by}
 use Rattle.zk_base.proofs.Order.{All-put_by, All-by_key}
 use Rattle.zk_model_work.specs.declared.parts.Life.{Life}
@@ -27,17 +28,18 @@ use Rattle.zk_model_work.specs.declared.ops.Submitted.TheVariants.{Already, Fres
 use Rattle.zk_model_work.specs.declared.ops.Expiry.{Expiry}
 use Rattle.zk_model_work.specs.declared.ops.WorkReply.{WorkReply}
 use Rattle.zk_model_work.specs.declared.ops.WorkReply.TheVariants as replies
-use Rattle.zk_model_work.specs.Questions.{is_waiting, is_running, is_live, waits_as, runs_as, passes_at, is_due, due, item_of}
+use Rattle.zk_model_work.specs.Questions.{is_waiting, is_running, is_live, waits_as, runs_as, passes_at, waiting, is_cancelling, is_due, due, item_of}
 use Rattle.zk_model_work.specs.State.{State}
 use Rattle.zk_model_work.specs.Answers.{is_chained, target, admission, submission_to, submission_at, submission}
 use Rattle.zk_model_work.specs.Machine.{submission_in, submit, submit_arms, expiries, arm, disarm, is_pending_in, schedule_reply_in, delay_reply_in, announce_reply, work_reply, work_next, work_machine}
 use Rattle.zk_model_work.specs.Histories.{WorkHistory, IsFreshHistory, OfEach, submitter, is_own, bars, IsArmedFor, Named, Told, IsSo, IsCause, IsBeingCancelled}
-use Rattle.zk_model_work.specs.Laws.{AnsweredIsMade, RefusedWithCause}
+use Rattle.zk_model_work.specs.Laws.{AnsweredIsMade, AlreadyWhereItWaits, RefusedWithCause}
 use Rattle.zk_model_work.proofs.Moves.{Stays, pushed, still-submit, submit_arms-keeps}
 use Rattle.zk_model_work.proofs.Overlaps.{position-none}
 use Rattle.zk_model_work.proofs.Delays.{one_live_arm}
 use Rattle.zk_model_work.proofs.Waits.{at-any}
 use Rattle.zk_model_work.proofs.Tells.{any-same}
+use Rattle.zk_model_work.proofs.Cancels.{NoneWaits, life_at, During-after, During-entry}
 use Rattle.zk_model_work.proofs.Entries.{entry-replied, at_each_in, fresh-front}
 use Rattle.zk_model_work.proofs.Replies.{OneIsLive, live-is, position-at}
 use Rattle.zk_model_work.proofs.Marks.{cancelling-is, is-cancelling}
@@ -572,6 +574,52 @@ pub answered_is_made : OfEach AnsweredIsMade
 answered_is_made = at_each_in OneIsLive one_live_arm _ (λ s e one is item answer told.
     let it = submits s e.who e.op e.reply item answer one is told in
     so-one s (work_next s e.who e.op) it.2.ys (submitter e.who e.op) it.0 item answer it.2.is it.2.same it.2.long it.2.stays)
+
+-- an item that waits isn't being cancelled
+abbrev NoneWaitsCancelled : State → Type 0
+NoneWaitsCancelled s = (item : ℕ) → is_some (waiting s.admissions item) ≡ true → is_cancelling s.admissions s.marks item ≡ false
+
+none-waits-cancelled : (start : State) (h : WorkHistory) → IsFreshHistory start h →
+    NoneWaitsCancelled (state_after work_machine start h)
+none-waits-cancelled start h fresh item waits = by (is_cancelling t.admissions t.marks item) refl where
+  t : State
+  t = state_after work_machine start h
+
+  there : (n : ℕ) × (waiting t.admissions item ≡ Some n)
+  there = some (waiting t.admissions item) refl waits where
+    some : (o : Option ℕ) → waiting t.admissions item ≡ o → is_some o ≡ true → (n : ℕ) × (waiting t.admissions item ≡ Some n)
+    some None at is = absurd (cc)
+    some (Some n) at is = (n, at)
+
+  none : is_cancelling t.admissions t.marks item ≡ true → NoneWaits item t.admissions
+  none is =
+      let it = cancelling-is start h item fresh is in
+      let s = state_after work_machine start it.before in
+      let c = work_next s it.cancel.who it.cancel.op in
+      let same : t ≡ state_after work_machine c it.since =
+      ap (state_after work_machine start) it.parts ∙ state_after-append work_machine start it.before (it.cancel ∷ it.since) in
+      subst (λ (u : State). NoneWaits item u.admissions) (sym same)
+      (During-after c it.since item it.run (ap (λ (u : State). life_at u it.run) (sym same) ∙ it.runs)
+      (During-entry s it.cancel.who it.cancel.op item it.run it.cancels it.found)).none
+
+  by : (b : Bool) → is_cancelling t.admissions t.marks item ≡ b → b ≡ false
+  by false is = refl
+  by true is =
+      let a = position-at (waits_as item) t.admissions there.0 there.1 in
+      let item_is = eqb-true a.0.item item (first_so (eqb a.0.item item) (is_waiting a.0.life) a.2) in
+      absurd (false≢true (sym (none is there.0 a.0 a.1 item_is)
+      ∙ second_so (eqb a.0.item item) (is_waiting a.0.life) a.2))
+
+pub already_where_it_waits : OfEach AlreadyWhereItWaits
+already_where_it_waits =
+    at_each_in (λ s. OneIsLive s × NoneWaitsCancelled s)
+    (λ start h fresh. (one_live_arm start h fresh, none-waits-cancelled start h fresh)) _
+    (λ s e holds is item answer told waits.
+    let it = submits s e.who e.op e.reply item answer holds.0 is told in
+    let i = item_of it.2.ys s.marks item in
+    let at = submission_at i s.queues (submitter e.who e.op) (target i it.0) in
+    sym it.2.is ∙ ap (λ b. cond b (Refused errnos.Busy) (cond i.queued Already at)) (it.2.same.0 ∙ holds.1 item waits)
+    ∙ ap (λ b. cond b Already at) (it.2.same.1 ∙ waits))
 
 -- the queue that an entry names for an item is one
 same-arm : (s : State) (item queue other : ℕ) → OneIsLive s → IsArmedFor s item queue → IsArmedFor s item other → queue ≡ other

@@ -217,6 +217,12 @@ IsSo before later item (submitteds.Rerun number queue) =
 IsSo before later item submitteds.Already = is_some (waiting before.admissions item) ≡ true
 IsSo before later item (submitteds.Refused cause) = Unit {0}
 
+-- the number of the admission that an answer to a submission tells, if it tells one
+abbrev pub told_number : Submitted → Option ℕ
+told_number (submitteds.Fresh number queue) = Some number
+told_number (submitteds.Rerun number queue) = Some number
+told_number answer = None
+
 -- the reply tells the player to wait for this admission
 abbrev pub awaits : ℕ → WorkReply → Bool
 awaits number (WaitFor other) = number == other

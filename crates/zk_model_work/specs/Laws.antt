@@ -18,7 +18,7 @@ use Rattle.zk_model_work.specs.declared.parts.Queue.{Queue}
 use Rattle.zk_model_work.specs.Questions.{is_waiting, is_open, is_live, is_empty_and_idle, waiting, running, armed}
 use Rattle.zk_model_work.specs.State.{State}
 use Rattle.zk_model_work.specs.Answers.{drained_of}
-use Rattle.zk_model_work.specs.Histories.{AreToldInOrder, WorkEntry, WorkHistory, after, AtEach, hands_out, begins, ends, Cancels, cancels, disarms, submitter, announces, admission_after, life_after, made_after, Makes, IsNewest, NoneIsOpen, running_after, queue_after, rests_after, drained_after, arm_after, time_after, IsBeingCancelled, target_of, bars, IsArmedFor, Named, Told, IsSo, cancel_flags, is_done_of, done_for, has_to_wait, IsCause, IsPending, HasStart, HasCome, ticks_of, starts, drains, is_worked_by, plug_after, asked_arm, is_armed, fits, MayGoOn, is_awaited}
+use Rattle.zk_model_work.specs.Histories.{AreToldInOrder, WorkEntry, WorkHistory, after, AtEach, hands_out, begins, ends, Cancels, cancels, disarms, submitter, announces, admission_after, life_after, made_after, Makes, IsNewest, NoneIsOpen, running_after, queue_after, rests_after, drained_after, arm_after, time_after, IsBeingCancelled, target_of, bars, IsArmedFor, Named, Told, IsSo, told_number, cancel_flags, is_done_of, done_for, has_to_wait, IsCause, IsPending, HasStart, HasCome, ticks_of, starts, drains, is_worked_by, plug_after, asked_arm, is_armed, fits, MayGoOn, is_awaited}
 
 -- Each of what follows is said of one history.
 
@@ -157,6 +157,11 @@ abbrev pub AnsweredIsMade : State → WorkHistory → Type 0
 AnsweredIsMade = AtEach (λ before e later. (item : ℕ) (answer : Submitted) → Told e.op e.reply item answer →
     IsSo before later item answer)
 
+-- a submission of an item that waits is answered 0
+abbrev pub AlreadyWhereItWaits : State → WorkHistory → Type 0
+AlreadyWhereItWaits = AtEach (λ before e later. (item : ℕ) (answer : Submitted) → Told e.op e.reply item answer →
+    is_some (waiting before.admissions item) ≡ true → answer ≡ submitteds.Already)
+
 -- a submission is refused for its cause
 abbrev pub RefusedWithCause : State → WorkHistory → Type 0
 RefusedWithCause start h = (front rest : WorkHistory) (e : WorkEntry) (item : ℕ) (named : Option ℕ) (cause : Errno) →
@@ -179,6 +184,7 @@ pub record SubmissionsHold (start : State) (h : WorkHistory) : Type 0 where
   pub made : MadeWaiting start h
   pub waits : WaitsOn start h
   pub so : AnsweredIsMade start h
+  pub already : AlreadyWhereItWaits start h
   pub refused : RefusedWithCause start h
   pub queue : GoesToItsQueue start h
   pub started : StartedAdmits start h
@@ -385,6 +391,13 @@ ExpireInOrder = AtEach (λ before e later. (ticks time : ℕ) (told : List Expir
     e.reply ≡ Now time told →
     (time ≡ later.time) × AreToldInOrder before time told)
 
+-- of two items that an announce admits, the one told earlier has the lower admission number
+abbrev pub AdmittedInOrder : State → WorkHistory → Type 0
+AdmittedInOrder = AtEach (λ before e later. (ticks time number next first second : ℕ) (told : List Expiry) (x y : Expiry) →
+    e.op ≡ Announce ticks → e.reply ≡ Now time told → number < next →
+    slice_get told number ≡ Some x → slice_get told next ≡ Some y →
+    told_number x.submitted ≡ Some first → told_number y.submitted ≡ Some second → first < second)
+
 -- an arm is made just where the answer says so: of the item, to the queue and for the tick that were asked for, and live
 abbrev pub ArmedAsAsked : State → WorkHistory → Type 0
 ArmedAsAsked = AtEach (λ before e later.
@@ -422,6 +435,7 @@ pub record DelaysHold (start : State) (h : WorkHistory) : Type 0 where
   pub once : FateStays start h
   pub one : OneLiveArm start h
   pub order : ExpireInOrder start h
+  pub numbers : AdmittedInOrder start h
   pub scheduled : ScheduleTells start h
   pub remaining : RemainingTells start h
   pub passes : OnlyAnnouncesPassTime start h

@@ -22,7 +22,7 @@ pub fn never_overlaps()
 /// Of every legal work history: a submission that is answered 1 or 2 makes an admission, which waits
 /// until a begin hands it out or a cancel of its item drops it; no other is made. It goes to the queue
 /// that runs the item, else to the named one, else to that of the item's last admission, and that is
-/// started. One that is refused has its cause.
+/// started. One of an item that waits is answered 0, and one that is refused has its cause.
 pub fn submissions_hold()
     ensures { OfEach SubmissionsHold }
 {}
@@ -52,7 +52,7 @@ pub fn drains_hold()
 /// Of every legal work history: an arm is made as was asked, and expires at the first announce whose
 /// time reaches its deadline, unless it was disarmed before, by a cancel, a flush or a reschedule of its
 /// item; once, and never both. An item has at most one live arm. Those that expire at one announce do
-/// it by deadline and then in the order of arming.
+/// it by deadline and then in the order of arming, and their admissions are numbered in that order.
 pub fn delays_hold()
     ensures { OfEach DelaysHold }
 {}

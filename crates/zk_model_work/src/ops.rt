@@ -2,7 +2,7 @@ use zk_base::{Errno, Listed};
 
 /// What can be asked of the work service. An item is its number among the items, a queue its number
 /// among the queues, each from 0 in declared order.
-#[derive(Clone, Copy, Debug)]
+#[derive(Clone, Copy, Debug, PartialEq, Eq)]
 pub enum WorkOp {
     /// Submits an item, to this queue where one is named. Zephyr's `k_work_submit_to_queue`.
     Submit(u32, Option<u32>),
@@ -43,7 +43,7 @@ pub enum WorkOp {
 }
 
 /// What became of a submission.
-#[derive(Clone, Copy, Debug)]
+#[derive(Clone, Copy, Debug, PartialEq, Eq)]
 pub enum Submitted {
     /// The item is queued already. Answer 0.
     Already,
@@ -56,7 +56,7 @@ pub enum Submitted {
 }
 
 /// An item whose delay is over, and what became of its submission.
-#[derive(Clone, Copy, Debug)]
+#[derive(Clone, Copy, Debug, PartialEq, Eq)]
 pub struct Expiry {
     /// The item whose delay is over.
     pub item: u32,
@@ -68,7 +68,7 @@ pub struct Expiry {
 pub type Expiries = Listed<Expiry>;
 
 /// What the work service answers.
-#[derive(Debug, Drop)]
+#[derive(Debug, Drop, PartialEq)]
 pub enum WorkReply {
     /// Of a submission.
     Sub(Submitted),

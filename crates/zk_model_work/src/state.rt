@@ -1,4 +1,5 @@
 ghost use Rattle.std.specs.Prelude.{◌≡◌, ◌≢◌, ◌-◌, ◌^◌, ◌<◌, ◌≤◌, length, AllPairs, Some, None, if◌then◌else◌, IfOk, OnErr};
+ghost use Rattle.zk_base.specs.Limits.{most_entries};
 ghost use Rattle.zk_model_work.specs.State.{State, start_of};
 ghost use Rattle.zk_model_work.specs.Questions.{item_of};
 ghost use Rattle.zk_model_work.specs.Machine.{work_reply, after_reply, submission_in, is_pending_in, may_close, closed, flags_of};
@@ -105,7 +106,7 @@ impl WorkState {
     }
 
     fn submit(&mut self, who: Who, item: u32, named: Option<u32>) -> Replied
-        requires { self.old.entries < 2 ^ 32 - 1 }
+        requires { self.old.entries < most_entries }
         ensures reply { IfOk result (λ reply.
             reply ≡ work_reply self.old who (WorkOp.Submit item named)) }
         ensures next { IfOk result (λ reply.
@@ -119,7 +120,7 @@ impl WorkState {
     }
 
     fn begin(&mut self, who: Who, queue: u32) -> Option<WorkReply>
-        requires { self.old.entries < 2 ^ 32 - 1 }
+        requires { self.old.entries < most_entries }
         ensures reply { result ≡ work_reply self.old who (WorkOp.Begin queue) }
         ensures next { self.new ≡ after_reply self.old who (WorkOp.Begin queue) result }
     {
@@ -133,7 +134,7 @@ impl WorkState {
     }
 
     fn end(&mut self, who: Who, queue: u32) -> Option<WorkReply>
-        requires { self.old.entries < 2 ^ 32 - 1 }
+        requires { self.old.entries < most_entries }
         ensures reply { result ≡ work_reply self.old who (WorkOp.End queue) }
         ensures next { self.new ≡ after_reply self.old who (WorkOp.End queue) result }
     {
@@ -147,7 +148,7 @@ impl WorkState {
     }
 
     fn start(&mut self, who: Who, queue: u32) -> Option<WorkReply>
-        requires { self.old.entries < 2 ^ 32 - 1 }
+        requires { self.old.entries < most_entries }
         ensures reply { result ≡ work_reply self.old who (WorkOp.Start queue) }
         ensures next { self.new ≡ after_reply self.old who (WorkOp.Start queue) result }
     {
@@ -158,7 +159,7 @@ impl WorkState {
     }
 
     fn drain_start(&mut self, who: Who, queue: u32, plug: bool) -> Replied
-        requires { self.old.entries < 2 ^ 32 - 1 }
+        requires { self.old.entries < most_entries }
         ensures reply { IfOk result (λ reply.
             reply ≡ work_reply self.old who (WorkOp.DrainStart queue plug)) }
         ensures next { IfOk result (λ reply.
@@ -174,7 +175,7 @@ impl WorkState {
     }
 
     fn cancel_start(&mut self, who: Who, item: u32) -> Replied
-        requires { self.old.entries < 2 ^ 32 - 1 }
+        requires { self.old.entries < most_entries }
         ensures reply { IfOk result (λ reply.
             reply ≡ work_reply self.old who (WorkOp.CancelStart item)) }
         ensures next { IfOk result (λ reply.
@@ -196,7 +197,7 @@ impl WorkState {
     }
 
     fn flush_start(&mut self, who: Who, item: u32) -> Replied
-        requires { self.old.entries < 2 ^ 32 - 1 }
+        requires { self.old.entries < most_entries }
         ensures reply { IfOk result (λ reply.
             reply ≡ work_reply self.old who (WorkOp.FlushStart item)) }
         ensures next { IfOk result (λ reply.
@@ -223,7 +224,7 @@ impl WorkState {
     }
 
     fn schedule(&mut self, who: Who, item: u32, queue: u32, delay: u32) -> Replied
-        requires { self.old.entries < 2 ^ 32 - 1 }
+        requires { self.old.entries < most_entries }
         ensures reply { IfOk result (λ reply.
             reply ≡ work_reply self.old who (WorkOp.Schedule item queue delay)) }
         ensures next { IfOk result (λ reply.
@@ -238,7 +239,7 @@ impl WorkState {
     }
 
     fn reschedule(&mut self, who: Who, item: u32, queue: u32, delay: u32) -> Replied
-        requires { self.old.entries < 2 ^ 32 - 1 }
+        requires { self.old.entries < most_entries }
         ensures reply { IfOk result (λ reply.
             reply ≡ work_reply self.old who (WorkOp.Reschedule item queue delay)) }
         ensures next { IfOk result (λ reply.
@@ -260,7 +261,7 @@ impl WorkState {
     }
 
     fn remaining(&mut self, who: Who, item: u32) -> Option<WorkReply>
-        requires { self.old.entries < 2 ^ 32 - 1 }
+        requires { self.old.entries < most_entries }
         ensures reply { result ≡ work_reply self.old who (WorkOp.Remaining item) }
         ensures next { self.new ≡ after_reply self.old who (WorkOp.Remaining item) result }
     {
@@ -270,7 +271,7 @@ impl WorkState {
     }
 
     fn announce(&mut self, who: Who, ticks: u32) -> Replied
-        requires { self.old.entries < 2 ^ 32 - 1 }
+        requires { self.old.entries < most_entries }
         ensures reply { IfOk result (λ reply.
             reply ≡ work_reply self.old who (WorkOp.Announce ticks)) }
         ensures next { IfOk result (λ reply.
@@ -304,7 +305,7 @@ impl WorkState {
 
     /// Ends a wait of the player, if what it awaits has come.
     fn close(&mut self, closing: Closing, who: Who, place: u64) -> bool
-        requires { self.old.entries < 2 ^ 32 - 1 }
+        requires { self.old.entries < most_entries }
         ensures may { result ≡ may_close self.old closing who place }
         ensures next { self.new ≡ (if result then closed self.old closing who place else self.old) }
     {
@@ -324,7 +325,7 @@ impl WorkState {
     }
 
     fn unplug(&mut self, who: Who, queue: u32) -> Option<WorkReply>
-        requires { self.old.entries < 2 ^ 32 - 1 }
+        requires { self.old.entries < most_entries }
         ensures reply { result ≡ work_reply self.old who (WorkOp.Unplug queue) }
         ensures next { self.new ≡ after_reply self.old who (WorkOp.Unplug queue) result }
     {
@@ -335,7 +336,7 @@ impl WorkState {
     }
 
     fn cancel(&mut self, who: Who, item: u32) -> Replied
-        requires { self.old.entries < 2 ^ 32 - 1 }
+        requires { self.old.entries < most_entries }
         ensures reply { IfOk result (λ reply.
             reply ≡ Some (WorkReply.Flags (flags_of self.new item))) }
         ensures next { IfOk result (λ reply.
@@ -366,7 +367,7 @@ pub fn work_next(
     who: Who,
     op: &WorkOp,
 ) -> Result<Option<WorkReply>, NoMemory>
-    requires { state.old.entries < 2 ^ 32 - 1 }
+    requires { state.old.entries < most_entries }
     ensures reply { IfOk result (λ reply. reply ≡ work_reply state.old who op.now) }
     ensures next { IfOk result (λ reply. state.new ≡ after_reply state.old who op.now reply) }
     ensures unchanged { OnErr result (state.new ≡ state.old) }

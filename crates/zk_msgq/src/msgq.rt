@@ -4,11 +4,11 @@ ghost use Rattle.zk_msgq.specs.Seen.{msgq_start, msgq_history};
 ghost use Rattle.zk_msgq.specs.Sizes.{is_size};
 
 use std::alloc::Global;
-use zk_base::{Entry, LONGEST_MESSAGE, NewRefused, NoMemory, PlainEngine, Recorded, Service, Who};
+use std::snapshot::Snapshot;
+use zk_base::{
+    Entry, LONGEST_MESSAGE, MOST_HELD, NewRefused, NoMemory, PlainEngine, Recorded, Service, Who,
+};
 use zk_model_wait::{MsgqOp, MsgqReply, MsgqState, MsgqStore};
-
-/// The most messages that a queue holds.
-pub const MOST_MESSAGES: u32 = 256;
 
 /// A message queue, with its history. Zephyr's `k_msgq`.
 #[derive(Drop)]
@@ -41,7 +41,7 @@ impl Msgq {
 fn is_size(size: u32, most: u32) -> bool
     ensures { result ≡ is_size size most }
 {
-    1 <= size && size <= LONGEST_MESSAGE as u32 && 1 <= most && most <= MOST_MESSAGES
+    1 <= size && size <= LONGEST_MESSAGE as u32 && 1 <= most && most <= MOST_HELD
 }
 
 /// A message queue before the first entry.
@@ -50,8 +50,9 @@ fn made(alloc: Global, most: u32) -> Result<Msgq, NoMemory>
     ensures start { IfOk result (λ msgq. msgq_start msgq ≡ new_msgq most) }
     ensures history { IfOk result (λ msgq. msgq_history msgq ≡ []) }
 {
-    let start = MsgqState::new(alloc, most)?;
-    let engine = PlainEngine::new(MsgqStore::new(alloc, most)?);
+    let state = MsgqState::new(alloc, most)?;
+    let start = Snapshot::of(&state);
+    let engine = PlainEngine::new(state.into_store());
     Ok(Msgq {
         inner: Recorded::new(alloc, start, engine),
     })
@@ -87,6 +88,8 @@ impl Service for Msgq {
 
     const WORDS: u32 = 0;
 
+    ghost touched = { λ s. s.inner.touched };
+
     fn act(&mut self, who: Who, step: u32, op: MsgqOp) -> Result<Option<MsgqReply>, NoMemory> {
         self.inner.act(who, step, op)
     }
@@ -97,6 +100,10 @@ impl Service for Msgq {
 
     fn word(&self, index: u32) -> u32 {
         self.inner.word(index)
+    }
+
+    fn touched(&self) -> &[u32] {
+        self.inner.touched()
     }
 
     fn room(&self) -> u64 {

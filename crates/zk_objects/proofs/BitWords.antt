@@ -81,22 +81,6 @@ marked-low m after player other small bits above = by (ltb other 64) refl where
       ∙ sym (or-false (list_any (λ (k : ℕ). eqb k other) m.above))
       ∙ ap (λ (b : Bool). list_any (λ (k : ℕ). eqb k other) m.above || b) (sym apart)
 
--- and so for one above
-pub marked-high : (m after : Marked) (player other : ℕ) → 64 ≤ player → after.bits ≡ m.bits → after.above ≡ m.above ++ player ∷ [] →
-    is_marked after other ≡ (is_marked m other || eqb player other)
-marked-high m after player other big bits above = by (ltb other 64) refl where
-  by : (low : Bool) → ltb other 64 ≡ low →
-      cond low (has_bit after.bits other) (list_any (λ (k : ℕ). eqb k other) after.above)
-      ≡ (cond low (has_bit m.bits other) (list_any (λ (k : ℕ). eqb k other) m.above) || eqb player other)
-  by true is =
-      let below = ltb-true other 64 is in
-      let apart = ne_eqb player other (λ same. omega arith) in
-      ap (λ (w : ℕ). has_bit w other) bits ∙ sym (or-false (has_bit m.bits other)) ∙ ap (λ (b : Bool). has_bit m.bits other || b) (sym apart)
-  by false is =
-      ap (λ (l : List ℕ). list_any (λ (k : ℕ). eqb k other) l) above
-      ∙ list_any-append (λ (k : ℕ). eqb k other) m.above (player ∷ [])
-      ∙ ap (λ (b : Bool). list_any (λ (k : ℕ). eqb k other) m.above || b) (or-false (eqb player other))
-
 -- no player has a bit in an empty word
 pub none-set : (player : ℕ) → has_bit 0 player ≡ false
 none-set player =

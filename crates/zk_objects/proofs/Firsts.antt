@@ -6,7 +6,7 @@ use Rattle.std.specs.Option.{option_map_or}
 use Rattle.std.proofs.lemmas.Bool.{eqb-true, eqb-false, ne_eqb, eq-eqb, ltb-true, ltb-false, lt-ltb, le-ltb}
 use Rattle.std.proofs.lemmas.List.Elements.{All-head, All-tail}
 use Rattle.std.proofs.lemmas.Option.{same_Some, slice_get_within, slice_get_past}
-use Rattle.zk_model_bus.specs.declared.kinds.Kind.TheVariants as kinds
+use Rattle.zk_base.specs.declared.kinds.Kind.TheVariants as kinds
 use Rattle.zk_model_bus.specs.Table.{Setup, new_table, IsSetup, is_thread, is_declared, begins_ready, begins_as_user}
 use Rattle.zk_objects.specs.declared.object.Object.{Object}
 use Rattle.zk_objects.specs.Bits.{Marked, has_bit, given}

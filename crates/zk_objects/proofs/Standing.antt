@@ -10,10 +10,10 @@ use Rattle.std.proofs.lemmas.List.Folds.{list_any-append}
 use Rattle.std.proofs.lemmas.List.Sums.{fold-append}
 use Rattle.std.proofs.lemmas.Option.{same_Some, slice_get_within, slice_get_past, slice_get-get_or, get_or_from_slice_get}
 use Rattle.zk_base.specs.declared.ids.Who.{Who}
-use Rattle.zk_model_bus.specs.declared.kinds.Kind.{Kind}
-use Rattle.zk_model_bus.specs.declared.kinds.Kind.TheVariants as kinds
-use Rattle.zk_model_bus.specs.declared.kinds.Need.{Need}
-use Rattle.zk_model_bus.specs.declared.kinds.Need.TheVariants as needs
+use Rattle.zk_base.specs.declared.kinds.Kind.{Kind}
+use Rattle.zk_base.specs.declared.kinds.Kind.TheVariants as kinds
+use Rattle.zk_base.specs.declared.kinds.Need.{Need}
+use Rattle.zk_base.specs.declared.kinds.Need.TheVariants as needs
 use Rattle.zk_model_bus.specs.declared.table.OopsWhy.{OopsWhy}
 use Rattle.zk_model_bus.specs.declared.table.OopsWhy.TheVariants.{WrongKind, NotGranted, NotInit}
 use Rattle.zk_model_bus.specs.declared.table.TableEntry.{TableEntry}
@@ -21,7 +21,8 @@ use Rattle.zk_model_bus.specs.declared.table.TableOp.{TableOp}
 use Rattle.zk_model_bus.specs.declared.table.TableOp.TheVariants as ops
 use Rattle.zk_model_bus.specs.declared.table.TableReply.{TableReply}
 use Rattle.zk_model_bus.specs.declared.table.TableReply.TheVariants.{Done, Already, Oops}
-use Rattle.zk_model_bus.specs.Table.{Setup, Table, meets, is_any, has_kind, is_thread, is_declared, said, is_allowed, publishes, is_public, initialises, begins_ready, was_initialised, is_ready, enters, begins_as_user, has_entered, is_user, is_oops, is_dead, is_for, may, check_reply, answer, table_reply, entry_of, table_next, is_object, names_objects}
+use Rattle.zk_model_bus.specs.Table.{Setup, Table, has_kind, is_thread, is_declared, said, is_allowed, publishes, is_public, initialises, begins_ready, was_initialised, is_ready, enters, begins_as_user, has_entered, is_user, is_oops, is_dead, is_for, may, check_reply, answer, table_reply, entry_of, table_next, is_object, names_objects}
+use Rattle.zk_base.specs.Kinds.{meets, is_any}
 use Rattle.zk_objects.specs.declared.object.Object.{Object}
 use Rattle.zk_objects.specs.Bits.{Marked, has_bit, given, taken, is_marked}
 use Rattle.zk_objects.specs.Kept.{IsObject, Stands, is_granted, object_reply, init_reply, answered, target_of, object_of, changed, put_in, changed_at, objects_after}
@@ -296,17 +297,6 @@ stands-next t objects users dead users' dead' who op stands range users-so dead-
   beyond = λ player object big.
       allowed-next t who op player object ∙ ap (λ (b : Bool). said t.setup player object b who.number op) (stands.beyond player object big)
       ∙ beyond-said t objects users dead who.number op player object stands range big;
-}
-
--- and it still stands for this one where only the room of the sets has changed
-pub stands-same : (t : Table) (objects : List Object) (users dead users' dead' : Marked) → Stands objects users dead t →
-    ((player : ℕ) → is_marked users' player ≡ is_marked users player) → ((player : ℕ) → is_marked dead' player ≡ is_marked dead player) → Stands objects users' dead' t
-stands-same t objects users dead users' dead' stands users-so dead-so = record {
-  long = stands.long;
-  each = stands.each;
-  of_users = λ player. users-so player ∙ stands.of_users player;
-  of_dead = λ player. dead-so player ∙ stands.of_dead player;
-  beyond = stands.beyond;
 }
 
 pub may-so : (t : Table) (objects : List Object) (users dead : Marked) (player : ℕ) (op : TableOp) → Stands objects users dead t →

@@ -1,23 +1,25 @@
 use Rattle.std.specs.Prelude.{◌≡◌, ℕ, ◌<◌, ◌≤◌, Bool, true, false, not, ◌==◌, ◌&&◌, ◌||◌, nat_lt, if◌then◌else◌, Option, Some, None, List, length, slice_get, slice_set}
 use Rattle.std.specs.Option.{option_map_or}
-use Rattle.zk_model_bus.specs.declared.kinds.Kind.TheVariants as kinds
-use Rattle.zk_model_bus.specs.declared.kinds.Need.{Need}
+use Rattle.zk_base.specs.declared.kinds.Kind.TheVariants as kinds
+use Rattle.zk_base.specs.declared.kinds.Need.{Need}
+use Rattle.zk_base.specs.Limits.{most_players}
 use Rattle.zk_model_bus.specs.declared.table.OopsWhy.TheVariants.{NoObject, WrongKind, NotGranted, NotInit}
 use Rattle.zk_model_bus.specs.declared.table.TableOp.{TableOp}
 use Rattle.zk_model_bus.specs.declared.table.TableOp.TheVariants as ops
 use Rattle.zk_model_bus.specs.declared.table.TableReply.{TableReply}
 use Rattle.zk_model_bus.specs.declared.table.TableReply.TheVariants.{Done, Already, Oops}
-use Rattle.zk_model_bus.specs.Table.{Table, meets, is_any, is_thread, is_allowed, is_public, is_ready, is_user, is_dead}
+use Rattle.zk_model_bus.specs.Table.{Table, is_thread, is_allowed, is_public, is_ready, is_user, is_dead}
+use Rattle.zk_base.specs.Kinds.{meets, is_any}
 use Rattle.zk_objects.specs.declared.object.Object.{Object}
 use Rattle.zk_objects.specs.Bits.{Marked, has_bit, given, taken, is_marked}
 
 -- the word and the flags of an object say what the last words of the history say, of each player that a scenario can have
 pub record IsObject (t : Table) (object : ℕ) (x : Object) : Type 0 where
   pub kind : slice_get t.setup.kinds object ≡ Some x.kind
-  pub granted : (player : ℕ) → player < 64 → has_bit x.granted player ≡ is_allowed t player object
+  pub granted : (player : ℕ) → player < most_players → has_bit x.granted player ≡ is_allowed t player object
   pub public : x.public ≡ is_public t object
   pub ready : x.ready ≡ is_ready t object
-  pub small : x.kind ≡ kinds.Thread → x.player < 64
+  pub small : x.kind ≡ kinds.Thread → x.player < most_players
   pub thread : x.kind ≡ kinds.Thread → (player : ℕ) → is_thread t.setup player object ≡ (x.player == player)
 
 -- what is kept stands for a state of the table
@@ -26,11 +28,11 @@ pub record Stands (objects : List Object) (users dead : Marked) (t : Table) : Ty
   pub each : (object : ℕ) (x : Object) → slice_get objects object ≡ Some x → IsObject t object x
   pub of_users : (player : ℕ) → is_marked users player ≡ is_user t player
   pub of_dead : (player : ℕ) → is_marked dead player ≡ is_dead t player
-  pub beyond : (player object : ℕ) → 64 ≤ player → is_allowed t player object ≡ false
+  pub beyond : (player object : ℕ) → most_players ≤ player → is_allowed t player object ≡ false
 
 -- the player has permission on the object
 abbrev pub is_granted : Object → ℕ → Bool
-is_granted x player = nat_lt player 64 && has_bit x.granted player
+is_granted x player = nat_lt player most_players && has_bit x.granted player
 
 -- the tests of a check of an object, by its word and its flags
 abbrev pub object_reply : ℕ → Need → Option Object → TableReply
@@ -59,8 +61,8 @@ answered objects player op = Done
 
 -- the player whose permission an operation changes
 abbrev pub target_of : List Object → ℕ → TableOp → ℕ
-target_of objects player (ops.Grant thread object) = option_map_or (λ x. x.player) (slice_get objects thread) 64
-target_of objects player (ops.Revoke thread object) = option_map_or (λ x. x.player) (slice_get objects thread) 64
+target_of objects player (ops.Grant thread object) = option_map_or (λ x. x.player) (slice_get objects thread) most_players
+target_of objects player (ops.Revoke thread object) = option_map_or (λ x. x.player) (slice_get objects thread) most_players
 target_of objects player op = player
 
 -- the object that an operation changes

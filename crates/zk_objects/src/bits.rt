@@ -1,9 +1,12 @@
 ghost use Rattle.std.specs.Prelude.{◌≡◌, ◌<◌, ◌^◌};
+ghost use Rattle.zk_base.specs.Limits.{most_players};
 ghost use Rattle.zk_objects.specs.Bits.{has_bit, with_bit, without_bit, given, taken};
+
+use zk_base::MOST_PLAYERS;
 
 /// The word with the bit of this player alone.
 fn bit_of(player: u32) -> u64
-    requires { player < 64 }
+    requires { player < most_players }
     ensures { result ≡ 2 ^ player }
 {
     1 << player
@@ -11,7 +14,7 @@ fn bit_of(player: u32) -> u64
 
 /// The bit of this player is set.
 pub fn has_bit(bits: u64, player: u32) -> bool
-    requires { player < 64 }
+    requires { player < most_players }
     ensures { result ≡ has_bit bits player }
 {
     bits & bit_of(player) != 0
@@ -19,7 +22,7 @@ pub fn has_bit(bits: u64, player: u32) -> bool
 
 /// The same word with the bit of this player set.
 fn with_bit(bits: u64, player: u32) -> u64
-    requires { player < 64 }
+    requires { player < most_players }
     ensures { result ≡ with_bit bits player }
 {
     bits | bit_of(player)
@@ -27,7 +30,7 @@ fn with_bit(bits: u64, player: u32) -> u64
 
 /// The same word without the bit of this player.
 fn without_bit(bits: u64, player: u32) -> u64
-    requires { player < 64 }
+    requires { player < most_players }
     ensures { result ≡ without_bit bits player }
 {
     bits & !bit_of(player)
@@ -37,7 +40,7 @@ fn without_bit(bits: u64, player: u32) -> u64
 pub fn given(bits: u64, player: u32) -> u64
     ensures { result ≡ given bits player }
 {
-    if player < 64 {
+    if player < MOST_PLAYERS {
         with_bit(bits, player)
     } else {
         bits
@@ -48,7 +51,7 @@ pub fn given(bits: u64, player: u32) -> u64
 pub fn taken(bits: u64, player: u32) -> u64
     ensures { result ≡ taken bits player }
 {
-    if player < 64 {
+    if player < MOST_PLAYERS {
         without_bit(bits, player)
     } else {
         bits

@@ -64,7 +64,7 @@ impl Engine for ObjectsEngine {
 
     type State = TableState;
 
-    ghost use Rattle.std.specs.Prelude.{false, length, min};
+    ghost use Rattle.std.specs.Prelude.{false, length, min, []};
     ghost use Rattle.zk_model_bus.specs.Table.{table_machine};
     ghost use Rattle.zk_objects.specs.Kept.{Stands};
 
@@ -89,6 +89,8 @@ impl Engine for ObjectsEngine {
 
     const WORDS: u32 = 0;
 
+    ghost touched = { λ e. [] };
+
     fn step(
         &mut self,
         who: Who,
@@ -112,6 +114,10 @@ impl Engine for ObjectsEngine {
 
     fn word(&self, _index: u32) -> u32 {
         0
+    }
+
+    fn touched(&self) -> &[u32] {
+        &[]
     }
 
     fn reserve(&mut self) -> Result<(), NoMemory> {

@@ -1,5 +1,6 @@
 ghost use Rattle.std.specs.Prelude.{◌≡◌, ℕ, ◌==◌, ◌&&◌, ◌<◌, ◌≤◌, Some, length, slice_get, IfOk};
 ghost use Rattle.std.specs.List.{list_any};
+ghost use Rattle.zk_base.specs.Limits.{most_players};
 ghost use Rattle.zk_model_bus.specs.Table.{IsSetup, new_table};
 ghost use Rattle.zk_objects.specs.Bits.{has_bit};
 ghost use Rattle.zk_objects.specs.Kept.{IsObject};
@@ -8,7 +9,7 @@ ghost use Rattle.zk_objects.specs.First.{AreFirst, declares_user, IsFirstThread}
 use crate::bits::given;
 use crate::object::Object;
 use std::alloc::Global;
-use zk_base::NoMemory;
+use zk_base::{MOST_PLAYERS, NoMemory};
 use zk_model_bus::{Kind, TableSetup};
 
 /// The player has permission on the object at first.
@@ -20,11 +21,11 @@ fn begins_allowed(allowed: &[(u32, u32)], player: u32, object: usize) -> bool
 
 /// The bits of the players that have permission on an object at first.
 fn first_granted(allowed: &[(u32, u32)], object: usize) -> u64
-    ensures { (player : ℕ) → player < 64 →
+    ensures { (player : ℕ) → player < most_players →
         has_bit result player ≡ list_any (λ a. a.0 == player && a.1 == object) allowed.now }
 {
     let mut granted = 0;
-    for player in 0..64 {
+    for player in 0..MOST_PLAYERS {
         if begins_allowed(allowed, player, object) {
             granted = given(granted, player);
         }
@@ -44,10 +45,10 @@ fn begins_as_user(threads: &[(u32, bool)], player: u32) -> bool
 
 /// The bits of the players that are users at first.
 pub fn first_users(threads: &[(u32, bool)]) -> u64
-    ensures { (player : ℕ) → player < 64 → has_bit result player ≡ declares_user threads.now player }
+    ensures { (player : ℕ) → player < most_players → has_bit result player ≡ declares_user threads.now player }
 {
     let mut users = 0;
-    for player in 0..64 {
+    for player in 0..MOST_PLAYERS {
         if begins_as_user(threads, player) {
             users = given(users, player);
         }
@@ -55,9 +56,9 @@ pub fn first_users(threads: &[(u32, bool)]) -> u64
     users
 }
 
-/// The player of a thread's object. There is none at 64.
+/// The player of a thread's object. `MOST_PLAYERS` where there is none.
 fn first_player(threads: &[(u32, bool)], object: usize) -> u32
-    requires { length threads.now ≤ 64 }
+    requires { length threads.now ≤ most_players }
     ensures { IsFirstThread threads.now object result }
 {
     for (player, thread) in threads.iter().enumerate() {
@@ -65,7 +66,7 @@ fn first_player(threads: &[(u32, bool)], object: usize) -> u32
             return player as u32;
         }
     }
-    64
+    MOST_PLAYERS
 }
 
 /// What is kept of an object of this kind at first.

@@ -5,7 +5,7 @@ ghost use Rattle.zk_objects.specs.Bits.{is_marked};
 use crate::bits::{given, has_bit};
 use std::alloc::Global;
 use std::marker::Model;
-use zk_base::NoMemory;
+use zk_base::{MOST_PLAYERS, NoMemory};
 
 /// A set of players: a bit for each of those that a scenario can have, and a list of any above them.
 #[derive(Drop)]
@@ -50,7 +50,7 @@ impl Marks {
     pub fn has(&self, player: u32) -> bool
         ensures { result ≡ is_marked self.now player }
     {
-        if player < 64 {
+        if player < MOST_PLAYERS {
             has_bit(self.bits, player)
         } else {
             self.is_above(player)
@@ -66,7 +66,7 @@ impl Marks {
         ensures room { self.old.room ≤ self.new.room + 1 }
         ensures kept { OnErr result (self.old.room ≤ self.new.room) }
     {
-        if player < 64 {
+        if player < MOST_PLAYERS {
             self.bits = given(self.bits, player);
         } else {
             self.above.push(player)?;

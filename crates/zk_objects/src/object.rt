@@ -1,8 +1,10 @@
 ghost use Rattle.std.specs.Prelude.{◌≡◌, Some, slice_get};
 ghost use Rattle.std.specs.Option.{option_map_or};
+ghost use Rattle.zk_base.specs.Limits.{most_players};
 ghost use Rattle.zk_objects.specs.Kept.{is_granted, object_reply, checked, init_reply, answered, target_of, object_of, changed, objects_after};
 
 use crate::bits::{given, has_bit, taken};
+use zk_base::MOST_PLAYERS;
 use zk_model_bus::{Kind, Need, OopsWhy, TableOp, TableReply};
 
 /// What is kept of an object.
@@ -24,7 +26,7 @@ pub struct Object {
 fn is_granted(object: &Object, player: u32) -> bool
     ensures { result ≡ is_granted object.now player }
 {
-    player < 64 && has_bit(object.granted, player)
+    player < MOST_PLAYERS && has_bit(object.granted, player)
 }
 
 /// The tests of a check of this object.
@@ -75,13 +77,13 @@ pub fn answer(objects: &[Object], player: u32, op: &TableOp) -> TableReply
     }
 }
 
-/// The player of a thread's object. There is none at 64.
+/// The player of a thread's object. `MOST_PLAYERS` where there is none.
 fn player_of(objects: &[Object], thread: u32) -> u32
-    ensures { result ≡ option_map_or (λ x. x.player) (slice_get objects.now thread) 64 }
+    ensures { result ≡ option_map_or (λ x. x.player) (slice_get objects.now thread) most_players }
 {
     match objects.get(thread as usize) {
         Some(object) => object.player,
-        None => 64,
+        None => MOST_PLAYERS,
     }
 }
 

@@ -4,6 +4,7 @@ ghost use Rattle.zk_objects.specs.Seen.{objects_start, objects_history};
 
 use crate::engine::ObjectsEngine;
 use std::alloc::Global;
+use std::snapshot::Snapshot;
 use zk_base::{Entry, NoMemory, Recorded, Service, Who};
 use zk_model_bus::{TableOp, TableReply, TableSetup, TableState};
 
@@ -20,7 +21,7 @@ impl Objects {
         ensures start { IfOk result (λ objects. objects_start objects ≡ new_table setup.now) }
         ensures history { IfOk result (λ objects. objects_history objects ≡ []) }
     {
-        let start = TableState::new(alloc, setup)?;
+        let start = Snapshot::of(&TableState::new(alloc, setup)?);
         let engine = ObjectsEngine::new(alloc, setup)?;
         Ok(Objects {
             inner: Recorded::new(alloc, start, engine),
@@ -58,6 +59,8 @@ impl Service for Objects {
 
     const WORDS: u32 = 0;
 
+    ghost touched = { λ s. s.inner.touched };
+
     fn act(&mut self, who: Who, step: u32, op: TableOp) -> Result<Option<TableReply>, NoMemory> {
         self.inner.act(who, step, op)
     }
@@ -68,6 +71,10 @@ impl Service for Objects {
 
     fn word(&self, index: u32) -> u32 {
         self.inner.word(index)
+    }
+
+    fn touched(&self) -> &[u32] {
+        self.inner.touched()
     }
 
     fn room(&self) -> u64 {

@@ -6,6 +6,7 @@ ghost use Rattle.zk_poll.specs.Seen.{signal_start, signal_history, left_by};
 use crate::signal_engine::{SignalEngine, written};
 use std::alloc::Global;
 use std::marker::Model;
+use std::snapshot::Snapshot;
 use zk_base::{Entry, NoMemory, Recorded, Seen, Service, Who};
 use zk_model_wait::{SignalOp, SignalReply, SignalState};
 
@@ -36,7 +37,7 @@ impl Signal {
         ensures start { signal_start result ≡ new_signal }
         ensures history { signal_history result ≡ [] }
     {
-        let start = SignalState::new(alloc);
+        let start = Snapshot::of(&SignalState::new(alloc));
         let engine = SignalEngine::new();
         Signal {
             inner: Recorded::new(alloc, start, engine),
@@ -97,6 +98,8 @@ impl Service for Signal {
 
     const WORDS: u32 = 0;
 
+    ghost touched = { λ s. s.touched };
+
     fn act(&mut self, who: Who, step: u32, op: SignalOp) -> Result<Option<SignalReply>, NoMemory> {
         self.inner.act(who, step, op)
     }
@@ -107,6 +110,10 @@ impl Service for Signal {
 
     fn word(&self, index: u32) -> u32 {
         self.inner.word(index)
+    }
+
+    fn touched(&self) -> &[u32] {
+        self.inner.touched()
     }
 
     fn room(&self) -> u64 {

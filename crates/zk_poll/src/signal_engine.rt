@@ -62,7 +62,7 @@ impl Engine for SignalEngine {
 
     type State = SignalState;
 
-    ghost use Rattle.std.specs.Prelude.{◌≡◌, ◌-◌, ◌^◌, length, false};
+    ghost use Rattle.std.specs.Prelude.{◌≡◌, ◌-◌, ◌^◌, length, false, []};
     ghost use Rattle.zk_model_wait.specs.Signal.{signal_seen, signal_machine};
     ghost use Rattle.zk_poll.specs.Words.{signal_word};
 
@@ -85,6 +85,8 @@ impl Engine for SignalEngine {
     ghost WORDS = { 0 };
 
     const WORDS: u32 = 0;
+
+    ghost touched = { λ e. [] };
 
     fn step(
         &mut self,
@@ -109,6 +111,10 @@ impl Engine for SignalEngine {
             0 => word_of(&self.last),
             _ => 0,
         }
+    }
+
+    fn touched(&self) -> &[u32] {
+        &[]
     }
 
     fn reserve(&mut self) -> Result<(), NoMemory> {

@@ -1,4 +1,5 @@
 ghost use Rattle.std.specs.Prelude.{◌≡◌, ◌<◌, false, option_map, All, IfOk, IfSome};
+ghost use Rattle.zk_model_work.specs.Lists.{first};
 ghost use Rattle.zk_queue.specs.Open.{nothing_open, line, run, is_queued, IsAbove, flags, is_idle, mark, admit, running, waiting, is_open, drop_item, next, begin, end, pair_of};
 
 use crate::copies::copies;
@@ -154,6 +155,24 @@ impl Queues {
         let ticket = self.runs[queue as usize]?;
         self.runs[queue as usize] = None;
         Some((ticket.item, ticket.number))
+    }
+
+    /// The item of the lowest that waits for the queue, if anything does.
+    pub fn first(&self, queue: u32) -> Option<u32>
+        requires { queue < self.now.queues }
+        ensures { result ≡ option_map (λ t. t.item) (first (line self.now queue)) }
+    {
+        let ticket = self.waiting.first(queue)?;
+        Some(ticket.item)
+    }
+
+    /// The item that the queue runs, if it runs one.
+    pub fn run(&self, queue: u32) -> Option<u32>
+        requires { queue < self.now.queues }
+        ensures { result ≡ option_map (λ t. t.item) (run self.now queue) }
+    {
+        let ticket = self.runs[queue as usize]?;
+        Some(ticket.item)
     }
 
     /// Whether nothing waits for the queue, and it runs nothing.

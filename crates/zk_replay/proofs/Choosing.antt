@@ -4,7 +4,7 @@ use Rattle.std.specs.List.{slice_get}
 use Rattle.std.proofs.lemmas.Option.{slice_get_within}
 use Rattle.zk_base.specs.declared.ids.Who.{Who}
 use Rattle.zk_scenario.specs.Parts.{Parts}
-use Rattle.zk_worker.specs.declared.steps.TheConstants.{MOST_STEPS}
+use Rattle.zk_scenario.specs.Steps.{steps_of}
 use Rattle.zk_worker.specs.declared.steps.Step.{Step}
 use Rattle.zk_worker.specs.declared.steps.StepReply.{StepReply}
 use Rattle.zk_worker.specs.declared.frames.Frame.{Frame}
@@ -56,8 +56,8 @@ through-none s at through = by_frames at.frames through
     by_room false = refl
 
     by_frames : (frames : List Frame) → is_through frames ≡ true →
-        cond (nat_lt (length at.spots) MOST_STEPS) (checks_first (next_check s at.mode at.passed frames) (frames_attempts s frames)) [] ≡ []
-    by_frames [] is = by_room (nat_lt (length at.spots) MOST_STEPS)
+        cond (nat_lt (length at.spots) (steps_of s)) (checks_first (next_check s at.mode at.passed frames) (frames_attempts s frames)) [] ≡ []
+    by_frames [] is = by_room (nat_lt (length at.spots) (steps_of s))
     by_frames (frame ∷ below) is = absurd (cc)
 
 module _ (m : Machines) (s : Parts) (at at' : At) (old new : Shown) (counts counts' : Counts) where
@@ -97,7 +97,7 @@ module _ (m : Machines) (s : Parts) (at at' : At) (old new : Shown) (counts coun
       (λ k step there. was-none (attempts s at) (length (attempts s at)) new none.tried k step (slice_get_within (attempts s at) k step there) there))
       has.unchanged none.others
 
-  by-answer : (stepped : Stepped) → is_spent_at at ≡ false → Does true m s at at' old new counts counts' stepped → IsTurn m s at at' old new (did stepped)
+  by-answer : (stepped : Stepped) → is_spent_at s at ≡ false → Does true m s at at' old new counts counts' stepped → IsTurn m s at at' old new (did stepped)
   by-answer Did unspent does = stepped-turn does
   by-answer NotYet unspent does = waited-turn does
   by-answer Ended unspent does =
@@ -105,7 +105,7 @@ module _ (m : Machines) (s : Parts) (at at' : At) (old new : Shown) (counts coun
   by-answer Spent unspent does = absurd (cc)
 
 -- what a step does is what the definition of a turn says
-pub is-turn : (alone : Bool) (m : Machines) (s : Parts) (at at' : At) (old new : Shown) (counts counts' : Counts) (stepped : Stepped) → alone ≡ true → is_spent_at at ≡ false →
+pub is-turn : (alone : Bool) (m : Machines) (s : Parts) (at at' : At) (old new : Shown) (counts counts' : Counts) (stepped : Stepped) → alone ≡ true → is_spent_at s at ≡ false →
     Does alone m s at at' old new counts counts' stepped → IsTurn m s at at' old new (did stepped)
 is-turn alone m s at at' old new counts counts' stepped is_alone unspent does =
     by-answer m s at at' old new counts counts' stepped unspent (subst (λ (b : Bool). Does b m s at at' old new counts counts' stepped) is_alone does)

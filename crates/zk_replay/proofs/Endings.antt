@@ -19,7 +19,7 @@ use Rattle.zk_model_work.specs.Machine.{work_machine, work_reply, work_next}
 use Rattle.zk_scenario.specs.Parts.{Parts}
 use Rattle.zk_scenario.specs.Valid.{IsValid}
 use Rattle.zk_line.specs.Objects.{places, is_thread, is_queue}
-use Rattle.zk_worker.specs.declared.steps.TheConstants.{MOST_STEPS}
+use Rattle.zk_scenario.specs.Steps.{steps_of}
 use Rattle.zk_worker.specs.declared.steps.Step.{Step}
 use Rattle.zk_worker.specs.declared.steps.Step.TheVariants as steps
 use Rattle.zk_worker.specs.declared.steps.StepReply.{StepReply}
@@ -42,9 +42,10 @@ use Rattle.zk_worker.specs.Attempt.{reply_in}
 use Rattle.zk_worker.proofs.Lists.{none-passes}
 use Rattle.zk_worker.proofs.ShownSteps.{made-of}
 use Rattle.zk_worker.proofs.Ranges.{same-lengths}
+use Rattle.zk_trace.specs.declared.trace.Ending.{Ending}
 use Rattle.zk_trace.specs.declared.trace.Ending.TheVariants as endings
 use Rattle.zk_trace.specs.declared.trace.Trace.{Trace}
-use Rattle.zk_trace.specs.Looked.{item_looks_of, signal_looks_of}
+use Rattle.zk_services.specs.Gathered.{gathered}
 use Rattle.zk_worker.specs.Choosing.{or_else, first_possible, chosen}
 use Rattle.zk_replay.specs.RoundRobin.{World, stepped, first, round, rounds, is_spent, IsRun}
 use Rattle.zk_replay.specs.Ready.{IsReady}
@@ -67,17 +68,17 @@ record IsGood (s : Parts) (w : World) : Type 0 where
   tended : IsTended s w state
 
 -- a step keeps what holds of each world, if each worker still tends its queue
-good-from : (s : Parts) (w : World) (p : ℕ) (at : At) (made : Step × StepReply) (state : State) → IsGood s w → is_spent w ≡ false → slice_get w.players p ≡ Some at →
+good-from : (s : Parts) (w : World) (p : ℕ) (at : At) (made : Step × StepReply) (state : State) → IsGood s w → is_spent s w ≡ false → slice_get w.players p ≡ Some at →
     chosen (machines_of s) s w.shown at ≡ Some made → IsTended s (stepped s w p at (Some made)) state → IsGood s (stepped s w p at (Some made))
 good-from s w p at made state good unspent is choice tended = record {
   all_there = length-set w.players p (after s at made.0 made.1) ∙ good.all_there;
-  ready = ready-stepped (machines_of s) s w p at made refl good.ready is (none-passes is_spent_at w.players p at unspent is)
+  ready = ready-stepped (machines_of s) s w p at made refl good.ready is (none-passes (is_spent_at s) w.players p at unspent is)
       (first_possible-is (machines_of s) w.shown at.who (attempts s at) made choice);
   state = state;
   tended = tended;
 }
 
-good-step : (s : Parts) (w : World) (p : ℕ) (at : At) (made : Step × StepReply) → IsGood s w → is_spent w ≡ false → slice_get w.players p ≡ Some at →
+good-step : (s : Parts) (w : World) (p : ℕ) (at : At) (made : Step × StepReply) → IsGood s w → is_spent s w ≡ false → slice_get w.players p ≡ Some at →
     chosen (machines_of s) s w.shown at ≡ Some made → IsGood s (stepped s w p at (Some made))
 good-step s w p at (step, reply) good unspent is choice =
     let made = first_possible-is (machines_of s) w.shown at.who (attempts s at) (step, reply) choice in
@@ -155,8 +156,8 @@ none-wait many (a ∷ xs) homes none =
     not_waits true false is none = refl
     not_waits false c is none = absurd (cc)
 
-short-unspent : (at : At) → is_spent_at at ≡ false → nat_lt (length at.spots) MOST_STEPS ≡ true
-short-unspent at is = grind (arith, nat_tests)
+short-unspent : (s : Parts) (at : At) → is_spent_at s at ≡ false → nat_lt (length at.spots) (steps_of s) ≡ true
+short-unspent s at is = grind (arith, nat_tests)
 
 -- where a list is long enough something is at a place
 pub there-is : (xs : List At) (p : ℕ) → p < length xs → (x : At) × (slice_get xs p ≡ Some x)
@@ -170,7 +171,7 @@ not-open Running waits runs = absurd (cc)
 not-open Ended waits runs = refl
 not-open Dropped waits runs = refl
 
-module _ (s : Parts) (w : World) (good : IsGood s w) (still : round (machines_of s) s w ≡ w) (unspent : is_spent w ≡ false) (done : all_done w.players ≡ true) where
+module _ (s : Parts) (w : World) (good : IsGood s w) (still : round (machines_of s) s w ≡ w) (unspent : is_spent s w ≡ false) (done : all_done w.players ≡ true) where
   -- the worker of a queue, which stands between two runs
   worker-at : (queue : ℕ) → queue < length (places is_queue s.decls) → (at : At) × (slice_get w.players (length (places is_thread s.decls) + queue) ≡ Some at)
   worker-at queue within = there-is w.players (length (places is_thread s.decls) + queue) (omega (arith, good.all_there))
@@ -191,7 +192,7 @@ module _ (s : Parts) (w : World) (good : IsGood s w) (still : round (machines_of
       let none = round-still (machines_of s) s w still unspent (threads + queue) at (omega (arith, good.all_there)) there.1 in
       let ahead : attempts s at ≡ steps.Work (ops.Begin queue) ∷ [] =
       ap (λ b. cond b (checks_first (next_check s at.mode at.passed at.frames) (frames_attempts s at.frames)) [])
-      (short-unspent at (none-passes is_spent_at w.players (threads + queue) at unspent there.1))
+      (short-unspent s at (none-passes (is_spent_at s) w.players (threads + queue) at unspent there.1))
       ∙ ap (λ (mode : Mode). checks_first (next_check s mode at.passed at.frames) (frames_attempts s at.frames)) (good.tended.tended queue at there.1 within).supervises
       ∙ only.0 in
       let first_none = sym (ap (first_possible (machines_of s) w.shown at.who) ahead) ∙ none in
@@ -217,47 +218,34 @@ module _ (s : Parts) (w : World) (good : IsGood s w) (still : round (machines_of
       (and_second (eqb a.queue a.queue) (is_waiting a.life) here (All-at Waits good.state.admissions number a (none-for a.queue within) is))
       (and_second (eqb a.queue a.queue) (is_running a.life) here (All-at Runs good.state.admissions number a (between a.queue within).1 is))
 
-ending-good : (s : Parts) (w : World) → IsGood s w → round (machines_of s) s w ≡ w → ending_by w.players ≡ ending_of s w
-ending-good s w good still = by_spent (is_spent w) refl
+ending-good : (s : Parts) (w : World) → IsGood s w → round (machines_of s) s w ≡ w → ending_by s w.players ≡ ending_of s w
+ending-good s w good still = by_spent (is_spent s w) refl
   where
     waits : Bool
     waits = none_waits (state_after work_machine (work_start_of s) w.shown.work)
 
-    by_done : (b : Bool) → is_spent w ≡ false → all_done w.players ≡ b → cond b endings.Ended endings.Stuck ≡ cond (b && none_waits (state_after work_machine (work_start_of s) w.shown.work)) endings.Ended endings.Stuck
+    by_done : (b : Bool) → is_spent s w ≡ false → all_done w.players ≡ b → cond b endings.Ended endings.Stuck ≡ cond (b && none_waits (state_after work_machine (work_start_of s) w.shown.work)) endings.Ended endings.Stuck
     by_done true unspent done = sym (ap (λ c. cond c endings.Ended endings.Stuck) (ended s w good still unspent done))
     by_done false unspent done = refl
 
-    by_spent : (b : Bool) → is_spent w ≡ b → cond b endings.Spent (cond (all_done w.players) endings.Ended endings.Stuck)
+    by_spent : (b : Bool) → is_spent s w ≡ b → cond b endings.Spent (cond (all_done w.players) endings.Ended endings.Stuck)
         ≡ cond b endings.Spent (cond (all_done w.players && none_waits (state_after work_machine (work_start_of s) w.shown.work)) endings.Ended endings.Stuck)
     by_spent true spent = refl
     by_spent false unspent = by_done (all_done w.players) unspent refl
 
 -- at the end of a run the players alone say how it ended
-ending-is : (s : Parts) (w : World) → IsValid s → IsRun (machines_of s) s w → ending_by w.players ≡ ending_of s w
+ending-is : (s : Parts) (w : World) → IsValid s → IsRun (machines_of s) s w → ending_by s w.players ≡ ending_of s w
 ending-is s w valid run =
     ending-good s w (subst (λ (v : World). IsGood s v) (sym run.1) (good-rounds s run.0 valid)) run.2
 
 -- what the code hands out is the trace of the run
-pub replayed : (s : Parts) (old w : World) (t : Trace) → IsValid s →
+pub replayed : (s : Parts) (old w : World) (ending : Ending) (t : Trace) → IsValid s →
     old ≡ first s → (n : ℕ) → w ≡ rounds (machines_of s) s n old → round (machines_of s) s w ≡ w →
-    t.ending ≡ ending_by w.players →
-    t.work ≡ w.shown.work →
-    t.clock ≡ w.shown.clock →
-    t.table ≡ w.shown.table →
-    t.sems ≡ w.shown.sems →
-    t.msgqs ≡ w.shown.msgqs →
-    t.signals ≡ w.shown.signals →
-    t.chans ≡ w.shown.chans →
-    t.observers ≡ w.shown.observers →
-    t.item_looks ≡ item_looks_of t.logs →
-    t.signal_looks ≡ signal_looks_of (length t.signals) t.logs →
-    t.logs ≡ map log_of w.players →
+    ending ≡ ending_by s w.players → t ≡ gathered ending w.shown (map (log_of s) w.players) →
     IsReplay s t
-replayed s old w t valid begins n so_far over end same_work same_clock same_table same_sems same_msgqs same_signals same_chans same_observers same_item_looks same_signal_looks log =
+replayed s old w ending t valid begins n so_far over by_players same =
     let run : IsRun (machines_of s) s w = (n, so_far ∙ ap (rounds (machines_of s) s n) begins, over) in
-    let ends = ending-is s w valid run in
-    let same : (record t { logs = t.logs }) ≡ trace_of s w = cc in
-    (w, run, same)
+    (w, run, same ∙ ap (λ (e : Ending). gathered e w.shown (map (log_of s) w.players)) (by_players ∙ ending-is s w valid run))
 
 -- what an ending says of the players
 ended-parts : (spent done waits : Bool) → cond spent endings.Spent (cond (done && waits) endings.Ended endings.Stuck) ≡ endings.Ended → (spent ≡ false) × (done ≡ true)
@@ -272,7 +260,7 @@ life-closed (Some a) life each is = let same : a.life ≡ life = cc in subst (λ
 run-over : (s : Parts) (w : World) → IsValid s → IsRun (machines_of s) s w → IsOver s (trace_of s w)
 run-over s w valid run ends number life is =
     let good = subst (λ (v : World). IsGood s v) (sym run.1) (good-rounds s run.0 valid) in
-    let parts = ended-parts (is_spent w) (all_done w.players) (none_waits (state_after work_machine (work_start_of s) w.shown.work)) ends in
+    let parts = ended-parts (is_spent s w) (all_done w.players) (none_waits (state_after work_machine (work_start_of s) w.shown.work)) ends in
     life-closed (slice_get (state_after work_machine (work_start_of s) w.shown.work).admissions number) life
     (λ a there. over-at s w good run.2 parts.0 parts.1 number a (ap (λ (t : State). slice_get t.admissions number) good.tended.after ∙ there)) is
 

@@ -14,7 +14,7 @@ use Rattle.zk_model_work.specs.Machine.{work_machine}
 use Rattle.zk_scenario.specs.Parts.{Parts}
 use Rattle.zk_scenario.specs.Players.{players}
 use Rattle.zk_scenario.specs.Valid.{IsValid}
-use Rattle.zk_worker.specs.declared.steps.TheConstants.{MOST_STEPS}
+use Rattle.zk_scenario.specs.Steps.{steps_of}
 use Rattle.zk_worker.specs.declared.steps.Step.{Step}
 use Rattle.zk_worker.specs.declared.steps.StepReply.{StepReply}
 use Rattle.zk_worker.specs.declared.steps.Spot.{Spot}
@@ -38,6 +38,7 @@ use Rattle.zk_trace.specs.History.{AreLegal}
 use Rattle.zk_trace.specs.Ending.{is_spent_state, is_done_state, none_waits, lawful_ending}
 use Rattle.zk_trace.specs.Lawful.{IsLawful}
 use Rattle.zk_worker.specs.Choosing.{chosen}
+use Rattle.zk_trace.proofs.OnePlace.{one-place}
 use Rattle.zk_replay.specs.RoundRobin.{World, IsRun, first, stepped, is_spent}
 use Rattle.zk_replay.specs.Ready.{IsReady}
 use Rattle.zk_replay.specs.Replay.{IsReplay, all_done, ending_of, trace_of}
@@ -89,7 +90,7 @@ run-known s w valid run =
     let P : World → Type 0 = λ v. IsReady s v × AreKnown v in
     subst P (sym run.1)
     (rounds-keep m s P (λ v p at made both unspent there choice. (
-      ready-stepped m s v p at made refl both.0 there (none-passes is_spent_at v.players p at unspent there)
+      ready-stepped m s v p at made refl both.0 there (none-passes (is_spent_at s) v.players p at unspent there)
           (first_possible-is m v.shown at.who (attempts s at) made choice),
       known-step m s v p at made both.0 both.1 there choice,
     )) run.0 (first s) (ready-first s valid, known-first s))
@@ -114,24 +115,24 @@ done-state false true b unspent whole = sym (whole refl)
 done-state false false true unspent whole = refl
 done-state false false false unspent whole = refl
 
-any-spent : (xs : List At) → list_any (λ log. is_spent_state log.state) (map log_of xs) ≡ list_any is_spent_at xs
-any-spent [] = refl
-any-spent (x ∷ xs) =
-    ap (λ (b : Bool). b || (list_any (λ log. is_spent_state log.state) (map log_of xs))) (spent-state (is_spent_at x) (is_dead x.mode) (is_done x.frames))
-    ∙ ap (λ (b : Bool). is_spent_at x || b) (any-spent xs)
+any-spent : (s : Parts) (xs : List At) → list_any (λ log. is_spent_state log.state) (map (log_of s) xs) ≡ list_any (is_spent_at s) xs
+any-spent s [] = refl
+any-spent s (x ∷ xs) =
+    ap (λ (b : Bool). b || (list_any (λ log. is_spent_state log.state) (map (log_of s) xs))) (spent-state (is_spent_at s x) (is_dead x.mode) (is_done x.frames))
+    ∙ ap (λ (b : Bool). is_spent_at s x || b) (any-spent s xs)
 
-all-done : (xs : List At) → ((p : ℕ) (x : At) → slice_get xs p ≡ Some x → is_dead x.mode ≡ true → is_done x.frames ≡ true) → list_any is_spent_at xs ≡ false →
-    list_all (λ log. is_done_state log.state) (map log_of xs) ≡ all_done xs
-all-done [] whole unspent = refl
-all-done (x ∷ xs) whole unspent =
-    let both = or_parts (is_spent_at x) (list_any is_spent_at xs) unspent in
-    ap (λ (b : Bool). b && list_all (λ log. is_done_state log.state) (map log_of xs)) (done-state (is_spent_at x) (is_dead x.mode) (is_done x.frames) both.0 (whole 0 x refl))
-    ∙ ap (λ (b : Bool). is_done x.frames && b) (all-done xs (λ p y there. whole (suc p) y there) both.1)
+all-done : (s : Parts) (xs : List At) → ((p : ℕ) (x : At) → slice_get xs p ≡ Some x → is_dead x.mode ≡ true → is_done x.frames ≡ true) → list_any (is_spent_at s) xs ≡ false →
+    list_all (λ log. is_done_state log.state) (map (log_of s) xs) ≡ all_done xs
+all-done s [] whole unspent = refl
+all-done s (x ∷ xs) whole unspent =
+    let both = or_parts (is_spent_at s x) (list_any (is_spent_at s) xs) unspent in
+    ap (λ (b : Bool). b && list_all (λ log. is_done_state log.state) (map (log_of s) xs)) (done-state (is_spent_at s x) (is_dead x.mode) (is_done x.frames) both.0 (whole 0 x refl))
+    ∙ ap (λ (b : Bool). is_done x.frames && b) (all-done s xs (λ p y there. whole (suc p) y there) both.1)
 
 ends-so : (s : Parts) (w : World) → IsReady s w → ending_of s w ≡ lawful_ending s (trace_of s w)
 ends-so s w ready =
-    by_spent (is_spent w) refl
-    ∙ sym (ap (λ (b : Bool). cond b Spent (cond (list_all (λ log. is_done_state log.state) (map log_of w.players) && waits) Ended Stuck)) (any-spent w.players))
+    by_spent (is_spent s w) refl
+    ∙ sym (ap (λ (b : Bool). cond b Spent (cond (list_all (λ log. is_done_state log.state) (map (log_of s) w.players) && waits) Ended Stuck)) (any-spent s w.players))
   where
     whole : (p : ℕ) (at : At) → slice_get w.players p ≡ Some at → is_dead at.mode ≡ true → is_done at.frames ≡ true
     whole p at there dead = ap is_done (dead-whole s p w.shown at (ready.follow p at there) dead)
@@ -139,16 +140,16 @@ ends-so s w ready =
     waits : Bool
     waits = none_waits (state_after work_machine (work_start_of s) w.shown.work)
 
-    by_spent : (b : Bool) → is_spent w ≡ b → cond b Spent (cond (all_done w.players && none_waits (state_after work_machine (work_start_of s) w.shown.work)) Ended Stuck)
-        ≡ cond b Spent (cond (list_all (λ log. is_done_state log.state) (map log_of w.players) && none_waits (state_after work_machine (work_start_of s) w.shown.work)) Ended Stuck)
+    by_spent : (b : Bool) → is_spent s w ≡ b → cond b Spent (cond (all_done w.players && none_waits (state_after work_machine (work_start_of s) w.shown.work)) Ended Stuck)
+        ≡ cond b Spent (cond (list_all (λ log. is_done_state log.state) (map (log_of s) w.players) && none_waits (state_after work_machine (work_start_of s) w.shown.work)) Ended Stuck)
     by_spent true spent = refl
-    by_spent false unspent = sym (ap (λ (d : Bool). cond (d && none_waits (state_after work_machine (work_start_of s) w.shown.work)) Ended Stuck) (all-done w.players whole unspent))
+    by_spent false unspent = sym (ap (λ (d : Bool). cond (d && none_waits (state_after work_machine (work_start_of s) w.shown.work)) Ended Stuck) (all-done s w.players whole unspent))
 
 -- where the ending isn't spent, no player has made all its steps
-unspent-ending : (s : Parts) (w : World) → (ending_of s w ≡ Spent → ⊥) → is_spent w ≡ false
-unspent-ending s w never = by_spent (is_spent w) refl
+unspent-ending : (s : Parts) (w : World) → (ending_of s w ≡ Spent → ⊥) → is_spent s w ≡ false
+unspent-ending s w never = by_spent (is_spent s w) refl
   where
-    by_spent : (b : Bool) → is_spent w ≡ b → is_spent w ≡ false
+    by_spent : (b : Bool) → is_spent s w ≡ b → is_spent s w ≡ false
     by_spent true spent =
         absurd (never (ap (λ b. cond b Spent (cond (all_done w.players && none_waits (state_after work_machine (work_start_of s) w.shown.work)) Ended Stuck)) spent))
     by_spent false none = none
@@ -167,23 +168,23 @@ module _ (s : Parts) (w : World) (valid : IsValid s) (run : IsRun (machines_of s
   shown-same : trace_shown (trace_of s w) ≡ w.shown
   shown-same = whole-same w.shown known.0.whole known.0.unlooked
 
-  abbrev follows : (number : ℕ) (log : Log) → slice_get (map log_of w.players) number ≡ Some log → Follows s number (trace_shown (trace_of s w)) log
+  abbrev follows : (number : ℕ) (log : Log) → slice_get (map (log_of s) w.players) number ≡ Some log → Follows s number (trace_shown (trace_of s w)) log
   follows number log is =
-      let found = there-mapped log_of w.players number log is in
+      let found = there-mapped (log_of s) w.players number log is in
       record {
         end = found.0;
         led = subst (λ (x : Shown). IsFollowing s number x found.0) (sym shown-same) (known.0.follow number found.0 found.1);
         logged = found.2;
       }
 
-  placed : IsPlaced (trace_of s w)
+  placed : IsPlaced s (trace_of s w)
   placed = record {
     short = λ number log is.
-        let found = there-mapped log_of w.players number log is in
-        let P : At → Type 0 = λ at. length at.spots ≤ MOST_STEPS in
-        subst (λ (l : Log). length l.steps ≤ MOST_STEPS) found.2 (All-at P w.players number found.0 known.0.short found.1);
+        let found = there-mapped (log_of s) w.players number log is in
+        let P : At → Type 0 = λ at. length at.spots ≤ steps_of s in
+        subst (λ (l : Log). length l.steps ≤ steps_of s) found.2 (All-at P w.players number found.0 known.0.short found.1);
     stands = λ number step spot log is recorded no_look.
-        let found = there-mapped log_of w.players number log is in
+        let found = there-mapped (log_of s) w.players number log is in
         let shows = known.0.shows number found.0 found.1 in
         ap (λ (x : Shown). shown_at x spot) shown-same
         ∙ shows.each step spot (ap (λ (l : Log). slice_get l.steps step) found.2 ∙ recorded) no_look
@@ -193,7 +194,7 @@ module _ (s : Parts) (w : World) (valid : IsValid s) (run : IsRun (machines_of s
         let found = there-is w.players number (known.1 spot number step there) in
         let shows = known.0.shows number found.0 found.1 in
         let recorded = shows.no_other step spot (there ∙ ap (λ (n : ℕ). Some (n, step)) (sym (known.0.numbers number found.0 found.1))) in
-        ap (option_and_then (λ (log : Log). slice_get log.steps step)) (slice_get-map log_of w.players number ∙ ap (option_map log_of) found.1) ∙ recorded;
+        ap (option_and_then (λ (log : Log). slice_get log.steps step)) (slice_get-map (log_of s) w.players number ∙ ap (option_map (log_of s)) found.1) ∙ recorded;
     item_looks = refl;
     signal_looks = refl;
   }
@@ -201,7 +202,7 @@ module _ (s : Parts) (w : World) (valid : IsValid s) (run : IsRun (machines_of s
   -- the looks of each player are right
   right : AreRight s (trace_of s w)
   right number log is =
-      let found = there-mapped log_of w.players number log is in
+      let found = there-mapped (log_of s) w.players number log is in
       subst (λ (l : Log). LooksRight (machines_of s) (trace_shown (trace_of s w)) l.steps) found.2
       (subst (λ (x : Shown). LooksRight (machines_of s) x found.0.spots) (sym shown-same) (known.0.looks number found.0 found.1))
 
@@ -215,13 +216,16 @@ module _ (s : Parts) (w : World) (valid : IsValid s) (run : IsRun (machines_of s
   lawful-run = record {
     place = placed;
     history = legal;
-    log = record { logged = length-map w.players log_of ∙ run-players s w run; follow = follows };
+    log = record { logged = length-map w.players (log_of s) ∙ run-players s w run; follow = follows };
     look = right;
     ending = record {
       ends = ends-so s w known.0;
-      halts = λ never number log is.
-          let found = there-mapped log_of w.players number log is in
-          ap (λ (x : Shown). chosen (machines_of s) s x found.0) shown-same
+      halts = λ never number log is end led logged.
+          let found = there-mapped (log_of s) w.players number log is in
+          let own : IsFollowing s number (trace_shown (trace_of s w)) found.0 = subst (λ (x : Shown). IsFollowing s number x found.0) (sym shown-same) (known.0.follow number found.0 found.1) in
+          let same : end ≡ found.0 = one-place s number (trace_shown (trace_of s w)) end found.0 led own (ap (λ (l : Log). l.steps) (logged ∙ sym found.2)) in
+          ap (λ (x : At). chosen (machines_of s) s (trace_shown (trace_of s w)) x) same
+          ∙ ap (λ (x : Shown). chosen (machines_of s) s x found.0) shown-same
           ∙ none_goes_on s w run (unspent-ending s w never) number found.0 found.1;
     };
   }

@@ -202,7 +202,7 @@ run-legal s w valid run =
     (subst P (sym run.1)
     (rounds-keep m s P (λ v p at made both unspent there choice.
     let found = first_possible-is m v.shown at.who (attempts s at) made choice in (
-      ready-stepped m s v p at made refl both.0 there (none-passes is_spent_at v.players p at unspent there) found,
+      ready-stepped m s v p at made refl both.0 there (none-passes (is_spent_at s) v.players p at unspent there) found,
       legal-after m v.shown at.who (length at.spots) made.0 made.1 both.1 found.answered
           (ahead-takes s m at valid refl (All-at (IsFit s) v.players p at both.0.fits there) made.0 (found.place, found.is_there))
           (log-later at.who.number at.spots v.shown (both.0.shows p at there)),

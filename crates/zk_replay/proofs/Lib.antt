@@ -9,7 +9,4 @@ pub mod OneRun
 pub mod Unserved
 pub mod Legality
 pub mod Lawful
-pub mod Among
-pub mod Gathered
-pub mod LookedAt
 pub mod DeadPlayers

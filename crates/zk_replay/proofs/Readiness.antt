@@ -1,19 +1,22 @@
 -- What a run keeps in each turn.
-use Rattle.std.proofs.Common.{◌≡◌, ◌≢◌, ◌⊎◌, ℕ, ◌+◌, ◌*◌, ◌-◌, ◌^◌, ◌<◌, ◌≤◌, true, false, Option, Some, List, [], ◌∷◌, ◌++◌, length, set, inl, inr, refl, sym, ap, subst, ◌∙◌, arith, length-append}
+use Rattle.std.proofs.Common.{◌≡◌, ◌≢◌, ◌⊎◌, ℕ, ◌+◌, ◌*◌, ◌-◌, ◌^◌, ◌<◌, ◌≤◌, true, false, Option, Some, List, [], All, ◌∷◌, ◌++◌, length, map, set, inl, inr, refl, sym, ap, subst, ◌∙◌, arith, length-append}
 use Rattle.std.specs.List.{slice_get, sum_by}
 use Rattle.std.proofs.lemmas.Bool.Decides.{nat_tests}
-use Rattle.std.proofs.lemmas.List.{length-set}
+use Rattle.std.proofs.lemmas.List.{length-set, length-map}
 use Rattle.std.proofs.lemmas.List.Sums.{sum_by-le}
-use Rattle.std.proofs.lemmas.List.Elements.{All-set}
+use Rattle.std.proofs.lemmas.List.Elements.{All-set, All-map, All-weaker}
 use Rattle.zk_base.proofs.Lists.{All-at}
 use Rattle.zk_base.specs.declared.ids.Who.{Who}
 use Rattle.zk_scenario.specs.Parts.{Parts}
-use Rattle.zk_worker.specs.declared.steps.TheConstants.{MOST_STEPS}
+use Rattle.zk_scenario.specs.declared.scenario.TheConstants.{MOST_STEPS}
+use Rattle.zk_scenario.specs.Steps.{steps_of}
+use Rattle.zk_scenario.proofs.Steps.{steps-most}
 use Rattle.zk_worker.specs.declared.steps.Step.{Step}
 use Rattle.zk_worker.specs.declared.steps.StepReply.{StepReply}
 use Rattle.zk_worker.specs.Places.{At}
 use Rattle.zk_worker.specs.Protocol.{attempts, after, spot_of}
-use Rattle.zk_worker.specs.Follows.{is_spent_at, StandsMore, IsFollowing}
+use Rattle.zk_worker.specs.declared.log.Log.{Log}
+use Rattle.zk_worker.specs.Follows.{log_of, is_spent_at, StandsMore, IsFollowing}
 use Rattle.zk_worker.specs.Ranges.{IsFit}
 use Rattle.zk_worker.specs.Machines.{Machines, machines_of}
 use Rattle.zk_worker.specs.Attempt.{reply_in, IsMade}
@@ -30,15 +33,20 @@ use Rattle.zk_worker.proofs.ShownSteps.{made-more, log-answered, log-others, unl
 use Rattle.zk_worker.proofs.Looking.{looks-stepped, looks-others, reads-whole}
 use Rattle.zk_worker.proofs.Following.{following-still, following-more}
 use Rattle.zk_worker.proofs.Lists.{slice_get-set, sum-set}
+use Rattle.zk_services.specs.Looks as looks
 use Rattle.zk_replay.specs.RoundRobin.{World, stepped}
 use Rattle.zk_replay.specs.Ready.{IsReady, left, all_left}
 use Rattle.zk_replay.proofs.StillRounds.{IsChosen}
+
+-- players that make no more steps than those of their scenario make no more than any may
+few-steps : (s : Parts) (players : List At) → All (λ at. length at.spots ≤ steps_of s) players → All (λ at. length at.spots ≤ MOST_STEPS) players
+few-steps s players = All-weaker (λ at. length at.spots ≤ steps_of s) (λ at. length at.spots ≤ MOST_STEPS) (λ at le. omega (arith, steps-most s)) players
 
 -- each history is shorter than a history may be
 pub short-shown : (s : Parts) (w : World) → IsReady s w → AreShort w.shown
 short-shown s w ready =
     let count : At → ℕ = λ at. length at.spots in
-    let most : sum_by count w.players ≤ length w.players * MOST_STEPS = sum_by-le count MOST_STEPS w.players ready.short in
+    let most : sum_by count w.players ≤ length w.players * MOST_STEPS = sum_by-le count MOST_STEPS w.players (few-steps s w.players ready.short) in
     record {
       work = omega (arith, ready.few, ready.counted, most);
       clock = omega (arith, ready.few, ready.counted, most);
@@ -50,8 +58,8 @@ short-shown s w ready =
       observers = each-short w.shown.observers (2 ^ 32 - 1) (omega (arith, ready.few, ready.counted, most));
     }
 
-unspent-short : (at : At) → is_spent_at at ≡ false → length at.spots < MOST_STEPS
-unspent-short at is = grind (arith, nat_tests)
+unspent-short : (s : Parts) (at : At) → is_spent_at s at ≡ false → length at.spots < steps_of s
+unspent-short s at is = grind (arith, nat_tests)
 
 -- a player that has made one step more
 record IsOneMore (s : Parts) (at at' : At) : Type 0 where
@@ -129,13 +137,13 @@ numbers-after s w p at at' ready is more q other found = by_place (slice_get-set
 
 -- a world that is ready is so after a step that a player with steps left chooses
 pub ready-stepped : (m : Machines) (s : Parts) (w : World) (p : ℕ) (at : At) (made : Step × StepReply) → m ≡ machines_of s → IsReady s w → slice_get w.players p ≡ Some at →
-    is_spent_at at ≡ false → IsChosen m w.shown at.who (attempts s at) made → IsReady s (stepped s w p at (Some made))
+    is_spent_at s at ≡ false → IsChosen m w.shown at.who (attempts s at) made → IsReady s (stepped s w p at (Some made))
 ready-stepped m s w p at made same ready is unspent found =
     let at' = after s at made.0 made.1 in
     let more = after-one s at made.0 made.1 in
     let long = (made-more m w.shown at.who (length at.spots) made.0 made.1 found.answered).count in
     let count : At → ℕ = λ at. length at.spots in
-    let Short : At → Type 0 = λ at. length at.spots ≤ MOST_STEPS in
+    let Short : At → Type 0 = λ at. length at.spots ≤ steps_of s in
     let told = replied-fits s m w.shown at.who made.0 made.1 ready.valid same found.answered in
     let passes = replied-passes s m w.shown at.who made.0 made.1 same found.answered in
     record {
@@ -144,7 +152,7 @@ ready-stepped m s w p at made same ready is unspent found =
       numbers = numbers-after s w p at at' ready is more;
       shows = shows-after m s w p at made.0 made.1 ready is found.answered;
       looks = looks-after m s w p at made.0 made.1 same ready is found.answered;
-      short = All-set Short w.players p at' (omega (arith, more.count, unspent-short at unspent)) ready.short;
+      short = All-set Short w.players p at' (omega (arith, more.count, unspent-short s at unspent)) ready.short;
       counted = omega (arith, long, ready.counted, sum-set count w.players p at at' is, more.count);
       whole = whole-after w.shown at.who (length at.spots) made.0 made.1 ready.whole;
       unlooked = unlooked-after w.shown at.who (length at.spots) made.0 made.1 ready.unlooked;
@@ -154,8 +162,15 @@ ready-stepped m s w p at made same ready is unspent found =
     }
 
 -- a step leaves fewer steps
-pub left-stepped : (s : Parts) (w : World) (p : ℕ) (at : At) (made : Step × StepReply) → slice_get w.players p ≡ Some at → is_spent_at at ≡ false →
-    all_left (stepped s w p at (Some made)).players < all_left w.players
+pub left-stepped : (s : Parts) (w : World) (p : ℕ) (at : At) (made : Step × StepReply) → slice_get w.players p ≡ Some at → is_spent_at s at ≡ false →
+    all_left s (stepped s w p at (Some made)).players < all_left s w.players
 left-stepped s w p at made is unspent =
     let at' = after s at made.0 made.1 in
-    omega (arith, sum-set left w.players p at at' is, (after-one s at made.0 made.1).count, unspent-short at unspent)
+    omega (arith, sum-set (left s) w.players p at at' is, (after-one s at made.0 made.1).count, unspent-short s at unspent)
+
+-- the logs of the players of a run are short
+pub logs-short : (s : Parts) (w : World) → IsReady s w → looks.AreShort (map (log_of s) w.players)
+logs-short s w ready = record {
+  few = omega (arith, ready.few, length-map w.players (log_of s));
+  short = All-map (λ (log : Log). length log.steps ≤ MOST_STEPS) (log_of s) w.players (few-steps s w.players ready.short);
+}

@@ -23,7 +23,7 @@ use Rattle.zk_replay.proofs.StillRounds.{first_possible-is}
 use Rattle.zk_replay.proofs.Readiness.{ready-stepped, left-stepped}
 
 module _ (m : Machines) (s : Parts) where
-  turn-unspent : (w : World) (p : ℕ) (at : At) → is_spent w ≡ false → slice_get w.players p ≡ Some at → turn m s w p ≡ stepped s w p at (chosen m s w.shown at)
+  turn-unspent : (w : World) (p : ℕ) (at : At) → is_spent s w ≡ false → slice_get w.players p ≡ Some at → turn m s w p ≡ stepped s w p at (chosen m s w.shown at)
   turn-unspent w p at unspent is =
       ap (λ b. cond b w (turn_of m s w p (slice_get w.players p))) unspent ∙ ap (turn_of m s w p) is
 
@@ -35,9 +35,9 @@ module _ (m : Machines) (s : Parts) where
 
   -- a turn in the code is a turn of the definition
   pub turned-from : (shown shown' : Shown) (players players' : List At) (p : ℕ) (at at' : At) (told : Turn) (made : Option (Step × StepReply)) →
-      m ≡ machines_of s → IsReady s (world shown players) → is_spent (world shown players) ≡ false → slice_get players p ≡ Some at → chosen m s shown at ≡ made →
+      m ≡ machines_of s → IsReady s (world shown players) → is_spent s (world shown players) ≡ false → slice_get players p ≡ Some at → chosen m s shown at ≡ made →
       shown' ≡ shown_with shown at.who (length at.spots) made → at' ≡ at_after s at made → players' ≡ set players p at' →
-      told.moved ≡ is_some made → told.spent ≡ is_spent_at at' → Turned m s (world shown players) (world shown' players') p told
+      told.moved ≡ is_some made → told.spent ≡ is_spent_at s at' → Turned m s (world shown players) (world shown' players') p told
   turned-from shown shown' players players' p at at' told made of_scenario ready unspent is choice history place written moved spent =
       let all : world shown' players' ≡ stepped s (world shown players) p at made =
       ap (λ (h : Shown). world h players') history
@@ -47,20 +47,20 @@ module _ (m : Machines) (s : Parts) where
       record {
         next = all ∙ ap (stepped s (world shown players) p at) (sym choice) ∙ sym (turn-unspent (world shown players) p at unspent is);
         ready = subst W (sym all) (ready_after made choice);
-        spent = spent ∙ sym (any-set is_spent_at players p at' unspent (slice_get_within players p at is)) ∙ ap (λ (l : List At). is_spent (world shown' l)) (sym written);
-        moved = λ moves. subst (λ (w : World). all_left w.players < all_left players) (sym all) (less made (sym moved ∙ moves));
+        spent = spent ∙ sym (any-set (is_spent_at s) players p at' unspent (slice_get_within players p at is)) ∙ ap (λ (l : List At). is_spent s (world shown' l)) (sym written);
+        moved = λ moves. subst (λ (w : World). all_left s w.players < all_left s players) (sym all) (less made (sym moved ∙ moves));
         still = λ rests. all ∙ same made (sym moved ∙ rests);
       }
     where
-      alone : is_spent_at at ≡ false
-      alone = none-passes is_spent_at players p at unspent is
+      alone : is_spent_at s at ≡ false
+      alone = none-passes (is_spent_at s) players p at unspent is
 
       ready_after : (made : Option (Step × StepReply)) → chosen m s shown at ≡ made → IsReady s (stepped s (world shown players) p at made)
       ready_after None choice = ready
       ready_after (Some made) choice =
           ready-stepped m s (world shown players) p at made of_scenario ready is alone (first_possible-is m shown at.who (attempts s at) made choice)
 
-      less : (made : Option (Step × StepReply)) → is_some made ≡ true → all_left (stepped s (world shown players) p at made).players < all_left players
+      less : (made : Option (Step × StepReply)) → is_some made ≡ true → all_left s (stepped s (world shown players) p at made).players < all_left s players
       less None moves = absurd (cc)
       less (Some made) moves = left-stepped s (world shown players) p at made is alone
 
@@ -69,14 +69,14 @@ module _ (m : Machines) (s : Parts) where
       same (Some made) rests = absurd (cc)
 
   -- once the run is spent no turn changes it
-  pub turns-spent : (w : World) (n p : ℕ) → is_spent w ≡ true → turns m s w n p ≡ w
+  pub turns-spent : (w : World) (n p : ℕ) → is_spent s w ≡ true → turns m s w n p ≡ w
   turns-spent w zero p spent = refl
   turns-spent w (suc n) p spent =
       let here : turn m s w p ≡ w = ap (λ b. cond b w (turn_of m s w p (slice_get w.players p))) spent in
       ap (λ (v : World). turns m s v n (p + 1)) here ∙ turns-spent w n (p + 1) spent
 
   -- a round before its first turn
-  pub within-first : (w : World) → IsReady s w → is_spent w ≡ false → WithinRound m s w w false (length w.players) 0
+  pub within-first : (w : World) → IsReady s w → is_spent s w ≡ false → WithinRound m s w w false (length w.players) 0
   within-first w ready unspent = record { rest = refl; ready = ready; unspent = unspent; less = λ moves. absurd (cc); still = λ rests. refl }
 
   rest-next : (old now new : World) (n p : ℕ) → new ≡ turn m s now p → turns m s now (suc n) p ≡ round m s old → turns m s new n (p + 1) ≡ round m s old
@@ -97,17 +97,17 @@ module _ (m : Machines) (s : Parts) where
       by_still true b first second rests = absurd (cc)
       by_still false b first second rests = second rests ∙ first refl
 
-      by_less : (a b : Bool) → (a ≡ true → all_left now.players < all_left old.players) → (a ≡ false → now ≡ old) → (b ≡ true → all_left new.players < all_left now.players) → (b ≡ false → new ≡ now) →
-          (a || b) ≡ true → all_left new.players < all_left old.players
+      by_less : (a b : Bool) → (a ≡ true → all_left s now.players < all_left s old.players) → (a ≡ false → now ≡ old) → (b ≡ true → all_left s new.players < all_left s now.players) → (b ≡ false → new ≡ now) →
+          (a || b) ≡ true → all_left s new.players < all_left s old.players
       by_less true true less still less' still' moves = omega (arith, less refl, less' refl)
-      by_less true false less still less' still' moves = subst (λ (w : World). all_left w.players < all_left old.players) (sym (still' refl)) (less refl)
-      by_less false b less still less' still' moves = subst (λ (w : World). all_left new.players < all_left w.players) (still refl) (less' moves)
+      by_less true false less still less' still' moves = subst (λ (w : World). all_left s w.players < all_left s old.players) (sym (still' refl)) (less refl)
+      by_less false b less still less' still' moves = subst (λ (w : World). all_left s new.players < all_left s w.players) (still refl) (less' moves)
 
   -- a turn after which a player is spent ends the round
   pub within-spent : (old now new : World) (moved : Bool) (n p : ℕ) (told : Turn) → WithinRound m s old now moved (suc n) p → Turned m s now new p told → told.spent ≡ true →
       Rounded m s old new Spent
   within-spent old now new moved n p told within turned spent =
-      let over : is_spent new ≡ true = sym turned.spent ∙ spent in
+      let over : is_spent s new ≡ true = sym turned.spent ∙ spent in
       record {
         next = sym (turns-spent new n (p + 1) over) ∙ rest-next old now new n p turned.next within.rest;
         ready = turned.ready;
@@ -133,8 +133,8 @@ module _ (m : Machines) (s : Parts) where
 
 -- the same of a turn in the code, which may have had no memory
 pub turned-if : (m : Machines) (s : Parts) (result : Result Turn NoMemory) (old new : Shown) (players players' : List At) (p : ℕ) (at at' : At) →
-    m ≡ machines_of s → IsReady s (world old players) → is_spent (world old players) ≡ false → slice_get players p ≡ Some at → players' ≡ set players p at' →
-    IfOk result (λ told. IsTurn m s at at' old new told.moved) → IfOk result (λ told. told.spent ≡ is_spent_at at') →
+    m ≡ machines_of s → IsReady s (world old players) → is_spent s (world old players) ≡ false → slice_get players p ≡ Some at → players' ≡ set players p at' →
+    IfOk result (λ told. IsTurn m s at at' old new told.moved) → IfOk result (λ told. told.spent ≡ is_spent_at s at') →
     IfOk result (λ told. Turned m s (world old players) (world new players') p told)
 turned-if m s (Ok told) old new players players' p at at' of_scenario ready unspent is written turn spent =
     turned-from m s old new players players' p at at' told (chosen m s old at) of_scenario ready unspent is refl

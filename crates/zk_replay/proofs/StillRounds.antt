@@ -59,22 +59,22 @@ steps_of w = sum_by (λ at. length at.spots) w.players
 module _ (m : Machines) (s : Parts) where
   -- what holds before a turn, and after a step of its player, holds after the turn
   pub turn-keeps : (P : World → Type 0) (w : World) (p : ℕ) → P w →
-      ((at : At) (made : Step × StepReply) → is_spent w ≡ false → slice_get w.players p ≡ Some at → chosen m s w.shown at ≡ Some made → P (stepped s w p at (Some made))) → P (turn m s w p)
-  turn-keeps P w p here kept = by_spent (is_spent w) refl
+      ((at : At) (made : Step × StepReply) → is_spent s w ≡ false → slice_get w.players p ≡ Some at → chosen m s w.shown at ≡ Some made → P (stepped s w p at (Some made))) → P (turn m s w p)
+  turn-keeps P w p here kept = by_spent (is_spent s w) refl
     where
-      by_made : (at : At) (made : Option (Step × StepReply)) → is_spent w ≡ false → slice_get w.players p ≡ Some at → chosen m s w.shown at ≡ made → P (stepped s w p at made)
+      by_made : (at : At) (made : Option (Step × StepReply)) → is_spent s w ≡ false → slice_get w.players p ≡ Some at → chosen m s w.shown at ≡ made → P (stepped s w p at made)
       by_made at None unspent is choice = here
       by_made at (Some made) unspent is choice = kept at made unspent is choice
 
-      by_at : (o : Option At) → is_spent w ≡ false → slice_get w.players p ≡ o → P (turn_of m s w p o)
+      by_at : (o : Option At) → is_spent s w ≡ false → slice_get w.players p ≡ o → P (turn_of m s w p o)
       by_at None unspent is = here
       by_at (Some at) unspent is = by_made at (chosen m s w.shown at) unspent is refl
 
-      by_spent : (b : Bool) → is_spent w ≡ b → P (cond b w (turn_of m s w p (slice_get w.players p)))
+      by_spent : (b : Bool) → is_spent s w ≡ b → P (cond b w (turn_of m s w p (slice_get w.players p)))
       by_spent true spent = here
       by_spent false unspent = by_at (slice_get w.players p) unspent refl
 
-  module _ (P : World → Type 0) (kept : (w : World) (p : ℕ) (at : At) (made : Step × StepReply) → P w → is_spent w ≡ false → slice_get w.players p ≡ Some at →
+  module _ (P : World → Type 0) (kept : (w : World) (p : ℕ) (at : At) (made : Step × StepReply) → P w → is_spent s w ≡ false → slice_get w.players p ≡ Some at →
       chosen m s w.shown at ≡ Some made → P (stepped s w p at (Some made))) where
     pub turns-keep : (w : World) (n p : ℕ) → P w → P (turns m s w n p)
     turns-keep w zero p here = here
@@ -99,7 +99,7 @@ module _ (m : Machines) (s : Parts) where
       turns-keep P (λ v q at made here unspent is choice. omega (arith, steps-more v q at made is)) w n p (omega arith)
 
   -- a turn in which no step is made changes nothing, since its player can't go on
-  turn-still : (w : World) (p : ℕ) → is_spent w ≡ false → steps_of (turn m s w p) ≤ steps_of w →
+  turn-still : (w : World) (p : ℕ) → is_spent s w ≡ false → steps_of (turn m s w p) ≤ steps_of w →
       (turn m s w p ≡ w) × ((at : At) → slice_get w.players p ≡ Some at → chosen m s w.shown at ≡ None)
   turn-still w p unspent short = by_at (slice_get w.players p) refl (subst (λ (v : World). steps_of v ≤ steps_of w) opened short)
     where
@@ -120,7 +120,7 @@ module _ (m : Machines) (s : Parts) where
           let same = ap (turn_of m s w p) is in
           by_made at (chosen m s w.shown at) is refl (subst (λ (v : World). steps_of v ≤ steps_of w) same short) same
 
-  turns-still : (w : World) (n p : ℕ) → is_spent w ≡ false → turns m s w n p ≡ w → (q : ℕ) (at : At) → p ≤ q → q < p + n → slice_get w.players q ≡ Some at → chosen m s w.shown at ≡ None
+  turns-still : (w : World) (n p : ℕ) → is_spent s w ≡ false → turns m s w n p ≡ w → (q : ℕ) (at : At) → p ≤ q → q < p + n → slice_get w.players q ≡ Some at → chosen m s w.shown at ≡ None
   turns-still w zero p unspent same q at low high is = absurd (omega arith)
   turns-still w (suc n) p unspent same q at low high is =
       let long = turns-longer (turn m s w p) n (p + 1) in
@@ -135,5 +135,5 @@ module _ (m : Machines) (s : Parts) where
       by_place (inr above) mine others = others above
 
   -- where a round changes nothing and no player is spent, no player has a possible attempt
-  pub round-still : (w : World) → round m s w ≡ w → is_spent w ≡ false → (q : ℕ) (at : At) → q < length w.players → slice_get w.players q ≡ Some at → chosen m s w.shown at ≡ None
+  pub round-still : (w : World) → round m s w ≡ w → is_spent s w ≡ false → (q : ℕ) (at : At) → q < length w.players → slice_get w.players q ≡ Some at → chosen m s w.shown at ≡ None
   round-still w same unspent q at within is = turns-still w (length w.players) 0 unspent same q at (omega arith) (omega arith) is

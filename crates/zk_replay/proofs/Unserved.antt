@@ -81,7 +81,7 @@ module _ (m : Machines) (s : Parts) where
 
   whole-turns : (w : World) (n p : ℕ) → w.shown.looks ≡ None → (turns m s w n p).shown.looks ≡ None
   whole-turns w zero p whole = whole
-  whole-turns w (suc n) p whole = whole-turns (turn m s w p) n (p + 1) (whole-turn w p (is_spent w) whole)
+  whole-turns w (suc n) p whole = whole-turns (turn m s w p) n (p + 1) (whole-turn w p (is_spent s w) whole)
 
   whole-rounds : (w : World) (n : ℕ) → w.shown.looks ≡ None → (rounds m s n w).shown.looks ≡ None
   whole-rounds w zero whole = whole

@@ -31,7 +31,7 @@ HasOneRun =
 
 -- at the end of a run in which no player is spent, no player has a possible attempt
 abbrev pub NoneGoesOn : Type 0
-NoneGoesOn = (s : Parts) (w : World) → IsRun (machines_of s) s w → is_spent w ≡ false →
+NoneGoesOn = (s : Parts) (w : World) → IsRun (machines_of s) s w → is_spent s w ≡ false →
     (player : ℕ) (at : At) → slice_get w.players player ≡ Some at →
     chosen (machines_of s) s w.shown at ≡ None
 
@@ -82,5 +82,5 @@ pub record IsUnserved (s : Parts) (w : World) (at : At) : Type 0 where
 -- at the end of a run in which no player is spent, whoever waits does so since nobody has served it, and whoever polls
 -- since nothing that it polls has come
 abbrev pub NoneIsServed : Type 0
-NoneIsServed = (s : Parts) (w : World) → IsRun (machines_of s) s w → is_spent w ≡ false →
+NoneIsServed = (s : Parts) (w : World) → IsRun (machines_of s) s w → is_spent s w ≡ false →
     (player : ℕ) (at : At) → slice_get w.players player ≡ Some at → IsUnserved s w at

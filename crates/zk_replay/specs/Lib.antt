@@ -1,5 +1,3 @@
-pub mod Alone
-pub mod Objects
 pub mod RoundRobin
 pub mod Ready
 pub mod Turning
@@ -8,4 +6,3 @@ pub mod Ending
 pub mod Tending
 pub mod Laws
 pub mod Over
-pub mod Looks

@@ -1,7 +1,7 @@
 use Rattle.std.specs.Prelude.{◌≡◌, ℕ, ◌-◌, ◌≤◌, Some, None, List, length, slice_get, All}
 use Rattle.std.specs.List.{sum_by}
 use Rattle.zk_scenario.specs.Parts.{Parts}
-use Rattle.zk_worker.specs.declared.steps.TheConstants.{MOST_STEPS}
+use Rattle.zk_scenario.specs.Steps.{steps_of}
 use Rattle.zk_scenario.specs.Valid.{IsValid}
 use Rattle.zk_worker.specs.Places.{At}
 use Rattle.zk_worker.specs.Follows.{IsFollowing}
@@ -12,12 +12,12 @@ use Rattle.zk_worker.specs.Right.{LooksRight}
 use Rattle.zk_replay.specs.RoundRobin.{World}
 
 -- how many steps of the player are left
-abbrev pub left : At → ℕ
-left at = MOST_STEPS - length at.spots
+abbrev pub left : Parts → At → ℕ
+left s at = steps_of s - length at.spots
 
 -- how many steps of all players are left
-abbrev pub all_left : List At → ℕ
-all_left players = sum_by left players
+abbrev pub all_left : Parts → List At → ℕ
+all_left s players = sum_by (left s) players
 
 -- what holds of every world that a run comes to
 pub record IsReady (s : Parts) (w : World) : Type 0 where
@@ -28,7 +28,7 @@ pub record IsReady (s : Parts) (w : World) : Type 0 where
       ShowsLog w.shown at.who.number at.spots
   pub looks : (p : ℕ) (at : At) → slice_get w.players p ≡ Some at →
       LooksRight (machines_of s) w.shown at.spots
-  pub short : All (λ at. length at.spots ≤ MOST_STEPS) w.players
+  pub short : All (λ at. length at.spots ≤ steps_of s) w.players
   pub counted : entry_count w.shown ≤ sum_by (λ at. length at.spots) w.players
   pub whole : w.shown.looks ≡ None
   pub unlooked : w.shown.looked ≡ None

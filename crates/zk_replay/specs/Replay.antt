@@ -1,4 +1,4 @@
-use Rattle.std.specs.Prelude.{◌≡◌, Bool, ◌&&◌, if◌then◌else◌, List, length, map}
+use Rattle.std.specs.Prelude.{◌≡◌, Bool, ◌&&◌, if◌then◌else◌, List, map}
 use Rattle.std.specs.List.{list_all}
 use Rattle.zk_base.specs.Legal.{state_after}
 use Rattle.zk_scenario.specs.Parts.{Parts}
@@ -10,7 +10,7 @@ use Rattle.zk_trace.specs.declared.trace.Ending.{Ending}
 use Rattle.zk_trace.specs.declared.trace.Ending.TheVariants.{Ended, Stuck, Spent}
 use Rattle.zk_trace.specs.declared.trace.Trace.{Trace}
 use Rattle.zk_trace.specs.Ending.{none_waits}
-use Rattle.zk_trace.specs.Looked.{item_looks_of, signal_looks_of}
+use Rattle.zk_services.specs.Gathered.{gathered}
 use Rattle.zk_replay.specs.RoundRobin.{World, IsRun, is_spent}
 
 -- each thread is through its script or was ended by an oops, and each worker is between two runs
@@ -20,26 +20,13 @@ all_done players = list_all (λ at. is_done at.frames) players
 -- how a run ended: spent where a player has made all its steps, else ended where all are done and no admission waits
 abbrev pub ending_of : Parts → World → Ending
 ending_of s w =
-    if is_spent w then Spent else
+    if is_spent s w then Spent else
     if all_done w.players && none_waits (state_after work_machine (work_start_of s) w.shown.work)
     then Ended else Stuck
 
 -- the trace of a run that came to this world
 abbrev pub trace_of : Parts → World → Trace
-trace_of s w = record {
-  ending = ending_of s w;
-  work = w.shown.work;
-  clock = w.shown.clock;
-  table = w.shown.table;
-  sems = w.shown.sems;
-  msgqs = w.shown.msgqs;
-  signals = w.shown.signals;
-  chans = w.shown.chans;
-  observers = w.shown.observers;
-  item_looks = item_looks_of (map log_of w.players);
-  signal_looks = signal_looks_of (length w.shown.signals) (map log_of w.players);
-  logs = map log_of w.players;
-}
+trace_of s w = gathered (ending_of s w) w.shown (map (log_of s) w.players)
 
 -- the trace of the round robin run of a scenario
 abbrev pub IsReplay : Parts → Trace → Type 0

@@ -1,4 +1,4 @@
-use Rattle.std.specs.Prelude.{◌≡◌, ℕ, zero, suc, ◌+◌, Bool, if◌then◌else◌, Option, Some, None, option_to_list, List, [], ◌++◌, length, slice_get, slice_set}
+use Rattle.std.specs.Prelude.{◌≡◌, ℕ, zero, suc, ◌+◌, Bool, if◌then◌else◌, Option, Some, None, List, length, slice_get, slice_set}
 use Rattle.std.specs.List.{list_any}
 use Rattle.zk_scenario.specs.Parts.{Parts}
 use Rattle.zk_scenario.specs.Players.{players}
@@ -6,10 +6,11 @@ use Rattle.zk_worker.specs.declared.steps.Step.{Step}
 use Rattle.zk_worker.specs.declared.steps.StepReply.{StepReply}
 use Rattle.zk_worker.specs.Places.{At}
 use Rattle.zk_worker.specs.Choosing.{chosen}
-use Rattle.zk_worker.specs.Protocol.{after, start_at}
+use Rattle.zk_worker.specs.Protocol.{after}
 use Rattle.zk_worker.specs.Follows.{is_spent_at}
 use Rattle.zk_worker.specs.Machines.{Machines}
 use Rattle.zk_worker.specs.Shown.{Shown, nothing_shown, shown_after}
+use Rattle.zk_services.specs.Starts.{starts}
 
 -- all that a run has come to: what the services show, and where each player stands
 pub record World : Type 0 where
@@ -25,8 +26,8 @@ stepped s w player at (Some made) = record {
 }
 
 -- whether some player has made all its steps
-abbrev pub is_spent : World → Bool
-is_spent w = list_any is_spent_at w.players
+abbrev pub is_spent : Parts → World → Bool
+is_spent s w = list_any (is_spent_at s) w.players
 
 module _ (m : Machines) (s : Parts) where
   abbrev pub turn_of : World → ℕ → Option At → World
@@ -35,7 +36,7 @@ module _ (m : Machines) (s : Parts) where
 
   -- the world after a turn of a player: it makes the first of its attempts that is possible, unless the run is spent
   abbrev pub turn : World → ℕ → World
-  turn w player = if is_spent w then w else turn_of w player (slice_get w.players player)
+  turn w player = if is_spent s w then w else turn_of w player (slice_get w.players player)
 
   -- the world after a turn of each of so many players, from this one on
   abbrev pub turns : World → ℕ → ℕ → World
@@ -50,11 +51,6 @@ module _ (m : Machines) (s : Parts) where
   abbrev pub rounds : ℕ → World → World
   rounds zero w = w
   rounds (suc n) w = round (rounds n w)
-
--- the players with lower numbers, none of which has made a step
-abbrev pub starts : Parts → ℕ → List At
-starts s zero = []
-starts s (suc n) = starts s n ++ option_to_list (start_at s n)
 
 -- the world in which nothing was done
 abbrev pub first : Parts → World

@@ -53,27 +53,27 @@ pub record Turned (m : Machines) (s : Parts) (old new : World) (player : ℕ) (t
     : Type 0 where
   pub next : new ≡ turn m s old player
   pub ready : IsReady s new
-  pub spent : told.spent ≡ is_spent new
-  pub moved : told.moved ≡ true → all_left new.players < all_left old.players
+  pub spent : told.spent ≡ is_spent s new
+  pub moved : told.moved ≡ true → all_left s new.players < all_left s old.players
   pub still : told.moved ≡ false → new ≡ old
 
 -- how the run goes on after a round
-abbrev pub GoesOn : World → World → Course → Type 0
-GoesOn old new Still = (is_spent new ≡ false) × (new ≡ old)
-GoesOn old new Goes = (is_spent new ≡ false) × (all_left new.players < all_left old.players)
-GoesOn old new Spent = is_spent new ≡ true
+abbrev pub GoesOn : Parts → World → World → Course → Type 0
+GoesOn s old new Still = (is_spent s new ≡ false) × (new ≡ old)
+GoesOn s old new Goes = (is_spent s new ≡ false) × (all_left s new.players < all_left s old.players)
+GoesOn s old new Spent = is_spent s new ≡ true
 
 -- what a round leaves, and what is told of it
 pub record Rounded (m : Machines) (s : Parts) (old new : World) (course : Course) : Type 0 where
   pub next : new ≡ round m s old
   pub ready : IsReady s new
-  pub goes : GoesOn old new course
+  pub goes : GoesOn s old new course
 
 -- a round that has come to the player of this number, with so many turns left
 pub record WithinRound (m : Machines) (s : Parts) (old now : World) (moved : Bool)
     (turns_left player : ℕ) : Type 0 where
   pub rest : turns m s now turns_left player ≡ round m s old
   pub ready : IsReady s now
-  pub unspent : is_spent now ≡ false
-  pub less : moved ≡ true → all_left now.players < all_left old.players
+  pub unspent : is_spent s now ≡ false
+  pub less : moved ≡ true → all_left s now.players < all_left s old.players
   pub still : moved ≡ false → now ≡ old

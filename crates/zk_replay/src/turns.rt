@@ -55,16 +55,16 @@ fn play<V: Services>(
     requires log { ShowsLog (V.shown services.old) player.old.who.number player.old.spots }
     requires looks { LooksRight (V.machines services.old) (V.shown services.old) player.old.spots }
     requires short { AreShort (V.shown services.old) }
-    requires unspent { is_spent_at player.old ≡ false }
+    requires unspent { is_spent_at scenario.now player.old ≡ false }
     ensures turn { IfOk result (λ turn.
         IsTurn (V.machines services.old) scenario.now player.old player.new
         (V.shown services.old) (V.shown services.new) turn.moved) }
-    ensures spent { IfOk result (λ turn. turn.spent ≡ is_spent_at player.new) }
+    ensures spent { IfOk result (λ turn. turn.spent ≡ is_spent_at scenario.now player.new) }
     ensures alone { IsAlone scenario.now (V.alone services.new) (V.machines services.new) (V.serves services.new) }
 {
     let stepped = player.step(scenario, services)?;
     let moved = did(stepped);
-    let spent = player.is_spent();
+    let spent = player.is_spent(scenario);
     Ok(Turn { moved, spent })
 }
 
@@ -78,7 +78,7 @@ fn take_turn<V: Services>(
     requires valid { IsValid scenario.now }
     requires alone { IsAlone scenario.now (V.alone services.old) (V.machines services.old) (V.serves services.old) }
     requires ready { IsReady scenario.now (world (V.shown services.old) players.old.items) }
-    requires unspent { is_spent (world (V.shown services.old) players.old.items) ≡ false }
+    requires unspent { is_spent scenario.now (world (V.shown services.old) players.old.items) ≡ false }
     requires number { number < vec_len players.old }
     ensures turned { IfOk result (λ turn.
         Turned (machines_of scenario.now) scenario.now
@@ -100,7 +100,7 @@ fn play_round<V: Services>(
     requires valid { IsValid scenario.now }
     requires alone { IsAlone scenario.now (V.alone services.old) (V.machines services.old) (V.serves services.old) }
     requires ready { IsReady scenario.now (world (V.shown services.old) players.old.items) }
-    requires unspent { is_spent (world (V.shown services.old) players.old.items) ≡ false }
+    requires unspent { is_spent scenario.now (world (V.shown services.old) players.old.items) ≡ false }
     ensures rounded { IfOk result (λ course.
         Rounded (machines_of scenario.now) scenario.now
         (world (V.shown services.old) players.old.items)
@@ -127,7 +127,7 @@ pub fn play_rounds<V: Services>(
     requires valid { IsValid scenario.now }
     requires alone { IsAlone scenario.now (V.alone services.old) (V.machines services.old) (V.serves services.old) }
     requires ready { IsReady scenario.now (world (V.shown services.old) players.old.items) }
-    requires unspent { is_spent (world (V.shown services.old) players.old.items) ≡ false }
+    requires unspent { is_spent scenario.now (world (V.shown services.old) players.old.items) ≡ false }
     ensures ready { IfOk result (λ _. IsReady scenario.now (world (V.shown services.new) players.new.items)) }
     ensures rounds { IfOk result (λ _. (n : ℕ) × (world (V.shown services.new) players.new.items
         ≡ rounds (machines_of scenario.now) scenario.now n

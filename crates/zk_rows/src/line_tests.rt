@@ -1,6 +1,5 @@
 //! Lines, numbers and calls by themselves.
-use crate::reading_tests::{Part, text_of};
-use crate::signal_lines::POLL_INSIDE;
+use crate::reading_tests::text_of;
 use std::process::Abort;
 use std::test::Fail;
 use zk_line::{Call, Event, Events, MOST_EVENTS, Ref, said_of};
@@ -90,6 +89,10 @@ fn asked(event: &Event) -> &'static str {
     }
 }
 
+/// In a script, behind an object of each kind that a poll asks for.
+const POLL_INSIDE: &str =
+    "zk 1\nthread main 0 super\nitem i0\nsem s0 0 4\nmsgq m0 2 3\nsignal g0\nscript main\n";
+
 /// What the events of the poll below ask for.
 const EVENTS: [&str; 4] = [
     "the signal",
@@ -113,7 +116,7 @@ fn polls<R: Abort>(rt: &R, call: &Call) {
 fn calls_say_their_words(rt: HostRuntime) -> Result<(), Fail> {
     says(&rt, &Call::Drain(Ref::Known(3), true), Word::Drain, 2);
     let poll = "poll 7 sig:g0 ignore sem:s0 msgq:m0\nend\n";
-    let text = text_of(rt.alloc(), &[Part::Once(POLL_INSIDE), Part::Once(poll)])?;
+    let text = text_of(rt.alloc(), &[POLL_INSIDE, poll])?;
     let scenario = read_scenario(rt.alloc(), &text)?;
     for call in scenario.calls(0) {
         says(&rt, call, Word::Poll, 1);

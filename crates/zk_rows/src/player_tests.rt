@@ -1,5 +1,4 @@
 //! A player by hand: each step with the reply that it is given, and what the player answers.
-use crate::reading_tests::Part::Once;
 use crate::reading_tests::text_of;
 use std::alloc::Global;
 use std::process::Abort;
@@ -9,7 +8,7 @@ use zk_model_bus::{OopsWhy, TableReply};
 use zk_model_wait::ClockReply;
 use zk_model_work::{Submitted, WorkReply};
 use zk_scenario::{Scenario, read_scenario};
-use zk_worker::{Player, PlayerState, StepReply};
+use zk_worker::{Mode, Player, PlayerState, StepReply};
 
 const SCRIPT: &str = "zk 1\nthread t0 0 super\nqueue q0 0 on\nitem w0\nscript t0\n";
 
@@ -169,7 +168,7 @@ struct Thread {
 impl Thread {
     /// The thread that makes these calls, before its first step.
     fn new(alloc: Global, calls: &'static str) -> Result<Thread, Fail> {
-        let text = text_of(alloc, &[Once(SCRIPT), Once(calls)])?;
+        let text = text_of(alloc, &[SCRIPT, calls])?;
         let scenario = read_scenario(alloc, &text)?;
         if scenario.players() == 0 {
             return Err(Fail::from("no player"));
@@ -182,12 +181,14 @@ impl Thread {
     fn stands<R: Abort>(&self, rt: &R) {
         let player = &self.player;
         assert_eq!(rt; player.who().number, 0);
-        assert_eq!(rt; player.state(), PlayerState::Standing);
+        assert_eq!(rt; player.state(&self.scenario), PlayerState::Standing);
         assert_eq!(rt; player.steps(), 0);
         assert!(rt; player.spots().is_empty() && player.answers().is_empty());
         assert!(rt; player.ahead(&self.scenario, 0).is_some());
         assert!(rt; player.ahead(&self.scenario, 1).is_none());
-        assert!(rt; !player.is_done() && !player.is_through() && !player.is_spent());
+        assert!(rt; !player.is_done() && !player.is_through() && !player.is_spent(&self.scenario));
+        assert_eq!(rt; player.depth(), 1);
+        assert_eq!(rt; player.mode(), Mode::Supervisor);
     }
 
     /// Makes the next step, which is answered so: the step, and where it is recorded.
@@ -218,9 +219,10 @@ impl Thread {
 
     /// It makes no step more, stands so, and has so many steps and answers.
     fn ends<R: Abort>(self, rt: &R, state: PlayerState, steps: usize, answers: usize) {
-        let Thread { player, .. } = self;
+        let Thread { scenario, player } = self;
         assert!(rt; player.is_through());
-        let log = player.into_log();
+        assert_eq!(rt; player.depth(), 0);
+        let log = player.into_log(&scenario);
         assert_eq!(rt; log.state, state);
         assert_eq!(rt; log.steps.items().len(), steps);
         assert_eq!(rt; log.answers.items().len(), answers);

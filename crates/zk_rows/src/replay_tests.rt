@@ -1,8 +1,6 @@
 //! Runs by `replay` itself: how each ends, what it has, and what its first player did.
-use crate::reading_tests::Part::Once;
 use crate::reading_tests::text_of;
-use crate::run_tests::FRONT;
-use crate::work_rows::{ITS_TRACE, ONE_SUBMISSION};
+use crate::run_tests::{FRONT, ITS_TRACE, ONE_SUBMISSION};
 use std::alloc::Global;
 use std::process::Abort;
 use std::test::Fail;
@@ -119,13 +117,10 @@ fn runs_end_and_are_printed(rt: HostRuntime) -> Result<(), Fail> {
         let trace = replay(rt.alloc(), &scenario)?;
         shows(&rt, &trace, row);
     }
-    let text = text_of(rt.alloc(), &[Once(FRONT), Once(ONE_SUBMISSION)])?;
+    let text = text_of(rt.alloc(), &[FRONT, ONE_SUBMISSION])?;
     let scenario = read(rt.alloc(), &text)?;
     let told = printed(rt.alloc(), &scenario)?;
-    let wanted = text_of(
-        rt.alloc(),
-        &[Once(FRONT), Once(ONE_SUBMISSION), Once(ITS_TRACE)],
-    )?;
+    let wanted = text_of(rt.alloc(), &[FRONT, ONE_SUBMISSION, ITS_TRACE])?;
     assert!(rt; told.as_slice() == wanted.as_slice());
     Ok(())
 }

@@ -130,3 +130,12 @@ fn look_ups_answer_from_their_tables(rt: HostRuntime) -> Result<(), Fail> {
     }
     Ok(())
 }
+
+#[test]
+fn an_object_is_found_by_its_name(rt: HostRuntime) -> Result<(), Fail> {
+    let scenario = read(rt.alloc(), "zk 1\nthread t0 0 super\nsem s0 0 1\n")?;
+    assert_eq!(rt; scenario.find(b"t0"), Some(0));
+    assert_eq!(rt; scenario.find(b"s0"), Some(1));
+    assert_eq!(rt; scenario.find(b"s"), None);
+    Ok(())
+}

@@ -11,8 +11,8 @@ use Rattle.std.proofs.lemmas.List.Quantifiers.{position-Some}
 use Rattle.std.proofs.lemmas.List.Sums.{sum_by-append}
 use Rattle.std.proofs.lemmas.Option.{none-some, option_and_then_some, same_Some, slice_get_past, slice_get_within}
 use Rattle.zk_base.proofs.Lists.{none_from_is_some}
-use Rattle.zk_model_bus.specs.declared.kinds.Kind.{Kind}
-use Rattle.zk_model_bus.specs.declared.kinds.Need.TheVariants as need
+use Rattle.zk_base.specs.declared.kinds.Kind.{Kind}
+use Rattle.zk_base.specs.declared.kinds.Need.TheVariants as need
 use Rattle.zk_words.specs.declared.slot.Rest.TheVariants.{Nothing}
 use Rattle.zk_words.specs.declared.slot.Slot.TheVariants as slot
 use Rattle.zk_words.specs.declared.word.Word.{Word}
@@ -29,8 +29,8 @@ use Rattle.zk_line.specs.Calls.{call_of, word_of}
 use Rattle.zk_line.specs.Checks.{first_object, message_size, each_in_range, go_together, are_in_range, each_well_named, name_once, are_well_named, has_many_events, has_many_observers}
 use Rattle.zk_line.specs.Decls.{decl_of, permission_of}
 use Rattle.zk_line.specs.Fits.{call_fits, decl_fits, observers_fit, AreObserved}
-use Rattle.zk_line.specs.Objects.{object_of, is_at, is_user, is_item, is_listener, is_met, names, plays_script}
-use Rattle.zk_line.proofs.Fits.{call_fits-read, permission_fits-read, kind_of-read}
+use Rattle.zk_line.specs.Objects.{AreNames, object_of, is_at, is_user, is_item, is_listener, is_met, names, plays_script}
+use Rattle.zk_line.proofs.Fits.{call_fits-read, permission_fits-read, kind_of-read, new_name-read}
 use Rattle.zk_line.proofs.InRange.{decl_fits-read}
 use Rattle.zk_line.proofs.Inverse.{said_of-call_of}
 use Rattle.zk_line.proofs.Lists.{slice_get-append_left, slice_get-push, position-push}
@@ -48,6 +48,7 @@ use Rattle.zk_scenario.specs.Verdict.{has_begun, has_script, is_barred, is_mispl
 use Rattle.zk_scenario.specs.Written.{is_allowed, AreInOrder}
 use Rattle.zk_scenario.proofs.FreeLines.{calls_pass-push}
 use Rattle.zk_scenario.proofs.InOrder.{in_order-declared, in_order-permitted, is_at-within}
+use Rattle.zk_scenario.proofs.Named.{AreNames-push}
 use Rattle.zk_scenario.proofs.Room.{HasRoom, or_none, room-push}
 use Rattle.zk_scenario.proofs.ScriptTables.{script_of-push}
 
@@ -123,9 +124,9 @@ room-valid : (p : Parts) → IsValid p → HasRoom p.decls
 room-valid p valid = record { players = valid.players; queues = valid.queues; items = valid.items; sems = valid.sems; msgqs = valid.msgqs; signals = valid.signals; chans = valid.chans; observers = valid.observers }
 
 -- a scenario is valid, by what there is room for and what is said of its scripts
-IsValid-made : (p : Parts) → HasRoom p.decls → call_count p.scripts ≤ 4096 → list_all decl_fits p.decls ≡ true → AreObserved p.decls → AreInOrder p.decls p.written → list_all (script_fits p.decls) p.scripts ≡ true → list_all (script_stands p.decls) p.scripts ≡ true → OneEach p.scripts → IsValid p
-IsValid-made p room calls in_range observed in_order fit stand one_each =
-    record { players = room.players; queues = room.queues; items = room.items; sems = room.sems; msgqs = room.msgqs; signals = room.signals; chans = room.chans; observers = room.observers; calls = calls; in_range = in_range; observed = observed; in_order = in_order; fit = fit; stand = stand; one_each = one_each }
+IsValid-made : (p : Parts) → HasRoom p.decls → call_count p.scripts ≤ 4096 → AreNames p.decls → list_all decl_fits p.decls ≡ true → AreObserved p.decls → AreInOrder p.decls p.written → list_all (script_fits p.decls) p.scripts ≡ true → list_all (script_stands p.decls) p.scripts ≡ true → OneEach p.scripts → IsValid p
+IsValid-made p room calls named in_range observed in_order fit stand one_each =
+    record { players = room.players; queues = room.queues; items = room.items; sems = room.sems; msgqs = room.msgqs; signals = room.signals; chans = room.chans; observers = room.observers; calls = calls; named = named; in_range = in_range; observed = observed; in_order = in_order; fit = fit; stand = stand; one_each = one_each }
 
 -- the observers of each channel are declared before it, with one declaration more
 observed-push : (decls : List Decl) (d : Decl) → AreObserved decls → observers_fit decls d ≡ true → AreObserved (decls ++ d ∷ [])
@@ -140,12 +141,13 @@ observed-push decls d held fits n x e =
     (cases_order n (length decls))
 
 -- no script stands yet, so a declaration says nothing of one
-valid-declared : (r : Reading) (d : Decl) → IsValid (parts_of r) → has_begun r ≡ false → HasRoom (r.decls ++ d ∷ []) → decl_fits d ≡ true → observers_fit r.decls d ≡ true → IsValid (parts_of (declared r d))
-valid-declared r d valid first room fits observed =
+valid-declared : (r : Reading) (d : Decl) → IsValid (parts_of r) → has_begun r ≡ false → HasRoom (r.decls ++ d ∷ []) → AreNames (r.decls ++ d ∷ []) → decl_fits d ≡ true → observers_fit r.decls d ≡ true → IsValid (parts_of (declared r d))
+valid-declared r d valid first room names fits observed =
     let nothing = nothing_begun r first in
     let none : all_scripts r ≡ [] = ap (λ o. r.scripts ++ option_to_list o) nothing.1 ∙ append-nil r.scripts ∙ nothing.0 in
     IsValid-made (parts_of (declared r d)) room
     valid.calls
+    names
     (all-push decl_fits r.decls d ∙ and_from (list_all decl_fits r.decls) (decl_fits d) valid.in_range fits)
     (observed-push r.decls d valid.observed observed)
     (in_order-declared r.decls r.written d valid.in_order)
@@ -172,6 +174,7 @@ valid-begun r owner valid none thread fresh =
     let same = all_scripts-none r none in
     IsValid-made (parts_of (begun r s)) (room-valid (parts_of r) valid)
     (omega (arith, call_count-push r.scripts s, ap call_count same, valid.calls))
+    valid.named
     valid.in_range
     valid.observed
     valid.in_order
@@ -191,6 +194,7 @@ valid-called decls written ss s c valid fits stands few =
     let all_stand = calls_pass-push (call_stands decls s.owner) user s.calls c ∙ and_from (script_stands decls s) (call_stands decls s.owner (is_free decls s) c) standing.1 stands in
     IsValid-made (record { decls = decls; written = written; scripts = ss ++ with_call c s ∷ [] }) (room-valid (record { decls = decls; written = written; scripts = ss ++ s ∷ [] }) valid)
     (omega (arith, call_count-push ss s, call_count-push ss (with_call c s), length-append s.calls (c ∷ [])))
+    valid.named
     valid.in_range
     valid.observed
     valid.in_order
@@ -224,7 +228,8 @@ IsValid-declared r k parts d form p made valid =
     let room = room-push r.decls d (ap (is_full r.decls) (kind_of-read r.decls k parts d made) ∙ free) (room-valid (parts_of r) valid) in
     let fits = decl_fits-read r.decls k form.words d (sym (ap (are_in_range r.decls (head.Declare k)) form.placed) ∙ p.in_range) (sym (ap (are_well_named false r.decls) form.placed) ∙ p.well_named)
     (sym (ap (λ ps. option_and_then (decl_of k) (args_of r.decls ps)) form.placed) ∙ made) in
-    valid-declared r d valid p.placed room fits.0 fits.1
+    let new = new_name-read false r.decls k parts d (and_parts (each_well_named false r.decls parts) (name_once parts) p.well_named).0 made in
+    valid-declared r d valid p.placed room (AreNames-push r.decls d valid.named new.0 new.1) fits.0 fits.1
 
 -- a permission that is said isn't said before
 new_permission : (r : Reading) (parts : List Placed) (thread object : ℕ) → option_and_then permission_of (args_of r.decls parts) ≡ Some (thread, object) → option_map_or (is_said_before r head.Allow) (args_of r.decls parts) false ≡ false
@@ -246,6 +251,7 @@ IsValid-permitted r parts thread object form p made valid =
     let below = is_at-within (is_met need.Any) r.decls object fits.1 in
     IsValid-made (parts_of (permitted r thread object)) (room-valid (parts_of r) valid)
     valid.calls
+    valid.named
     valid.in_range
     valid.observed
     (in_order-permitted r.decls r.written thread object valid.in_order fits.0 below (new_permission r parts thread object made p.new))

@@ -2,11 +2,13 @@ pub mod AcceptedLines
 pub mod AlwaysSays
 pub mod FreeLines
 pub mod InOrder
+pub mod Named
 pub mod PairKeys
 pub mod ReadIsValid
 pub mod ReadText
 pub mod Room
 pub mod ScenarioLines
 pub mod ScriptTables
+pub mod Steps
 pub mod Valid
 pub mod Verdicts

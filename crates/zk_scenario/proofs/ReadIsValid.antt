@@ -53,7 +53,7 @@ valid-rest n r p piece (next ∷ more) e valid = by_result (read_line r piece) r
   by_result (Err reason) same here rest = absurd (cc)
 
 pub valid-start : IsValid (parts_of start)
-valid-start = record { players = omega arith; queues = omega arith; items = omega arith; sems = omega arith; msgqs = omega arith; signals = omega arith; chans = omega arith; observers = omega arith; calls = omega arith; in_range = refl; observed = λ object d e. absurd (cc); in_order = record { all = refl; each = λ n line e. absurd (cc) }; fit = refl; stand = refl; one_each = λ n script e. absurd (cc) }
+valid-start = record { players = omega arith; queues = omega arith; items = omega arith; sems = omega arith; msgqs = omega arith; signals = omega arith; chans = omega arith; observers = omega arith; calls = omega arith; named = record { formed = λ object d e. absurd (cc); distinct = λ object d e. absurd (cc) }; in_range = refl; observed = λ object d e. absurd (cc); in_order = record { all = refl; each = λ n line e. absurd (cc) }; fit = refl; stand = refl; one_each = λ n script e. absurd (cc) }
 
 valid-pieces : (p : Parts) (pieces : List (List ℕ)) → read_pieces pieces ≡ Ok p → IsValid p
 valid-pieces p [] e = absurd (cc)

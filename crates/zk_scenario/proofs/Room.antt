@@ -1,9 +1,9 @@
 -- How many declarations there may be, with one more where its kind isn't full.
 use Rattle.std.proofs.Common.{◌≡◌, ◌<◌, ◌≤◌, ℕ, Bool, true, false, cond, nat_le, ◌&&◌, ◌||◌, List, [], ◌∷◌, ◌++◌, count_by, refl, sym, ap, ◌∙◌, arith, inl, inr}
 use Rattle.std.proofs.lemmas.Bool.{leb-false, or_cases}
-use Rattle.zk_model_bus.specs.declared.kinds.Kind.{Kind}
-use Rattle.zk_model_bus.specs.declared.kinds.Kind.TheVariants as kind
-use Rattle.zk_model_bus.specs.Table.{same_kind}
+use Rattle.zk_base.specs.declared.kinds.Kind.{Kind}
+use Rattle.zk_base.specs.declared.kinds.Kind.TheVariants as kind
+use Rattle.zk_base.specs.Kinds.{same_kind}
 use Rattle.zk_words.specs.Kinds.{makes_player}
 use Rattle.zk_line.specs.declared.types.Decl.{Decl}
 use Rattle.zk_line.specs.Objects.{kind_of, counts_with, is_thread, is_queue, is_item, is_sem, is_msgq, is_signal, is_chan, is_observer, player_count}

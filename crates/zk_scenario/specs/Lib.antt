@@ -7,6 +7,7 @@ pub mod Reading
 pub mod Reasons
 pub mod Scripts
 pub mod Spelling
+pub mod Steps
 pub mod Valid
 pub mod Verdict
 pub mod Written

@@ -6,7 +6,7 @@ use Rattle.zk_line.specs.declared.types.Decl.{Decl}
 use Rattle.zk_line.specs.declared.types.Call.{Call}
 use Rattle.zk_line.specs.Calls.{word_of, is_user_call}
 use Rattle.zk_line.specs.Fits.{call_fits, decl_fits, AreObserved}
-use Rattle.zk_line.specs.Objects.{is_at, is_user, plays_script, is_queue, is_item, is_sem, is_msgq, is_signal, is_listener, is_chan, is_observer, player_count}
+use Rattle.zk_line.specs.Objects.{AreNames, is_at, is_user, plays_script, is_queue, is_item, is_sem, is_msgq, is_signal, is_listener, is_chan, is_observer, player_count}
 use Rattle.zk_scenario.specs.declared.types.Script.{Script}
 use Rattle.zk_scenario.specs.Parts.{Parts}
 use Rattle.zk_scenario.specs.Scripts.{script_of}
@@ -63,8 +63,9 @@ call_count scripts = sum_by (λ script. length script.calls) scripts
 abbrev pub OneEach : List Script → Type 0
 OneEach scripts = (n : ℕ) (script : Script) → slice_get scripts n ≡ Some script → script_of scripts script.owner ≡ Some n
 
--- within the limits, each declaration is in range, the observers of each channel are declared before it, the lines of
--- objects and permissions are in order, each script fits, its calls stand where they may, and each object has at most one
+-- within the limits, the declared names are well formed and differ, each declaration is in range, the observers of each
+-- channel are declared before it, the lines of objects and permissions are in order, each script fits, its calls stand
+-- where they may, and each object has at most one
 pub record IsValid (p : Parts) : Type 0 where
   pub players : player_count p.decls ≤ 64
   pub queues : count_by is_queue p.decls ≤ 8
@@ -75,6 +76,7 @@ pub record IsValid (p : Parts) : Type 0 where
   pub chans : count_by is_chan p.decls ≤ 16
   pub observers : count_by is_observer p.decls ≤ 32
   pub calls : call_count p.scripts ≤ 4096
+  pub named : AreNames p.decls
   pub in_range : list_all decl_fits p.decls ≡ true
   pub observed : AreObserved p.decls
   pub in_order : AreInOrder p.decls p.written

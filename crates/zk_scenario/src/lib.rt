@@ -14,7 +14,7 @@ mod types;
 pub use laws::tells_them_apart;
 pub use read::{LONGEST_SCENARIO, read_scenario};
 pub use refused::{ScenarioRefused, Why};
-pub use scenario::Scenario;
+pub use scenario::{MOST_STEPS, Scenario};
 pub use text::print_scenario;
 pub use types::Script;
 pub use zk_line::{Call, Decl, Declared, Event, Events, Ref, word_of};

@@ -1,8 +1,9 @@
-ghost use Rattle.std.specs.Prelude.{◌≡◌, ℕ, ◌++◌, length, slice_get};
+ghost use Rattle.std.specs.Prelude.{◌≡◌, ℕ, ◌≤◌, ◌++◌, length, slice_get};
 ghost use Rattle.zk_scenario.specs.Grammar.{IsReadable};
 ghost use Rattle.zk_scenario.specs.Parts.{Parts};
-ghost use Rattle.zk_line.specs.Objects.{is_thread, is_queue, is_item, is_sem, is_msgq, is_signal, is_chan, is_observer, places, number_of};
+ghost use Rattle.zk_line.specs.Objects.{is_thread, is_queue, is_item, is_sem, is_msgq, is_signal, is_chan, is_observer, places, number_of, object_of};
 ghost use Rattle.zk_scenario.specs.Players.{prio_of, players, who_of, calls_of};
+ghost use Rattle.zk_scenario.specs.Steps.{steps_of};
 ghost use Rattle.zk_scenario.specs.Valid.{IsValid};
 
 use crate::Script;
@@ -10,6 +11,9 @@ use crate::scripts::Scripts;
 use std::marker::Model;
 use zk_base::Who;
 use zk_line::{Call, Decl, Declared, Objects};
+
+/// The most steps that a player of any scenario may make.
+pub const MOST_STEPS: u32 = 20_000;
 
 /// A scenario: declarations, and scripts over them. There is none but what has a text in the grammar.
 ///
@@ -134,6 +138,13 @@ impl Scenario {
         self.objects.number(object)
     }
 
+    /// The object of a name. Names differ, so it is the only one of this name.
+    pub fn find(&self, name: &[u8]) -> Option<u32>
+        ensures { result ≡ object_of self.now.decls name.now }
+    {
+        self.objects.find(name)
+    }
+
     /// The calls of an object's script; what has no script has an empty one.
     pub fn calls(&self, owner: u32) -> &[Call]
         ensures { result.now ≡ calls_of self.now.scripts owner }
@@ -146,6 +157,14 @@ impl Scenario {
         ensures { result ≡ length (players self.now.decls) }
     {
         (self.objects.threads().len() + self.objects.queues().len()) as u32
+    }
+
+    /// How many steps each of its players may make. One that has made them makes no further one.
+    pub fn steps(&self) -> u32
+        ensures steps { result ≡ steps_of self.now }
+        ensures most { result ≤ MOST_STEPS }
+    {
+        MOST_STEPS
     }
 
     /// The player of a number.

@@ -3,6 +3,7 @@ ghost use Rattle.zk_model_wait.specs.Sem.{new_sem};
 ghost use Rattle.zk_sem.specs.Seen.{sem_start, sem_history};
 
 use std::alloc::Global;
+use std::snapshot::Snapshot;
 use zk_base::{Entry, Errno, NoMemory, PlainEngine, Recorded, Service, Who};
 use zk_model_wait::{SemOp, SemReply, SemState, SemStore};
 
@@ -26,8 +27,9 @@ impl Sem {
         if limit == 0 || limit < initial {
             return Err(Errno::Inval);
         }
-        let start = SemState::new(alloc, initial, limit);
-        let engine = PlainEngine::new(SemStore::new(alloc, initial, limit));
+        let state = SemState::new(alloc, initial, limit);
+        let start = Snapshot::of(&state);
+        let engine = PlainEngine::new(state.into_store());
         Ok(Sem {
             inner: Recorded::new(alloc, start, engine),
         })
@@ -64,6 +66,8 @@ impl Service for Sem {
 
     const WORDS: u32 = 0;
 
+    ghost touched = { λ s. s.inner.touched };
+
     fn act(&mut self, who: Who, step: u32, op: SemOp) -> Result<Option<SemReply>, NoMemory> {
         self.inner.act(who, step, op)
     }
@@ -74,6 +78,10 @@ impl Service for Sem {
 
     fn word(&self, index: u32) -> u32 {
         self.inner.word(index)
+    }
+
+    fn touched(&self) -> &[u32] {
+        self.inner.touched()
     }
 
     fn room(&self) -> u64 {

@@ -1,5 +1,6 @@
 use Rattle.std.specs.Prelude.{ℕ, Bool, nat_le, ◌&&◌}
+use Rattle.zk_base.specs.Limits.{most_held}
 
 -- a subscriber lists 1 to 256 channels
 abbrev pub is_capacity : ℕ → Bool
-is_capacity capacity = nat_le 1 capacity && nat_le capacity 256
+is_capacity capacity = nat_le 1 capacity && nat_le capacity most_held

@@ -4,6 +4,7 @@ ghost use Rattle.zk_subq.specs.Seen.{obs_start, obs_history};
 ghost use Rattle.zk_subq.specs.Sizes.{is_capacity};
 
 use std::alloc::Global;
+use std::snapshot::Snapshot;
 use zk_base::{Entry, NoMemory, PlainEngine, Recorded, Service, Who};
 use zk_model_bus::{ObsOp, ObsReply, ObsState, ObsStore};
 
@@ -19,8 +20,9 @@ impl Observer {
         ensures start { obs_start result ≡ new_obs None }
         ensures history { obs_history result ≡ [] }
     {
-        let start = ObsState::listener(alloc);
-        let engine = PlainEngine::new(ObsStore::listener(alloc));
+        let state = ObsState::listener(alloc);
+        let start = Snapshot::of(&state);
+        let engine = PlainEngine::new(state.into_store());
         Observer {
             inner: Recorded::new(alloc, start, engine),
         }
@@ -33,8 +35,9 @@ impl Observer {
         ensures start { IfOk result (λ observer. obs_start observer ≡ new_obs (Some capacity)) }
         ensures history { IfOk result (λ observer. obs_history observer ≡ []) }
     {
-        let start = ObsState::subscriber(alloc, capacity)?;
-        let engine = PlainEngine::new(ObsStore::subscriber(alloc, capacity)?);
+        let state = ObsState::subscriber(alloc, capacity)?;
+        let start = Snapshot::of(&state);
+        let engine = PlainEngine::new(state.into_store());
         Ok(Observer {
             inner: Recorded::new(alloc, start, engine),
         })
@@ -71,6 +74,8 @@ impl Service for Observer {
 
     const WORDS: u32 = 0;
 
+    ghost touched = { λ s. s.inner.touched };
+
     fn act(&mut self, who: Who, step: u32, op: ObsOp) -> Result<Option<ObsReply>, NoMemory> {
         self.inner.act(who, step, op)
     }
@@ -81,6 +86,10 @@ impl Service for Observer {
 
     fn word(&self, index: u32) -> u32 {
         self.inner.word(index)
+    }
+
+    fn touched(&self) -> &[u32] {
+        self.inner.touched()
     }
 
     fn room(&self) -> u64 {

@@ -3,6 +3,7 @@ ghost use Rattle.zk_model_wait.specs.Clock.{new_clock};
 ghost use Rattle.zk_time.specs.ClockSeen.{clock_start, clock_history};
 
 use std::alloc::Global;
+use std::snapshot::Snapshot;
 use zk_base::{Entry, NoMemory, PlainEngine, Recorded, Service, Who};
 use zk_model_wait::{ClockOp, ClockReply, ClockState, ClockStore};
 
@@ -18,8 +19,9 @@ impl Clock {
         ensures start { clock_start result ≡ new_clock }
         ensures history { clock_history result ≡ [] }
     {
-        let start = ClockState::new(alloc);
-        let engine = PlainEngine::new(ClockStore::new(alloc));
+        let state = ClockState::new(alloc);
+        let start = Snapshot::of(&state);
+        let engine = PlainEngine::new(state.into_store());
         Clock {
             inner: Recorded::new(alloc, start, engine),
         }
@@ -56,6 +58,8 @@ impl Service for Clock {
 
     const WORDS: u32 = 0;
 
+    ghost touched = { λ c. c.inner.touched };
+
     fn act(&mut self, who: Who, step: u32, op: ClockOp) -> Result<Option<ClockReply>, NoMemory> {
         self.inner.act(who, step, op)
     }
@@ -66,6 +70,10 @@ impl Service for Clock {
 
     fn word(&self, index: u32) -> u32 {
         self.inner.word(index)
+    }
+
+    fn touched(&self) -> &[u32] {
+        self.inner.touched()
     }
 
     fn room(&self) -> u64 {

@@ -9,12 +9,13 @@ use Rattle.zk_worker.specs.declared.log.PlayerState.{PlayerState}
 use Rattle.zk_worker.specs.declared.log.PlayerState.TheVariants as states
 use Rattle.zk_worker.specs.declared.log.Log.{Log}
 use Rattle.zk_worker.specs.Choosing.{chosen}
+use Rattle.zk_worker.specs.Follows.{IsFollowing, log_of}
+use Rattle.zk_worker.specs.Places.{At}
 use Rattle.zk_worker.specs.Machines.{work_start_of, machines_of}
 use Rattle.zk_trace.specs.declared.trace.Ending.{Ending}
 use Rattle.zk_trace.specs.declared.trace.Ending.TheVariants.{Ended, Stuck, Spent}
 use Rattle.zk_trace.specs.declared.trace.Trace.{Trace}
 use Rattle.zk_trace.specs.Shown.{trace_shown}
-use Rattle.zk_trace.specs.Log.{AreLogged}
 
 -- whether a player has made all its steps
 abbrev pub is_spent_state : PlayerState → Bool
@@ -40,10 +41,10 @@ lawful_ending s t =
     then Ended else Stuck
 
 -- a trace ends where its logs and its history of work end
-pub record EndsSo (s : Parts) (t : Trace) (log : AreLogged s t) : Type 0 where
+pub record EndsSo (s : Parts) (t : Trace) : Type 0 where
   -- its ending is what they say
   pub ends : t.ending ≡ lawful_ending s t
-  -- and unless a player is spent, none has a possible attempt where its log ends
-  pub halts : (t.ending ≡ Spent → ⊥) →
-      (number : ℕ) (of_player : Log) (there : slice_get t.logs number ≡ Some of_player) →
-      chosen (machines_of s) s (trace_shown t) (log.follow number of_player there).end ≡ None
+  -- and unless a player is spent, none has a possible attempt at a place that its log leads to
+  pub halts : (t.ending ≡ Spent → ⊥) → (number : ℕ) (log : Log) → slice_get t.logs number ≡ Some log →
+      (end : At) → IsFollowing s number (trace_shown t) end → log_of s end ≡ log →
+      chosen (machines_of s) s (trace_shown t) end ≡ None

@@ -9,7 +9,7 @@ use Rattle.zk_trace.specs.Ending.{EndsSo}
 -- a trace is lawful for a scenario
 pub record IsLawful (s : Parts) (t : Trace) : Type 0 where
   -- each step stands in one entry or look
-  pub place : IsPlaced t
+  pub place : IsPlaced s t
   -- the histories are those of the services
   pub history : AreLegal s t
   -- the logs are those of the players
@@ -17,4 +17,4 @@ pub record IsLawful (s : Parts) (t : Trace) : Type 0 where
   -- what its players found when they looked is right, and none of it older than what they had seen
   pub look : AreRight s t
   -- it ends as these say, where these end
-  pub ending : EndsSo s t log
+  pub ending : EndsSo s t

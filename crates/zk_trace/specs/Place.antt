@@ -1,5 +1,6 @@
 use Rattle.std.specs.Prelude.{◌≡◌, ℕ, ◌≤◌, false, Some, length, slice_get, option_and_then}
-use Rattle.zk_worker.specs.declared.steps.TheConstants.{MOST_STEPS}
+use Rattle.zk_scenario.specs.Parts.{Parts}
+use Rattle.zk_scenario.specs.Steps.{steps_of}
 use Rattle.zk_worker.specs.declared.steps.Spot.{Spot}
 use Rattle.zk_worker.specs.declared.log.Log.{Log}
 use Rattle.zk_worker.specs.Shown.{shown_at, is_look}
@@ -8,10 +9,10 @@ use Rattle.zk_trace.specs.Looked.{item_looks_of, signal_looks_of}
 use Rattle.zk_trace.specs.Shown.{trace_shown}
 
 -- each step of each player stands in exactly one entry or look
-pub record IsPlaced (t : Trace) : Type 0 where
+pub record IsPlaced (s : Parts) (t : Trace) : Type 0 where
   -- no player makes more steps than it may
   pub short : (number : ℕ) (log : Log) → slice_get t.logs number ≡ Some log →
-      length log.steps ≤ MOST_STEPS
+      length log.steps ≤ steps_of s
   -- the entry that a log names for a step is of that player and that step
   pub stands : (number step : ℕ) (spot : Spot) (log : Log) → slice_get t.logs number ≡ Some log →
       slice_get log.steps step ≡ Some spot → is_look spot ≡ false →

@@ -4,8 +4,8 @@ use Rattle.std.specs.List.{flat_map}
 use Rattle.std.specs.Int.RustNames.{bit_and}
 use Rattle.zk_base.specs.declared.errors.Errno.{Errno}
 use Rattle.zk_base.specs.declared.errors.Errno.TheVariants.{Busy, Again, Inval, NoDev, NoMsg, Already, Fault}
-use Rattle.zk_model_bus.specs.declared.kinds.Need.{Need}
-use Rattle.zk_model_bus.specs.declared.kinds.Need.TheVariants as needs
+use Rattle.zk_base.specs.declared.kinds.Need.{Need}
+use Rattle.zk_base.specs.declared.kinds.Need.TheVariants as needs
 use Rattle.zk_model_bus.specs.declared.table.OopsWhy.{OopsWhy}
 use Rattle.zk_model_bus.specs.declared.table.OopsWhy.TheVariants.{NoObject, WrongKind, NotGranted, NotInit}
 use Rattle.zk_words.specs.declared.word.Word.{Word}

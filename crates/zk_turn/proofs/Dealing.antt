@@ -14,7 +14,7 @@ use Rattle.zk_base.specs.declared.ids.Entry.{Entry}
 use Rattle.zk_turn.specs.declared.views.View.{View}
 use Rattle.zk_turn.specs.declared.pass.Pass.{Pass}
 use Rattle.zk_turn.specs.declared.cell.Cell.{Cell}
-use Rattle.zk_turn.specs.Players.{has, is_by, Differ}
+use Rattle.zk_turn.specs.Players.{has, is_by, Differ, room_of_a_pass}
 use Rattle.zk_turn.specs.Views.{opened, dealt_from, dealt}
 use Rattle.zk_turn.specs.Turn.{HoldsTurn, SeatStands, AreApart, IsCovered, player_count, tickets_of, made_of, Turn}
 use Rattle.zk_turn.specs.Passes.{IsNewPass, AreNewPasses, given_to}
@@ -168,12 +168,12 @@ module _ {S O R T : Type 0} (legal : T → List (Entry O R) → Type 0) (start :
   -- the pass of that seat
   pub dealt_pass : (w : Who) (ws : List Who) (seat : Seat (Option S) (View O R T)) → legal (start (given_to c)) [] →
       seat.table_id ≡ c.table.shared.table_id → seat.me ≡ (dealt (opened (start (given_to c)) (w ∷ ws)), []) →
-      IsNewPass legal start c w record { seat = seat; who = w; room = 20000; front = 0 }
+      IsNewPass legal start c w record { seat = seat; who = w; room = room_of_a_pass; front = 0 }
   dealt_pass w ws seat lawful table knows =
       let new : IsNewPass legal start c w record {
         seat = knowing seat (dealt (opened (start (given_to c)) (w ∷ ws)), []);
         who = w;
-        room = 20000;
+        room = room_of_a_pass;
         front = 0;
       } = record {
         of_cell = record {
@@ -195,7 +195,7 @@ module _ {S O R T : Type 0} (legal : T → List (Entry O R) → Type 0) (start :
       subst (λ (k : Me (Option S) (View O R T)). IsNewPass legal start c w record {
         seat = knowing seat k;
         who = w;
-        room = 20000;
+        room = room_of_a_pass;
         front = 0;
       }) (sym knows) new
 

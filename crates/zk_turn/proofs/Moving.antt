@@ -15,7 +15,7 @@ use Rattle.zk_base.specs.declared.ids.Entry.{Entry}
 use Rattle.zk_turn.specs.declared.views.Stage.{Stage}
 use Rattle.zk_turn.specs.declared.views.Stage.TheVariants.{Idle, Waiting, Holding}
 use Rattle.zk_turn.specs.declared.views.View.{View}
-use Rattle.zk_turn.specs.Players.{has, is_by, most_entries}
+use Rattle.zk_turn.specs.Players.{has, is_by, room_of_a_pass}
 use Rattle.zk_turn.specs.Turn.{ticket_count, HasTicket, HoldsTurn, TicketStands, SeatStands, AreApart, IsCovered, NoneHolds, SomeHolds, player_count, tickets_of, made_of, IsHome, Turn}
 use Rattle.zk_turn.proofs.Seats.{at-same, at-set_there, sum-set, sum-times, AllApart, AllApart-set}
 
@@ -162,9 +162,9 @@ module _ {S O R T : Type 0} (legal : T → List (Entry O R) → Type 0) (fits : 
 
   -- and the entries no more than all may add
   pub short_history : (origin : T) (count : ℕ) (s : State (Option S) (View O R T)) (r : Turn legal fits origin count s) →
-      length r.history ≤ most_entries * 256
+      length r.history ≤ room_of_a_pass * 256
   short_history origin count s r =
-      let most = sum-times most_entries made_of player_count s.views (λ j u there. (r.each j u there).room) in
+      let most = sum-times room_of_a_pass made_of player_count s.views (λ j u there. (r.each j u there).room) in
       let made = r.made in let all = r.players in let few = r.few in omega arith
 
   -- while one has the ticket served, no other holds the turn or has that ticket

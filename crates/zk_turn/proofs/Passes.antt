@@ -14,7 +14,7 @@ use Rattle.zk_turn.specs.declared.views.View.{View}
 use Rattle.zk_turn.specs.declared.pass.Pass.{Pass}
 use Rattle.zk_turn.specs.declared.held.Held.{Held}
 use Rattle.zk_turn.specs.declared.cell.Cell.{Cell}
-use Rattle.zk_turn.specs.Players.{is_by, most_entries}
+use Rattle.zk_turn.specs.Players.{is_by, room_of_a_pass}
 use Rattle.zk_turn.specs.Views.{staged, holding, with_entry, joined}
 use Rattle.zk_turn.specs.Steps.{Fits, out_with}
 use Rattle.zk_turn.specs.Passes.{HasAdded, added_count, IsPassOf, IsHeld, IsHeldOf, IsReady, MayPass, IsPublished, given_to}
@@ -88,7 +88,7 @@ module _ {S O R T : Type 0} where
       (drawn t : ℕ) (history : List (Entry O R)) → IsPassOf legal start c p → 0 < p.room →
       seat.table_id ≡ p.seat.table_id → seat.me ≡ in_turn p.seat.me.0 drawn t history →
       ((o : T) → p.seat.me.0.start ≡ Some o → Fits start history_of x o history × legal o history) →
-      length history ≤ most_entries * 256 → x ≡ y →
+      length history ≤ room_of_a_pass * 256 → x ≡ y →
       IsHeldOf legal start history_of c record { seat = seat; service = y; who = p.who; room = p.room; added = false }
   held_now legal start history_of c p seat x y drawn t history of_cell some table knows told short same =
       let v = p.seat.me.0 in
@@ -240,10 +240,6 @@ module _ {S O R T : Type 0} where
       m ≡ free added v h → m.0.players ≡ v.players
   free-players added v h m is = ap (λ (k : Me (Option S) (View O R T)). k.0.players) is
       ∙ left-keeps (λ u. u.players) added v h refl
-
-  pub free-holds : (added : Bool) (v : View O R T) (h : List (Entry O R)) (m : Me (Option S) (View O R T)) →
-      m ≡ free added v h → m.0.holds ≡ v.holds
-  free-holds added v h m is = ap (λ (k : Me (Option S) (View O R T)). k.0.holds) is ∙ left-keeps (λ u. u.holds) added v h refl
 
   -- the joined pass
   pub joined_now : (legal : T → List (Entry O R) → Type 0) (start : S → T) (c : Cell S O R T) (p q : Pass S O R T)

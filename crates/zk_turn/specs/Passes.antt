@@ -8,7 +8,7 @@ use Rattle.zk_turn.specs.declared.views.View.{View}
 use Rattle.zk_turn.specs.declared.pass.Pass.{Pass}
 use Rattle.zk_turn.specs.declared.held.Held.{Held}
 use Rattle.zk_turn.specs.declared.cell.Cell.{Cell}
-use Rattle.zk_turn.specs.Players.{is_by, own, most_entries}
+use Rattle.zk_turn.specs.Players.{is_by, own, room_of_a_pass}
 use Rattle.zk_turn.specs.Views.{with_entry}
 use Rattle.zk_turn.specs.Steps.{out_with}
 
@@ -80,7 +80,7 @@ module _ {S O R T : Type 0} where
     pub idle : p.seat.me.0.stage ≡ Idle
     pub slots : p.seat.me.1 ≡ []
     pub first : (others : List Who) × (p.seat.me.0.players ≡ p.who ∷ others)
-    pub room : p.room + p.seat.me.0.made ≤ most_entries * length p.seat.me.0.players
+    pub room : p.room + p.seat.me.0.made ≤ room_of_a_pass * length p.seat.me.0.players
     pub start : p.seat.me.0.start ≡ Some (start_of (given_to c))
     pub front : p.front ≡ length p.seat.me.0.seen
     pub lawful : legal (start_of (given_to c)) p.seat.me.0.seen
@@ -91,12 +91,12 @@ module _ {S O R T : Type 0} where
     pub holds : (ticket : ℕ) × (h.seat.me.0.stage ≡ Holding ticket)
     pub slots : h.seat.me.1 ≡ (0, None) ∷ []
     pub first : (others : List Who) × (h.seat.me.0.players ≡ h.who ∷ others)
-    pub room : h.room + added_count h.added + h.seat.me.0.made ≤ most_entries * length h.seat.me.0.players
+    pub room : h.room + added_count h.added + h.seat.me.0.made ≤ room_of_a_pass * length h.seat.me.0.players
     pub some_room : h.added ≡ false → 0 < h.room
     pub start : h.seat.me.0.start ≡ Some (start_of h.service)
     pub added : HasAdded h.added h.seat.me.0.players h.seat.me.0.seen (history_of h.service)
     pub lawful : legal (start_of h.service) (history_of h.service)
-    pub short : length h.seat.me.0.seen ≤ most_entries * 256
+    pub short : length h.seat.me.0.seen ≤ room_of_a_pass * 256
 
   -- it is a turn of this cell
   pub record IsHeldOf (legal : T → List (Entry O R) → Type 0) (start_of : S → T)
@@ -138,7 +138,7 @@ module _ {S O R T : Type 0} where
     pub longer : history_of service ≡ m.0.seen ++ entry ∷ []
     pub lawful : (start : T) → m.0.start ≡ Some start → legal start (history_of service)
     pub mine : is_by m.0.players entry ≡ true
-    pub room : m.0.made + 1 ≤ most_entries * length m.0.players
+    pub room : m.0.made + 1 ≤ room_of_a_pass * length m.0.players
 
   -- the seat has the service out whose history it has seen, and may give it back
   pub record MayPass (fits : S → T → List (Entry O R) → Type 0) (m : Me (Option S) (View O R T)) : Type 0 where
@@ -161,7 +161,7 @@ module _ {S O R T : Type 0} where
     pub players : p.seat.me.0.players ≡ w ∷ []
     pub seen : p.seat.me.0.seen ≡ []
     pub holds : p.seat.me.0.holds ≡ 0
-    pub room : p.room ≡ most_entries
+    pub room : p.room ≡ room_of_a_pass
 
   -- one new pass for each player, in order
   abbrev pub AreNewPasses : (T → List (Entry O R) → Type 0) → (S → T) → Cell S O R T → List Who → List (Pass S O R T) → Type 0

@@ -24,8 +24,8 @@ first_alone [] = []
 first_alone (who ∷ others) = who ∷ []
 
 -- the most entries that one player may add
-abbrev pub most_entries : ℕ
-most_entries = 20000
+abbrev pub room_of_a_pass : ℕ
+room_of_a_pass = 20000
 
 -- the longer of two lists, and the first where they are as long
 abbrev pub longer : {A : Type 0} → List A → List A → List A

@@ -4,7 +4,7 @@ use Rattle.atomic_table.specs.Table.{Me, Step, rest}
 use Rattle.zk_base.specs.declared.ids.Entry.{Entry}
 use Rattle.zk_turn.specs.declared.views.Stage.TheVariants.{Idle, Waiting}
 use Rattle.zk_turn.specs.declared.views.View.{View}
-use Rattle.zk_turn.specs.Players.{GoesOn, most_entries}
+use Rattle.zk_turn.specs.Players.{GoesOn, room_of_a_pass}
 use Rattle.zk_turn.specs.Views.{staged, holding, with_entry}
 use Rattle.zk_turn.specs.Turn.{Continues}
 
@@ -25,7 +25,7 @@ module _ {S O R T : Type 0} (legal : T → List (Entry O R) → Type 0) (fits : 
     pub now : new ≡ (holding old.0 ticket history, (0, Some service) ∷ old.1)
     pub fit : (start : T) → old.0.start ≡ Some start → fits service start history × legal start history
     pub goes_on : GoesOn old.0.players old.0.seen history
-    pub short : length history ≤ most_entries * 256
+    pub short : length history ≤ room_of_a_pass * 256
 
   -- await: where the word shows the ticket the turn has come and the service was taken, else nothing changed
   pub record Came (ticket : ℕ) (old : Me (Option S) (View O R T)) (found : ℕ) (new : Me (Option S) (View O R T)) : Type 0 where

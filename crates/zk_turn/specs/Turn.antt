@@ -9,7 +9,7 @@ use Rattle.zk_turn.specs.declared.views.Stage.{Stage}
 use Rattle.zk_turn.specs.declared.views.Stage.TheVariants.{Idle, Waiting, Holding}
 use Rattle.zk_turn.specs.declared.views.Part.{Part}
 use Rattle.zk_turn.specs.declared.views.View.{View}
-use Rattle.zk_turn.specs.Players.{has, is_by, GoesOn, most_entries}
+use Rattle.zk_turn.specs.Players.{has, is_by, GoesOn, room_of_a_pass}
 
 -- how many tickets a seat at this stage has
 abbrev pub ticket_count : Stage → ℕ
@@ -48,7 +48,7 @@ module _ {O R T : Type 0} where
     -- of its players the history has just what it has seen
     pub seen : GoesOn v.players v.seen history
     pub ticket : TicketStands history served drawn v.seen v.stage
-    pub room : v.made ≤ most_entries * length v.players
+    pub room : v.made ≤ room_of_a_pass * length v.players
     -- who has a ticket stands for a player
     pub player : ticket_count v.stage ≤ length v.players
     pub parts : Continues v.parts v.seen

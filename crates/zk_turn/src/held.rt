@@ -1,6 +1,7 @@
 ghost use Rattle.std.specs.Prelude.{◌≡◌, ◌+◌, ◌≤◌, ◌<◌, true, false, [], ◌∷◌, length, IsOk, IfOk, OnErr};
 ghost use Rattle.zk_base.specs.History.{IsAbove, AddsNone, extended};
 ghost use Rattle.zk_base.specs.Legal.{IsLegal, state_after};
+ghost use Rattle.zk_base.specs.Touched.{LeavesOthers};
 ghost use Rattle.zk_turn.specs.Passes.{IsHeld, IsSameTurn, Spends, service_of, held_players, held_who, has_added};
 
 use crate::views::View;
@@ -39,6 +40,9 @@ impl<S: Service> Held<S> {
             extended (S.history (service_of self.old)) (held_who self.old) step op reply) }
         ensures err { OnErr result (S.history (service_of self.new) ≡ S.history (service_of self.old)) }
         ensures start { S.start (service_of self.new) ≡ S.start (service_of self.old) }
+        ensures touched { LeavesOthers S.WORDS (S.touched (service_of self.new))
+            (S.word (state_after S.machine (S.start (service_of self.old)) (S.history (service_of self.old))))
+            (S.word (state_after S.machine (S.start (service_of self.new)) (S.history (service_of self.new)))) }
 
         // Memory, as `Service::act` says.
         ensures closing { S.closes (state_after S.machine (S.start (service_of self.old)) (S.history (service_of self.old)))

@@ -15,7 +15,7 @@ use std::snapshot::Snapshot;
 use zk_base::{NoMemory, Service, Who, push_within};
 
 // The entries that one player may add, so that a history stays far below 2^32.
-const MOST_ENTRIES: u64 = 20_000;
+const ROOM_OF_A_PASS: u64 = 20_000;
 
 impl<S: Service> Cell<S> {
     /// A cell for this service, and one pass for each player, in order.
@@ -84,7 +84,7 @@ impl<S: Service> Cell<S> {
         Pass {
             seat: dealt,
             who,
-            room: MOST_ENTRIES,
+            room: ROOM_OF_A_PASS,
             front: 0,
         }
     }

@@ -4,6 +4,7 @@ ghost use Rattle.zk_base.specs.declared.ids.Who.{Who};
 ghost use Rattle.zk_base.specs.Legal.{IsLegal};
 ghost use Rattle.zk_turn.specs.Passes.{AreNewPasses, IsNewPass};
 
+use std::snapshot::Snapshot;
 use std::test::Fail;
 use zk_base::{Engine, NoMemory, Recorded, Service, Who};
 use zk_turn::{Cell, Pass};
@@ -21,7 +22,7 @@ impl Engine for Tally {
 
     type State = u64;
 
-    ghost use Rattle.std.specs.Prelude.{◌≡◌, false};
+    ghost use Rattle.std.specs.Prelude.{◌≡◌, false, []};
     ghost use Rattle.zk_uses.specs.Tally.{tally_machine, tally_closes};
 
     ghost stands_for = { λ tally count. tally.count ≡ count };
@@ -45,6 +46,8 @@ impl Engine for Tally {
 
     const WORDS: u32 = 0;
 
+    ghost touched = { λ tally. [] };
+
     fn step(&mut self, _who: Who, _op: &u8) -> Result<Option<(u64, u64)>, NoMemory> {
         let count = self.count;
         self.count += 1;
@@ -61,6 +64,10 @@ impl Engine for Tally {
 
     fn word(&self, _index: u32) -> u32 {
         0
+    }
+
+    fn touched(&self) -> &[u32] {
+        &[]
     }
 
     fn reserve(&mut self) -> Result<(), NoMemory> {
@@ -89,7 +96,7 @@ fn only<S: Service>(cell: &Cell<S>, who: Who, mut passes: Vec<Pass<S>>) -> Pass<
 
 #[test]
 fn a_turn_adds_an_entry(rt: HostRuntime) -> Result<(), Fail> {
-    let service = Recorded::new(rt.alloc(), 0u64, Tally { count: 0 });
+    let service = Recorded::new(rt.alloc(), Snapshot::of(&0u64), Tally { count: 0 });
     let (cell, passes) = Cell::new(rt.alloc(), service, &[PLAYER])?;
     let pass = only(&cell, PLAYER, passes);
     assert_eq!(rt; pass.room(), 20_000);
@@ -120,7 +127,7 @@ fn a_turn_adds_an_entry(rt: HostRuntime) -> Result<(), Fail> {
 
 #[test]
 fn a_call_has_a_turn_of_its_own(rt: HostRuntime) -> Result<(), Fail> {
-    let service = Recorded::new(rt.alloc(), 0u64, Tally { count: 0 });
+    let service = Recorded::new(rt.alloc(), Snapshot::of(&0u64), Tally { count: 0 });
     let (cell, passes) = Cell::new(rt.alloc(), service, &[PLAYER])?;
     let pass = only(&cell, PLAYER, passes);
     let (pass, answer) = cell.call(&rt, pass, 0, 0);

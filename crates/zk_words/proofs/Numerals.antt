@@ -1,14 +1,14 @@
 -- A number or a priority has one spelling, and its text is read as itself.
-use Rattle.std.proofs.Common.{◌≡◌, ℕ, nat_lt, ◌&&◌, ◌^◌, ◌<◌, zero, suc, true, ◌||◌, not, cond, eqb, leb, List, [], ◌∷◌, length, Option, Some, None, refl, sym, ap, subst, inl, inr, ◌∙◌, arith, rules}
+use Rattle.std.proofs.Common.{◌≡◌, ℕ, nat_lt, ◌&&◌, ◌^◌, ◌<◌, zero, suc, true, ◌||◌, not, cond, eqb, leb, List, [], ◌∷◌, length, get_or, Option, Some, None, refl, sym, ap, subst, inl, inr, ◌∙◌, arith, rules}
 use Rattle.std.specs.Prelude.{ℤ, pos, negsuc, IsSome, unwrap_or, option_map}
 use Rattle.std.specs.Char.{is_ascii_digit}
 use Rattle.std.specs.Fmt.{decimal, signed_decimal}
 use Rattle.std.specs.List.{list_all}
 use Rattle.std.specs.Str.Parse.{digits_value}
-use Rattle.std.proofs.lemmas.Bool.{and_parts, or_cases, not-true, eqb-true, eqb-false, leb-true, ltb-true, cases_Bool, cond-true, cond-false, ne_eqb}
+use Rattle.std.proofs.lemmas.Bool.{and_parts, or_cases, not-true, eqb-true, eqb-false, leb-true, ltb-true, cases_Bool, cond-true, cond-false, ne_eqb, and_from, or_left}
 use Rattle.std.proofs.lemmas.Option.{cond_some, option_and_then_some, same_Some}
 use Rattle.std.proofs.lemmas.Int.{ints}
-use Rattle.std.proofs.lemmas.Fmt.{decimal-digits_value}
+use Rattle.std.proofs.lemmas.Fmt.{decimal-digits_value, decimal_digit, digits_decimal, digits_value-decimal, first_decimal}
 use Rattle.std.proofs.lemmas.Str.Parse.{IsNumeralModel, numerals_by_value}
 use Rattle.zk_words.specs.Numbers.{IsPriority, is_number, number_of, is_between, number_in, priority_of, priority_above, priority_below}
 
@@ -32,6 +32,22 @@ number_spelled (b ∷ bs) n said small =
     let parts = and_parts (list_all is_ascii_digit (b ∷ bs)) (not (eqb b 48) || eqb (length bs) 0) spelled.0 in
     let fits : digits_value 10 (b ∷ bs) < 2 ^ 64 = subst (λ (v : ℕ). v < 2 ^ 64) (sym spelled.1) small in
     sym (decimal-digits_value numerals (b ∷ bs) parts.0 (omega arith) (leading b bs parts.1) fits) ∙ ap decimal spelled.1
+
+-- digits that don't begin with a zero spell their value
+number_of-digits : (ds : List ℕ) → list_all is_ascii_digit ds ≡ true → 48 < get_or ds 0 0 →
+    number_of ds ≡ Some (digits_value 10 ds)
+number_of-digits [] digits first = absurd (omega arith)
+number_of-digits (b ∷ bs) digits first =
+    let alone = or_left (not (eqb b 48)) (eqb (length bs) 0) (ap not (ne_eqb b 48 (λ zero_first. absurd (omega arith)))) in
+    cond-true (is_number (b ∷ bs)) (Some (digits_value 10 (b ∷ bs))) None
+    (and_from (list_all is_ascii_digit (b ∷ bs)) (not (eqb b 48) || eqb (length bs) 0) digits alone)
+
+-- the text of a number of 64 bits spells the number
+pub number_of-decimal : (n : ℕ) → n < 2 ^ 64 → number_of (decimal n) ≡ Some n
+number_of-decimal zero small = ap number_of (decimal_digit 0 (omega arith))
+number_of-decimal (suc n) small =
+    number_of-digits (decimal (suc n)) (digits_decimal numerals (suc n) small) (first_decimal (suc n) (omega arith) small)
+    ∙ ap Some (digits_value-decimal numerals (suc n) small)
 
 -- a word that spells a number in a range is the number's text
 pub number_in_spelled : (least most : ℕ) (word : List ℕ) (n : ℕ) → number_in least most word ≡ Some n → (word ≡ decimal n) × (is_between least most n ≡ true)

@@ -6,8 +6,8 @@ use Rattle.std.specs.Cmp.Lexicographic.{bytes_decides}
 use Rattle.std.proofs.lemmas.Bool.{and_parts}
 use Rattle.std.proofs.lemmas.List.{take-append-drop}
 use Rattle.std.proofs.lemmas.Option.{cond_some, same_Some}
-use Rattle.zk_model_bus.specs.declared.channel.Valid.{Valid}
-use Rattle.zk_model_bus.specs.declared.channel.Valid.TheVariants.{Any, Max}
+use Rattle.zk_base.specs.declared.validator.Valid.{Valid}
+use Rattle.zk_base.specs.declared.validator.Valid.TheVariants.{Any, Max}
 use Rattle.zk_words.specs.Events.{begins}
 use Rattle.zk_words.specs.Hex.{is_digit, digit_value, byte_text}
 use Rattle.zk_words.specs.Validators.{byte_of, validator_of, validator_text}

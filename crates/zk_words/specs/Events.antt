@@ -2,8 +2,8 @@ use Rattle.std.specs.Prelude.{ℕ, Bool, false, not, ◌||◌, Option, Some, Non
 use Rattle.std.specs.Option.{option_map_or}
 use Rattle.std.specs.Str.{bytes_eq}
 use Rattle.zk_base.specs.Names.{is_spelled}
-use Rattle.zk_model_bus.specs.declared.kinds.Need.{Need}
-use Rattle.zk_model_bus.specs.declared.kinds.Need.TheVariants as need
+use Rattle.zk_base.specs.declared.kinds.Need.{Need}
+use Rattle.zk_base.specs.declared.kinds.Need.TheVariants as need
 use Rattle.zk_words.specs.declared.event.Source.{Source}
 use Rattle.zk_words.specs.declared.event.Source.TheVariants.{Sem, Msgq, Signal}
 

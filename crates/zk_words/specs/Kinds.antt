@@ -1,6 +1,6 @@
 use Rattle.std.specs.Prelude.{Bool, true, false}
-use Rattle.zk_model_bus.specs.declared.kinds.Kind.{Kind}
-use Rattle.zk_model_bus.specs.declared.kinds.Kind.TheVariants.{Thread, Queue, Item, Sem, Msgq, Signal, Listener, Sub, Chan}
+use Rattle.zk_base.specs.declared.kinds.Kind.{Kind}
+use Rattle.zk_base.specs.declared.kinds.Kind.TheVariants.{Thread, Queue, Item, Sem, Msgq, Signal, Listener, Sub, Chan}
 
 -- whether an object of a kind can play a script: a thread, an item by its handler, or a listener
 abbrev pub plays_script : Kind → Bool

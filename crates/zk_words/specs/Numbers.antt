@@ -16,6 +16,14 @@ number_of word = if is_number word then Some (digits_value 10 word) else None
 abbrev pub saturated : ℕ → ℕ
 saturated n = min n (2 ^ 64 - 1)
 
+-- the number, nothing where it is past 64 bits
+abbrev pub fitting : ℕ → Option ℕ
+fitting n = if nat_lt n (2 ^ 64) then Some n else None
+
+-- the number of 64 bits that a word spells
+abbrev pub exact_number_of : List ℕ → Option ℕ
+exact_number_of word = option_and_then fitting (number_of word)
+
 -- whether a number is in a range
 abbrev pub is_between : ℕ → ℕ → ℕ → Bool
 is_between least most n = nat_le least n && nat_le n most

@@ -1,7 +1,7 @@
 use Rattle.std.specs.Prelude.{ℕ, List, [], ◌∷◌, codes}
-use Rattle.zk_model_bus.specs.declared.kinds.Kind.{Kind}
-use Rattle.zk_model_bus.specs.declared.kinds.Kind.TheVariants as kind
-use Rattle.zk_model_bus.specs.declared.kinds.Need.TheVariants as need
+use Rattle.zk_base.specs.declared.kinds.Kind.{Kind}
+use Rattle.zk_base.specs.declared.kinds.Kind.TheVariants as kind
+use Rattle.zk_base.specs.declared.kinds.Need.TheVariants as need
 use Rattle.zk_words.specs.declared.word.Word.{Word}
 use Rattle.zk_words.specs.declared.word.Word.TheVariants as word
 use Rattle.zk_words.specs.declared.word.Head.{Head}

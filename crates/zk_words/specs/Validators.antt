@@ -1,7 +1,7 @@
 use Rattle.std.specs.Prelude.{ℕ, ◌+◌, ◌*◌, ◌&&◌, Option, Some, None, List, [], ◌∷◌, ◌++◌, drop, option_map, codes, if◌then◌else◌}
 use Rattle.std.specs.Str.{bytes_eq}
-use Rattle.zk_model_bus.specs.declared.channel.Valid.{Valid}
-use Rattle.zk_model_bus.specs.declared.channel.Valid.TheVariants.{Any, Max}
+use Rattle.zk_base.specs.declared.validator.Valid.{Valid}
+use Rattle.zk_base.specs.declared.validator.Valid.TheVariants.{Any, Max}
 use Rattle.zk_words.specs.Events.{begins}
 use Rattle.zk_words.specs.Hex.{is_digit, digit_value, byte_text}
 

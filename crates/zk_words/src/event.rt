@@ -1,8 +1,7 @@
 ghost use Rattle.std.specs.Prelude.{◌≡◌, None, Some, true, false, length, drop, MatchOption};
 ghost use Rattle.zk_words.specs.Events.{begins, event_named, is_event, is_ignore, need_of, source_text};
 
-use zk_base::is_spelled;
-use zk_model_bus::Need;
+use zk_base::{Need, is_spelled};
 
 /// What a poll can wait for.
 #[derive(Clone, Copy, Debug)]

@@ -1,7 +1,7 @@
 ghost use Rattle.std.specs.Prelude.{◌≡◌};
 ghost use Rattle.zk_words.specs.Kinds.{plays_script, makes_player, can_be_raw};
 
-use zk_model_bus::Kind;
+use zk_base::Kind;
 
 /// Whether an object of a kind can play a script: a thread, an item by its handler, or a listener.
 pub fn plays_script(kind: Kind) -> bool

@@ -2,7 +2,7 @@ ghost use Rattle.std.specs.Prelude.{◌≡◌, ℕ, ◌^◌, ◌+◌, ◌*◌, �
 ghost use Rattle.std.specs.Char.{is_ascii_digit};
 ghost use Rattle.std.specs.List.{list_all};
 ghost use Rattle.std.specs.Str.Parse.{digits_value};
-ghost use Rattle.zk_words.specs.Numbers.{is_number, number_of, saturated, number_in, priority_of, priority_above, priority_below};
+ghost use Rattle.zk_words.specs.Numbers.{is_number, number_of, exact_number_of, saturated, fitting, number_in, priority_of, priority_above, priority_below};
 
 /// The number that a word spells in decimal digits, without a sign or a leading zero. One past 64
 /// bits is given as the greatest of them, so that a caller tells a number out of its range from a
@@ -15,6 +15,17 @@ pub fn number_of(word: &[u8]) -> Option<u64>
     } else {
         None
     }
+}
+
+/// The number of 64 bits that a word spells in decimal digits, without a sign or a leading zero. One
+/// past 64 bits is refused.
+pub fn exact_number_of(word: &[u8]) -> Option<u64>
+    ensures { result ≡ exact_number_of word.now }
+{
+    if !is_number(word) {
+        return None;
+    }
+    exact_value_of(word)
 }
 
 /// Whether a word spells a number.
@@ -42,6 +53,25 @@ fn value_of(digits: &[u8]) -> u64
         n = with_digit(n, *digit);
     }
     n
+}
+
+fn exact_value_of(digits: &[u8]) -> Option<u64>
+    requires { list_all is_ascii_digit digits.now ≡ true }
+    ensures { result ≡ fitting (digits_value 10 digits.now) }
+{
+    let mut n = Some(0);
+    for digit in digits {
+        n = with_exact_digit(n, *digit);
+    }
+    n
+}
+
+fn with_exact_digit(n: Option<u64>, digit: u8) -> Option<u64>
+    requires { is_ascii_digit digit ≡ true }
+    ensures { (m : ℕ) → n ≡ fitting m → result ≡ fitting (m * 10 + (digit - 48)) }
+{
+    let tens = n?.checked_mul(10)?;
+    tens.checked_add(u64::from(digit - b'0'))
 }
 
 fn with_digit(n: u64, digit: u8) -> u64

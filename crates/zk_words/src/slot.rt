@@ -1,4 +1,4 @@
-use zk_model_bus::Need;
+use zk_base::Need;
 
 /// One of two words, the first of which is true.
 #[derive(Clone, Copy, Debug)]

@@ -6,7 +6,7 @@ ghost use Rattle.zk_words.specs.Table.{exactly, perhaps, and_many, polling, row_
 use crate::slot::{Choice, Rest, Slot};
 use crate::word::{Head, Word};
 use std::marker::Model;
-use zk_model_bus::{Kind, Need};
+use zk_base::{Kind, Need};
 
 /// A form of a line: its first word, the slots behind that, and what may stand behind those.
 #[derive(Debug, Drop)]

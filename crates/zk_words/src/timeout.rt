@@ -4,7 +4,7 @@ ghost use Rattle.zk_words.specs.Timeouts.{is_wait, wait_of};
 use crate::numbers::{is_number, number_in};
 
 /// How long a call waits.
-#[derive(Clone, Copy, Debug)]
+#[derive(Clone, Copy, Debug, PartialEq, Eq)]
 pub enum Timeout {
     /// Not at all. Zephyr's `K_NO_WAIT`.
     No,

@@ -4,8 +4,7 @@ ghost use Rattle.zk_words.specs.Validators.{byte_of, validator_of, validator_tex
 
 use crate::event::behind;
 use crate::hex::{digit_value, is_digit, put_byte};
-use zk_base::{NoMemory, put};
-use zk_model_bus::Valid;
+use zk_base::{NoMemory, Valid, put};
 
 /// What messages a channel takes, as a word says it.
 pub fn validator_of(word: &[u8]) -> Option<Valid>

@@ -1,4 +1,4 @@
-use zk_model_bus::Kind;
+use zk_base::Kind;
 
 /// The call that a line makes.
 #[derive(Clone, Copy, Debug, PartialEq, Eq)]

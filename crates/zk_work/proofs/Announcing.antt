@@ -237,20 +237,3 @@ next-due n time k ascends within =
     let d : Timeout = record { item = 0; queue = 0; deadline = 0 } in
     ap is_some (ap (due_first time) (live-expired n time k ascends (omega arith))
     ∙ (first-due time k.timeouts.live n d ascends within).0)
-
--- and is told
-pub told-more : (n time : ℕ) (k j : EngineState) (one new : List Expiry) (x : Expiry) → j ≡ expired n time k →
-    one ≡ told n time k → Some x ≡ option_map (expiry_of j) (due_first time j.timeouts.live) →
-    new ≡ one ++ option_to_list (Some x) → new ≡ told (n + 1) time k
-told-more n time k j one new x j_is one_is x_is new_is =
-    let suc_is : n + 1 ≡ suc n = omega arith in
-    new_is ∙ ap (λ (l : List Expiry). l ++ option_to_list (Some x)) one_is
-    ∙ ap (λ (o : Option Expiry). told n time k ++ option_to_list o) x_is
-    ∙ ap (λ (i : EngineState). told n time k ++ option_to_list
-    (option_map (expiry_of i) (due_first time i.timeouts.live))) j_is ∙ sym (ap (λ m. told m time k) suc_is)
-
-pub expired-more_next : (n time : ℕ) (k j new : EngineState) → j ≡ expired n time k → new ≡ expired_next time j →
-    new ≡ expired (n + 1) time k
-expired-more_next n time k j new j_is new_is =
-    let suc_is : n + 1 ≡ suc n = omega arith in
-    new_is ∙ ap (expired_next time) j_is ∙ sym (ap (λ m. expired m time k) suc_is)

@@ -126,7 +126,7 @@ timeouts-due arms time =
     ∙ sym (filter-by_key (is_due time) (λ (t : Timeout). t.deadline) (live_of arms))
 
 -- an item is armed alike
-place_cases : {A : Type 0} (p : A → Bool) (xs : List A) → is_some (position p xs) ≡ list_any p xs
+pub place_cases : {A : Type 0} (p : A → Bool) (xs : List A) → is_some (position p xs) ≡ list_any p xs
 place_cases p [] = refl
 place_cases p (x ∷ xs) = by (p x) (position_or_len p xs) (length xs) (place_cases p xs) where
   by : (b : Bool) (n long : ℕ) → is_some {T = ℕ} (cond (ltb n long) (Some n) None) ≡ list_any p xs →

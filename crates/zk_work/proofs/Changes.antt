@@ -230,11 +230,6 @@ waits_for-end queue other a = kept-cond (waits_for other) (runs_on queue a) (wit
     (λ r. second_same (eqb a.queue other) false (is_waiting a.life)
     (sym (running-waits a.life (second_so (eqb a.queue queue) (is_running a.life) r))))
 
-pub waits_as-end : (queue item : ℕ) (a : Admission) → waits_as item (end_one queue a) ≡ waits_as item a
-waits_as-end queue item a = kept-cond (waits_as item) (runs_on queue a) (with_life Ended a) a
-    (λ r. second_same (eqb a.item item) false (is_waiting a.life)
-    (sym (running-waits a.life (second_so (eqb a.queue queue) (is_running a.life) r))))
-
 pub item-end : (queue : ℕ) (a : Admission) → (end_one queue a).item ≡ a.item
 item-end queue a = kept-cond (λ (b : Admission). b.item) (runs_on queue a) (with_life Ended a) a (λ r. refl)
 

@@ -21,7 +21,7 @@ use Rattle.zk_queue.specs.Open as active
 use Rattle.zk_time.specs.declared.timeout.Timeout.{Timeout}
 use Rattle.zk_time.specs.Timeouts.{Timeouts, is_of, is_due, is_armed, deadline_of, queue_of, count_due, due_first, due_rest, drop_due, IsOrdered}
 use Rattle.zk_time.specs.Timeouts as timeouts
-use Rattle.zk_time.proofs.Orders.{IsOrdered-arm, IsOrdered-disarm, IsOrdered-due}
+use Rattle.zk_time.proofs.Orders.{IsOrdered-arm, IsOrdered-disarm}
 use Rattle.zk_work.specs.EngineState.{EngineState, IsWhole, StandsFor, is_there, timeout_of, timeouts_of}
 use Rattle.zk_work.specs.Engine as engine
 use Rattle.zk_work.specs.Engine.{answer_of, admitted, submitted, disarmed, settled, cancelled, expired_next, expired, told, expiry_of}
@@ -30,7 +30,7 @@ use Rattle.zk_work.proofs.Replies.{item-same, answer-same}
 use Rattle.zk_work.proofs.Awaited.{Later-drop, found-begun, found-made}
 use Rattle.zk_work.proofs.Awaiting.{runs_by, flushed-same, new-wait}
 use Rattle.zk_work.proofs.Beside.{submitted-same, entries-later, whole-beside, counted-stands, wait-stands, rearmed}
-use Rattle.zk_work.proofs.Admissions.{admitted-stands, admitted-whole, cancel-stands}
+use Rattle.zk_work.proofs.Admissions.{admitted-stands, cancel-stands}
 
 fewer-filter : (p : Timeout → Bool) (ts : List Timeout) → length (filter p ts) ≤ length ts
 fewer-filter p ts =
@@ -306,20 +306,6 @@ cancel_start-stands k s who item st item_in few =
     subst (λ (v : Wait). is_there (map (drop_one item) s.admissions) v.awaited v.answered ≡ true) new.2
     ((Later-drop item s.admissions).begun new.0 (found-begun s.admissions item new.0 new.1))))
 
--- one more that is due is submitted
-pub next-whole : (k : EngineState) (time : ℕ) → IsWhole k → IsWhole (record k { timeouts = drop_due k.timeouts time })
-next-whole k time w =
-    let fewer = w.fewer in
-    let less = drop-less time k.timeouts.live in
-    whole-beside k k.time k.entries (drop_due k.timeouts time) k.waits k.queues w w.counted w.timed (omega arith) w.armed
-    (IsOrdered-due k.timeouts time w.ordered) w.queues where
-      drop-less : (time : ℕ) (ts : List Timeout) → length (due_rest time ts) ≤ length ts
-      drop-less time [] = omega arith
-      drop-less time (t ∷ ts) = by (is_due time t) where
-        by : (b : Bool) → length (cond b ts (t ∷ ts)) ≤ length (t ∷ ts)
-        by true = omega arith
-        by false = omega arith
-
 -- and leaves a place for what becomes of it
 pub drop-room : (time : ℕ) (ts : List Timeout) → is_some (due_first time ts) ≡ true → length (due_rest time ts) + 1 ≡ length ts
 drop-room time [] some = absurd (cc)
@@ -335,12 +321,3 @@ disarmed-whole k item w =
     let less = fewer-filter (λ (t : Timeout). not (is_of item t)) k.timeouts.live in
     whole-beside k k.time k.entries (timeouts.disarm k.timeouts item) k.waits k.queues w w.counted w.timed
     (omega arith) w.armed (IsOrdered-disarm k.timeouts item w.ordered) w.queues
-
--- a submission for which there is an entry
-pub submitted-whole : (k : EngineState) (item : ℕ) (a : Submitted) → IsWhole k →
-    ((queue : ℕ) → admitted_to a ≡ Some queue → engine.MayAdmit k item queue) →
-    k.made + length k.timeouts.live < k.entries → IsWhole (submitted k item a)
-submitted-whole k item a w may room = by (admitted_to a) refl where
-  by : (o : Option ℕ) → admitted_to a ≡ o → IsWhole (option_map_or (admitted k item) o k)
-  by None is = w
-  by (Some queue) is = admitted-whole k item queue w (may queue is).within room

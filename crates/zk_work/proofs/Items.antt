@@ -130,10 +130,6 @@ one_run (Some u) t is = ap Some (same u t is) where
   same : (u t : Ticket) → u ∷ [] ≡ t ∷ [] → u ≡ t
   same u t is = cc
 
-pub no_run : (o : Option Ticket) → option_to_list o ≡ [] → o ≡ None
-no_run None is = refl
-no_run (Some u) is = absurd (cc)
-
 -- a queue that runs an admission has its ticket
 pub run_of : (o : Option Ticket) (queue : ℕ) (xs : List Admission) (m : ℕ) (a : Admission) →
     option_to_list o ≡ tickets (runs_on queue) xs → slice_get xs m ≡ Some a → runs_on queue a ≡ true → o ≡ Some (ticket a m)

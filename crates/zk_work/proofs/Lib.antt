@@ -7,7 +7,6 @@ mod Beside
 mod Cancelling
 mod Changes
 mod Delaying
-pub mod Flags
 mod Fresh
 mod Items
 mod LastQueues
@@ -17,4 +16,6 @@ mod Replies
 mod Sound
 mod Steps
 mod Tickets
+mod Touching
+mod Untouched
 mod Words

@@ -32,10 +32,12 @@ pub record EngineState : Type 0 where
   pub waits : List Wait
   pub queues : List Queue
 
--- what a contract sees of the engine: what it keeps, and how many changes it takes without memory
+-- what a contract sees of the engine: what it keeps, how many changes it takes without memory,
+-- and the items whose busy flags the last entry may have changed
 pub record EngineView : Type 0 where
   pub state : EngineState
   pub room : ℕ
+  pub touched : List ℕ
 
 -- the queue of the item's last admission
 abbrev pub last_of : EngineState → ℕ → Option ℕ

@@ -2,4 +2,5 @@ pub mod Engine
 pub mod EngineState
 pub mod Seen
 pub mod Tickets
+pub mod Touched
 pub mod Words

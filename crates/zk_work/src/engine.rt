@@ -1,13 +1,17 @@
 ghost use Rattle.std.specs.Prelude.{◌≡◌, ℕ, ◌+◌, ◌-◌, ◌^◌, ◌<◌, ◌≤◌, true, false, is_some, option_map, [], ◌++◌, option_to_list, vec_len, vec_capacity, length, AllPairs, ◌≢◌, None, Some, replicate, IsOk, IfOk, IfSome, OnErr};
 ghost use Rattle.zk_base.specs.History.{AddsNone};
+ghost use Rattle.zk_base.specs.Limits.{most_entries};
 ghost use Rattle.zk_model_work.specs.State.{State, start_of};
 ghost use Rattle.zk_model_work.specs.Answers.{admitted_to};
 ghost use Rattle.zk_model_work.specs.Machine.{is_among};
 ghost use Rattle.zk_time.specs.Timeouts.{is_armed, due_first, drop_due, count_due, pair_of};
 ghost use Rattle.zk_work.specs.EngineState.{IsWhole, StandsFor, work_closes, work_grows};
+ghost use Rattle.zk_work.specs.Touched.{touched_item, told_items};
+ghost use Rattle.zk_work.specs.Words.{most_items, most_queues};
 ghost use Rattle.zk_work.specs.Engine.{item_of, answer_of, MayAdmit, admitted, submitted, disarmed, is_pending_in, delayed, delay_reply_in, hurried, expiry_of, expired_next, expired, told, announced, announce_reply, flags_of, may_close, closed, reply_of, after_reply, is_now, IsTimely};
 
 use crate::active::{busy_with, cancel, settle};
+use crate::touched::{Touched, tell_items};
 use crate::waits::{close, is_flushing, may_close};
 use bitflags::Flags;
 use std::alloc::Global;
@@ -24,6 +28,9 @@ use zk_time::TimeoutList;
 
 /// What an operation answers, where there is memory: its reply, where it is possible.
 type Replied = Result<Option<WorkReply>, NoMemory>;
+
+/// The most items of a scenario: each has a word.
+pub const MOST_ITEMS: u32 = 256;
 
 /// What the work service computes and keeps: the open admissions, and of all others only how many
 /// there were, and to which queue the last one of each item was.
@@ -43,11 +50,14 @@ pub struct WorkEngine {
     // The waits that aren't answered.
     waits: Vec<Wait>,
     queues: Vec<Queue>,
+    // The items whose busy flags the last entry may have changed.
+    touched: Touched,
 }
 
 impl Model for WorkEngine {
     ghost use Rattle.std.specs.Prelude.{◌≡◌, ◌-◌, ◌^◌, ◌≤◌, length, vec_len, vec_capacity};
     ghost use Rattle.zk_work.specs.EngineState.{EngineState, EngineView};
+    ghost use Rattle.zk_work.specs.Touched.{items_in};
 
     ghost Value = { EngineView };
 
@@ -64,6 +74,7 @@ impl Model for WorkEngine {
         queues = a.queues.items;
       };
       room = vec_capacity a.waits - vec_len a.waits;
+      touched = items_in a.touched;
     } };
 
     ghost invariant = { λ a. record {
@@ -123,8 +134,8 @@ impl WorkEngine {
     ) -> Result<WorkEngine, NoMemory>
         requires same { length workers.now ≡ length started.now }
         requires differ { AllPairs (λ a b. a ≢ b) workers.now }
-        requires queues { length workers.now ≤ 8 }
-        requires items { items ≤ 256 }
+        requires queues { length workers.now ≤ most_queues }
+        requires items { items ≤ most_items }
         ensures { IfOk result (λ e. StandsFor e.state (start_of items workers.now started.now)) }
     {
         let queues = fresh_queues(alloc, workers, started)?;
@@ -141,6 +152,7 @@ impl WorkEngine {
             timeouts,
             waits: Vec::new(alloc),
             queues,
+            touched: Touched::Nothing,
         })
     }
 
@@ -324,7 +336,7 @@ impl WorkEngine {
     fn delay(&mut self, who: Who, item: u32, queue: u32, delay: u32) -> WorkReply
         requires whole { IsWhole self.old.state }
         requires item { item < self.old.state.active.items }
-        requires short { self.old.state.entries < 2 ^ 32 - 1 }
+        requires short { self.old.state.entries < most_entries }
         requires free { is_armed self.old.state.timeouts item ≡ false }
         ensures reply { result ≡ delay_reply_in self.old.state who item queue delay }
         ensures next { self.new.state ≡ delayed self.old.state who item queue delay }
@@ -343,7 +355,7 @@ impl WorkEngine {
     fn schedule(&mut self, who: Who, item: u32, queue: u32, delay: u32) -> Option<WorkReply>
         requires whole { IsWhole self.old.state }
         requires item { item < self.old.state.active.items }
-        requires short { self.old.state.entries < 2 ^ 32 - 1 }
+        requires short { self.old.state.entries < most_entries }
         ensures reply { result ≡ reply_of self.old.state who (WorkOp.Schedule item queue delay) }
         ensures next { self.new.state
             ≡ after_reply self.old.state who (WorkOp.Schedule item queue delay) result }
@@ -362,7 +374,7 @@ impl WorkEngine {
     fn reschedule(&mut self, who: Who, item: u32, queue: u32, delay: u32) -> Option<WorkReply>
         requires whole { IsWhole self.old.state }
         requires item { item < self.old.state.active.items }
-        requires short { self.old.state.entries < 2 ^ 32 - 1 }
+        requires short { self.old.state.entries < most_entries }
         ensures reply { result ≡ reply_of self.old.state who (WorkOp.Reschedule item queue delay) }
         ensures next { self.new.state
             ≡ after_reply self.old.state who (WorkOp.Reschedule item queue delay) result }
@@ -430,6 +442,7 @@ impl WorkEngine {
             ≡ told (count_due self.old.state.timeouts time) time self.old.state }
         ensures copy { copy.new.items
             ≡ told (count_due self.old.state.timeouts time) time self.old.state }
+        ensures count { vec_len expiries.new ≡ count_due self.old.state.timeouts time }
         ensures entries { self.new.state.entries ≡ self.old.state.entries }
         ensures room { self.new.room ≡ self.old.room }
     {
@@ -442,7 +455,7 @@ impl WorkEngine {
 
     /// It is this time from now on, at an entry that is counted.
     fn set_time(&mut self, time: u64)
-        requires short { self.old.state.entries < 2 ^ 32 - 1 }
+        requires short { self.old.state.entries < most_entries }
         ensures next { self.new.state
             ≡ record self.old.state { time = time; entries = self.old.state.entries + 1 } }
         ensures room { self.new.room ≡ self.old.room }
@@ -454,7 +467,7 @@ impl WorkEngine {
     /// So many ticks have passed. The reply comes twice, since one of them is kept in the history.
     fn announce(&mut self, ticks: u32) -> Result<(WorkReply, WorkReply), NoMemory>
         requires whole { IsWhole self.old.state }
-        requires short { self.old.state.entries < 2 ^ 32 - 1 }
+        requires short { self.old.state.entries < most_entries }
         ensures reply { IfOk result (λ two. two.0 ≡ announce_reply self.old.state ticks) }
         ensures twice { IfOk result (λ two. two.1 ≡ two.0) }
         ensures next { IfOk result (λ two. self.new.state
@@ -462,6 +475,7 @@ impl WorkEngine {
               entries = self.old.state.entries + 1;
             }) }
         ensures unchanged { OnErr result (self.new.state ≡ self.old.state) }
+        ensures touched { IfOk result (λ two. self.new.touched ≡ told_items two.0) }
         ensures timely { ticks < 2 ^ 32 }
         ensures room { self.new.room ≡ self.old.room }
     {
@@ -470,8 +484,11 @@ impl WorkEngine {
         let due = self.timeouts.count_due(time);
         let mut expiries = Vec::with_capacity(alloc, due)?;
         let mut copy = Vec::with_capacity(alloc, due)?;
+        let mut touched = Vec::with_capacity(alloc, due)?;
         self.expire(time, &mut expiries, &mut copy);
+        tell_items(&mut touched, &expiries);
         self.set_time(time);
+        self.touched = Touched::Many(touched);
         Ok((
             WorkReply::Now(time, Listed::from_vec(expiries)),
             WorkReply::Now(time, Listed::from_vec(copy)),
@@ -625,12 +642,39 @@ impl WorkEngine {
         Some(WorkReply::Done)
     }
 
+    /// The item whose busy flags this operation may change, where it isn't an announce.
+    fn touched_item(&self, op: &WorkOp) -> Option<u32>
+        requires { is_among self.now.state.active.items self.now.state.active.queues op.now ≡ true }
+        ensures { result ≡ touched_item self.now.state op.now }
+    {
+        match *op {
+            WorkOp::Submit(item, _)
+            | WorkOp::Cancel(item)
+            | WorkOp::CancelStart(item)
+            | WorkOp::FlushStart(item)
+            | WorkOp::Schedule(item, _, _)
+            | WorkOp::Reschedule(item, _, _) => Some(item),
+            WorkOp::Begin(queue) => self.active.first(queue),
+            WorkOp::End(queue) => self.active.run(queue),
+            _ => None,
+        }
+    }
+
+    /// The entry may have changed the busy flags of this item, and of no other.
+    fn touch(&mut self, item: Option<u32>)
+        ensures state { self.new.state ≡ self.old.state }
+        ensures room { self.new.room ≡ self.old.room }
+        ensures touched { self.new.touched ≡ option_to_list item }
+    {
+        self.touched = Touched::of(item);
+    }
+
     /// One operation that isn't an announce.
     fn operate(&mut self, who: Who, op: &WorkOp) -> Replied
         requires whole { IsWhole self.old.state }
         requires range { is_among self.old.state.active.items self.old.state.active.queues op.now
             ≡ true }
-        requires short { self.old.state.entries < 2 ^ 32 - 1 }
+        requires short { self.old.state.entries < most_entries }
         requires plain { work_grows op.now ≡ false }
         ensures reply { IfOk result (λ reply. reply ≡ reply_of self.old.state who op.now) }
         ensures next { IfOk result (λ reply.
@@ -672,7 +716,7 @@ impl Engine for WorkEngine {
 
     ghost use Rattle.zk_model_work.specs.Machine.{work_machine};
     ghost use Rattle.zk_work.specs.EngineState.{StandsFor, work_owed, work_closes, work_grows};
-    ghost use Rattle.zk_work.specs.Words.{work_word};
+    ghost use Rattle.zk_work.specs.Words.{work_word, most_items};
 
     ghost stands_for = { λ e. StandsFor e.state };
 
@@ -690,17 +734,21 @@ impl Engine for WorkEngine {
 
     ghost word = { work_word };
 
-    ghost WORDS = { 256 };
+    ghost WORDS = { most_items };
 
-    const WORDS: u32 = 256;
+    const WORDS: u32 = MOST_ITEMS;
+
+    ghost touched = { λ e. e.touched };
 
     fn step(&mut self, who: Who, op: &WorkOp) -> Result<Option<(WorkReply, WorkReply)>, NoMemory> {
         if let WorkOp::Announce(ticks) = *op {
             return Ok(Some(self.announce(ticks)?));
         }
+        let touched = self.touched_item(op);
         match self.operate(who, op)? {
             None => Ok(None),
             Some(reply) => {
+                self.touch(touched);
                 let copy = copy_of(&reply);
                 Ok(Some((reply, copy)))
             }
@@ -723,6 +771,10 @@ impl Engine for WorkEngine {
             return 0;
         }
         u32::from(self.flags(index).bits())
+    }
+
+    fn touched(&self) -> &[u32] {
+        self.touched.items()
     }
 
     fn reserve(&mut self) -> Result<(), NoMemory> {

@@ -3,6 +3,7 @@
 
 mod active;
 mod engine;
+mod touched;
 mod waits;
 mod work;
 

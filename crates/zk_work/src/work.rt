@@ -1,9 +1,11 @@
 ghost use Rattle.std.specs.Prelude.{◌≡◌, ◌≢◌, ◌≤◌, [], length, AllPairs, IfOk};
 ghost use Rattle.zk_model_work.specs.State.{start_of};
 ghost use Rattle.zk_work.specs.Seen.{work_start, work_history};
+ghost use Rattle.zk_work.specs.Words.{most_items, most_queues};
 
-use crate::engine::WorkEngine;
+use crate::engine::{MOST_ITEMS, WorkEngine};
 use std::alloc::Global;
+use std::snapshot::Snapshot;
 use zk_base::{Entry, NoMemory, Recorded, Service, Who};
 use zk_model_work::{WorkOp, WorkReply, WorkState};
 
@@ -25,12 +27,12 @@ impl Work {
     ) -> Result<Work, NoMemory>
         requires same { length workers.now ≡ length started.now }
         requires differ { AllPairs (λ a b. a ≢ b) workers.now }
-        requires queues { length workers.now ≤ 8 }
-        requires items { items ≤ 256 }
+        requires queues { length workers.now ≤ most_queues }
+        requires items { items ≤ most_items }
         ensures { IfOk result (λ w.
             (work_start w ≡ start_of items workers.now started.now) × (work_history w ≡ [])) }
     {
-        let start = WorkState::new(alloc, items, workers, started)?;
+        let start = Snapshot::of(&WorkState::new(alloc, items, workers, started)?);
         let engine = WorkEngine::new(alloc, items, workers, started)?;
         Ok(Work {
             inner: Recorded::new(alloc, start, engine),
@@ -48,7 +50,7 @@ impl Service for Work {
     ghost use Rattle.zk_model_work.specs.Machine.{work_machine};
     ghost use Rattle.zk_work.specs.EngineState.{work_closes, work_grows};
     ghost use Rattle.zk_work.specs.Seen.{work_start, work_history};
-    ghost use Rattle.zk_work.specs.Words.{work_word};
+    ghost use Rattle.zk_work.specs.Words.{work_word, most_items};
 
     ghost machine = { work_machine };
 
@@ -64,9 +66,11 @@ impl Service for Work {
 
     ghost word = { work_word };
 
-    ghost WORDS = { 256 };
+    ghost WORDS = { most_items };
 
-    const WORDS: u32 = 256;
+    const WORDS: u32 = MOST_ITEMS;
+
+    ghost touched = { λ w. w.inner.touched };
 
     fn act(&mut self, who: Who, step: u32, op: WorkOp) -> Result<Option<WorkReply>, NoMemory> {
         self.inner.act(who, step, op)
@@ -78,6 +82,10 @@ impl Service for Work {
 
     fn word(&self, index: u32) -> u32 {
         self.inner.word(index)
+    }
+
+    fn touched(&self) -> &[u32] {
+        self.inner.touched()
     }
 
     fn room(&self) -> u64 {

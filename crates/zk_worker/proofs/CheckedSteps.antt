@@ -2,12 +2,11 @@
 use Rattle.std.proofs.Common.{◌≡◌, ◌⊎◌, inl, inr, ℕ, ◌≤◌, Option, Some, None, List, [], ◌∷◌, ◌++◌, length, nat_lt, refl, sym, ap, subst, ◌∙◌}
 use Rattle.std.specs.List.{slice_get}
 use Rattle.zk_base.proofs.Lists.{slice_get-one, cond_nil-at}
-use Rattle.zk_base.specs.declared.ids.Who.{Who}
 use Rattle.zk_model_bus.specs.declared.table.OopsWhy.{OopsWhy}
 use Rattle.zk_scenario.specs.Parts.{Parts}
 use Rattle.zk_words.specs.declared.word.Word.{Word}
 use Rattle.zk_worker.specs.declared.checks.Check.{Check}
-use Rattle.zk_worker.specs.declared.steps.TheConstants.{MOST_STEPS}
+use Rattle.zk_scenario.specs.Steps.{steps_of}
 use Rattle.zk_worker.specs.declared.steps.Step.{Step}
 use Rattle.zk_worker.specs.declared.steps.StepReply.{StepReply}
 use Rattle.zk_worker.specs.declared.steps.Spot.{Spot}
@@ -20,7 +19,6 @@ use Rattle.zk_worker.specs.declared.frames.Stage.{Stage}
 use Rattle.zk_worker.specs.declared.frames.Stage.TheVariants.{Start}
 use Rattle.zk_worker.specs.Checks.{role_check, top_check, next_check, check_step, oops_in}
 use Rattle.zk_worker.specs.Places.{At}
-use Rattle.zk_worker.specs.StackLaws.{ChanHistories, chans_after}
 use Rattle.zk_worker.specs.Protocol.{IsAhead, after, after_by, checks_first, checked, frames_attempts, frames_progress, moved, spot_of}
 
 -- the check that comes next, at a place of a player
@@ -46,13 +44,13 @@ one-or-other s at step ahead = by (check_at s at) refl where
     check = check;
     comes = is;
     is_step = slice_get-one (check_step check) step ahead.0 (ap (λ (c : Option Check). slice_get (checks_first c (frames_attempts s at.frames)) ahead.0) (sym is)
-        ∙ (cond_nil-at (nat_lt (length at.spots) MOST_STEPS) (checks_first (check_at s at) (frames_attempts s at.frames)) ahead.0 step ahead.1).1);
+        ∙ (cond_nil-at (nat_lt (length at.spots) (steps_of s)) (checks_first (check_at s at) (frames_attempts s at.frames)) ahead.0 step ahead.1).1);
   })
   by None is = inr (record {
     none = is;
     index = ahead.0;
     ahead = ap (λ (c : Option Check). slice_get (checks_first c (frames_attempts s at.frames)) ahead.0) (sym is)
-        ∙ (cond_nil-at (nat_lt (length at.spots) MOST_STEPS) (checks_first (check_at s at) (frames_attempts s at.frames)) ahead.0 step ahead.1).1;
+        ∙ (cond_nil-at (nat_lt (length at.spots) (steps_of s)) (checks_first (check_at s at) (frames_attempts s at.frames)) ahead.0 step ahead.1).1;
   })
 
 -- what holds after a check, and after a step of the innermost open script or run, holds after each step
@@ -85,10 +83,6 @@ check-of-top s mode passed frames check is = absurd (cc)
 pub check-starts : (s : Parts) (passed : ℕ) (role : Role) (next : ℕ) (stage : Stage) (check : Check) → role_check s passed role next stage ≡ Some check → stage ≡ Start
 check-starts s passed (Script owner) next Start check is = refl
 check-starts s passed role next stage check is = absurd (cc)
-
--- a check makes no entry at a channel
-pub check-apart : (chans : ChanHistories) (who : Who) (number : ℕ) (check : Check) (reply : StepReply) → chans_after chans who number (check_step check) reply ≡ chans
-check-apart chans who number check reply = refl
 
 -- a check is one attempt
 pub checks_first-few : (most : ℕ) (check : Option Check) (own : List Step) → 1 ≤ most → length own ≤ most → length (checks_first check own) ≤ most

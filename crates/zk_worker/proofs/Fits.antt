@@ -12,7 +12,7 @@ use Rattle.zk_line.specs.declared.types.Call.{Call}
 use Rattle.zk_line.specs.declared.types.Call.TheVariants as calls
 use Rattle.zk_line.specs.Objects.{places, is_queue, is_item, is_sem, is_msgq, is_signal, is_chan, is_observer, is_met, can_be_raw, number_of, is_at, size_at}
 use Rattle.zk_scenario.specs.Players.{calls_of}
-use Rattle.zk_model_bus.specs.declared.kinds.Need.TheVariants as need
+use Rattle.zk_base.specs.declared.kinds.Need.TheVariants as need
 use Rattle.zk_scenario.specs.Parts.{Parts}
 use Rattle.zk_model_bus.specs.declared.channel.ChanOp.TheVariants as chan_ops
 use Rattle.zk_model_wait.specs.declared.clock.ClockOp.TheVariants as clock_ops

@@ -15,7 +15,7 @@ use Rattle.zk_line.specs.declared.types.Ref.TheVariants.{Known, Unknown}
 use Rattle.zk_line.specs.Calls.{is_user_call}
 use Rattle.zk_line.specs.Needs.{needs_of, is_there, IsThere, IsMet}
 use Rattle.zk_line.specs.Objects.{is_at, is_thread, is_user}
-use Rattle.zk_model_bus.specs.declared.kinds.Need.{Need}
+use Rattle.zk_base.specs.declared.kinds.Need.{Need}
 use Rattle.zk_model_bus.specs.declared.table.OopsWhy.{OopsWhy}
 use Rattle.zk_model_bus.specs.declared.table.TableOp.TheVariants as table_ops
 use Rattle.zk_scenario.specs.Parts.{Parts}

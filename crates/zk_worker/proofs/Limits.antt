@@ -7,7 +7,10 @@ use Rattle.std.proofs.lemmas.Bool.Decides.{nat_tests}
 use Rattle.zk_base.proofs.Lists.{cond_nil-at}
 use Rattle.zk_scenario.specs.Parts.{Parts}
 use Rattle.zk_words.specs.declared.timeout.Timeout.{Timeout}
-use Rattle.zk_worker.specs.declared.steps.TheConstants.{MOST_STEPS, MOST_ATTEMPTS}
+use Rattle.zk_scenario.specs.declared.scenario.TheConstants.{MOST_STEPS}
+use Rattle.zk_scenario.specs.Steps.{steps_of}
+use Rattle.zk_scenario.proofs.Steps.{steps-most}
+use Rattle.zk_worker.specs.declared.steps.TheConstants.{MOST_ATTEMPTS}
 use Rattle.zk_worker.specs.declared.steps.Step.{Step}
 use Rattle.zk_worker.specs.declared.steps.Spot.{Spot}
 use Rattle.zk_worker.specs.declared.answers.Answered.{Answered}
@@ -37,8 +40,12 @@ use Rattle.zk_worker.proofs.PollSteps.{poll_attempts-few}
 -- a player with a next attempt has made fewer steps than it may
 pub ahead_short : (s : Parts) (at : At) (step : Step) → IsAhead s at step → length at.spots < MOST_STEPS
 ahead_short s at step ahead =
-    ltb-true (length at.spots) MOST_STEPS
-    (cond_nil-at (nat_lt (length at.spots) MOST_STEPS) (checks_first (check_at s at) (frames_attempts s at.frames)) ahead.0 step ahead.1).0
+    omega (
+      arith,
+      steps-most s,
+      ltb-true (length at.spots) (steps_of s)
+          (cond_nil-at (nat_lt (length at.spots) (steps_of s)) (checks_first (check_at s at) (frames_attempts s at.frames)) ahead.0 step ahead.1).0,
+    )
 
 -- what holds of each frame holds of those that are left
 pub settled-all : (P : Frame → Type 0) (s : Parts) (frames : List Frame) → All P frames → All P (settled s frames)
@@ -195,5 +202,5 @@ frames_attempts-few s (frame ∷ below) = role_few s frame.role frame.next frame
 -- a player has few attempts at a time
 pub attempts-few : (s : Parts) (at : At) → length (attempts s at) ≤ MOST_ATTEMPTS
 attempts-few s at =
-    elim (nat_lt (length at.spots) MOST_STEPS) as (λ b. length (cond b (checks_first (check_at s at) (frames_attempts s at.frames)) []) ≤ MOST_ATTEMPTS)
+    elim (nat_lt (length at.spots) (steps_of s)) as (λ b. length (cond b (checks_first (check_at s at) (frames_attempts s at.frames)) []) ≤ MOST_ATTEMPTS)
     [ true ↦ checks_first-few MOST_ATTEMPTS (check_at s at) (frames_attempts s at.frames) (omega arith) (omega (arith, frames_attempts-few s at.frames)) | false ↦ omega arith ]

@@ -4,13 +4,14 @@ use Rattle.std.proofs.lemmas.Option.{cond_some}
 use Rattle.zk_base.specs.declared.ids.Who.{Who}
 use Rattle.zk_base.specs.declared.ids.Entry.{Entry}
 use Rattle.zk_base.specs.Legal.{state_after}
-use Rattle.zk_model_bus.specs.declared.kinds.Need.{Need}
+use Rattle.zk_base.specs.declared.kinds.Need.{Need}
 use Rattle.zk_model_bus.specs.declared.table.OopsWhy.TheVariants.{WrongKind, NotGranted, NotInit}
 use Rattle.zk_model_bus.specs.declared.table.TableOp.{TableOp}
 use Rattle.zk_model_bus.specs.declared.table.TableOp.TheVariants as table_ops
 use Rattle.zk_model_bus.specs.declared.table.TableReply.{TableReply}
 use Rattle.zk_model_bus.specs.declared.table.TableReply.TheVariants.{Done, Oops}
-use Rattle.zk_model_bus.specs.Table.{Setup, Table, new_table, has_kind, is_allowed, is_public, is_any, is_ready, may, check_reply, table_machine}
+use Rattle.zk_model_bus.specs.Table.{Setup, Table, new_table, has_kind, is_allowed, is_public, is_ready, may, check_reply, table_machine}
+use Rattle.zk_base.specs.Kinds.{is_any}
 use Rattle.zk_scenario.specs.Parts.{Parts}
 use Rattle.zk_worker.specs.declared.steps.Step.{Step}
 use Rattle.zk_worker.specs.declared.steps.Step.TheVariants as steps

@@ -5,17 +5,18 @@ use Rattle.std.specs.List.{slice_get}
 use Rattle.std.specs.Option.{option_map_or}
 use Rattle.zk_line.specs.declared.types.Decl.{Decl}
 use Rattle.zk_line.specs.Objects.{kind_of, is_at, is_met}
-use Rattle.zk_model_bus.specs.declared.kinds.Need.{Need}
-use Rattle.zk_model_bus.specs.declared.kinds.Need.TheVariants as needs
+use Rattle.zk_base.specs.declared.kinds.Need.{Need}
+use Rattle.zk_base.specs.declared.kinds.Need.TheVariants as needs
 use Rattle.zk_model_bus.specs.declared.table.TableOp.{TableOp}
 use Rattle.zk_model_bus.specs.declared.table.TableOp.TheVariants as table_ops
+use Rattle.zk_base.specs.Kinds as base
 use Rattle.zk_model_bus.specs.Table as tables
 use Rattle.zk_scenario.specs.Parts.{Parts}
 use Rattle.zk_worker.specs.TableSetup.{setup_of, is_object, names_declared}
 
 -- the kinds of all objects say which of them meet a need
 pub met-at : (need : Need) (decls : List Decl) (object : ℕ) →
-    option_map_or (tables.meets need) (slice_get (map kind_of decls) object) false ≡ is_at (is_met need) decls object
+    option_map_or (base.meets need) (slice_get (map kind_of decls) object) false ≡ is_at (is_met need) decls object
 met-at need [] object = refl
 met-at need (d ∷ ds) zero = refl
 met-at need (d ∷ ds) (suc object) = met-at need ds object
@@ -30,10 +31,10 @@ object-at : (decls : List Decl) (object : ℕ) → is_object decls object ≡ tr
 object-at decls object is = lt-ltb object (length (map kind_of decls)) (below decls object is)
 
 thread-at : (decls : List Decl) (thread object : ℕ) → (is_at (is_met needs.Thread) decls thread && is_object decls object) ≡ true →
-    (option_map_or (tables.meets needs.Thread) (slice_get (map kind_of decls) thread) false && nat_lt object (length (map kind_of decls))) ≡ true
+    (option_map_or (base.meets needs.Thread) (slice_get (map kind_of decls) thread) false && nat_lt object (length (map kind_of decls))) ≡ true
 thread-at decls thread object both =
     let parts = and_parts (is_at (is_met needs.Thread) decls thread) (is_object decls object) both in
-    and_from (option_map_or (tables.meets needs.Thread) (slice_get (map kind_of decls) thread) false) (nat_lt object (length (map kind_of decls)))
+    and_from (option_map_or (base.meets needs.Thread) (slice_get (map kind_of decls) thread) false) (nat_lt object (length (map kind_of decls)))
     (met-at needs.Thread decls thread ∙ parts.0) (object-at decls object parts.1)
 
 -- so it is of an operation

@@ -13,9 +13,9 @@ use Rattle.zk_line.specs.declared.types.Decl.{Decl}
 use Rattle.zk_line.specs.declared.types.Declared.{Declared}
 use Rattle.zk_line.specs.declared.types.Declared.TheVariants.{Object, Allow}
 use Rattle.zk_line.specs.Objects.{kind_of, is_at, is_thread, is_raw, places_from, places}
-use Rattle.zk_model_bus.specs.declared.kinds.Kind.{Kind}
-use Rattle.zk_model_bus.specs.declared.kinds.Kind.TheVariants as kinds
-use Rattle.zk_model_bus.specs.Table as tables
+use Rattle.zk_base.specs.declared.kinds.Kind.{Kind}
+use Rattle.zk_base.specs.declared.kinds.Kind.TheVariants as kinds
+use Rattle.zk_base.specs.Kinds as base
 use Rattle.zk_model_bus.specs.Table.{IsSetup}
 use Rattle.zk_scenario.proofs.Valid.{number_of-thread}
 use Rattle.zk_scenario.specs.Parts.{Parts}
@@ -70,14 +70,14 @@ once n test (d ∷ ds) p q object first second = by (test d) p q (λ a b one two
 thread-kind : (decls : List Decl) (object : ℕ) → is_at is_thread decls object ≡ true → slice_get (map kind_of decls) object ≡ Some kinds.Thread
 thread-kind [] object is = absurd (cc)
 thread-kind (d ∷ ds) zero is = by (kind_of d) is where
-  by : (kind : Kind) → tables.same_kind kind kinds.Thread ≡ true → Some kind ≡ Some kinds.Thread
+  by : (kind : Kind) → base.same_kind kind kinds.Thread ≡ true → Some kind ≡ Some kinds.Thread
   by kinds.Thread is = refl
   by kind is = absurd (cc)
 thread-kind (d ∷ ds) (suc object) is = thread-kind ds object is
 
 kind-thread : (decls : List Decl) (object : ℕ) → slice_get (map kind_of decls) object ≡ Some kinds.Thread → is_at is_thread decls object ≡ true
 kind-thread [] object is = absurd (cc)
-kind-thread (d ∷ ds) zero is = ap (λ (kind : Kind). tables.same_kind kind kinds.Thread) (same_Some (kind_of d) kinds.Thread is)
+kind-thread (d ∷ ds) zero is = ap (λ (kind : Kind). base.same_kind kind kinds.Thread) (same_Some (kind_of d) kinds.Thread is)
 kind-thread (d ∷ ds) (suc object) is = kind-thread ds object is
 
 -- the thread of a place

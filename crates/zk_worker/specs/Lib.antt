@@ -1,7 +1,5 @@
 pub mod Attempt
-pub mod CallLaws
 pub mod Calls
-pub mod CheckLaws
 pub mod Checks
 pub mod Choosing
 pub mod Families
@@ -10,9 +8,6 @@ pub mod Looks
 pub mod Machines
 pub mod Places
 pub mod Playing
-pub mod PollLaws
-pub mod PollLogs
-pub mod PollReplies
 pub mod Polls
 pub mod Positions
 pub mod Protocol
@@ -23,9 +18,6 @@ pub mod Replies
 pub mod Right
 pub mod Shown
 pub mod Single
-pub mod StackLaws
-pub mod StackLogs
 pub mod Stacks
 pub mod TableSetup
-pub mod VisitLaws
 pub mod Waits

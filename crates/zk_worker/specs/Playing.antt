@@ -64,7 +64,7 @@ pub record HasStepped (alone : Bool) (m : Machines) (s : Parts) (at at' : At) (o
 -- a player that isn't through and has steps left found none of them possible
 pub record HasWaited (alone : Bool) (m : Machines) (s : Parts) (at at' : At) (old new : Shown)
     (counts counts' : Counts) : Type 0 where
-  pub unspent : is_spent_at at ≡ false
+  pub unspent : is_spent_at s at ≡ false
   pub not_through : is_through at.frames ≡ false
   pub none : WasNone alone m at.who (attempts s at) old new counts counts'
   pub unchanged : at' ≡ at
@@ -83,5 +83,5 @@ Does alone m s at at' old new counts counts' Did =
 Does alone m s at at' old new counts counts' NotYet =
     HasWaited alone m s at at' old new counts counts'
 Does alone m s at at' old new counts counts' Ended =
-    (is_spent_at at ≡ false) × HasStopped at at' old new (is_through at.frames)
-Does alone m s at at' old new counts counts' Spent = HasStopped at at' old new (is_spent_at at)
+    (is_spent_at s at ≡ false) × HasStopped at at' old new (is_through at.frames)
+Does alone m s at at' old new counts counts' Spent = HasStopped at at' old new (is_spent_at s at)

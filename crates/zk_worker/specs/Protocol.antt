@@ -9,7 +9,7 @@ use Rattle.zk_scenario.specs.Players.{players, prio_of, calls_of}
 use Rattle.zk_model_wait.specs.Signal.{clear_at}
 use Rattle.zk_model_work.specs.declared.ops.WorkOp.TheVariants as ops
 use Rattle.zk_model_work.specs.declared.ops.WorkReply.TheVariants as replies
-use Rattle.zk_worker.specs.declared.steps.TheConstants.{MOST_STEPS}
+use Rattle.zk_scenario.specs.Steps.{steps_of}
 use Rattle.zk_worker.specs.declared.frames.TheConstants.{MOST_FRAMES}
 use Rattle.zk_worker.specs.declared.steps.Step.{Step}
 use Rattle.zk_worker.specs.declared.steps.Step.TheVariants as steps
@@ -65,7 +65,7 @@ checks_first None own = own
 -- the next attempts of a player in order: none where it is through or has made all its steps
 abbrev pub attempts : Parts → At → List Step
 attempts s at =
-    if nat_lt (length at.spots) MOST_STEPS
+    if nat_lt (length at.spots) (steps_of s)
     then checks_first (next_check s at.mode at.passed at.frames) (frames_attempts s at.frames) else []
 
 -- the step is one of the player's next attempts

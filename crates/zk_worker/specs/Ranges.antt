@@ -7,7 +7,7 @@ use Rattle.zk_line.specs.Calls.{is_user_call}
 use Rattle.zk_line.specs.Fits.{call_fits}
 use Rattle.zk_line.specs.Needs.{needs_of, IsMet}
 use Rattle.zk_line.specs.Objects.{places, is_at, is_met, is_user, is_queue, is_item}
-use Rattle.zk_model_bus.specs.declared.kinds.Need.{Need}
+use Rattle.zk_base.specs.declared.kinds.Need.{Need}
 use Rattle.zk_model_bus.specs.declared.table.TableOp.TheVariants as table_ops
 use Rattle.zk_scenario.specs.Parts.{Parts}
 use Rattle.zk_scenario.specs.Players.{calls_of}

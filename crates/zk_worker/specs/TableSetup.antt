@@ -1,7 +1,7 @@
 use Rattle.std.specs.Prelude.{ℕ, Bool, true, not, ◌&&◌, Some, None, List, map}
 use Rattle.zk_line.specs.declared.types.Decl.{Decl}
 use Rattle.zk_line.specs.Objects.{kind_of, is_raw, is_user, is_thread, is_at, is_met, number_of, places}
-use Rattle.zk_model_bus.specs.declared.kinds.Need.TheVariants as needs
+use Rattle.zk_base.specs.declared.kinds.Need.TheVariants as needs
 use Rattle.zk_model_bus.specs.declared.table.TableOp.{TableOp}
 use Rattle.zk_model_bus.specs.declared.table.TableOp.TheVariants as table_ops
 use Rattle.zk_model_bus.specs.Table.{Setup}

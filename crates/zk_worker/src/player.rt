@@ -14,7 +14,6 @@ use crate::checks::{check_step, mode_after, next_check, oops_in, start_mode};
 use crate::frames::MOST_FRAMES;
 use crate::protocol::spot_of;
 use crate::stack::{frames_ahead, frames_progress, move_frames, open_frame, put_answer, settle};
-use crate::steps::MOST_STEPS;
 use crate::{
     Answer, Answered, Answers, Check, Frame, Log, Mode, PlayerState, Role, Spot, Spots, Stage,
     Step, StepReply, Word,
@@ -23,7 +22,7 @@ use std::alloc::Global;
 use std::marker::Model;
 use zk_base::{NoMemory, Who, push_within};
 use zk_model_bus::OopsWhy;
-use zk_scenario::{Decl, Scenario};
+use zk_scenario::{Decl, MOST_STEPS, Scenario};
 
 /// A player of a scenario, and what it has done.
 ///
@@ -168,7 +167,7 @@ impl Player {
     pub fn ahead(&self, scenario: &Scenario, index: u32) -> Option<Step>
         ensures { result ≡ slice_get (attempts scenario.now self.now) index }
     {
-        if self.is_spent() {
+        if self.is_spent(scenario) {
             return None;
         }
         match self.next_check(scenario) {
@@ -249,11 +248,27 @@ impl Player {
         self.who
     }
 
-    /// How it stands.
-    pub fn state(&self) -> PlayerState
-        ensures { result ≡ state_at self.now }
+    /// How many scripts it has open, a worker's run among them. A call has ended where its script is the innermost open
+    /// one again, or isn't open any more.
+    pub fn depth(&self) -> u32
+        ensures count { result ≡ length self.now.frames }
+        ensures most { result ≤ MOST_FRAMES }
     {
-        if self.is_spent() {
+        self.stack.len() as u32
+    }
+
+    /// Whether it plays as a user or a supervisor, or was ended by an oops.
+    pub fn mode(&self) -> Mode
+        ensures { result ≡ self.now.mode }
+    {
+        self.mode
+    }
+
+    /// How it stands.
+    pub fn state(&self, scenario: &Scenario) -> PlayerState
+        ensures { result ≡ state_at scenario.now self.now }
+    {
+        if self.is_spent(scenario) {
             return PlayerState::Spent;
         }
         if self.mode == Mode::Dead {
@@ -288,11 +303,11 @@ impl Player {
         self.spots.len() as u32
     }
 
-    /// Whether it has made all the steps that a player may make.
-    pub fn is_spent(&self) -> bool
-        ensures { result ≡ is_spent_at self.now }
+    /// Whether it has made all the steps that a player of its scenario may make.
+    pub fn is_spent(&self, scenario: &Scenario) -> bool
+        ensures { result ≡ is_spent_at scenario.now self.now }
     {
-        self.spots.len() >= MOST_STEPS as usize
+        self.spots.len() >= scenario.steps() as usize
     }
 
     /// Where each of its steps is recorded, by the number of the step.
@@ -310,10 +325,10 @@ impl Player {
     }
 
     /// What it has done.
-    pub fn into_log(self) -> Log
-        ensures { result ≡ log_of self }
+    pub fn into_log(self, scenario: &Scenario) -> Log
+        ensures { result ≡ log_of scenario.now self }
     {
-        let state = self.state();
+        let state = self.state(scenario);
         let Player {
             who: _,
             mode: _,

@@ -98,7 +98,7 @@ impl Player {
         ensures alone { V.alone services.new ≡ V.alone services.old }
         ensures home { V.home services.new ≡ V.home services.old }
     {
-        if self.is_spent() {
+        if self.is_spent(scenario) {
             return Ok(Stepped::Spent);
         }
         if self.is_through() {

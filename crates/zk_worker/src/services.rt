@@ -1,11 +1,11 @@
 ghost use Rattle.std.specs.Prelude.{◌≡◌, ℕ, ◌<◌, Bool, true, None, IfOk};
 ghost use Rattle.zk_base.specs.declared.ids.Who.{Who};
 ghost use Rattle.zk_base.specs.Causes.{Rose};
+ghost use Rattle.zk_scenario.specs.declared.scenario.TheConstants.{MOST_STEPS};
 ghost use Rattle.zk_worker.specs.Machines.{Machines};
 ghost use Rattle.zk_worker.specs.Shown.{Shown, IsLater, AreShort};
 ghost use Rattle.zk_worker.specs.Attempt.{Counts, takes, NoneFell, SamePlayers, Attempted, KeepsElsewhere};
 
-use crate::steps::MOST_STEPS;
 use crate::{Step, StepReply};
 use zk_base::{NoMemory, Who};
 

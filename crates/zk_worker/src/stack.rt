@@ -1,10 +1,10 @@
 ghost use Rattle.std.specs.Prelude.{◌≡◌, ◌+◌, ◌<◌, ◌≤◌, [], ◌∷◌, ◌++◌, slice_get, reverse, length, vec_len, vec_capacity, MatchOption, All, option_copied};
+ghost use Rattle.zk_scenario.specs.declared.scenario.TheConstants.{MOST_STEPS};
 ghost use Rattle.zk_worker.specs.Protocol.{frames_attempts, frames_progress, frames_after, settled, is_over, first_frame, entered, answers_after};
 ghost use Rattle.zk_worker.specs.Stacks.{is_top_over};
 
 use crate::frames::MOST_FRAMES;
 use crate::protocol::{is_over, role_ahead, role_progress};
-use crate::steps::MOST_STEPS;
 use crate::{Answered, Frame, Progress, Role, Stage, Step, StepReply};
 use zk_base::push_within;
 use zk_scenario::Scenario;

@@ -5,9 +5,6 @@ use zk_model_wait::{
 };
 use zk_model_work::{WorkOp, WorkReply};
 
-/// The most steps that a player makes. One that has made them makes no further one.
-pub const MOST_STEPS: u32 = 20_000;
-
 /// The most attempts that a player has at a time: those of a poll that waits for eight events, and its alarm.
 pub const MOST_ATTEMPTS: u32 = 9;
 

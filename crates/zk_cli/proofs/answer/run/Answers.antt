@@ -22,10 +22,13 @@ use Rattle.zk_model_work.proofs.Drains.{undrained-fresh}
 use Rattle.zk_cli.specs.Answer.{IsOutput}
 use Rattle.zk_cli.proofs.Outcomes.{output-run}
 use Rattle.zk_cli.proofs.PollsKept.{polls-kept}
+use Rattle.zk_cli.proofs.AttemptsKept.{attempts-kept}
 use Rattle.zk_cli.proofs.CallsKept.{calls-kept}
+use Rattle.zk_cli.proofs.PlaysKept.{plays-kept}
 use Rattle.zk_cli.proofs.ChecksKept.{checks-kept}
 use Rattle.zk_cli.proofs.PublishesKept.{publishes-kept}
 use Rattle.zk_cli.proofs.ScriptsKept.{scripts-kept}
+use Rattle.zk_cli.proofs.ToldPlayers.{players-told}
 use Rattle.zk_cli.proofs.Starts.{sem-starts, msgq-starts, signal-starts, chan-starts, observer-starts}
 use Rattle.zk_cli.proofs.answer.run.Goals as goal
 
@@ -92,6 +95,9 @@ returns c =
       publishes = publishes-kept c.args.scenario.now trace c.replay.ensures.valid c.in_ok-trace.ensures.lawful;
       checks = checks-kept c.args.scenario.now trace c.in_ok-trace.ensures.lawful;
       calls = calls-kept c.args.scenario.now trace c.in_ok-trace.ensures.lawful;
+      attempts = attempts-kept c.args.scenario.now trace c.in_ok-trace.ensures.lawful;
+      plays = plays-kept c.args.scenario.now trace c.replay.ensures.valid c.in_ok-trace.ensures.lawful;
+      told = players-told c.args.scenario.now trace c.in_ok-trace.ensures.lawful;
       over = c.in_ok-trace.ensures.over;
       ends = refl;
       printed = c.in_ok-put_trace.ensures.text ∙ ap (λ (text : List ℕ). text ++ trace_text c.args.scenario.now trace) c.requires.spelled;

@@ -3,43 +3,43 @@ use Rattle.zk_cli.proofs.Outcomes.{Went-prints, Went-words, Went-no_form, Went-c
 use Rattle.zk_cli.proofs.top.zk_plain.Goals as goal
 
 pub returns-clause-success : goal.returns-clause-success
-returns-clause-success g c = Went-prints _ _ _ _ _ _ _ _ _ _ Success c.plain.ensures tt
+returns-clause-success g c = λ form. Went-prints _ _ _ _ _ _ _ _ _ _ Success c.plain.ensures.went tt
 
 pub returns-clause-stuck : goal.returns-clause-stuck
-returns-clause-stuck g c = Went-prints _ _ _ _ _ _ _ _ _ _ Stuck c.plain.ensures tt
+returns-clause-stuck g c = λ form. Went-prints _ _ _ _ _ _ _ _ _ _ Stuck c.plain.ensures.went tt
 
 pub returns-clause-spent : goal.returns-clause-spent
-returns-clause-spent g c = Went-prints _ _ _ _ _ _ _ _ _ _ Spent c.plain.ensures tt
+returns-clause-spent g c = λ form. Went-prints _ _ _ _ _ _ _ _ _ _ Spent c.plain.ensures.went tt
 
 pub returns-clause-refused : goal.returns-clause-refused
-returns-clause-refused g c = Went-prints _ _ _ _ _ _ _ _ _ _ Refused c.plain.ensures tt
+returns-clause-refused g c = λ form. Went-prints _ _ _ _ _ _ _ _ _ _ Refused c.plain.ensures.went tt
 
 pub returns-clause-words : goal.returns-clause-words
-returns-clause-words g c = λ same. (Went-words _ _ _ _ _ _ _ _ _ _ c.plain.ensures same).1
+returns-clause-words g c = λ same. (Went-words _ _ _ _ _ _ _ _ _ _ c.plain.ensures.went same).1
 
 pub returns-clause-a_form : goal.returns-clause-a_form
-returns-clause-a_form g c = λ same. (Went-words _ _ _ _ _ _ _ _ _ _ c.plain.ensures same).0
+returns-clause-a_form g c = λ same. (Went-words _ _ _ _ _ _ _ _ _ _ c.plain.ensures.went same).0
 
 pub returns-clause-no_form : goal.returns-clause-no_form
-returns-clause-no_form g c = Went-no_form _ _ _ _ _ _ _ _ _ _ c.plain.ensures
+returns-clause-no_form g c = Went-no_form _ _ _ _ _ _ _ _ _ _ c.plain.ensures.went
 
 pub returns-clause-complete : goal.returns-clause-complete
-returns-clause-complete g c = Went-complete _ _ _ _ _ _ _ _ _ _ c.plain.ensures
+returns-clause-complete g c = Went-complete _ _ _ _ _ _ _ _ _ _ c.plain.ensures.went
 
 pub returns-clause-read_fault : goal.returns-clause-read_fault
-returns-clause-read_fault g c = Went-read_fault _ _ _ _ _ _ _ _ _ _ c.plain.ensures
+returns-clause-read_fault g c = Went-read_fault _ _ _ _ _ _ _ _ _ _ c.plain.ensures.went
 
 pub returns-clause-write_fault : goal.returns-clause-write_fault
-returns-clause-write_fault g c = Went-write_fault _ _ _ _ _ _ _ _ _ _ c.plain.ensures
+returns-clause-write_fault g c = Went-write_fault _ _ _ _ _ _ _ _ _ _ c.plain.ensures.went
 
 pub returns-clause-nothing : goal.returns-clause-nothing
-returns-clause-nothing g c = Went-nothing _ _ _ _ _ _ _ _ _ _ c.plain.ensures
+returns-clause-nothing g c = Went-nothing _ _ _ _ _ _ _ _ _ _ c.plain.ensures.went
 
 pub returns-clause-front : goal.returns-clause-front
-returns-clause-front g c = Went-front _ _ _ _ _ _ _ _ _ _ c.plain.ensures
+returns-clause-front g c = Went-front _ _ _ _ _ _ _ _ _ _ c.plain.ensures.went
 
 pub returns-clause-words_front : goal.returns-clause-words_front
-returns-clause-words_front g c = Went-words_front _ _ _ _ _ _ _ _ _ _ c.plain.ensures
+returns-clause-words_front g c = Went-words_front _ _ _ _ _ _ _ _ _ _ c.plain.ensures.went
 
 pub returns-clause-read : goal.returns-clause-read
-returns-clause-read g c = Went-read _ _ _ _ _ _ _ _ _ _ c.plain.ensures
+returns-clause-read g c = Went-read _ _ _ _ _ _ _ _ _ _ c.plain.ensures.went

@@ -5,6 +5,7 @@ pub returns : goal.returns
 returns c = λ message valid observers h legal. record {
   holder = c.one_holds.ensures.holder message valid observers h legal;
   gained = c.one_holds.ensures.gained message valid observers h legal;
+  one_wait = c.one_holds.ensures.one_wait message valid observers h legal;
   at_once = c.one_holds.ensures.at_once message valid observers h legal;
   by_free = c.one_holds.ensures.by_free message valid observers h legal;
   only = c.one_holds.ensures.only message valid observers h legal;

@@ -1,9 +1,5 @@
 use Rattle.std.proofs.Common.{List, length, ◌≡◌, false, refl, ap, sym, subst, ◌∙◌}
-use Rattle.zk_replay.specs.Alone.{plain_shown}
-use Rattle.zk_base.specs.declared.ids.Entry.{Entry}
-use Rattle.zk_model_wait.specs.declared.signal.SignalOp.{SignalOp}
-use Rattle.zk_model_wait.specs.declared.signal.SignalReply.{SignalReply}
-use Rattle.zk_trace.specs.Looked.{item_looks_of, signal_looks_of}
+use Rattle.zk_services.specs.Alone.{plain_shown}
 use Rattle.zk_replay.specs.Ending.{ending_by}
 use Rattle.zk_replay.specs.RoundRobin.{World, is_spent}
 use Rattle.zk_replay.specs.Ready.{IsReady}
@@ -11,8 +7,7 @@ use Rattle.zk_replay.specs.Turning.{world}
 use Rattle.zk_replay.proofs.Beginning.{ready-first, unspent-first, world-first}
 use Rattle.zk_replay.proofs.Endings.{replayed, over}
 use Rattle.zk_replay.proofs.Lawful.{lawful}
-use Rattle.zk_replay.proofs.Gathered.{logs-short}
-use Rattle.zk_replay.specs.Looks.{AreShort}
+use Rattle.zk_replay.proofs.Readiness.{logs-short}
 use Rattle.zk_replay.proofs.run.replay.Goals as goal
 
 pub play_rounds-requires-clause-alone : goal.play_rounds-requires-clause-alone
@@ -28,19 +23,14 @@ play_rounds-requires-clause-ready c =
 pub play_rounds-requires-clause-unspent : goal.play_rounds-requires-clause-unspent
 play_rounds-requires-clause-unspent c =
     let s = c.args.scenario.now in
-    subst (λ (w : World). is_spent w ≡ false)
+    subst (λ (w : World). is_spent s w ≡ false)
     (sym (world-first s (plain_shown c.in_ok-services.services) c.in_ok-players.players.items c.in_ok-services.ensures.shown c.in_ok-players.ensures))
     (unspent-first s)
 
-pub item_looks-requires : goal.item_looks-requires
-item_looks-requires c =
+pub gather-requires : goal.gather-requires
+gather-requires c =
     let new = world (plain_shown c.play_rounds.new.services) c.play_rounds.new.players.items in
-    subst AreShort (sym (c.items.ensures ∙ c.in_ok-logs.ensures)) (logs-short c.args.scenario.now new c.in_ok-play_rounds.ensures.ready)
-
-pub signal_looks-requires : goal.signal_looks-requires
-signal_looks-requires c =
-    let new = world (plain_shown c.play_rounds.new.services) c.play_rounds.new.players.items in
-    subst AreShort (sym (c.items-3.ensures ∙ c.in_ok-logs.ensures)) (logs-short c.args.scenario.now new c.in_ok-play_rounds.ensures.ready)
+    logs-short c.args.scenario.now new c.in_ok-play_rounds.ensures.ready
 
 pub returns-clause-replay : goal.returns-clause-replay
 returns-clause-replay c =
@@ -48,15 +38,10 @@ returns-clause-replay c =
     let old = world (plain_shown c.in_ok-services.services) c.in_ok-players.players.items in
     let new = world (plain_shown c.play_rounds.new.services) c.play_rounds.new.players.items in
     let so_far = c.in_ok-play_rounds.ensures.rounds in
-    let all = c.in_ok-all in
-    replayed s old new _ c.first_services.ensures.valid
+    replayed s old new c.ending_of-ending.result _ c.first_services.ensures.valid
     (world-first s (plain_shown c.in_ok-services.services) c.in_ok-players.players.items c.in_ok-services.ensures.shown c.in_ok-players.ensures)
     so_far.0 so_far.1 c.in_ok-play_rounds.ensures.over
-    (c.ending_of-ending.ensures ∙ ap ending_by c.deref.ensures.value)
-    all.ensures.work all.ensures.clock all.ensures.table all.ensures.sems all.ensures.msgqs all.ensures.signals all.ensures.chans all.ensures.observers
-    (c.in_ok-item_looks.ensures ∙ ap item_looks_of c.items.ensures)
-    (c.in_ok-signal_looks.ensures ∙ ap (λ (h : List (List (Entry SignalOp SignalReply))). signal_looks_of (length h) c.items-3.result.now) c.items-2.ensures
-    ∙ ap (signal_looks_of (length all.all.signals)) c.items-3.ensures) c.in_ok-logs.ensures
+    (c.ending_of-ending.ensures ∙ ap (ending_by s) c.deref.ensures.value) c.in_ok-trace.ensures
 
 pub returns-clause-lawful : goal.returns-clause-lawful
 returns-clause-lawful c = lawful c.args.scenario.now _ c.first_services.ensures.valid (returns-clause-replay c)

@@ -12,9 +12,9 @@ invariant-loop g l =
     record {
       alone : IsAlone l.scenario (g.V.Services.alone l.services) (g.V.Services.machines l.services) (g.V.Services.serves l.services);
       ready : IsReady l.scenario now;
-      unspent : is_spent now ≡ false;
+      unspent : is_spent l.scenario now ≡ false;
       so_far : (n : ℕ) × (now ≡ rounds (machines_of l.scenario) l.scenario n old);
     }
 
 abbrev pub decreases-loop : goal.decreases-loop
-decreases-loop g l = all_left l.players.items
+decreases-loop g l = all_left l.scenario l.players.items

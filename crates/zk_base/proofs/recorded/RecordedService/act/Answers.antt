@@ -1,6 +1,7 @@
 use Rattle.std.proofs.Common.{◌≡◌, ◌≤◌, ◌+◌, ◌∙◌, ap, sym, subst, false, ◌∷◌, [], ◌++◌, vec_len, vec_capacity, length, is_some, arith, Some}
 use Rattle.zk_base.specs.Legal.{state_after}
 use Rattle.zk_base.specs.History.{entry, IsAbove}
+use Rattle.zk_base.specs.Touched.{LeavesOthers}
 use Rattle.zk_base.proofs.Histories.{in_range-after, entries-after, state_after-snoc, room-step, IsRecorded-snoc, room-falls}
 use Rattle.zk_base.proofs.recorded.RecordedService.act.Goals as goal
 
@@ -9,19 +10,19 @@ step-requires g c =
     let m = g.C.Engine.machine in
     let past = c.self.inside.past.items in
     let start = ap (λ v. v.start) c.self.view_is in
-    let same = ap (λ f. f c.args.op) (in_range-after m c.counts_entries.ensures.ranges c.self.inside.start past) in
+    let same = ap (λ f. f c.args.op) (in_range-after m c.counts_entries.ensures.ranges c.self.inside.start.value past) in
     let range = same ∙ ap (λ s. m.in_range s c.args.op) start ∙ c.requires.range in
-    let counted = entries-after m g.C.Engine.entries c.counts_entries.ensures.counts c.self.inside.start past in
+    let counted = entries-after m g.C.Engine.entries c.counts_entries.ensures.counts c.self.inside.start.value past in
     let long = ap (λ v. length v.history) c.self.view_is in
     let first = c.self.invariant.first in
     let short = c.requires.short in
-    record { ready = (state_after m c.self.inside.start past, c.self.invariant.stands_for, range, omega arith) }
+    record { ready = (state_after m c.self.inside.start.value past, c.self.invariant.stands_for, range, omega arith) }
 
 pub invariant_of-self-in-Some : goal.invariant_of-self-in-Some
 invariant_of-self-in-Some g c =
     let m = g.C.Engine.machine in
     let past = c.self.inside.past.items in
-    let first = c.self.inside.start in
+    let first = c.self.inside.start.value in
     let s = state_after m first past in
     let e = entry c.args.who c.args.step c.args.op c.in-Some.kept in
     let start = ap (λ v. v.start) c.self.view_is in
@@ -59,7 +60,7 @@ pub returns-in-Some-clause-room : goal.returns-in-Some-clause-room
 returns-in-Some-clause-room g c =
     let m = g.C.Engine.machine in
     let past = c.self.inside.past.items in
-    let first = c.self.inside.start in
+    let first = c.self.inside.start.value in
     let s = state_after m first past in
     let owed = g.C.Engine.owed in
     let e = entry c.args.who c.args.step c.args.op c.in-Some.kept in
@@ -74,3 +75,20 @@ returns-in-Some-clause-room g c =
     (vec_capacity c.push_within.new.items)
     (g.C.Engine.room c.self.inside.engine) (g.C.Engine.room c.step.new.self) (sym (ap (λ v. v.room) c.self.view_is)) len
     grown (omega (arith, after, adds)) c.step.ensures.room
+
+pub returns-in-Some-clause-touched : goal.returns-in-Some-clause-touched
+returns-in-Some-clause-touched g c =
+    let m = g.C.Engine.machine in
+    let past = c.self.inside.past.items in
+    let first = c.self.inside.start.value in
+    let s = state_after m first past in
+    let word = g.C.Engine.word in
+    let touched = g.C.Engine.touched c.step.new.self in
+    let e = entry c.args.who c.args.step c.args.op c.in-Some.kept in
+    let steps = rw c.in-Some.is at (c.in_ok-step.ensures.step s c.self.invariant.stands_for) in
+    let left = c.step.ensures.touched s (m.next s c.args.who c.args.op) c.self.invariant.stands_for steps.2 in
+    let items = c.push_within.ensures.items ∙ ap (λ h. h ++ e ∷ []) c.make_room.ensures.items in
+    let after = ap (λ h. state_after m first h) items ∙ state_after-snoc m first past e in
+    let before = ap (λ v. state_after m v.start v.history) c.self.view_is in
+    subst (λ t. LeavesOthers g.C.Engine.WORDS touched (word t) (word (state_after m first c.push_within.new.items.items))) before
+    (subst (λ t. LeavesOthers g.C.Engine.WORDS touched (word s) (word t)) (sym after) left)

@@ -3,9 +3,9 @@ use Rattle.zk_objects.specs.Bits.{Marked, is_marked}
 use Rattle.zk_objects.proofs.BitWords.{marked-low}
 use Rattle.zk_objects.proofs.marks.Marks.insert.Goals as goal
 
-pub returns-then-player-lt64-clause-added : goal.returns-then-player-lt64-clause-added
-returns-then-player-lt64-clause-added c = λ other.
+pub returns-then-player-lt-MOST_PLAYERS-clause-added : goal.returns-then-player-lt-MOST_PLAYERS-clause-added
+returns-then-player-lt-MOST_PLAYERS-clause-added c = λ other.
     let was : Marked = record { bits = c.self.inside.bits; above = c.self.inside.above.items; room = 0 } in
     let now : Marked = record { bits = c.given-self-inside.result; above = c.self.inside.above.items; room = 0 } in
-    marked-low was now c.args.player other c.if-player-lt64.true c.given-self-inside.ensures refl
+    marked-low was now c.args.player other c.if-player-lt-MOST_PLAYERS.true c.given-self-inside.ensures refl
     ∙ ap (λ (m : Marked). is_marked m other || eqb c.args.player other) c.self.view_is

@@ -4,7 +4,7 @@ use Rattle.zk_worker.specs.Checks.{mode_after}
 use Rattle.zk_worker.specs.Places.{At}
 use Rattle.zk_worker.specs.Protocol.{frames_progress, frames_after, answers_after, spot_of}
 use Rattle.zk_worker.proofs.Starts.{At-same}
-use Rattle.zk_worker.specs.declared.steps.TheConstants.{MOST_STEPS}
+use Rattle.zk_scenario.specs.declared.scenario.TheConstants.{MOST_STEPS}
 use Rattle.zk_worker.proofs.Limits.{IsRoomy-moved}
 use Rattle.zk_worker.proofs.player.Player.go_on.Goals as goal
 

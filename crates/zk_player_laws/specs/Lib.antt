@@ -1,0 +1,12 @@
+pub mod AnswerLaws
+pub mod CallLaws
+pub mod CheckLaws
+pub mod PollLaws
+pub mod PollLogs
+pub mod PollReplies
+pub mod StackLaws
+pub mod StackLogs
+pub mod ScriptLaws
+pub mod AttemptLaws
+pub mod StateLaws
+pub mod VisitLaws

@@ -1,6 +1,0 @@
-use Rattle.std.proofs.Common.{◌≡◌}
-use Rattle.zk_replay.specs.RoundRobin.{starts}
-use Rattle.zk_replay.proofs.run.first_players.Given as goal
-
-abbrev pub invariant-loop-number : goal.invariant-loop-number
-invariant-loop-number l = l.made.items ≡ starts l.scenario l.number

@@ -1,0 +1,108 @@
+use crate::play::{Played, play};
+use crate::spelled::{put_spelled, put_times};
+use std::alloc::Global;
+use zk_base::{NoMemory, Status, put, put_decimal};
+
+/// What is printed of these lines:
+///
+///     # NAME         a row begins, with no text yet
+///     LINE           the text goes on with this line
+///     *COUNT PIECE   the text goes on with this piece, so many times
+///     + PIECE        is the text with this piece behind it read? The text stays as it is
+///     ! WORDS        plays the text by these words: the status, and what is printed behind the text
+///     $ PIECE        plays the text: the status, and whether the output ends with this piece
+pub fn answered(alloc: Global, lines: &str) -> Result<Vec<u8>, NoMemory> {
+    let mut out = Vec::new(alloc);
+    let mut text = Vec::new(alloc);
+    for line in lines.split('\n') {
+        put_row(alloc, &mut out, &mut text, line)?;
+    }
+    Ok(out)
+}
+
+fn put_row(
+    alloc: Global,
+    out: &mut Vec<u8>,
+    text: &mut Vec<u8>,
+    line: &str,
+) -> Result<(), NoMemory> {
+    match line.as_bytes() {
+        [b'#', ..] => {
+            text.clear();
+            put_line(out, line.as_bytes())
+        }
+        [b'*', ..] => put_times(text, line.strip_prefix('*').unwrap_or("")),
+        [b'+', piece @ ..] => put_reading(alloc, out, text, piece),
+        [b'!', ..] => put_play(alloc, out, text, line),
+        [b'$', piece @ ..] => put_end(alloc, out, text, piece),
+        _ => put_line(text, line.as_bytes()),
+    }
+}
+
+fn put_line(out: &mut Vec<u8>, line: &[u8]) -> Result<(), NoMemory> {
+    put(out, line)?;
+    put(out, b"\n")
+}
+
+/// Whether the text with this piece behind it is read, or the refusal.
+fn put_reading(
+    alloc: Global,
+    out: &mut Vec<u8>,
+    text: &[u8],
+    piece: &[u8],
+) -> Result<(), NoMemory> {
+    let mut whole = Vec::new(alloc);
+    put(&mut whole, text)?;
+    put_spelled(&mut whole, behind_space(piece), 0)?;
+    let Played { status, sink } = play(alloc, " replay", &whole)?;
+    put(out, said(status, sink.held(), &whole))?;
+    put(out, b":")?;
+    put_line(out, piece)
+}
+
+/// What was said of a text: the refusal, or whether it is printed again as it stood, with a trace behind it.
+fn said<'a>(status: Status, held: &'a [u8], text: &[u8]) -> &'a [u8] {
+    match (status, held, held.strip_prefix(text)) {
+        (Status::Refused, [refusal @ .., b'\n'], _) => refusal,
+        (_, _, Some(behind)) if behind.starts_with(b"zt 1\n") => b"read",
+        _ => b"misprinted",
+    }
+}
+
+/// The status, and what is printed behind the text; all that is printed, where that doesn't begin with it.
+fn put_play(alloc: Global, out: &mut Vec<u8>, text: &[u8], line: &str) -> Result<(), NoMemory> {
+    let words = line.strip_prefix('!').unwrap_or("");
+    let Played { status, sink } = play(alloc, words, text)?;
+    put_decimal(out, u64::from(status.code()))?;
+    match sink.held().strip_prefix(text) {
+        Some(behind) => {
+            put(out, b", behind the text:\n")?;
+            put(out, behind)
+        }
+        None => {
+            put(out, b":\n")?;
+            put(out, sink.held())
+        }
+    }
+}
+
+/// The status, and whether the output ends with this piece.
+fn put_end(alloc: Global, out: &mut Vec<u8>, text: &[u8], piece: &[u8]) -> Result<(), NoMemory> {
+    let mut end = Vec::new(alloc);
+    put_spelled(&mut end, behind_space(piece), 0)?;
+    let Played { status, sink } = play(alloc, " replay", text)?;
+    put_decimal(out, u64::from(status.code()))?;
+    if sink.held().ends_with(&end) {
+        put(out, b", ends with")?;
+    } else {
+        put(out, b", doesn't end with")?;
+    }
+    put_line(out, piece)
+}
+
+fn behind_space(piece: &[u8]) -> &[u8] {
+    match piece {
+        [b' ', rest @ ..] => rest,
+        _ => piece,
+    }
+}

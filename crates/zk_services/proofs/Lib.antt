@@ -1,0 +1,5 @@
+pub mod Among
+pub mod Firsts
+pub mod Gathered
+pub mod LookedAt
+pub mod Starts

@@ -1,0 +1,5 @@
+pub mod Alone
+pub mod Gathered
+pub mod Looks
+pub mod Objects
+pub mod Starts

@@ -1,5 +1,0 @@
-use Rattle.zk_worker.proofs.UsersChecked.{each_user_is_checked}
-use Rattle.zk_worker.proofs.check_laws.users_are_checked.Goals as goal
-
-pub returns : goal.returns
-returns c = record { followed = each_user_is_checked }

@@ -1,5 +1,0 @@
-use Rattle.zk_worker.proofs.PollLaws.{poll_laws, poll_goes_on}
-use Rattle.zk_worker.proofs.poll_laws.keeps_poll_laws.Goals as goal
-
-pub returns : goal.returns
-returns c = record { answered = poll_laws; goes_on = poll_goes_on }
