@@ -121,7 +121,7 @@ module _ {M A : Type 0} where
 
   pub entry-new : (ws : Waits M A) (place : ℕ) (who : Who) (decides : Decides A) (opens : Option M)
       (ends quits : Option ℕ) → All (WereOrNew decides ws) (after_entry ws place who decides opens ends quits).decided
-  entry-new ws place who decides (Some matter) ends quits = all-were decides ws
+  entry-new ws place who decides (Some payload) ends quits = all-were decides ws
   entry-new ws place who decides None (Some at) quits =
       All-without (WereOrNew decides ws) (is_decision who.number at) ws.decided (all-were decides ws)
   entry-new ws place who decides None None (Some at) =
@@ -152,7 +152,7 @@ module _ {M A : Type 0} where
       (d : Decision A) → Contains ws.decided d →
       Contains (after_entry ws place who decides opens ends quits).decided d
       ⊎ ((is_at d.place ends || is_at d.place quits) ≡ true)
-  entry-stays ws place who decides (Some matter) ends quits d held = inl held
+  entry-stays ws place who decides (Some payload) ends quits d held = inl held
   entry-stays ws place who decides None (Some at) quits d held = by (ended-stays ws who.number at d held) where
     by : Contains (ended ws who.number at).decided d ⊎ (eqb at d.place ≡ true) →
         Contains (ended ws who.number at).decided d ⊎ ((eqb at d.place || is_at d.place quits) ≡ true)
@@ -269,7 +269,7 @@ module _ {S O R M : Type 0} (m : Machine S O R) (k : WaitKind S O R M) (has : Ha
     opened = each_wait_has_its_opening m k has s front start (replays-front s h front e replays at)
 
     Own : Type 0
-    Own = (who : Who) × (matter : M) × (who.number ≡ e.who.number) × WasOpened k front place who matter
+    Own = (who : Who) × (payload : M) × (who.number ≡ e.who.number) × WasOpened k front place who payload
 
     by : IsDecided k (state_after m s front) (decision place e.who.number e.reply)
         ⊎ ((k.quits e.op ≡ Some place) × (e.reply ≡ k.gives_up) × (decided_at place (k.waits (state_after m s front)) ≡ 0)
@@ -278,9 +278,9 @@ module _ {S O R M : Type 0} (m : Machine S O R) (k : WaitKind S O R M) (has : Ha
         (decision place e.who.number e.reply) opened.1 decided
     by (inr found) =
         let w = found.3.0 in
-        let was = All-contains (λ (v : Waiter M). WasOpened k front v.place v.who v.matter)
+        let was = All-contains (λ (v : Waiter M). WasOpened k front v.place v.who v.payload)
         (k.waits (state_after m s front)).waiting w opened.0 found.3.1 in
-        (w.who, w.matter, found.3.3, subst (λ (p : ℕ). WasOpened k front p w.who w.matter) found.3.2 was)
+        (w.who, w.payload, found.3.3, subst (λ (p : ℕ). WasOpened k front p w.who w.payload) found.3.2 was)
 
   pub may_end_once_decided : (s : S) (h : List (Entry O R)) → IsFirst k s → Replays m s h → MayEndOnceDecided m k s h
   may_end_once_decided s h start replays who op d ends own held =

@@ -118,8 +118,8 @@ module _ {S O R M : Type 0} (m : Machine S O R) (k : WaitKind S O R M) (has : Ha
 
   queued-entry : (ws : Waits M R) (next : ℕ) (who : Who) (decides : Decides R) (opens : Option M) (ends quits : Option ℕ)
       → AreQueued next ws.waiting → AreQueued (next + 1) (after_entry ws next who decides opens ends quits).waiting
-  queued-entry ws next who decides (Some matter) ends quits are =
-      let new : Waiter M = record { place = next; who = who; matter = matter } in
+  queued-entry ws next who decides (Some payload) ends quits are =
+      let new : Waiter M = record { place = next; who = who; payload = payload } in
       let P : Waiter M → Type 0 = λ (w : Waiter M). w.place < next + 1 in (
         put-in-order new ws.waiting are.0 are.1,
         All-put_before P (is_served_after new) new ws.waiting (omega arith)
@@ -169,8 +169,8 @@ module _ {S O R M : Type 0} (m : Machine S O R) (k : WaitKind S O R M) (has : Ha
       (w v : Waiter M) → quits ≡ None → InOrder ws.waiting → Contains ws.waiting w →
       (Contains (after_entry ws next who decides opens ends quits).waiting w → ⊥) →
       Contains (after_entry ws next who decides opens ends quits).waiting v → is_before w v ≡ true
-  out-entry ws next who decides (Some matter) ends quits w v none order was out is =
-      let new : Waiter M = record { place = next; who = who; matter = matter } in
+  out-entry ws next who decides (Some payload) ends quits w v none order was out is =
+      let new : Waiter M = record { place = next; who = who; payload = payload } in
       absurd (out (still-there (is_served_after new) new w ws.waiting was))
   out-entry ws next who decides None (Some at) quits w v none order was out is = absurd (out was)
   out-entry ws next who decides None None (Some at) w v none order was out is = absurd (cc)

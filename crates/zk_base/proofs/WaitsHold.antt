@@ -31,9 +31,9 @@ module _ {A : Type 0} (P : A → Type 0) (p : A → Bool) where
 
 module _ {S O R M : Type 0} (m : Machine S O R) (k : WaitKind S O R M) (has : HasWaits m k) where
   -- what was opened stays opened in a longer history
-  opened-longer : (h : List (Entry O R)) (l : Entry O R) (place : ℕ) (who : Who) (matter : M) →
-      WasOpened k h place who matter → WasOpened k (h ++ l ∷ []) place who matter
-  opened-longer h l place who matter was = record {
+  opened-longer : (h : List (Entry O R)) (l : Entry O R) (place : ℕ) (who : Who) (payload : M) →
+      WasOpened k h place who payload → WasOpened k (h ++ l ∷ []) place who payload
+  opened-longer h l place who payload was = record {
     front = was.front;
     e = was.e;
     at = record {
@@ -51,34 +51,34 @@ module _ {S O R M : Type 0} (m : Machine S O R) (k : WaitKind S O R M) (has : Ha
 
   -- all of some waits were opened
   abbrev pub AreOpened : List (Entry O R) → Waits M R → Type 0
-  AreOpened h ws = All (λ (w : Waiter M). WasOpened k h w.place w.who w.matter) ws.waiting × All (WasOpenedBy k h) ws.decided
+  AreOpened h ws = All (λ (w : Waiter M). WasOpened k h w.place w.who w.payload) ws.waiting × All (WasOpenedBy k h) ws.decided
 
   are-longer : (h : List (Entry O R)) (l : Entry O R) (ws : Waits M R) → AreOpened h ws → AreOpened (h ++ l ∷ []) ws
   are-longer h l ws were = (
-    All-weaker (λ (w : Waiter M). WasOpened k h w.place w.who w.matter)
-        (λ (w : Waiter M). WasOpened k (h ++ l ∷ []) w.place w.who w.matter)
-        (λ w was. opened-longer h l w.place w.who w.matter was) ws.waiting were.0,
+    All-weaker (λ (w : Waiter M). WasOpened k h w.place w.who w.payload)
+        (λ (w : Waiter M). WasOpened k (h ++ l ∷ []) w.place w.who w.payload)
+        (λ w was. opened-longer h l w.place w.who w.payload was) ws.waiting were.0,
     All-weaker (WasOpenedBy k h) (WasOpenedBy k (h ++ l ∷ [])) (opened_by-longer h l) ws.decided were.1,
   )
 
-  decided-opened : (h : List (Entry O R)) (answer : R) (w : Waiter M) → WasOpened k h w.place w.who w.matter →
+  decided-opened : (h : List (Entry O R)) (answer : R) (w : Waiter M) → WasOpened k h w.place w.who w.payload →
       WasOpenedBy k h (decide answer w)
-  decided-opened h answer w was = (w.who, w.matter, refl, was)
+  decided-opened h answer w was = (w.who, w.payload, refl, was)
 
   all-opened : (h : List (Entry O R)) (answer : R) (ws : List (Waiter M)) →
-      All (λ (w : Waiter M). WasOpened k h w.place w.who w.matter) ws → All (WasOpenedBy k h) (map (decide answer) ws)
+      All (λ (w : Waiter M). WasOpened k h w.place w.who w.payload) ws → All (WasOpenedBy k h) (map (decide answer) ws)
   all-opened h answer [] were = All-nil (WasOpenedBy k h)
   all-opened h answer (w ∷ ws) were =
-      let P : Waiter M → Type 0 = λ (w : Waiter M). WasOpened k h w.place w.who w.matter in
+      let P : Waiter M → Type 0 = λ (w : Waiter M). WasOpened k h w.place w.who w.payload in
       All-cons (WasOpenedBy k h) (decide answer w) (map (decide answer) ws)
       (decided-opened h answer w (All-head P w ws were)) (all-opened h answer ws (All-tail P w ws were))
 
   first-opened : (h : List (Entry O R)) (answer : R) (waiting : List (Waiter M)) (decided : List (Decision R)) →
-      All (λ (w : Waiter M). WasOpened k h w.place w.who w.matter) waiting → All (WasOpenedBy k h) decided →
+      All (λ (w : Waiter M). WasOpened k h w.place w.who w.payload) waiting → All (WasOpenedBy k h) decided →
       AreOpened h (decides_first answer waiting decided)
   first-opened h answer [] decided were was = (were, was)
   first-opened h answer (w ∷ ws) decided were was =
-      let P : Waiter M → Type 0 = λ (w : Waiter M). WasOpened k h w.place w.who w.matter in (
+      let P : Waiter M → Type 0 = λ (w : Waiter M). WasOpened k h w.place w.who w.payload in (
         All-tail P w ws were,
         All-append (WasOpenedBy k h) decided (decide answer w ∷ []) was
             (All-cons (WasOpenedBy k h) (decide answer w) [] (decided-opened h answer w (All-head P w ws were))
@@ -90,7 +90,7 @@ module _ {S O R M : Type 0} (m : Machine S O R) (k : WaitKind S O R M) (has : Ha
   decision-opened h nobody ws were = were
   decision-opened h (first answer) ws were = first-opened h answer ws.waiting ws.decided were.0 were.1
   decision-opened h (all answer) ws were = (
-    All-nil (λ (w : Waiter M). WasOpened k h w.place w.who w.matter),
+    All-nil (λ (w : Waiter M). WasOpened k h w.place w.who w.payload),
     All-append (WasOpenedBy k h) ws.decided (map (decide answer) ws.waiting) were.1 (all-opened h answer ws.waiting were.0),
   )
 
@@ -98,9 +98,9 @@ module _ {S O R M : Type 0} (m : Machine S O R) (k : WaitKind S O R M) (has : Ha
       (opens : Option M) (ends quits : Option ℕ) →
       length h ≡ place → k.opens e.op e.reply ≡ opens → AreOpened (h ++ e ∷ []) ws →
       AreOpened (h ++ e ∷ []) (after_entry ws place e.who decides opens ends quits)
-  entry-opened h e ws place decides (Some matter) ends quits long opens were =
-      let w : Waiter M = record { place = place; who = e.who; matter = matter } in
-      let P : Waiter M → Type 0 = λ (w : Waiter M). WasOpened k (h ++ e ∷ []) w.place w.who w.matter in
+  entry-opened h e ws place decides (Some payload) ends quits long opens were =
+      let w : Waiter M = record { place = place; who = e.who; payload = payload } in
+      let P : Waiter M → Type 0 = λ (w : Waiter M). WasOpened k (h ++ e ∷ []) w.place w.who w.payload in
       let here : P w = record {
         front = h;
         e = e;
@@ -113,7 +113,7 @@ module _ {S O R M : Type 0} (m : Machine S O R) (k : WaitKind S O R M) (has : Ha
   entry-opened h e ws place decides None (Some at) quits long opens were =
       (were.0, All-without (WasOpenedBy k (h ++ e ∷ [])) (is_decision e.who.number at) ws.decided were.1)
   entry-opened h e ws place decides None None (Some at) long opens were = (
-    All-without (λ (w : Waiter M). WasOpened k (h ++ e ∷ []) w.place w.who w.matter) (is_waiter e.who.number at)
+    All-without (λ (w : Waiter M). WasOpened k (h ++ e ∷ []) w.place w.who w.payload) (is_waiter e.who.number at)
         ws.waiting were.0,
     All-without (WasOpenedBy k (h ++ e ∷ [])) (is_decision e.who.number at) ws.decided were.1,
   )
@@ -136,7 +136,7 @@ module _ {S O R M : Type 0} (m : Machine S O R) (k : WaitKind S O R M) (has : Ha
   each_wait_has_its_opening s h start replays =
       let none : AreOpened [] (k.waits s) =
       subst (AreOpened []) (sym start.none) (
-        All-nil (λ (w : Waiter M). WasOpened k [] w.place w.who w.matter),
+        All-nil (λ (w : Waiter M). WasOpened k [] w.place w.who w.payload),
         All-nil (WasOpenedBy k []),
       ) in
       opened-all [] s h replays start.new none

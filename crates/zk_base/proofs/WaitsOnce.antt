@@ -203,14 +203,14 @@ module _ {S O R M : Type 0} (m : Machine S O R) (k : WaitKind S O R M) (has : Ha
             k.quits e.op ≡ quits →
             Steps ws (after_entry ws (k.entries s) e.who (k.decides s e.op e.reply) opens ends quits) place
             (one_if (eqb (k.entries s) place && is_some opens)) (one_if (is_at place ends || is_at place quits))
-        by (Some matter) None None o en q =
-            let w : Waiter M = record { place = k.entries s; who = e.who; matter = matter } in
+        by (Some payload) None None o en q =
+            let w : Waiter M = record { place = k.entries s; who = e.who; payload = payload } in
             subst (λ (n : ℕ). Steps ws (joined ws w) place n 0) (sym (one_both (eqb (k.entries s) place)))
             (joined-steps ws w place)
-        by (Some matter) (Some at) quits o en q =
-            absurd (none_some at (k.ends e.op) en ((has.opens_alone e.op e.reply matter o).0))
-        by (Some matter) None (Some at) o en q =
-            absurd (none_some at (k.quits e.op) q ((has.opens_alone e.op e.reply matter o).1))
+        by (Some payload) (Some at) quits o en q =
+            absurd (none_some at (k.ends e.op) en ((has.opens_alone e.op e.reply payload o).0))
+        by (Some payload) None (Some at) o en q =
+            absurd (none_some at (k.quits e.op) q ((has.opens_alone e.op e.reply payload o).1))
         by None (Some at) (Some to) o en q = absurd (none_some to (k.quits e.op) q (has.ends_alone e.op at en))
         by None (Some at) None o en q =
             let steps = ended-steps ws e.who.number at place e.reply (sym (has.ends s e.who e.op at en) ∙ reply) in

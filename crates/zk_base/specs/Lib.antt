@@ -14,7 +14,7 @@ pub mod Order
 pub mod Padded
 pub mod Padding
 pub mod Recording
-pub mod Shown
+pub mod RecordedView
 pub mod Touched
 pub mod Validators
 pub mod WaitLaws

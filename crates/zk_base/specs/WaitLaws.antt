@@ -39,7 +39,7 @@ after_decision (all answer) ws = all_decided answer ws
 -- the waits after an entry: one more, one less, or as it decides
 abbrev pub after_entry : {R M : Type 0} → Waits M R → ℕ → Who → Decides R → Option M →
     Option ℕ → Option ℕ → Waits M R
-after_entry ws place who decides (Some matter) ends quits = joined ws (record { place = place; who = who; matter = matter })
+after_entry ws place who decides (Some payload) ends quits = joined ws (record { place = place; who = who; payload = payload })
 after_entry ws place who decides None (Some at) quits = ended ws who.number at
 after_entry ws place who decides None None (Some at) = quitted ws who.number at
 after_entry ws place who decides None None None = after_decision decides ws
@@ -55,7 +55,7 @@ pub record HasWaits {S O R M : Type 0} (m : Machine S O R) (k : WaitKind S O R M
   pub quits : (s : S) (who : Who) (op : O) (place : ℕ) → k.quits op ≡ Some place →
       m.reply_of s who op ≡ quit_answer k.gives_up (k.waits s) who.number place
   -- an entry opens, ends or gives up one at most
-  pub opens_alone : (op : O) (reply : R) (matter : M) → k.opens op reply ≡ Some matter →
+  pub opens_alone : (op : O) (reply : R) (payload : M) → k.opens op reply ≡ Some payload →
       (k.ends op ≡ None) × (k.quits op ≡ None)
   pub ends_alone : (op : O) (place : ℕ) → k.ends op ≡ Some place → k.quits op ≡ None
 
@@ -66,17 +66,17 @@ pub record IsFirst {S O R M : Type 0} (k : WaitKind S O R M) (s : S) : Type 0 wh
 
 -- the wait of this place was opened there, by this player, for this
 pub record WasOpened {S O R M : Type 0} (k : WaitKind S O R M) (h : List (Entry O R))
-    (place : ℕ) (who : Who) (matter : M) : Type 0 where
+    (place : ℕ) (who : Who) (payload : M) : Type 0 where
   pub front : List (Entry O R)
   pub e : Entry O R
   pub at : IsEntry h front e
   pub there : length front ≡ place
   pub by : e.who ≡ who
-  pub opening : k.opens e.op e.reply ≡ Some matter
+  pub opening : k.opens e.op e.reply ≡ Some payload
 
 -- the wait that is decided was opened by the player of the decision
 abbrev pub WasOpenedBy : {S O R M : Type 0} → WaitKind S O R M → List (Entry O R) → Decision R → Type 0
-WasOpenedBy {M = M} k h d = (who : Who) × (matter : M) × (who.number ≡ d.player) × WasOpened k h d.place who matter
+WasOpenedBy {M = M} k h d = (who : Who) × (payload : M) × (who.number ≡ d.player) × WasOpened k h d.place who payload
 
 -- how many waits of this place go on, and how many are decided
 abbrev pub waiting_at : {M A : Type 0} → ℕ → Waits M A → ℕ
@@ -156,7 +156,7 @@ EachEndsOnce m k s h = (place : ℕ) → count_by (finishes k place) h ≤ 1
 -- who waits, and whose wait is decided, has opened it at its place
 abbrev pub EachWaitHasItsOpening : {S O R M : Type 0} → Machine S O R → WaitKind S O R M → S → List (Entry O R) → Type 0
 EachWaitHasItsOpening m k s h =
-    All (λ w. WasOpened k h w.place w.who w.matter) (k.waits (state_after m s h)).waiting
+    All (λ w. WasOpened k h w.place w.who w.payload) (k.waits (state_after m s h)).waiting
     × All (WasOpenedBy k h) (k.waits (state_after m s h)).decided
 
 -- the end of a wait is answered its decision
@@ -176,7 +176,7 @@ QuitTellsItsDecision {O = O} {R = R} m k s h = (front : List (Entry O R)) (e : E
 abbrev pub EndedByItsOwnPlayer : {S O R M : Type 0} → Machine S O R → WaitKind S O R M → S → List (Entry O R) → Type 0
 EndedByItsOwnPlayer {O = O} {R = R} {M = M} m k s h = (front : List (Entry O R)) (e : Entry O R) (place : ℕ) →
     IsEntry h front e → finishes k place e ≡ true →
-    (who : Who) × (matter : M) × (who.number ≡ e.who.number) × WasOpened k front place who matter
+    (who : Who) × (payload : M) × (who.number ≡ e.who.number) × WasOpened k front place who payload
 
 -- a wait that is decided may end, with its decision
 abbrev pub MayEndOnceDecided : {S O R M : Type 0} → Machine S O R → WaitKind S O R M → S → List (Entry O R) → Type 0

@@ -15,9 +15,9 @@ pub struct MemSink {
 
 impl Model for MemSink {
     ghost use Rattle.std.specs.Prelude.{◌-◌, ◌<◌, vec_len, vec_capacity};
-    ghost use Rattle.zk_base.specs.InMemory.{Taking};
+    ghost use Rattle.zk_base.specs.InMemory.{SinkView};
 
-    ghost Value = { Taking };
+    ghost Value = { SinkView };
 
     ghost view = { λ s. record {
       held = s.room.items;
@@ -92,9 +92,9 @@ pub struct SureSink {
 
 impl Model for SureSink {
     ghost use Rattle.std.specs.Prelude.{◌-◌, ◌<◌, [], vec_len, vec_capacity};
-    ghost use Rattle.zk_base.specs.InMemory.{Taking};
+    ghost use Rattle.zk_base.specs.InMemory.{SinkView};
 
-    ghost Value = { Taking };
+    ghost Value = { SinkView };
 
     ghost view = { λ s. record {
       held = s.room.items;

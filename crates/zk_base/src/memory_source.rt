@@ -19,9 +19,9 @@ pub struct MemSource {
 
 impl Model for MemSource {
     ghost use Rattle.std.specs.Prelude.{◌≤◌, ◌<◌, drop, vec_len};
-    ghost use Rattle.zk_base.specs.InMemory.{Giving};
+    ghost use Rattle.zk_base.specs.InMemory.{SourceView};
 
-    ghost Value = { Giving };
+    ghost Value = { SourceView };
 
     ghost view = { λ s. record {
       left = drop s.given s.bytes.items;

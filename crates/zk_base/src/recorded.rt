@@ -16,11 +16,11 @@ pub struct Recorded<C: Engine> {
 
 impl<C: Engine> Model for Recorded<C> {
     ghost use Rattle.std.specs.Prelude.{◌+◌, ◌-◌, ◌≤◌, ◌≡◌, min, vec_len, vec_capacity};
-    ghost use Rattle.zk_base.specs.Shown.{Shown};
+    ghost use Rattle.zk_base.specs.RecordedView.{RecordedView};
     ghost use Rattle.zk_base.specs.Recording.{IsRecorded};
     ghost use Rattle.zk_base.specs.Legal.{state_after};
 
-    ghost Value = { Shown C.State C.Op C.Reply };
+    ghost Value = { RecordedView C.State C.Op C.Reply };
 
     ghost view = { λ a. record {
       start = a.start.value;

@@ -15,7 +15,7 @@ pub struct Waiter<M> {
     /// Who waits.
     pub who: Who,
     /// What the caller waits with, as the message of a put.
-    pub matter: M,
+    pub payload: M,
 }
 
 /// A wait that is decided and that its caller hasn't ended yet.

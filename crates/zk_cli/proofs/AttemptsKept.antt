@@ -1,7 +1,7 @@
 -- The players of a lawful trace attempted what came next.
 use Rattle.std.proofs.Common.{◌≡◌, List, ap, subst}
 use Rattle.std.specs.List.{AllZip}
-use Rattle.zk_scenario.specs.Parts.{Parts}
+use Rattle.zk_scenario.specs.Content.{Content}
 use Rattle.zk_worker.specs.declared.log.Log.{Log}
 use Rattle.zk_worker.specs.declared.steps.Spot.{Spot}
 use Rattle.zk_worker.specs.Follows.{Stands}
@@ -12,7 +12,7 @@ use Rattle.zk_trace.specs.Shown.{trace_shown}
 use Rattle.zk_cli.specs.Attempts.{EachAttemptsItsCalls}
 
 -- each log of a lawful trace has gone on so
-pub attempts-kept : (s : Parts) (t : Trace) → IsLawful s t → EachAttemptsItsCalls s t
+pub attempts-kept : (s : Content) (t : Trace) → IsLawful s t → EachAttemptsItsCalls s t
 attempts-kept s t lawful number log is =
     let follows = lawful.log.follow number log is in
     let steps : follows.end.spots ≡ log.steps = ap (λ (l : Log). l.steps) follows.logged in

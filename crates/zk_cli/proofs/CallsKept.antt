@@ -1,7 +1,7 @@
 -- The calls of a lawful trace made the steps of their forms.
 use Rattle.std.proofs.Common.{◌≡◌, ◌⊎◌, false, List, All, ap, subst}
 use Rattle.std.specs.List.{AllZip}
-use Rattle.zk_scenario.specs.Parts.{Parts}
+use Rattle.zk_scenario.specs.Content.{Content}
 use Rattle.zk_worker.specs.declared.answers.Answered.{Answered}
 use Rattle.zk_worker.specs.declared.log.Log.{Log}
 use Rattle.zk_worker.specs.declared.steps.Spot.{Spot}
@@ -15,7 +15,7 @@ use Rattle.zk_trace.specs.Shown.{trace_shown}
 use Rattle.zk_cli.specs.CallsMade.{EachMakesItsCalls}
 
 -- each log of a lawful trace has made its calls
-pub calls-kept : (s : Parts) (t : Trace) → IsLawful s t → EachMakesItsCalls s t
+pub calls-kept : (s : Content) (t : Trace) → IsLawful s t → EachMakesItsCalls s t
 calls-kept s t lawful number log is =
     let follows = lawful.log.follow number log is in
     let answers : follows.end.answers ≡ log.answers = ap (λ (l : Log). l.answers) follows.logged in

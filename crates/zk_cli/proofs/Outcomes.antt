@@ -7,7 +7,7 @@ use Rattle.std.specs.Io.KnownBytes.{Appends, Keeps}
 use Rattle.zk_base.specs.Causes.{Rose}
 use Rattle.zk_base.specs.declared.errors.Status.{Status}
 use Rattle.zk_base.specs.declared.errors.Status.TheVariants.{Success, Words, Refused, Stuck, Spent, ReadFault, WriteFault, NoMemory, Unlawful}
-use Rattle.zk_scenario.specs.Parts.{Parts}
+use Rattle.zk_scenario.specs.Content.{Content}
 use Rattle.zk_scenario.specs.declared.refused.Why.TheVariants as why
 use Rattle.zk_scenario.specs.declared.refused.ScenarioRefused.{ScenarioRefused}
 use Rattle.zk_scenario.specs.declared.refused.ScenarioRefused.TheVariants as refusals
@@ -19,7 +19,7 @@ use Rattle.zk_cli.specs.declared.form.Form.TheVariants.{Replay}
 use Rattle.zk_cli.specs.Input.{HasRead}
 use Rattle.zk_cli.specs.Output.{AppendsFront}
 use Rattle.zk_cli.specs.Answer.{IsRun, IsRefusal, IsOutput, status_of}
-use Rattle.zk_cli.specs.Top.{form_of, words_refused, Prints, PrintsFront, HasReadAll, IsAnswer, HasInput, MayEnd, Answered, answered, cut_short, unmade, Went, no_form, no_form_cut, unread, no_memory, printed, cut}
+use Rattle.zk_cli.specs.Top.{form_of, words_refused, Prints, PrintsFront, HasReadAll, IsAnswer, HasInput, MayEnd, Answered, answered, cut_short, unmade, CallOutcome, no_form, no_form_cut, unread, no_memory, printed, cut}
 
 -- what was not written to stays
 pub Keeps-same : (held : Option (List ℕ)) → Keeps held held
@@ -55,7 +55,7 @@ long_output : (status : Status) (front input output : List ℕ) (e : ScenarioRef
 long_output Success front input output e short long is = absurd (never_read e _ front output short is)
 long_output Stuck front input output e short long is = absurd (never_read e _ front output short is)
 long_output Spent front input output e short long is = absurd (never_read e _ front output short is)
-long_output Refused front input output e short long is = subst (λ (r : Result Parts ScenarioRefused). IsRefusal r output) (short ∙ sym long) is
+long_output Refused front input output e short long is = subst (λ (r : Result Content ScenarioRefused). IsRefusal r output) (short ∙ sym long) is
 long_output Words front input output e short long is = absurd is
 long_output ReadFault front input output e short long is = absurd is
 long_output WriteFault front input output e short long is = absurd is
@@ -96,7 +96,7 @@ form-replay Replay = refl
 
 -- an input that was read and answered
 pub Went-answered : (words : List (List ℕ)) (left left' old new : Option (List ℕ)) (reads reads' writes writes' : ℕ) (status : Status) (read : List ℕ) →
-    form_of words ≡ Some Replay → HasRead left left' read → Answered read old new writes writes' status → Went words left left' old new reads reads' writes writes' status
+    form_of words ≡ Some Replay → HasRead left left' read → Answered read old new writes writes' status → CallOutcome words left left' old new reads reads' writes writes' status
 Went-answered words left left' old new reads reads' writes writes' status read form has (answered status' output is wrote) =
     printed status' form (IsAnswer-output status' read output is) (HasReadAll-read left left' read has) (Prints-read left left' old new read status' output has is wrote)
 Went-answered words left left' old new reads reads' writes writes' status read form has (cut_short status' output is wrote rose) =
@@ -105,14 +105,14 @@ Went-answered words left left' old new reads reads' writes writes' status read f
 
 -- words that are no form
 pub Went-refused : (words : List (List ℕ)) (left left' old new : Option (List ℕ)) (reads reads' writes writes' : ℕ) (status : Status) →
-    form_of words ≡ None → ((status ≡ Words) × Appends old new words_refused) ⊎ ((status ≡ WriteFault) × AppendsFront old new words_refused × Rose writes writes') → Went words left left' old new reads reads' writes writes' status
+    form_of words ≡ None → ((status ≡ Words) × Appends old new words_refused) ⊎ ((status ≡ WriteFault) × AppendsFront old new words_refused × Rose writes writes') → CallOutcome words left left' old new reads reads' writes writes' status
 Went-refused words left left' old new reads reads' writes writes' status other refused =
-    let W : Status → Type 0 = λ s. Went words left left' old new reads reads' writes writes' s in
+    let W : Status → Type 0 = λ s. CallOutcome words left left' old new reads reads' writes writes' s in
     elim refused [ inl all ↦ subst W (sym all.0) (no_form other all.1) | inr short ↦ subst W (sym short.0) (no_form_cut other short.1 short.2) ]
 
 module _ (words : List (List ℕ)) (left left' old new : Option (List ℕ)) (reads reads' writes writes' : ℕ) where
   -- a status that prints goes with its output
-  pub Went-prints : (status which : Status) → Went words left left' old new reads reads' writes writes' status → IsAnswer which → status ≡ which → Prints left old new (IsOutput which)
+  pub Went-prints : (status which : Status) → CallOutcome words left left' old new reads reads' writes writes' status → IsAnswer which → status ≡ which → Prints left old new (IsOutput which)
   Went-prints status which (no_form other wrote) is same = absurd (subst IsAnswer (sym same) is)
   Went-prints status which (no_form_cut other front rose) is same = absurd (subst IsAnswer (sym same) is)
   Went-prints status which (unread form rose keeps) is same = absurd (subst IsAnswer (sym same) is)
@@ -121,7 +121,7 @@ module _ (words : List (List ℕ)) (left left' old new : Option (List ℕ)) (rea
   Went-prints status which (cut form all prints rose) is same = absurd (subst IsAnswer (sym same) is)
 
   -- status 1 comes only for words that are no form, and says so
-  pub Went-words : (status : Status) → Went words left left' old new reads reads' writes writes' status → status ≡ Words → (form_of words ≡ None) × Appends old new words_refused
+  pub Went-words : (status : Status) → CallOutcome words left left' old new reads reads' writes writes' status → status ≡ Words → (form_of words ≡ None) × Appends old new words_refused
   Went-words status (no_form other wrote) same = (other, wrote)
   Went-words status (no_form_cut other front rose) same = absurd (cc)
   Went-words status (unread form rose keeps) same = absurd (cc)
@@ -130,7 +130,7 @@ module _ (words : List (List ℕ)) (left left' old new : Option (List ℕ)) (rea
   Went-words status (cut form all prints rose) same = absurd (cc)
 
   -- words that are no form are told so, unless the sink fails
-  pub Went-no_form : (status : Status) → Went words left left' old new reads reads' writes writes' status → form_of words ≡ None → (status ≡ Words) ⊎ (status ≡ WriteFault)
+  pub Went-no_form : (status : Status) → CallOutcome words left left' old new reads reads' writes writes' status → form_of words ≡ None → (status ≡ Words) ⊎ (status ≡ WriteFault)
   Went-no_form status (no_form other wrote) not = inl refl
   Went-no_form status (no_form_cut other front rose) not = inr refl
   Went-no_form status (unread form rose keeps) not = absurd (cc)
@@ -139,7 +139,7 @@ module _ (words : List (List ℕ)) (left left' old new : Option (List ℕ)) (rea
   Went-no_form status (cut form all prints rose) not = inr refl
 
   -- a fault of reading comes only where the count of the source rose
-  pub Went-read_fault : (status : Status) → Went words left left' old new reads reads' writes writes' status → status ≡ ReadFault → Rose reads reads'
+  pub Went-read_fault : (status : Status) → CallOutcome words left left' old new reads reads' writes writes' status → status ≡ ReadFault → Rose reads reads'
   Went-read_fault status (no_form other wrote) same = absurd (cc)
   Went-read_fault status (no_form_cut other front rose) same = absurd (cc)
   Went-read_fault status (unread form rose keeps) same = rose
@@ -148,7 +148,7 @@ module _ (words : List (List ℕ)) (left left' old new : Option (List ℕ)) (rea
   Went-read_fault status (cut form all prints rose) same = absurd (cc)
 
   -- a fault of writing comes only where the count of the sink rose
-  pub Went-write_fault : (status : Status) → Went words left left' old new reads reads' writes writes' status → status ≡ WriteFault → Rose writes writes'
+  pub Went-write_fault : (status : Status) → CallOutcome words left left' old new reads reads' writes writes' status → status ≡ WriteFault → Rose writes writes'
   Went-write_fault status (no_form other wrote) same = absurd (cc)
   Went-write_fault status (no_form_cut other front rose) same = rose
   Went-write_fault status (unread form rose keeps) same = absurd (cc)
@@ -157,7 +157,7 @@ module _ (words : List (List ℕ)) (left left' old new : Option (List ℕ)) (rea
   Went-write_fault status (cut form all prints rose) same = rose
 
   -- nothing is written where nothing was read, and where there was no memory
-  pub Went-nothing : (status : Status) → Went words left left' old new reads reads' writes writes' status → (status ≡ ReadFault) ⊎ (status ≡ NoMemory) → Keeps old new
+  pub Went-nothing : (status : Status) → CallOutcome words left left' old new reads reads' writes writes' status → (status ≡ ReadFault) ⊎ (status ≡ NoMemory) → Keeps old new
   Went-nothing status (no_form other wrote) which = elim which [ inl same ↦ absurd (cc) | inr same ↦ absurd (cc) ]
   Went-nothing status (no_form_cut other front rose) which = elim which [ inl same ↦ absurd (cc) | inr same ↦ absurd (cc) ]
   Went-nothing status (unread form rose keeps) which = keeps
@@ -166,7 +166,7 @@ module _ (words : List (List ℕ)) (left left' old new : Option (List ℕ)) (rea
   Went-nothing status (cut form all prints rose) which = elim which [ inl same ↦ absurd (cc) | inr same ↦ absurd (cc) ]
 
   -- after a fault of writing the sink has a front of the output
-  pub Went-front : (status : Status) → Went words left left' old new reads reads' writes writes' status → form_of words ≡ Some Replay → status ≡ WriteFault → PrintsFront left old new
+  pub Went-front : (status : Status) → CallOutcome words left left' old new reads reads' writes writes' status → form_of words ≡ Some Replay → status ≡ WriteFault → PrintsFront left old new
   Went-front status (no_form other wrote) form same = absurd (cc)
   Went-front status (no_form_cut other front rose) form same = absurd (cc)
   Went-front status (unread form' rose keeps) form same = absurd (cc)
@@ -175,7 +175,7 @@ module _ (words : List (List ℕ)) (left left' old new : Option (List ℕ)) (rea
   Went-front status (cut form' all prints rose) form same = prints
 
   -- and of the line that refuses the words, where they are no form
-  pub Went-words_front : (status : Status) → Went words left left' old new reads reads' writes writes' status →
+  pub Went-words_front : (status : Status) → CallOutcome words left left' old new reads reads' writes writes' status →
       form_of words ≡ None → status ≡ WriteFault → AppendsFront old new words_refused
   Went-words_front status (no_form other wrote) not same = absurd (cc)
   Went-words_front status (no_form_cut other front rose) not same = front
@@ -185,7 +185,7 @@ module _ (words : List (List ℕ)) (left left' old new : Option (List ℕ)) (rea
   Went-words_front status (cut form all prints rose) not same = absurd (cc)
 
   -- the input was read where its output was written
-  pub Went-read : (status : Status) → Went words left left' old new reads reads' writes writes' status → form_of words ≡ Some Replay → HasInput status → HasReadAll left left'
+  pub Went-read : (status : Status) → CallOutcome words left left' old new reads reads' writes writes' status → form_of words ≡ Some Replay → HasInput status → HasReadAll left left'
   Went-read status (no_form other wrote) form has = absurd has
   Went-read status (no_form_cut other front rose) form has = absurd (cc)
   Went-read status (unread form' rose keeps) form has = absurd has
@@ -193,10 +193,10 @@ module _ (words : List (List ℕ)) (left left' old new : Option (List ℕ)) (rea
   Went-read status (printed said form' is all prints) form has = all
   Went-read status (cut form' all prints rose) form has = all
 
-MayEnd-ok : (said : Result Parts ScenarioRefused) (s : Parts) (status : Status) → said ≡ Ok s → MayEnd (Ok s) status → MayEnd said status
-MayEnd-ok said s status is may = subst (λ (r : Result Parts ScenarioRefused). MayEnd r status) (sym is) may
+MayEnd-ok : (said : Result Content ScenarioRefused) (s : Content) (status : Status) → said ≡ Ok s → MayEnd (Ok s) status → MayEnd said status
+MayEnd-ok said s status is may = subst (λ (r : Result Content ScenarioRefused). MayEnd r status) (sym is) may
 
-MayEnd-refused : (said : Result Parts ScenarioRefused) (output : List ℕ) → IsRefusal said output → MayEnd said Refused
+MayEnd-refused : (said : Result Content ScenarioRefused) (output : List ℕ) → IsRefusal said output → MayEnd said Refused
 MayEnd-refused (Ok s) output is = absurd is
 MayEnd-refused (Err e) output is = tt
 
@@ -211,7 +211,7 @@ MayEnd-output WriteFault input output is = absurd is
 MayEnd-output NoMemory input output is = absurd is
 MayEnd-output Unlawful input output is = absurd is
 
-MayEnd-fault : (status : Status) → ((said : Result Parts ScenarioRefused) → MayEnd said status) → (left : Option (List ℕ)) → IfSome left (λ input. MayEnd (scenario_of input) status)
+MayEnd-fault : (status : Status) → ((said : Result Content ScenarioRefused) → MayEnd said status) → (left : Option (List ℕ)) → IfSome left (λ input. MayEnd (scenario_of input) status)
 MayEnd-fault status may None = tt
 MayEnd-fault status may (Some input) = may (scenario_of input)
 
@@ -221,7 +221,7 @@ MayEnd-prints status (Some input) old new prints = MayEnd-output status input pr
 
 -- which statuses can come for an input
 pub Went-complete : (words : List (List ℕ)) (left left' old new : Option (List ℕ)) (reads reads' writes writes' : ℕ) (status : Status) →
-    Went words left left' old new reads reads' writes writes' status → form_of words ≡ Some Replay → IfSome left (λ input. MayEnd (scenario_of input) status)
+    CallOutcome words left left' old new reads reads' writes writes' status → form_of words ≡ Some Replay → IfSome left (λ input. MayEnd (scenario_of input) status)
 Went-complete words left left' old new reads reads' writes writes' status (no_form other wrote) form = absurd (cc)
 Went-complete words left left' old new reads reads' writes writes' status (no_form_cut other front rose) form = absurd (cc)
 Went-complete words left left' old new reads reads' writes writes' status (unread form' rose keeps) form = MayEnd-fault ReadFault (λ said. tt) left

@@ -1,7 +1,7 @@
 -- The players of a lawful trace played their scripts.
 use Rattle.std.proofs.Common.{◌≡◌, List, sym, ap, subst}
 use Rattle.std.specs.List.{AllZip}
-use Rattle.zk_scenario.specs.Parts.{Parts}
+use Rattle.zk_scenario.specs.Content.{Content}
 use Rattle.zk_scenario.specs.Valid.{IsValid}
 use Rattle.zk_worker.specs.declared.log.Log.{Log}
 use Rattle.zk_worker.specs.declared.steps.Spot.{Spot}
@@ -16,7 +16,7 @@ use Rattle.zk_cli.proofs.PollsKept.{shows-log}
 use Rattle.zk_cli.proofs.ScriptsKept.{chans-legal}
 
 -- each log of a lawful trace has played its scripts
-pub plays-kept : (s : Parts) (t : Trace) → IsValid s → IsLawful s t → EachPlaysItsScripts s t
+pub plays-kept : (s : Content) (t : Trace) → IsValid s → IsLawful s t → EachPlaysItsScripts s t
 plays-kept s t valid lawful number log is =
     let follows = lawful.log.follow number log is in
     let steps : follows.end.spots ≡ log.steps = ap (λ (l : Log). l.steps) follows.logged in

@@ -11,7 +11,7 @@ use Rattle.zk_model_wait.specs.Sem.{Sem, new_sem, sem_machine}
 use Rattle.zk_model_wait.specs.SemLaws.{SemHistory}
 use Rattle.zk_words.specs.declared.word.Word.TheVariants as words
 use Rattle.zk_line.specs.Fits.{decl_fits}
-use Rattle.zk_scenario.specs.Parts.{Parts}
+use Rattle.zk_scenario.specs.Content.{Content}
 use Rattle.zk_scenario.specs.Valid.{IsValid}
 use Rattle.zk_worker.specs.declared.answers.Answered.{Answered}
 use Rattle.zk_worker.specs.declared.log.Log.{Log}
@@ -32,7 +32,7 @@ use Rattle.zk_cli.specs.Polls.{EachKeepsPolls}
 use Rattle.zk_cli.proofs.Starts.{sem-starts, msgq-starts}
 
 -- a trace shows of each player just its log
-pub shows-log : (s : Parts) (t : Trace) (number : ℕ) (log : Log) → IsPlaced s t → slice_get t.logs number ≡ Some log →
+pub shows-log : (s : Content) (t : Trace) (number : ℕ) (log : Log) → IsPlaced s t → slice_get t.logs number ≡ Some log →
     ShowsLog (trace_shown t) number log.steps
 shows-log s t number log placed is = record {
   each = λ step spot there no_look. placed.stands number step spot log is there no_look;
@@ -51,7 +51,7 @@ object-legal m (s ∷ ss) [] object h all there = absurd all
 object-legal m (s ∷ ss) (g ∷ gs) zero h all there = let same : g ≡ h = cc in (s, refl, subst (IsLegalAt m s) same all.0)
 object-legal m (s ∷ ss) (g ∷ gs) (suc object) h all there = object-legal m ss gs object h all.1 there
 
-module _ (s : Parts) (fit : list_all decl_fits s.decls ≡ true) where
+module _ (s : Content) (fit : list_all decl_fits s.decls ≡ true) where
   sem-legal : (object : ℕ) (h : SemHistory) (start : Option Sem) → slice_get (machines_of s).sems.starts object ≡ Some start → IsLegalAt sem_machine start h →
       (initial : ℕ) × (limit : ℕ) × (initial ≤ limit) × IsLegal sem_machine (new_sem initial limit) h
   sem-legal object h None is none =
@@ -81,7 +81,7 @@ module _ (s : Parts) (fit : list_all decl_fits s.decls ≡ true) where
   }
 
 -- each log of a lawful trace keeps the laws of polls
-pub polls-kept : (s : Parts) (t : Trace) → IsValid s → IsLawful s t → EachKeepsPolls s t
+pub polls-kept : (s : Content) (t : Trace) → IsValid s → IsLawful s t → EachKeepsPolls s t
 polls-kept s t valid lawful number log is =
     let follows = lawful.log.follow number log is in
     let steps : follows.end.spots ≡ log.steps = ap (λ (l : Log). l.steps) follows.logged in

@@ -1,7 +1,7 @@
 -- The publishes and notifies of a lawful trace have visited the observers that they were told.
 use Rattle.std.proofs.Common.{◌≡◌, List, All, sym, ap, subst}
 use Rattle.std.specs.List.{AllZip}
-use Rattle.zk_scenario.specs.Parts.{Parts}
+use Rattle.zk_scenario.specs.Content.{Content}
 use Rattle.zk_scenario.specs.Valid.{IsValid}
 use Rattle.zk_worker.specs.declared.answers.Answered.{Answered}
 use Rattle.zk_worker.specs.declared.log.Log.{Log}
@@ -18,7 +18,7 @@ use Rattle.zk_cli.proofs.PollsKept.{shows-log}
 use Rattle.zk_cli.proofs.ScriptsKept.{chans-legal}
 
 -- each log of a lawful trace has visited as it was told
-pub publishes-kept : (s : Parts) (t : Trace) → IsValid s → IsLawful s t → EachVisitsAsTold s t
+pub publishes-kept : (s : Content) (t : Trace) → IsValid s → IsLawful s t → EachVisitsAsTold s t
 publishes-kept s t valid lawful number log is =
     let follows = lawful.log.follow number log is in
     let answers : follows.end.answers ≡ log.answers = ap (λ (l : Log). l.answers) follows.logged in

@@ -4,7 +4,7 @@ use Rattle.std.specs.List.{AllZip, slice_get}
 use Rattle.std.specs.Option.{option_and_then}
 use Rattle.zk_base.specs.Legal.{IsLegal}
 use Rattle.zk_model_bus.specs.Channel.{Channel, chan_machine}
-use Rattle.zk_scenario.specs.Parts.{Parts}
+use Rattle.zk_scenario.specs.Content.{Content}
 use Rattle.zk_scenario.specs.Valid.{IsValid}
 use Rattle.zk_worker.specs.declared.log.Log.{Log}
 use Rattle.zk_worker.specs.declared.steps.Spot.{Spot}
@@ -22,7 +22,7 @@ use Rattle.zk_cli.specs.Scripts.{EachEntersItsScripts}
 use Rattle.zk_cli.proofs.PollsKept.{shows-log, object-legal}
 
 -- a trace with legal histories of channels shows them
-pub chans-legal : (s : Parts) (t : Trace) → AreLegal s t → ShowsLegalChans s (trace_shown t)
+pub chans-legal : (s : Content) (t : Trace) → AreLegal s t → ShowsLegalChans s (trace_shown t)
 chans-legal s t legal object h there =
     let at = object-legal chan_machine (machines_of s).chans.starts t.chans object h legal.chans there in
     by_start at.0 at.1 at.2
@@ -33,7 +33,7 @@ chans-legal s t legal object h there =
     by_start (Some start) is legal = inr (start, ap (option_and_then (λ (o : Option Channel). o)) is, legal)
 
 -- each log of a lawful trace has entered its scripts
-pub scripts-kept : (s : Parts) (t : Trace) → IsValid s → IsLawful s t → EachEntersItsScripts s t
+pub scripts-kept : (s : Content) (t : Trace) → IsValid s → IsLawful s t → EachEntersItsScripts s t
 scripts-kept s t valid lawful number log is =
     let follows = lawful.log.follow number log is in
     let steps : follows.end.spots ≡ log.steps = ap (λ (l : Log). l.steps) follows.logged in

@@ -1,7 +1,7 @@
 -- The logs of a lawful trace tell the answers and the states of their players.
 use Rattle.std.proofs.Common.{◌≡◌, List, ap, subst}
 use Rattle.std.specs.List.{AllZip}
-use Rattle.zk_scenario.specs.Parts.{Parts}
+use Rattle.zk_scenario.specs.Content.{Content}
 use Rattle.zk_worker.specs.declared.log.Log.{Log}
 use Rattle.zk_worker.specs.declared.steps.Spot.{Spot}
 use Rattle.zk_worker.specs.Follows.{Stands}
@@ -14,7 +14,7 @@ use Rattle.zk_trace.specs.Shown.{trace_shown}
 use Rattle.zk_cli.specs.Told.{EachTellsItsPlayer}
 
 -- each log of a lawful trace does
-pub players-told : (s : Parts) (t : Trace) → IsLawful s t → EachTellsItsPlayer s t
+pub players-told : (s : Content) (t : Trace) → IsLawful s t → EachTellsItsPlayer s t
 players-told s t lawful number log is =
     let follows = lawful.log.follow number log is in
     let steps : follows.end.spots ≡ log.steps = ap (λ (l : Log). l.steps) follows.logged in

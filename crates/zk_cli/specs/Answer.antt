@@ -9,7 +9,7 @@ use Rattle.zk_model_wait.specs.MsgqLaws.{KeepsMsgqLaws}
 use Rattle.zk_model_wait.specs.SemLaws.{KeepsSemLaws}
 use Rattle.zk_model_wait.specs.SignalLaws.{KeepsSignalLaws}
 use Rattle.zk_model_work.specs.Laws.{KeepsLaws}
-use Rattle.zk_scenario.specs.Parts.{Parts}
+use Rattle.zk_scenario.specs.Content.{Content}
 use Rattle.zk_scenario.specs.declared.refused.ScenarioRefused.{ScenarioRefused}
 use Rattle.zk_scenario.specs.declared.refused.ScenarioRefused.TheVariants as refusals
 use Rattle.zk_scenario.specs.Grammar.{scenario_of}
@@ -41,7 +41,7 @@ use Rattle.zk_cli.specs.Told.{EachTellsItsPlayer}
 -- and attempted what came next at each moment, each log tells what its player answered and how it stands, and where the run has
 -- ended each admission has ended or was dropped
 pub record IsRun (ending : Ending) (input output : List ℕ) : Type 0 where
-  pub scenario : Parts
+  pub scenario : Content
   pub trace : Trace
   pub read : scenario_of input ≡ Ok scenario
   pub spelled : input ≡ text_of scenario
@@ -68,7 +68,7 @@ pub record IsRun (ending : Ending) (input output : List ℕ) : Type 0 where
   pub printed : output ≡ text_of scenario ++ trace_text scenario trace
 
 -- the output names the first failing line and its first reason
-abbrev pub IsRefusal : Result Parts ScenarioRefused → List ℕ → Type 0
+abbrev pub IsRefusal : Result Content ScenarioRefused → List ℕ → Type 0
 IsRefusal (Err (refusals.At line why)) output = output ≡ refusal_text line why
 IsRefusal (Err refusals.NoMemory) output = ⊥
 IsRefusal (Ok scenario) output = ⊥

@@ -1,9 +1,9 @@
 use Rattle.std.specs.Prelude.{◌≡◌, ℕ, Some, List, slice_get}
 use Rattle.std.specs.List.{AllZip}
-use Rattle.zk_scenario.specs.Parts.{Parts}
+use Rattle.zk_scenario.specs.Content.{Content}
 use Rattle.zk_worker.specs.declared.log.Log.{Log}
-use Rattle.zk_worker.specs.Follows.{Made, Stands, IsPlayed, log_of}
-use Rattle.zk_worker.specs.Places.{At}
+use Rattle.zk_worker.specs.Follows.{StepMade, Stands, IsPlayed, log_of}
+use Rattle.zk_worker.specs.Places.{PlayerPlace}
 use Rattle.zk_worker.specs.Protocol.{start_at}
 use Rattle.zk_worker.specs.Shown.{Shown}
 use Rattle.zk_player_laws.specs.ScriptLaws.{IsFirstPlace, ArePlayedOn}
@@ -12,18 +12,18 @@ use Rattle.zk_trace.specs.Shown.{trace_shown}
 
 -- by the steps that a log's spots stand for, which lead the player from its start to the place that is logged, it starts with its
 -- own script or queue, and its scripts are played on by each step, call by call, what is opened inside to its end
-pub record PlaysItsScripts (s : Parts) (number : ℕ) (shown : Shown) (log : Log) : Type 0 where
-  pub start : At
+pub record PlaysItsScripts (s : Content) (number : ℕ) (shown : Shown) (log : Log) : Type 0 where
+  pub start : PlayerPlace
   pub starts : start_at s number ≡ Some start
-  pub made : List Made
+  pub made : List StepMade
   pub stands : AllZip (Stands shown) log.steps made
-  pub end : At
+  pub end : PlayerPlace
   pub led : IsPlayed s start made end
   pub logged : log_of s end ≡ log
   pub first : IsFirstPlace s number start
   pub plays : ArePlayedOn s start made
 
 -- the log of each player of a trace is such a one
-abbrev pub EachPlaysItsScripts : Parts → Trace → Type 0
+abbrev pub EachPlaysItsScripts : Content → Trace → Type 0
 EachPlaysItsScripts s t = (number : ℕ) (log : Log) → slice_get t.logs number ≡ Some log →
     PlaysItsScripts s number (trace_shown t) log

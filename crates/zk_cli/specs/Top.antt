@@ -4,7 +4,7 @@ use Rattle.std.specs.Io.KnownBytes.{Appends, Keeps}
 use Rattle.zk_base.specs.Causes.{Rose}
 use Rattle.zk_base.specs.declared.errors.Status.{Status}
 use Rattle.zk_base.specs.declared.errors.Status.TheVariants.{Success, Words, Refused, Stuck, Spent, ReadFault, WriteFault, NoMemory}
-use Rattle.zk_scenario.specs.Parts.{Parts}
+use Rattle.zk_scenario.specs.Content.{Content}
 use Rattle.zk_scenario.specs.declared.refused.ScenarioRefused.{ScenarioRefused}
 use Rattle.zk_cli.specs.declared.form.Form.{Form}
 use Rattle.zk_cli.specs.declared.form.Form.TheVariants.{Replay}
@@ -52,7 +52,7 @@ HasInput status = IsAnswer status
 
 -- the statuses that can come for an input: as the run ended where it is in the grammar, a refusal where it isn't,
 -- and the faults and want of memory
-abbrev pub MayEnd : Result Parts ScenarioRefused → Status → Type 0
+abbrev pub MayEnd : Result Content ScenarioRefused → Status → Type 0
 MayEnd said ReadFault = Unit {0}
 MayEnd said WriteFault = Unit {0}
 MayEnd said NoMemory = Unit {0}
@@ -73,18 +73,18 @@ pub data Answered (input : List ℕ) (old new : Option (List ℕ)) (faults fault
   unmade : Keeps old new → Answered input old new faults faults' NoMemory
 
 -- how a call went
-pub data Went (words : List (List ℕ)) (left left' old new : Option (List ℕ))
+pub data CallOutcome (words : List (List ℕ)) (left left' old new : Option (List ℕ))
     (reads reads' writes writes' : ℕ) : Status → Type 0 where
   no_form : form_of words ≡ None → Appends old new words_refused →
-      Went words left left' old new reads reads' writes writes' Words
+      CallOutcome words left left' old new reads reads' writes writes' Words
   no_form_cut : form_of words ≡ None → AppendsFront old new words_refused →
-      Rose writes writes' → Went words left left' old new reads reads' writes writes' WriteFault
+      Rose writes writes' → CallOutcome words left left' old new reads reads' writes writes' WriteFault
   unread : form_of words ≡ Some Replay → Rose reads reads' → Keeps old new →
-      Went words left left' old new reads reads' writes writes' ReadFault
+      CallOutcome words left left' old new reads reads' writes writes' ReadFault
   no_memory : form_of words ≡ Some Replay → Keeps old new →
-      Went words left left' old new reads reads' writes writes' NoMemory
+      CallOutcome words left left' old new reads reads' writes writes' NoMemory
   printed : (status : Status) → form_of words ≡ Some Replay → IsAnswer status → HasReadAll left left' →
       Prints left old new (IsOutput status) →
-      Went words left left' old new reads reads' writes writes' status
+      CallOutcome words left left' old new reads reads' writes writes' status
   cut : form_of words ≡ Some Replay → HasReadAll left left' → PrintsFront left old new →
-      Rose writes writes' → Went words left left' old new reads reads' writes writes' WriteFault
+      Rose writes writes' → CallOutcome words left left' old new reads reads' writes writes' WriteFault

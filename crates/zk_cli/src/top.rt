@@ -4,7 +4,7 @@ ghost use Rattle.zk_base.specs.Causes.{Rose};
 ghost use Rattle.zk_scenario.specs.Grammar.{scenario_of};
 ghost use Rattle.zk_cli.specs.Output.{AppendsFront};
 ghost use Rattle.zk_cli.specs.Answer.{IsOutput};
-ghost use Rattle.zk_cli.specs.Top.{form_of, words_refused, Prints, PrintsFront, HasReadAll, HasInput, MayEnd, Answered, Went};
+ghost use Rattle.zk_cli.specs.Top.{form_of, words_refused, Prints, PrintsFront, HasReadAll, HasInput, MayEnd, Answered, CallOutcome};
 
 use crate::answer::output_of;
 use crate::form::{Form, form_of};
@@ -70,7 +70,7 @@ fn plain<S: Source, K: Sink>(
     source: &mut S,
     sink: &mut K,
 ) -> Status
-    ensures went { Went (map string_bytes words.now) (S.left source.old) (S.left source.new) (K.held sink.old) (K.held sink.new)
+    ensures went { CallOutcome (map string_bytes words.now) (S.left source.old) (S.left source.new) (K.held sink.old) (K.held sink.new)
         (S.faults source.old) (S.faults source.new) (K.faults sink.old) (K.faults sink.new) result }
     ensures reads { result ≢ Status.ReadFault → S.faults source.new ≡ S.faults source.old }
     ensures writes { result ≢ Status.WriteFault → K.faults sink.new ≡ K.faults sink.old }

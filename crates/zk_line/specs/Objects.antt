@@ -95,8 +95,8 @@ counts_with kind.Sub decl = is_observer decl
 counts_with kind decl = is_of kind decl
 
 -- the test for declarations that count with this one
-abbrev pub same_kind : Decl → Decl → Bool
-same_kind decl = counts_with (kind_of decl)
+abbrev pub has_kind_of : Decl → Decl → Bool
+has_kind_of decl = counts_with (kind_of decl)
 
 -- whether what is declared can play a script
 abbrev pub plays_script : Decl → Bool
@@ -133,7 +133,7 @@ player_count decls = count_by is_thread decls + count_by is_queue decls
 
 -- the number of an object among those that it counts with, from 0 in declared order
 abbrev pub number_of : List Decl → ℕ → ℕ
-number_of decls object = option_map_or (λ d. count_by (same_kind d) (take object decls)) (slice_get decls object) 0
+number_of decls object = option_map_or (λ d. count_by (has_kind_of d) (take object decls)) (slice_get decls object) 0
 
 -- the object of a name, if it is declared
 abbrev pub object_of : List Decl → List ℕ → Option ℕ
@@ -167,8 +167,8 @@ abbrev pub size_at : List Decl → ℕ → Option ℕ
 size_at decls object = option_and_then size_of (slice_get decls object)
 
 -- a list of objects after one more declaration, which stands in it where it passes the list's test
-abbrev pub grown : (Decl → Bool) → Decl → ℕ → List ℕ → List ℕ
-grown test d object list = (if test d then list ++ object ∷ [] else list)
+abbrev pub with_object : (Decl → Bool) → Decl → ℕ → List ℕ → List ℕ
+with_object test d object list = (if test d then list ++ object ∷ [] else list)
 
 -- the tables say what the declarations say
 pub record IsTabled (decls : List Decl) (lists : Lists) (numbers : List ℕ) (names : Names) : Type 0 where

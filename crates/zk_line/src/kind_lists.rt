@@ -1,5 +1,5 @@
 ghost use Rattle.std.specs.Prelude.{◌≡◌, ◌<◌, [], vec_len, vec_capacity};
-ghost use Rattle.zk_line.specs.Objects.{is_thread, is_queue, is_item, is_sem, is_msgq, is_signal, is_chan, is_observer, grown};
+ghost use Rattle.zk_line.specs.Objects.{is_thread, is_queue, is_item, is_sem, is_msgq, is_signal, is_chan, is_observer, with_object};
 
 use crate::types::Decl;
 use std::alloc::Global;
@@ -45,7 +45,7 @@ impl Lists {
 }
 
 /// Puts an object into the list of its declaration's kind, in which there is room.
-pub fn enlist(lists: &mut Lists, decl: &Decl, object: u32)
+pub fn add_to_kind(lists: &mut Lists, decl: &Decl, object: u32)
     requires thread_room { vec_len lists.old.threads < vec_capacity lists.old.threads }
     requires queue_room { vec_len lists.old.queues < vec_capacity lists.old.queues }
     requires item_room { vec_len lists.old.items < vec_capacity lists.old.items }
@@ -54,14 +54,14 @@ pub fn enlist(lists: &mut Lists, decl: &Decl, object: u32)
     requires signal_room { vec_len lists.old.signals < vec_capacity lists.old.signals }
     requires chan_room { vec_len lists.old.chans < vec_capacity lists.old.chans }
     requires observer_room { vec_len lists.old.observers < vec_capacity lists.old.observers }
-    ensures threads { lists.new.threads.items ≡ grown is_thread decl.now object lists.old.threads.items }
-    ensures queues { lists.new.queues.items ≡ grown is_queue decl.now object lists.old.queues.items }
-    ensures items { lists.new.items.items ≡ grown is_item decl.now object lists.old.items.items }
-    ensures sems { lists.new.sems.items ≡ grown is_sem decl.now object lists.old.sems.items }
-    ensures msgqs { lists.new.msgqs.items ≡ grown is_msgq decl.now object lists.old.msgqs.items }
-    ensures signals { lists.new.signals.items ≡ grown is_signal decl.now object lists.old.signals.items }
-    ensures chans { lists.new.chans.items ≡ grown is_chan decl.now object lists.old.chans.items }
-    ensures observers { lists.new.observers.items ≡ grown is_observer decl.now object lists.old.observers.items }
+    ensures threads { lists.new.threads.items ≡ with_object is_thread decl.now object lists.old.threads.items }
+    ensures queues { lists.new.queues.items ≡ with_object is_queue decl.now object lists.old.queues.items }
+    ensures items { lists.new.items.items ≡ with_object is_item decl.now object lists.old.items.items }
+    ensures sems { lists.new.sems.items ≡ with_object is_sem decl.now object lists.old.sems.items }
+    ensures msgqs { lists.new.msgqs.items ≡ with_object is_msgq decl.now object lists.old.msgqs.items }
+    ensures signals { lists.new.signals.items ≡ with_object is_signal decl.now object lists.old.signals.items }
+    ensures chans { lists.new.chans.items ≡ with_object is_chan decl.now object lists.old.chans.items }
+    ensures observers { lists.new.observers.items ≡ with_object is_observer decl.now object lists.old.observers.items }
 {
     match decl {
         Decl::Thread(..) => push_within(&mut lists.threads, object),

@@ -26,4 +26,4 @@ pub use needs::{Needed, need_at};
 pub use objects::Objects;
 pub use print::{put_allow, put_call, put_decl, put_said};
 pub use types::{Arg, Call, Decl, Declared, Ref};
-pub use weights::{Wrong, weigh};
+pub use weights::{Wrong, judge_words};

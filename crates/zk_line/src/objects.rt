@@ -1,7 +1,7 @@
 ghost use Rattle.std.specs.Prelude.{◌≡◌, ◌-◌, ◌^◌, ◌<◌, None, [], ◌∷◌, ◌++◌, OnOk, OnErr, length, count_by};
 ghost use Rattle.zk_line.specs.Objects.{counts_with, object_of, is_thread, is_queue, is_item, is_sem, is_msgq, is_signal, is_chan, is_observer, name_of, places, number_of, player_count};
 
-use crate::kind_lists::{Lists, enlist};
+use crate::kind_lists::{Lists, add_to_kind};
 use crate::kinds::{kind_of, name_of};
 use crate::names::Names;
 use crate::types::Decl;
@@ -217,7 +217,7 @@ impl Objects {
         make_room_for_one(&mut self.lists.observers)?;
         let object = self.decls.len() as u32;
         self.names.insert(alloc, name_of(&decl), object)?;
-        enlist(&mut self.lists, &decl, object);
+        add_to_kind(&mut self.lists, &decl, object);
         push_within(&mut self.numbers, number);
         push_within(&mut self.decls, decl);
         Ok(())

@@ -34,7 +34,7 @@ pub enum Wrong {
 /// What speaks against the words of a line; where nothing does, the arguments are what they say. Each
 /// name is looked up once. In a free line any name may stand for an object.
 #[tactic(auto, using(crate::proofs::ReadTo::in_range_next))]
-pub fn weigh(
+pub fn judge_words(
     args: &mut Args,
     objects: &Objects,
     free: bool,
@@ -52,7 +52,7 @@ pub fn weigh(
     }
     let mut left = parts.again();
     while let Some(part) = left.next() {
-        match worth_of(objects, free, args.items(), part.slot, part.text) {
+        match arg_in_slot(objects, free, args.items(), part.slot, part.text) {
             Ok(arg) => args.push(arg)?,
             Err(Wrong::OutOfRange) => return Ok(Some(Wrong::OutOfRange)),
             Err(Wrong::Misnamed) => return Ok(Some(misnamed(are_in_range(objects, head, parts)))),
@@ -77,7 +77,7 @@ fn misnamed(in_range: bool) -> Wrong
 }
 
 /// What a word is worth in its slot, behind those that say these.
-fn worth_of(
+fn arg_in_slot(
     objects: &Objects,
     free: bool,
     said: &[Arg],

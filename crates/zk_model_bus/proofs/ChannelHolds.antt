@@ -27,7 +27,7 @@ use Rattle.zk_model_bus.specs.declared.channel.ChanOp.{ChanOp}
 use Rattle.zk_model_bus.specs.declared.channel.ChanOp.TheVariants as ops
 use Rattle.zk_model_bus.specs.declared.channel.ChanReply.{ChanReply}
 use Rattle.zk_model_bus.specs.declared.channel.ChanReply.TheVariants.{Got, NoMsg, Observers, Bytes, Done, Inval}
-use Rattle.zk_model_bus.specs.Channel.{Channel, new_chan, holds, is_claim, has_claimed, has_entered, told_of, gain_reply, gain, held_by, handed_on, chan_reply, chan_changed, chan_next, chan_machine}
+use Rattle.zk_model_bus.specs.Channel.{Channel, new_chan, holds, is_claim, has_claimed, holds_by_entering, told_of, gain_reply, gain, held_by, handed_on, chan_reply, chan_changed, chan_next, chan_machine}
 use Rattle.zk_base.specs.Validators.{is_valid}
 use Rattle.zk_model_bus.specs.ChannelWaits.{call_decides, callers}
 use Rattle.zk_model_bus.specs.ChannelLaws.{ChanHistory, OfEachChan, chan_after_all, IsHolder, manner_of, uses, frees, is_freed, is_freed_by, GotIt, HandedIt, Gains, Moves, Unmoved, HolderGainedItLast, GainedOnlyWhereFree, DecidesOneWait, HandedOnAtOnce, HandedOnByAFree, OnlyTheHolderUses, FreedInItsManner, HolderMayUse, OneUsesAtATime}
@@ -100,7 +100,7 @@ finish-hands c false is = absurd (let same = same_Some Inval Done is in cc)
 
 freed-hands : (c : Channel) (who : Who) (op : ChanOp) (reply : ChanReply) → chan_reply c who op ≡ Some reply →
     frees op reply ≡ true → chan_changed c who op ≡ handed_on c
-freed-hands c who ops.Free Done told is = free-hands c (has_entered c who) told
+freed-hands c who ops.Free Done told is = free-hands c (holds_by_entering c who) told
 freed-hands c who ops.Finish Done told is = finish-hands c (has_claimed c who) told
 freed-hands c who op reply told is = absurd (cc)
 
@@ -156,9 +156,9 @@ module _ (first : Channel) (start : IsFirst callers first) where
   -- the first who waits has opened the wait
   first-opened : (front : ChanHistory) (w : Waiter Manner) → Replays chan_machine first front →
       slice_get (chan_after_all first front).waits.waiting 0 ≡ Some w →
-      WasOpened callers front w.place w.who w.matter
+      WasOpened callers front w.place w.who w.payload
   first-opened front w replays at =
-      All-at (λ (v : Waiter Manner). WasOpened callers front v.place v.who v.matter)
+      All-at (λ (v : Waiter Manner). WasOpened callers front v.place v.who v.payload)
       (chan_after_all first front).waits.waiting 0 w
       (each_wait_has_its_opening chan_machine callers has_callers first front start replays).0 at
 
@@ -188,11 +188,11 @@ module _ (first : Channel) (start : IsFirst callers first) where
       let c = chan_after_all first front in
       let found = freed-decides front e handed.d told is handed.decided in
       let w = found.0 in
-      let own = subst (λ (p : ℕ). WasOpened callers front p w.who w.matter)
+      let own = subst (λ (p : ℕ). WasOpened callers front p w.who w.payload)
       (ap (λ (d : Decision ChanReply). d.place) found.2) (first-opened front w replays found.1) in
-      let same = opened-same front handed.d.place w.who handed.who w.matter holder.manner own handed.opened in
+      let same = opened-same front handed.d.place w.who handed.who w.payload holder.manner own handed.opened in
       ap (λ (d : Channel). d.holder) (freed-hands c e.who e.op e.reply told is) ∙ ap (option_map held_by) found.1
-      ∙ ap Some (same-holder w.who.number holder.player w.matter holder.manner (ap (λ (v : Who). v.number) same.0
+      ∙ ap Some (same-holder w.who.number holder.player w.payload holder.manner (ap (λ (v : Who). v.number) same.0
       ∙ handed.own) same.1)
 
   -- what gains the channel by a decision frees it
@@ -313,7 +313,7 @@ stays c who (ops.ClaimQuit place) reply told kept alone = refl
 stays c who (ops.Set message) reply told kept alone = set-stays c message (holds c who)
 stays c who ops.List reply told kept alone = refl
 stays c who ops.Get reply told kept alone = refl
-stays c who ops.Free reply told kept alone = free-stays c (has_entered c who) reply told kept
+stays c who ops.Free reply told kept alone = free-stays c (holds_by_entering c who) reply told kept
 stays c who ops.Finish reply told kept alone =
     let is = same_Some (cond (has_claimed c who) Done Inval) reply told in
     finish-stays c (has_claimed c who) (λ done. kept (ap (frees ops.Finish) (sym is) ∙ done))
@@ -420,7 +420,7 @@ next-served c who (ops.Set message) served none = if-served (holds c who) (recor
 next-served c who ops.List served none = served none
 next-served c who ops.Get served none = served none
 next-served c who ops.Free served none =
-    if-served (has_entered c who) (handed_on c) c (handed-served c.waits.waiting c.waits.decided) served none
+    if-served (holds_by_entering c who) (handed_on c) c (handed-served c.waits.waiting c.waits.decided) served none
 next-served c who ops.Finish served none =
     if-served (has_claimed c who) (handed_on c) c (handed-served c.waits.waiting c.waits.decided) served none
 next-served c who (ops.Mask observer on) served none = served none
@@ -481,7 +481,7 @@ so-claimed c who is =
     ∙ ap (λ (b : Bool). b && true) (eqb-same who.number)
 
 so-entered : (c : Channel) (who : Who) → IsHolder c who.number manners.Offer ⊎ IsHolder c who.number manners.Enter →
-    has_entered c who ≡ true
+    holds_by_entering c who ≡ true
 so-entered c who (inl is) =
     ap (λ (o : Option Holder). option_map_or (λ (h : Holder). eqb h.player who.number && not (is_claim h.manner)) o false) is
     ∙ ap (λ (b : Bool). b && true) (eqb-same who.number)
@@ -522,7 +522,7 @@ pub freed_in_its_manner : OfEachChan FreedInItsManner
 freed_in_its_manner message valid observers h legal = record {
   free = λ front e at op.
       let c = chan_after_all new front in
-      let given = was-given (has_entered c e.who) Done e.reply (replied-as new h front e ops.Free legal.0 at op) in
+      let given = was-given (holds_by_entering c e.who) Done e.reply (replied-as new h front e ops.Free legal.0 at op) in
       (entered-so c.holder e.who.number given.0, sym given.1);
   finish = λ front e at op is.
       let c = chan_after_all new front in
@@ -555,7 +555,7 @@ holder_may_use c h = record {
 
 freed-so : (c : Channel) (who : Who) (op : ChanOp) (reply : ChanReply) → chan_reply c who op ≡ Some reply →
     frees op reply ≡ true → (m : Manner) × IsHolder c who.number m
-freed-so c who ops.Free Done told is = by (entered-so c.holder who.number (was-given (has_entered c who) Done Done told).0) where
+freed-so c who ops.Free Done told is = by (entered-so c.holder who.number (was-given (holds_by_entering c who) Done Done told).0) where
   by : (c.holder ≡ Some (held who.number manners.Offer)) ⊎ (c.holder ≡ Some (held who.number manners.Enter)) →
       (m : Manner) × IsHolder c who.number m
   by (inl held) = (manners.Offer, held)

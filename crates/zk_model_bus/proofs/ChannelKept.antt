@@ -19,7 +19,7 @@ use Rattle.zk_model_bus.specs.declared.channel.ChanOp.{ChanOp}
 use Rattle.zk_model_bus.specs.declared.channel.ChanOp.TheVariants as ops
 use Rattle.zk_model_bus.specs.declared.channel.ChanReply.{ChanReply}
 use Rattle.zk_model_bus.specs.declared.channel.ChanReply.TheVariants.{Got, Wait, Again, NoMsg}
-use Rattle.zk_model_bus.specs.Channel.{Channel, is_claim, has_claimed, has_entered, holds, gain_reply, gain, held_by, handed_on, chan_reply, chan_next, chan_machine}
+use Rattle.zk_model_bus.specs.Channel.{Channel, is_claim, has_claimed, holds_by_entering, holds, gain_reply, gain, held_by, handed_on, chan_reply, chan_next, chan_machine}
 use Rattle.zk_base.specs.Validators.{is_valid}
 use Rattle.zk_model_bus.specs.ChannelLaws.{ChanHistory, manner_of}
 use Rattle.zk_model_bus.proofs.ChannelHolds.{own-holds}
@@ -76,7 +76,7 @@ held-other c who ops.List player manner is apart = is
 held-other c who ops.Get player manner is apart = is
 held-other c who ops.Free player manner is apart =
     ap (λ (x : Channel). x.holder)
-    (kept c (handed_on c) (has_entered c who)
+    (kept c (handed_on c) (holds_by_entering c who)
     (not-so c.holder player who.number manner (λ m. not (is_claim m)) is apart)) ∙ is
 held-other c who ops.Finish player manner is apart =
     ap (λ (x : Channel). x.holder)
@@ -147,7 +147,7 @@ module _ {A : Type 0} (P : A → Type 0) (test : A → Bool) where
 
 -- it is in this manner, and where it is decided the player holds the channel so
 pub record IsAwaitedAs (c : Channel) (player place : ℕ) (manner : Manner) : Type 0 where
-  pub waiting : All (λ w. is_waiter player place w ≡ true → w.matter ≡ manner) c.waits.waiting
+  pub waiting : All (λ w. is_waiter player place w ≡ true → w.payload ≡ manner) c.waits.waiting
   pub decided : All (λ d. is_decision player place d ≡ true → IsHeldAs c player manner) c.waits.decided
 
 -- it isn't decided
@@ -190,9 +190,9 @@ undecided-other c who (ops.Set message) player place manner is apart none =
 undecided-other c who ops.List player place manner is apart none = none
 undecided-other c who ops.Get player place manner is apart none = none
 undecided-other c who ops.Free player place manner is apart none =
-    same-decided c (cond (has_entered c who) (handed_on c) c) player place
+    same-decided c (cond (holds_by_entering c who) (handed_on c) c) player place
     (ap (λ (x : Channel). x.waits.decided)
-    (kept c (handed_on c) (has_entered c who)
+    (kept c (handed_on c) (holds_by_entering c who)
     (not-so c.holder player who.number manner (λ m. not (is_claim m)) is apart))) none
 undecided-other c who ops.Finish player place manner is apart none =
     same-decided c (cond (has_claimed c who) (handed_on c) c) player place
@@ -217,7 +217,7 @@ awaited-same : (c d : Channel) (player place : ℕ) (manner : Manner) → d.wait
     IsAwaitedAs c player place manner → IsAwaitedAs d player place manner
 awaited-same c d player place manner waits holder was = record {
   waiting = subst (λ (ws : Waits Manner ChanReply). All (λ w. is_waiter player place w ≡ true →
-      w.matter ≡ manner) ws.waiting) (sym waits) was.waiting;
+      w.payload ≡ manner) ws.waiting) (sym waits) was.waiting;
   decided = subst (λ (ws : Waits Manner ChanReply). All (λ e. is_decision player place e ≡ true →
       IsHeldAs d player manner) ws.decided) (sym waits)
       (All-weaker (λ e. is_decision player place e ≡ true →
@@ -242,8 +242,8 @@ gain-awaited c None who manner mine waits player place is was apart = record {
       (λ d so own. absurd (let held = so own in cc)) c.waits.decided was.decided;
 }
 gain-awaited c (Some h) who manner mine true player place is was apart =
-    let P : Waiter Manner → Type 0 = λ w. is_waiter player place w ≡ true → w.matter ≡ mine in
-    let new : Waiter Manner = record { place = c.entries; who = who; matter = manner } in
+    let P : Waiter Manner → Type 0 = λ w. is_waiter player place w ≡ true → w.payload ≡ mine in
+    let new : Waiter Manner = record { place = c.entries; who = who; payload = manner } in
     record {
       waiting = All-put_before P (is_served_after new) new c.waits.waiting
           (λ own. absurd (other-wait player place new apart own)) was.waiting;
@@ -261,18 +261,18 @@ cond-awaited c d false player place manner then_ else_ = else_
 handed-awaited : (c : Channel) (waiting : List (Waiter Manner)) (player place : ℕ) (manner : Manner) →
     c.waits.waiting ≡ waiting → IsAwaitedAs c player place manner →
     IsUndecided c player place →
-    All (λ w. is_waiter player place w ≡ true → w.matter ≡ manner) (decides_first Got waiting c.waits.decided).waiting
+    All (λ w. is_waiter player place w ≡ true → w.payload ≡ manner) (decides_first Got waiting c.waits.decided).waiting
     × All (λ d. is_decision player place d ≡ true →
     option_map held_by (slice_get waiting 0) ≡ Some (record { player = player; manner = manner }))
     (decides_first Got waiting c.waits.decided).decided
 handed-awaited c [] player place manner is was none = (
-  All-nil (λ (w : Waiter Manner). is_waiter player place w ≡ true → w.matter ≡ manner),
+  All-nil (λ (w : Waiter Manner). is_waiter player place w ≡ true → w.payload ≡ manner),
   All-weaker (λ d. is_decision player place d ≡ false)
       (λ d. is_decision player place d ≡ true → None ≡ Some (held player manner))
       (λ d isnt mine. absurd (cc)) c.waits.decided none,
 )
 handed-awaited c (w ∷ ws) player place manner is was none =
-    let P : Waiter Manner → Type 0 = λ v. is_waiter player place v ≡ true → v.matter ≡ manner in
+    let P : Waiter Manner → Type 0 = λ v. is_waiter player place v ≡ true → v.payload ≡ manner in
     let Q : Decision ChanReply → Type 0 =
     λ d. is_decision player place d ≡ true → Some (held_by w) ≡ Some (record { player = player; manner = manner }) in
     let all = subst (All P) is was.waiting in
@@ -283,7 +283,7 @@ handed-awaited c (w ∷ ws) player place manner is was none =
           (All-cons Q (decide Got w) [] (λ own. given w (mine own) own) (All-nil Q)),
     )
   where
-    given : (w : Waiter Manner) → w.matter ≡ manner → is_waiter player place w ≡ true →
+    given : (w : Waiter Manner) → w.payload ≡ manner → is_waiter player place w ≡ true →
         ◌≡◌ {A = Option Holder} (Some (held_by w)) (Some (record { player = player; manner = manner }))
     given w so own =
         let same : w.who.number ≡ player = grind (arith, nat_tests) in
@@ -328,7 +328,7 @@ awaited-other c who (ops.ClaimEnd p) player place manner was apart = record {
 }
 awaited-other c who (ops.ClaimQuit p) player place manner was apart = record {
   waiting = All-without (λ w. is_waiter player place w ≡ true →
-      w.matter ≡ manner) (is_waiter who.number p) c.waits.waiting was.waiting;
+      w.payload ≡ manner) (is_waiter who.number p) c.waits.waiting was.waiting;
   decided = All-without (λ d. is_decision player place d ≡ true →
       IsHeldAs c player manner) (is_decision who.number p) c.waits.decided was.decided;
 }
@@ -342,9 +342,9 @@ awaited-other c who ops.List player place manner was apart =
 awaited-other c who ops.Get player place manner was apart =
     awaited-same c (record c { entries = c.entries + 1 }) player place manner refl refl was
 awaited-other c who ops.Free player place manner was apart =
-    let after = cond (has_entered c who) (handed_on c) c in
+    let after = cond (holds_by_entering c who) (handed_on c) c in
     awaited-same after (record after { entries = c.entries + 1 }) player place manner refl refl
-    (freed-awaited c (has_entered c who) player place manner was
+    (freed-awaited c (holds_by_entering c who) player place manner was
     (λ is. not-so c.holder player who.number manner (λ m. not (is_claim m)) is apart))
 awaited-other c who ops.Finish player place manner was apart =
     let after = cond (has_claimed c who) (handed_on c) c in
@@ -449,7 +449,7 @@ gain-placed : (c : Channel) (o : Option Holder) (who : Who) (manner : Manner) (w
 unfolding ArePlacedBelow
 gain-placed c None who manner waits was = was
 gain-placed c (Some h) who manner true was =
-    let new : Waiter Manner = record { place = c.entries; who = who; matter = manner } in
+    let new : Waiter Manner = record { place = c.entries; who = who; payload = manner } in
     (All-put_before (λ w. w.place < c.entries + 1) (is_served_after new) new c.waits.waiting (omega arith) was.0, was.1)
 gain-placed c (Some h) who manner false was = was
 
@@ -487,7 +487,7 @@ next-placed c who (ops.ClaimQuit p) was = (
 next-placed c who (ops.Set message) was = cond-placed (c.entries + 1) c (record c { message = message }) (holds c who) was was
 next-placed c who ops.List was = was
 next-placed c who ops.Get was = was
-next-placed c who ops.Free was = cond-placed (c.entries + 1) c (handed_on c) (has_entered c who)
+next-placed c who ops.Free was = cond-placed (c.entries + 1) c (handed_on c) (holds_by_entering c who)
     (handed-placed (c.entries + 1) c.waits.waiting c.waits.decided was.0 was.1) was
 next-placed c who ops.Finish was = cond-placed (c.entries + 1) c (handed_on c) (has_claimed c who)
     (handed-placed (c.entries + 1) c.waits.waiting c.waits.decided was.0 was.1) was
@@ -515,13 +515,13 @@ none-decided-at player n d below = grind (arith, nat_tests)
 -- a wait that begins isn't decided, and is given the channel in its manner
 gain-waits : (c : Channel) (o : Option Holder) (who : Who) (manner : Manner) (waits : Bool) → ArePlaced c →
     gain_reply o waits ≡ Wait →
-    All (λ w. is_waiter who.number c.entries w ≡ true → w.matter ≡ manner) (gain o c who manner waits).waits.waiting
+    All (λ w. is_waiter who.number c.entries w ≡ true → w.payload ≡ manner) (gain o c who manner waits).waits.waiting
     × All (λ d. is_decision who.number c.entries d ≡ false) (gain o c who manner waits).waits.decided
 gain-waits c None who manner waits was is = absurd (cc)
 gain-waits c (Some h) who manner false was is = absurd (cc)
 gain-waits c (Some h) who manner true was is =
-    let P : Waiter Manner → Type 0 = λ w. is_waiter who.number c.entries w ≡ true → w.matter ≡ manner in
-    let new : Waiter Manner = record { place = c.entries; who = who; matter = manner } in (
+    let P : Waiter Manner → Type 0 = λ w. is_waiter who.number c.entries w ≡ true → w.payload ≡ manner in
+    let new : Waiter Manner = record { place = c.entries; who = who; payload = manner } in (
       All-put_before P (is_served_after new) new c.waits.waiting (λ own. refl)
           (All-weaker (λ w. w.place < c.entries) P
           (λ w below own. absurd (let isnt = none-waits-at who.number c.entries w below in cc)) c.waits.waiting was.waiting),
@@ -531,7 +531,7 @@ gain-waits c (Some h) who manner true was is =
 
 offer-waits : (c : Channel) (who : Who) (waits valid : Bool) → ArePlaced c → cond valid (gain_reply c.holder waits) NoMsg ≡ Wait →
     All (λ w. is_waiter who.number c.entries w ≡ true →
-    w.matter ≡ manners.Offer) (cond valid (gain c.holder c who manners.Offer waits) c).waits.waiting
+    w.payload ≡ manners.Offer) (cond valid (gain c.holder c who manners.Offer waits) c).waits.waiting
     × All (λ d. is_decision who.number c.entries d ≡ false) (cond valid (gain c.holder c who manners.Offer waits) c).waits.decided
 offer-waits c who waits true was is = gain-waits c c.holder who manners.Offer waits was is
 offer-waits c who waits false was is = absurd (cc)
@@ -542,7 +542,7 @@ pub waits-called : (c : Channel) (who : Who) (op : ChanOp) (manner : Manner) →
     IsAwaitedAs (chan_next c who op) who.number c.entries manner × IsUndecided (chan_next c who op) who.number c.entries
 waits-called c who op manner was told is = by_op op manner told is
   where
-    awaits : (d : Channel) (mine : Manner) → All (λ w. is_waiter who.number c.entries w ≡ true → w.matter ≡ mine) d.waits.waiting
+    awaits : (d : Channel) (mine : Manner) → All (λ w. is_waiter who.number c.entries w ≡ true → w.payload ≡ mine) d.waits.waiting
         × All (λ e. is_decision who.number c.entries e ≡ false) d.waits.decided →
         IsAwaitedAs d who.number c.entries mine × IsUndecided d who.number c.entries
     awaits d mine both = (

@@ -19,7 +19,7 @@ use Rattle.zk_model_bus.specs.declared.channel.ChanOp.{ChanOp}
 use Rattle.zk_model_bus.specs.declared.channel.ChanOp.TheVariants as ops
 use Rattle.zk_model_bus.specs.declared.channel.ChanReply.{ChanReply}
 use Rattle.zk_model_bus.specs.declared.channel.ChanReply.TheVariants.{Got, Again, NoMsg, Observers, Bytes, Done, Inval}
-use Rattle.zk_model_bus.specs.Channel.{Channel, unmasked, new_chan, holds, has_claimed, has_entered, is_observer, told_of, mask_one, masked, gain_reply, gain, handed_on, chan_changed, chan_reply, chan_next, chan_machine}
+use Rattle.zk_model_bus.specs.Channel.{Channel, unmasked, new_chan, holds, has_claimed, holds_by_entering, is_observer, told_of, mask_one, masked, gain_reply, gain, handed_on, chan_changed, chan_reply, chan_next, chan_machine}
 use Rattle.zk_base.specs.Validators.{is_valid}
 use Rattle.zk_model_bus.specs.ChannelLaws.{ChanHistory}
 
@@ -89,7 +89,7 @@ module _ (P : ℕ → Type 0) where
       cond-keeps (holds c who) (record c { message = message }) c (record { each = keeps.each; decided = keeps.decided }) keeps
   changed-keeps c who ops.List keeps = keeps
   changed-keeps c who ops.Get keeps = keeps
-  changed-keeps c who ops.Free keeps = cond-keeps (has_entered c who) (handed_on c) c (handed-keeps c keeps) keeps
+  changed-keeps c who ops.Free keeps = cond-keeps (holds_by_entering c who) (handed_on c) c (handed-keeps c keeps) keeps
   changed-keeps c who ops.Finish keeps = cond-keeps (has_claimed c who) (handed_on c) c (handed-keeps c keeps) keeps
   changed-keeps c who (ops.Mask observer on) keeps =
       record { each = mask-keeps observer on c.observers keeps.each; decided = keeps.decided }
@@ -167,7 +167,7 @@ module _ (P : ℕ → Type 0) where
   reply-only c who ops.List reply keeps is = given-only (holds c who) (Observers (told_of c.observers)) reply is
       (told-has c.observers keeps.each)
   reply-only c who ops.Get reply keeps is = given-only (holds c who) (Bytes c.message) reply is tt
-  reply-only c who ops.Free reply keeps is = given-only (has_entered c who) Done reply is tt
+  reply-only c who ops.Free reply keeps is = given-only (holds_by_entering c who) Done reply is tt
   reply-only c who ops.Finish reply keeps is =
       told-only (cond (has_claimed c who) Done Inval) reply is (either-only (has_claimed c who) Done Inval tt tt)
   reply-only c who (ops.Mask observer on) reply keeps is =

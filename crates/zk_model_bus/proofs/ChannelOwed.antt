@@ -16,7 +16,7 @@ use Rattle.zk_model_bus.specs.declared.channel.ChanOp.{ChanOp}
 use Rattle.zk_model_bus.specs.declared.channel.ChanOp.TheVariants as ops
 use Rattle.zk_model_bus.specs.declared.channel.ChanReply.{ChanReply}
 use Rattle.zk_model_bus.specs.declared.channel.ChanReply.TheVariants.{Got, Again, Done}
-use Rattle.zk_model_bus.specs.Channel.{Channel, owed_entries, chan_reply, chan_next, chan_in_range, chan_closes, is_claim, holds, has_claimed, has_entered, gain, held_by, handed_on}
+use Rattle.zk_model_bus.specs.Channel.{Channel, owed_entries, chan_reply, chan_next, chan_in_range, chan_closes, is_claim, holds, has_claimed, holds_by_entering, gain, held_by, handed_on}
 use Rattle.zk_base.specs.Validators.{is_valid}
 
 -- each entry is counted
@@ -32,7 +32,7 @@ gain-adds : (holder : Option Holder) (c : Channel) (who : Who) (manner : Manner)
     owed_entries (gain holder c who manner waits) ≤ owed_entries c + 2
 gain-adds None c who manner waits is = omega arith
 gain-adds (Some holder) c who manner true is =
-    let w : Waiter Manner = record { place = c.entries; who = who; matter = manner } in
+    let w : Waiter Manner = record { place = c.entries; who = who; payload = manner } in
     let one = open-joined c.waits w in
     let long = length-put_before (is_served_after w) w c.waits.waiting in
     omega arith
@@ -98,7 +98,7 @@ adds c who (ops.ClaimQuit place) =
 adds c who (ops.Set message) = set-adds (holds c who) c message
 adds c who ops.List = omega arith
 adds c who ops.Get = omega arith
-adds c who ops.Free = freed-adds (has_entered c who) c
+adds c who ops.Free = freed-adds (holds_by_entering c who) c
 adds c who ops.Finish = freed-adds (has_claimed c who) c
 adds c who (ops.Mask observer on) = omega arith
 
@@ -117,8 +117,8 @@ gives c who (ops.ClaimQuit place) closes some =
     let fewer = length-less (is_waiter {M = Manner} who.number place) c.waits.waiting in
     omega arith
 gives c who ops.Free closes some =
-    let may = entered-where (has_entered c who) some in
-    freed-gives (has_entered c who) c may (held-so (λ h. h.player == who.number && not (is_claim h.manner)) c.holder may)
+    let may = entered-where (holds_by_entering c who) some in
+    freed-gives (holds_by_entering c who) c may (held-so (λ h. h.player == who.number && not (is_claim h.manner)) c.holder may)
 gives c who ops.Finish closes some =
     freed-gives (has_claimed c who) c closes (held-so (λ h. h.player == who.number && is_claim h.manner) c.holder closes)
 gives c who op closes some = absurd (cc)

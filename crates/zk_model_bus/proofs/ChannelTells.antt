@@ -17,7 +17,7 @@ use Rattle.zk_model_bus.specs.declared.channel.ChanOp.{ChanOp}
 use Rattle.zk_model_bus.specs.declared.channel.ChanOp.TheVariants as ops
 use Rattle.zk_model_bus.specs.declared.channel.ChanReply.{ChanReply}
 use Rattle.zk_model_bus.specs.declared.channel.ChanReply.TheVariants.{NoMsg, Observers, Bytes, Done, Inval}
-use Rattle.zk_model_bus.specs.Channel.{Channel, unmasked, new_chan, holds, has_claimed, has_entered, is_observer, told_of, masked, gain_reply, gain, handed_on, chan_reply, chan_next, chan_machine}
+use Rattle.zk_model_bus.specs.Channel.{Channel, unmasked, new_chan, holds, has_claimed, holds_by_entering, is_observer, told_of, masked, gain_reply, gain, handed_on, chan_reply, chan_next, chan_machine}
 use Rattle.zk_base.specs.Validators.{is_valid}
 use Rattle.zk_model_bus.specs.ChannelLaws.{ChanHistory, OfEachChan, chan_after_all, waits_of, asks_observers, IsAboveBound, IsRefused, CallIsTold, set_by, last_set, masked_by, last_mask, numbers, RefusedByItsValidator, CallWaitsOnlyWhereHeld, GetTellsTheLastSet, ListTellsTheUnmasked, MaskKnowsItsObservers, MayAlways}
 use Rattle.zk_model_bus.proofs.ChannelHolds.{replied, replied-as, was-given}
@@ -53,7 +53,7 @@ next-message c who (ops.ClaimQuit place) reply told = refl
 next-message c who (ops.Set message) reply told = set-message c message reply (holds c who) told
 next-message c who ops.List reply told = refl
 next-message c who ops.Get reply told = refl
-next-message c who ops.Free reply told = arms (λ (d : Channel). d.message) c.message (has_entered c who) (handed_on c) c refl refl
+next-message c who ops.Free reply told = arms (λ (d : Channel). d.message) c.message (holds_by_entering c who) (handed_on c) c refl refl
 next-message c who ops.Finish reply told = arms (λ (d : Channel). d.message) c.message (has_claimed c who) (handed_on c) c
     refl refl
 next-message c who (ops.Mask observer on) reply told = refl
@@ -110,7 +110,7 @@ next-observers c who (ops.Set message) f ns is = arms (λ (d : Channel). d.obser
     (record c { message = message }) c refl refl ∙ is
 next-observers c who ops.List f ns is = is
 next-observers c who ops.Get f ns is = is
-next-observers c who ops.Free f ns is = arms (λ (d : Channel). d.observers) c.observers (has_entered c who)
+next-observers c who ops.Free f ns is = arms (λ (d : Channel). d.observers) c.observers (holds_by_entering c who)
     (handed_on c) c refl refl ∙ is
 next-observers c who ops.Finish f ns is = arms (λ (d : Channel). d.observers) c.observers (has_claimed c who)
     (handed_on c) c refl refl ∙ is
@@ -201,7 +201,7 @@ next-valid c who (ops.Set message) =
     arms (λ (d : Channel). d.valid) c.valid (holds c who) (record c { message = message }) c refl refl
 next-valid c who ops.List = refl
 next-valid c who ops.Get = refl
-next-valid c who ops.Free = arms (λ (d : Channel). d.valid) c.valid (has_entered c who) (handed_on c) c refl refl
+next-valid c who ops.Free = arms (λ (d : Channel). d.valid) c.valid (holds_by_entering c who) (handed_on c) c refl refl
 next-valid c who ops.Finish = arms (λ (d : Channel). d.valid) c.valid (has_claimed c who) (handed_on c) c refl refl
 next-valid c who (ops.Mask observer on) = refl
 

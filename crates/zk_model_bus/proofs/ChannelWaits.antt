@@ -13,7 +13,7 @@ use Rattle.zk_model_bus.specs.declared.channel.ChanOp.{ChanOp}
 use Rattle.zk_model_bus.specs.declared.channel.ChanOp.TheVariants as ops
 use Rattle.zk_model_bus.specs.declared.channel.ChanReply.{ChanReply}
 use Rattle.zk_model_bus.specs.declared.channel.ChanReply.TheVariants.{Got, Busy, Wait, NoMsg, Done, Inval}
-use Rattle.zk_model_bus.specs.Channel.{Channel, new_chan, holds, has_claimed, has_entered, gain_reply, gain, handed_on, chan_reply, chan_next, chan_machine}
+use Rattle.zk_model_bus.specs.Channel.{Channel, new_chan, holds, has_claimed, holds_by_entering, gain_reply, gain, handed_on, chan_reply, chan_next, chan_machine}
 use Rattle.zk_base.specs.Validators.{is_valid}
 use Rattle.zk_model_bus.specs.ChannelWaits.{call_opens, call_decides, callers}
 use Rattle.zk_model_bus.specs.ChannelLaws.{OfEachChan}
@@ -74,7 +74,7 @@ call-moves c who (ops.Set message) reply is = set-moves (holds c who) where
   set-moves false = refl
 call-moves c who ops.List reply is = refl
 call-moves c who ops.Get reply is = refl
-call-moves c who ops.Free reply is = free-moves c (has_entered c who) reply is
+call-moves c who ops.Free reply is = free-moves c (holds_by_entering c who) reply is
 call-moves c who ops.Finish reply is =
     subst (λ (r : ChanReply). (chan_next c who ops.Finish).waits ≡ after_decision (call_decides c ops.Finish r) c.waits)
     (same_Some (cond (has_claimed c who) Done Inval) reply is) (finish-moves c (has_claimed c who))

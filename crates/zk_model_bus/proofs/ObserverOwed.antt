@@ -36,7 +36,7 @@ visited-adds false o channel = omega arith
 take-adds : (channels : List ℕ) (o : Observer) (who : Who) (waits : Bool) →
     open_waits (taken channels o who waits).takers ≤ open_waits o.takers + 2
 take-adds (channel ∷ channels) o who waits = omega arith
-take-adds [] o who true = let one = open-joined o.takers (record { place = o.entries; who = who; matter = tt }) in omega arith
+take-adds [] o who true = let one = open-joined o.takers (record { place = o.entries; who = who; payload = tt }) in omega arith
 take-adds [] o who false = omega arith
 
 taken-adds : (subscribes : Bool) (o : Observer) (who : Who) (waits : Bool) →

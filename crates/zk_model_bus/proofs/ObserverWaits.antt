@@ -79,10 +79,10 @@ take-quits : (o : Observer) (who : Who) (op : ObsOp) (place : ℕ) → takers.qu
 take-quits o who (ops.TakeQuit at) place is = ap (λ (p : ℕ). obs_reply o who (ops.TakeQuit p)) (same_Some at place is)
 take-quits o who op place is = absurd (cc)
 
-take-opens_alone : (op : ObsOp) (reply : ObsReply) (matter : Unit) → takers.opens op reply ≡ Some matter →
+take-opens_alone : (op : ObsOp) (reply : ObsReply) (payload : Unit) → takers.opens op reply ≡ Some payload →
     (takers.ends op ≡ None) × (takers.quits op ≡ None)
-take-opens_alone (ops.Take waits) reply matter is = (refl, refl)
-take-opens_alone op reply matter is = absurd (cc)
+take-opens_alone (ops.Take waits) reply payload is = (refl, refl)
+take-opens_alone op reply payload is = absurd (cc)
 
 take-ends_alone : (op : ObsOp) (place : ℕ) → takers.ends op ≡ Some place → takers.quits op ≡ None
 take-ends_alone (ops.TakeEnd at) place is = refl

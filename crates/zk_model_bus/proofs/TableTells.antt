@@ -20,7 +20,7 @@ use Rattle.zk_model_bus.specs.declared.table.TableOp.{TableOp}
 use Rattle.zk_model_bus.specs.declared.table.TableOp.TheVariants as ops
 use Rattle.zk_model_bus.specs.declared.table.TableReply.{TableReply}
 use Rattle.zk_model_bus.specs.declared.table.TableReply.TheVariants.{Done, Already, Oops}
-use Rattle.zk_model_bus.specs.Table.{Setup, Table, new_table, has_kind, is_declared, said, is_allowed, publishes, is_public, initialises, begins_ready, was_initialised, is_ready, enters, begins_as_user, has_entered, is_user, is_oops, is_dead, is_for, may, check_reply, answer, table_reply, entry_of, table_next, table_machine}
+use Rattle.zk_model_bus.specs.Table.{Setup, Table, new_table, has_kind, is_declared, said, is_allowed, publishes, is_public, initialises, begins_ready, was_initialised, is_ready, enters, begins_as_user, has_entered_user_mode, is_user, is_oops, is_dead, is_for, may, check_reply, answer, table_reply, entry_of, table_next, table_machine}
 use Rattle.zk_base.specs.Kinds.{meets, is_any}
 use Rattle.zk_model_bus.specs.TableLaws.{TableHistory, OfEachTable, speaks_of, Speaks, is_grant, Unspoken, GrantedLast, IsGranted, IsPublic, IsReady, IsUser, HasOops, is_check, is_for_all, is_for_supervisors, is_just_done, IsOfCheck, IsPossible, NoObjectExactly, WrongKindFirst, GrantStands, PublicForGood, NoneWithoutAGrant, ReadyForGood, NoneBeforeInit, InitDoneOnce, IsAnswered, DeadMakesNoEntry, UsersAreChecked, UserForGood, LivingMay}
 
@@ -159,8 +159,8 @@ enter-op ops.EnterUser is = refl
 enter-op op is = absurd (cc)
 
 user-so : (setup : Setup) (player : ℕ) (h : TableHistory) → is_user (after setup h) player ≡ true → IsUser setup player h
-user-so setup player h is = by (or_cases (begins_as_user setup player) (has_entered (after setup h) player) is) where
-  by : (begins_as_user setup player ≡ true) ⊎ (has_entered (after setup h) player ≡ true) → IsUser setup player h
+user-so setup player h is = by (or_cases (begins_as_user setup player) (has_entered_user_mode (after setup h) player) is) where
+  by : (begins_as_user setup player ≡ true) ⊎ (has_entered_user_mode (after setup h) player ≡ true) → IsUser setup player h
   by (inl begins) = inl begins
   by (inr later) =
       let found = any-entry (λ (e : TableEntry). eqb e.player player && enters e.op) h later in
@@ -177,10 +177,10 @@ same-test : (a b : ℕ) → a ≡ b → eqb a b ≡ true
 same-test a b is = subst (λ (n : ℕ). eqb a n ≡ true) is (eqb-same a)
 
 so-user : (setup : Setup) (player : ℕ) (h : TableHistory) → IsUser setup player h → is_user (after setup h) player ≡ true
-so-user setup player h (inl begins) = or_left (begins_as_user setup player) (has_entered (after setup h) player) begins
+so-user setup player h (inl begins) = or_left (begins_as_user setup player) (has_entered_user_mode (after setup h) player) begins
 so-user setup player h (inr is) =
     let e = is.1 in
-    or_right (begins_as_user setup player) (has_entered (after setup h) player)
+    or_right (begins_as_user setup player) (has_entered_user_mode (after setup h) player)
     (entry-any (λ (k : TableEntry). eqb k.player player && enters k.op) h is.0 e is.2
     (and_from (eqb e.who.number player) (enters e.op) (same-test e.who.number player is.3)
     (subst (λ (op : TableOp). enters op ≡ true) (sym is.4) refl)))

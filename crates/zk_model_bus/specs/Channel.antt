@@ -71,8 +71,8 @@ abbrev pub has_claimed : Channel → Who → Bool
 has_claimed c who = option_map_or (λ h. h.player == who.number && is_claim h.manner) c.holder false
 
 -- the caller holds the channel by an offer or by entering
-abbrev pub has_entered : Channel → Who → Bool
-has_entered c who = option_map_or (λ h. h.player == who.number && not (is_claim h.manner)) c.holder false
+abbrev pub holds_by_entering : Channel → Who → Bool
+holds_by_entering c who = option_map_or (λ h. h.player == who.number && not (is_claim h.manner)) c.holder false
 
 -- it is the observer of this number
 abbrev pub is_observer : ℕ → ChanObserver → Bool
@@ -106,7 +106,7 @@ chan_reply c who (ops.ClaimQuit place) = quit_answer Again c.waits who.number pl
 chan_reply c who (ops.Set message) = if holds c who then Some (Observers (told_of c.observers)) else None
 chan_reply c who ops.List = if holds c who then Some (Observers (told_of c.observers)) else None
 chan_reply c who ops.Get = if holds c who then Some (Bytes c.message) else None
-chan_reply c who ops.Free = if has_entered c who then Some Done else None
+chan_reply c who ops.Free = if holds_by_entering c who then Some Done else None
 chan_reply c who ops.Finish = Some (if has_claimed c who then Done else Inval)
 chan_reply c who (ops.Mask observer on) =
     Some (if list_any (is_observer observer) c.observers then Done else Inval)
@@ -115,12 +115,12 @@ chan_reply c who (ops.Mask observer on) =
 abbrev pub gain : Option Holder → Channel → Who → Manner → Bool → Channel
 gain None c who manner waits = record c { holder = Some (record { player = who.number; manner = manner }) }
 gain (Some holder) c who manner true =
-    record c { waits = joined c.waits (record { place = c.entries; who = who; matter = manner }) }
+    record c { waits = joined c.waits (record { place = c.entries; who = who; payload = manner }) }
 gain (Some holder) c who manner false = c
 
 -- who waits holds the channel in the manner of its call
 abbrev pub held_by : Waiter Manner → Holder
-held_by w = record { player = w.who.number; manner = w.matter }
+held_by w = record { player = w.who.number; manner = w.payload }
 
 -- a channel that is freed goes to the first who waits, and nobody holds it where nobody waits
 abbrev pub handed_on : Channel → Channel
@@ -140,7 +140,7 @@ chan_changed c who (ops.ClaimQuit place) = record c { waits = quitted c.waits wh
 chan_changed c who (ops.Set message) = if holds c who then record c { message = message } else c
 chan_changed c who ops.List = c
 chan_changed c who ops.Get = c
-chan_changed c who ops.Free = if has_entered c who then handed_on c else c
+chan_changed c who ops.Free = if holds_by_entering c who then handed_on c else c
 chan_changed c who ops.Finish = if has_claimed c who then handed_on c else c
 chan_changed c who (ops.Mask observer on) = record c { observers = masked observer on c.observers }
 

@@ -79,7 +79,7 @@ visited (Some capacity) [] o channel = listed capacity o channel
 -- a take takes the oldest channel. Where there is none it waits, if it is to wait
 abbrev pub taken : List ℕ → Observer → Who → Bool → Observer
 taken (channel ∷ channels) o who waits = record o { channels = channels }
-taken [] o who true = record o { takers = joined o.takers (record { place = o.entries; who = who; matter = tt }) }
+taken [] o who true = record o { takers = joined o.takers (record { place = o.entries; who = who; payload = tt }) }
 taken [] o who false = o
 
 -- what each operation changes. One that isn't possible changes nothing

@@ -113,12 +113,12 @@ abbrev pub begins_as_user : Setup → ℕ → Bool
 begins_as_user setup player = option_map_or (λ declared. declared.1) (slice_get setup.threads player) false
 
 -- an entry of the player has made it a user
-abbrev pub has_entered : Table → ℕ → Bool
-has_entered t player = list_any (λ e. e.player == player && enters e.op) t.entries
+abbrev pub has_entered_user_mode : Table → ℕ → Bool
+has_entered_user_mode t player = list_any (λ e. e.player == player && enters e.op) t.entries
 
 -- it is a user, which it is for good
 abbrev pub is_user : Table → ℕ → Bool
-is_user t player = begins_as_user t.setup player || has_entered t player
+is_user t player = begins_as_user t.setup player || has_entered_user_mode t player
 
 -- the reply is an oops
 abbrev pub is_oops : TableReply → Bool

@@ -4,7 +4,7 @@ ghost use Rattle.zk_base.specs.History.{AddsNone};
 ghost use Rattle.zk_base.specs.Validators.{is_valid};
 ghost use Rattle.zk_base.specs.Waits.{open_waits};
 ghost use Rattle.zk_base.specs.Limits.{most_entries};
-ghost use Rattle.zk_model_bus.specs.Channel.{unmasked, new_chan, holds, is_claim, has_claimed, has_entered, is_observer, told_of, mask_one, masked, gain_reply, gain, held_by, handed_on, chan_reply, chan_next, chan_after, may_wait};
+ghost use Rattle.zk_model_bus.specs.Channel.{unmasked, new_chan, holds, is_claim, has_claimed, holds_by_entering, is_observer, told_of, mask_one, masked, gain_reply, gain, held_by, handed_on, chan_reply, chan_next, chan_after, may_wait};
 
 use std::alloc::Global;
 use std::marker::Model;
@@ -248,7 +248,7 @@ fn held_by(waiter: &Waiter<Manner>) -> Holder
 {
     Holder {
         player: waiter.who.number,
-        manner: waiter.matter,
+        manner: waiter.payload,
     }
 }
 
@@ -297,7 +297,7 @@ impl ChanStore {
             self.waits.join(Waiter {
                 place: self.entries,
                 who,
-                matter: manner,
+                payload: manner,
             })?;
             reply = ChanReply::Wait;
         } else {
@@ -369,8 +369,8 @@ impl ChanStore {
     }
 
     /// The caller holds the channel by an offer or by entering.
-    fn has_entered(&self, who: Who) -> bool
-        ensures { result ≡ has_entered self.now.chan who }
+    fn holds_by_entering(&self, who: Who) -> bool
+        ensures { result ≡ holds_by_entering self.now.chan who }
     {
         match self.holder {
             Some(holder) => holder.player == who.number && !is_claim(holder.manner),
@@ -433,7 +433,7 @@ impl ChanStore {
         ensures next { self.new.chan ≡ chan_after self.old.chan who ChanOp.Free result }
         ensures room { self.old.room ≤ self.new.room }
     {
-        if !self.has_entered(who) {
+        if !self.holds_by_entering(who) {
             return None;
         }
         self.hand_on();

@@ -213,7 +213,7 @@ impl ObsStore {
             self.takers.join(Waiter {
                 place: self.entries,
                 who,
-                matter: (),
+                payload: (),
             })?;
             reply = ObsReply::Wait;
         }

@@ -1,7 +1,7 @@
 ghost use Rattle.std.specs.Prelude.{◌≡◌, true, false, ◌+◌, ◌-◌, ◌^◌, ◌<◌, ◌≤◌, length, vec_len, IsOk, IfOk, OnErr};
 ghost use Rattle.zk_base.specs.History.{AddsNone};
 ghost use Rattle.zk_base.specs.Limits.{most_entries};
-ghost use Rattle.zk_model_bus.specs.Table.{IsSetup, new_table, has_kind, is_thread, is_declared, said, is_allowed, publishes, is_public, initialises, begins_ready, was_initialised, is_ready, enters, begins_as_user, has_entered, is_user, is_oops, is_dead, is_for, may, check_reply, answer, table_reply, table_after};
+ghost use Rattle.zk_model_bus.specs.Table.{IsSetup, new_table, has_kind, is_thread, is_declared, said, is_allowed, publishes, is_public, initialises, begins_ready, was_initialised, is_ready, enters, begins_as_user, has_entered_user_mode, is_user, is_oops, is_dead, is_for, may, check_reply, answer, table_reply, table_after};
 
 use std::alloc::Global;
 use std::marker::Model;
@@ -329,8 +329,8 @@ impl TableStore {
     }
 
     /// An entry of the player has made it a user.
-    fn has_entered(&self, player: u32) -> bool
-        ensures { result ≡ has_entered self.now.table player }
+    fn has_entered_user_mode(&self, player: u32) -> bool
+        ensures { result ≡ has_entered_user_mode self.now.table player }
     {
         self.entries
             .iter()
@@ -341,7 +341,7 @@ impl TableStore {
     fn is_user(&self, player: u32) -> bool
         ensures { result ≡ is_user self.now.table player }
     {
-        self.begins_as_user(player) || self.has_entered(player)
+        self.begins_as_user(player) || self.has_entered_user_mode(player)
     }
 
     /// A check of the player has ended in an oops.

@@ -76,7 +76,7 @@ moved-served most [] m ms q none has is =
     record { holds = is.holds; within = omega arith; gets = λ above. is.gets (omega arith); puts = λ room. none }
 moved-served most (w ∷ ws) m ms q some has is =
     let long : length q.messages ≡ suc (length ms) = ap length has in
-    let longer = length-append ms (w.matter ∷ []) in
+    let longer = length-append ms (w.payload ∷ []) in
     let within = is.within in
     record {
       holds = is.holds;
@@ -161,7 +161,7 @@ moved-none after [] apart = refl
 moved-none after (w ∷ ws) apart =
     let P : Waiter (List ℕ) → Type 0 = λ (w : Waiter (List ℕ)). decided_at w.place after ≡ 0 in
     let isnt = any-apart w.place after.decided (All-head P w ws apart) in
-    ap (λ (b : Bool). cond b (w.matter ∷ []) [] ++ moved_by after ws) isnt ∙ moved-none after ws (All-tail P w ws apart)
+    ap (λ (b : Bool). cond b (w.payload ∷ []) [] ++ moved_by after ws) isnt ∙ moved-none after ws (All-tail P w ws apart)
 
 done-last : (w : Waiter (List ℕ)) (ds : List (Decision MsgqReply)) →
     list_any (λ (d : Decision MsgqReply). eqb d.place w.place && is_done d.answer) (ds ++ decide Done w ∷ []) ≡ true
@@ -215,9 +215,9 @@ moved-passes (w ∷ ws) ms q some apart =
     ap (λ (l : List (Waiter (List ℕ))). decides_first Done l q.puts.decided) some in
     let P : Waits (List ℕ) MsgqReply → Type 0 = λ a. All (λ (v : Waiter (List ℕ)). decided_at v.place a ≡ 0) a.waiting in
     let rest = moved-none (decides_first Done (w ∷ ws) q.puts.decided) ws (subst P same apart.puts) in
-    let moved : moved_by (decides_first Done (w ∷ ws) q.puts.decided) (w ∷ ws) ≡ w.matter ∷ [] =
-    ap (λ (b : Bool). cond b (w.matter ∷ []) [] ++ moved_by (decides_first Done (w ∷ ws) q.puts.decided) ws)
-    (done-last w q.puts.decided) ∙ ap (λ (l : List (List ℕ)). w.matter ∷ l) rest in
+    let moved : moved_by (decides_first Done (w ∷ ws) q.puts.decided) (w ∷ ws) ≡ w.payload ∷ [] =
+    ap (λ (b : Bool). cond b (w.payload ∷ []) [] ++ moved_by (decides_first Done (w ∷ ws) q.puts.decided) ws)
+    (done-last w q.puts.decided) ∙ ap (λ (l : List (List ℕ)). w.payload ∷ l) rest in
     ap (λ (l : List (List ℕ)). ms ++ l) (ap (λ (a : Waits (List ℕ) MsgqReply). moved_by a (w ∷ ws)) same ∙ moved)
 
 get-passes : (messages : List (List ℕ)) (q : Msgq) (who : Who) (waits : Bool) → q.messages ≡ messages → AreApart q →

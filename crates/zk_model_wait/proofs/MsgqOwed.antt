@@ -20,7 +20,7 @@ ranges q who op = refl
 full-adds : (q : Msgq) (who : Who) (message : List ℕ) (waits : Bool) →
     open_calls (put_at_full q who message waits) ≤ open_calls q + 2
 full-adds q who message true =
-    let one = open-joined q.puts (record { place = q.entries; who = who; matter = message }) in
+    let one = open-joined q.puts (record { place = q.entries; who = who; payload = message }) in
     omega arith
 full-adds q who message false = omega arith
 
@@ -42,13 +42,13 @@ moved-adds (w ∷ ws) q = let same = open-first Done q.puts in omega arith
 get-adds : (messages : List (List ℕ)) (q : Msgq) (who : Who) (waits : Bool) →
     open_calls (get_from messages q who waits) ≤ open_calls q + 2
 get-adds (m ∷ ms) q who waits = let most = moved-adds q.puts.waiting (record q { messages = ms }) in omega arith
-get-adds [] q who true = let one = open-joined q.gets (record { place = q.entries; who = who; matter = tt }) in omega arith
+get-adds [] q who true = let one = open-joined q.gets (record { place = q.entries; who = who; payload = tt }) in omega arith
 get-adds [] q who false = omega arith
 
 arm-adds : (messages : List (List ℕ)) (q : Msgq) (who : Who) (waits : Bool) →
     open_waits (arm_at messages q who waits) ≤ open_waits q.pollers + 1
 arm-adds (m ∷ ms) q who waits = omega arith
-arm-adds [] q who true = let one = open-joined q.pollers (record { place = q.entries; who = who; matter = tt }) in omega arith
+arm-adds [] q who true = let one = open-joined q.pollers (record { place = q.entries; who = who; payload = tt }) in omega arith
 arm-adds [] q who false = omega arith
 
 -- an operation adds at most two owed entries

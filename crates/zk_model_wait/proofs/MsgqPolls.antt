@@ -91,10 +91,10 @@ poll-quits : (q : Msgq) (who : Who) (op : MsgqOp) (place : ℕ) → pollers.quit
 poll-quits q who (ops.PollQuit at) place is = ap (λ (p : ℕ). msgq_reply q who (ops.PollQuit p)) (same_Some at place is)
 poll-quits q who op place is = absurd (cc)
 
-poll-opens_alone : (op : MsgqOp) (reply : MsgqReply) (matter : Unit) → pollers.opens op reply ≡ Some matter →
+poll-opens_alone : (op : MsgqOp) (reply : MsgqReply) (payload : Unit) → pollers.opens op reply ≡ Some payload →
     (pollers.ends op ≡ None) × (pollers.quits op ≡ None)
-poll-opens_alone (ops.PollArm waits) reply matter is = (refl, refl)
-poll-opens_alone op reply matter is = absurd (cc)
+poll-opens_alone (ops.PollArm waits) reply payload is = (refl, refl)
+poll-opens_alone op reply payload is = absurd (cc)
 
 poll-ends_alone : (op : MsgqOp) (place : ℕ) → pollers.ends op ≡ Some place → pollers.quits op ≡ None
 poll-ends_alone (ops.PollEnd at) place is = refl

@@ -146,19 +146,19 @@ get-quits : (q : Msgq) (who : Who) (op : MsgqOp) (place : ℕ) → getters.quits
 get-quits q who (ops.GetQuit at) place is = ap (λ (p : ℕ). msgq_reply q who (ops.GetQuit p)) (same_Some at place is)
 get-quits q who op place is = absurd (cc)
 
-put-opens_alone : (op : MsgqOp) (reply : MsgqReply) (matter : List ℕ) → putters.opens op reply ≡ Some matter →
+put-opens_alone : (op : MsgqOp) (reply : MsgqReply) (payload : List ℕ) → putters.opens op reply ≡ Some payload →
     (putters.ends op ≡ None) × (putters.quits op ≡ None)
-put-opens_alone (ops.Put message waits) reply matter is = (refl, refl)
-put-opens_alone op reply matter is = absurd (cc)
+put-opens_alone (ops.Put message waits) reply payload is = (refl, refl)
+put-opens_alone op reply payload is = absurd (cc)
 
 put-ends_alone : (op : MsgqOp) (place : ℕ) → putters.ends op ≡ Some place → putters.quits op ≡ None
 put-ends_alone (ops.PutEnd at) place is = refl
 put-ends_alone op place is = absurd (cc)
 
-get-opens_alone : (op : MsgqOp) (reply : MsgqReply) (matter : Unit) → getters.opens op reply ≡ Some matter →
+get-opens_alone : (op : MsgqOp) (reply : MsgqReply) (payload : Unit) → getters.opens op reply ≡ Some payload →
     (getters.ends op ≡ None) × (getters.quits op ≡ None)
-get-opens_alone (ops.Get waits) reply matter is = (refl, refl)
-get-opens_alone op reply matter is = absurd (cc)
+get-opens_alone (ops.Get waits) reply payload is = (refl, refl)
+get-opens_alone op reply payload is = absurd (cc)
 
 get-ends_alone : (op : MsgqOp) (place : ℕ) → getters.ends op ≡ Some place → getters.quits op ≡ None
 get-ends_alone (ops.GetEnd at) place is = refl

@@ -19,7 +19,7 @@ ranges s who op = refl
 
 take-adds : (count : ℕ) (s : Sem) (who : Who) (waits : Bool) → open_takes (take_at count s who waits) ≤ open_takes s + 2
 take-adds zero s who false = omega arith
-take-adds zero s who true = let one = open-joined s.takers (record { place = s.entries; who = who; matter = tt }) in omega arith
+take-adds zero s who true = let one = open-joined s.takers (record { place = s.entries; who = who; payload = tt }) in omega arith
 take-adds (suc n) s who waits = omega arith
 
 give-adds : (waiting : List (Waiter Unit)) (s : Sem) → open_takes (give_to waiting s) ≤ open_takes s + 2
@@ -28,7 +28,7 @@ give-adds (w ∷ ws) s = let same = open-first Got s.takers in omega arith
 
 arm-adds : (count : ℕ) (s : Sem) (who : Who) (waits : Bool) → open_waits (arm_at count s who waits) ≤ open_waits s.pollers + 1
 arm-adds zero s who false = omega arith
-arm-adds zero s who true = let one = open-joined s.pollers (record { place = s.entries; who = who; matter = tt }) in omega arith
+arm-adds zero s who true = let one = open-joined s.pollers (record { place = s.entries; who = who; payload = tt }) in omega arith
 arm-adds (suc n) s who waits = omega arith
 
 -- an operation adds at most two owed entries

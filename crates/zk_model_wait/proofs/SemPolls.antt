@@ -60,10 +60,10 @@ poll-quits : (s : Sem) (who : Who) (op : SemOp) (place : ℕ) → pollers.quits 
 poll-quits s who (ops.PollQuit at) place is = ap (λ (p : ℕ). sem_reply s who (ops.PollQuit p)) (same_Some at place is)
 poll-quits s who op place is = absurd (cc)
 
-poll-opens_alone : (op : SemOp) (reply : SemReply) (matter : Unit) → pollers.opens op reply ≡ Some matter →
+poll-opens_alone : (op : SemOp) (reply : SemReply) (payload : Unit) → pollers.opens op reply ≡ Some payload →
     (pollers.ends op ≡ None) × (pollers.quits op ≡ None)
-poll-opens_alone (ops.PollArm waits) reply matter is = (refl, refl)
-poll-opens_alone op reply matter is = absurd (cc)
+poll-opens_alone (ops.PollArm waits) reply payload is = (refl, refl)
+poll-opens_alone op reply payload is = absurd (cc)
 
 poll-ends_alone : (op : SemOp) (place : ℕ) → pollers.ends op ≡ Some place → pollers.quits op ≡ None
 poll-ends_alone (ops.PollEnd at) place is = refl

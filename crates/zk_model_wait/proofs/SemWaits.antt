@@ -61,10 +61,10 @@ sem-quits : (s : Sem) (who : Who) (op : SemOp) (place : ℕ) → takers.quits op
 sem-quits s who (ops.TakeQuit at) place is = ap (λ (p : ℕ). sem_reply s who (ops.TakeQuit p)) (same_Some at place is)
 sem-quits s who op place is = absurd (cc)
 
-sem-opens_alone : (op : SemOp) (reply : SemReply) (matter : Unit) → takers.opens op reply ≡ Some matter →
+sem-opens_alone : (op : SemOp) (reply : SemReply) (payload : Unit) → takers.opens op reply ≡ Some payload →
     (takers.ends op ≡ None) × (takers.quits op ≡ None)
-sem-opens_alone (ops.Take waits) reply matter is = (refl, refl)
-sem-opens_alone op reply matter is = absurd (cc)
+sem-opens_alone (ops.Take waits) reply payload is = (refl, refl)
+sem-opens_alone op reply payload is = absurd (cc)
 
 sem-ends_alone : (op : SemOp) (place : ℕ) → takers.ends op ≡ Some place → takers.quits op ≡ None
 sem-ends_alone (ops.TakeEnd at) place is = refl

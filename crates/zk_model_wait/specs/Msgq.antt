@@ -92,11 +92,11 @@ msgq_reply q who (ops.PollQuit place) = quit_answer Plain q.pollers who.number p
 -- the wait of a put begins, with its message
 abbrev pub awaits_room : Msgq → Who → List ℕ → Msgq
 awaits_room q who message =
-    record q { puts = joined q.puts (record { place = q.entries; who = who; matter = message }) }
+    record q { puts = joined q.puts (record { place = q.entries; who = who; payload = message }) }
 
 -- the wait of a get begins
 abbrev pub awaits_message : Msgq → Who → Msgq
-awaits_message q who = record q { gets = joined q.gets (record { place = q.entries; who = who; matter = tt }) }
+awaits_message q who = record q { gets = joined q.gets (record { place = q.entries; who = who; payload = tt }) }
 
 -- a put that finds no room waits, if it is to wait
 abbrev pub put_at_full : Msgq → Who → List ℕ → Bool → Msgq
@@ -117,7 +117,7 @@ put_to [] q who message waits =
 -- the message of the first put that waits moves in, and that put is done
 abbrev pub moved_in : List (Waiter (List ℕ)) → Msgq → Msgq
 moved_in [] q = q
-moved_in (w ∷ ws) q = record q { messages = q.messages ++ w.matter ∷ []; puts = first_decided Done q.puts }
+moved_in (w ∷ ws) q = record q { messages = q.messages ++ w.payload ∷ []; puts = first_decided Done q.puts }
 
 -- a get takes the oldest message, and one that waits moves in. Where there is none it waits, if it is to wait
 abbrev pub get_from : List (List ℕ) → Msgq → Who → Bool → Msgq
@@ -128,7 +128,7 @@ get_from [] q who false = q
 -- a poll where there is no message registers its caller, if it is to wait
 abbrev pub arm_at : List (List ℕ) → Msgq → Who → Bool → Waits Unit MsgqReply
 arm_at (m ∷ ms) q who waits = q.pollers
-arm_at [] q who true = joined q.pollers (record { place = q.entries; who = who; matter = tt })
+arm_at [] q who true = joined q.pollers (record { place = q.entries; who = who; payload = tt })
 arm_at [] q who false = q.pollers
 
 -- what each operation changes, where it is possible

@@ -45,7 +45,7 @@ is_done_at place ws = list_any (λ d. d.place == place && is_done d.answer) ws.d
 -- the messages that move in: of these waiting puts, those that are done after
 abbrev pub moved_by : Waits (List ℕ) MsgqReply → List (Waiter (List ℕ)) → List (List ℕ)
 moved_by after [] = []
-moved_by after (w ∷ ws) = (if is_done_at w.place after then w.matter ∷ [] else []) ++ moved_by after ws
+moved_by after (w ∷ ws) = (if is_done_at w.place after then w.payload ∷ [] else []) ++ moved_by after ws
 
 -- the messages that an entry accepts: that of a put that is done, and those of the waiting puts that a get lets be done
 abbrev pub accepted : Msgq → Msgq → MsgqOp → MsgqReply → List (List ℕ)

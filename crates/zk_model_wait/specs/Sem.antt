@@ -62,7 +62,7 @@ sem_reply s who (ops.PollQuit place) = quit_answer Plain s.pollers who.number pl
 
 -- the wait of a taker begins
 abbrev pub awaits : Sem → Who → Sem
-awaits s who = record s { takers = joined s.takers (record { place = s.entries; who = who; matter = tt }) }
+awaits s who = record s { takers = joined s.takers (record { place = s.entries; who = who; payload = tt }) }
 
 -- a take lowers a count above 0. At 0 its caller waits, if it is to wait
 abbrev pub take_at : ℕ → Sem → Who → Bool → Sem
@@ -73,7 +73,7 @@ take_at (suc n) s who waits = record s { count = n }
 -- a poll at 0 registers its caller, if it is to wait
 abbrev pub arm_at : ℕ → Sem → Who → Bool → Waits Unit SemReply
 arm_at zero s who false = s.pollers
-arm_at zero s who true = joined s.pollers (record { place = s.entries; who = who; matter = tt })
+arm_at zero s who true = joined s.pollers (record { place = s.entries; who = who; payload = tt })
 arm_at (suc n) s who waits = s.pollers
 
 -- a give raises the count up to the limit where nobody waits, and notifies a poller. Else the first who waits gets it

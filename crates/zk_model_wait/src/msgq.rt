@@ -190,7 +190,7 @@ impl MsgqStore {
             self.puts.join(Waiter {
                 place: self.entries,
                 who,
-                matter: message,
+                payload: message,
             })?;
             reply = MsgqReply::Wait;
         } else {
@@ -229,7 +229,7 @@ impl MsgqStore {
         ensures room { self.old.room ≤ self.new.room }
     {
         if let Some(first) = self.puts.first() {
-            append(&mut self.ring, first.matter);
+            append(&mut self.ring, first.payload);
             self.puts.decide_first(MsgqReply::Done);
         }
     }
@@ -255,7 +255,7 @@ impl MsgqStore {
             self.gets.join(Waiter {
                 place: self.entries,
                 who,
-                matter: (),
+                payload: (),
             })?;
             reply = MsgqReply::Wait;
         }
@@ -316,7 +316,7 @@ impl MsgqStore {
                 self.pollers.join(Waiter {
                     place: self.entries,
                     who,
-                    matter: (),
+                    payload: (),
                 })?;
                 reply = MsgqReply::Armed;
             }

@@ -162,7 +162,7 @@ impl SemStore {
             self.takers.join(Waiter {
                 place: self.entries,
                 who,
-                matter: (),
+                payload: (),
             })?;
             reply = SemReply::Wait;
         } else {
@@ -263,7 +263,7 @@ impl SemStore {
                 self.pollers.join(Waiter {
                     place: self.entries,
                     who,
-                    matter: (),
+                    payload: (),
                 })?;
                 reply = SemReply::Armed;
             }

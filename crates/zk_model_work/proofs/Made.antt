@@ -23,7 +23,7 @@ use Rattle.zk_model_work.specs.Questions.{is_waiting, is_running, is_open, runs_
 use Rattle.zk_model_work.specs.State.{State}
 use Rattle.zk_model_work.specs.Answers.{is_chained, target, refusal, submission}
 use Rattle.zk_model_work.specs.Machine.{submission_in, submit, submit_arms, expiries, arm, disarm, hurried, drop_one, begin, end_one, with_life, is_pending_in, schedule_reply_in, delay_reply_in, announce_reply, work_reply, work_next, work_machine}
-use Rattle.zk_model_work.specs.Histories.{OfEach, cancels, hands_out, submitter, Makes, target_of, IsArmedFor, Named, Told, IsNewest, NoneIsOpen}
+use Rattle.zk_model_work.specs.Histories.{OfEach, cancels, hands_out, submitter, Makes, target_of, IsArmedFor, Named, IsSubmission, IsNewest, NoneIsOpen}
 use Rattle.zk_model_work.specs.Laws.{MadeWaiting, WaitsOn, GoesToItsQueue, StartedAdmits}
 use Rattle.zk_model_work.proofs.Moves.{still-submit, schedule-keeps, delayed-keeps}
 use Rattle.zk_model_work.proofs.Overlaps.{begin-is, still-cond}
@@ -47,7 +47,7 @@ Hurries s who op n b = (item : ℕ) × (a : Arm) × (op ≡ FlushStart item) × 
 
 abbrev Tells : State → Who → WorkOp → WorkReply → ℕ → Admission → Type 0
 Tells s who op reply n b = (b.life ≡ Waiting)
-    × (Told op reply b.item (Fresh n b.queue) ⊎ (Told op reply b.item (Rerun n b.queue) ⊎ Hurries s who op n b))
+    × (IsSubmission op reply b.item (Fresh n b.queue) ⊎ (IsSubmission op reply b.item (Rerun n b.queue) ⊎ Hurries s who op n b))
 
 made-arms : (marks : List ℕ) (queues : List Queue) (arms : List Arm) (ys : List Admission) (n : ℕ) (b : Admission) →
     slice_get (submit_arms marks queues None arms ys) n ≡ Some b →
@@ -77,7 +77,7 @@ tells-one : (s : State) (who : Who) (op : WorkOp) (reply : WorkReply) (item : �
     (b : Admission) → length s.admissions ≤ n →
     slice_get (submit s.admissions item (submission_in s (Some who.number) item named)) n ≡ Some b →
     ((answer : Submitted) → submission_in s (Some who.number) item named ≡ answer → (answer ≡ Already → ⊥) →
-    item ≡ b.item → Told op reply b.item answer) → Tells s who op reply n b
+    item ≡ b.item → IsSubmission op reply b.item answer) → Tells s who op reply n b
 tells-one s who op reply item named n b past at told =
     by (made-one s.admissions s.marks s.queues (Some who.number) named item n b at) where
       by : (slice_get s.admissions n ≡ Some b) ⊎ Makes_one (submission_in s (Some who.number) item named) item n b →
@@ -95,7 +95,7 @@ made-step : (s : State) (who : Who) (op : WorkOp) (reply : WorkReply) (n : ℕ) 
 made-step s who (Submit item named) reply n b is past at =
     let said = same_Some (replies.Sub (submission_in s (Some who.number) item named)) reply is in
     tells-one s who (Submit item named) reply item named n b past at
-    (λ answer so other same. subst (λ (r : WorkReply). Told (Submit item named) r b.item answer) said (same, so))
+    (λ answer so other same. subst (λ (r : WorkReply). IsSubmission (Submit item named) r b.item answer) said (same, so))
 made-step s who (Cancel item) reply n b is past at =
     absurd (none-new s.admissions (map (drop_one item) s.admissions) n b (length-map s.admissions (drop_one item)) at past)
 made-step s who (CancelStart item) reply n b is past at =
@@ -124,7 +124,7 @@ made-step s who (Schedule item queue delay) reply n b is past at =
       by true d said at = absurd (none-new s.admissions s.admissions n b refl at past)
       by false true said at =
           tells-one s who (Schedule item queue delay) reply item (Some queue) n b past at
-          (λ answer so other same. subst (λ (r : WorkReply). Told (Schedule item queue delay) r b.item answer) said (
+          (λ answer so other same. subst (λ (r : WorkReply). IsSubmission (Schedule item queue delay) r b.item answer) said (
             same,
             so,
             other,
@@ -142,7 +142,7 @@ made-step s who (Reschedule item queue delay) reply n b is past at =
           Tells s who (Reschedule item queue delay) reply n b
       by true said at =
           tells-one s who (Reschedule item queue delay) reply item (Some queue) n b past at
-          (λ answer so other same. subst (λ (r : WorkReply). Told (Reschedule item queue delay) r b.item answer) said (same, so))
+          (λ answer so other same. subst (λ (r : WorkReply). IsSubmission (Reschedule item queue delay) r b.item answer) said (same, so))
       by false said at = absurd (none-new s.admissions s.admissions n b refl at past)
 made-step s who (Remaining item) reply n b is past at = absurd (none-new s.admissions s.admissions n b refl at past)
 made-step s who (Start queue) reply n b is past at = absurd (none-new s.admissions s.admissions n b refl at past)
@@ -155,8 +155,8 @@ made-step s who (Announce ticks) reply n b is past at =
       told = expiries s.marks s.queues (due (s.time + ticks) s.arms) s.admissions
 
       tells : (answer : Submitted) (k : ℕ) (x : Expiry) → slice_get told k ≡ Some x → x.item ≡ b.item → x.submitted ≡ answer →
-          Told (Announce ticks) reply b.item answer
-      tells answer k x there item so = subst (λ (r : WorkReply). Told (Announce ticks) r b.item answer)
+          IsSubmission (Announce ticks) reply b.item answer
+      tells answer k x there item so = subst (λ (r : WorkReply). IsSubmission (Announce ticks) r b.item answer)
           (same_Some (announce_reply s ticks) reply is) (k, x, there, item, so)
 
       by : (slice_get s.admissions n ≡ Some b) ⊎ ((k : ℕ) × (x : Expiry) × (slice_get told k ≡ Some x) × (x.item ≡ b.item)
@@ -226,8 +226,8 @@ length-hurried s who item = by (live_arm s.arms item) where
 -- what each entry makes waits, and is told
 made-next : (s u : State) (who : Who) (op : WorkOp) (reply : WorkReply) (n : ℕ) (b : Admission) → u ≡ work_next s who op →
     work_reply s who op ≡ Some reply → Flushed u op reply → Makes s u n b →
-    (b.life ≡ Waiting) × (Told op reply b.item (Fresh n b.queue)
-    ⊎ (Told op reply b.item (Rerun n b.queue) ⊎ ((op ≡ FlushStart b.item) × (reply ≡ replies.WaitFor n))))
+    (b.life ≡ Waiting) × (IsSubmission op reply b.item (Fresh n b.queue)
+    ⊎ (IsSubmission op reply b.item (Rerun n b.queue) ⊎ ((op ≡ FlushStart b.item) × (reply ≡ replies.WaitFor n))))
 made-next s u who op reply n b next is flush makes = (it.0, by it.1) where
   it : Tells s who op reply n b
   it = made-step s who op reply n b is makes.0 (ap (λ (v : State). slice_get v.admissions n) (sym next) ∙ makes.1)
@@ -240,9 +240,9 @@ made-next s u who op reply n b next is flush makes = (it.0, by it.1) where
       let past = makes.0 in
       omega arith
 
-  by : Told op reply b.item (Fresh n b.queue) ⊎ (Told op reply b.item (Rerun n b.queue) ⊎ Hurries s who op n b) →
-      Told op reply b.item (Fresh n b.queue)
-      ⊎ (Told op reply b.item (Rerun n b.queue) ⊎ ((op ≡ FlushStart b.item) × (reply ≡ replies.WaitFor n)))
+  by : IsSubmission op reply b.item (Fresh n b.queue) ⊎ (IsSubmission op reply b.item (Rerun n b.queue) ⊎ Hurries s who op n b) →
+      IsSubmission op reply b.item (Fresh n b.queue)
+      ⊎ (IsSubmission op reply b.item (Rerun n b.queue) ⊎ ((op ≡ FlushStart b.item) × (reply ≡ replies.WaitFor n)))
   by (inl fresh) = inl fresh
   by (inr (inl rerun)) = inr (inl rerun)
   by (inr (inr flushes)) = inr (inr (flush-waits s u who op reply n b flush flushes (most flushes) makes.1 it.0))
@@ -305,7 +305,7 @@ waits_on = at_each _ (λ s e is number a at waits kept. waits-next s e.who e.op 
 -- where it goes
 goes-told : (s : State) (who : Who) (op : WorkOp) (reply : WorkReply) (n : ℕ) (b : Admission) (named : Option ℕ)
     (answer : Submitted) → OneIsLive s → work_reply s who op ≡ Some reply → Named s op b.item named →
-    Told op reply b.item answer → ((i : Item) (named : Option ℕ) → Says i s.queues (submitter who op) named answer →
+    IsSubmission op reply b.item answer → ((i : Item) (named : Option ℕ) → Says i s.queues (submitter who op) named answer →
     target i named ≡ Some b.queue) → target_of s b.item named ≡ Some b.queue
 goes-told s who op reply n b named answer one is names told says_so =
     let it = submits s who op reply b.item answer one is told in
@@ -337,7 +337,7 @@ goes-next s who op reply n b named one is makes names = by (made-step s who op r
       ap (target_of s b.item) named_is ∙ ap (λ k. target_of s k (Some a.queue)) it.4
       ∙ says_so i (Some a.queue) (says i s.queues (Some who.number) (Some a.queue))
 
-  by : Told op reply b.item (Fresh n b.queue) ⊎ (Told op reply b.item (Rerun n b.queue) ⊎ Hurries s who op n b) →
+  by : IsSubmission op reply b.item (Fresh n b.queue) ⊎ (IsSubmission op reply b.item (Rerun n b.queue) ⊎ Hurries s who op n b) →
       target_of s b.item named ≡ Some b.queue
   by (inl told) = goes-told s who op reply n b named (Fresh n b.queue) one is names told (λ i other so. so.4.0)
   by (inr (inl told)) = goes-told s who op reply n b named (Rerun n b.queue) one is names told (λ i other so. so.4.0)

@@ -19,7 +19,7 @@ use Rattle.zk_model_work.specs.Questions.{is_waiting, waits_as, waiting, armed, 
 use Rattle.zk_model_work.specs.State.{State}
 use Rattle.zk_model_work.specs.Answers.{target, submission}
 use Rattle.zk_model_work.specs.Machine.{submission_in, submit, submit_arms, hurried, is_pending_in, delayed, schedule, schedule_reply_in, delay_reply_in, work_reply, work_next, work_machine}
-use Rattle.zk_model_work.specs.Histories.{WorkHistory, IsFreshHistory, OfEach, is_armed, target_of, bars, IsArmedFor, IsPending, IsBeingCancelled}
+use Rattle.zk_model_work.specs.Histories.{WorkHistory, IsFreshHistory, OfEach, is_armed, target_of, queue_refuses, IsArmedFor, IsPending, IsBeingCancelled}
 use Rattle.zk_model_work.specs.Laws.{ScheduleTells, FlushHurries}
 use Rattle.zk_model_work.proofs.Overlaps.{position-none}
 use Rattle.zk_model_work.proofs.Delays.{one_live_arm}
@@ -167,7 +167,7 @@ waits-some xs item n a at same waits = by (waiting xs item) refl where
 leaves-waiting : (xs : List Admission) (marks : List ℕ) (queues : List Queue) (caller named : Option ℕ) (item number : ℕ)
     (q : Queue) → is_cancelling xs marks item ≡ false →
     target (item_of xs marks item) named ≡ Some number → slice_get queues number ≡ Some q → q.started ≡ true →
-    bars q caller ≡ false →
+    queue_refuses q caller ≡ false →
     is_some (waiting (submit xs item (submission (item_of xs marks item) queues caller named)) item) ≡ true
 leaves-waiting xs marks queues caller named item number q free to there on open_to =
     by (submission i queues caller named) (says i queues caller named) where
@@ -180,7 +180,7 @@ leaves-waiting xs marks queues caller named item number q free to there on open_
       refused : (cause : Errno) → Says i queues caller named (Refused cause) → ⊥
       refused errnos.Busy (inl is) = false≢true (sym free ∙ is)
       refused errnos.Busy (inr it) = false≢true (sym open_to
-          ∙ ap (λ (r : Queue). bars r caller) (sym (one it.0 it.1 it.2)) ∙ it.4)
+          ∙ ap (λ (r : Queue). queue_refuses r caller) (sym (one it.0 it.1 it.2)) ∙ it.4)
       refused errnos.NoDev so = false≢true (sym so.4 ∙ ap (λ (r : Queue). r.started) (one so.1 so.2 so.3) ∙ on)
       refused errnos.Inval so = so.1 number q (to, there)
       refused cause so = so
@@ -212,7 +212,7 @@ flush_hurries start h fresh front rest e item parts op = (hurries, rests) where
 
   hurries : (queue number : ℕ) (q : Queue) → IsArmedFor s item queue → (IsBeingCancelled start front item → ⊥) →
       target_of s item (Some queue) ≡ Some number →
-      slice_get s.queues number ≡ Some q → q.started ≡ true → bars q (Some e.who.number) ≡ false →
+      slice_get s.queues number ≡ Some q → q.started ≡ true → queue_refuses q (Some e.who.number) ≡ false →
       is_some (waiting (state_after work_machine start (front ++ e ∷ [])).admissions item) ≡ true
   hurries queue number q armed_for free to there on open_to =
       let a = armed_for.1 in

@@ -32,7 +32,7 @@ use Rattle.zk_model_work.specs.Questions.{is_waiting, is_running, is_live, waits
 use Rattle.zk_model_work.specs.State.{State}
 use Rattle.zk_model_work.specs.Answers.{is_chained, target, admission, submission_to, submission_at, submission}
 use Rattle.zk_model_work.specs.Machine.{submission_in, submit, submit_arms, expiries, arm, disarm, is_pending_in, schedule_reply_in, delay_reply_in, announce_reply, work_reply, work_next, work_machine}
-use Rattle.zk_model_work.specs.Histories.{WorkHistory, IsFreshHistory, OfEach, submitter, is_own, bars, IsArmedFor, Named, Told, IsSo, IsCause, IsBeingCancelled}
+use Rattle.zk_model_work.specs.Histories.{WorkHistory, IsFreshHistory, OfEach, submitter, is_own, queue_refuses, IsArmedFor, Named, IsSubmission, AnswerHolds, IsCause, IsBeingCancelled}
 use Rattle.zk_model_work.specs.Laws.{AnsweredIsMade, AlreadyWhereItWaits, RefusedWithCause}
 use Rattle.zk_model_work.proofs.Moves.{Stays, pushed, still-submit, submit_arms-keeps}
 use Rattle.zk_model_work.proofs.Overlaps.{position-none}
@@ -58,7 +58,7 @@ Says i queues caller named (Rerun n number) = (n ≡ i.next) × (i.running ≡ t
     × IsAt i queues named number q × (q.started ≡ true)
 Says i queues caller named Already = i.queued ≡ true
 Says i queues caller named (Refused errnos.Busy) = (i.cancelling ≡ true)
-    ⊎ ((number : ℕ) × (q : Queue) × IsAt i queues named number q × (q.started ≡ true) × (bars q caller ≡ true))
+    ⊎ ((number : ℕ) × (q : Queue) × IsAt i queues named number q × (q.started ≡ true) × (queue_refuses q caller ≡ true))
 Says i queues caller named (Refused errnos.NoDev) = (i.cancelling ≡ false) × (number : ℕ) × (q : Queue)
     × IsAt i queues named number q × (q.started ≡ false)
 Says i queues caller named (Refused errnos.Inval) = (i.cancelling ≡ false) × ((number : ℕ) (q : Queue) →
@@ -80,7 +80,7 @@ says-to i queues caller named number q free empty at =
       taken on false idle = (refl, idle, empty, q, at, on)
 
       barred : (d c p : Bool) → q.draining ≡ d → is_chained q caller ≡ c → q.plugged ≡ p →
-          ((d && not c) || (p && not d)) ≡ true → bars q caller ≡ true
+          ((d && not c) || (p && not d)) ≡ true → queue_refuses q caller ≡ true
       barred d c p d_is c_is p_is so =
           ap (λ b. (b && not (is_own q caller)) || (q.plugged && not b)) d_is
           ∙ ap (λ b. (d && not b) || (q.plugged && not d)) (sym (chained-own q caller) ∙ c_is)
@@ -185,14 +185,14 @@ Same i j named = (i.cancelling ≡ j.cancelling) × (i.queued ≡ j.queued) × (
 so-one : (s u : State) (ys : List Admission) (caller named : Option ℕ) (item : ℕ) (answer : Submitted) →
     submission (item_of ys s.marks item) s.queues caller named ≡ answer →
     Same (item_of ys s.marks item) (item_of s.admissions s.marks item) named → length s.admissions ≤ length ys →
-    Stays (submit ys item answer) u.admissions → IsSo s u item answer
+    Stays (submit ys item answer) u.admissions → AnswerHolds s u item answer
 so-one s u ys caller named item answer is same long stays =
     by answer (subst (Says i s.queues caller named) is (says i s.queues caller named)) stays where
       i : Item
       i = item_of ys s.marks item
 
       by : (answer : Submitted) → Says i s.queues caller named answer → Stays (submit ys item answer) u.admissions →
-          IsSo s u item answer
+          AnswerHolds s u item answer
       by Already so stays = sym same.1 ∙ so
       by (Fresh m queue) so stays =
           let number : m ≡ length ys = so.0 in (
@@ -464,14 +464,14 @@ abbrev pub Submits : State → State → Who → WorkOp → ℕ → Submitted �
 Submits s u who op item answer = (named : Option ℕ) × Named s op item named × SubmittedAt s u (submitter who op) item named answer
 
 submits-announce : (s : State) (who : Who) (ticks : ℕ) (reply : WorkReply) (item : ℕ) (answer : Submitted) → OneIsLive s →
-    work_reply s who (Announce ticks) ≡ Some reply → Told (Announce ticks) reply item answer →
+    work_reply s who (Announce ticks) ≡ Some reply → IsSubmission (Announce ticks) reply item answer →
     Submits s (work_next s who (Announce ticks)) who (Announce ticks) item answer
 submits-announce s who ticks reply item answer one is told =
     let time = s.time + ticks in
     let arms = due time s.arms in
     let said = same_Some (announce_reply s ticks) reply is in
-    let tells : Told (Announce ticks) (announce_reply s ticks) item answer =
-    subst (λ (r : WorkReply). Told (Announce ticks) r item answer) (sym said) told in
+    let tells : IsSubmission (Announce ticks) (announce_reply s ticks) item answer =
+    subst (λ (r : WorkReply). IsSubmission (Announce ticks) r item answer) (sym said) told in
     let k = tells.0 in
     let x = tells.1 in
     let none : s.admissions ++ [] ≡ s.admissions = append-nil s.admissions in
@@ -499,11 +499,11 @@ submits-announce s who ticks reply item answer one is told =
     )
 
 pub submits : (s : State) (who : Who) (op : WorkOp) (reply : WorkReply) (item : ℕ) (answer : Submitted) → OneIsLive s →
-    work_reply s who op ≡ Some reply → Told op reply item answer →
+    work_reply s who op ≡ Some reply → IsSubmission op reply item answer →
     Submits s (work_next s who op) who op item answer
 submits s who (Submit other queue) reply item answer one is told =
-    let tells : Told (Submit other queue) (replies.Sub (submission_in s (Some who.number) other queue)) item answer =
-    subst (λ (r : WorkReply). Told (Submit other queue) r item answer)
+    let tells : IsSubmission (Submit other queue) (replies.Sub (submission_in s (Some who.number) other queue)) item answer =
+    subst (λ (r : WorkReply). IsSubmission (Submit other queue) r item answer)
     (sym (same_Some (replies.Sub (submission_in s (Some who.number) other queue)) reply is)) told in
     subst (λ i. Submits s (work_next s who (Submit other queue)) who (Submit other queue) i answer) tells.0 (
       queue,
@@ -525,11 +525,11 @@ submits s who (Schedule other queue delay) reply item answer one is told =
       by : (p d : Bool) → cond p (replies.Sub Already)
           (cond d (replies.Sub (submission_in s (Some who.number) other (Some queue))) replies.Armed) ≡ reply →
           Submits s (record (u p d) { entries = s.entries + 1 }) who (Schedule other queue delay) item answer
-      by true d said = let tells = subst (λ (r : WorkReply). Told (Schedule other queue delay) r item answer) (sym said) told
+      by true d said = let tells = subst (λ (r : WorkReply). IsSubmission (Schedule other queue delay) r item answer) (sym said) told
           in absurd (tells.2 (sym tells.1))
       by false true said =
-          let tells : Told (Schedule other queue delay) (replies.Sub (submission_in s (Some who.number) other (Some queue)))
-          item answer = subst (λ (r : WorkReply). Told (Schedule other queue delay) r item answer) (sym said) told in
+          let tells : IsSubmission (Schedule other queue delay) (replies.Sub (submission_in s (Some who.number) other (Some queue)))
+          item answer = subst (λ (r : WorkReply). IsSubmission (Schedule other queue delay) r item answer) (sym said) told in
           subst (λ i. Submits s (record (u false true) { entries = s.entries + 1 }) who (Schedule other queue delay) i
           answer) tells.0 (
             Some queue,
@@ -537,7 +537,7 @@ submits s who (Schedule other queue delay) reply item answer one is told =
             at-once s (record (u false true) { entries = s.entries + 1 }) (Some who.number) other
                 (Some queue) answer tells.1 refl,
           )
-      by false false said = absurd (subst (λ (r : WorkReply). Told (Schedule other queue delay) r item answer) (sym said) told)
+      by false false said = absurd (subst (λ (r : WorkReply). IsSubmission (Schedule other queue delay) r item answer) (sym said) told)
 submits s who (Reschedule other queue delay) reply item answer one is told =
     by (eqb delay 0) (same_Some (delay_reply_in s who other queue delay) reply is) where
       t : State
@@ -551,8 +551,8 @@ submits s who (Reschedule other queue delay) reply item answer one is told =
       by : (d : Bool) → cond d (replies.Sub (submission_in s (Some who.number) other (Some queue))) replies.Armed ≡ reply →
           Submits s (record (u d) { entries = s.entries + 1 }) who (Reschedule other queue delay) item answer
       by true said =
-          let tells : Told (Reschedule other queue delay) (replies.Sub (submission_in s (Some who.number) other (Some queue)))
-          item answer = subst (λ (r : WorkReply). Told (Reschedule other queue delay) r item answer) (sym said) told in
+          let tells : IsSubmission (Reschedule other queue delay) (replies.Sub (submission_in s (Some who.number) other (Some queue)))
+          item answer = subst (λ (r : WorkReply). IsSubmission (Reschedule other queue delay) r item answer) (sym said) told in
           subst (λ i. Submits s (record (u true) { entries = s.entries + 1 }) who (Reschedule other queue delay) i answer)
           tells.0 (
             Some queue,
@@ -560,7 +560,7 @@ submits s who (Reschedule other queue delay) reply item answer one is told =
             at-once s (record (u true) { entries = s.entries + 1 }) (Some who.number) other
                 (Some queue) answer tells.1 refl,
           )
-      by false said = absurd (subst (λ (r : WorkReply). Told (Reschedule other queue delay) r item answer) (sym said) told)
+      by false said = absurd (subst (λ (r : WorkReply). IsSubmission (Reschedule other queue delay) r item answer) (sym said) told)
 submits s who (Remaining other) reply item answer one is told = absurd told
 submits s who (Start queue) reply item answer one is told = absurd told
 submits s who (DrainStart queue plug) reply item answer one is told = absurd told

@@ -140,11 +140,11 @@ drain_wait idle place queues who queue =
 
 -- what is awaited has come, by which admissions have ended, and which neither wait nor run:
 -- the run that a sync cancel found; the admission of a flush; more drainings of the queue than a drain names
-abbrev pub comes : (ℕ → Bool) → (ℕ → Bool) → List Queue → Closing → Awaited → Bool
-comes ended over queues closings.Cancel (awaiteds.Cancel number) = ended number
-comes ended over queues closings.Flush (awaiteds.Flush number) = over number
-comes ended over queues closings.Drain (awaiteds.Drain queue count) = nat_lt count (drained_of queues queue)
-comes ended over queues closing awaited = false
+abbrev pub is_awaited_over : (ℕ → Bool) → (ℕ → Bool) → List Queue → Closing → Awaited → Bool
+is_awaited_over ended over queues closings.Cancel (awaiteds.Cancel number) = ended number
+is_awaited_over ended over queues closings.Flush (awaiteds.Flush number) = over number
+is_awaited_over ended over queues closings.Drain (awaiteds.Drain queue count) = nat_lt count (drained_of queues queue)
+is_awaited_over ended over queues closing awaited = false
 
 -- it is the player's wait of this place, and isn't answered yet
 abbrev pub is_unanswered : ℕ → ℕ → Wait → Bool

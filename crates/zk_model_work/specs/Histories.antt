@@ -177,8 +177,8 @@ is_own q (Some player) = player == q.worker
 
 -- a started queue takes no submission of this submitter: it drains and isn't the submitter's own, or it is plugged and
 -- doesn't drain
-abbrev pub bars : Queue → Option ℕ → Bool
-bars q caller = (q.draining && not (is_own q caller)) || (q.plugged && not q.draining)
+abbrev pub queue_refuses : Queue → Option ℕ → Bool
+queue_refuses q caller = (q.draining && not (is_own q caller)) || (q.plugged && not q.draining)
 
 -- the item has a live arm, which is for this queue
 abbrev pub IsArmedFor : State → ℕ → ℕ → Type 0
@@ -196,26 +196,26 @@ Named s (Announce ticks) item named = (queue : ℕ) × (named ≡ Some queue) ×
 Named s op item named = ⊥
 
 -- by this reply to the operation the item was submitted, and its submission answered so; of a schedule the 0 apart
-abbrev pub Told : WorkOp → WorkReply → ℕ → Submitted → Type 0
-Told (Submit other queue) (Sub told) item answer = (other ≡ item) × (told ≡ answer)
-Told (Schedule other queue delay) (Sub told) item answer = (other ≡ item) × (told ≡ answer)
+abbrev pub IsSubmission : WorkOp → WorkReply → ℕ → Submitted → Type 0
+IsSubmission (Submit other queue) (Sub told) item answer = (other ≡ item) × (told ≡ answer)
+IsSubmission (Schedule other queue delay) (Sub told) item answer = (other ≡ item) × (told ≡ answer)
     × (answer ≡ submitteds.Already → ⊥)
-Told (Reschedule other queue delay) (Sub told) item answer = (other ≡ item) × (told ≡ answer)
-Told (Announce ticks) (Now time told) item answer =
+IsSubmission (Reschedule other queue delay) (Sub told) item answer = (other ≡ item) × (told ≡ answer)
+IsSubmission (Announce ticks) (Now time told) item answer =
     (number : ℕ) × (x : Expiry) × (slice_get told number ≡ Some x) × (x.item ≡ item) × (x.submitted ≡ answer)
-Told op reply item answer = ⊥
+IsSubmission op reply item answer = ⊥
 
 -- what an answer to a submission says is so: 1 and 2 make an admission that waits, 2 of an item that ran; 0 is of one that
 -- waited
-abbrev pub IsSo : State → State → ℕ → Submitted → Type 0
-IsSo before later item (submitteds.Fresh number queue) =
+abbrev pub AnswerHolds : State → State → ℕ → Submitted → Type 0
+AnswerHolds before later item (submitteds.Fresh number queue) =
     Makes before later number (record { item = item; queue = queue; life = Waiting })
     × (is_some (running before.admissions item) ≡ false)
-IsSo before later item (submitteds.Rerun number queue) =
+AnswerHolds before later item (submitteds.Rerun number queue) =
     Makes before later number (record { item = item; queue = queue; life = Waiting })
     × (is_some (running before.admissions item) ≡ true)
-IsSo before later item submitteds.Already = is_some (waiting before.admissions item) ≡ true
-IsSo before later item (submitteds.Refused cause) = Unit {0}
+AnswerHolds before later item submitteds.Already = is_some (waiting before.admissions item) ≡ true
+AnswerHolds before later item (submitteds.Refused cause) = Unit {0}
 
 -- the number of the admission that an answer to a submission tells, if it tells one
 abbrev pub told_number : Submitted → Option ℕ
@@ -266,7 +266,7 @@ has_to_wait reply = false
 abbrev pub IsCause : State → WorkHistory → State → Option ℕ → ℕ → Option ℕ → Errno → Type 0
 IsCause start front s caller item named errnos.Busy = IsBeingCancelled start front item
     ⊎ ((queue : ℕ) × (q : Queue) × (target_of s item named ≡ Some queue) × (slice_get s.queues queue ≡ Some q)
-    × (q.started ≡ true) × (bars q caller ≡ true))
+    × (q.started ≡ true) × (queue_refuses q caller ≡ true))
 IsCause start front s caller item named errnos.NoDev = (IsBeingCancelled start front item → ⊥)
     × ((queue : ℕ) × (q : Queue) × (target_of s item named ≡ Some queue) × (slice_get s.queues queue ≡ Some q)
     × (q.started ≡ false))

@@ -18,7 +18,7 @@ use Rattle.zk_model_work.specs.declared.parts.Queue.{Queue}
 use Rattle.zk_model_work.specs.Questions.{is_waiting, is_open, is_live, is_empty_and_idle, waiting, running, armed}
 use Rattle.zk_model_work.specs.State.{State}
 use Rattle.zk_model_work.specs.Answers.{drained_of}
-use Rattle.zk_model_work.specs.Histories.{AreToldInOrder, WorkEntry, WorkHistory, after, AtEach, hands_out, begins, ends, Cancels, cancels, disarms, submitter, announces, admission_after, life_after, made_after, Makes, IsNewest, NoneIsOpen, running_after, queue_after, rests_after, drained_after, arm_after, time_after, IsBeingCancelled, target_of, bars, IsArmedFor, Named, Told, IsSo, told_number, cancel_flags, is_done_of, done_for, has_to_wait, IsCause, IsPending, HasStart, HasCome, ticks_of, starts, drains, is_worked_by, plug_after, asked_arm, is_armed, fits, MayGoOn, is_awaited}
+use Rattle.zk_model_work.specs.Histories.{AreToldInOrder, WorkEntry, WorkHistory, after, AtEach, hands_out, begins, ends, Cancels, cancels, disarms, submitter, announces, admission_after, life_after, made_after, Makes, IsNewest, NoneIsOpen, running_after, queue_after, rests_after, drained_after, arm_after, time_after, IsBeingCancelled, target_of, queue_refuses, IsArmedFor, Named, IsSubmission, AnswerHolds, told_number, cancel_flags, is_done_of, done_for, has_to_wait, IsCause, IsPending, HasStart, HasCome, ticks_of, starts, drains, is_worked_by, plug_after, asked_arm, is_armed, fits, MayGoOn, is_awaited}
 
 -- Each of what follows is said of one history.
 
@@ -141,8 +141,8 @@ pub record NeverOverlaps (start : State) (h : WorkHistory) : Type 0 where
 -- an admission is made only by a submission that tells its number and queue, or a flush that waits for it, and it waits
 abbrev pub MadeWaiting : State → WorkHistory → Type 0
 MadeWaiting = AtEach (λ before e later. (number : ℕ) (a : Admission) → Makes before later number a → (a.life ≡ Waiting)
-    × (Told e.op e.reply a.item (submitteds.Fresh number a.queue)
-    ⊎ (Told e.op e.reply a.item (submitteds.Rerun number a.queue)
+    × (IsSubmission e.op e.reply a.item (submitteds.Fresh number a.queue)
+    ⊎ (IsSubmission e.op e.reply a.item (submitteds.Rerun number a.queue)
     ⊎ ((e.op ≡ FlushStart a.item) × (e.reply ≡ WaitFor number)))))
 
 -- it waits on, unchanged, until a begin hands it out or a cancel of its item drops it
@@ -154,19 +154,19 @@ WaitsOn = AtEach (λ before e later. (number : ℕ) (a : Admission) → slice_ge
 
 -- what the answer to a submission says is so
 abbrev pub AnsweredIsMade : State → WorkHistory → Type 0
-AnsweredIsMade = AtEach (λ before e later. (item : ℕ) (answer : Submitted) → Told e.op e.reply item answer →
-    IsSo before later item answer)
+AnsweredIsMade = AtEach (λ before e later. (item : ℕ) (answer : Submitted) → IsSubmission e.op e.reply item answer →
+    AnswerHolds before later item answer)
 
 -- a submission of an item that waits is answered 0
 abbrev pub AlreadyWhereItWaits : State → WorkHistory → Type 0
-AlreadyWhereItWaits = AtEach (λ before e later. (item : ℕ) (answer : Submitted) → Told e.op e.reply item answer →
+AlreadyWhereItWaits = AtEach (λ before e later. (item : ℕ) (answer : Submitted) → IsSubmission e.op e.reply item answer →
     is_some (waiting before.admissions item) ≡ true → answer ≡ submitteds.Already)
 
 -- a submission is refused for its cause
 abbrev pub RefusedWithCause : State → WorkHistory → Type 0
 RefusedWithCause start h = (front rest : WorkHistory) (e : WorkEntry) (item : ℕ) (named : Option ℕ) (cause : Errno) →
     h ≡ front ++ e ∷ rest →
-    Told e.op e.reply item (submitteds.Refused cause) → Named (after start front) e.op item named →
+    IsSubmission e.op e.reply item (submitteds.Refused cause) → Named (after start front) e.op item named →
     IsCause start front (after start front) (submitter e.who e.op) item named cause
 
 -- an admission is made to the target of its submission
@@ -265,7 +265,7 @@ FlushHurries start h = (front rest : WorkHistory) (e : WorkEntry) (item : ℕ) �
     e.op ≡ FlushStart item →
     ((queue target : ℕ) (q : Queue) → IsArmedFor (after start front) item queue → (IsBeingCancelled start front item → ⊥) →
     target_of (after start front) item (Some queue) ≡ Some target →
-    slice_get (after start front).queues target ≡ Some q → q.started ≡ true → bars q (Some e.who.number) ≡ false →
+    slice_get (after start front).queues target ≡ Some q → q.started ≡ true → queue_refuses q (Some e.who.number) ≡ false →
     is_some (waiting (after start (front ++ e ∷ [])).admissions item) ≡ true)
     × (((queue : ℕ) → IsArmedFor (after start front) item queue → ⊥) →
     (after start (front ++ e ∷ [])).admissions ≡ (after start front).admissions)

@@ -21,7 +21,7 @@ use Rattle.zk_model_work.specs.declared.parts.Closing.{Closing}
 use Rattle.zk_model_work.specs.declared.parts.Closing.TheVariants as closings
 use Rattle.zk_model_work.specs.declared.parts.Change.{Change}
 use Rattle.zk_model_work.specs.declared.parts.Change.TheVariants as changes
-use Rattle.zk_model_work.specs.Answers.{submission, admitted_to, flags, is_pending, cancel_start_reply, flush_start_reply, delay_reply, schedule_reply, remaining, drain_reply, start_reply, unplug_reply, cancel_wait, flushed, flush_wait, drain_wait, comes, closes, is_worker}
+use Rattle.zk_model_work.specs.Answers.{submission, admitted_to, flags, is_pending, cancel_start_reply, flush_start_reply, delay_reply, schedule_reply, remaining, drain_reply, start_reply, unplug_reply, cancel_wait, flushed, flush_wait, drain_wait, is_awaited_over, closes, is_worker}
 use Rattle.zk_model_work.specs.Lists.{first}
 use Rattle.zk_model_work.specs.State.{State}
 use Rattle.zk_model_work.specs.Questions.{is_open, is_ended, passes_at, waits_as, runs_on, arms_item, waiting, running, line, run, is_empty_and_idle, armed, live_arm, deadline_of, is_due, due, is_flushing, item_of}
@@ -227,7 +227,7 @@ is_over admissions number = passes_at (λ a. not (is_open a.life)) admissions nu
 -- what is awaited has come
 abbrev pub has_come : List Admission → List Queue → Closing → Awaited → Bool
 has_come admissions queues closing awaited =
-    comes (has_ended admissions) (is_over admissions) queues closing awaited
+    is_awaited_over (has_ended admissions) (is_over admissions) queues closing awaited
 
 -- there is an unanswered wait of the player of this place, and what it awaits has come
 abbrev pub may_close : State → Closing → Who → ℕ → Bool

@@ -11,7 +11,7 @@ use Rattle.zk_model_bus.specs.Table.{Setup, new_table, IsSetup, is_thread, is_de
 use Rattle.zk_objects.specs.declared.object.Object.{Object}
 use Rattle.zk_objects.specs.Bits.{Marked, has_bit, given}
 use Rattle.zk_objects.specs.First.{declares_user, IsFirstThread, AreFirst}
-use Rattle.zk_objects.specs.Kept.{IsObject, Stands}
+use Rattle.zk_objects.specs.Kept.{IsObject, IsStateOf}
 use Rattle.zk_objects.proofs.BitWords.{none-set, set-where}
 
 declares-past : (threads : List (ℕ × Bool)) (player : ℕ) → length threads ≤ player → declares_user threads player ≡ false
@@ -111,7 +111,7 @@ beyond-declared few (a ∷ rest) many player object small all big =
 
 pub stands-first : (setup : Setup) (objects : List Object) (users dead : Marked) → IsSetup setup → AreFirst setup objects →
     ((player : ℕ) → player < 64 → has_bit users.bits player ≡ declares_user setup.threads player) → users.above ≡ [] → dead.bits ≡ 0 → dead.above ≡ [] →
-    Stands objects users dead (new_table setup)
+    IsStateOf objects users dead (new_table setup)
 stands-first setup objects users dead is first bits none-users dead-bits none-dead = record {
   long = first.long;
   each = first.each;

@@ -21,11 +21,11 @@ use Rattle.zk_model_bus.specs.declared.table.TableOp.{TableOp}
 use Rattle.zk_model_bus.specs.declared.table.TableOp.TheVariants as ops
 use Rattle.zk_model_bus.specs.declared.table.TableReply.{TableReply}
 use Rattle.zk_model_bus.specs.declared.table.TableReply.TheVariants.{Done, Already, Oops}
-use Rattle.zk_model_bus.specs.Table.{Setup, Table, has_kind, is_thread, is_declared, said, is_allowed, publishes, is_public, initialises, begins_ready, was_initialised, is_ready, enters, begins_as_user, has_entered, is_user, is_oops, is_dead, is_for, may, check_reply, answer, table_reply, entry_of, table_next, is_object, names_objects}
+use Rattle.zk_model_bus.specs.Table.{Setup, Table, has_kind, is_thread, is_declared, said, is_allowed, publishes, is_public, initialises, begins_ready, was_initialised, is_ready, enters, begins_as_user, has_entered_user_mode, is_user, is_oops, is_dead, is_for, may, check_reply, answer, table_reply, entry_of, table_next, is_object, names_objects}
 use Rattle.zk_base.specs.Kinds.{meets, is_any}
 use Rattle.zk_objects.specs.declared.object.Object.{Object}
 use Rattle.zk_objects.specs.Bits.{Marked, has_bit, given, taken, is_marked}
-use Rattle.zk_objects.specs.Kept.{IsObject, Stands, is_granted, object_reply, init_reply, answered, target_of, object_of, changed, put_in, changed_at, objects_after}
+use Rattle.zk_objects.specs.Kept.{IsObject, IsStateOf, is_granted, object_reply, init_reply, answered, target_of, object_of, changed, put_in, changed_at, objects_after}
 use Rattle.zk_objects.proofs.BitWords.{given-bit, taken-bit}
 
 -- One entry more.
@@ -49,7 +49,7 @@ ready-next t who op object =
 pub user-next : (t : Table) (who : Who) (op : TableOp) (player : ℕ) → is_user (table_next t who op) player ≡ (is_user t player || (eqb who.number player && enters op))
 user-next t who op player =
     ap (λ (b : Bool). begins_as_user t.setup player || b) (any-snoc (λ (e : TableEntry). eqb e.player player && enters e.op) t.entries (entry_of t who op))
-    ∙ sym (or_assoc (begins_as_user t.setup player) (has_entered t player) (eqb who.number player && enters op))
+    ∙ sym (or_assoc (begins_as_user t.setup player) (has_entered_user_mode t player) (eqb who.number player && enters op))
 
 pub dead-next : (t : Table) (who : Who) (op : TableOp) (player : ℕ) →
     is_dead (table_next t who op) player ≡ (is_dead t player || (eqb who.number player && is_oops (answer t who.number op)))
@@ -62,14 +62,14 @@ past-none (x ∷ xs) (suc i) none = let rest = past-none xs i none in omega arit
 
 -- What is answered.
 
-granted-so : (t : Table) (objects : List Object) (users dead : Marked) (object : ℕ) (x : Object) (player : ℕ) → Stands objects users dead t → IsObject t object x →
+granted-so : (t : Table) (objects : List Object) (users dead : Marked) (object : ℕ) (x : Object) (player : ℕ) → IsStateOf objects users dead t → IsObject t object x →
     is_granted x player ≡ is_allowed t player object
 granted-so t objects users dead object x player stands is = by (ltb player 64) refl where
   by : (low : Bool) → ltb player 64 ≡ low → (low && has_bit x.granted player) ≡ is_allowed t player object
   by true small = is.granted player (ltb-true player 64 small)
   by false big = sym (stands.beyond player object (ltb-false player 64 big))
 
-object-told : (t : Table) (objects : List Object) (users dead : Marked) (object : ℕ) (player : ℕ) (need : Need) → Stands objects users dead t → (kept : Option Object) → slice_get objects object ≡ kept →
+object-told : (t : Table) (objects : List Object) (users dead : Marked) (object : ℕ) (player : ℕ) (need : Need) → IsStateOf objects users dead t → (kept : Option Object) → slice_get objects object ≡ kept →
     object_reply player need kept ≡ check_reply t player (Some object) need
 object-told t objects users dead object player need stands None none =
     let past = past-none objects object none in
@@ -83,7 +83,7 @@ object-told t objects users dead object player need stands (Some x) has =
     ∙ ap (λ (r : Bool). tests (meets need x.kind) (is_allowed t player object || is_public t object) (is_any need || r)) is.ready
     ∙ ap (λ (k : Option Kind). tests (option_map_or (meets need) k false) (is_allowed t player object || is_public t object) (is_any need || is_ready t object)) (sym is.kind)
 
-init-told : (t : Table) (objects : List Object) (users dead : Marked) (object : ℕ) → Stands objects users dead t → object < length t.setup.kinds → (kept : Option Object) → slice_get objects object ≡ kept →
+init-told : (t : Table) (objects : List Object) (users dead : Marked) (object : ℕ) → IsStateOf objects users dead t → object < length t.setup.kinds → (kept : Option Object) → slice_get objects object ≡ kept →
     init_reply kept ≡ cond (is_ready t object) Already Done
 init-told t objects users dead object stands below None none =
     let past = past-none objects object none in
@@ -91,7 +91,7 @@ init-told t objects users dead object stands below None none =
     absurd (omega arith)
 init-told t objects users dead object stands below (Some x) has = ap (λ (r : Bool). cond r Already Done) (stands.each object x has).ready
 
-pub answer-so : (t : Table) (objects : List Object) (users dead : Marked) (player : ℕ) (op : TableOp) → Stands objects users dead t → names_objects t.setup op ≡ true →
+pub answer-so : (t : Table) (objects : List Object) (users dead : Marked) (player : ℕ) (op : TableOp) → IsStateOf objects users dead t → names_objects t.setup op ≡ true →
     answered objects player op ≡ answer t player op
 answer-so t objects users dead player (ops.Check None need) stands range = refl
 answer-so t objects users dead player (ops.Check (Some object) need) stands range = object-told t objects users dead object player need stands (slice_get objects object) refl
@@ -112,7 +112,7 @@ thread-kind : (kind : Option Kind) → option_map_or (meets needs.Thread) kind f
 thread-kind (Some kind) is = ap Some (kind-thread kind is)
 thread-kind None is = absurd (cc)
 
-thread-so : (t : Table) (objects : List Object) (users dead : Marked) (thread player : ℕ) → Stands objects users dead t → has_kind t.setup thread needs.Thread ≡ true → (kept : Option Object) → slice_get objects thread ≡ kept →
+thread-so : (t : Table) (objects : List Object) (users dead : Marked) (thread player : ℕ) → IsStateOf objects users dead t → has_kind t.setup thread needs.Thread ≡ true → (kept : Option Object) → slice_get objects thread ≡ kept →
     (option_map_or (λ (x : Object). x.player) kept 64 < 64) × (is_thread t.setup player thread ≡ eqb (option_map_or (λ (x : Object). x.player) kept 64) player)
 thread-so t objects users dead thread player stands range None none =
     let is = thread-kind (slice_get t.setup.kinds thread) range in
@@ -178,7 +178,7 @@ spoken setup player object target by thread own w hit is small =
       taken-bit w target player small ∙ ap (λ (b : Bool). cond b false (has_bit w player)) (sym both),
     )
 
-hit-object : (t : Table) (objects : List Object) (users dead : Marked) (who : Who) (op : TableOp) (object : ℕ) (x : Object) → Stands objects users dead t → names_objects t.setup op ≡ true →
+hit-object : (t : Table) (objects : List Object) (users dead : Marked) (who : Who) (op : TableOp) (object : ℕ) (x : Object) → IsStateOf objects users dead t → names_objects t.setup op ≡ true →
     IsObject t object x → hits object op ≡ true → IsObject (table_next t who op) object (changed (target_of objects who.number op) op x)
 hit-object t objects users dead who (ops.Check named need) object x stands range is hit = absurd (cc)
 hit-object t objects users dead who ops.EnterUser object x stands range is hit = absurd (cc)
@@ -222,7 +222,7 @@ set-apart xs i j y x apart has =
 own-hits : (op : TableOp) (own object : ℕ) (b : Bool) → object_of op ≡ Some own → eqb own object ≡ b → hits object op ≡ b
 own-hits op own object b is same = ap (λ (o : Option ℕ). option_map_or (λ (k : ℕ). eqb k object) o false) is ∙ same
 
-each-after : (t : Table) (objects : List Object) (users dead : Marked) (who : Who) (op : TableOp) → Stands objects users dead t → names_objects t.setup op ≡ true →
+each-after : (t : Table) (objects : List Object) (users dead : Marked) (who : Who) (op : TableOp) → IsStateOf objects users dead t → names_objects t.setup op ≡ true →
     (own : Option ℕ) → object_of op ≡ own → (kept : Option Object) → ((at : ℕ) → own ≡ Some at → slice_get objects at ≡ kept) →
     (object : ℕ) (x : Object) → slice_get (changed_at objects (target_of objects who.number op) op own) object ≡ Some x → IsObject (table_next t who op) object x
 each-after t objects users dead who op stands range None none kept is object x has =
@@ -260,7 +260,7 @@ long-after : (objects : List Object) (target : ℕ) (op : TableOp) (own : Option
 long-after objects target op None = refl
 long-after objects target op (Some at) = long-put objects at target op (slice_get objects at)
 
-beyond-said : (t : Table) (objects : List Object) (users dead : Marked) (by : ℕ) (op : TableOp) (player object : ℕ) → Stands objects users dead t → names_objects t.setup op ≡ true → 64 ≤ player →
+beyond-said : (t : Table) (objects : List Object) (users dead : Marked) (by : ℕ) (op : TableOp) (player object : ℕ) → IsStateOf objects users dead t → names_objects t.setup op ≡ true → 64 ≤ player →
     said t.setup player object false by op ≡ false
 beyond-said t objects users dead by (ops.Grant thread own) player object stands range big =
     let known = first_so (has_kind t.setup thread needs.Thread) (is_object t.setup own) range in
@@ -280,10 +280,10 @@ beyond-said t objects users dead by (ops.Release own) player object stands range
 beyond-said t objects users dead by op player object stands range big = refl
 
 -- what is kept stands for the next state, where it has the change of the operation
-pub stands-next : (t : Table) (objects : List Object) (users dead users' dead' : Marked) (who : Who) (op : TableOp) → Stands objects users dead t → names_objects t.setup op ≡ true →
+pub stands-next : (t : Table) (objects : List Object) (users dead users' dead' : Marked) (who : Who) (op : TableOp) → IsStateOf objects users dead t → names_objects t.setup op ≡ true →
     ((player : ℕ) → is_marked users' player ≡ (is_marked users player || (eqb who.number player && enters op))) →
     ((player : ℕ) → is_marked dead' player ≡ (is_marked dead player || (eqb who.number player && is_oops (answered objects who.number op)))) →
-    Stands (objects_after objects who.number op) users' dead' (table_next t who op)
+    IsStateOf (objects_after objects who.number op) users' dead' (table_next t who op)
 stands-next t objects users dead users' dead' who op stands range users-so dead-so = record {
   long = long-after objects (target_of objects who.number op) op (object_of op) ∙ stands.long;
   each = λ object x has. each-after t objects users dead who op stands range (object_of op) refl (slice_get objects (option_map_or (λ (k : ℕ). k) (object_of op) 0))
@@ -299,7 +299,7 @@ stands-next t objects users dead users' dead' who op stands range users-so dead-
       ∙ beyond-said t objects users dead who.number op player object stands range big;
 }
 
-pub may-so : (t : Table) (objects : List Object) (users dead : Marked) (player : ℕ) (op : TableOp) → Stands objects users dead t →
+pub may-so : (t : Table) (objects : List Object) (users dead : Marked) (player : ℕ) (op : TableOp) → IsStateOf objects users dead t →
     (not (is_marked dead player) && is_for (is_marked users player) op) ≡ may t player op
 may-so t objects users dead player op stands =
     ap (λ (b : Bool). not b && is_for (is_marked users player) op) (stands.of_dead player) ∙ ap (λ (b : Bool). not (is_dead t player) && is_for b op) (stands.of_users player)
@@ -309,7 +309,7 @@ may-true true mode alive is = absurd (cc)
 may-true false mode alive is = is
 
 -- what a caller that isn't dead and in whose mode the operation is possible is answered
-pub reply-so : (t : Table) (objects : List Object) (users dead : Marked) (who : Who) (op : TableOp) (reply : TableReply) → Stands objects users dead t → names_objects t.setup op ≡ true →
+pub reply-so : (t : Table) (objects : List Object) (users dead : Marked) (who : Who) (op : TableOp) (reply : TableReply) → IsStateOf objects users dead t → names_objects t.setup op ≡ true →
     is_marked dead who.number ≡ false → is_for (is_marked users who.number) op ≡ true → reply ≡ answered objects who.number op → table_reply t who op ≡ Some reply
 reply-so t objects users dead who op reply stands range alive mode is =
     let may-is = sym (may-so t objects users dead who.number op stands) ∙ may-true (is_marked dead who.number) (is_for (is_marked users who.number) op) alive mode in
@@ -317,7 +317,7 @@ reply-so t objects users dead who op reply stands range alive mode is =
 
 -- What is kept tells the kinds, so that what is in range in one state that it stands for is in range in each.
 
-kinds-at : (t s : Table) (objects : List Object) (users dead : Marked) (object : ℕ) → Stands objects users dead t → Stands objects users dead s → (kept : Option Object) → slice_get objects object ≡ kept →
+kinds-at : (t s : Table) (objects : List Object) (users dead : Marked) (object : ℕ) → IsStateOf objects users dead t → IsStateOf objects users dead s → (kept : Option Object) → slice_get objects object ≡ kept →
     slice_get t.setup.kinds object ≡ slice_get s.setup.kinds object
 kinds-at t s objects users dead object one other None none =
     let past = past-none objects object none in
@@ -326,16 +326,16 @@ kinds-at t s objects users dead object one other None none =
     slice_get_past t.setup.kinds object (omega arith) ∙ sym (slice_get_past s.setup.kinds object (omega arith))
 kinds-at t s objects users dead object one other (Some x) has = (one.each object x has).kind ∙ sym (other.each object x has).kind
 
-object-there : (t s : Table) (objects : List Object) (users dead : Marked) (object : ℕ) → Stands objects users dead t → Stands objects users dead s → is_object t.setup object ≡ is_object s.setup object
+object-there : (t s : Table) (objects : List Object) (users dead : Marked) (object : ℕ) → IsStateOf objects users dead t → IsStateOf objects users dead s → is_object t.setup object ≡ is_object s.setup object
 object-there t s objects users dead object one other = ap (λ (n : ℕ). ltb object n) (sym one.long ∙ other.long)
 
-thread-there : (t s : Table) (objects : List Object) (users dead : Marked) (thread object : ℕ) → Stands objects users dead t → Stands objects users dead s →
+thread-there : (t s : Table) (objects : List Object) (users dead : Marked) (thread object : ℕ) → IsStateOf objects users dead t → IsStateOf objects users dead s →
     (has_kind t.setup thread needs.Thread && is_object t.setup object) ≡ (has_kind s.setup thread needs.Thread && is_object s.setup object)
 thread-there t s objects users dead thread object one other =
     ap (λ (k : Option Kind). option_map_or (meets needs.Thread) k false && is_object t.setup object) (kinds-at t s objects users dead thread one other (slice_get objects thread) refl)
     ∙ ap (λ (b : Bool). has_kind s.setup thread needs.Thread && b) (object-there t s objects users dead object one other)
 
-pub range-same : (t s : Table) (objects : List Object) (users dead : Marked) (op : TableOp) → Stands objects users dead t → Stands objects users dead s → names_objects t.setup op ≡ names_objects s.setup op
+pub range-same : (t s : Table) (objects : List Object) (users dead : Marked) (op : TableOp) → IsStateOf objects users dead t → IsStateOf objects users dead s → names_objects t.setup op ≡ names_objects s.setup op
 range-same t s objects users dead (ops.Check None need) one other = refl
 range-same t s objects users dead (ops.Check (Some object) need) one other = object-there t s objects users dead object one other
 range-same t s objects users dead (ops.Grant thread object) one other = thread-there t s objects users dead thread object one other

@@ -23,7 +23,7 @@ pub record IsObject (t : Table) (object : ℕ) (x : Object) : Type 0 where
   pub thread : x.kind ≡ kinds.Thread → (player : ℕ) → is_thread t.setup player object ≡ (x.player == player)
 
 -- what is kept stands for a state of the table
-pub record Stands (objects : List Object) (users dead : Marked) (t : Table) : Type 0 where
+pub record IsStateOf (objects : List Object) (users dead : Marked) (t : Table) : Type 0 where
   pub long : length objects ≡ length t.setup.kinds
   pub each : (object : ℕ) (x : Object) → slice_get objects object ≡ Some x → IsObject t object x
   pub of_users : (player : ℕ) → is_marked users player ≡ is_user t player

@@ -1,10 +1,10 @@
 ghost use Rattle.std.specs.Prelude.{◌≡◌, ℕ, ◌==◌, ◌&&◌, ◌||◌, ◌+◌, ◌≤◌, IsOk, IfOk, OnErr};
 ghost use Rattle.zk_model_bus.specs.Table.{IsSetup, new_table, enters, is_oops};
 ghost use Rattle.zk_objects.specs.Bits.{is_marked};
-ghost use Rattle.zk_objects.specs.Kept.{Stands, answered};
+ghost use Rattle.zk_objects.specs.Kept.{IsStateOf, answered};
 
 use crate::first::{first_objects, first_users};
-use crate::marks::Marks;
+use crate::marks::PlayerSet;
 use crate::object::{Object, answer, change};
 use std::alloc::Global;
 use zk_base::{Engine, NoMemory, Who};
@@ -14,20 +14,20 @@ use zk_model_bus::{TableOp, TableReply, TableSetup, TableState, is_for};
 #[derive(Drop)]
 pub struct ObjectsEngine {
     objects: Vec<Object>,
-    users: Marks,
-    dead: Marks,
+    users: PlayerSet,
+    dead: PlayerSet,
 }
 
 impl ObjectsEngine {
     /// The engine before the first entry.
     pub fn new(alloc: Global, setup: &TableSetup) -> Result<ObjectsEngine, NoMemory>
         requires { IsSetup setup.now }
-        ensures { IfOk result (λ e. Stands e.objects.items e.users e.dead (new_table setup.now)) }
+        ensures { IfOk result (λ e. IsStateOf e.objects.items e.users e.dead (new_table setup.now)) }
     {
         Ok(ObjectsEngine {
             objects: first_objects(alloc, setup)?,
-            users: Marks::new(alloc, first_users(&setup.threads)),
-            dead: Marks::new(alloc, 0),
+            users: PlayerSet::new(alloc, first_users(&setup.threads)),
+            dead: PlayerSet::new(alloc, 0),
         })
     }
 
@@ -66,9 +66,9 @@ impl Engine for ObjectsEngine {
 
     ghost use Rattle.std.specs.Prelude.{false, length, min, []};
     ghost use Rattle.zk_model_bus.specs.Table.{table_machine};
-    ghost use Rattle.zk_objects.specs.Kept.{Stands};
+    ghost use Rattle.zk_objects.specs.Kept.{IsStateOf};
 
-    ghost stands_for = { λ e s. Stands e.objects.items e.users e.dead s };
+    ghost stands_for = { λ e s. IsStateOf e.objects.items e.users e.dead s };
 
     ghost room = { λ e. min e.users.room e.dead.room };
 

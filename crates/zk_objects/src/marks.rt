@@ -9,12 +9,12 @@ use zk_base::{MOST_PLAYERS, NoMemory};
 
 /// A set of players: a bit for each of those that a scenario can have, and a list of any above them.
 #[derive(Drop)]
-pub struct Marks {
+pub struct PlayerSet {
     bits: u64,
     above: Vec<u32>,
 }
 
-impl Model for Marks {
+impl Model for PlayerSet {
     ghost use Rattle.std.specs.Prelude.{◌-◌, vec_len, vec_capacity};
     ghost use Rattle.zk_objects.specs.Bits.{Marked};
 
@@ -27,13 +27,13 @@ impl Model for Marks {
     } };
 }
 
-impl Marks {
+impl PlayerSet {
     /// The players whose bits are set.
-    pub fn new(alloc: Global, bits: u64) -> Marks
+    pub fn new(alloc: Global, bits: u64) -> PlayerSet
         ensures bits { result.bits ≡ bits }
         ensures above { result.above ≡ [] }
     {
-        Marks {
+        PlayerSet {
             bits,
             above: Vec::new(alloc),
         }

@@ -7,7 +7,7 @@ use Rattle.std.proofs.lemmas.Option.{option_and_then_some}
 use Rattle.zk_line.specs.Calls.{word_of}
 use Rattle.zk_line.specs.Needs.{needs_of}
 use Rattle.zk_model_bus.specs.declared.table.OopsWhy.{OopsWhy}
-use Rattle.zk_scenario.specs.Parts.{Parts}
+use Rattle.zk_scenario.specs.Content.{Content}
 use Rattle.zk_scenario.specs.Players.{players, calls_of}
 use Rattle.zk_words.specs.declared.word.Word.{Word}
 use Rattle.zk_worker.specs.declared.answers.Answer.{Answer}
@@ -26,15 +26,15 @@ use Rattle.zk_worker.specs.declared.steps.Step.{Step}
 use Rattle.zk_worker.specs.declared.steps.StepReply.{StepReply}
 use Rattle.zk_player_laws.specs.AnswerLaws.{IsAnswerOf, AnswersOnce, AreAnsweredOnce, EachIsAnsweredOnce}
 use Rattle.zk_worker.specs.Checks.{check_of, call_check, role_check, top_check, oops_in}
-use Rattle.zk_worker.specs.Follows.{Made, IsPlayed}
-use Rattle.zk_worker.specs.Places.{At}
+use Rattle.zk_worker.specs.Follows.{StepMade, IsPlayed}
+use Rattle.zk_worker.specs.Places.{PlayerPlace}
 use Rattle.zk_worker.specs.Protocol.{IsAhead, after, answers_after, checked, frames_attempts, frames_progress, moved, role_attempts, role_progress, spot_of, starting, start_at}
 use Rattle.zk_player_laws.proofs.CallsPlayed.{OfCall, script-call, worker-answers}
 use Rattle.zk_worker.proofs.CheckedSteps.{IsCheck, IsOwn, turn, check-of-top, after-spots}
 use Rattle.zk_worker.proofs.ShownSteps.{made-of}
 use Rattle.zk_worker.proofs.Starts.{start_at-fresh}
 
-module _ (s : Parts) (front : List Made) (at : At) (step : Step) (reply : StepReply) (many : length at.spots ≡ length front) where
+module _ (s : Content) (front : List StepMade) (at : PlayerPlace) (step : Step) (reply : StepReply) (many : length at.spots ≡ length front) where
   -- the answer of this step, in a call of this word
   abbrev told : Word → Answer → Answered
   told word answer = record { step = length at.spots; word = word; answer = answer }
@@ -81,7 +81,7 @@ module _ (s : Parts) (front : List Made) (at : At) (step : Step) (reply : StepRe
           is_word = subst (λ (p : Progress). OfCall (word_of so.0) p) comes so.2;
         }
 
-  abbrev Once : At → Type 0
+  abbrev Once : PlayerPlace → Type 0
   Once now = AnswersOnce s front at.frames at.answers now.answers
 
   checked-once : (is : IsCheck s at step) (why : Option OopsWhy) → Once (checked at is.check.word why (spot_of step reply))
@@ -98,7 +98,7 @@ module _ (s : Parts) (front : List Made) (at : At) (step : Step) (reply : StepRe
   step-once : IsAhead s at step → Once (after s at step reply)
   step-once ahead = turn Once s at step reply ahead (λ is. checked-once is (oops_in reply)) own-once
 
-played-once : (s : Parts) (made front : List Made) (at end : At) → length at.spots ≡ length front → IsPlayed s at made end → AreAnsweredOnce s front at made
+played-once : (s : Content) (made front : List StepMade) (at end : PlayerPlace) → length at.spots ≡ length front → IsPlayed s at made end → AreAnsweredOnce s front at made
 played-once s [] front at end many led = tt
 played-once s (m ∷ more) front at end many led =
     let longer : length (after s at m.0 m.1).spots ≡ length (front ++ m ∷ []) =
@@ -106,12 +106,12 @@ played-once s (m ∷ more) front at end many led =
     (step-once s front at m.0 m.1 many led.0, played-once s more (front ++ m ∷ []) (after s at m.0 m.1) end longer led.1)
 
 -- a player starts without answers
-starts-unanswered : (s : Parts) (number : ℕ) (at : At) → start_at s number ≡ Some at → at.answers ≡ []
+starts-unanswered : (s : Content) (number : ℕ) (at : PlayerPlace) → start_at s number ≡ Some at → at.answers ≡ []
 starts-unanswered s number at is =
-    let inner : ℕ → Option At = λ object. option_map (starting s number object) (slice_get s.decls object) in
+    let inner : ℕ → Option PlayerPlace = λ object. option_map (starting s number object) (slice_get s.decls object) in
     option_and_then_some inner (slice_get (players s.decls) number) at is (λ object found made.
     let decl = made-of (starting s number object) (slice_get s.decls object) at made in
-    ap (λ (a : At). a.answers) (sym decl.2))
+    ap (λ (a : PlayerPlace). a.answers) (sym decl.2))
 
 pub each_is_answered_once : EachIsAnsweredOnce
 each_is_answered_once s number shown at is = (

@@ -11,7 +11,7 @@ use Rattle.zk_line.specs.declared.types.Call.{Call}
 use Rattle.zk_model_wait.specs.declared.clock.ClockOp.{ClockOp}
 use Rattle.zk_model_wait.specs.declared.clock.ClockReply.{ClockReply}
 use Rattle.zk_model_work.specs.declared.ops.WorkOp.TheVariants as work_ops
-use Rattle.zk_scenario.specs.Parts.{Parts}
+use Rattle.zk_scenario.specs.Content.{Content}
 use Rattle.zk_scenario.specs.Players.{calls_of}
 use Rattle.zk_worker.specs.declared.answers.Answered.{Answered}
 use Rattle.zk_worker.specs.declared.checks.Check.{Check}
@@ -29,8 +29,8 @@ use Rattle.zk_player_laws.specs.CallLaws.{is_in_use, IsStepOf, IsOfIts, IsOfCall
 use Rattle.zk_worker.specs.Calls.{plan_of, plan_attempts}
 use Rattle.zk_player_laws.specs.CheckLaws.{is_check}
 use Rattle.zk_worker.specs.Checks.{is_oops, check_step, role_check, top_check}
-use Rattle.zk_worker.specs.Follows.{Made, Stands, IsPlayed}
-use Rattle.zk_worker.specs.Places.{At}
+use Rattle.zk_worker.specs.Follows.{StepMade, Stands, IsPlayed}
+use Rattle.zk_worker.specs.Places.{PlayerPlace}
 use Rattle.zk_worker.specs.Protocol.{IsAhead, after, call_attempts, role_attempts, frames_attempts, worker_attempts}
 use Rattle.zk_worker.specs.Shown.{Shown}
 use Rattle.zk_player_laws.specs.StackLogs.{ShowsLegalClock}
@@ -42,7 +42,7 @@ use Rattle.zk_player_laws.proofs.LogsPlayed.{clock-tells}
 use Rattle.zk_worker.proofs.ShownSteps.{made-of}
 
 -- what stands at a spot is replied by the service of its step
-stands-fit : (shown : Shown) → ShowsLegalClock shown → (spot : Spot) (made : Made) → Stands shown spot made → IsFit made
+stands-fit : (shown : Shown) → ShowsLegalClock shown → (spot : Spot) (made : StepMade) → Stands shown spot made → IsFit made
 stands-fit shown timed (spots.Work place) made stands = let from = made-of _ _ made stands in subst IsFit from.2 refl
 stands-fit shown timed (spots.Table place) made stands = let from = made-of _ _ made stands in subst IsFit from.2 refl
 stands-fit shown timed (spots.Clock place) made stands =
@@ -56,13 +56,13 @@ stands-fit shown timed (spots.Obs object place) made stands = let from = made-of
 stands-fit shown timed (spots.LookItem object flags at) made stands = subst IsFit (sym stands) refl
 stands-fit shown timed (spots.LookSignal object seen) made stands = subst IsFit (sym stands.1) refl
 
-pub all-fit : (shown : Shown) → ShowsLegalClock shown → (log : List Spot) (made : List Made) → AllZip (Stands shown) log made → All IsFit made
+pub all-fit : (shown : Shown) → ShowsLegalClock shown → (log : List Spot) (made : List StepMade) → AllZip (Stands shown) log made → All IsFit made
 all-fit shown timed [] [] stand = All-nil IsFit
 all-fit shown timed [] (m ∷ made) stand = absurd stand
 all-fit shown timed (spot ∷ log) [] stand = absurd stand
 all-fit shown timed (spot ∷ log) (m ∷ made) stand = All-cons IsFit m made (stands-fit shown timed spot m stand.0) (all-fit shown timed log made stand.1)
 
-call-of : (s : Parts) (number : ℕ) (made : List Made) (a : Answered) → All IsFit made → IsPlayOf s number made a → IsCallOf s number made a
+call-of : (s : Content) (number : ℕ) (made : List StepMade) (a : Answered) → All IsFit made → IsPlayOf s number made a → IsCallOf s number made a
 call-of s number made a fit of = record {
   owner = of.owner;
   next = of.next;
@@ -88,7 +88,7 @@ worker-step queue stages.Start index step is = inl (sym (slice_get-one (steps.Wo
 worker-step queue stages.Runs index step is = inr (sym (slice_get-one (steps.Work (work_ops.End queue)) step index is))
 worker-step queue stage index step is = absurd (cc)
 
-module _ (s : Parts) (number : ℕ) (front : List Made) (fit : All IsFit front) where
+module _ (s : Content) (number : ℕ) (front : List StepMade) (fit : All IsFit front) where
   -- an attempt of a script is a step of its next call
   script-step : (below : List Frame) (owner next : ℕ) (stage : Stage) (index : ℕ) (step : Step) → PlaysOn s number front below (Script owner) next stage →
       slice_get (role_attempts s (Script owner) next stage) index ≡ Some step →
@@ -126,13 +126,13 @@ module _ (s : Parts) (number : ℕ) (front : List Made) (fit : All IsFit front) 
     by (Worker queue) is = absurd (cc)
     by (Script owner) is = λ isnt. absurd (let checks = ap is_check makes in cc)
 
-  step-of : (at : At) (step : Step) → Holds s number front at → IsAhead s at step → IsOfCall s number front at.frames step
+  step-of : (at : PlayerPlace) (step : Step) → Holds s number front at → IsAhead s at step → IsOfCall s number front at.frames step
   step-of at step holds ahead = by (one-or-other s at step ahead) where
     by : IsCheck s at step ⊎ IsOwn s at step → IsOfCall s number front at.frames step
     by (inl is) = check-step at.passed at.frames is.check step (check-of-top s at.mode at.passed at.frames is.check is.comes) is.is_step
     by (inr is) = own-step at.frames is.index step holds.frames is.ahead
 
-are-of-calls : (s : Parts) (number : ℕ) (front made : List Made) (at end : At) → Holds s number front at → IsPlayed s at made end → All IsFit front → All IsFit made → AreOfCalls s number front at made
+are-of-calls : (s : Content) (number : ℕ) (front made : List StepMade) (at end : PlayerPlace) → Holds s number front at → IsPlayed s at made end → All IsFit front → All IsFit made → AreOfCalls s number front at made
 are-of-calls s number front [] at end holds led first fit = tt
 are-of-calls s number front (m ∷ more) at end holds led first fit = (
   step-of s number front first at m.0 holds led.0,
@@ -142,7 +142,7 @@ are-of-calls s number front (m ∷ more) at end holds led first fit = (
 
 -- Each player.
 
-either-of : (s : Parts) (number : ℕ) (made : List Made) (a : Answered) → All IsFit made → IsPlayOf s number made a ⊎ IsUseOf made a → IsCallOf s number made a ⊎ IsUseOf made a
+either-of : (s : Content) (number : ℕ) (made : List StepMade) (a : Answered) → All IsFit made → IsPlayOf s number made a ⊎ IsUseOf made a → IsCallOf s number made a ⊎ IsUseOf made a
 either-of s number made a fit (inl of) = inl (call-of s number made a fit of)
 either-of s number made a fit (inr of) = inr of
 

@@ -13,7 +13,7 @@ use Rattle.zk_line.specs.declared.types.Decl.{Decl}
 use Rattle.zk_model_bus.specs.declared.table.OopsWhy.{OopsWhy}
 use Rattle.zk_model_work.specs.declared.ops.WorkOp.TheVariants as work_ops
 use Rattle.zk_model_work.specs.declared.ops.WorkReply.TheVariants as work_replies
-use Rattle.zk_scenario.specs.Parts.{Parts}
+use Rattle.zk_scenario.specs.Content.{Content}
 use Rattle.zk_scenario.specs.Players.{players, calls_of}
 use Rattle.zk_worker.specs.declared.checks.Check.{Check}
 use Rattle.zk_worker.specs.declared.checks.Mode.{Mode}
@@ -33,8 +33,8 @@ use Rattle.zk_worker.specs.declared.steps.StepReply.TheVariants as step_replies
 use Rattle.zk_scenario.specs.Steps.{steps_of}
 use Rattle.zk_worker.specs.Calls.{plan_of}
 use Rattle.zk_worker.specs.Checks.{check_step, oops_in, top_check, next_check}
-use Rattle.zk_worker.specs.Follows.{Made, IsPlayed, is_spent_at}
-use Rattle.zk_worker.specs.Places.{At}
+use Rattle.zk_worker.specs.Follows.{StepMade, IsPlayed, is_spent_at}
+use Rattle.zk_worker.specs.Places.{PlayerPlace}
 use Rattle.zk_worker.specs.Protocol.{IsAhead, attempts, checks_first, after, after_by, checked, moved, call_attempts, call_progress, role_attempts, role_progress, worker_attempts, worker_progress, run_progress, frames_attempts, frames_progress, frames_after, is_over, settled, entered, first_frame, role_at, spot_of, starting, start_at}
 use Rattle.zk_worker.proofs.CheckedSteps.{IsCheck, IsOwn, check_at, one-or-other, check-of-top, check-starts}
 use Rattle.zk_worker.proofs.Following.{played-more}
@@ -50,32 +50,32 @@ use Rattle.zk_player_laws.proofs.UsersChecked.{TopChecks, Holds, mode-user, next
 
 -- The steps made at a depth.
 
-steps_at-more : (s : Parts) (depth : ℕ) (at now : At) (made : List Made) (m : Made) → IsPlayed s at made now →
+steps_at-more : (s : Content) (depth : ℕ) (at now : PlayerPlace) (made : List StepMade) (m : StepMade) → IsPlayed s at made now →
     steps_at s depth at (made ++ m ∷ []) ≡ steps_at s depth at made ++ cond (eqb (length now.frames) depth) (m ∷ []) []
-steps_at-more s depth at now [] m led = ap (λ (a : At). cond (eqb (length a.frames) depth) (m ∷ []) []) led
+steps_at-more s depth at now [] m led = ap (λ (a : PlayerPlace). cond (eqb (length a.frames) depth) (m ∷ []) []) led
 steps_at-more s depth at now (x ∷ made) m led =
     by (eqb (length at.frames) depth) (steps_at s depth (after s at x.0 x.1) (made ++ m ∷ [])) (steps_at s depth (after s at x.0 x.1) made)
     (steps_at-more s depth (after s at x.0 x.1) now made m led.1)
   where
-    by : (b : Bool) (longer rest : List Made) → longer ≡ rest ++ cond (eqb (length now.frames) depth) (m ∷ []) [] →
+    by : (b : Bool) (longer rest : List StepMade) → longer ≡ rest ++ cond (eqb (length now.frames) depth) (m ∷ []) [] →
         cond b (x ∷ longer) longer ≡ cond b (x ∷ rest) rest ++ cond (eqb (length now.frames) depth) (m ∷ []) []
-    by true longer rest same = ap (λ (l : List Made). x ∷ l) same
+    by true longer rest same = ap (λ (l : List StepMade). x ∷ l) same
     by false longer rest same = same
 
 -- a step at this depth is one of them, and one deeper isn't
-steps-here : (s : Parts) (depth : ℕ) (at now : At) (made : List Made) (m : Made) → IsPlayed s at made now → length now.frames ≡ depth →
+steps-here : (s : Content) (depth : ℕ) (at now : PlayerPlace) (made : List StepMade) (m : StepMade) → IsPlayed s at made now → length now.frames ≡ depth →
     steps_at s depth at (made ++ m ∷ []) ≡ steps_at s depth at made ++ m ∷ []
 steps-here s depth at now made m led same =
     steps_at-more s depth at now made m led ∙ ap (λ (b : Bool). steps_at s depth at made ++ cond b (m ∷ []) []) (let is : eqb (length now.frames) depth ≡ true = grind (arith, nat_tests) in is)
 
-steps-deeper : (s : Parts) (depth : ℕ) (at now : At) (made : List Made) (m : Made) → IsPlayed s at made now → depth < length now.frames →
+steps-deeper : (s : Content) (depth : ℕ) (at now : PlayerPlace) (made : List StepMade) (m : StepMade) → IsPlayed s at made now → depth < length now.frames →
     steps_at s depth at (made ++ m ∷ []) ≡ steps_at s depth at made
 steps-deeper s depth at now made m led deeper =
     steps_at-more s depth at now made m led
     ∙ (ap (λ (b : Bool). steps_at s depth at made ++ cond b (m ∷ []) []) (let isnt : eqb (length now.frames) depth ≡ false = grind (arith, nat_tests) in isnt)
     ∙ append-nil (steps_at s depth at made))
 
-in_run-last : (made : List Made) (m : Made) → is_in_run (made ++ m ∷ []) ≡ begins_run m
+in_run-last : (made : List StepMade) (m : StepMade) → is_in_run (made ++ m ∷ []) ≡ begins_run m
 in_run-last [] m = refl
 in_run-last (x ∷ []) m = refl
 in_run-last (x ∷ y ∷ made) m = in_run-last (y ∷ made) m
@@ -83,11 +83,11 @@ in_run-last (x ∷ y ∷ made) m = in_run-last (y ∷ made) m
 -- What holds of what is open.
 
 -- a script is where the steps that its call made have led it
-record StandsIn (s : Parts) (number : ℕ) (front : List Made) (now : At) (owner next depth : ℕ) (below : List Frame) (stage : Stage) : Type 0 where
-  before : List Made
-  since : List Made
+record StandsIn (s : Content) (number : ℕ) (front : List StepMade) (now : PlayerPlace) (owner next depth : ℕ) (below : List Frame) (stage : Stage) : Type 0 where
+  before : List StepMade
+  since : List StepMade
   whole : front ≡ before ++ since
-  at : At
+  at : PlayerPlace
   led : IsLed s number before at
   stood : at.frames ≡ record { role = Script owner; next = next; stage = stages.Start } ∷ below
   on : IsPlayed s at since now
@@ -99,17 +99,17 @@ RunsAs stages.Start runs = runs ≡ false
 RunsAs stages.Runs runs = runs ≡ true
 RunsAs stage runs = ⊥
 
-abbrev RoleStands : Parts → ℕ → At → List Made → At → ℕ → List Frame → Role → ℕ → Stage → Type 0
+abbrev RoleStands : Content → ℕ → PlayerPlace → List StepMade → PlayerPlace → ℕ → List Frame → Role → ℕ → Stage → Type 0
 RoleStands s number start front now depth below (Worker queue) next stage = RunsAs stage (is_in_run (steps_at s depth start front))
 RoleStands s number start front now depth below (Script owner) next stage = StandsIn s number front now owner next depth below stage
 
-abbrev AllStand : Parts → ℕ → At → List Made → At → List Frame → Type 0
+abbrev AllStand : Content → ℕ → PlayerPlace → List StepMade → PlayerPlace → List Frame → Type 0
 AllStand s number start front now [] = Unit {0}
 AllStand s number start front now (frame ∷ below) =
     RoleStands s number start front now (length (frame ∷ below)) below frame.role frame.next frame.stage × AllStand s number start front now below
 
 -- where a call begins, so does what stands
-fresh-stands : (s : Parts) (number : ℕ) (front : List Made) (now : At) (owner next depth : ℕ) (below : List Frame) → IsLed s number front now →
+fresh-stands : (s : Content) (number : ℕ) (front : List StepMade) (now : PlayerPlace) (owner next depth : ℕ) (below : List Frame) → IsLed s number front now →
     now.frames ≡ record { role = Script owner; next = next; stage = stages.Start } ∷ below → StandsIn s number front now owner next depth below stages.Start
 fresh-stands s number front now owner next depth below led same = record {
   before = front;
@@ -122,7 +122,7 @@ fresh-stands s number front now owner next depth below led same = record {
   stands = λ call there. stands-first (word_of call) (plan_of s.decls call);
 }
 
-settled-stand : (s : Parts) (number : ℕ) (start : At) (front : List Made) (now : At) (frames : List Frame) → AllStand s number start front now frames → AllStand s number start front now (settled s frames)
+settled-stand : (s : Content) (number : ℕ) (start : PlayerPlace) (front : List StepMade) (now : PlayerPlace) (frames : List Frame) → AllStand s number start front now frames → AllStand s number start front now (settled s frames)
 settled-stand s number start front now [] all = tt
 settled-stand s number start front now (frame ∷ below) all = by (is_over s frame.role frame.next) (settled-stand s number start front now below all.1) where
   by : (b : Bool) → AllStand s number start front now (settled s below) → AllStand s number start front now (cond b (settled s below) (frame ∷ below))
@@ -130,7 +130,7 @@ settled-stand s number start front now (frame ∷ below) all = by (is_over s fra
   by false rest = all
 
 -- a script at the beginning of a call, on what stands
-fresh-settled : (s : Parts) (number : ℕ) (start : At) (front : List Made) (now : At) (owner next : ℕ) (below : List Frame) → IsLed s number front now →
+fresh-settled : (s : Content) (number : ℕ) (start : PlayerPlace) (front : List StepMade) (now : PlayerPlace) (owner next : ℕ) (below : List Frame) → IsLed s number front now →
     now.frames ≡ settled s (record { role = Script owner; next = next; stage = stages.Start } ∷ below) → AllStand s number start front now below →
     AllStand s number start front now (settled s (record { role = Script owner; next = next; stage = stages.Start } ∷ below))
 fresh-settled s number start front now owner next below led same all = by (is_over s (Script owner) next) same (settled-stand s number start front now below all) where
@@ -141,11 +141,11 @@ fresh-settled s number start front now owner next below led same all = by (is_ov
 
 -- What a step leads to.
 
-module _ (s : Parts) (number : ℕ) (start : At) (front : List Made) (now : At) (m : Made) (led : IsPlayed s start front now) (ahead : IsAhead s now m.0) where
-  abbrev longer : List Made
+module _ (s : Content) (number : ℕ) (start : PlayerPlace) (front : List StepMade) (now : PlayerPlace) (m : StepMade) (led : IsPlayed s start front now) (ahead : IsAhead s now m.0) where
+  abbrev longer : List StepMade
   longer = front ++ m ∷ []
 
-  abbrev then : At
+  abbrev then : PlayerPlace
   then = after s now m.0 m.1
 
   -- a script more made a step
@@ -155,7 +155,7 @@ module _ (s : Parts) (number : ℕ) (start : At) (front : List Made) (now : At) 
   on-more owner next depth below stage end was stands = record {
     before = was.before;
     since = was.since ++ m ∷ [];
-    whole = ap (λ (l : List Made). l ++ m ∷ []) was.whole ∙ append_assoc was.before was.since (m ∷ []);
+    whole = ap (λ (l : List StepMade). l ++ m ∷ []) was.whole ∙ append_assoc was.before was.since (m ∷ []);
     at = was.at;
     led = was.led;
     stood = was.stood;
@@ -167,10 +167,10 @@ module _ (s : Parts) (number : ℕ) (start : At) (front : List Made) (now : At) 
   still-stands : (depth : ℕ) (below : List Frame) (role : Role) (next : ℕ) (stage : Stage) → depth < length now.frames → RoleStands s number start front now depth below role next stage →
       RoleStands s number start longer then depth below role next stage
   still-stands depth below (Worker queue) next stage deeper was =
-      subst (λ (l : List Made). RunsAs stage (is_in_run l)) (sym (steps-deeper s depth start now front m led deeper)) was
+      subst (λ (l : List StepMade). RunsAs stage (is_in_run l)) (sym (steps-deeper s depth start now front m led deeper)) was
   still-stands depth below (Script owner) next stage deeper was =
       on-more owner next depth below stage stage was (λ call there.
-      subst (λ (l : List Made). StandsAt (word_of call) (plan_of s.decls call) l stage) (sym (steps-deeper s depth was.at now was.since m was.on deeper)) (was.stands call there))
+      subst (λ (l : List StepMade). StandsAt (word_of call) (plan_of s.decls call) l stage) (sym (steps-deeper s depth was.at now was.since m was.on deeper)) (was.stands call there))
 
   all-still : (frames : List Frame) → length frames < length now.frames → AllStand s number start front now frames → AllStand s number start longer then frames
   all-still [] deeper all = tt
@@ -203,7 +203,7 @@ module _ (s : Parts) (number : ℕ) (start : At) (front : List Made) (now : At) 
       (worker-on s.decls (number_of s.decls queue) stage end index there comes)
   top-on depth below (Script owner) next stage end index deep was there fit comes =
       on-more owner next depth below stage end was (λ call is.
-      subst (λ (l : List Made). StandsAt (word_of call) (plan_of s.decls call) l end) (sym (steps-here s depth was.at now was.since m was.on deep))
+      subst (λ (l : List StepMade). StandsAt (word_of call) (plan_of s.decls call) l end) (sym (steps-here s depth was.at now was.since m was.on deep))
       (stands-more (word_of call) (plan_of s.decls call) (steps_at s depth was.at was.since) stage index m end (was.stands call is)
       (ap (λ (o : Option Call). slice_get (call_attempts s.decls o stage) index) (sym is) ∙ there) fit
       (ap (λ (o : Option Call). stage_of (call_progress s.decls o stage m.0 m.1)) (sym is) ∙ comes)))
@@ -260,7 +260,7 @@ next-of-worker queue stages.Start runs is = (λ between. refl, λ within. absurd
 next-of-worker queue stages.Runs runs is = (λ between. absurd (let never = sym is ∙ between in cc), λ within. refl)
 next-of-worker queue stage runs is = absurd is
 
-module _ (s : Parts) (number : ℕ) (start : At) (front : List Made) (now : At) where
+module _ (s : Content) (number : ℕ) (start : PlayerPlace) (front : List StepMade) (now : PlayerPlace) where
   -- of the innermost, where no check comes
   own-next : (depth : ℕ) (below : List Frame) (role : Role) (next : ℕ) (stage : Stage) → (HasNoneLeft s role next → ⊥) → RoleStands s number start front now depth below role next stage →
       ComeToRole s number start front role next below depth (role_attempts s role next stage)
@@ -313,7 +313,7 @@ abbrev no_steps : List Step
 no_steps = []
 
 -- who has ended attempts nothing
-ended-next : (s : Parts) (number : ℕ) (start : At) (front : List Made) (now : At) → now.frames ≡ [] → now.mode ≡ Dead → AttemptsItsNext s number start front now
+ended-next : (s : Content) (number : ℕ) (start : PlayerPlace) (front : List StepMade) (now : PlayerPlace) → now.frames ≡ [] → now.mode ≡ Dead → AttemptsItsNext s number start front now
 ended-next s number start front now none dead =
     let nothing : attempts s now ≡ [] = ap (λ (c : Option Check). cond (nat_lt (length now.spots) (steps_of s)) (checks_first c (frames_attempts s now.frames)) []) (ap (λ (mode : Mode). next_check s mode now.passed now.frames) dead)
     ∙ ap (λ (l : List Frame). cond (nat_lt (length now.spots) (steps_of s)) (frames_attempts s l) []) none ∙ either (nat_lt (length now.spots) (steps_of s)) in
@@ -326,18 +326,18 @@ ended-next s number start front now none dead =
 -- Each player.
 
 -- what is left behind a step has calls left
-left-more : (s : Parts) (frames : List Frame) (progress : Progress) → HasCallsLeft s frames → HasCallsLeft s (frames_after s frames progress)
+left-more : (s : Content) (frames : List Frame) (progress : Progress) → HasCallsLeft s frames → HasCallsLeft s (frames_after s frames progress)
 left-more s [] progress left = tt
 left-more s (frame ∷ below) (Goes stage) left = left
 left-more s (frame ∷ below) (Answers word answer) left = (settled-left s (record frame { next = frame.next + 1; stage = stages.Start } ∷ below)).stands
 left-more s (frame ∷ below) (Enters owner stage) left = (settled-left s (entered (record frame { stage = stage } ∷ below) owner)).stands
 
 -- what goes on where that holds behind the next step
-abbrev Further : Parts → ℕ → At → At → List Made → Made → List Made → Type 0
+abbrev Further : Content → ℕ → PlayerPlace → PlayerPlace → List StepMade → StepMade → List StepMade → Type 0
 Further s number start now front m more = Holds s number (front ++ m ∷ []) (after s now m.0 m.1) → HasCallsLeft s (after s now m.0 m.1).frames →
     AllStand s number start (front ++ m ∷ []) (after s now m.0 m.1) (after s now m.0 m.1).frames → AlwaysGoesOn s number start (front ++ m ∷ []) (after s now m.0 m.1) more
 
-always-goes-on : (s : Parts) (number : ℕ) (start now end : At) (front made : List Made) → All IsFit made → Holds s number front now → HasCallsLeft s now.frames → AllStand s number start front now now.frames →
+always-goes-on : (s : Content) (number : ℕ) (start now end : PlayerPlace) (front made : List StepMade) → All IsFit made → Holds s number front now → HasCallsLeft s now.frames → AllStand s number start front now now.frames →
     IsPlayed s start front now → IsPlayed s now made end → AlwaysGoesOn s number start front now made
 always-goes-on s number start now end front [] fit holds left all led played = attempts-next s number start front now holds left all
 always-goes-on s number start now end front (m ∷ more) fit holds left all led played = (
@@ -351,7 +351,7 @@ always-goes-on s number start now end front (m ∷ more) fit holds left all led 
     by_why goes is None none =
         let same : after s now m.0 m.1 ≡ checked now is.check.word None (spot_of m.0 m.1) =
         ap (after_by s now m.0 m.1) is.comes ∙ ap (λ (w : Option OopsWhy). checked now is.check.word w (spot_of m.0 m.1)) none in
-        let frames : (after s now m.0 m.1).frames ≡ now.frames = ap (λ (a : At). a.frames) same in
+        let frames : (after s now m.0 m.1).frames ≡ now.frames = ap (λ (a : PlayerPlace). a.frames) same in
         let next = passed-holds s number front m now holds played.0 is none in
         goes next (subst (HasCallsLeft s) (sym frames) left)
         (subst (AllStand s number start (front ++ m ∷ []) (after s now m.0 m.1)) (sym frames)
@@ -359,8 +359,8 @@ always-goes-on s number start now end front (m ∷ more) fit holds left all led 
     by_why goes is (Some why) failed =
         let same : after s now m.0 m.1 ≡ checked now is.check.word (Some why) (spot_of m.0 m.1) =
         ap (after_by s now m.0 m.1) is.comes ∙ ap (λ (w : Option OopsWhy). checked now is.check.word w (spot_of m.0 m.1)) failed in
-        let none = ap (λ (a : At). a.frames) same in
-        let dead = ap (λ (a : At). a.mode) same in
+        let none = ap (λ (a : PlayerPlace). a.frames) same in
+        let dead = ap (λ (a : PlayerPlace). a.mode) same in
         subst (AlwaysGoesOn s number start (front ++ m ∷ []) (after s now m.0 m.1)) (sym (no-more s (after s now m.0 m.1) end more none dead played.1).0)
         (ended-next s number start (front ++ m ∷ []) (after s now m.0 m.1) none dead)
 
@@ -368,18 +368,18 @@ always-goes-on s number start now end front (m ∷ more) fit holds left all led 
     by goes (inl is) = by_why goes is (oops_in m.1) refl
     by goes (inr is) =
         let same : after s now m.0 m.1 ≡ moved s now m.0 (frames_progress s now.frames m.0 m.1) (spot_of m.0 m.1) = ap (after_by s now m.0 m.1) is.none in
-        let frames : (after s now m.0 m.1).frames ≡ frames_after s now.frames (frames_progress s now.frames m.0 m.1) = ap (λ (a : At). a.frames) same in
+        let frames : (after s now m.0 m.1).frames ≡ frames_after s now.frames (frames_progress s now.frames m.0 m.1) = ap (λ (a : PlayerPlace). a.frames) same in
         let next = (own-holds s number front m now holds played.0 is).1 in
         goes next (subst (HasCallsLeft s) (sym frames) (left-more s now.frames (frames_progress s now.frames m.0 m.1) left))
         (subst (AllStand s number start (front ++ m ∷ []) (after s now m.0 m.1)) (sym frames)
         (step-stands s number start front now m led played.0 now.frames is.index refl next.led frames is.ahead (All-head IsFit m more fit) all))
 
-first-stands : (s : Parts) (number : ℕ) (at : At) → start_at s number ≡ Some at → AllStand s number at [] at at.frames
+first-stands : (s : Content) (number : ℕ) (at : PlayerPlace) → start_at s number ≡ Some at → AllStand s number at [] at at.frames
 first-stands s number at is =
-    let inner : ℕ → Option At = λ object. option_map (starting s number object) (slice_get s.decls object) in
+    let inner : ℕ → Option PlayerPlace = λ object. option_map (starting s number object) (slice_get s.decls object) in
     option_and_then_some inner (slice_get (players s.decls) number) at is (λ object found made. by_decl object (slice_get s.decls object) made)
   where
-    by_role : (first : At) (role : Role) → IsLed s number [] first → first.frames ≡ settled s (first_frame role ∷ []) → AllStand s number first [] first (settled s (first_frame role ∷ []))
+    by_role : (first : PlayerPlace) (role : Role) → IsLed s number [] first → first.frames ≡ settled s (first_frame role ∷ []) → AllStand s number first [] first (settled s (first_frame role ∷ []))
     by_role first (Script owner) led same = fresh-settled s number first [] first owner 0 [] led same tt
     by_role first (Worker queue) led same = (refl, tt)
 
@@ -387,7 +387,7 @@ first-stands s number at is =
     by_decl object None made = absurd (cc)
     by_decl object (Some decl) made =
         let same : starting s number object decl ≡ at = same_Some (starting s number object decl) at made in
-        subst (λ (a : At). AllStand s number a [] a a.frames) same (by_role (starting s number object decl) (role_at decl object) (at, is, sym same) refl)
+        subst (λ (a : PlayerPlace). AllStand s number a [] a a.frames) same (by_role (starting s number object decl) (role_at decl object) (at, is, sym same) refl)
 
 -- at each moment each player attempts what comes next
 pub each_call_goes_on : EachCallGoesOn

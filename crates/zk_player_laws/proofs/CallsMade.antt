@@ -19,7 +19,7 @@ use Rattle.zk_words.specs.declared.timeout.Timeout.{Timeout}
 use Rattle.zk_words.specs.declared.timeout.Timeout.TheVariants.{No, Forever, Ticks}
 use Rattle.zk_words.specs.declared.word.Word.{Word}
 use Rattle.zk_words.specs.declared.word.Word.TheVariants as words
-use Rattle.zk_worker.specs.Follows.{Made}
+use Rattle.zk_worker.specs.Follows.{StepMade}
 use Rattle.zk_worker.specs.declared.answers.Answer.{Answer}
 use Rattle.zk_worker.specs.declared.frames.Closing.{Closing}
 use Rattle.zk_worker.specs.declared.frames.Plan.{Plan}
@@ -41,13 +41,13 @@ use Rattle.zk_player_laws.specs.PollLaws as polls
 use Rattle.zk_worker.specs.Publishes.{asks_for, channel_attempts, asking_progress, channel_progress}
 use Rattle.zk_worker.specs.Replies.{answer_of}
 use Rattle.zk_player_laws.specs.StackLaws.{is_reply_to}
-use Rattle.zk_worker.specs.Waits.{open_step, end_step, quit_step, wait_attempts, opening_progress, until, wait_progress}
+use Rattle.zk_worker.specs.Waits.{open_step, end_step, quit_step, wait_attempts, opening_progress, with_alarm, wait_progress}
 use Rattle.zk_player_laws.proofs.CallsPlayed.{Leads, LeadsOn, IsDone, plan-stays}
 use Rattle.zk_player_laws.proofs.OtherCalls.{is_with_channel}
 use Rattle.zk_player_laws.proofs.PollLogs.{poll-leads}
 
 -- the reply is of the step's service
-abbrev pub IsFit : Made → Type 0
+abbrev pub IsFit : StepMade → Type 0
 IsFit made = is_reply_to made.0 made.1 ≡ true
 
 -- A reply that may begin a wait.
@@ -83,22 +83,22 @@ answer-same : {word : Word} (reply : StepReply) (answer : Answer) → Answers wo
 answer-same reply answer same = cc
 
 -- the one attempt there is was made
-pub made-one : (step : Step) (index : ℕ) (made : Made) → slice_get (step ∷ []) index ≡ Some made.0 → made ≡ (step, made.1)
+pub made-one : (step : Step) (index : ℕ) (made : StepMade) → slice_get (step ∷ []) index ≡ Some made.0 → made ≡ (step, made.1)
 made-one step index made is = ap (λ (x : Step). (x, made.1)) (sym (slice_get-one step made.0 index is))
 
-one-play : (step : Step) (made : Made) (play : List Made) → play ≡ made ∷ [] → made ≡ (step, made.1) → play ≡ (step, made.1) ∷ []
-one-play step made play whole same = whole ∙ ap (λ (x : Made). x ∷ []) same
+one-play : (step : Step) (made : StepMade) (play : List StepMade) → play ≡ made ∷ [] → made ≡ (step, made.1) → play ≡ (step, made.1) ∷ []
+one-play step made play whole same = whole ∙ ap (λ (x : StepMade). x ∷ []) same
 
 -- One step, and two.
 
-told-one : (word : Word) (step : Step) (front : List Made) (last : Made) (stage : Stage) (play : List Made) (answer : Answer) → play ≡ front ++ last ∷ [] → LeadsOn word (One step) stages.Start front stage →
+told-one : (word : Word) (step : Step) (front : List StepMade) (last : StepMade) (stage : Stage) (play : List StepMade) (answer : Answer) → play ≡ front ++ last ∷ [] → LeadsOn word (One step) stages.Start front stage →
     Leads word (One step) stage last (Answers word answer) → IsToldBy step play answer
 told-one word step [] last stage play answer whole led answered =
     let ahead : slice_get (step ∷ []) answered.index ≡ Some last.0 = ap (λ (t : Stage). slice_get (plan_attempts (One step) t) answered.index) led ∙ answered.ahead in
     (last.1, one-play step last play whole (made-one step answered.index last ahead), answer-same last.1 answer answered.comes)
 told-one word step (m ∷ more) last stage play answer whole led answered = absurd (let goes = led.1.comes in cc)
 
-told-both : (word : Word) (first second : Step) (front : List Made) (last : Made) (stage : Stage) (play : List Made) (answer : Answer) → play ≡ front ++ last ∷ [] →
+told-both : (word : Word) (first second : Step) (front : List StepMade) (last : StepMade) (stage : Stage) (play : List StepMade) (answer : Answer) → play ≡ front ++ last ∷ [] →
     LeadsOn word (Twice first second) stages.Start front stage → Leads word (Twice first second) stage last (Answers word answer) → IsToldByBoth first second play answer
 told-both word first second [] last stage play answer whole led answered =
     absurd (let comes = ap (λ (t : Stage). plan_progress word (Twice first second) t last.0 last.1) led ∙ answered.comes in cc)
@@ -110,7 +110,7 @@ told-both word first second (m ∷ []) last stage play answer whole led answered
     let comes : Answers word (answer_of last.1) ≡ Answers word answer = ap (λ (t : Stage). plan_progress word (Twice first second) t last.0 last.1) half ∙ answered.comes in (
       m.1,
       last.1,
-      whole ∙ ap (λ (x : Made). x ∷ last ∷ []) earlier ∙ ap (λ (x : Made). (first, m.1) ∷ x ∷ []) later,
+      whole ∙ ap (λ (x : StepMade). x ∷ last ∷ []) earlier ∙ ap (λ (x : StepMade). (first, m.1) ∷ x ∷ []) later,
       answer-same last.1 answer comes,
     )
 told-both word first second (m ∷ n ∷ more) last stage play answer whole led answered =
@@ -122,16 +122,16 @@ told-both word first second (m ∷ n ∷ more) last stage play answer whole led 
 module _ (word : Word) (plan : Plan) (start : Stage) (opening : Step) (closing : ℕ → Step) (waiting_at : ℕ → Stage) (opens_so : plan_attempts plan start ≡ opening ∷ []) where
   -- what is so of the step that may begin the wait
   Begins : Type 0
-  Begins = (made : Made) (progress : Progress) → IsFit made → made ≡ (opening, made.1) → plan_progress word plan start made.0 made.1 ≡ progress →
+  Begins = (made : StepMade) (progress : Progress) → IsFit made → made ≡ (opening, made.1) → plan_progress word plan start made.0 made.1 ≡ progress →
       ((stage : Stage) → progress ≡ Goes stage → (place : ℕ) × (waits_at made.1 ≡ Some place) × (waiting_at place ≡ stage))
       × ((answer : Answer) → progress ≡ Answers word answer → (waits_at made.1 ≡ None) × (answer ≡ answer_of made.1))
 
   -- the steps of a call from there on, where it waits for one thing alone
   record Ends : Type 0 where
     attempts : (place : ℕ) → plan_attempts plan (waiting_at place) ≡ closing place ∷ []
-    comes : (place : ℕ) (made : Made) → IsFit made → made ≡ (closing place, made.1) → plan_progress word plan (waiting_at place) made.0 made.1 ≡ Answers word (answer_of made.1)
+    comes : (place : ℕ) (made : StepMade) → IsFit made → made ≡ (closing place, made.1) → plan_progress word plan (waiting_at place) made.0 made.1 ≡ Answers word (answer_of made.1)
 
-  told-wait : Begins → Ends → (front : List Made) (last : Made) (stage : Stage) (play : List Made) (answer : Answer) → play ≡ front ++ last ∷ [] → LeadsOn word plan start front stage →
+  told-wait : Begins → Ends → (front : List StepMade) (last : StepMade) (stage : Stage) (play : List StepMade) (answer : Answer) → play ≡ front ++ last ∷ [] → LeadsOn word plan start front stage →
       Leads word plan stage last (Answers word answer) → All IsFit (front ++ last ∷ []) → IsTold opening closing play answer
   unfolding Begins
   told-wait begins ends [] last stage play answer whole led answered fit =
@@ -150,7 +150,7 @@ module _ (word : Word) (plan : Plan) (start : Stage) (opening : Step) (closing :
       let second : last ≡ (closing waits.0, last.1) = made-one (closing waits.0) answered.index last ahead in
       let comes : Answers word (answer_of last.1) ≡ Answers word answer =
       sym (ends.comes waits.0 last (All-head IsFit last [] (All-tail IsFit m (last ∷ []) fit)) second) ∙ ap (λ (t : Stage). plan_progress word plan t last.0 last.1) at ∙ answered.comes in
-      inr (m.1, last.1, waits.0, waits.1, whole ∙ ap (λ (x : Made). x ∷ last ∷ []) first ∙ ap (λ (x : Made). (opening, m.1) ∷ x ∷ []) second, answer-same last.1 answer comes)
+      inr (m.1, last.1, waits.0, waits.1, whole ∙ ap (λ (x : StepMade). x ∷ last ∷ []) first ∙ ap (λ (x : StepMade). (opening, m.1) ∷ x ∷ []) second, answer-same last.1 answer comes)
   told-wait begins ends (m ∷ n ∷ more) last stage play answer whole led answered fit =
       absurd (let first : m ≡ (opening, m.1) = made-one opening led.1.index m (ap (λ (l : List Step). slice_get l led.1.index) (sym opens_so) ∙ led.1.ahead) in
       let waits = (begins m (Goes led.0) (All-head IsFit m (n ∷ (more ++ last ∷ [])) fit) first led.1.comes).0 led.0 refl in
@@ -168,10 +168,10 @@ opens-so : (word : Word) (reply : StepReply) (progress : Progress) → opening_p
     × ((answer : Answer) → progress ≡ Answers word answer → (waits_at reply ≡ None) × (answer ≡ answer_of reply))
 opens-so word reply progress comes = (λ stage goes. opens-goes word reply stage (comes ∙ goes), λ answer answers. opens-answers word reply answer (comes ∙ answers))
 
-pub fits-step : (step : Step) (made : Made) → IsFit made → made ≡ (step, made.1) → is_reply_to step made.1 ≡ true
-fits-step step made fit same = subst (λ (m : Made). is_reply_to m.0 m.1 ≡ true) same fit
+pub fits-step : (step : Step) (made : StepMade) → IsFit made → made ≡ (step, made.1) → is_reply_to step made.1 ≡ true
+fits-step step made fit same = subst (λ (m : StepMade). is_reply_to m.0 m.1 ≡ true) same fit
 
-told-pair : (word : Word) (opening : Step) (closing : Closing) (done : (play : List Made) × (answer : Answer) × IsDone word (Pair opening closing) play answer) → All IsFit done.0 →
+told-pair : (word : Word) (opening : Step) (closing : Closing) (done : (play : List StepMade) × (answer : Answer) × IsDone word (Pair opening closing) play answer) → All IsFit done.0 →
     IsTold opening (closing_step closing) done.0 done.1
 unfolding Begins
 told-pair word opening closing done fit =
@@ -206,14 +206,14 @@ ends-so word waiting moment place (step_replies.Clock reply at) fit = absurd (by
   by (waitings.Enter object) fit = cc
 ends-so word waiting moment place reply fit = refl
 
-told-no : (word : Word) (waiting : Waiting) (play : List Made) (answer : Answer) (done : IsDone word (Wait waiting No) play answer) → All IsFit play → IsTold (open_step waiting false) (end_step waiting) play answer
+told-no : (word : Word) (waiting : Waiting) (play : List StepMade) (answer : Answer) (done : IsDone word (Wait waiting No) play answer) → All IsFit play → IsTold (open_step waiting false) (end_step waiting) play answer
 unfolding Begins
 told-no word waiting play answer done fit =
     told-wait word (Wait waiting No) stages.Start (open_step waiting false) (end_step waiting) stages.Waits refl
     (λ made progress fits same comes. opens-so word made.1 progress (sym (starts-so word waiting false made.1 (fits-step (open_step waiting false) made fits same)) ∙ comes))
     (record { attempts = λ place. refl; comes = λ place made fits same. refl }) done.front done.last done.stage play answer done.whole done.led done.answered (subst (All IsFit) done.whole fit)
 
-told-forever : (word : Word) (waiting : Waiting) (play : List Made) (answer : Answer) (done : IsDone word (Wait waiting Forever) play answer) → All IsFit play →
+told-forever : (word : Word) (waiting : Waiting) (play : List StepMade) (answer : Answer) (done : IsDone word (Wait waiting Forever) play answer) → All IsFit play →
     IsTold (open_step waiting true) (end_step waiting) play answer
 unfolding Begins
 told-forever word waiting play answer done fit =
@@ -233,25 +233,25 @@ pub due-quits : (word : Word) (moment place : ℕ) (reply : StepReply) → is_re
 due-quits word moment place (step_replies.Clock reply at) fit = refl
 due-quits word moment place reply fit = absurd (cc)
 
-until-goes : (word : Word) (moment : ℕ) (reply : StepReply) (stage : Stage) → until moment (opening_progress word reply) ≡ Goes stage →
+until-goes : (word : Word) (moment : ℕ) (reply : StepReply) (stage : Stage) → with_alarm moment (opening_progress word reply) ≡ Goes stage →
     (place : ℕ) × (waits_at reply ≡ Some place) × (stages.WaitsUntil place moment ≡ stage)
 until-goes word moment reply stage comes = by (waits_at reply) refl where
   by : (o : Option ℕ) → waits_at reply ≡ o → (place : ℕ) × (waits_at reply ≡ Some place) × (stages.WaitsUntil place moment ≡ stage)
-  by (Some place) is = (place, is, (let goes = sym (ap (until moment) ((opens word reply).waits place is)) ∙ comes in cc))
-  by None is = absurd (let served = sym (ap (until moment) ((opens word reply).served is)) ∙ comes in cc)
+  by (Some place) is = (place, is, (let goes = sym (ap (with_alarm moment) ((opens word reply).waits place is)) ∙ comes in cc))
+  by None is = absurd (let served = sym (ap (with_alarm moment) ((opens word reply).served is)) ∙ comes in cc)
 
-until-answers : (word : Word) (moment : ℕ) (reply : StepReply) (answer : Answer) → until moment (opening_progress word reply) ≡ Answers word answer → (waits_at reply ≡ None) × (answer ≡ answer_of reply)
+until-answers : (word : Word) (moment : ℕ) (reply : StepReply) (answer : Answer) → with_alarm moment (opening_progress word reply) ≡ Answers word answer → (waits_at reply ≡ None) × (answer ≡ answer_of reply)
 until-answers word moment reply answer comes = by (waits_at reply) refl where
   by : (o : Option ℕ) → waits_at reply ≡ o → (waits_at reply ≡ None) × (answer ≡ answer_of reply)
-  by (Some place) is = absurd (let goes = sym (ap (until moment) ((opens word reply).waits place is)) ∙ comes in cc)
-  by None is = (is, (let served = sym (ap (until moment) ((opens word reply).served is)) ∙ comes in cc))
+  by (Some place) is = absurd (let goes = sym (ap (with_alarm moment) ((opens word reply).waits place is)) ∙ comes in cc)
+  by None is = (is, (let served = sym (ap (with_alarm moment) ((opens word reply).served is)) ∙ comes in cc))
 
 module _ (word : Word) (waiting : Waiting) (ticks moment : ℕ) where
   abbrev plan : Plan
   plan = Wait waiting (Ticks ticks)
 
   -- a step of a call that waits until the moment of its alarm: the end of its wait, which answers it, or the end of its alarm
-  ends-or-due : (place : ℕ) (made : Made) (progress : Progress) → Leads word plan (stages.WaitsUntil place moment) made progress → IsFit made →
+  ends-or-due : (place : ℕ) (made : StepMade) (progress : Progress) → Leads word plan (stages.WaitsUntil place moment) made progress → IsFit made →
       ((made ≡ (end_step waiting place, made.1)) × (progress ≡ Answers word (answer_of made.1)))
       ⊎ ((made ≡ (steps.Clock (clock_ops.AlarmEnd moment), made.1)) × (progress ≡ Goes (stages.Quits place)))
   ends-or-due place made progress leads fit = by leads.index leads.ahead where
@@ -265,22 +265,22 @@ module _ (word : Word) (waiting : Waiting) (ticks moment : ℕ) where
         let same : made ≡ (steps.Clock (clock_ops.AlarmEnd moment), made.1) = made-one (steps.Clock (clock_ops.AlarmEnd moment)) index made ahead in
         inr (same, sym leads.comes ∙ due-quits word moment place made.1 (fits-step (steps.Clock (clock_ops.AlarmEnd moment)) made fit same))
 
-  opened : (made : Made) (progress : Progress) → Leads word plan (stages.Alarmed moment) made progress → made ≡ (open_step waiting true, made.1)
+  opened : (made : StepMade) (progress : Progress) → Leads word plan (stages.Alarmed moment) made progress → made ≡ (open_step waiting true, made.1)
   opened made progress leads = made-one (open_step waiting true) leads.index made leads.ahead
 
-  quits : (place : ℕ) (made : Made) (progress : Progress) → Leads word plan (stages.Quits place) made progress → made ≡ (quit_step waiting place, made.1)
+  quits : (place : ℕ) (made : StepMade) (progress : Progress) → Leads word plan (stages.Quits place) made progress → made ≡ (quit_step waiting place, made.1)
   quits place made progress leads = made-one (quit_step waiting place) leads.index made leads.ahead
 
-  leads-at : (stage other : Stage) (made : Made) (progress : Progress) → other ≡ stage → Leads word plan stage made progress → Leads word plan other made progress
+  leads-at : (stage other : Stage) (made : StepMade) (progress : Progress) → other ≡ stage → Leads word plan stage made progress → Leads word plan other made progress
   leads-at stage other made progress same leads = subst (λ (t : Stage). Leads word plan t made progress) (sym same) leads
 
   -- from the alarm on
-  told-alarmed : (front : List Made) (last : Made) (stage : Stage) (answer : Answer) → LeadsOn word plan (stages.Alarmed moment) front stage → Leads word plan stage last (Answers word answer) →
+  told-alarmed : (front : List StepMade) (last : StepMade) (stage : Stage) (answer : Answer) → LeadsOn word plan (stages.Alarmed moment) front stage → Leads word plan stage last (Answers word answer) →
       All IsFit (front ++ last ∷ []) → IsTold (open_step waiting true) (end_step waiting) (front ++ last ∷ []) answer ⊎ IsGivenUp waiting moment (front ++ last ∷ []) answer
   told-alarmed [] last stage answer led answered fit =
       let here = leads-at stage (stages.Alarmed moment) last (Answers word answer) led answered in
       let told = until-answers word moment last.1 answer here.comes in
-      inl (inl (last.1, told.0, ap (λ (x : Made). x ∷ []) (opened last (Answers word answer) here), told.1))
+      inl (inl (last.1, told.0, ap (λ (x : StepMade). x ∷ []) (opened last (Answers word answer) here), told.1))
   told-alarmed (o ∷ []) last stage answer led answered fit =
       let first = opened o (Goes led.0) led.1 in
       let waits = until-goes word moment o.1 led.0 led.1.comes in
@@ -292,7 +292,7 @@ module _ (word : Word) (waiting : Waiting) (ticks moment : ℕ) where
           ⊎ ((last ≡ (steps.Clock (clock_ops.AlarmEnd moment), last.1)) × (Answers word answer ≡ Goes (stages.Quits place))) →
           IsTold (open_step waiting true) (end_step waiting) (o ∷ last ∷ []) answer ⊎ IsGivenUp waiting moment (o ∷ last ∷ []) answer
       by place waits first (inl ends) =
-          inl (inr (o.1, last.1, place, waits, ap (λ (x : Made). x ∷ last ∷ []) first ∙ ap (λ (x : Made). (open_step waiting true, o.1) ∷ x ∷ []) ends.0, answer-same last.1 answer (sym ends.1)))
+          inl (inr (o.1, last.1, place, waits, ap (λ (x : StepMade). x ∷ last ∷ []) first ∙ ap (λ (x : StepMade). (open_step waiting true, o.1) ∷ x ∷ []) ends.0, answer-same last.1 answer (sym ends.1)))
       by place waits first (inr due) = absurd (let never = due.1 in cc)
   told-alarmed (o ∷ c ∷ more) last stage answer led answered fit =
       let first = opened o (Goes led.0) led.1 in
@@ -301,7 +301,7 @@ module _ (word : Word) (waiting : Waiting) (ticks moment : ℕ) where
       let here = leads-at led.0 (stages.WaitsUntil waits.0 moment) c (Goes then.0) waits.2 then.1 in
       by more waits.0 waits.1 first then.0 (ends-or-due waits.0 c (Goes then.0) here (All-head IsFit c (more ++ last ∷ []) (All-tail IsFit o (c ∷ (more ++ last ∷ [])) fit))) then.2
     where
-      by : (more : List Made) (place : ℕ) → waits_at o.1 ≡ Some place → o ≡ (open_step waiting true, o.1) → (end : Stage) →
+      by : (more : List StepMade) (place : ℕ) → waits_at o.1 ≡ Some place → o ≡ (open_step waiting true, o.1) → (end : Stage) →
           ((c ≡ (end_step waiting place, c.1)) × (Goes end ≡ Answers word (answer_of c.1)))
           ⊎ ((c ≡ (steps.Clock (clock_ops.AlarmEnd moment), c.1)) × (Goes end ≡ Goes (stages.Quits place))) → LeadsOn word plan end more stage →
           IsTold (open_step waiting true) (end_step waiting) (o ∷ c ∷ (more ++ last ∷ [])) answer ⊎ IsGivenUp waiting moment (o ∷ c ∷ (more ++ last ∷ [])) answer
@@ -315,8 +315,8 @@ module _ (word : Word) (waiting : Waiting) (ticks moment : ℕ) where
             last.1,
             place,
             waits,
-            ap (λ (x : Made). x ∷ c ∷ last ∷ []) first ∙ ap (λ (x : Made). (open_step waiting true, o.1) ∷ x ∷ last ∷ []) due.0
-                ∙ ap (λ (x : Made). (open_step waiting true, o.1) ∷ (steps.Clock (clock_ops.AlarmEnd moment), c.1) ∷ x ∷ []) (quits place last (Answers word answer) here),
+            ap (λ (x : StepMade). x ∷ c ∷ last ∷ []) first ∙ ap (λ (x : StepMade). (open_step waiting true, o.1) ∷ x ∷ last ∷ []) due.0
+                ∙ ap (λ (x : StepMade). (open_step waiting true, o.1) ∷ (steps.Clock (clock_ops.AlarmEnd moment), c.1) ∷ x ∷ []) (quits place last (Answers word answer) here),
             answer-same last.1 answer here.comes,
           )
       by (d ∷ others) place waits first end (inr due) rest =
@@ -324,7 +324,7 @@ module _ (word : Word) (waiting : Waiting) (ticks moment : ℕ) where
           let here = leads-at end (stages.Quits place) d (Goes rest.0) at rest.1 in
           let never = here.comes in cc)
 
-told-within : (word : Word) (waiting : Waiting) (ticks : ℕ) (front : List Made) (last : Made) (stage : Stage) (play : List Made) (answer : Answer) → play ≡ front ++ last ∷ [] →
+told-within : (word : Word) (waiting : Waiting) (ticks : ℕ) (front : List StepMade) (last : StepMade) (stage : Stage) (play : List StepMade) (answer : Answer) → play ≡ front ++ last ∷ [] →
     LeadsOn word (Wait waiting (Ticks ticks)) stages.Start front stage → Leads word (Wait waiting (Ticks ticks)) stage last (Answers word answer) → All IsFit (front ++ last ∷ []) →
     IsToldWithin waiting ticks play answer
 told-within word waiting ticks [] last stage play answer whole led answered fit =
@@ -340,7 +340,7 @@ told-within word waiting ticks (m ∷ more) last stage play answer whole led ans
       at.0,
       at.1,
       more ++ last ∷ [],
-      whole ∙ ap (λ (x : Made). x ∷ (more ++ last ∷ [])) same ∙ ap (λ (r : StepReply). (steps.Clock (clock_ops.Alarm ticks), r) ∷ (more ++ last ∷ [])) at.2,
+      whole ∙ ap (λ (x : StepMade). x ∷ (more ++ last ∷ [])) same ∙ ap (λ (r : StepReply). (steps.Clock (clock_ops.Alarm ticks), r) ∷ (more ++ last ∷ [])) at.2,
       told-alarmed word waiting ticks at.0 more last stage answer rest answered (All-tail IsFit m (more ++ last ∷ []) fit),
     )
 
@@ -363,7 +363,7 @@ asking-waits : (word : Word) (stage : Stage) (reply : StepReply) (progress : Pro
 asking-waits word stage (step_replies.Chan chan chan_replies.Got place) progress comes other = absurd (other (sym comes))
 asking-waits word stage reply progress comes other = comes
 
-as-wait : (word : Word) (chan : ℕ) (using_ : Using) (timeout : Timeout) (stage : Stage) (made : Made) (progress : Progress) → is_with_channel stage ≡ false → (progress ≡ Goes stages.Holds → ⊥) →
+as-wait : (word : Word) (chan : ℕ) (using_ : Using) (timeout : Timeout) (stage : Stage) (made : StepMade) (progress : Progress) → is_with_channel stage ≡ false → (progress ≡ Goes stages.Holds → ⊥) →
     Leads word (Channel chan using_ timeout) stage made progress → Leads word (Wait (asks_for chan using_) timeout) stage made progress
 as-wait word chan using_ timeout stage made progress asks other leads = record {
   index = leads.index;
@@ -372,12 +372,12 @@ as-wait word chan using_ timeout stage made progress asks other leads = record {
 }
 
 -- before a stage without its channel it hadn't that either
-asks-first : (word : Word) (form : Plan) (stage : Stage) (play : List Made) (end : Stage) → LeadsOn word form stage play end → is_with_channel end ≡ false → is_with_channel stage ≡ false
+asks-first : (word : Word) (form : Plan) (stage : Stage) (play : List StepMade) (end : Stage) → LeadsOn word form stage play end → is_with_channel end ≡ false → is_with_channel stage ≡ false
 asks-first word form stage [] end led asks = ap is_with_channel led ∙ asks
 asks-first word form stage (m ∷ more) end led asks =
     plan-stays word form stage led.1.index m led.0 led.1.ahead led.1.comes (asks-first word form led.0 more end led.2 asks)
 
-waits-on : (word : Word) (chan : ℕ) (using_ : Using) (timeout : Timeout) (stage : Stage) (play : List Made) (end : Stage) → LeadsOn word (Channel chan using_ timeout) stage play end →
+waits-on : (word : Word) (chan : ℕ) (using_ : Using) (timeout : Timeout) (stage : Stage) (play : List StepMade) (end : Stage) → LeadsOn word (Channel chan using_ timeout) stage play end →
     is_with_channel end ≡ false → LeadsOn word (Wait (asks_for chan using_) timeout) stage play end
 waits-on word chan using_ timeout stage [] end led asks = led
 waits-on word chan using_ timeout stage (m ∷ more) end led asks =
@@ -388,7 +388,7 @@ waits-on word chan using_ timeout stage (m ∷ more) end led asks =
       waits-on word chan using_ timeout led.0 more end led.2 asks,
     )
 
-asked : (word : Word) (chan : ℕ) (using_ : Using) (timeout : Timeout) (play : List Made) (answer : Answer) → IsDone word (Channel chan using_ timeout) play answer →
+asked : (word : Word) (chan : ℕ) (using_ : Using) (timeout : Timeout) (play : List StepMade) (answer : Answer) → IsDone word (Channel chan using_ timeout) play answer →
     IsDone word (Wait (asks_for chan using_) timeout) play answer
 asked word chan using_ timeout play answer done = record {
   front = done.front;
@@ -402,13 +402,13 @@ asked word chan using_ timeout play answer done = record {
 
 -- By the form of the call.
 
-served : (word : Word) (waiting : Waiting) (timeout : Timeout) (play : List Made) (answer : Answer) → IsDone word (Wait waiting timeout) play answer → All IsFit play → IsServed waiting timeout play answer
+served : (word : Word) (waiting : Waiting) (timeout : Timeout) (play : List StepMade) (answer : Answer) → IsDone word (Wait waiting timeout) play answer → All IsFit play → IsServed waiting timeout play answer
 served word waiting No play answer done fit = told-no word waiting play answer done fit
 served word waiting Forever play answer done fit = told-forever word waiting play answer done fit
 served word waiting (Ticks ticks) play answer done fit =
     told-within word waiting ticks done.front done.last done.stage play answer done.whole done.led done.answered (subst (All IsFit) done.whole fit)
 
-pub made-so : (word : Word) (plan : Plan) (play : List Made) (answer : Answer) → IsDone word plan play answer → All IsFit play → IsMadeBy plan play answer
+pub made-so : (word : Word) (plan : Plan) (play : List StepMade) (answer : Answer) → IsDone word plan play answer → All IsFit play → IsMadeBy plan play answer
 made-so word (One step) play answer done fit = told-one word step done.front done.last done.stage play answer done.whole done.led done.answered
 made-so word (Pair opening closing) play answer done fit = told-pair word opening closing (play, answer, done) fit
 made-so word (Twice first second) play answer done fit = told-both word first second done.front done.last done.stage play answer done.whole done.led done.answered
@@ -422,25 +422,25 @@ made-so word (Channel chan using_ timeout) play answer done fit = served word (a
 comes-one : (first : Step) (index : ℕ) (step : Step) → slice_get (first ∷ []) index ≡ Some step → step ≡ first
 comes-one first index step is = sym (slice_get-one first step index is)
 
-next-one : (word : Word) (first : Step) (play : List Made) (stage : Stage) (index : ℕ) (step : Step) → LeadsOn word (One first) stages.Start play stage →
+next-one : (word : Word) (first : Step) (play : List StepMade) (stage : Stage) (index : ℕ) (step : Step) → LeadsOn word (One first) stages.Start play stage →
     slice_get (plan_attempts (One first) stage) index ≡ Some step → (play ≡ []) × (step ≡ first)
 next-one word first [] stage index step led ahead = (refl, comes-one first index step (ap (λ (t : Stage). slice_get (plan_attempts (One first) t) index) led ∙ ahead))
 next-one word first (m ∷ more) stage index step led ahead = absurd (let goes = led.1.comes in cc)
 
-next-both : (word : Word) (first second : Step) (play : List Made) (stage : Stage) (index : ℕ) (step : Step) → LeadsOn word (Twice first second) stages.Start play stage →
+next-both : (word : Word) (first second : Step) (play : List StepMade) (stage : Stage) (index : ℕ) (step : Step) → LeadsOn word (Twice first second) stages.Start play stage →
     slice_get (plan_attempts (Twice first second) stage) index ≡ Some step → MayCome (Twice first second) play step
 next-both word first second [] stage index step led ahead = inl (refl, comes-one first index step (ap (λ (t : Stage). slice_get (plan_attempts (Twice first second) t) index) led ∙ ahead))
 next-both word first second (m ∷ []) stage index step led ahead =
     let half : stages.Halfway ≡ stage = (let goes = led.1.comes in let end = led.2 in cc) in
     let earlier : m ≡ (first, m.1) = made-one first led.1.index m led.1.ahead in
-    inr (m.1, ap (λ (x : Made). x ∷ []) earlier, comes-one second index step (ap (λ (t : Stage). slice_get (plan_attempts (Twice first second) t) index) half ∙ ahead))
+    inr (m.1, ap (λ (x : StepMade). x ∷ []) earlier, comes-one second index step (ap (λ (t : Stage). slice_get (plan_attempts (Twice first second) t) index) half ∙ ahead))
 next-both word first second (m ∷ n ∷ more) stage index step led ahead =
     absurd (let half : stages.Halfway ≡ led.0 = (let goes = led.1.comes in cc) in
     let comes = ap (λ (t : Stage). plan_progress word (Twice first second) t n.0 n.1) half ∙ led.2.1.comes in cc)
 
 module _ (word : Word) (plan : Plan) (start : Stage) (opening : Step) (closing : ℕ → Step) (waiting_at : ℕ → Stage) (opens_so : plan_attempts plan start ≡ opening ∷ [])
     (begins : Begins word plan start opening closing waiting_at opens_so) (ends : Ends word plan start opening closing waiting_at opens_so) where
-  next-wait : (play : List Made) (stage : Stage) (index : ℕ) (step : Step) → LeadsOn word plan start play stage → slice_get (plan_attempts plan stage) index ≡ Some step → All IsFit play →
+  next-wait : (play : List StepMade) (stage : Stage) (index : ℕ) (step : Step) → LeadsOn word plan start play stage → slice_get (plan_attempts plan stage) index ≡ Some step → All IsFit play →
       MayComeIn opening closing play step
   unfolding Begins
   next-wait [] stage index step led ahead fit =
@@ -453,7 +453,7 @@ module _ (word : Word) (plan : Plan) (start : Stage) (opening : Step) (closing :
         m.1,
         waits.0,
         waits.1,
-        ap (λ (x : Made). x ∷ []) first,
+        ap (λ (x : StepMade). x ∷ []) first,
         comes-one (closing waits.0) index step (ap (λ (l : List Step). slice_get l index) (sym (ends.attempts waits.0)) ∙ ap (λ (t : Stage). slice_get (plan_attempts plan t) index) at ∙ ahead),
       )
   next-wait (m ∷ n ∷ more) stage index step led ahead fit =
@@ -471,7 +471,7 @@ module _ (word : Word) (waiting : Waiting) (ticks moment : ℕ) where
   abbrev timed : Plan
   timed = Wait waiting (Ticks ticks)
 
-  next-alarmed : (play : List Made) (stage : Stage) (index : ℕ) (step : Step) → LeadsOn word timed (stages.Alarmed moment) play stage → slice_get (plan_attempts timed stage) index ≡ Some step →
+  next-alarmed : (play : List StepMade) (stage : Stage) (index : ℕ) (step : Step) → LeadsOn word timed (stages.Alarmed moment) play stage → slice_get (plan_attempts timed stage) index ≡ Some step →
       All IsFit play → MayComeIn (open_step waiting true) (end_step waiting) play step ⊎ MayQuit waiting moment play step
   next-alarmed [] stage index step led ahead fit =
       inl (inl (refl, comes-one (open_step waiting true) index step (ap (λ (t : Stage). slice_get (plan_attempts timed t) index) led ∙ ahead)))
@@ -483,8 +483,8 @@ module _ (word : Word) (waiting : Waiting) (ticks moment : ℕ) where
       by : (place : ℕ) → waits_at o.1 ≡ Some place → o ≡ (open_step waiting true, o.1) → (index : ℕ) →
           slice_get (end_step waiting place ∷ steps.Clock (clock_ops.AlarmEnd moment) ∷ []) index ≡ Some step →
           MayComeIn (open_step waiting true) (end_step waiting) (o ∷ []) step ⊎ MayQuit waiting moment (o ∷ []) step
-      by place waits first zero at = inl (inr (o.1, place, waits, ap (λ (x : Made). x ∷ []) first, sym (same_Some (end_step waiting place) step at)))
-      by place waits first (suc index) at = inr (o.1, place, waits, inl (ap (λ (x : Made). x ∷ []) first, comes-one (steps.Clock (clock_ops.AlarmEnd moment)) index step at))
+      by place waits first zero at = inl (inr (o.1, place, waits, ap (λ (x : StepMade). x ∷ []) first, sym (same_Some (end_step waiting place) step at)))
+      by place waits first (suc index) at = inr (o.1, place, waits, inl (ap (λ (x : StepMade). x ∷ []) first, comes-one (steps.Clock (clock_ops.AlarmEnd moment)) index step at))
   next-alarmed (o ∷ c ∷ more) stage index step led ahead fit =
       let first = opened word waiting ticks moment o (Goes led.0) led.1 in
       let waits = until-goes word moment o.1 led.0 led.1.comes in
@@ -492,7 +492,7 @@ module _ (word : Word) (waiting : Waiting) (ticks moment : ℕ) where
       let here = leads-at word waiting ticks moment led.0 (stages.WaitsUntil waits.0 moment) c (Goes then.0) waits.2 then.1 in
       by more waits.0 waits.1 first then.0 (ends-or-due word waiting ticks moment waits.0 c (Goes then.0) here (All-head IsFit c more (All-tail IsFit o (c ∷ more) fit))) then.2
     where
-      by : (more : List Made) (place : ℕ) → waits_at o.1 ≡ Some place → o ≡ (open_step waiting true, o.1) → (end : Stage) →
+      by : (more : List StepMade) (place : ℕ) → waits_at o.1 ≡ Some place → o ≡ (open_step waiting true, o.1) → (end : Stage) →
           ((c ≡ (end_step waiting place, c.1)) × (Goes end ≡ Answers word (answer_of c.1)))
           ⊎ ((c ≡ (steps.Clock (clock_ops.AlarmEnd moment), c.1)) × (Goes end ≡ Goes (stages.Quits place))) → LeadsOn word timed end more stage →
           MayComeIn (open_step waiting true) (end_step waiting) (o ∷ c ∷ more) step ⊎ MayQuit waiting moment (o ∷ c ∷ more) step
@@ -505,7 +505,7 @@ module _ (word : Word) (waiting : Waiting) (ticks moment : ℕ) where
             waits,
             inr (
               c.1,
-              ap (λ (x : Made). x ∷ c ∷ []) first ∙ ap (λ (x : Made). (open_step waiting true, o.1) ∷ x ∷ []) due.0,
+              ap (λ (x : StepMade). x ∷ c ∷ []) first ∙ ap (λ (x : StepMade). (open_step waiting true, o.1) ∷ x ∷ []) due.0,
               comes-one (quit_step waiting place) index step (ap (λ (t : Stage). slice_get (plan_attempts timed t) index) at ∙ ahead),
             ),
           )
@@ -514,7 +514,7 @@ module _ (word : Word) (waiting : Waiting) (ticks moment : ℕ) where
           let here = leads-at word waiting ticks moment end (stages.Quits place) d (Goes rest.0) at rest.1 in
           let never = here.comes in cc)
 
-next-within : (word : Word) (waiting : Waiting) (ticks : ℕ) (play : List Made) (stage : Stage) (index : ℕ) (step : Step) → LeadsOn word (Wait waiting (Ticks ticks)) stages.Start play stage →
+next-within : (word : Word) (waiting : Waiting) (ticks : ℕ) (play : List StepMade) (stage : Stage) (index : ℕ) (step : Step) → LeadsOn word (Wait waiting (Ticks ticks)) stages.Start play stage →
     slice_get (plan_attempts (Wait waiting (Ticks ticks)) stage) index ≡ Some step → All IsFit play → MayAsk waiting (Ticks ticks) play step
 next-within word waiting ticks [] stage index step led ahead fit =
     inl (refl, comes-one (steps.Clock (clock_ops.Alarm ticks)) index step (ap (λ (t : Stage). slice_get (plan_attempts (Wait waiting (Ticks ticks)) t) index) led ∙ ahead))
@@ -527,11 +527,11 @@ next-within word waiting ticks (m ∷ more) stage index step led ahead fit =
       at.0,
       at.1,
       more,
-      ap (λ (x : Made). x ∷ more) same ∙ ap (λ (r : StepReply). (steps.Clock (clock_ops.Alarm ticks), r) ∷ more) at.2,
+      ap (λ (x : StepMade). x ∷ more) same ∙ ap (λ (r : StepReply). (steps.Clock (clock_ops.Alarm ticks), r) ∷ more) at.2,
       next-alarmed word waiting ticks at.0 more stage index step rest ahead (All-tail IsFit m more fit),
     )
 
-may-ask : (word : Word) (waiting : Waiting) (timeout : Timeout) (play : List Made) (stage : Stage) (index : ℕ) (step : Step) → LeadsOn word (Wait waiting timeout) stages.Start play stage →
+may-ask : (word : Word) (waiting : Waiting) (timeout : Timeout) (play : List StepMade) (stage : Stage) (index : ℕ) (step : Step) → LeadsOn word (Wait waiting timeout) stages.Start play stage →
     slice_get (plan_attempts (Wait waiting timeout) stage) index ≡ Some step → All IsFit play → MayAsk waiting timeout play step
 unfolding Begins
 may-ask word waiting No play stage index step led ahead fit =
@@ -554,7 +554,7 @@ poll-plan decls (calls.Poll timeout events) = refl
 poll-plan decls call = tt
 
 -- an attempt of a call that hasn't a channel may come behind the steps that led it there
-pub may-come : (word : Word) (plan : Plan) (play : List Made) (stage : Stage) (index : ℕ) (step : Step) → IsPollWord word plan → LeadsOn word plan stages.Start play stage → is_with_channel stage ≡ false →
+pub may-come : (word : Word) (plan : Plan) (play : List StepMade) (stage : Stage) (index : ℕ) (step : Step) → IsPollWord word plan → LeadsOn word plan stages.Start play stage → is_with_channel stage ≡ false →
     slice_get (plan_attempts plan stage) index ≡ Some step → All IsFit play → MayCome plan play step
 unfolding Begins
 may-come word (One first) play stage index step is_word led asks ahead fit = next-one word first play stage index step led ahead

@@ -10,7 +10,7 @@ use Rattle.zk_line.specs.declared.types.Call.{Call}
 use Rattle.zk_line.specs.declared.events.Event.{Event}
 use Rattle.zk_line.specs.Calls.{word_of}
 use Rattle.zk_line.specs.Objects.{places, is_item}
-use Rattle.zk_scenario.specs.Parts.{Parts}
+use Rattle.zk_scenario.specs.Content.{Content}
 use Rattle.zk_scenario.specs.Players.{players, calls_of}
 use Rattle.zk_model_bus.specs.declared.channel.ChanOp.TheVariants as chan_ops
 use Rattle.zk_model_bus.specs.declared.channel.ChanReply.TheVariants as chan_replies
@@ -50,13 +50,13 @@ use Rattle.zk_player_laws.specs.CallLaws.{is_in_use, IsUseOf}
 use Rattle.zk_worker.specs.Calls.{plan_of, plan_attempts, plan_progress}
 use Rattle.zk_player_laws.specs.CheckLaws.{IsLed, BeginsCall}
 use Rattle.zk_worker.specs.Checks.{is_oops, oops_in, top_check}
-use Rattle.zk_worker.specs.Follows.{Made, IsPlayed}
-use Rattle.zk_worker.specs.Places.{At}
+use Rattle.zk_worker.specs.Follows.{StepMade, IsPlayed}
+use Rattle.zk_worker.specs.Places.{PlayerPlace}
 use Rattle.zk_worker.specs.Polls.{poll_answer, is_answered, poll_goes, poll_progress, event_of, marked, mark_of, alarm_after, fresh}
 use Rattle.zk_worker.specs.Publishes.{rest_of, use_step, visit_step, channel_attempts, holds_progress, visit_progress, asking_progress, channel_progress}
 use Rattle.zk_worker.specs.Ranges.{is_start}
 use Rattle.zk_player_laws.specs.VisitLaws.{used_chan, is_publish, is_read}
-use Rattle.zk_worker.specs.Waits.{opening_progress, until, wait_progress}
+use Rattle.zk_worker.specs.Waits.{opening_progress, with_alarm, wait_progress}
 use Rattle.zk_worker.specs.Protocol.{IsAhead, after, checked, moved, call_attempts, role_attempts, frames_attempts, call_progress, worker_progress, run_progress, role_progress, is_over, settled, entered, first_frame, frames_progress, frames_after, answers_after, spot_of, starting, start_at, role_at}
 use Rattle.zk_worker.proofs.CheckedSteps.{IsCheck, IsOwn, turn, check-of-top, check-starts}
 use Rattle.zk_worker.proofs.Following.{played-more}
@@ -77,7 +77,7 @@ opening-call word (step_replies.Chan object chan_replies.Wait place) = tt
 opening-call word (step_replies.Obs object obs_replies.Wait place) = tt
 opening-call word reply = refl
 
-until-call : (word : Word) (moment : ℕ) (progress : Progress) → OfCall word progress → OfCall word (until moment progress)
+until-call : (word : Word) (moment : ℕ) (progress : Progress) → OfCall word progress → OfCall word (with_alarm moment progress)
 until-call word moment (Goes (Waits place)) is = tt
 until-call word moment (Goes stage) is = tt
 until-call word moment (Answers answered answer) is = is
@@ -136,20 +136,20 @@ plan-call word (Channel chan using timeout) stage made reply = channel-call word
 -- The steps of a call.
 
 -- at this stage of a call the step is one of its next attempts, and its reply leads to this
-pub record Leads (word : Word) (plan : Plan) (stage : Stage) (made : Made) (progress : Progress) : Type 0 where
+pub record Leads (word : Word) (plan : Plan) (stage : Stage) (made : StepMade) (progress : Progress) : Type 0 where
   pub index : ℕ
   pub ahead : slice_get (plan_attempts plan stage) index ≡ Some made.0
   pub comes : plan_progress word plan stage made.0 made.1 ≡ progress
 
 -- these steps lead it from one stage to another
-abbrev pub LeadsOn : Word → Plan → Stage → List Made → Stage → Type 0
+abbrev pub LeadsOn : Word → Plan → Stage → List StepMade → Stage → Type 0
 LeadsOn word plan stage [] end = stage ≡ end
 LeadsOn word plan stage (made ∷ more) end = (next : Stage) × Leads word plan stage made (Goes next) × LeadsOn word plan next more end
 
 -- these are all its steps, and it has its answer
-pub record IsDone (word : Word) (plan : Plan) (play : List Made) (answer : Answer) : Type 0 where
-  pub front : List Made
-  pub last : Made
+pub record IsDone (word : Word) (plan : Plan) (play : List StepMade) (answer : Answer) : Type 0 where
+  pub front : List StepMade
+  pub last : StepMade
   pub stage : Stage
   pub whole : play ≡ front ++ last ∷ []
   pub led : LeadsOn word plan Start front stage
@@ -157,15 +157,15 @@ pub record IsDone (word : Word) (plan : Plan) (play : List Made) (answer : Answe
   pub answered : Leads word plan stage last (Answers word answer)
 
 -- an answered call that hadn't a channel
-pub record IsPlayOf (s : Parts) (number : ℕ) (made : List Made) (a : Answered) : Type 0 where
+pub record IsPlayOf (s : Content) (number : ℕ) (made : List StepMade) (a : Answered) : Type 0 where
   pub owner : ℕ
   pub next : ℕ
   pub call : Call
   pub below : List Frame
   pub is_word : a.word ≡ word_of call
-  pub before : List Made
-  pub play : List Made
-  pub rest : List Made
+  pub before : List StepMade
+  pub play : List StepMade
+  pub rest : List StepMade
   pub whole : made ≡ before ++ (play ++ rest)
   pub last : a.step + 1 ≡ length before + length play
   pub begins : BeginsCall s number before owner next call below
@@ -174,15 +174,15 @@ pub record IsPlayOf (s : Parts) (number : ℕ) (made : List Made) (a : Answered)
 -- What is open.
 
 -- the steps since the player stood at the beginning of a call led it to its stage
-pub record PlayTo (s : Parts) (number : ℕ) (made : List Made) (owner next : ℕ) (below : List Frame) (call : Call) (stage : Stage) : Type 0 where
-  pub before : List Made
-  pub play : List Made
+pub record PlayTo (s : Content) (number : ℕ) (made : List StepMade) (owner next : ℕ) (below : List Frame) (call : Call) (stage : Stage) : Type 0 where
+  pub before : List StepMade
+  pub play : List StepMade
   pub whole : made ≡ before ++ play
   pub begins : BeginsCall s number before owner next call below
   pub led : LeadsOn (word_of call) (plan_of s.decls call) Start play stage
 
 -- so it is of an open script at a call that hasn't a channel
-abbrev pub PlaysOn : Parts → ℕ → List Made → List Frame → Role → ℕ → Stage → Type 0
+abbrev pub PlaysOn : Content → ℕ → List StepMade → List Frame → Role → ℕ → Stage → Type 0
 PlaysOn s number made below (Worker queue) next stage = Unit {0}
 PlaysOn s number made below (Script owner) next stage =
     (call : Call) → slice_get (calls_of s.scripts owner) next ≡ Some call → is_with_channel stage ≡ false → PlayTo s number made owner next below call stage
@@ -197,27 +197,27 @@ AreAway [] = Unit {0}
 AreAway (frame ∷ below) = IsAway frame.role frame.stage × AreAway below
 
 -- and behind the innermost nothing that is open is at such a call
-abbrev pub AreOpen : Parts → ℕ → List Made → List Frame → Type 0
+abbrev pub AreOpen : Content → ℕ → List StepMade → List Frame → Type 0
 AreOpen s number made [] = Unit {0}
 AreOpen s number made (frame ∷ below) = PlaysOn s number made below frame.role frame.next frame.stage × AreAway below
 
 -- so it is too where the innermost has made no step of its call
-abbrev AreFresh : Parts → List Frame → Type 0
+abbrev AreFresh : Content → List Frame → Type 0
 AreFresh s [] = Unit {0}
 AreFresh s (frame ∷ below) = (is_start frame.stage ≡ true ⊎ IsAway frame.role frame.stage) × AreAway below
 
-none-fresh : (s : Parts) (frames : List Frame) → AreAway frames → AreFresh s frames
+none-fresh : (s : Content) (frames : List Frame) → AreAway frames → AreFresh s frames
 none-fresh s [] none = tt
 none-fresh s (frame ∷ below) none = (inr none.0, none.1)
 
-settled-fresh : (s : Parts) (frames : List Frame) → AreFresh s frames → AreFresh s (settled s frames)
+settled-fresh : (s : Content) (frames : List Frame) → AreFresh s frames → AreFresh s (settled s frames)
 settled-fresh s [] are = tt
 settled-fresh s (frame ∷ below) are = by (is_over s frame.role frame.next) (settled-fresh s below (none-fresh s below are.1)) where
   by : (b : Bool) → AreFresh s (settled s below) → AreFresh s (cond b (settled s below) (frame ∷ below))
   by true rest = rest
   by false rest = are
 
-fresh-open : (s : Parts) (number : ℕ) (made : List Made) (now : At) (frames : List Frame) → IsLed s number made now → now.frames ≡ frames → AreFresh s frames → AreOpen s number made frames
+fresh-open : (s : Content) (number : ℕ) (made : List StepMade) (now : PlayerPlace) (frames : List Frame) → IsLed s number made now → now.frames ≡ frames → AreFresh s frames → AreOpen s number made frames
 fresh-open s number made now [] led same fresh = tt
 fresh-open s number made now (frame ∷ below) led same fresh = (by frame.role frame.stage fresh.0 refl refl, fresh.1) where
   stood : (owner : ℕ) (stage : Stage) → frame.role ≡ Script owner → frame.stage ≡ stage → is_start stage ≡ true → now.frames ≡ record { role = Script owner; next = frame.next; stage = Start } ∷ below
@@ -240,7 +240,7 @@ fresh-open s number made now (frame ∷ below) led same fresh = (by frame.role f
   }
   by (Script owner) stage (inr away) role at = λ call there asks. absurd (cc)
 
-led-on : (word : Word) (plan : Plan) (stage : Stage) (play : List Made) (middle : Stage) (made : Made) (end : Stage) → LeadsOn word plan stage play middle → Leads word plan middle made (Goes end) →
+led-on : (word : Word) (plan : Plan) (stage : Stage) (play : List StepMade) (middle : Stage) (made : StepMade) (end : Stage) → LeadsOn word plan stage play middle → Leads word plan middle made (Goes end) →
     LeadsOn word plan stage (play ++ made ∷ []) end
 led-on word plan stage [] middle made end led last = (end, subst (λ (s : Stage). Leads word plan s made (Goes end)) (sym led) last, refl)
 led-on word plan stage (x ∷ play) middle made end led last = (led.0, led.1, led-on word plan led.0 play middle made end led.2 last)
@@ -248,7 +248,7 @@ led-on word plan stage (x ∷ play) middle made end led last = (led.0, led.1, le
 -- A step.
 
 -- a step of a script is one of its call
-call-leads : (s : Parts) (owner next : ℕ) (stage : Stage) (made : Made) (index : ℕ) (progress : Progress) (call : Call) → slice_get (calls_of s.scripts owner) next ≡ Some call →
+call-leads : (s : Content) (owner next : ℕ) (stage : Stage) (made : StepMade) (index : ℕ) (progress : Progress) (call : Call) → slice_get (calls_of s.scripts owner) next ≡ Some call →
     slice_get (role_attempts s (Script owner) next stage) index ≡ Some made.0 → role_progress s (Script owner) next stage made.0 made.1 ≡ progress →
     Leads (word_of call) (plan_of s.decls call) stage made progress
 call-leads s owner next stage made index progress call there ahead comes = record {
@@ -258,7 +258,7 @@ call-leads s owner next stage made index progress call there ahead comes = recor
 }
 
 -- what a script's step does, is what it does to its call
-pub script-call : (s : Parts) (stage : Stage) (made : Made) (index : ℕ) (call : Option Call) → slice_get (call_attempts s.decls call stage) index ≡ Some made.0 →
+pub script-call : (s : Content) (stage : Stage) (made : StepMade) (index : ℕ) (call : Option Call) → slice_get (call_attempts s.decls call stage) index ≡ Some made.0 →
     (c : Call) × (call ≡ Some c) × OfCall (word_of c) (call_progress s.decls call stage made.0 made.1)
 script-call s stage made index None ahead = absurd (cc)
 script-call s stage made index (Some call) ahead = (call, refl, plan-call (word_of call) (plan_of s.decls call) stage made.0 made.1)
@@ -320,7 +320,7 @@ channel-stays word (stages.Visits left full) reply end comes asks = absurd (let 
 channel-stays word (stages.Reads message) reply end comes asks = absurd (cc)
 channel-stays word stage reply end comes asks = refl
 
-pub plan-stays : (word : Word) (plan : Plan) (stage : Stage) (index : ℕ) (made : Made) (end : Stage) → slice_get (plan_attempts plan stage) index ≡ Some made.0 →
+pub plan-stays : (word : Word) (plan : Plan) (stage : Stage) (index : ℕ) (made : StepMade) (end : Stage) → slice_get (plan_attempts plan stage) index ≡ Some made.0 →
     plan_progress word plan stage made.0 made.1 ≡ Goes end → is_with_channel end ≡ false → is_with_channel stage ≡ false
 plan-stays word (Channel chan using timeout) stage index made end ahead comes asks = channel-stays word stage made.1 end comes asks
 plan-stays word (One first) stage index made end ahead comes asks = plain-stage (One first) stage index made.0 refl ahead
@@ -342,7 +342,7 @@ channel-enters word stages.Holds reply owner end comes = absurd (subst EntersNon
 channel-enters word (stages.Reads message) reply owner end comes = absurd (cc)
 channel-enters word stage reply owner end comes = absurd (subst EntersNone comes (channel-plain word stage reply (λ left full is. cc)))
 
-plan-enters : (word : Word) (plan : Plan) (stage : Stage) (made : Made) (owner : ℕ) (end : Stage) → plan_progress word plan stage made.0 made.1 ≡ Enters owner end → is_with_channel end ≡ true
+plan-enters : (word : Word) (plan : Plan) (stage : Stage) (made : StepMade) (owner : ℕ) (end : Stage) → plan_progress word plan stage made.0 made.1 ≡ Enters owner end → is_with_channel end ≡ true
 plan-enters word (Channel chan using timeout) stage made owner end comes = channel-enters word stage made.1 owner end comes
 plan-enters word (One first) stage made owner end comes = absurd (subst EntersNone comes (plan-plain word (One first) stage made.0 made.1 refl))
 plan-enters word (Pair opening closing) stage made owner end comes = absurd (subst EntersNone comes (plan-plain word (Pair opening closing) stage made.0 made.1 refl))
@@ -350,7 +350,7 @@ plan-enters word (Twice first second) stage made owner end comes = absurd (subst
 plan-enters word (Wait waiting timeout) stage made owner end comes = absurd (subst EntersNone comes (plan-plain word (Wait waiting timeout) stage made.0 made.1 refl))
 plan-enters word (Poll timeout events) stage made owner end comes = absurd (subst EntersNone comes (plan-plain word (Poll timeout events) stage made.0 made.1 refl))
 
-enters-away : (s : Parts) (m : Made) (role : Role) (next : ℕ) (stage : Stage) (index owner : ℕ) (end : Stage) → slice_get (role_attempts s role next stage) index ≡ Some m.0 →
+enters-away : (s : Content) (m : StepMade) (role : Role) (next : ℕ) (stage : Stage) (index owner : ℕ) (end : Stage) → slice_get (role_attempts s role next stage) index ≡ Some m.0 →
     role_progress s role next stage m.0 m.1 ≡ Enters owner end → IsAway role end
 enters-away s m (Worker queue) next stage index owner end ahead comes = tt
 enters-away s m (Script at) next stage index owner end ahead comes = by (slice_get (calls_of s.scripts at) next) refl ahead where
@@ -392,11 +392,11 @@ call-uses decls call stage index step with ahead = by (plan_of decls call) refl 
   by (Wait waiting timeout) same = absurd (let plain = plain-stage (plan_of decls call) stage index step (ap is_channel same) ahead in cc)
   by (Poll timeout events) same = absurd (let plain = plain-stage (plan_of decls call) stage index step (ap is_channel same) ahead in cc)
 
-pub Played : Parts → ℕ → List Made → Answered → Type 0
+pub Played : Content → ℕ → List StepMade → Answered → Type 0
 Played s number made a = is_oops a.answer ≡ false → IsPlayOf s number made a ⊎ IsUseOf made a
 
-module _ (s : Parts) (number : ℕ) (made : List Made) (m : Made) where
-  abbrev longer : List Made
+module _ (s : Content) (number : ℕ) (made : List StepMade) (m : StepMade) where
+  abbrev longer : List StepMade
   longer = made ++ m ∷ []
 
   role-goes : (below : List Frame) (role : Role) (next : ℕ) (stage end : Stage) (index : ℕ) → PlaysOn s number made below role next stage → slice_get (role_attempts s role next stage) index ≡ Some m.0 →
@@ -408,7 +408,7 @@ module _ (s : Parts) (number : ℕ) (made : List Made) (m : Made) where
       record {
         before = old.before;
         play = old.play ++ m ∷ [];
-        whole = ap (λ (xs : List Made). xs ++ m ∷ []) old.whole ∙ append_assoc old.before old.play (m ∷ []);
+        whole = ap (λ (xs : List StepMade). xs ++ m ∷ []) old.whole ∙ append_assoc old.before old.play (m ∷ []);
         begins = old.begins;
         led = led-on (word_of call) (plan_of s.decls call) Start old.play stage m end old.led leads;
       }
@@ -434,7 +434,7 @@ module _ (s : Parts) (number : ℕ) (made : List Made) (m : Made) where
       })
       by call there of leads false asks =
           let old : PlayTo s number made owner next below call stage = plays call there asks in
-          let one = ap (λ (xs : List Made). length xs) old.whole ∙ length-append old.before old.play in
+          let one = ap (λ (xs : List StepMade). length xs) old.whole ∙ length-append old.before old.play in
           let two = length_push old.play m in
           inl (record {
             owner = owner;
@@ -445,8 +445,8 @@ module _ (s : Parts) (number : ℕ) (made : List Made) (m : Made) where
             before = old.before;
             play = old.play ++ m ∷ [];
             rest = [];
-            whole = ap (λ (xs : List Made). xs ++ m ∷ []) old.whole ∙ append_assoc old.before old.play (m ∷ [])
-                ∙ ap (λ (xs : List Made). old.before ++ xs) (sym (append-nil (old.play ++ m ∷ [])));
+            whole = ap (λ (xs : List StepMade). xs ++ m ∷ []) old.whole ∙ append_assoc old.before old.play (m ∷ [])
+                ∙ ap (λ (xs : List StepMade). old.before ++ xs) (sym (append-nil (old.play ++ m ∷ [])));
             last = omega (arith, one, two);
             begins = old.begins;
             done = record {
@@ -461,7 +461,7 @@ module _ (s : Parts) (number : ℕ) (made : List Made) (m : Made) where
           })
 
   -- what is open after a step of the innermost script or run
-  open-step : (now : At) (frames : List Frame) (index : ℕ) → IsLed s number longer now → now.frames ≡ frames_after s frames (frames_progress s frames m.0 m.1) → AreOpen s number made frames →
+  open-step : (now : PlayerPlace) (frames : List Frame) (index : ℕ) → IsLed s number longer now → now.frames ≡ frames_after s frames (frames_progress s frames m.0 m.1) → AreOpen s number made frames →
       slice_get (frames_attempts s frames) index ≡ Some m.0 → AreOpen s number longer (frames_after s frames (frames_progress s frames m.0 m.1))
   open-step now [] index led same are ahead = absurd (cc)
   open-step now (frame ∷ below) index led same are ahead = by (role_progress s frame.role frame.next frame.stage m.0 m.1) refl same where
@@ -489,7 +489,7 @@ module _ (s : Parts) (number : ℕ) (made : List Made) (m : Made) where
     before = of.before;
     play = of.play;
     rest = of.rest ++ m ∷ [];
-    whole = ap (λ (xs : List Made). xs ++ m ∷ []) of.whole ∙ append_assoc of.before (of.play ++ of.rest) (m ∷ []) ∙ ap (λ (xs : List Made). of.before ++ xs) (append_assoc of.play of.rest (m ∷ []));
+    whole = ap (λ (xs : List StepMade). xs ++ m ∷ []) of.whole ∙ append_assoc of.before (of.play ++ of.rest) (m ∷ []) ∙ ap (λ (xs : List StepMade). of.before ++ xs) (append_assoc of.play of.rest (m ∷ []));
     last = of.last;
     begins = of.begins;
     done = of.done;
@@ -500,7 +500,7 @@ module _ (s : Parts) (number : ℕ) (made : List Made) (m : Made) where
     front = of.front;
     step = of.step;
     rest = of.rest ++ m ∷ [];
-    whole = ap (λ (xs : List Made). xs ++ m ∷ []) of.whole ∙ append_assoc of.front (of.step ∷ of.rest) (m ∷ []);
+    whole = ap (λ (xs : List StepMade). xs ++ m ∷ []) of.whole ∙ append_assoc of.front (of.step ∷ of.rest) (m ∷ []);
     last = of.last;
     in_use = of.in_use;
   }
@@ -527,26 +527,26 @@ module _ (s : Parts) (number : ℕ) (made : List Made) (m : Made) where
         (λ passed. role-answers below frame.role frame.next frame.stage index count word answer are.0 ahead comes many)
 
 -- what holds of a player with these steps
-pub record Holds (s : Parts) (number : ℕ) (made : List Made) (at : At) : Type 0 where
+pub record Holds (s : Content) (number : ℕ) (made : List StepMade) (at : PlayerPlace) : Type 0 where
   pub led : IsLed s number made at
   pub frames : AreOpen s number made at.frames
   pub many : length at.spots ≡ length made
   pub answered : All (Played s number made) at.answers
 
 -- a call that is at its checks has made no step of its own
-open-checked : (s : Parts) (number : ℕ) (made all : List Made) (passed : ℕ) (frames : List Frame) (check : Check) (now : At) → IsLed s number all now → now.frames ≡ frames →
+open-checked : (s : Content) (number : ℕ) (made all : List StepMade) (passed : ℕ) (frames : List Frame) (check : Check) (now : PlayerPlace) → IsLed s number all now → now.frames ≡ frames →
     top_check s passed frames ≡ Some check → AreOpen s number made frames → AreOpen s number all frames
 open-checked s number made all passed [] check now led same is are = tt
 open-checked s number made all passed (frame ∷ below) check now led same is are =
     fresh-open s number all now (frame ∷ below) led same (inl (ap is_start (check-starts s passed frame.role frame.next frame.stage check is)), are.1)
 
-pub holds-step : (s : Parts) (number : ℕ) (made : List Made) (m : Made) (at : At) → Holds s number made at → IsAhead s at m.0 → Holds s number (made ++ m ∷ []) (after s at m.0 m.1)
+pub holds-step : (s : Content) (number : ℕ) (made : List StepMade) (m : StepMade) (at : PlayerPlace) → Holds s number made at → IsAhead s at m.0 → Holds s number (made ++ m ∷ []) (after s at m.0 m.1)
 unfolding Played
 holds-step s number made m at holds ahead =
-    turn (λ (now : At). IsLed s number all now → Holds s number all now) s at m.0 m.1 ahead (λ is. by_check is (oops_in m.1)) by_own
+    turn (λ (now : PlayerPlace). IsLed s number all now → Holds s number all now) s at m.0 m.1 ahead (λ is. by_check is (oops_in m.1)) by_own
     (holds.led.0, holds.led.1, played-more s holds.led.0 made at m holds.led.2 ahead)
   where
-    all : List Made
+    all : List StepMade
     all = made ++ m ∷ []
 
     count : length (at.spots ++ spot_of m.0 m.1 ∷ []) ≡ length all
@@ -575,25 +575,25 @@ holds-step s number made m at holds ahead =
       answered = answers-step s number made m at.frames is.index (length at.spots) at.answers holds.frames is.ahead holds.many holds.answered;
     }
 
-pub holds-played : (s : Parts) (number : ℕ) (more made : List Made) (at end : At) → Holds s number made at → IsPlayed s at more end → Holds s number (made ++ more) end
+pub holds-played : (s : Content) (number : ℕ) (more made : List StepMade) (at end : PlayerPlace) → Holds s number made at → IsPlayed s at more end → Holds s number (made ++ more) end
 holds-played s number [] made at end holds played =
-    subst (λ (xs : List Made). Holds s number xs end) (sym (append-nil made)) (subst (λ (a : At). Holds s number made a) played holds)
+    subst (λ (xs : List StepMade). Holds s number xs end) (sym (append-nil made)) (subst (λ (a : PlayerPlace). Holds s number made a) played holds)
 holds-played s number (m ∷ more) made at end holds played =
-    subst (λ (xs : List Made). Holds s number xs end) (append_assoc made (m ∷ []) more)
+    subst (λ (xs : List StepMade). Holds s number xs end) (append_assoc made (m ∷ []) more)
     (holds-played s number more (made ++ m ∷ []) (after s at m.0 m.1) end (holds-step s number made m at holds played.0) played.1)
 
-pub holds-start : (s : Parts) (number : ℕ) (at : At) → start_at s number ≡ Some at → Holds s number [] at
+pub holds-start : (s : Content) (number : ℕ) (at : PlayerPlace) → start_at s number ≡ Some at → Holds s number [] at
 holds-start s number at is =
-    let inner : ℕ → Option At = λ object. option_map (starting s number object) (slice_get s.decls object) in
+    let inner : ℕ → Option PlayerPlace = λ object. option_map (starting s number object) (slice_get s.decls object) in
     option_and_then_some inner (slice_get (players s.decls) number) at is (λ object found made. by_decl object (slice_get s.decls object) made)
   where
     by_decl : (object : ℕ) (decl : Option Decl) → option_map (starting s number object) decl ≡ Some at → Holds s number [] at
     by_decl object None made = absurd (cc)
     by_decl object (Some decl) made =
-        let first : At = starting s number object decl in
+        let first : PlayerPlace = starting s number object decl in
         let same : first ≡ at = cc in
         let led : IsLed s number [] first = (at, is, sym same) in
-        subst (λ (a : At). Holds s number [] a) same (record {
+        subst (λ (a : PlayerPlace). Holds s number [] a) same (record {
           led = led;
           frames = fresh-open s number [] first first.frames led refl (settled-fresh s (first_frame (role_at decl object) ∷ []) (inl refl, tt));
           many = refl;
@@ -601,7 +601,7 @@ holds-start s number at is =
         })
 
 -- each answered call
-pub each_call_is_played : (s : Parts) (number : ℕ) (shown_at : At) (start : At) (made : List Made) → start_at s number ≡ Some start → IsPlayed s start made shown_at →
+pub each_call_is_played : (s : Content) (number : ℕ) (shown_at : PlayerPlace) (start : PlayerPlace) (made : List StepMade) → start_at s number ≡ Some start → IsPlayed s start made shown_at →
     All (λ (a : Answered). is_oops a.answer ≡ false → IsPlayOf s number made a ⊎ IsUseOf made a) shown_at.answers
 unfolding Played
 each_call_is_played s number at start made starts played = (holds-played s number made [] start at (holds-start s number start starts) played).answered

@@ -16,7 +16,7 @@ use Rattle.zk_model_bus.specs.declared.channel.ChanReply.TheVariants as replies
 use Rattle.zk_model_bus.specs.declared.channel.Holder.{Holder}
 use Rattle.zk_model_bus.specs.declared.channel.Manner.{Manner}
 use Rattle.zk_model_bus.specs.declared.channel.Manner.TheVariants as manners
-use Rattle.zk_model_bus.specs.Channel.{Channel, has_claimed, has_entered, holds, told_of, gain_reply, gain, handed_on, chan_reply, chan_next, chan_machine}
+use Rattle.zk_model_bus.specs.Channel.{Channel, has_claimed, holds_by_entering, holds, told_of, gain_reply, gain, handed_on, chan_reply, chan_next, chan_machine}
 use Rattle.zk_base.specs.Validators.{is_valid}
 use Rattle.zk_model_bus.specs.ChannelLaws.{ChanHistory}
 use Rattle.zk_model_bus.proofs.ChannelKept.{All-without}
@@ -50,7 +50,7 @@ given-next c who (ops.ClaimQuit p) was = All-without IsGiven (is_decision who.nu
 given-next c who (ops.Set message) was = cond-given c (record c { message = message }) (holds c who) was was
 given-next c who ops.List was = was
 given-next c who ops.Get was = was
-given-next c who ops.Free was = cond-given c (handed_on c) (has_entered c who) (handed-given c.waits.waiting c.waits.decided was) was
+given-next c who ops.Free was = cond-given c (handed_on c) (holds_by_entering c who) (handed-given c.waits.waiting c.waits.decided was) was
 given-next c who ops.Finish was = cond-given c (handed_on c) (has_claimed c who) (handed-given c.waits.waiting c.waits.decided was) was
 given-next c who (ops.Mask observer on) was = was
 

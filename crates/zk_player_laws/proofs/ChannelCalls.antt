@@ -23,9 +23,9 @@ use Rattle.zk_model_bus.specs.declared.observer.ObsReply.TheVariants as obs_repl
 use Rattle.zk_model_wait.specs.declared.clock.ClockOp.TheVariants as clock_ops
 use Rattle.zk_model_wait.specs.declared.clock.ClockReply.{ClockReply}
 use Rattle.zk_model_wait.specs.declared.clock.ClockReply.TheVariants as clock_replies
-use Rattle.zk_scenario.specs.Parts.{Parts}
+use Rattle.zk_scenario.specs.Content.{Content}
 use Rattle.zk_words.specs.declared.timeout.Timeout.{Timeout}
-use Rattle.zk_worker.specs.Follows.{Made}
+use Rattle.zk_worker.specs.Follows.{StepMade}
 use Rattle.zk_worker.specs.declared.answers.Answer.{Answer}
 use Rattle.zk_worker.specs.declared.answers.Answer.TheVariants as answers
 use Rattle.zk_worker.specs.declared.answers.Answered.{Answered}
@@ -45,7 +45,7 @@ use Rattle.zk_worker.specs.Publishes.{asks_for, use_step, visit_step, visits_ans
 use Rattle.zk_worker.specs.Replies.{chan_answer}
 use Rattle.zk_player_laws.specs.StackLaws.{ChanHistories, IsReplied, clock_may_tell}
 use Rattle.zk_worker.specs.Waits.{open_step}
-use Rattle.zk_player_laws.specs.VisitLaws.{used_chan, is_use, is_free, is_full, visit_of, HasWaited, Asks, HasGained, OwnsChan, CallsChannel, refuses, HasUsed, HasVisited, HasRead, WasRefused, is_publish, is_read, UsesOrIsRefused}
+use Rattle.zk_player_laws.specs.VisitLaws.{used_chan, is_use, is_free, is_full, visit_of, HasWaitedFor, Asks, HasGained, OwnsChan, CallsChannel, refuses, HasUsed, HasVisited, HasRead, WasRefused, is_publish, is_read, UsesOrIsRefused}
 use Rattle.zk_player_laws.proofs.ChannelAnswers.{ended-gives, quit-gives, enter-replies, offer-replies, is_call_reply, is_quit_reply, set-tells, list-tells, get-tells}
 use Rattle.zk_player_laws.proofs.ChannelSteps.{asking_op, use_op, asks-so, ends-so, quits-so, EachStep, each-step}
 use Rattle.zk_player_laws.proofs.OpenScripts.{plan_got}
@@ -59,21 +59,21 @@ is_reading Read = true
 is_reading using_ = false
 
 -- it has visited some of the observers that it was told, and has yet to visit these
-pub record IsVisiting (chan : ℕ) (using_ : Using) (done : List Made) (left : List ℕ) (full : Bool) : Type 0 where
-  pub use_ : Made
-  pub visited : List Made
+pub record IsVisiting (chan : ℕ) (using_ : Using) (done : List StepMade) (left : List ℕ) (full : Bool) : Type 0 where
+  pub use_ : StepMade
+  pub visited : List StepMade
   pub gained : HasGained chan using_ done (use_ ∷ visited)
   pub uses : use_.0 ≡ use_step chan using_
   pub told : List ℕ
   pub tells : (place : ℕ) × (use_.1 ≡ step_replies.Chan chan (replies.Observers told) place)
-  pub visits : map (λ (m : Made). m.0) visited ++ map (visit_of chan) left ≡ map (visit_of chan) told
+  pub visits : map (λ (m : StepMade). m.0) visited ++ map (visit_of chan) left ≡ map (visit_of chan) told
   pub reads_not : is_reading using_ ≡ false
   pub unfreed : list_any is_free (use_ ∷ visited) ≡ false
   pub full_is : list_any is_full visited ≡ full
 
 -- it has got this message
-pub record IsReading (chan : ℕ) (using_ : Using) (done : List Made) (message : List ℕ) : Type 0 where
-  pub use_ : Made
+pub record IsReading (chan : ℕ) (using_ : Using) (done : List StepMade) (message : List ℕ) : Type 0 where
+  pub use_ : StepMade
   pub gained : HasGained chan using_ done (use_ ∷ [])
   pub uses : use_.0 ≡ use_step chan using_
   pub tells : (place : ℕ) × (use_.1 ≡ step_replies.Chan chan (replies.Bytes message) place)
@@ -81,20 +81,20 @@ pub record IsReading (chan : ℕ) (using_ : Using) (done : List Made) (message :
   pub unfreed : list_any is_free (use_ ∷ []) ≡ false
 
 -- what it has done for it and with it at a stage
-abbrev pub CallHas : ℕ → Using → List Made → Stage → Type 0
-CallHas chan using_ done (stages.Waits place) = HasWaited chan using_ done place
-CallHas chan using_ done (stages.WaitsUntil place moment) = HasWaited chan using_ done place
-CallHas chan using_ done (stages.Quits place) = HasWaited chan using_ done place
+abbrev pub CallHas : ℕ → Using → List StepMade → Stage → Type 0
+CallHas chan using_ done (stages.Waits place) = HasWaitedFor chan using_ done place
+CallHas chan using_ done (stages.WaitsUntil place moment) = HasWaitedFor chan using_ done place
+CallHas chan using_ done (stages.Quits place) = HasWaitedFor chan using_ done place
 CallHas chan using_ done stages.Holds = HasGained chan using_ done []
 CallHas chan using_ done (stages.Visits left full) = IsVisiting chan using_ done left full
 CallHas chan using_ done (stages.Reads message) = IsReading chan using_ done message
 CallHas chan using_ done stage = Unit {0}
 
-abbrev pub CallVisits : Parts → List Made → ℕ → ℕ → Stage → Type 0
+abbrev pub CallVisits : Content → List StepMade → ℕ → ℕ → Stage → Type 0
 CallVisits s done owner next stage = (by : CallsChannel s owner next) → CallHas by.chan by.using_ done stage
 
 -- what comes of a call's progress
-abbrev pub VisitsBy : Parts → List Made → ℕ → ℕ → ℕ → Progress → Type 0
+abbrev pub VisitsBy : Content → List StepMade → ℕ → ℕ → ℕ → Progress → Type 0
 VisitsBy s done owner next number (Goes stage) = CallVisits s done owner next stage
 VisitsBy s done owner next number (Answers word answer) = UsesOrIsRefused s done (record { step = number; word = word; answer = answer })
 VisitsBy s done owner next number (Enters object stage) = CallVisits s done owner next stage
@@ -104,30 +104,30 @@ VisitsBy s done owner next number (Enters object stage) = CallVisits s done owne
 eqb-itself : (a : ℕ) → eqb a a ≡ true
 eqb-itself a = grind (arith, nat_tests)
 
-pub is-use : (chan : ℕ) (made : Made) → used_chan made.0 ≡ Some chan → is_use chan made ≡ true
+pub is-use : (chan : ℕ) (made : StepMade) → used_chan made.0 ≡ Some chan → is_use chan made ≡ true
 is-use chan made is = ap (λ (o : Option ℕ). option_map_or (λ used. eqb used chan) o false) is ∙ eqb-itself chan
 
-module _ (chan : ℕ) (using_ : Using) (done : List Made) (made : Made) where
-  gained-more : (uses more : List Made) → cond (is_use chan made) (made ∷ []) [] ≡ more → HasGained chan using_ done uses → HasGained chan using_ (done ++ made ∷ []) (uses ++ more)
+module _ (chan : ℕ) (using_ : Using) (done : List StepMade) (made : StepMade) where
+  gained-more : (uses more : List StepMade) → cond (is_use chan made) (made ∷ []) [] ≡ more → HasGained chan using_ done uses → HasGained chan using_ (done ++ made ∷ []) (uses ++ more)
   gained-more uses more is was = record {
     before = was.before;
     gained = was.gained;
     since = was.since ++ made ∷ [];
-    whole = ap (λ (l : List Made). l ++ made ∷ []) was.whole ∙ append_assoc was.before (was.gained ∷ was.since) (made ∷ []);
+    whole = ap (λ (l : List StepMade). l ++ made ∷ []) was.whole ∙ append_assoc was.before (was.gained ∷ was.since) (made ∷ []);
     asks = was.asks;
     got = was.got;
-    used = filter-append (is_use chan) was.since (made ∷ []) ∙ ap (λ (l : List Made). l ++ cond (is_use chan made) (made ∷ []) []) was.used
-        ∙ ap (λ (l : List Made). uses ++ l) is;
+    used = filter-append (is_use chan) was.since (made ∷ []) ∙ ap (λ (l : List StepMade). l ++ cond (is_use chan made) (made ∷ []) []) was.used
+        ∙ ap (λ (l : List StepMade). uses ++ l) is;
   }
 
   -- a step that uses the channel
-  gained-used : (uses : List Made) → used_chan made.0 ≡ Some chan → HasGained chan using_ done uses → HasGained chan using_ (done ++ made ∷ []) (uses ++ made ∷ [])
+  gained-used : (uses : List StepMade) → used_chan made.0 ≡ Some chan → HasGained chan using_ done uses → HasGained chan using_ (done ++ made ∷ []) (uses ++ made ∷ [])
   gained-used uses is was = gained-more uses (made ∷ []) (ap (λ (b : Bool). cond b (made ∷ []) []) (is-use chan made is)) was
 
   -- one that doesn't
-  gained-still : (uses : List Made) → is_use chan made ≡ false → HasGained chan using_ done uses → HasGained chan using_ (done ++ made ∷ []) uses
+  gained-still : (uses : List StepMade) → is_use chan made ≡ false → HasGained chan using_ done uses → HasGained chan using_ (done ++ made ∷ []) uses
   gained-still uses isnt was =
-      subst (λ (l : List Made). HasGained chan using_ (done ++ made ∷ []) l) (append-nil uses)
+      subst (λ (l : List StepMade). HasGained chan using_ (done ++ made ∷ []) l) (append-nil uses)
       (gained-more uses [] (ap (λ (b : Bool). cond b (made ∷ []) []) isnt) was)
 
   -- one by which the channel is given
@@ -135,10 +135,10 @@ module _ (chan : ℕ) (using_ : Using) (done : List Made) (made : Made) where
   gained-now place asks got = record { before = done; gained = made; since = []; whole = refl; asks = asks; got = (place, got); used = refl }
 
   -- one by which a wait begins, and one since
-  waits-now : (waits : Bool) (place : ℕ) → made ≡ (open_step (asks_for chan using_) waits, step_replies.Chan chan replies.Wait place) → HasWaited chan using_ (done ++ made ∷ []) place
-  waits-now waits place is = (waits, subst (λ (m : Made). Contains (done ++ made ∷ []) m) is (Contains-append_right done (made ∷ []) made (0, omega arith, refl)))
+  waits-now : (waits : Bool) (place : ℕ) → made ≡ (open_step (asks_for chan using_) waits, step_replies.Chan chan replies.Wait place) → HasWaitedFor chan using_ (done ++ made ∷ []) place
+  waits-now waits place is = (waits, subst (λ (m : StepMade). Contains (done ++ made ∷ []) m) is (Contains-append_right done (made ∷ []) made (0, omega arith, refl)))
 
-  waits-still : (place : ℕ) → HasWaited chan using_ done place → HasWaited chan using_ (done ++ made ∷ []) place
+  waits-still : (place : ℕ) → HasWaitedFor chan using_ done place → HasWaitedFor chan using_ (done ++ made ∷ []) place
   waits-still place was =
       (was.0, Contains-append_left done (made ∷ []) (open_step (asks_for chan using_) was.0, step_replies.Chan chan replies.Wait place) was.1)
 
@@ -172,7 +172,7 @@ module _ (chan : ℕ) (using_ : Using) (done : List Made) (made : Made) where
   has-still stage isnt was = tt
 
 -- a call owns the channel that it has
-pub has-owns : (chan : ℕ) (using_ : Using) (done : List Made) (stage : Stage) → is_with_channel stage ≡ true → CallHas chan using_ done stage → OwnsChan chan done
+pub has-owns : (chan : ℕ) (using_ : Using) (done : List StepMade) (stage : Stage) → is_with_channel stage ≡ true → CallHas chan using_ done stage → OwnsChan chan done
 has-owns chan using_ done stages.Holds is was = (using_, [], was, refl)
 has-owns chan using_ done (stages.Visits left full) is was = (using_, was.use_ ∷ was.visited, was.gained, was.unfreed)
 has-owns chan using_ done (stages.Reads message) is was = (using_, was.use_ ∷ [], was.gained, was.unfreed)
@@ -199,9 +199,9 @@ used-got chan using_ timeout stage k step c there is = let none = uses-none step
 
 -- What is answered stays answered.
 
-module _ (s : Parts) (done : List Made) (made : Made) where
-  longer : (front : List Made) (m : Made) (rest : List Made) → done ≡ front ++ m ∷ rest → done ++ made ∷ [] ≡ front ++ m ∷ (rest ++ made ∷ [])
-  longer front m rest whole = ap (λ (l : List Made). l ++ made ∷ []) whole ∙ append_assoc front (m ∷ rest) (made ∷ [])
+module _ (s : Content) (done : List StepMade) (made : StepMade) where
+  longer : (front : List StepMade) (m : StepMade) (rest : List StepMade) → done ≡ front ++ m ∷ rest → done ++ made ∷ [] ≡ front ++ m ∷ (rest ++ made ∷ [])
+  longer front m rest whole = ap (λ (l : List StepMade). l ++ made ∷ []) whole ∙ append_assoc front (m ∷ rest) (made ∷ [])
 
   abbrev used-longer : (a : Answered) → HasUsed s done a → HasUsed s (done ++ made ∷ []) a
   used-longer a u = record {
@@ -270,7 +270,7 @@ visit-word decls (calls.Read channel wait) chan u timeout is reads_not =
 visit-word decls call chan u timeout is reads_not = refl
 
 -- one more at the end of a list that is tested
-any-more : (test : Made → Bool) (list : List Made) (made : Made) (was is now : Bool) → list_any test list ≡ was → test made ≡ is → (was || is) ≡ now → list_any test (list ++ made ∷ []) ≡ now
+any-more : (test : StepMade → Bool) (list : List StepMade) (made : StepMade) (was is now : Bool) → list_any test list ≡ was → test made ≡ is → (was || is) ≡ now → list_any test (list ++ made ∷ []) ≡ now
 any-more test list made was is now was-so is-so sum =
     list_any-append test list (made ∷ []) ∙ ap (λ (b : Bool). b || (test made || false)) was-so ∙ ap (λ (b : Bool). was || (b || false)) is-so ∙ last was is sum
   where
@@ -279,9 +279,9 @@ any-more test list made was is now was-so is-so sum =
     last false true sum = sum
     last false false sum = sum
 
-module _ (s : Parts) (chans : ChanHistories) (who : Who) (done : List Made) (number : ℕ) (long : number ≡ length done) (owner next : ℕ) (here : CallsChannel s owner next) where
+module _ (s : Content) (chans : ChanHistories) (who : Who) (done : List StepMade) (number : ℕ) (long : number ≡ length done) (owner next : ℕ) (here : CallsChannel s owner next) where
   -- what is known of the call after a step
-  abbrev Has : List Made → Progress → Type 0
+  abbrev Has : List StepMade → Progress → Type 0
   Has later (Goes stage) = CallHas here.chan here.using_ later stage
   Has later (Answers word answer) = UsesOrIsRefused s later (record { step = number; word = word; answer = answer })
   Has later (Enters object stage) = CallHas here.chan here.using_ later stage
@@ -319,19 +319,19 @@ module _ (s : Parts) (chans : ChanHistories) (who : Who) (done : List Made) (num
   is-given op place asks = gained-now here.chan here.using_ done (steps.Chan here.chan op, step_replies.Chan here.chan replies.Got place) place asks refl
 
   -- it has to wait
-  has-waited : (waits : Bool) (place : ℕ) → HasWaited here.chan here.using_ (done ++ (steps.Chan here.chan (asking_op here.using_ waits), step_replies.Chan here.chan replies.Wait place) ∷ []) place
+  has-waited : (waits : Bool) (place : ℕ) → HasWaitedFor here.chan here.using_ (done ++ (steps.Chan here.chan (asking_op here.using_ waits), step_replies.Chan here.chan replies.Wait place) ∷ []) place
   has-waited waits place =
-      let m : Made = (steps.Chan here.chan (asking_op here.using_ waits), step_replies.Chan here.chan replies.Wait place) in
+      let m : StepMade = (steps.Chan here.chan (asking_op here.using_ waits), step_replies.Chan here.chan replies.Wait place) in
       waits-now here.chan here.using_ done m waits place (ap (λ (x : Step). (x, step_replies.Chan here.chan replies.Wait place)) (asks-so here.chan here.using_ waits))
 
   -- the steps by which it asks
   opens : (waits : Bool) → Asks here.chan here.using_ done (steps.Chan here.chan (asking_op here.using_ waits))
   opens waits = inl (waits, asks-so here.chan here.using_ waits)
 
-  ends : (p : ℕ) → HasWaited here.chan here.using_ done p → Asks here.chan here.using_ done (steps.Chan here.chan (ops.ClaimEnd p))
+  ends : (p : ℕ) → HasWaitedFor here.chan here.using_ done p → Asks here.chan here.using_ done (steps.Chan here.chan (ops.ClaimEnd p))
   ends p was = inr (p, was, inl (ends-so here.chan here.using_ p))
 
-  quits : (p : ℕ) → HasWaited here.chan here.using_ done p → Asks here.chan here.using_ done (steps.Chan here.chan (ops.ClaimQuit p))
+  quits : (p : ℕ) → HasWaitedFor here.chan here.using_ done p → Asks here.chan here.using_ done (steps.Chan here.chan (ops.ClaimQuit p))
   quits p was = inr (p, was, inr (quits-so here.chan here.using_ p))
 
   -- a call for the channel: it is given it, waits, or is refused
@@ -361,21 +361,21 @@ module _ (s : Parts) (chans : ChanHistories) (who : Who) (done : List Made) (num
   sets-alarm ticks r place may = absurd (cc)
 
   -- its wait ends, or is given up
-  ends-wait : (p : ℕ) (r : ChanReply) (place : ℕ) → HasWaited here.chan here.using_ done p → HasReplied s chans who here.chan (ops.ClaimEnd p) (step_replies.Chan here.chan r place) →
+  ends-wait : (p : ℕ) (r : ChanReply) (place : ℕ) → HasWaitedFor here.chan here.using_ done p → HasReplied s chans who here.chan (ops.ClaimEnd p) (step_replies.Chan here.chan r place) →
       After (stages.Waits p) (steps.Chan here.chan (ops.ClaimEnd p)) (step_replies.Chan here.chan r place)
   ends-wait p r place was told =
       let got = ended-gives told.state who p r told.gives (answers-so s chans who here.chan (ops.ClaimEnd p) r place told) in
       subst (λ (x : ChanReply). After (stages.Waits p) (steps.Chan here.chan (ops.ClaimEnd p)) (step_replies.Chan here.chan x place)) (sym got)
       (is-given (ops.ClaimEnd p) place (ends p was))
 
-  ends-until : (p moment : ℕ) (r : ChanReply) (place : ℕ) → HasWaited here.chan here.using_ done p → HasReplied s chans who here.chan (ops.ClaimEnd p) (step_replies.Chan here.chan r place) →
+  ends-until : (p moment : ℕ) (r : ChanReply) (place : ℕ) → HasWaitedFor here.chan here.using_ done p → HasReplied s chans who here.chan (ops.ClaimEnd p) (step_replies.Chan here.chan r place) →
       After (stages.WaitsUntil p moment) (steps.Chan here.chan (ops.ClaimEnd p)) (step_replies.Chan here.chan r place)
   ends-until p moment r place was told =
       let got = ended-gives told.state who p r told.gives (answers-so s chans who here.chan (ops.ClaimEnd p) r place told) in
       subst (λ (x : ChanReply). After (stages.WaitsUntil p moment) (steps.Chan here.chan (ops.ClaimEnd p)) (step_replies.Chan here.chan x place)) (sym got)
       (is-given (ops.ClaimEnd p) place (ends p was))
 
-  quits-wait : (p : ℕ) (r : ChanReply) (place : ℕ) → HasWaited here.chan here.using_ done p → is_quit_reply r ≡ true →
+  quits-wait : (p : ℕ) (r : ChanReply) (place : ℕ) → HasWaitedFor here.chan here.using_ done p → is_quit_reply r ≡ true →
       After (stages.Quits p) (steps.Chan here.chan (ops.ClaimQuit p)) (step_replies.Chan here.chan r place)
   quits-wait p replies.Got place was may = is-given (ops.ClaimQuit p) place (quits p was)
   quits-wait p replies.Again place was may = was-refused (ops.ClaimQuit p) replies.Again place (quits p was) refl
@@ -385,7 +385,7 @@ module _ (s : Parts) (chans : ChanHistories) (who : Who) (done : List Made) (num
   is-told : (op : ChanOp) (told : List ℕ) (place : ℕ) → steps.Chan here.chan op ≡ use_step here.chan here.using_ → is_reading here.using_ ≡ false → is_free (steps.Chan here.chan op, step_replies.Chan here.chan (replies.Observers told) place) ≡ false →
       HasGained here.chan here.using_ done [] → IsVisiting here.chan here.using_ (done ++ (steps.Chan here.chan op, step_replies.Chan here.chan (replies.Observers told) place) ∷ []) told false
   is-told op told place is reads_not unfreed was =
-      let m : Made = (steps.Chan here.chan op, step_replies.Chan here.chan (replies.Observers told) place) in
+      let m : StepMade = (steps.Chan here.chan op, step_replies.Chan here.chan (replies.Observers told) place) in
       record {
         use_ = m;
         visited = [];
@@ -402,7 +402,7 @@ module _ (s : Parts) (chans : ChanHistories) (who : Who) (done : List Made) (num
   is-read : (message : List ℕ) (place : ℕ) → steps.Chan here.chan ops.Get ≡ use_step here.chan here.using_ → is_reading here.using_ ≡ true → HasGained here.chan here.using_ done [] →
       IsReading here.chan here.using_ (done ++ (steps.Chan here.chan ops.Get, step_replies.Chan here.chan (replies.Bytes message) place) ∷ []) message
   is-read message place is reads was =
-      let m : Made = (steps.Chan here.chan ops.Get, step_replies.Chan here.chan (replies.Bytes message) place) in
+      let m : StepMade = (steps.Chan here.chan ops.Get, step_replies.Chan here.chan (replies.Bytes message) place) in
       record { use_ = m; gained = gained-used here.chan here.using_ done m [] refl was; uses = is; tells = (place, refl); reads = reads; unfreed = refl }
 
   uses : (u : Using) → u ≡ here.using_ → (r : ChanReply) (place : ℕ) → HasGained here.chan here.using_ done [] → HasReplied s chans who here.chan (use_op u) (step_replies.Chan here.chan r place) →
@@ -425,7 +425,7 @@ module _ (s : Parts) (chans : ChanHistories) (who : Who) (done : List Made) (num
       IsVisiting here.chan here.using_ done (observer ∷ left) full →
       IsVisiting here.chan here.using_ (done ++ (steps.Obs observer (obs_ops.Visit here.chan), reply) ∷ []) left full'
   visited-more observer left full b full' reply finds sum v =
-      let m : Made = (steps.Obs observer (obs_ops.Visit here.chan), reply) in
+      let m : StepMade = (steps.Obs observer (obs_ops.Visit here.chan), reply) in
       record {
         use_ = v.use_;
         visited = v.visited ++ m ∷ [];
@@ -433,8 +433,8 @@ module _ (s : Parts) (chans : ChanHistories) (who : Who) (done : List Made) (num
         uses = v.uses;
         told = v.told;
         tells = v.tells;
-        visits = ap (λ (l : List Step). l ++ map (visit_of here.chan) left) (map-append (λ (m : Made). m.0) v.visited (m ∷ []))
-            ∙ append_assoc (map (λ (m : Made). m.0) v.visited) (visit_of here.chan observer ∷ []) (map (visit_of here.chan) left) ∙ v.visits;
+        visits = ap (λ (l : List Step). l ++ map (visit_of here.chan) left) (map-append (λ (m : StepMade). m.0) v.visited (m ∷ []))
+            ∙ append_assoc (map (λ (m : StepMade). m.0) v.visited) (visit_of here.chan observer ∷ []) (map (visit_of here.chan) left) ∙ v.visits;
         reads_not = v.reads_not;
         unfreed = any-more is_free (v.use_ ∷ v.visited) m false false false v.unfreed refl refl;
         full_is = any-more is_full v.visited m full b full' v.full_is finds sum;
@@ -455,7 +455,7 @@ module _ (s : Parts) (chans : ChanHistories) (who : Who) (done : List Made) (num
   visits observer left full at r place v = visited-more observer left full false full (step_replies.Obs at r place) refl (or-false full) v
 
   -- it frees its channel
-  abbrev has-used : (r : ChanReply) (place : ℕ) (answer : Answer) (use_ : Made) (others : List Made) → HasGained here.chan here.using_ done (use_ ∷ others) → use_.0 ≡ use_step here.chan here.using_ →
+  abbrev has-used : (r : ChanReply) (place : ℕ) (answer : Answer) (use_ : StepMade) (others : List StepMade) → HasGained here.chan here.using_ done (use_ ∷ others) → use_.0 ≡ use_step here.chan here.using_ →
       HasUsed s (done ++ (steps.Chan here.chan ops.Free, step_replies.Chan here.chan r place) ∷ []) (record { step = number; word = word_of here.call; answer = answer })
   has-used r place answer use_ others gained uses = record {
     owner = owner;
@@ -482,7 +482,7 @@ module _ (s : Parts) (chans : ChanHistories) (who : Who) (done : List Made) (num
           used = has-used r place (visits_answer full) v.use_ v.visited v.gained v.uses;
           told = v.told;
           tells = v.tells;
-          visits = sym (append-nil (map (λ (m : Made). m.0) v.visited)) ∙ v.visits;
+          visits = sym (append-nil (map (λ (m : StepMade). m.0) v.visited)) ∙ v.visits;
           answer = ap visits_answer (sym v.full_is);
         }),
         λ read. absurd (cc),
@@ -518,7 +518,7 @@ module _ (s : Parts) (chans : ChanHistories) (who : Who) (done : List Made) (num
   }
 
   -- so it is of this script's next call, whichever way that is told
-  of-each : (done : List Made) (stage : Stage) → CallHas here.chan here.using_ done stage → CallVisits s done owner next stage
+  of-each : (done : List StepMade) (stage : Stage) → CallHas here.chan here.using_ done stage → CallVisits s done owner next stage
   of-each done stage has by =
       let one = same_Some here.call by.call (sym here.is_call ∙ by.is_call) in
       let same = same-plan here.chan by.chan here.using_ by.using_ here.timeout by.timeout (sym here.is_plan ∙ ap (plan_of s.decls) one ∙ by.is_plan) in
@@ -527,7 +527,7 @@ module _ (s : Parts) (chans : ChanHistories) (who : Who) (done : List Made) (num
       same-plan : (a b : ℕ) (u v : Using) (t w : Timeout) → plans.Channel a u t ≡ plans.Channel b v w → (a ≡ b) × (u ≡ v)
       same-plan a b u v t w same = (cc, cc)
 
-  by_progress : (later : List Made) (progress : Progress) → Has later progress → VisitsBy s later owner next number progress
+  by_progress : (later : List StepMade) (progress : Progress) → Has later progress → VisitsBy s later owner next number progress
   by_progress later (Goes stage) has = of-each later stage has
   by_progress later (Answers word answer) has = has
   by_progress later (Enters object stage) has = of-each later stage has

@@ -3,7 +3,7 @@ use Rattle.std.proofs.Common.{◌≡◌, ℕ, zero, suc, Bool, true, false, Some
 use Rattle.std.specs.List.{slice_get}
 use Rattle.zk_base.specs.declared.ids.Who.{Who}
 use Rattle.zk_base.proofs.Lists.{slice_get-one}
-use Rattle.zk_scenario.specs.Parts.{Parts}
+use Rattle.zk_scenario.specs.Content.{Content}
 use Rattle.zk_model_bus.specs.declared.channel.ChanOp.{ChanOp}
 use Rattle.zk_model_bus.specs.declared.channel.ChanOp.TheVariants as ops
 use Rattle.zk_model_bus.specs.declared.channel.ChanReply.{ChanReply}
@@ -60,7 +60,7 @@ uses-so chan Notify = refl
 uses-so chan Read = refl
 
 -- what holds after each step of such a call that is replied, by what held before it
-pub record EachStep (s : Parts) (chans : ChanHistories) (who : Who) (chan : ℕ) (using_ : Using) (Before : Stage → Type 0) (After : Stage → Step → StepReply → Type 0) : Type 0 where
+pub record EachStep (s : Content) (chans : ChanHistories) (who : Who) (chan : ℕ) (using_ : Using) (Before : Stage → Type 0) (After : Stage → Step → StepReply → Type 0) : Type 0 where
   pub asks : (waits : Bool) (r : ChanReply) (place : ℕ) → Before stages.Start → HasReplied s chans who chan (asking_op using_ waits) (step_replies.Chan chan r place) →
       After stages.Start (steps.Chan chan (asking_op using_ waits)) (step_replies.Chan chan r place)
   pub sets_alarm : (ticks : ℕ) (r : ClockReply) (place : ℕ) → Before stages.Start → clock_may_tell (clock_ops.Alarm ticks) r ≡ true →
@@ -84,7 +84,7 @@ pub record EachStep (s : Parts) (chans : ChanHistories) (who : Who) (chan : ℕ)
   pub frees_read : (message : List ℕ) (r : ChanReply) (place : ℕ) → Before (stages.Reads message) → HasReplied s chans who chan ops.Free (step_replies.Chan chan r place) →
       After (stages.Reads message) (steps.Chan chan ops.Free) (step_replies.Chan chan r place)
 
-module _ (s : Parts) (chans : ChanHistories) (who : Who) (chan : ℕ) (using_ : Using) (Before : Stage → Type 0) (After : Stage → Step → StepReply → Type 0)
+module _ (s : Content) (chans : ChanHistories) (who : Who) (chan : ℕ) (using_ : Using) (Before : Stage → Type 0) (After : Stage → Step → StepReply → Type 0)
     (each : EachStep s chans who chan using_ Before After) where
   -- of a step at the channel: by what it answered
   at-channel : (stage : Stage) (op : ChanOp) (x step : Step) (reply : StepReply) → steps.Chan chan op ≡ x → x ≡ step →

@@ -11,7 +11,7 @@ use Rattle.zk_line.specs.declared.types.Decl.{Decl}
 use Rattle.zk_line.specs.Objects.{number_of}
 use Rattle.zk_model_bus.specs.declared.channel.ChanOp.TheVariants as ops
 use Rattle.zk_model_work.specs.declared.ops.WorkOp.TheVariants as work_ops
-use Rattle.zk_scenario.specs.Parts.{Parts}
+use Rattle.zk_scenario.specs.Content.{Content}
 use Rattle.zk_scenario.specs.Players.{calls_of}
 use Rattle.zk_words.specs.declared.timeout.Timeout.{Timeout}
 use Rattle.zk_words.specs.declared.word.Word.{Word}
@@ -33,8 +33,8 @@ use Rattle.zk_worker.specs.declared.steps.Step.{Step}
 use Rattle.zk_worker.specs.declared.steps.Step.TheVariants as steps
 use Rattle.zk_worker.specs.declared.steps.StepReply.{StepReply}
 use Rattle.zk_worker.specs.Calls.{plan_of, plan_attempts, plan_progress}
-use Rattle.zk_worker.specs.Follows.{Made, IsPlayed}
-use Rattle.zk_worker.specs.Places.{At}
+use Rattle.zk_worker.specs.Follows.{StepMade, IsPlayed}
+use Rattle.zk_worker.specs.Places.{PlayerPlace}
 use Rattle.zk_worker.specs.Protocol.{call_attempts, call_progress, role_attempts, role_progress, frames_attempts, frames_progress, answers_after, worker_attempts, after}
 use Rattle.zk_worker.specs.Publishes.{asks_for, use_step, visits_answer, visit_progress, channel_attempts, channel_progress}
 use Rattle.zk_player_laws.specs.StackLaws.{ChanHistories, IsReplied}
@@ -68,7 +68,7 @@ frees-not : {A : Type 0} (only step : Step) (k : ℕ) (reply : StepReply) → is
 frees-not only step k reply isnt there is =
     let one = subst (λ (x : Step). is_free (x, reply) ≡ false) (slice_get-one only step k there) isnt in absurd (cc)
 
-module _ (s : Parts) (chans : ChanHistories) (who : Who) (word : Word) where
+module _ (s : Content) (chans : ChanHistories) (who : Who) (word : Word) where
   channel-frees : (chan : ℕ) (u : Using) (timeout : Timeout) (stage : Stage) (k : ℕ) (step : Step) (reply : StepReply) → slice_get (channel_attempts chan u timeout stage) k ≡ Some step →
       is_free (step, reply) ≡ true → IsReplied s chans who step reply → AnswersSo word (channel_progress word stage reply)
   channel-frees chan u timeout stages.Holds k step reply there is replied = frees-not (use_step chan u) step k reply (use-frees chan u reply) there is
@@ -91,7 +91,7 @@ channel-word decls call is = absurd (cc)
 abbrev pub Ends : Progress → Type 0
 Ends progress = (word : Word) × (answer : Answer) × (progress ≡ Answers word answer) × ((is_publish word || is_read word) ≡ true)
 
-module _ (s : Parts) (chans : ChanHistories) (who : Who) (step : Step) (reply : StepReply) (is : is_free (step, reply) ≡ true) (replied : IsReplied s chans who step reply) where
+module _ (s : Content) (chans : ChanHistories) (who : Who) (step : Step) (reply : StepReply) (is : is_free (step, reply) ≡ true) (replied : IsReplied s chans who step reply) where
   plan-frees : (call : Call) (plan : Plan) → plan_of s.decls call ≡ plan → (stage : Stage) (k : ℕ) → slice_get (plan_attempts (plan_of s.decls call) stage) k ≡ Some step →
       Ends (plan_progress (word_of call) (plan_of s.decls call) stage step reply)
   plan-frees call (plans.Channel chan u timeout) so stage k there =
@@ -144,7 +144,7 @@ after-still answers number (Answers word answer) n was = record {
 after-still answers number (Goes stage) n was = was
 after-still answers number (Enters owner stage) n was = was
 
-answered-more : (s : Parts) (at : At) (step : Step) (reply : StepReply) (n : ℕ) → IsAnswered at.answers n → IsAnswered (after s at step reply).answers n
+answered-more : (s : Content) (at : PlayerPlace) (step : Step) (reply : StepReply) (n : ℕ) → IsAnswered at.answers n → IsAnswered (after s at step reply).answers n
 answered-more s at step reply n was = by (check_at s at) where
   by_why : (word : Word) (why : Option OopsWhy) (spot : Spot) → IsAnswered (checked at word why spot).answers n
   by_why word None spot = was
@@ -154,7 +154,7 @@ answered-more s at step reply n was = by (check_at s at) where
   by (Some check) = by_why check.word (oops_in reply) (spot_of step reply)
   by None = after-still at.answers (length at.spots) (frames_progress s at.frames step reply) n was
 
-pub answered-still : (s : Parts) (at end : At) (made : List Made) (n : ℕ) → IsPlayed s at made end → IsAnswered at.answers n → IsAnswered end.answers n
-answered-still s at end [] n plays was = subst (λ (x : At). IsAnswered x.answers n) plays was
+pub answered-still : (s : Content) (at end : PlayerPlace) (made : List StepMade) (n : ℕ) → IsPlayed s at made end → IsAnswered at.answers n → IsAnswered end.answers n
+answered-still s at end [] n plays was = subst (λ (x : PlayerPlace). IsAnswered x.answers n) plays was
 answered-still s at end (made ∷ more) n plays was =
     answered-still s (after s at made.0 made.1) end more n plays.1 (answered-more s at made.0 made.1 n was)

@@ -2,7 +2,7 @@
 use Rattle.std.proofs.Common.{◌≡◌, ◌≢◌, ℕ, Bool, true, false, eqb, Some, None, List, ◌∷◌, refl, sym, ap, subst, ◌∙◌}
 use Rattle.std.specs.List.{slice_get, list_any}
 use Rattle.zk_base.specs.declared.ids.Who.{Who}
-use Rattle.zk_scenario.specs.Parts.{Parts}
+use Rattle.zk_scenario.specs.Content.{Content}
 use Rattle.zk_model_bus.specs.declared.channel.ChanOp.{ChanOp}
 use Rattle.zk_model_bus.specs.declared.channel.ChanOp.TheVariants as ops
 use Rattle.zk_model_bus.specs.declared.channel.ChanReply.{ChanReply}
@@ -62,7 +62,7 @@ uses-nothing_freed (Publish message) = λ same. cc
 uses-nothing_freed Notify = λ same. cc
 uses-nothing_freed Read = λ same. cc
 
-module _ (s : Parts) (chans : ChanHistories) (who : Who) (n : ℕ) (below : List ℕ) (chan : ℕ) (using_ : Using) (timeout : Timeout) (word : Word) where
+module _ (s : Content) (chans : ChanHistories) (who : Who) (n : ℕ) (below : List ℕ) (chan : ℕ) (using_ : Using) (timeout : Timeout) (word : Word) where
   -- the plan of the call
   abbrev plan : Plan
   plan = plans.Channel chan using_ timeout

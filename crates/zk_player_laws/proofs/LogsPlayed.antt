@@ -15,7 +15,7 @@ use Rattle.zk_model_bus.specs.declared.channel.ChanOp.{ChanOp}
 use Rattle.zk_model_bus.specs.declared.channel.ChanReply.{ChanReply}
 use Rattle.zk_model_bus.specs.Channel.{Channel, chan_machine}
 use Rattle.zk_model_bus.specs.ChannelLaws.{ChanHistory}
-use Rattle.zk_scenario.specs.Parts.{Parts}
+use Rattle.zk_scenario.specs.Content.{Content}
 use Rattle.zk_scenario.specs.Players.{players}
 use Rattle.zk_line.specs.declared.types.Decl.{Decl}
 use Rattle.zk_worker.specs.declared.steps.Step.{Step}
@@ -26,9 +26,9 @@ use Rattle.zk_worker.specs.declared.steps.Spot.{Spot}
 use Rattle.zk_worker.specs.declared.steps.Spot.TheVariants as spots
 use Rattle.zk_worker.specs.Single.{step_of, answer_in, OthersGrew}
 use Rattle.zk_worker.specs.Families.{start_of, with_entry, entry_at, EachGrew}
-use Rattle.zk_worker.specs.Follows.{Made, IsPlayed, Stands, IsFollowing}
+use Rattle.zk_worker.specs.Follows.{StepMade, IsPlayed, Stands, IsFollowing}
 use Rattle.zk_worker.specs.Machines.{machines_of}
-use Rattle.zk_worker.specs.Places.{At}
+use Rattle.zk_worker.specs.Places.{PlayerPlace}
 use Rattle.zk_worker.specs.Protocol.{after, starting, start_at, spot_of}
 use Rattle.zk_worker.specs.Shown.{Shown, ShowsLog}
 use Rattle.zk_model_wait.specs.declared.clock.ClockOp.{ClockOp}
@@ -227,7 +227,7 @@ slice_get-cuts number i (g ∷ hs) (suc object) h there = slice_get-cuts number 
 -- A step of the log.
 
 -- what is known of it: by whom it was made, what it was replied behind what came before, and what came up to the next
-record IsNext (s : Parts) (chans : ChanHistories) (number i : ℕ) (step : Step) (reply : StepReply) : Type 0 where
+record IsNext (s : Content) (chans : ChanHistories) (number i : ℕ) (step : Step) (reply : StepReply) : Type 0 where
   who : Who
   own : who.number ≡ number
   replied : IsReplied s (cuts number i chans) who step reply
@@ -254,7 +254,7 @@ pub clock-tells : (h : List (Entry ClockOp ClockReply)) (place : ℕ) (e : Entry
     clock_may_tell e.op e.reply ≡ true
 clock-tells = clock-tells-from new_clock
 
-module _ (s : Parts) (shown : Shown) (number : ℕ) (player : Who) (is_player : player.number ≡ number) (log : List Spot) (shows : ShowsLog shown number log) (timed : ShowsLegalClock shown) (legal : ShowsLegalChans s shown) where
+module _ (s : Content) (shown : Shown) (number : ℕ) (player : Who) (is_player : player.number ≡ number) (log : List Spot) (shows : ShowsLog shown number log) (timed : ShowsLegalClock shown) (legal : ShowsLegalChans s shown) where
   -- a step that is at no channel
   none-there : (i : ℕ) (spot : Spot) → slice_get log i ≡ Some spot → ((object place : ℕ) → spot ≡ spots.Chan object place → ⊥) → NoneOf number i shown.chans
   unfolding NoneOf
@@ -310,40 +310,40 @@ module _ (s : Parts) (shown : Shown) (number : ℕ) (player : Who) (is_player : 
           same_entry step = ap (λ (k : ℕ). entry e.who k e.op e.reply) step
 
   -- each step
-  is-next : (i : ℕ) (spot : Spot) (made : Made) → slice_get log i ≡ Some spot → Stands shown spot made → IsNext s shown.chans number i made.0 made.1
+  is-next : (i : ℕ) (spot : Spot) (made : StepMade) → slice_get log i ≡ Some spot → Stands shown spot made → IsNext s shown.chans number i made.0 made.1
   is-next i (spots.Chan object place) made there stands =
       let from = made-of (λ (e : Entry ChanOp ChanReply). (steps.Chan object e.op, step_replies.Chan object e.reply place)) (entry_at shown.chans object place) made stands in
-      subst (λ (m : Made). IsNext s shown.chans number i m.0 m.1) from.2 (at-chan i object place from.0 there from.1)
+      subst (λ (m : StepMade). IsNext s shown.chans number i m.0 m.1) from.2 (at-chan i object place from.0 there from.1)
   is-next i (spots.Work place) made there stands =
       let from = made-of _ _ made stands in
-      subst (λ (m : Made). IsNext s shown.chans number i m.0 m.1) from.2 (elsewhere i (spots.Work place) _ _ there (λ object at same. cc) refl refl)
+      subst (λ (m : StepMade). IsNext s shown.chans number i m.0 m.1) from.2 (elsewhere i (spots.Work place) _ _ there (λ object at same. cc) refl refl)
   is-next i (spots.Table place) made there stands =
       let from = made-of _ _ made stands in
-      subst (λ (m : Made). IsNext s shown.chans number i m.0 m.1) from.2 (elsewhere i (spots.Table place) _ _ there (λ object at same. cc) refl refl)
+      subst (λ (m : StepMade). IsNext s shown.chans number i m.0 m.1) from.2 (elsewhere i (spots.Table place) _ _ there (λ object at same. cc) refl refl)
   is-next i (spots.Clock place) made there stands =
       let from = made-of (λ (e : Entry ClockOp ClockReply). (steps.Clock e.op, step_replies.Clock e.reply place)) (slice_get shown.clock place) made stands in
-      subst (λ (m : Made). IsNext s shown.chans number i m.0 m.1) from.2
+      subst (λ (m : StepMade). IsNext s shown.chans number i m.0 m.1) from.2
       (elsewhere i (spots.Clock place) (steps.Clock from.0.op) (step_replies.Clock from.0.reply place) there (λ object at same. cc) refl
       (clock-tells shown.clock place from.0 timed.0 from.1))
   is-next i (spots.Sem object place) made there stands =
       let from = made-of _ _ made stands in
-      subst (λ (m : Made). IsNext s shown.chans number i m.0 m.1) from.2 (elsewhere i (spots.Sem object place) _ _ there (λ o at same. cc) refl (eqb-same object))
+      subst (λ (m : StepMade). IsNext s shown.chans number i m.0 m.1) from.2 (elsewhere i (spots.Sem object place) _ _ there (λ o at same. cc) refl (eqb-same object))
   is-next i (spots.Msgq object place) made there stands =
       let from = made-of _ _ made stands in
-      subst (λ (m : Made). IsNext s shown.chans number i m.0 m.1) from.2 (elsewhere i (spots.Msgq object place) _ _ there (λ o at same. cc) refl (eqb-same object))
+      subst (λ (m : StepMade). IsNext s shown.chans number i m.0 m.1) from.2 (elsewhere i (spots.Msgq object place) _ _ there (λ o at same. cc) refl (eqb-same object))
   is-next i (spots.Signal object place) made there stands =
       let from = made-of _ _ made stands in
-      subst (λ (m : Made). IsNext s shown.chans number i m.0 m.1) from.2 (elsewhere i (spots.Signal object place) _ _ there (λ o at same. cc) refl (eqb-same object))
+      subst (λ (m : StepMade). IsNext s shown.chans number i m.0 m.1) from.2 (elsewhere i (spots.Signal object place) _ _ there (λ o at same. cc) refl (eqb-same object))
   is-next i (spots.Obs object place) made there stands =
       let from = made-of _ _ made stands in
-      subst (λ (m : Made). IsNext s shown.chans number i m.0 m.1) from.2 (elsewhere i (spots.Obs object place) _ _ there (λ o at same. cc) refl (eqb-same object))
+      subst (λ (m : StepMade). IsNext s shown.chans number i m.0 m.1) from.2 (elsewhere i (spots.Obs object place) _ _ there (λ o at same. cc) refl (eqb-same object))
   is-next i (spots.LookItem object flags at) made there stands =
-      subst (λ (m : Made). IsNext s shown.chans number i m.0 m.1) (sym stands) (elsewhere i (spots.LookItem object flags at) _ _ there (λ o p same. cc) refl refl)
+      subst (λ (m : StepMade). IsNext s shown.chans number i m.0 m.1) (sym stands) (elsewhere i (spots.LookItem object flags at) _ _ there (λ o p same. cc) refl refl)
   is-next i (spots.LookSignal object seen) made there stands =
-      subst (λ (m : Made). IsNext s shown.chans number i m.0 m.1) (sym stands.1) (elsewhere i (spots.LookSignal object seen) _ _ there (λ o p same. cc) refl refl)
+      subst (λ (m : StepMade). IsNext s shown.chans number i m.0 m.1) (sym stands.1) (elsewhere i (spots.LookSignal object seen) _ _ there (λ o p same. cc) refl refl)
 
   -- the steps of a log from one of them on
-  played-among : (i : ℕ) (chans : ChanHistories) (at end : At) (rest : List Spot) (made : List Made) → at.who.number ≡ number → length at.spots ≡ i →
+  played-among : (i : ℕ) (chans : ChanHistories) (at end : PlayerPlace) (rest : List Spot) (made : List StepMade) → at.who.number ≡ number → length at.spots ≡ i →
       ((k : ℕ) (spot : Spot) → slice_get rest k ≡ Some spot → slice_get log (i + k) ≡ Some spot) → AllZip (Stands shown) rest made → IsPlayed s at made end →
       EachGrew number chans (cuts number i shown.chans) → IsPlayedAmong s chans at made
   played-among i chans at end [] [] own long among stands played grew = tt
@@ -365,22 +365,22 @@ module _ (s : Parts) (shown : Shown) (number : ℕ) (player : Who) (is_player : 
             (subst (λ (k : ℕ). EachGrew number (chans_after (cuts number i shown.chans) next.who k m.0 m.1) (cuts number (i + 1) shown.chans)) (sym long) next.grew),
       )
     where
-      spot_made : At → Made → Spot
+      spot_made : PlayerPlace → StepMade → Spot
       spot_made at m = spot_of m.0 m.1
 
 -- at its start a player has this number, and has made no step
-pub start-of : (s : Parts) (number : ℕ) (at : At) → start_at s number ≡ Some at → (at.who.number ≡ number) × (at.spots ≡ [])
+pub start-of : (s : Content) (number : ℕ) (at : PlayerPlace) → start_at s number ≡ Some at → (at.who.number ≡ number) × (at.spots ≡ [])
 start-of s number at is =
-    let inner : ℕ → Option At = λ object. option_map (starting s number object) (slice_get s.decls object) in
+    let inner : ℕ → Option PlayerPlace = λ object. option_map (starting s number object) (slice_get s.decls object) in
     option_and_then_some inner (slice_get (players s.decls) number) at is (λ object found made. by_decl object (slice_get s.decls object) made)
   where
     by_decl : (object : ℕ) (decl : Option Decl) → option_map (starting s number object) decl ≡ Some at → (at.who.number ≡ number) × (at.spots ≡ [])
     by_decl object None made = absurd (cc)
     by_decl object (Some decl) made =
-        subst (λ (a : At). (a.who.number ≡ number) × (a.spots ≡ [])) (same_Some (starting s number object decl) at made) (refl, refl)
+        subst (λ (a : PlayerPlace). (a.who.number ≡ number) × (a.spots ≡ [])) (same_Some (starting s number object decl) at made) (refl, refl)
 
 -- the log of a player is played among what came to the channels
-pub log-played : (s : Parts) (number : ℕ) (shown : Shown) (at : At) (is : IsFollowing s number shown at) → ShowsLog shown number at.spots → ShowsLegalClock shown → ShowsLegalChans s shown →
+pub log-played : (s : Content) (number : ℕ) (shown : Shown) (at : PlayerPlace) (is : IsFollowing s number shown at) → ShowsLog shown number at.spots → ShowsLegalClock shown → ShowsLegalChans s shown →
     IsPlayedAmong s (cuts number 0 shown.chans) is.start is.made
 unfolding cuts
 log-played s number shown at is shows timed legal =

@@ -9,7 +9,7 @@ use Rattle.zk_line.specs.declared.events.Event.{Event}
 use Rattle.zk_line.specs.declared.types.Call.{Call}
 use Rattle.zk_line.specs.declared.types.Call.TheVariants as calls
 use Rattle.zk_model_bus.specs.declared.table.OopsWhy.{OopsWhy}
-use Rattle.zk_scenario.specs.Parts.{Parts}
+use Rattle.zk_scenario.specs.Content.{Content}
 use Rattle.zk_scenario.specs.Players.{players, calls_of}
 use Rattle.zk_scenario.specs.Valid.{IsValid}
 use Rattle.zk_words.specs.declared.timeout.Timeout.{Timeout}
@@ -26,8 +26,8 @@ use Rattle.zk_worker.specs.declared.steps.Step.{Step}
 use Rattle.zk_worker.specs.declared.steps.StepReply.{StepReply}
 use Rattle.zk_worker.specs.Calls.{plan_of, plan_progress}
 use Rattle.zk_worker.specs.Checks.{oops_in}
-use Rattle.zk_worker.specs.Follows.{Made, IsPlayed, IsFollowing}
-use Rattle.zk_worker.specs.Places.{At}
+use Rattle.zk_worker.specs.Follows.{StepMade, IsPlayed, IsFollowing}
+use Rattle.zk_worker.specs.Places.{PlayerPlace}
 use Rattle.zk_player_laws.specs.PollLaws.{GoesOn}
 use Rattle.zk_player_laws.specs.PollLogs.{ShowsLegal, IsOpenPoll, EachOpenPollGoesOn}
 use Rattle.zk_worker.specs.Polls.{poll_attempts}
@@ -43,11 +43,11 @@ use Rattle.zk_worker.proofs.ShownSteps.{made-of}
 
 -- A script that isn't at a publish, a notify or a read has no channel.
 
-abbrev HasNone : Parts → Frame → Type 0
+abbrev HasNone : Content → Frame → Type 0
 HasNone s frame = (owner : ℕ) (call : Call) → frame.role ≡ Script owner → slice_get (calls_of s.scripts owner) frame.next ≡ Some call →
     is_channel (plan_of s.decls call) ≡ false → is_with_channel frame.stage ≡ false
 
-settled-none : (s : Parts) (frames : List Frame) → All (HasNone s) frames → All (HasNone s) (settled s frames)
+settled-none : (s : Content) (frames : List Frame) → All (HasNone s) frames → All (HasNone s) (settled s frames)
 settled-none s [] none = none
 settled-none s (frame ∷ below) none = by (is_over s frame.role frame.next) (settled-none s below (All-tail (HasNone s) frame below none)) where
   by : (b : Bool) → All (HasNone s) (settled s below) → All (HasNone s) (cond b (settled s below) (frame ∷ below))
@@ -55,7 +55,7 @@ settled-none s (frame ∷ below) none = by (is_over s frame.role frame.next) (se
   by false rest = none
 
 -- so it stays where its call goes on
-goes-none : (s : Parts) (frame : Frame) (step : Step) (reply : StepReply) (progress : Progress) → HasNone s frame → role_progress s frame.role frame.next frame.stage step reply ≡ progress →
+goes-none : (s : Content) (frame : Frame) (step : Step) (reply : StepReply) (progress : Progress) → HasNone s frame → role_progress s frame.role frame.next frame.stage step reply ≡ progress →
     (owner : ℕ) (call : Call) → frame.role ≡ Script owner → slice_get (calls_of s.scripts owner) frame.next ≡ Some call → is_channel (plan_of s.decls call) ≡ false →
     GoesWith (λ stage. is_with_channel stage ≡ false) (λ word answer. Unit {0}) progress
 goes-none s frame step reply progress none comes owner call role there other =
@@ -66,7 +66,7 @@ goes-none s frame step reply progress none comes owner call role there other =
     same : plan_progress (word_of call) (plan_of s.decls call) frame.stage step reply ≡ role_progress s frame.role frame.next frame.stage step reply
     same = ap (λ (c : Option Call). call_progress s.decls c frame.stage step reply) (sym there) ∙ ap (λ (r : Role). role_progress s r frame.next frame.stage step reply) (sym role)
 
-step-none : (s : Parts) (frames : List Frame) (step : Step) (reply : StepReply) → All (HasNone s) frames → All (HasNone s) (frames_after s frames (frames_progress s frames step reply))
+step-none : (s : Content) (frames : List Frame) (step : Step) (reply : StepReply) → All (HasNone s) frames → All (HasNone s) (frames_after s frames (frames_progress s frames step reply))
 step-none s [] step reply none = none
 step-none s (frame ∷ below) step reply none = by (role_progress s frame.role frame.next frame.stage step reply) refl where
   first : HasNone s frame
@@ -89,30 +89,30 @@ step-none s (frame ∷ below) step reply none = by (role_progress s frame.role f
       by_room true next all = All-cons (HasNone s) (first_frame (Script owner)) (next ∷ below) (λ own call role there other. refl) all
       by_room false next all = all
 
-after-none : (s : Parts) (at : At) (step : Step) (reply : StepReply) → IsAhead s at step → All (HasNone s) at.frames → All (HasNone s) (after s at step reply).frames
+after-none : (s : Content) (at : PlayerPlace) (step : Step) (reply : StepReply) → IsAhead s at step → All (HasNone s) at.frames → All (HasNone s) (after s at step reply).frames
 after-none s at step reply ahead none =
-    turn (λ (now : At). All (HasNone s) now.frames) s at step reply ahead (λ is. by is (oops_in reply)) (λ is. step-none s at.frames step reply none)
+    turn (λ (now : PlayerPlace). All (HasNone s) now.frames) s at step reply ahead (λ is. by is (oops_in reply)) (λ is. step-none s at.frames step reply none)
   where
     by : (is : IsCheck s at step) (why : Option OopsWhy) → All (HasNone s) (checked at is.check.word why (spot_of step reply)).frames
     by is None = none
     by is (Some why) = All-nil (HasNone s)
 
-played-none : (s : Parts) (made : List Made) (at end : At) → All (HasNone s) at.frames → IsPlayed s at made end → All (HasNone s) end.frames
-played-none s [] at end none led = subst (λ (a : At). All (HasNone s) a.frames) led none
+played-none : (s : Content) (made : List StepMade) (at end : PlayerPlace) → All (HasNone s) at.frames → IsPlayed s at made end → All (HasNone s) end.frames
+played-none s [] at end none led = subst (λ (a : PlayerPlace). All (HasNone s) a.frames) led none
 played-none s (m ∷ more) at end none led = played-none s more (after s at m.0 m.1) end (after-none s at m.0 m.1 led.0 none) led.1
 
-starts-none : (s : Parts) (number : ℕ) (at : At) → start_at s number ≡ Some at → All (HasNone s) at.frames
+starts-none : (s : Content) (number : ℕ) (at : PlayerPlace) → start_at s number ≡ Some at → All (HasNone s) at.frames
 starts-none s number at is =
-    let inner : ℕ → Option At = λ object. option_map (starting s number object) (slice_get s.decls object) in
+    let inner : ℕ → Option PlayerPlace = λ object. option_map (starting s number object) (slice_get s.decls object) in
     option_and_then_some inner (slice_get (players s.decls) number) at is (λ object found made.
     let decl = made-of (starting s number object) (slice_get s.decls object) at made in
     let first : Frame = first_frame (role_at decl.0 object) in
-    subst (λ (a : At). All (HasNone s) a.frames) decl.2
+    subst (λ (a : PlayerPlace). All (HasNone s) a.frames) decl.2
     (settled-none s (first ∷ []) (All-cons (HasNone s) first [] (λ owner call role there other. refl) (All-nil (HasNone s)))))
 
 -- A player that stands at a poll.
 
-module _ (s : Parts) (number : ℕ) (shown : Shown) (at : At) (is : IsFollowing s number shown at) (owner next : ℕ) (stage : Stage) (timeout : Timeout) (events : List Event) (below : List Frame)
+module _ (s : Content) (number : ℕ) (shown : Shown) (at : PlayerPlace) (is : IsFollowing s number shown at) (owner next : ℕ) (stage : Stage) (timeout : Timeout) (events : List Event) (below : List Frame)
     (stood : at.frames ≡ record { role = Script owner; next = next; stage = stage } ∷ below) (there : slice_get (calls_of s.scripts owner) next ≡ Some (calls.Poll timeout events)) where
   abbrev call : Call
   call = calls.Poll timeout events
@@ -132,7 +132,7 @@ module _ (s : Parts) (number : ℕ) (shown : Shown) (at : At) (is : IsFollowing 
   goes-on valid shows legal =
       let play = to-stage in
       let led = poll-leads words.Poll timeout events Start play.play stage play.led in
-      let whole = play.whole ∙ ap (λ (xs : List Made). play.before ++ xs) (sym (append-nil play.play)) in
+      let whole = play.whole ∙ ap (λ (xs : List StepMade). play.before ++ xs) (sym (append-nil play.play)) in
       let served = within-served number shown at.spots is.made play.before play.play [] is.stands shows legal whole (led-of-poll words.Poll timeout events Start play.play stage led) in
       let attempts : poll_attempts timeout events stage ≡ frames_attempts s at.frames =
       ap (λ (c : Option Call). call_attempts s.decls c stage) (sym there) ∙ ap (frames_attempts s) (sym stood) in

@@ -6,7 +6,7 @@ use Rattle.std.proofs.lemmas.Option.{option_and_then_some, same_Some}
 use Rattle.zk_base.specs.Legal.{state_after}
 use Rattle.zk_base.proofs.Histories.{state_after-append}
 use Rattle.zk_line.specs.declared.types.Call.{Call}
-use Rattle.zk_scenario.specs.Parts.{Parts}
+use Rattle.zk_scenario.specs.Content.{Content}
 use Rattle.zk_scenario.specs.Players.{calls_of}
 use Rattle.zk_model_bus.specs.declared.channel.Manner.{Manner}
 use Rattle.zk_model_bus.specs.Channel.{Channel, is_claim, chan_machine}
@@ -41,21 +41,21 @@ plan_waits (plans.Channel chan using timeout) (stages.Quits place) = Some (chan,
 plan_waits plan stage = None
 
 -- what is known of the next call of an open script; a worker has none
-abbrev pub of_call : {A : Type 0} → (Plan → Stage → Option A) → Parts → Role → ℕ → Stage → Option A
+abbrev pub of_call : {A : Type 0} → (Plan → Stage → Option A) → Content → Role → ℕ → Stage → Option A
 of_call known s (Script owner) next stage =
     option_and_then (λ (call : Call). known (plan_of s.decls call) stage) (slice_get (calls_of s.scripts owner) next)
 of_call known s (Worker queue) next stage = None
 
 -- the channel that an open script holds
-abbrev pub frame_got : Parts → Frame → Option ℕ
+abbrev pub frame_got : Content → Frame → Option ℕ
 frame_got s frame = of_call plan_got s frame.role frame.next frame.stage
 
 -- and the wait that it is in
-abbrev pub frame_waits : Parts → Frame → Option (ℕ × ℕ)
+abbrev pub frame_waits : Content → Frame → Option (ℕ × ℕ)
 frame_waits s frame = of_call plan_waits s frame.role frame.next frame.stage
 
 -- the channels that the open scripts hold, that of the innermost first
-abbrev pub got : Parts → List Frame → List ℕ
+abbrev pub got : Content → List Frame → List ℕ
 got s [] = []
 got s (frame ∷ below) = option_to_list (frame_got s frame) ++ got s below
 
@@ -64,7 +64,7 @@ is_worker (Worker queue) = true
 is_worker (Script owner) = false
 
 -- each script but the innermost holds a channel, or is the run of a worker that stands alone below
-abbrev pub AreLayered : Parts → List Frame → Type 0
+abbrev pub AreLayered : Content → List Frame → Type 0
 AreLayered s [] = Unit {0}
 AreLayered s (frame ∷ []) = Unit {0}
 AreLayered s (frame ∷ next ∷ below) =
@@ -72,12 +72,12 @@ AreLayered s (frame ∷ next ∷ below) =
     × (((is_worker next.role ≡ true) × (below ≡ [])) ⊎ ((is_some (frame_got s next) ≡ true) × AreLayered s (next ∷ below)))
 
 -- the state of a channel behind these histories
-abbrev pub chan_state : Parts → ChanHistories → ℕ → Option Channel
+abbrev pub chan_state : Content → ChanHistories → ℕ → Option Channel
 chan_state s chans chan =
     option_and_then (λ (start : Channel). option_map (state_after chan_machine start) (slice_get chans chan)) (start_of (machines_of s).chans chan)
 
 -- the player holds the channel, by an offer or by entering
-pub record IsHeld (s : Parts) (chans : ChanHistories) (number chan : ℕ) : Type 0 where
+pub record IsHeld (s : Content) (chans : ChanHistories) (number chan : ℕ) : Type 0 where
   pub state : Channel
   pub manner : Manner
   pub is_state : chan_state s chans chan ≡ Some state
@@ -85,7 +85,7 @@ pub record IsHeld (s : Parts) (chans : ChanHistories) (number chan : ℕ) : Type
   pub holds : IsHeldAs state number manner
 
 -- the player waits for the channel since a place, and is given it so; and one that its scripts hold it isn't given
-pub record IsAwaited (s : Parts) (chans : ChanHistories) (number : ℕ) (held : List ℕ) (wait : ℕ × ℕ) : Type 0 where
+pub record IsAwaited (s : Content) (chans : ChanHistories) (number : ℕ) (held : List ℕ) (wait : ℕ × ℕ) : Type 0 where
   pub state : Channel
   pub manner : Manner
   pub is_state : chan_state s chans wait.0 ≡ Some state
@@ -94,23 +94,23 @@ pub record IsAwaited (s : Parts) (chans : ChanHistories) (number : ℕ) (held : 
   pub once : list_any (eqb wait.0) held ≡ true → IsUndecided state number wait.1
 
 -- the player holds each of these channels
-abbrev pub HoldsAll : Parts → ChanHistories → ℕ → List ℕ → Type 0
+abbrev pub HoldsAll : Content → ChanHistories → ℕ → List ℕ → Type 0
 HoldsAll s chans number held = (chan : ℕ) → list_any (eqb chan) held ≡ true → IsHeld s chans number chan
 
 -- what the innermost script holds and waits for, beside what those below it hold: all that is held is held once
-pub record IsKept (s : Parts) (chans : ChanHistories) (number : ℕ) (below : List ℕ) (holds : Option ℕ) (waits : Option (ℕ × ℕ)) : Type 0 where
+pub record IsKept (s : Content) (chans : ChanHistories) (number : ℕ) (below : List ℕ) (holds : Option ℕ) (waits : Option (ℕ × ℕ)) : Type 0 where
   pub apart : IsDistinct eqb (option_to_list holds ++ below)
   pub held : HoldsAll s chans number (option_to_list holds ++ below)
   pub awaited : (wait : ℕ × ℕ) → waits ≡ Some wait → IsAwaited s chans number (option_to_list holds ++ below) wait
 
 -- and so of the open scripts of a player
-abbrev pub AreKept : Parts → ChanHistories → ℕ → List Frame → Type 0
+abbrev pub AreKept : Content → ChanHistories → ℕ → List Frame → Type 0
 AreKept s chans number [] = Unit {0}
 AreKept s chans number (frame ∷ below) =
     AreLayered s (frame ∷ below) × IsKept s chans number (got s below) (frame_got s frame) (frame_waits s frame)
 
 -- what is kept of a call that makes this progress, by what it holds and waits for at each stage
-abbrev pub IsKeptBy : Parts → ChanHistories → ℕ → List ℕ → (Stage → Option ℕ) → (Stage → Option (ℕ × ℕ)) → Progress → Type 0
+abbrev pub IsKeptBy : Content → ChanHistories → ℕ → List ℕ → (Stage → Option ℕ) → (Stage → Option (ℕ × ℕ)) → Progress → Type 0
 IsKeptBy s chans number below holds waits (Goes stage) = IsKept s chans number below (holds stage) (waits stage)
 IsKeptBy s chans number below holds waits (Answers word answer) = IsKept s chans number below None None
 IsKeptBy s chans number below holds waits (Enters owner stage) = IsKept s chans number below (holds stage) None × (is_some (holds stage) ≡ true)
@@ -126,7 +126,7 @@ each-at number (o ∷ os) (n ∷ ns) zero h grew there =
 each-at number (o ∷ os) (n ∷ ns) (suc object) h grew there = each-at number os ns object h grew.1 there
 
 -- the state of a channel after entries of others
-state-others : (s : Parts) (number : ℕ) (old new : ChanHistories) (chan : ℕ) (c : Channel) → EachGrew number old new → chan_state s old chan ≡ Some c →
+state-others : (s : Content) (number : ℕ) (old new : ChanHistories) (chan : ℕ) (c : Channel) → EachGrew number old new → chan_state s old chan ≡ Some c →
     (more : ChanHistory) × (chan_state s new chan ≡ Some (state_after chan_machine c more)) × All (IsOther number) more
 state-others s number old new chan c grew is =
     let Q : Type 0 = (more : ChanHistory) × (chan_state s new chan ≡ Some (state_after chan_machine c more)) × All (IsOther number) more in
@@ -147,7 +147,7 @@ state-others s number old new chan c grew is =
           found.2,
         )
 
-held-still : (s : Parts) (number : ℕ) (old new : ChanHistories) (chan : ℕ) → EachGrew number old new → IsHeld s old number chan → IsHeld s new number chan
+held-still : (s : Content) (number : ℕ) (old new : ChanHistories) (chan : ℕ) → EachGrew number old new → IsHeld s old number chan → IsHeld s new number chan
 held-still s number old new chan grew was =
     let after = state-others s number old new chan was.state grew was.is_state in
     record {
@@ -158,7 +158,7 @@ held-still s number old new chan grew was =
       holds = held-others was.state after.0 number was.manner was.holds after.2;
     }
 
-awaited-still : (s : Parts) (number : ℕ) (old new : ChanHistories) (held : List ℕ) (wait : ℕ × ℕ) → EachGrew number old new → HoldsAll s old number held →
+awaited-still : (s : Content) (number : ℕ) (old new : ChanHistories) (held : List ℕ) (wait : ℕ × ℕ) → EachGrew number old new → HoldsAll s old number held →
     IsAwaited s old number held wait → IsAwaited s new number held wait
 awaited-still s number old new held wait grew all was =
     let after = state-others s number old new wait.0 was.state grew was.is_state in
@@ -175,7 +175,7 @@ awaited-still s number old new held wait grew all was =
     }
 
 -- entries of others leave what is kept
-kept-still : (s : Parts) (number : ℕ) (old new : ChanHistories) (below : List ℕ) (holds : Option ℕ) (waits : Option (ℕ × ℕ)) → EachGrew number old new →
+kept-still : (s : Content) (number : ℕ) (old new : ChanHistories) (below : List ℕ) (holds : Option ℕ) (waits : Option (ℕ × ℕ)) → EachGrew number old new →
     IsKept s old number below holds waits → IsKept s new number below holds waits
 kept-still s number old new below holds waits grew was = record {
   apart = was.apart;
@@ -183,7 +183,7 @@ kept-still s number old new below holds waits grew was = record {
   awaited = λ wait is. awaited-still s number old new (option_to_list holds ++ below) wait grew was.held (was.awaited wait is);
 }
 
-pub kept-among : (s : Parts) (number : ℕ) (old new : ChanHistories) (frames : List Frame) → EachGrew number old new → AreKept s old number frames → AreKept s new number frames
+pub kept-among : (s : Content) (number : ℕ) (old new : ChanHistories) (frames : List Frame) → EachGrew number old new → AreKept s old number frames → AreKept s new number frames
 kept-among s number old new [] grew was = tt
 kept-among s number old new (frame ∷ below) grew was = (was.0, kept-still s number old new (got s below) (frame_got s frame) (frame_waits s frame) grew was.1)
 
@@ -193,7 +193,7 @@ length-one None is = absurd (cc)
 length-one (Some x) is = refl
 
 -- at most two open scripts hold no channel: the run of a worker, and the innermost
-pub layered-length : (s : Parts) (frame : Frame) (below : List Frame) → AreLayered s (frame ∷ below) → length (frame ∷ below) ≤ length (got s below) + 2
+pub layered-length : (s : Content) (frame : Frame) (below : List Frame) → AreLayered s (frame ∷ below) → length (frame ∷ below) ≤ length (got s below) + 2
 layered-length s frame [] layers = omega arith
 layered-length s frame (next ∷ below) layers = by_side (λ more. layered-length s next below more) layers.1
   where

@@ -23,7 +23,7 @@ use Rattle.zk_model_wait.specs.declared.sem.SemReply.TheVariants as sem_replies
 use Rattle.zk_model_work.specs.declared.ops.Submitted.{Submitted}
 use Rattle.zk_model_work.specs.declared.ops.Submitted.TheVariants as submissions
 use Rattle.zk_model_work.specs.declared.ops.WorkReply.TheVariants as work_replies
-use Rattle.zk_scenario.specs.Parts.{Parts}
+use Rattle.zk_scenario.specs.Content.{Content}
 use Rattle.zk_words.specs.declared.timeout.Timeout.{Timeout}
 use Rattle.zk_words.specs.declared.timeout.Timeout.TheVariants.{No, Forever, Ticks}
 use Rattle.zk_words.specs.declared.word.Word.{Word}
@@ -48,7 +48,7 @@ use Rattle.zk_worker.specs.declared.frames.Stage.TheVariants as stages
 use Rattle.zk_worker.specs.declared.frames.Progress.{Progress}
 use Rattle.zk_worker.specs.declared.frames.Progress.TheVariants.{Goes, Answers, Enters}
 use Rattle.zk_worker.specs.Calls.{plan_of, closing_step, plan_attempts, plan_progress}
-use Rattle.zk_worker.specs.Waits.{open_step, end_step, quit_step, first_step, wait_attempts, opening_progress, until, wait_progress}
+use Rattle.zk_worker.specs.Waits.{open_step, end_step, quit_step, first_step, wait_attempts, opening_progress, with_alarm, wait_progress}
 use Rattle.zk_worker.specs.Checks.{is_oops}
 use Rattle.zk_worker.specs.Replies.{submission_answer, answer_of}
 use Rattle.zk_worker.specs.Polls.{is_ready, ready_from, poll_attempts, poll_progress, poll_goes, poll_answer, is_answered, ask_step, watch_step, drop_step, fresh, alarm_after, marked, event_of, mark_of}
@@ -79,7 +79,7 @@ not-free object ops.Free frees = absurd (cc)
 not-free object op frees = λ same. cc
 
 -- what a player holds it holds after each step of its own that frees no channel
-pub held-step : (s : Parts) (chans : ChanHistories) (who : Who) (n : ℕ) (step : Step) (reply : StepReply) → uses_or_checks step ≡ false → IsReplied s chans who step reply →
+pub held-step : (s : Content) (chans : ChanHistories) (who : Who) (n : ℕ) (step : Step) (reply : StepReply) → uses_or_checks step ≡ false → IsReplied s chans who step reply →
     (chan : ℕ) → IsHeld s chans who.number chan → IsHeld s (chans_after chans who n step reply) who.number chan
 held-step s chans who n (steps.Chan object op) reply frees is chan held =
     let told = has-replied s chans who object op reply is in
@@ -245,7 +245,7 @@ module _ (P : Stage → Type 0) (Q : Word → Answer → Type 0) (plain : (stage
   opening-goes (step_replies.Obs object obs_replies.Wait place) = plain (stages.Waits place) refl
   opening-goes reply = answered (answer_of reply) (no-oops reply)
 
-  until-goes : (moment : ℕ) (progress : Progress) → GoesWith P Q progress → GoesWith P Q (until moment progress)
+  until-goes : (moment : ℕ) (progress : Progress) → GoesWith P Q progress → GoesWith P Q (with_alarm moment progress)
   until-goes moment (Goes (stages.Waits place)) goes = plain (stages.WaitsUntil place moment) refl
   until-goes moment progress goes = goes
 
@@ -296,7 +296,7 @@ plan-none (plans.Channel chan using_ timeout) stage other = absurd (cc)
 plan-none plan stage other = (refl, refl)
 
 -- a step of such a call keeps what the open scripts hold
-pub other-kept : (s : Parts) (chans : ChanHistories) (who : Who) (n : ℕ) (below : List ℕ) (call : Call) (word : Word) (stage : Stage) (k : ℕ) (step : Step) (reply : StepReply) →
+pub other-kept : (s : Content) (chans : ChanHistories) (who : Who) (n : ℕ) (below : List ℕ) (call : Call) (word : Word) (stage : Stage) (k : ℕ) (step : Step) (reply : StepReply) →
     is_channel (plan_of s.decls call) ≡ false → slice_get (plan_attempts (plan_of s.decls call) stage) k ≡ Some step →
     IsKept s chans who.number below (plan_got (plan_of s.decls call) stage) (plan_waits (plan_of s.decls call) stage) → IsReplied s chans who step reply →
     IsKeptBy s (chans_after chans who n step reply) who.number below (plan_got (plan_of s.decls call)) (plan_waits (plan_of s.decls call))

@@ -16,7 +16,7 @@ use Rattle.zk_base.specs.declared.waits.Waiter.{Waiter}
 use Rattle.zk_base.specs.declared.waits.Decision.{Decision}
 use Rattle.zk_line.specs.declared.types.Decl.{Decl}
 use Rattle.zk_line.specs.declared.types.Decl.TheVariants as decls
-use Rattle.zk_scenario.specs.Parts.{Parts}
+use Rattle.zk_scenario.specs.Content.{Content}
 use Rattle.zk_model_bus.specs.declared.channel.ChanOp.{ChanOp}
 use Rattle.zk_model_bus.specs.declared.channel.ChanOp.TheVariants as ops
 use Rattle.zk_model_bus.specs.declared.channel.ChanReply.{ChanReply}
@@ -35,7 +35,7 @@ use Rattle.zk_player_laws.proofs.ChannelAnswers.{IsGiven, AreGiven, given-after}
 use Rattle.zk_player_laws.proofs.OpenScripts.{chan_state, IsHeld, IsAwaited, IsKept}
 
 -- a channel that answered: its history and state, and the reply of its machine
-pub record HasReplied (s : Parts) (chans : ChanHistories) (who : Who) (object : ℕ) (op : ChanOp) (told : StepReply) : Type 0 where
+pub record HasReplied (s : Content) (chans : ChanHistories) (who : Who) (object : ℕ) (op : ChanOp) (told : StepReply) : Type 0 where
   pub history : ChanHistory
   pub state : Channel
   pub reply : ChanReply
@@ -61,7 +61,7 @@ starts-placed (d ∷ ds) zero start is = first-placed d start is
 starts-placed (d ∷ ds) (suc object) start is = starts-placed ds object start is
 
 -- what is answered at a channel is what its machine answers in its state
-pub has-replied : (s : Parts) (chans : ChanHistories) (who : Who) (object : ℕ) (op : ChanOp) (told : StepReply) →
+pub has-replied : (s : Content) (chans : ChanHistories) (who : Who) (object : ℕ) (op : ChanOp) (told : StepReply) →
     answer_at (machines_of s).chans chans step_replies.Chan who object op ≡ Some told → HasReplied s chans who object op told
 has-replied s chans who object op told is =
     let Q : Type 0 = HasReplied s chans who object op told in
@@ -88,7 +88,7 @@ has-replied s chans who object op told is =
     }
 
 -- what holds of each reply of a channel holds of what was replied
-pub told-by : (s : Parts) (chans : ChanHistories) (who : Who) (object : ℕ) (op : ChanOp) (P : StepReply → Type 0) →
+pub told-by : (s : Content) (chans : ChanHistories) (who : Who) (object : ℕ) (op : ChanOp) (P : StepReply → Type 0) →
     ((r : ChanReply) (place : ℕ) → HasReplied s chans who object op (step_replies.Chan object r place) → P (step_replies.Chan object r place)) →
     (told : StepReply) → answer_at (machines_of s).chans chans step_replies.Chan who object op ≡ Some told → P told
 told-by s chans who object op P each told is =
@@ -96,7 +96,7 @@ told-by s chans who object op P each told is =
     subst P had.tells (each had.reply (length had.history) (subst (λ (x : StepReply). HasReplied s chans who object op x) (sym had.tells) had))
 
 -- it is what its machine answers there
-pub answers-so : (s : Parts) (chans : ChanHistories) (who : Who) (object : ℕ) (op : ChanOp) (r : ChanReply) (place : ℕ) (had : HasReplied s chans who object op (step_replies.Chan object r place)) →
+pub answers-so : (s : Content) (chans : ChanHistories) (who : Who) (object : ℕ) (op : ChanOp) (r : ChanReply) (place : ℕ) (had : HasReplied s chans who object op (step_replies.Chan object r place)) →
     chan_reply had.state who op ≡ Some r
 answers-so s chans who object op r place had = had.answers ∙ ap Some (cc (had.tells))
 
@@ -113,7 +113,7 @@ elsewhere-with (g ∷ hs) (suc object) zero e apart = refl
 elsewhere-with (g ∷ hs) (suc object) (suc other) e apart = elsewhere-with hs object other e (λ same. apart (ap suc same))
 
 -- the state of a channel after an entry there
-pub state-next : (s : Parts) (chans : ChanHistories) (object : ℕ) (c : Channel) (who : Who) (n : ℕ) (op : ChanOp) (r : ChanReply) → chan_state s chans object ≡ Some c →
+pub state-next : (s : Content) (chans : ChanHistories) (object : ℕ) (c : Channel) (who : Who) (n : ℕ) (op : ChanOp) (r : ChanReply) → chan_state s chans object ≡ Some c →
     chan_state s (with_entry chans object (entry who n op r)) object ≡ Some (chan_next c who op)
 state-next s chans object c who n op r is =
     let Q : Type 0 = chan_state s (with_entry chans object (entry who n op r)) object ≡ Some (chan_next c who op) in
@@ -132,7 +132,7 @@ state-next s chans object c who n op r is =
         ∙ ap (λ (d : Channel). Some d) (state_after-append chan_machine start h (e ∷ []) ∙ ap (λ (d : Channel). chan_next d who op) state)
 
 -- and that of another channel
-state-elsewhere : (s : Parts) (chans : ChanHistories) (object other : ℕ) (e : Entry ChanOp ChanReply) → other ≢ object →
+state-elsewhere : (s : Content) (chans : ChanHistories) (object other : ℕ) (e : Entry ChanOp ChanReply) → other ≢ object →
     chan_state s (with_entry chans object e) other ≡ chan_state s chans other
 state-elsewhere s chans object other e apart =
     ap (λ (o : Option ChanHistory). option_and_then (λ (start : Channel). option_map (state_after chan_machine start) o) (start_of (machines_of s).chans other))
@@ -149,7 +149,7 @@ same-or-apart (suc a) (suc b) = further (same-or-apart a b)
     further (inr apart) = inr (λ same. apart (omega arith))
 
 -- what a player holds it holds after each entry of its own but the free there
-pub held-after : (s : Parts) (chans : ChanHistories) (who : Who) (n object chan : ℕ) (op : ChanOp) (r : ChanReply) → IsHeld s chans who.number chan → (chan ≡ object → op ≢ ops.Free) →
+pub held-after : (s : Content) (chans : ChanHistories) (who : Who) (n object chan : ℕ) (op : ChanOp) (r : ChanReply) → IsHeld s chans who.number chan → (chan ≡ object → op ≢ ops.Free) →
     IsHeld s (with_entry chans object (entry who n op r)) who.number chan
 held-after s chans who n object chan op r was not_free = by_place (same-or-apart chan object)
   where
@@ -194,7 +194,7 @@ not-again c ks apart among = let none = none-among c ks (IsDistinct-head eqb c k
 
 -- What is kept of the innermost script's call.
 
-module _ (s : Parts) (number : ℕ) (below : List ℕ) where
+module _ (s : Content) (number : ℕ) (below : List ℕ) where
   apart-below : (holds : Option ℕ) → IsDistinct eqb (option_to_list holds ++ below) → IsDistinct eqb below
   apart-below None apart = apart
   apart-below (Some c) apart = IsDistinct-tail eqb c below apart
@@ -244,7 +244,7 @@ module _ (s : Parts) (number : ℕ) (below : List ℕ) where
     awaited = λ w is. absurd (cc);
   }
 
-module _ (s : Parts) (chans : ChanHistories) (who : Who) (n : ℕ) (below : List ℕ) (waits : Option (ℕ × ℕ)) (chan : ℕ) (was : IsKept s chans who.number below None waits) where
+module _ (s : Content) (chans : ChanHistories) (who : Who) (n : ℕ) (below : List ℕ) (waits : Option (ℕ × ℕ)) (chan : ℕ) (was : IsKept s chans who.number below None waits) where
   -- what isn't held at a moment isn't among what is
   not-among : (c : Channel) → chan_state s chans chan ≡ Some c → ((manner : Manner) → IsHeldAs c who.number manner → ⊥) → list_any (eqb chan) below ≡ false
   not-among c is none = by_test (list_any (eqb chan) below) refl

@@ -10,7 +10,7 @@ use Rattle.zk_model_bus.specs.declared.channel.ChanReply.TheVariants as chan_rep
 use Rattle.zk_model_bus.specs.declared.observer.ObsReply.TheVariants as obs_replies
 use Rattle.zk_model_work.specs.declared.ops.WorkOp.TheVariants as work_ops
 use Rattle.zk_model_work.specs.declared.ops.WorkReply.TheVariants as work_replies
-use Rattle.zk_scenario.specs.Parts.{Parts}
+use Rattle.zk_scenario.specs.Content.{Content}
 use Rattle.zk_scenario.specs.Players.{calls_of}
 use Rattle.zk_words.specs.declared.timeout.Timeout.{Timeout}
 use Rattle.zk_words.specs.declared.word.Word.{Word}
@@ -68,7 +68,7 @@ worker-no-check queue stages.Runs k step is = only-one is_check (steps.Work (wor
 worker-no-check queue stage k step is = absurd (cc)
 
 -- a script or run makes none of its own
-pub own-no-check : (s : Parts) (frames : List Frame) (k : ℕ) (step : Step) → slice_get (frames_attempts s frames) k ≡ Some step → is_check step ≡ false
+pub own-no-check : (s : Content) (frames : List Frame) (k : ℕ) (step : Step) → slice_get (frames_attempts s frames) k ≡ Some step → is_check step ≡ false
 own-no-check s [] k step is = absurd (cc)
 own-no-check s (frame ∷ below) k step is = by frame.role is where
   by : (role : Role) → slice_get (role_attempts s role frame.next frame.stage) k ≡ Some step → is_check step ≡ false
@@ -125,7 +125,7 @@ worker-no-oops decls stages.Start (step_replies.Work (work_replies.Run item admi
 worker-no-oops decls stage reply = tt
 
 -- a script or run is answered by none for a step of its own
-pub own-no-oops : (s : Parts) (frames : List Frame) (made : Step) (reply : StepReply) → AnswersNoOops (frames_progress s frames made reply)
+pub own-no-oops : (s : Content) (frames : List Frame) (made : Step) (reply : StepReply) → AnswersNoOops (frames_progress s frames made reply)
 own-no-oops s [] made reply = tt
 own-no-oops s (frame ∷ below) made reply = by frame.role where
   by : (role : Role) → AnswersNoOops (role_progress s role frame.next frame.stage made reply)

@@ -25,19 +25,19 @@ use Rattle.zk_worker.specs.declared.steps.StepReply.{StepReply}
 use Rattle.zk_worker.specs.declared.steps.StepReply.TheVariants as step_replies
 use Rattle.zk_worker.specs.Polls.{waits, is_armed, is_ready, is_to_ask, unasked_from, asks_more, ask_step, drop_step, step_at, asking, dropping, watching, alarm_steps, is_ended, is_closing, registers, polling, mark_of, is_watch, watched_from, event_of, marked, alarm_after}
 use Rattle.zk_player_laws.specs.PollLaws.{may_reply, is_ask, is_wait, is_quit, is_alarm_end, events_from, asks, is_over, IsRegistered, IsFor, IsDue}
-use Rattle.zk_worker.specs.Follows.{Made}
+use Rattle.zk_worker.specs.Follows.{StepMade}
 use Rattle.zk_player_laws.proofs.PollMarks.{some-is, AsksNext, asks_first, none_to_ask, asked-at, to_ask-kept, none_ready-at, WatchOf, watching-each, Watched, watched, position-look, watched-clock}
 use Rattle.zk_player_laws.proofs.PollReplies.{Marks, ask-marks, ask-is, Drops, drop-drops, watch-marks, watch-is, ask-for, ended-for, ask-only, arm-asks, ask-registers}
 use Rattle.zk_player_laws.proofs.PollPlays.{Apart, Asked, asked-more, asked-same, asked-next, Kept, kept-marked, kept-clock, zip-length, Named, any-front}
 use Rattle.zk_worker.proofs.PollSteps.{all_taken}
 
 -- what a poll keeps with one step more
-abbrev KeptNext : Timeout → List Event → List Made → Alarm → List Mark → Made → Type 0
+abbrev KeptNext : Timeout → List Event → List StepMade → Alarm → List Mark → StepMade → Type 0
 KeptNext timeout events play alarm marks made =
     Kept timeout events (play ++ made ∷ []) (alarm_after alarm made.1) (marked marks (event_of events alarm marks made.0) (mark_of made.1))
 
 -- the same, where the step is for this event
-abbrev KeptFor : Timeout → List Event → List Made → Alarm → List Mark → Made → Option ℕ → Type 0
+abbrev KeptFor : Timeout → List Event → List StepMade → Alarm → List Mark → StepMade → Option ℕ → Type 0
 KeptFor timeout events play alarm marks made place =
     Kept timeout events (play ++ made ∷ []) (alarm_after alarm made.1) (marked marks place (mark_of made.1))
 
@@ -47,16 +47,16 @@ option-at (Some y) zero x is = is
 option-at (Some y) (suc k) x is = absurd (cc)
 
 -- a poll with ticks has made a step
-abbrev pub Later : Timeout → List Made → Type 0
+abbrev pub Later : Timeout → List StepMade → Type 0
 Later timeout play = (ticks : ℕ) → timeout ≡ Ticks ticks → play ≡ [] → ⊥
 
 -- its waiting is over where its marks and its alarm say so
-pub over-is : (timeout : Timeout) (events : List Event) (play : List Made) (alarm : Alarm) (marks : List Mark) → Kept timeout events play alarm marks → is_over play ≡ is_closing alarm marks
+pub over-is : (timeout : Timeout) (events : List Event) (play : List StepMade) (alarm : Alarm) (marks : List Mark) → Kept timeout events play alarm marks → is_over play ≡ is_closing alarm marks
 over-is timeout events play alarm marks kept =
     ap (λ (b : Bool). b || list_any is_alarm_end play) kept.tells ∙ ap (λ (b : Bool). list_any is_ready marks || b) kept.ended
 
 -- all is asked where nothing is to be asked
-pub all-asked : (events : List Event) (play : List Made) (marks : List Mark) → Asked events play marks → asks_more events marks ≡ false → length (asks play) ≡ length (events_from 0 events)
+pub all-asked : (events : List Event) (play : List StepMade) (marks : List Mark) → Asked events play marks → asks_more events marks ≡ false → length (asks play) ≡ length (events_from 0 events)
 all-asked events play marks asked none =
     let whole : events_from 0 events ≡ asked.done = asked.whole ∙ ap (λ (xs : List (ℕ × Event)). asked.done ++ xs) (none_to_ask 0 events marks none) ∙ append-nil asked.done in
     sym (ap (λ (xs : List (ℕ × Event)). length xs) whole ∙ zip-length Named asked.done (asks play) asked.each)
@@ -77,7 +77,7 @@ step_at-parts made events marks k step is =
     (λ mark marked told. record { event = event; mark = mark; there = there; marked = marked; is = told }))
 
 -- a poll that asks
-ask-kept : (timeout : Timeout) (events : List Event) (play : List Made) (alarm : Alarm) (marks : List Mark) (made : Made) (index k : ℕ) →
+ask-kept : (timeout : Timeout) (events : List Event) (play : List StepMade) (alarm : Alarm) (marks : List Mark) (made : StepMade) (index k : ℕ) →
     Kept timeout events play alarm marks → Apart play → Later timeout play → may_reply made ≡ true → unasked_from 0 events marks ≡ Some k →
     slice_get (option_to_list (asking (registers timeout marks) events marks)) index ≡ Some made.0 → KeptFor timeout events play alarm marks made (unasked_from 0 events marks)
 ask-kept timeout events play alarm marks made index k kept apart later may found is =
@@ -102,7 +102,7 @@ ask-kept timeout events play alarm marks made index k kept apart later may found
     }))
 
 -- a poll that gives a registration up
-drop-kept : (timeout : Timeout) (events : List Event) (play : List Made) (alarm : Alarm) (marks : List Mark) (made : Made) (index : ℕ) (place : Option ℕ) →
+drop-kept : (timeout : Timeout) (events : List Event) (play : List StepMade) (alarm : Alarm) (marks : List Mark) (made : StepMade) (index : ℕ) (place : Option ℕ) →
     Kept timeout events play alarm marks → Apart play → Later timeout play → may_reply made ≡ true → asks_more events marks ≡ false → is_over play ≡ true →
     slice_get (option_to_list (step_at drop_step events marks place)) index ≡ Some made.0 → KeptFor timeout events play alarm marks made place
 drop-kept timeout events play alarm marks made index None kept apart later may none over is = absurd (cc)
@@ -123,7 +123,7 @@ drop-kept timeout events play alarm marks made index (Some k) kept apart later m
     })
 
 -- what a step that waits is for
-watch-for : (timeout : Timeout) (events : List Event) (play : List Made) (alarm : Alarm) (marks : List Mark) (step : Step) (reply : StepReply) (k : ℕ) (event : Event) (mark : Mark) →
+watch-for : (timeout : Timeout) (events : List Event) (play : List StepMade) (alarm : Alarm) (marks : List Mark) (step : Step) (reply : StepReply) (k : ℕ) (event : Event) (mark : Mark) →
     Kept timeout events play alarm marks → length events ≤ length marks → slice_get events k ≡ Some event → slice_get marks k ≡ Some mark → watched_from 0 step events marks ≡ Some k →
     is_watch step event mark ≡ true → is_ask (step, reply) ≡ false → Marks event mark (step, reply) → IsFor events play step k
 watch-for timeout events play alarm marks (steps.Sem asked (sem_ops.PollEnd ended)) reply k event mark kept long there marked found is no_ask says =
@@ -136,7 +136,7 @@ watch-for timeout events play alarm marks (steps.LookSignal object false) reply 
 watch-for timeout events play alarm marks step reply k event mark kept long there marked found is no_ask says = absurd (cc)
 
 -- a poll that waits for an event
-watch-kept : (timeout : Timeout) (events : List Event) (play : List Made) (alarm : Alarm) (marks : List Mark) (made : Made) →
+watch-kept : (timeout : Timeout) (events : List Event) (play : List StepMade) (alarm : Alarm) (marks : List Mark) (made : StepMade) →
     Kept timeout events play alarm marks → Apart play → Later timeout play → may_reply made ≡ true → asks_more events marks ≡ false → list_any is_ready marks ≡ false → is_over play ≡ false → length events ≤ length marks →
     WatchOf events marks made.0 → KeptFor timeout events play alarm marks made (watched_from 0 made.0 events marks)
 watch-kept timeout events play alarm marks made kept apart later may none unready over long of =
@@ -189,7 +189,7 @@ or-true true = refl
 or-true false = refl
 
 -- the end of the alarm of a poll that waits
-alarm-kept : (timeout : Timeout) (events : List Event) (play : List Made) (alarm : Alarm) (marks : List Mark) (made : Made) →
+alarm-kept : (timeout : Timeout) (events : List Event) (play : List StepMade) (alarm : Alarm) (marks : List Mark) (made : StepMade) →
     Kept timeout events play alarm marks → Later timeout play → may_reply made ≡ true → asks_more events marks ≡ false → is_over play ≡ false →
     AlarmOf alarm made.0 → KeptFor timeout events play alarm marks made (watched_from 0 made.0 events marks)
 alarm-kept timeout events play alarm marks made kept later may none over of =
@@ -224,7 +224,7 @@ waits-each events alarm marks =
     (All-weaker (AlarmOf alarm) P (λ step of. inr of) (alarm_steps alarm) (alarm-each alarm))
 
 -- each step of a poll with this alarm and these marks
-pub polling-kept : (timeout : Timeout) (events : List Event) (play : List Made) (alarm : Alarm) (marks : List Mark) (made : Made) (index : ℕ) →
+pub polling-kept : (timeout : Timeout) (events : List Event) (play : List StepMade) (alarm : Alarm) (marks : List Mark) (made : StepMade) (index : ℕ) →
     Kept timeout events play alarm marks → Apart play → Later timeout play → length events ≤ MOST_EVENTS → may_reply made ≡ true →
     slice_get (polling timeout events alarm marks) index ≡ Some made.0 → KeptNext timeout events play alarm marks made
 polling-kept timeout events play alarm marks made index kept apart later few may is = by (asks_more events marks) refl is where

@@ -36,7 +36,7 @@ use Rattle.zk_worker.specs.declared.steps.StepReply.{StepReply}
 use Rattle.zk_worker.specs.declared.steps.StepReply.TheVariants as step_replies
 use Rattle.zk_worker.specs.Polls.{waits, fresh, is_armed, is_ready, asks_more, unasked_from, ask_step, drop_step, step_at, asking, dropping, watching, alarm_steps, registers, poll_attempts, is_closing, polling, mark_of, event_of, marked, alarm_after, ready_from, poll_answer, is_answered, poll_goes, polled, poll_progress}
 use Rattle.zk_player_laws.specs.PollLaws.{Leads, LeadsOn, StandsAt, AreServed, may_reply, events_from, asks, AreRising, NamesWhatIsTold, AnswersWhatIsTold, IsDone, KeepsPollLaws, OfEachPoll, OfEachStage, GoesOn, WaitsForAll, AsksFor, is_over, is_alarm_end, tells_ready, GivesUpFirst, endings, IsRegistered, WaitsFor, end_of}
-use Rattle.zk_worker.specs.Follows.{Made}
+use Rattle.zk_worker.specs.Follows.{StepMade}
 use Rattle.zk_worker.specs.Refs.{ref_object}
 use Rattle.zk_worker.proofs.PollSteps.{all_taken}
 use Rattle.zk_player_laws.proofs.PollReplies.{asks-for, stands-attempts, spot_for-armed}
@@ -45,7 +45,7 @@ use Rattle.zk_player_laws.proofs.PollPlays.{Apart, apart-front, Kept, kept-clock
 use Rattle.zk_player_laws.proofs.PollAnswers.{Later, over-is, all-asked, polling-kept}
 
 -- no step stands in an empty play
-nil-stands : (before : List Made) (made : Made) → StandsAt [] before made → ⊥
+nil-stands : (before : List StepMade) (made : StepMade) → StandsAt [] before made → ⊥
 nil-stands [] made at = let whole : [] ≡ made ∷ at.rest = at.whole in cc
 nil-stands (b ∷ before) made at = let whole : [] ≡ b ∷ (before ++ made ∷ at.rest) = at.whole in cc
 
@@ -79,7 +79,7 @@ kept-fresh timeout events few = record {
 }
 
 -- what comes of a step of a poll: what it keeps, and whether that is its answer
-record Next (word : Word) (timeout : Timeout) (events : List Event) (play : List Made) (progress : Progress) : Type 0 where
+record Next (word : Word) (timeout : Timeout) (events : List Event) (play : List StepMade) (progress : Progress) : Type 0 where
   alarm : Alarm
   marks : List Mark
   kept : Kept timeout events play alarm marks
@@ -112,7 +112,7 @@ due_of (Due moment) = moment
 due_of alarm = 0
 
 -- the first step of a poll with ticks
-ticks-next : (word : Word) (ticks : ℕ) (events : List Event) (made : Made) (progress : Progress) → length events ≤ MOST_EVENTS → may_reply made ≡ true →
+ticks-next : (word : Word) (ticks : ℕ) (events : List Event) (made : StepMade) (progress : Progress) → length events ≤ MOST_EVENTS → may_reply made ≡ true →
     made.0 ≡ steps.Clock (clock_ops.Alarm ticks) → poll_progress word (Ticks ticks) events Start made.0 made.1 ≡ progress → Next word (Ticks ticks) events ([] ++ made ∷ []) progress
 ticks-next word ticks events made progress few may is comes = by made.0 made.1 is may comes where
   then : (moment place : ℕ) → Goes (Polls (Due moment) fresh) ≡ progress →
@@ -133,11 +133,11 @@ ticks-next word ticks events made progress few may is comes = by made.0 made.1 i
           stands = record { rest = []; whole = ap (λ (a : Alarm). (steps.Clock (clock_ops.Alarm ticks), step_replies.Clock (clock_replies.At (due_of a)) place) ∷ []) is };
         })
         (λ n set unended.
-        let made : Made = (steps.Clock (clock_ops.Alarm ticks), step_replies.Clock (clock_replies.At moment) place) in
-        let first : Made = (steps.Clock (clock_ops.Alarm set.ticks), step_replies.Clock (clock_replies.At n) set.place) in
+        let made : StepMade = (steps.Clock (clock_ops.Alarm ticks), step_replies.Clock (clock_replies.At moment) place) in
+        let first : StepMade = (steps.Clock (clock_ops.Alarm set.ticks), step_replies.Clock (clock_replies.At n) set.place) in
         ⊎_elim
         (λ (at : StandsAt [] [] first). absurd (nil-stands [] first at))
-        (λ (last : ([] ≡ []) × (first ≡ made)). ap (λ (x : Made). Due (moment_in x.1)) (sym last.1))
+        (λ (last : ([] ≡ []) × (first ≡ made)). ap (λ (x : StepMade). Due (moment_in x.1)) (sym last.1))
         (stands-cases [] made [] first set.stands.rest set.stands.whole));
     comes = ap (λ (b : Bool). cond b (Answers word (poll_answer fresh)) (Goes (Polls (Due moment) fresh)))
         (and-false (not (asks_more events fresh)) (not (list_any is_armed fresh))) ∙ comes;
@@ -166,7 +166,7 @@ started word timeout events step reply may never = refl
 apart-nil : Apart []
 apart-nil before other a b spot first second one two = absurd (nil-stands before a first)
 
-plain-next : (word : Word) (timeout : Timeout) (events : List Event) (made : Made) (index : ℕ) (progress : Progress) → length events ≤ MOST_EVENTS → may_reply made ≡ true →
+plain-next : (word : Word) (timeout : Timeout) (events : List Event) (made : StepMade) (index : ℕ) (progress : Progress) → length events ≤ MOST_EVENTS → may_reply made ≡ true →
     ((ticks : ℕ) → timeout ≡ Ticks ticks → ⊥) → slice_get (polling timeout events Unset fresh) index ≡ Some made.0 →
     poll_progress word timeout events Start made.0 made.1 ≡ progress → Next word timeout events ([] ++ made ∷ []) progress
 plain-next word timeout events made index progress few may plain ahead comes =
@@ -181,7 +181,7 @@ plain-next word timeout events made index progress few may plain ahead comes =
     }
 
 -- the first step of a poll
-start-next : (word : Word) (timeout : Timeout) (events : List Event) (made : Made) (progress : Progress) → length events ≤ MOST_EVENTS → may_reply made ≡ true →
+start-next : (word : Word) (timeout : Timeout) (events : List Event) (made : StepMade) (progress : Progress) → length events ≤ MOST_EVENTS → may_reply made ≡ true →
     Leads word timeout events Start made progress → Next word timeout events ([] ++ made ∷ []) progress
 start-next word No events made progress few may leads = plain-next word No events made leads.index progress few may (λ ticks is. absurd (cc)) leads.ahead leads.comes
 start-next word Forever events made progress few may leads = plain-next word Forever events made leads.index progress few may (λ ticks is. absurd (cc)) leads.ahead leads.comes
@@ -189,15 +189,15 @@ start-next word (Ticks ticks) events made progress few may leads =
     ticks-next word ticks events made progress few may (sym (slice_get-one (steps.Clock (clock_ops.Alarm ticks)) made.0 leads.index leads.ahead)) leads.comes
 
 -- what holds of a play that led to a stage
-abbrev KeptAt : Timeout → List Event → List Made → Stage → Type 0
+abbrev KeptAt : Timeout → List Event → List StepMade → Stage → Type 0
 KeptAt timeout events play Start = play ≡ []
 KeptAt timeout events play (Polls alarm marks) = Kept timeout events play alarm marks × (is_answered timeout events alarm marks ≡ false) × Later timeout play
 KeptAt timeout events play stage = ⊥
 
-stage-next : (word : Word) (timeout : Timeout) (events : List Event) (play : List Made) (stage : Stage) (made : Made) (progress : Progress) → length events ≤ MOST_EVENTS →
+stage-next : (word : Word) (timeout : Timeout) (events : List Event) (play : List StepMade) (stage : Stage) (made : StepMade) (progress : Progress) → length events ≤ MOST_EVENTS →
     KeptAt timeout events play stage → Apart play → may_reply made ≡ true → Leads word timeout events stage made progress → Next word timeout events (play ++ made ∷ []) progress
 stage-next word timeout events play Start made progress few none apart may leads =
-    subst (λ (p : List Made). Next word timeout events (p ++ made ∷ []) progress) (sym none) (start-next word timeout events made progress few may leads)
+    subst (λ (p : List StepMade). Next word timeout events (p ++ made ∷ []) progress) (sym none) (start-next word timeout events made progress few may leads)
 stage-next word timeout events play (Polls alarm marks) made progress few kept apart may leads = record {
   alarm = alarm_after alarm made.1;
   marks = marked marks (event_of events alarm marks made.0) (mark_of made.1);
@@ -206,12 +206,12 @@ stage-next word timeout events play (Polls alarm marks) made progress few kept a
 }
 stage-next word timeout events play stage made progress few kept apart may leads = absurd kept
 
-push-some : (xs : List Made) (x : Made) → xs ++ x ∷ [] ≡ [] → ⊥
+push-some : (xs : List StepMade) (x : StepMade) → xs ++ x ∷ [] ≡ [] → ⊥
 push-some [] x is = cc
 push-some (y ∷ xs) x is = cc
 
 -- one that goes on holds it at its next stage
-goes-kept : (word : Word) (timeout : Timeout) (events : List Event) (play : List Made) (made : Made) (stage : Stage) →
+goes-kept : (word : Word) (timeout : Timeout) (events : List Event) (play : List StepMade) (made : StepMade) (stage : Stage) →
     Next word timeout events (play ++ made ∷ []) (Goes stage) → KeptAt timeout events (play ++ made ∷ []) stage
 goes-kept word timeout events play made stage next = by (is_answered timeout events next.alarm next.marks) refl next.comes where
   by : (b : Bool) → is_answered timeout events next.alarm next.marks ≡ b → cond b (Answers word (poll_answer next.marks)) (Goes (Polls next.alarm next.marks)) ≡ Goes stage →
@@ -221,22 +221,22 @@ goes-kept word timeout events play made stage next = by (is_answered timeout eve
       let at : Polls next.alarm next.marks ≡ stage = cc in
       subst (λ (s : Stage). KeptAt timeout events (play ++ made ∷ []) s) at (next.kept, is, λ ticks set none. push-some play made none)
 
-served-here : (before : List Made) (made : Made) (more : List Made) → AreServed (before ++ made ∷ more) → may_reply made ≡ true
+served-here : (before : List StepMade) (made : StepMade) (more : List StepMade) → AreServed (before ++ made ∷ more) → may_reply made ≡ true
 served-here before made more served =
-    let P : Made → Type 0 = λ x. may_reply x ≡ true in
+    let P : StepMade → Type 0 = λ x. may_reply x ≡ true in
     All-head P made more (All-back P before (made ∷ more) served.each)
 
 -- each play holds it at its stage
-led-kept : (word : Word) (timeout : Timeout) (events : List Event) (before : List Made) (stage : Stage) (more : List Made) (end : Stage) → length events ≤ MOST_EVENTS →
+led-kept : (word : Word) (timeout : Timeout) (events : List Event) (before : List StepMade) (stage : Stage) (more : List StepMade) (end : Stage) → length events ≤ MOST_EVENTS →
     KeptAt timeout events before stage → LeadsOn word timeout events stage more end → AreServed (before ++ more) → KeptAt timeout events (before ++ more) end
 led-kept word timeout events before stage [] end few kept led served =
-    subst (λ (p : List Made). KeptAt timeout events p end) (sym (append-nil before)) (subst (λ (s : Stage). KeptAt timeout events before s) led kept)
+    subst (λ (p : List StepMade). KeptAt timeout events p end) (sym (append-nil before)) (subst (λ (s : Stage). KeptAt timeout events before s) led kept)
 led-kept word timeout events before stage (made ∷ more) end few kept led served =
     let next = stage-next word timeout events before stage made (Goes led.0) few kept (apart-front before (made ∷ more) served.apart) (served-here before made more served) led.1 in
     let whole : (before ++ made ∷ []) ++ more ≡ before ++ made ∷ more = append_assoc before (made ∷ []) more in
-    subst (λ (p : List Made). KeptAt timeout events p end) whole
+    subst (λ (p : List StepMade). KeptAt timeout events p end) whole
     (led-kept word timeout events (before ++ made ∷ []) led.0 more end few (goes-kept word timeout events before made led.0 next) led.2
-    (subst (λ (p : List Made). AreServed p) (sym whole) served))
+    (subst (λ (p : List StepMade). AreServed p) (sym whole) served))
 
 contains-first : (x : ℕ) (xs : List ℕ) → Contains (x ∷ xs) x
 contains-first x xs = (0, omega arith, refl)
@@ -283,7 +283,7 @@ ready-rising n m [] low = tt
 ready-rising n m (Ready ∷ marks) low = (low, ready-rising (n + 1) (n + 1) marks (omega arith))
 ready-rising n m (mark ∷ marks) low = ready-rising (n + 1) m marks (omega arith)
 
-named-told : (timeout : Timeout) (events : List Event) (play : List Made) (alarm : Alarm) (marks : List Mark) → Kept timeout events play alarm marks →
+named-told : (timeout : Timeout) (events : List Event) (play : List StepMade) (alarm : Alarm) (marks : List Mark) → Kept timeout events play alarm marks →
     NamesWhatIsTold events play (ready_from 0 marks)
 named-told timeout events play alarm marks kept = record {
   rising = ready-rising 0 0 marks (omega arith);
@@ -296,7 +296,7 @@ named-told timeout events play alarm marks kept = record {
 }
 
 -- what is answered of the marks
-answer-told : (timeout : Timeout) (events : List Event) (play : List Made) (alarm : Alarm) (marks : List Mark) (answer : Answer) → Kept timeout events play alarm marks →
+answer-told : (timeout : Timeout) (events : List Event) (play : List StepMade) (alarm : Alarm) (marks : List Mark) (answer : Answer) → Kept timeout events play alarm marks →
     poll_answer marks ≡ answer → AnswersWhatIsTold events play answer
 answer-told timeout events play alarm marks answer kept is = record {
   told = λ some. (
@@ -308,7 +308,7 @@ answer-told timeout events play alarm marks answer kept is = record {
 }
 
 -- a poll with its answer keeps its laws
-answered-laws : (timeout : Timeout) (events : List Event) (play : List Made) (alarm : Alarm) (marks : List Mark) (answer : Answer) → Kept timeout events play alarm marks →
+answered-laws : (timeout : Timeout) (events : List Event) (play : List StepMade) (alarm : Alarm) (marks : List Mark) (answer : Answer) → Kept timeout events play alarm marks →
     is_answered timeout events alarm marks ≡ true → poll_answer marks ≡ answer → KeepsPollLaws timeout events play answer
 answered-laws timeout events play alarm marks answer kept is told =
     let parts = and_parts (not (asks_more events marks)) ((is_closing alarm marks || not (waits timeout)) && not (list_any is_armed marks)) is in
@@ -344,7 +344,7 @@ answers-so word timeout events alarm marks answer comes = by (is_answered timeou
 
 pub poll_laws : OfEachPoll KeepsPollLaws
 poll_laws word timeout events few play answer of served =
-    let served_so : AreServed (of.front ++ of.last ∷ []) = subst (λ (p : List Made). AreServed p) of.whole served in
+    let served_so : AreServed (of.front ++ of.last ∷ []) = subst (λ (p : List StepMade). AreServed p) of.whole served in
     let front : AreServed of.front = record {
       each = All-front (λ made. may_reply made ≡ true) of.front (of.last ∷ []) served_so.each;
       apart = apart-front of.front (of.last ∷ []) served_so.apart;
@@ -352,7 +352,7 @@ poll_laws word timeout events few play answer of served =
     let kept = led-kept word timeout events [] Start of.front of.stage few refl of.led front in
     let next = stage-next word timeout events of.front of.stage of.last (Answers word answer) few kept front.apart (served-here of.front of.last [] served_so) of.answered in
     let so = answers-so word timeout events next.alarm next.marks answer next.comes in
-    subst (λ (p : List Made). KeepsPollLaws timeout events p answer) (sym of.whole)
+    subst (λ (p : List StepMade). KeepsPollLaws timeout events p answer) (sym of.whole)
     (answered-laws timeout events (of.front ++ of.last ∷ []) next.alarm next.marks answer next.kept so.0 so.1)
 
 none-counted : (xs : List Spot) → count_by (λ x. true) xs ≡ 0 → xs ≡ []
@@ -360,7 +360,7 @@ none-counted [] is = refl
 none-counted (x ∷ xs) is = let one = count_by-cons (λ (s : Spot). true) x xs in absurd (omega (arith, one, is))
 
 -- a poll that is done has its answer
-done-answered : (timeout : Timeout) (events : List Event) (play : List Made) (alarm : Alarm) (marks : List Mark) → Kept timeout events play alarm marks →
+done-answered : (timeout : Timeout) (events : List Event) (play : List StepMade) (alarm : Alarm) (marks : List Mark) → Kept timeout events play alarm marks →
     IsDone timeout events play → is_answered timeout events alarm marks ≡ true
 done-answered timeout events play alarm marks kept done =
     let many = zip-length Named kept.asked.done (asks play) kept.asked.each in
@@ -376,7 +376,7 @@ done-answered timeout events play alarm marks kept done =
     (and_from (is_closing alarm marks || not (waits timeout)) (not (list_any is_armed marks)) over (not_from_false (list_any is_armed marks) armed))
 
 -- nothing is left to ask where as many were asked as there are
-asked-all : (timeout : Timeout) (events : List Event) (play : List Made) (alarm : Alarm) (marks : List Mark) → Kept timeout events play alarm marks →
+asked-all : (timeout : Timeout) (events : List Event) (play : List StepMade) (alarm : Alarm) (marks : List Mark) → Kept timeout events play alarm marks →
     length (asks play) ≡ length (events_from 0 events) → asks_more events marks ≡ false
 asked-all timeout events play alarm marks kept all =
     let many = zip-length Named kept.asked.done (asks play) kept.asked.each in
@@ -385,7 +385,7 @@ asked-all timeout events play alarm marks kept all =
     no_unasked 0 events marks (nil_from_length (to_ask 0 events marks) none)
 
 -- a poll that asks attempts the ask of the next event
-asks-attempts : (timeout : Timeout) (events : List Event) (play : List Made) (alarm : Alarm) (marks : List Mark) (k : ℕ) (event : Event) → Kept timeout events play alarm marks →
+asks-attempts : (timeout : Timeout) (events : List Event) (play : List StepMade) (alarm : Alarm) (marks : List Mark) (k : ℕ) (event : Event) → Kept timeout events play alarm marks →
     slice_get (events_from 0 events) (length (asks play)) ≡ Some (k, event) → (step : Step) × (polling timeout events alarm marks ≡ step ∷ []) × AsksFor event step
 asks-attempts timeout events play alarm marks k event kept next = by (unasked_from 0 events marks) refl where
   many : length kept.asked.done ≡ length (asks play)
@@ -418,7 +418,7 @@ asks-attempts timeout events play alarm marks k event kept next = by (unasked_fr
       )
 
 -- what waits for an event is the step of its mark
-watches-at : (timeout : Timeout) (events : List Event) (play : List Made) (alarm : Alarm) (marks : List Mark) (k : ℕ) (step : Step) → Kept timeout events play alarm marks →
+watches-at : (timeout : Timeout) (events : List Event) (play : List StepMade) (alarm : Alarm) (marks : List Mark) (k : ℕ) (step : Step) → Kept timeout events play alarm marks →
     length events ≤ MOST_EVENTS → is_over play ≡ false → WaitsFor events play k step → WatchAt events marks k step
 watches-at timeout events play alarm marks k step kept few unended waits = ⊎_elim
     (λ (by : (spot : Spot) × IsRegistered events play spot k × (end_of spot ≡ Some step)).
@@ -437,7 +437,7 @@ watches-at timeout events play alarm marks k step kept few unended waits = ⊎_e
     waits
 
 -- a poll that waits attempts all that it waits for
-waits-attempts : (timeout : Timeout) (events : List Event) (play : List Made) (alarm : Alarm) (marks : List Mark) → Kept timeout events play alarm marks → length events ≤ MOST_EVENTS →
+waits-attempts : (timeout : Timeout) (events : List Event) (play : List StepMade) (alarm : Alarm) (marks : List Mark) → Kept timeout events play alarm marks → length events ≤ MOST_EVENTS →
     length (asks play) ≡ length (events_from 0 events) → is_over play ≡ false → WaitsForAll events play (polling timeout events alarm marks)
 waits-attempts timeout events play alarm marks kept few all unended =
     let none = asked-all timeout events play alarm marks kept all in
@@ -471,7 +471,7 @@ waits-attempts timeout events play alarm marks kept few all unended =
     })
 
 -- and one whose waiting is over a step that gives a registration up
-quits-attempts : (timeout : Timeout) (events : List Event) (play : List Made) (alarm : Alarm) (marks : List Mark) → Kept timeout events play alarm marks →
+quits-attempts : (timeout : Timeout) (events : List Event) (play : List StepMade) (alarm : Alarm) (marks : List Mark) → Kept timeout events play alarm marks →
     is_answered timeout events alarm marks ≡ false → length (asks play) ≡ length (events_from 0 events) → is_over play ≡ true →
     (step : Step) × (polling timeout events alarm marks ≡ step ∷ []) × GivesUpFirst events play step
 quits-attempts timeout events play alarm marks kept unanswered all over =
@@ -514,7 +514,7 @@ quits-attempts timeout events play alarm marks kept unanswered all over =
       armed-left false true stays armed none over unended = not-false armed unended
 
 -- a poll at its first stage, or at one with this alarm and these marks
-goes-on : (timeout : Timeout) (events : List Event) (play : List Made) (alarm : Alarm) (marks : List Mark) → Kept timeout events play alarm marks → length events ≤ MOST_EVENTS →
+goes-on : (timeout : Timeout) (events : List Event) (play : List StepMade) (alarm : Alarm) (marks : List Mark) → Kept timeout events play alarm marks → length events ≤ MOST_EVENTS →
     ((ticks : ℕ) → timeout ≡ Ticks ticks → play ≡ [] → ⊥) →
     (is_over play ≡ true → is_answered timeout events alarm marks ≡ false) → ((play ≡ [] → ⊥) → is_answered timeout events alarm marks ≡ false) →
     GoesOn timeout events play (polling timeout events alarm marks)
@@ -551,6 +551,6 @@ pub poll_goes_on : OfEachStage GoesOn
 poll_goes_on word timeout events few play stage led served =
     by stage (led-kept word timeout events [] Start play stage few refl led served) where
       by : (stage : Stage) → KeptAt timeout events play stage → GoesOn timeout events play (poll_attempts timeout events stage)
-      by Start none = subst (λ (p : List Made). GoesOn timeout events p (poll_attempts timeout events Start)) (sym none) (start-goes timeout events few)
+      by Start none = subst (λ (p : List StepMade). GoesOn timeout events p (poll_attempts timeout events Start)) (sym none) (start-goes timeout events few)
       by (Polls alarm marks) kept = goes-on timeout events play alarm marks kept.0 few kept.2 (λ over. kept.1) (λ some. kept.1)
       by stage kept = absurd kept

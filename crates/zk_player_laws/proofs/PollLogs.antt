@@ -5,7 +5,7 @@ use Rattle.zk_line.specs.declared.types.Call.{Call}
 use Rattle.zk_line.specs.declared.types.Call.TheVariants as calls
 use Rattle.zk_line.specs.declared.events.Event.{Event}
 use Rattle.zk_line.specs.Calls.{word_of}
-use Rattle.zk_scenario.specs.Parts.{Parts}
+use Rattle.zk_scenario.specs.Content.{Content}
 use Rattle.zk_words.specs.declared.timeout.Timeout.{Timeout}
 use Rattle.zk_words.specs.declared.word.Word.{Word}
 use Rattle.zk_words.specs.declared.word.Word.TheVariants as words
@@ -18,7 +18,7 @@ use Rattle.zk_worker.specs.Calls.{plan_of}
 use Rattle.zk_player_laws.specs.CheckLaws.{BeginsCall}
 use Rattle.zk_worker.specs.Checks.{is_oops}
 use Rattle.zk_player_laws.specs.PollLaws.{LeadsOn, IsAnswered}
-use Rattle.zk_worker.specs.Follows.{Made}
+use Rattle.zk_worker.specs.Follows.{StepMade}
 use Rattle.zk_player_laws.specs.PollLogs.{IsPollOf, EachPollIsPlayed}
 use Rattle.zk_player_laws.proofs.CallsPlayed as plays
 use Rattle.zk_player_laws.proofs.CallsPlayed.{IsPlayOf, IsDone, each_call_is_played}
@@ -29,13 +29,13 @@ poll-word (calls.Poll timeout events) is = (timeout, events, refl)
 poll-word call is = absurd (cc)
 
 -- the steps of a call that is a poll are those of a poll
-pub poll-leads : (word : Word) (timeout : Timeout) (events : List Event) (stage : Stage) (play : List Made) (end : Stage) → plays.LeadsOn word (Poll timeout events) stage play end →
+pub poll-leads : (word : Word) (timeout : Timeout) (events : List Event) (stage : Stage) (play : List StepMade) (end : Stage) → plays.LeadsOn word (Poll timeout events) stage play end →
     LeadsOn word timeout events stage play end
 poll-leads word timeout events stage [] end led = led
 poll-leads word timeout events stage (made ∷ more) end led =
     (led.0, record { index = led.1.index; ahead = led.1.ahead; comes = led.1.comes }, poll-leads word timeout events led.0 more end led.2)
 
-poll-done : (word : Word) (timeout : Timeout) (events : List Event) (play : List Made) (answer : Answer) → IsDone word (Poll timeout events) play answer → IsAnswered word timeout events play answer
+poll-done : (word : Word) (timeout : Timeout) (events : List Event) (play : List StepMade) (answer : Answer) → IsDone word (Poll timeout events) play answer → IsAnswered word timeout events play answer
 poll-done word timeout events play answer done = record {
   front = done.front;
   last = done.last;
@@ -45,7 +45,7 @@ poll-done word timeout events play answer done = record {
   answered = record { index = done.answered.index; ahead = done.answered.ahead; comes = done.answered.comes };
 }
 
-of-play : (s : Parts) (number : ℕ) (made : List Made) (a : Answered) → a.word ≡ words.Poll → IsPlayOf s number made a → IsPollOf s number made a
+of-play : (s : Content) (number : ℕ) (made : List StepMade) (a : Answered) → a.word ≡ words.Poll → IsPlayOf s number made a → IsPollOf s number made a
 of-play s number made a poll of =
     let polls = poll-word of.call (sym of.is_word ∙ poll) in
     let done : IsDone words.Poll (Poll polls.0 polls.1) of.play a.answer = subst (λ (c : Call). IsDone (word_of c) (plan_of s.decls c) of.play a.answer) polls.2 of.done in
@@ -65,7 +65,7 @@ of-play s number made a poll of =
     }
 
 -- a poll uses no channel
-polls : (s : Parts) (number : ℕ) (made : List Made) (a : Answered) → a.word ≡ words.Poll → IsPlayOf s number made a ⊎ IsUseOf made a → IsPollOf s number made a
+polls : (s : Content) (number : ℕ) (made : List StepMade) (a : Answered) → a.word ≡ words.Poll → IsPlayOf s number made a ⊎ IsUseOf made a → IsPollOf s number made a
 polls s number made a poll (inl of) = of-play s number made a poll of
 polls s number made a poll (inr of) = absurd (let uses = ap (λ (w : Word). is_in_use w of.step.0) (sym poll) ∙ of.in_use in cc)
 

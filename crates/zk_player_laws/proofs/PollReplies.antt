@@ -22,12 +22,12 @@ use Rattle.zk_worker.specs.declared.steps.StepReply.{StepReply}
 use Rattle.zk_worker.specs.declared.steps.StepReply.TheVariants as step_replies
 use Rattle.zk_worker.specs.Polls.{is_to_ask, is_armed, is_ready, ask_step, watch_step, drop_step, is_watch, mark_of, alarm_after}
 use Rattle.zk_player_laws.specs.PollLaws.{may_reply, registered_at, ended_at, is_ask, is_arm, asks_to_wait, is_wait, is_quit, is_of_clock, is_alarm_end, tells_ready, names, IsAskFor, IsRegistered, IsFor, AsksFor, end_of, quit_of}
-use Rattle.zk_worker.specs.Follows.{Made}
+use Rattle.zk_worker.specs.Follows.{StepMade}
 use Rattle.zk_worker.specs.Refs.{ref_object}
 use Rattle.zk_player_laws.proofs.PollMarks.{is_unasked, spot_for}
 
 -- what a step for an event that is marked so says with its reply
-pub record Marks (event : Event) (mark : Mark) (made : Made) : Type 0 where
+pub record Marks (event : Event) (mark : Mark) (made : StepMade) : Type 0 where
   pub free : is_of_clock made ≡ false
   pub named : names event made ≡ true
   pub taken : registered_at made ≡ spot_for event (mark_of made.1)
@@ -113,7 +113,7 @@ msgq-quitted queue place (step_replies.Msgq at msgq_replies.Plain n) may =
 msgq-quitted queue place reply may = absurd (cc)
 
 -- what gives a registration up: its marks, and where the registration is
-pub record Drops (event : Event) (mark : Mark) (made : Made) : Type 0 where
+pub record Drops (event : Event) (mark : Mark) (made : StepMade) : Type 0 where
   pub marks : Marks event mark made
   pub spot : Spot
   pub at : ended_at made ≡ Some spot
@@ -188,7 +188,7 @@ watch-is (Sig signal) mark step reply is =
 watch-is event mark step reply is = absurd (cc)
 
 -- what a step of the clock says of all but the alarm: nothing
-pub record OfClock (made : Made) : Type 0 where
+pub record OfClock (made : StepMade) : Type 0 where
   pub no_ask : is_ask made ≡ false
   pub untold : tells_ready made ≡ false
   pub none : registered_at made ≡ None
@@ -204,14 +204,14 @@ free-no_end (steps.Clock op) reply is = absurd (cc)
 free-no_end step reply is = refl
 
 -- an ask in its turn is for its event
-pub ask-for : (events : List Event) (before : List Made) (step : Step) (reply : StepReply) (k : ℕ) → is_ask (step, reply) ≡ true → IsAskFor events before k → IsFor events before step k
+pub ask-for : (events : List Event) (before : List StepMade) (step : Step) (reply : StepReply) (k : ℕ) → is_ask (step, reply) ≡ true → IsAskFor events before k → IsFor events before step k
 ask-for events before (steps.Sem object (sem_ops.PollArm waits)) reply k is for = for
 ask-for events before (steps.Msgq object (msgq_ops.PollArm waits)) reply k is for = for
 ask-for events before (steps.LookSignal object false) reply k is for = for
 ask-for events before step reply k is for = absurd (cc)
 
 -- and the end of a registration is for the event that was registered
-pub ended-for : (events : List Event) (before : List Made) (step : Step) (reply : StepReply) (spot : Spot) (k : ℕ) → ended_at (step, reply) ≡ Some spot →
+pub ended-for : (events : List Event) (before : List StepMade) (step : Step) (reply : StepReply) (spot : Spot) (k : ℕ) → ended_at (step, reply) ≡ Some spot →
     IsRegistered events before spot k → IsFor events before step k
 ended-for events before (steps.Sem object (sem_ops.PollEnd place)) reply spot k is by = subst (λ (s : Spot). IsRegistered events before s k) (sym (same_Some (spots.Sem object place) spot is)) by
 ended-for events before (steps.Sem object (sem_ops.PollQuit place)) reply spot k is by = subst (λ (s : Spot). IsRegistered events before s k) (sym (same_Some (spots.Sem object place) spot is)) by
@@ -220,7 +220,7 @@ ended-for events before (steps.Msgq object (msgq_ops.PollQuit place)) reply spot
 ended-for events before step reply spot k is by = absurd (cc)
 
 -- a step that has registered is an ask
-pub registered-for : (events : List Event) (before : List Made) (step : Step) (reply : StepReply) (spot : Spot) (k : ℕ) → registered_at (step, reply) ≡ Some spot →
+pub registered-for : (events : List Event) (before : List StepMade) (step : Step) (reply : StepReply) (spot : Spot) (k : ℕ) → registered_at (step, reply) ≡ Some spot →
     IsFor events before step k → IsAskFor events before k
 registered-for events before (steps.Sem object (sem_ops.PollArm waits)) reply spot k is for = for
 registered-for events before (steps.Msgq object (msgq_ops.PollArm waits)) reply spot k is for = for

@@ -30,7 +30,7 @@ use Rattle.zk_model_wait.specs.declared.sem.SemReply.TheVariants as sem_replies
 use Rattle.zk_model_wait.specs.Clock.{new_clock, clock_machine}
 use Rattle.zk_model_wait.specs.MsgqLaws.{polls as polls_msgq}
 use Rattle.zk_model_wait.specs.SemLaws.{polls as polls_sem}
-use Rattle.zk_scenario.specs.Parts.{Parts}
+use Rattle.zk_scenario.specs.Content.{Content}
 use Rattle.zk_scenario.specs.Players.{calls_of}
 use Rattle.zk_scenario.specs.Valid.{IsValid}
 use Rattle.zk_words.specs.declared.timeout.Timeout.{Timeout}
@@ -48,7 +48,7 @@ use Rattle.zk_worker.specs.declared.steps.Step.TheVariants as steps
 use Rattle.zk_worker.specs.declared.steps.StepReply.TheVariants as step_replies
 use Rattle.zk_worker.specs.Families.{entry_at}
 use Rattle.zk_worker.specs.Checks.{is_oops}
-use Rattle.zk_worker.specs.Follows.{Made, Stands}
+use Rattle.zk_worker.specs.Follows.{StepMade, Stands}
 use Rattle.zk_worker.specs.declared.frames.Progress.TheVariants.{Goes, Answers}
 use Rattle.zk_worker.specs.Polls.{poll_attempts, ask_step, watch_step, drop_step}
 use Rattle.zk_player_laws.specs.PollLaws.{Leads, LeadsOn, StandsAt, AreServed, may_reply, registered_at}
@@ -103,16 +103,16 @@ all-units [] = All-nil (λ (event : Event). Unit {0})
 all-units (event ∷ events) = All-cons (λ (event : Event). Unit {0}) event events tt (all-units events)
 
 -- each step of a poll is one that a poll may make
-leads-of-poll : (word : Word) (timeout : Timeout) (events : List Event) (stage : Stage) (made : Made) (progress : Progress) → Leads word timeout events stage made progress → OfPoll made.0
+leads-of-poll : (word : Word) (timeout : Timeout) (events : List Event) (stage : Stage) (made : StepMade) (progress : Progress) → Leads word timeout events stage made progress → OfPoll made.0
 leads-of-poll word timeout events stage made progress leads =
     All-at OfPoll (poll_attempts timeout events stage) leads.index made.0
     (poll_attempts-all OfPoll (λ (event : Event). Unit {0}) ask-of-poll watch-of-poll drop-of-poll (λ ticks. refl) (λ moment. refl) timeout events stage (all-units events))
     leads.ahead
 
-abbrev pub MadeOfPoll : Made → Type 0
+abbrev pub MadeOfPoll : StepMade → Type 0
 MadeOfPoll made = OfPoll made.0
 
-pub led-of-poll : (word : Word) (timeout : Timeout) (events : List Event) (stage : Stage) (play : List Made) (end : Stage) → LeadsOn word timeout events stage play end → All MadeOfPoll play
+pub led-of-poll : (word : Word) (timeout : Timeout) (events : List Event) (stage : Stage) (play : List StepMade) (end : Stage) → LeadsOn word timeout events stage play end → All MadeOfPoll play
 led-of-poll word timeout events stage [] end led = All-nil MadeOfPoll
 led-of-poll word timeout events stage (made ∷ play) end led =
     All-cons MadeOfPoll made play (leads-of-poll word timeout events stage made (Goes led.0) led.1) (led-of-poll word timeout events led.0 play end led.2)
@@ -138,43 +138,43 @@ object-entry {O} {R} histories object place e is = by (slice_get histories objec
   by (Some h) there is = (h, there, is)
 
 -- a step that stands in what is shown has a reply that a poll can have there
-stands-served : (shown : Shown) (spot : Spot) (made : Made) → ShowsLegal shown → Stands shown spot made → MadeOfPoll made → may_reply made ≡ true
+stands-served : (shown : Shown) (spot : Spot) (made : StepMade) → ShowsLegal shown → Stands shown spot made → MadeOfPoll made → may_reply made ≡ true
 stands-served shown (spots.Work place) made legal stands of =
     let at = mapped (λ e. (steps.Work e.op, step_replies.Work e.reply place)) (slice_get shown.work place) made stands in
-    let never : false ≡ true = ap (λ (m : Made). is_of_poll m.0) at.2 ∙ of in absurd (cc)
+    let never : false ≡ true = ap (λ (m : StepMade). is_of_poll m.0) at.2 ∙ of in absurd (cc)
 stands-served shown (spots.Table place) made legal stands of =
     let at = mapped (λ e. (steps.Table e.op, step_replies.Table e.reply place)) (slice_get shown.table place) made stands in
-    let never : false ≡ true = ap (λ (m : Made). is_of_poll m.0) at.2 ∙ of in absurd (cc)
+    let never : false ≡ true = ap (λ (m : StepMade). is_of_poll m.0) at.2 ∙ of in absurd (cc)
 stands-served shown (spots.Clock place) made legal stands of =
     let at = mapped (λ e. (steps.Clock e.op, step_replies.Clock e.reply place)) (slice_get shown.clock place) made stands in
     let e = at.0 in
     let entry = entry-at shown.clock place e at.1 in
     let replays : Replays clock_machine new_clock (entry.0 ++ e ∷ entry.1.rest) = subst (Replays clock_machine new_clock) entry.1.whole legal.clock.0 in
     let here = (Replays-rest clock_machine new_clock entry.0 (e ∷ entry.1.rest) replays).0 in
-    ap may_reply (sym at.2) ∙ clock_tells_polls (state_after clock_machine new_clock entry.0) e.who e.op e.reply place here (ap (λ (m : Made). is_of_poll m.0) at.2 ∙ of)
+    ap may_reply (sym at.2) ∙ clock_tells_polls (state_after clock_machine new_clock entry.0) e.who e.op e.reply place here (ap (λ (m : StepMade). is_of_poll m.0) at.2 ∙ of)
 stands-served shown (spots.Sem object place) made legal stands of =
     let at = mapped (λ e. (steps.Sem object e.op, step_replies.Sem object e.reply place)) (entry_at shown.sems object place) made stands in
     let there = object-entry shown.sems object place at.0 at.1 in
     let entry = entry-at there.0 place at.0 there.2 in
     let from = legal.sems object there.0 there.1 in
-    ap may_reply (sym at.2) ∙ sem_tells_polls from.0 from.1 from.2 there.0 from.3 entry.0 at.0 entry.1 (ap (λ (m : Made). is_of_poll m.0) at.2 ∙ of)
+    ap may_reply (sym at.2) ∙ sem_tells_polls from.0 from.1 from.2 there.0 from.3 entry.0 at.0 entry.1 (ap (λ (m : StepMade). is_of_poll m.0) at.2 ∙ of)
 stands-served shown (spots.Msgq object place) made legal stands of =
     let at = mapped (λ e. (steps.Msgq object e.op, step_replies.Msgq object e.reply place)) (entry_at shown.msgqs object place) made stands in
     let there = object-entry shown.msgqs object place at.0 at.1 in
     let entry = entry-at there.0 place at.0 there.2 in
     let from = legal.msgqs object there.0 there.1 in
-    ap may_reply (sym at.2) ∙ msgq_tells_polls from.0 there.0 from.1 entry.0 at.0 entry.1 (ap (λ (m : Made). is_of_poll m.0) at.2 ∙ of)
+    ap may_reply (sym at.2) ∙ msgq_tells_polls from.0 there.0 from.1 entry.0 at.0 entry.1 (ap (λ (m : StepMade). is_of_poll m.0) at.2 ∙ of)
 stands-served shown (spots.Signal object place) made legal stands of =
     let at = mapped (λ e. (steps.Signal object e.op, step_replies.Signal object e.reply place)) (entry_at shown.signals object place) made stands in
-    let never : false ≡ true = ap (λ (m : Made). is_of_poll m.0) at.2 ∙ of in absurd (cc)
+    let never : false ≡ true = ap (λ (m : StepMade). is_of_poll m.0) at.2 ∙ of in absurd (cc)
 stands-served shown (spots.Chan object place) made legal stands of =
     let at = mapped (λ e. (steps.Chan object e.op, step_replies.Chan object e.reply place)) (entry_at shown.chans object place) made stands in
-    let never : false ≡ true = ap (λ (m : Made). is_of_poll m.0) at.2 ∙ of in absurd (cc)
+    let never : false ≡ true = ap (λ (m : StepMade). is_of_poll m.0) at.2 ∙ of in absurd (cc)
 stands-served shown (spots.Obs object place) made legal stands of =
     let at = mapped (λ e. (steps.Obs object e.op, step_replies.Obs object e.reply place)) (entry_at shown.observers object place) made stands in
-    let never : false ≡ true = ap (λ (m : Made). is_of_poll m.0) at.2 ∙ of in absurd (cc)
+    let never : false ≡ true = ap (λ (m : StepMade). is_of_poll m.0) at.2 ∙ of in absurd (cc)
 stands-served shown (spots.LookItem object flags at) made legal stands of =
-    let never : false ≡ true = ap (λ (m : Made). is_of_poll m.0) (sym stands) ∙ of in absurd (cc)
+    let never : false ≡ true = ap (λ (m : StepMade). is_of_poll m.0) (sym stands) ∙ of in absurd (cc)
 stands-served shown (spots.LookSignal object seen) made legal stands of = ap may_reply stands.1
 
 -- what has registered stands where it has
@@ -186,7 +186,7 @@ msgq-spot : (object place : ℕ) (op : MsgqOp) (reply : MsgqReply) (spot : Spot)
 msgq-spot object place (msgq_ops.PollArm waits) msgq_replies.Armed spot is = same_Some (spots.Msgq object place) spot is
 msgq-spot object place op reply spot is = absurd (cc)
 
-stands-spot : (shown : Shown) (at : Spot) (made : Made) (spot : Spot) → Stands shown at made → registered_at made ≡ Some spot → (at ≡ spot) × (is_look at ≡ false)
+stands-spot : (shown : Shown) (at : Spot) (made : StepMade) (spot : Spot) → Stands shown at made → registered_at made ≡ Some spot → (at ≡ spot) × (is_look at ≡ false)
 stands-spot shown (spots.Work place) made spot stands is =
     let from = mapped (λ e. (steps.Work e.op, step_replies.Work e.reply place)) (slice_get shown.work place) made stands in
     let none : None ≡ Some spot = ap registered_at from.2 ∙ is in absurd (cc)
@@ -230,12 +230,12 @@ zip-each R [] (y ∷ ys) all = absurd all
 zip-each R (x ∷ xs) [] all = absurd all
 zip-each {A} R (x ∷ xs) (y ∷ ys) all = All-cons (λ z. (w : A) × R w z) y ys (x, all.0) (zip-each R xs ys all.1)
 
-same-fronts : (made before other : List Made) (a b : Made) (x y : List Made) → made ≡ before ++ a ∷ x → made ≡ other ++ b ∷ y → length before ≡ length other → before ≡ other
+same-fronts : (made before other : List StepMade) (a b : StepMade) (x y : List StepMade) → made ≡ before ++ a ∷ x → made ≡ other ++ b ∷ y → length before ≡ length other → before ≡ other
 same-fronts made before other a b x y one two long =
-    sym (take_at before (a ∷ x) (length before) refl) ∙ ap (λ (xs : List Made). take (length before) xs) (sym one ∙ two) ∙ take_at other (b ∷ y) (length before) (sym long)
+    sym (take_at before (a ∷ x) (length before) refl) ∙ ap (λ (xs : List StepMade). take (length before) xs) (sym one ∙ two) ∙ take_at other (b ∷ y) (length before) (sym long)
 
 -- the steps of a player that is shown have registered each at a place of its own
-shown-apart : (shown : Shown) (number : ℕ) (log : List Spot) (made : List Made) → AllZip (Stands shown) log made → ShowsLog shown number log → Apart made
+shown-apart : (shown : Shown) (number : ℕ) (log : List Spot) (made : List StepMade) → AllZip (Stands shown) log made → ShowsLog shown number log → Apart made
 shown-apart shown number log made all shows before other a b spot first second one two =
     let at = zip-at (Stands shown) log before a first.rest (subst (AllZip (Stands shown) log) first.whole all) in
     let to = zip-at (Stands shown) log other b second.rest (subst (AllZip (Stands shown) log) second.whole all) in
@@ -247,29 +247,29 @@ shown-apart shown number log made all shows before other a b spot first second o
     let long = (some_pair_parts number number (length before) (length other) (sym mine ∙ ap (λ (s : Spot). shown_at shown s) same ∙ theirs)).1 in
     same-fronts made before other a b first.rest second.rest first.whole second.whole long
 
-apart-within : (before play rest : List Made) → Apart (before ++ (play ++ rest)) → Apart play
+apart-within : (before play rest : List StepMade) → Apart (before ++ (play ++ rest)) → Apart play
 apart-within before play rest apart front other a b spot first second one two =
     append_cancel_left before front other (apart (before ++ front) (before ++ other) a b spot (within front a first) (within other b second) one two) where
-      within : (front : List Made) (x : Made) → StandsAt play front x → StandsAt (before ++ (play ++ rest)) (before ++ front) x
+      within : (front : List StepMade) (x : StepMade) → StandsAt play front x → StandsAt (before ++ (play ++ rest)) (before ++ front) x
       within front x at = record {
         rest = at.rest ++ rest;
-        whole = ap (λ (xs : List Made). before ++ (xs ++ rest)) at.whole ∙ ap (λ (xs : List Made). before ++ xs) (append_assoc front (x ∷ at.rest) rest)
+        whole = ap (λ (xs : List StepMade). before ++ (xs ++ rest)) at.whole ∙ ap (λ (xs : List StepMade). before ++ xs) (append_assoc front (x ∷ at.rest) rest)
             ∙ sym (append_assoc before front (x ∷ (at.rest ++ rest)));
       }
 
-both-so : (shown : Shown) (play : List Made) → ShowsLegal shown → All (λ y. (x : Spot) × Stands shown x y) play → All MadeOfPoll play → All (λ made. may_reply made ≡ true) play
+both-so : (shown : Shown) (play : List StepMade) → ShowsLegal shown → All (λ y. (x : Spot) × Stands shown x y) play → All MadeOfPoll play → All (λ made. may_reply made ≡ true) play
 both-so shown [] legal stands of = All-nil (λ made. may_reply made ≡ true)
 both-so shown (made ∷ play) legal stands of =
-    let P : Made → Type 0 = λ y. (x : Spot) × Stands shown x y in
+    let P : StepMade → Type 0 = λ y. (x : Spot) × Stands shown x y in
     let here = All-head P made play stands in
     All-cons (λ made. may_reply made ≡ true) made play (stands-served shown here.0 made legal here.1 (All-head MadeOfPoll made play of))
     (both-so shown play legal (All-tail P made play stands) (All-tail MadeOfPoll made play of))
 
 -- steps of polls that stand side by side among those of a player that is shown are served
-pub within-served : (number : ℕ) (shown : Shown) (log : List Spot) (made before play rest : List Made) → AllZip (Stands shown) log made → ShowsLog shown number log → ShowsLegal shown →
+pub within-served : (number : ℕ) (shown : Shown) (log : List Spot) (made before play rest : List StepMade) → AllZip (Stands shown) log made → ShowsLog shown number log → ShowsLegal shown →
     made ≡ before ++ (play ++ rest) → All MadeOfPoll play → AreServed play
 within-served number shown log made before play rest all shows legal whole polls =
-    let P : Made → Type 0 = λ y. (x : Spot) × Stands shown x y in
+    let P : StepMade → Type 0 = λ y. (x : Spot) × Stands shown x y in
     let each : All P (before ++ (play ++ rest)) = subst (All P) whole (zip-each (Stands shown) log made all) in
     let stands : All P play = All-front P play rest (All-back P before (play ++ rest) each) in
     record {
@@ -278,7 +278,7 @@ within-served number shown log made before play rest all shows legal whole polls
     }
 
 -- so is the play of a poll
-play-served : (s : Parts) (number : ℕ) (shown : Shown) (log : List Spot) (made : List Made) (a : Answered) → AllZip (Stands shown) log made → ShowsLog shown number log → ShowsLegal shown →
+play-served : (s : Content) (number : ℕ) (shown : Shown) (log : List Spot) (made : List StepMade) (a : Answered) → AllZip (Stands shown) log made → ShowsLog shown number log → ShowsLegal shown →
     (of : IsPollOf s number made a) → AreServed of.play
 play-served s number shown log made a all shows legal of =
     let answered = of.answered in
@@ -288,7 +288,7 @@ play-served s number shown log made a all shows legal of =
     (All-cons MadeOfPoll answered.last [] (leads-of-poll a.word of.timeout of.events answered.stage answered.last (Answers a.word a.answer) answered.answered) (All-nil MadeOfPoll))))
 
 -- a poll of a valid scenario has eight events at most
-pub few-of : (s : Parts) (owner next : ℕ) (timeout : Timeout) (events : List Event) → slice_get (calls_of s.scripts owner) next ≡ Some (calls.Poll timeout events) → IsValid s → length events ≤ MOST_EVENTS
+pub few-of : (s : Content) (owner next : ℕ) (timeout : Timeout) (events : List Event) → slice_get (calls_of s.scripts owner) next ≡ Some (calls.Poll timeout events) → IsValid s → length events ≤ MOST_EVENTS
 few-of s owner next timeout events there valid =
     let said = said_of (calls.Poll timeout events) in
     let form = call_row said.word in

@@ -17,12 +17,12 @@ use Rattle.zk_model_bus.specs.Channel.{Channel, chan_machine}
 use Rattle.zk_line.specs.Calls.{word_of}
 use Rattle.zk_line.specs.declared.types.Call.{Call}
 use Rattle.zk_line.specs.declared.types.Decl.{Decl}
-use Rattle.zk_scenario.specs.Parts.{Parts}
+use Rattle.zk_scenario.specs.Content.{Content}
 use Rattle.zk_scenario.specs.Players.{players, calls_of}
 use Rattle.zk_scenario.specs.Valid.{IsValid}
 use Rattle.zk_words.specs.declared.word.Word.{Word}
 use Rattle.zk_model_work.specs.declared.ops.WorkReply.TheVariants as work_replies
-use Rattle.zk_worker.specs.Follows.{Made}
+use Rattle.zk_worker.specs.Follows.{StepMade}
 use Rattle.zk_worker.specs.declared.answers.Answer.{Answer}
 use Rattle.zk_worker.specs.declared.steps.Step.{Step}
 use Rattle.zk_worker.specs.declared.steps.StepReply.{StepReply}
@@ -41,7 +41,7 @@ use Rattle.zk_worker.specs.Calls.{plan_of, plan_attempts, plan_progress}
 use Rattle.zk_worker.specs.Publishes.{channel_progress}
 use Rattle.zk_worker.specs.Families.{start_of}
 use Rattle.zk_worker.specs.Machines.{machines_of, chan_start}
-use Rattle.zk_worker.specs.Places.{At}
+use Rattle.zk_worker.specs.Places.{PlayerPlace}
 use Rattle.zk_worker.specs.Protocol.{call_attempts, call_progress, role_attempts, role_progress, worker_progress, run_progress, frames_attempts, frames_progress, is_over, settled, entered, first_frame, frames_after, after, role_at, starting, start_at}
 use Rattle.zk_player_laws.specs.StackLaws.{ChanHistories, IsReplied, chans_after, IsPlayedAmong, HasRoomFor, AlwaysHasRoom, EachScriptIsEntered}
 use Rattle.zk_model_bus.specs.declared.table.OopsWhy.{OopsWhy}
@@ -58,13 +58,13 @@ use Rattle.zk_player_laws.proofs.OtherCalls.{is_channel, EntersNone, plan-plain,
 le-of : (a b : ℕ) → nat_lt b a ≡ false → a ≤ b
 le-of a b is = grind (arith, nat_tests)
 
-over-none : {A : Type 0} (known : Plan → Stage → Option A) (s : Parts) (role : Role) (next : ℕ) (stage : Stage) → is_over s role next ≡ true → of_call known s role next stage ≡ None
+over-none : {A : Type 0} (known : Plan → Stage → Option A) (s : Content) (role : Role) (next : ℕ) (stage : Stage) → is_over s role next ≡ true → of_call known s role next stage ≡ None
 over-none known s (Script owner) next stage over =
     ap (option_and_then (λ (call : Call). known (plan_of s.decls call) stage))
     (slice_get_past (calls_of s.scripts owner) next (let past : length (calls_of s.scripts owner) ≤ next = grind (arith, nat_tests) in past))
 over-none known s (Worker queue) next stage over = absurd (cc)
 
-layered-tail : (s : Parts) (frame : Frame) (below : List Frame) → AreLayered s (frame ∷ below) → AreLayered s below
+layered-tail : (s : Content) (frame : Frame) (below : List Frame) → AreLayered s (frame ∷ below) → AreLayered s below
 layered-tail s frame [] layers = tt
 layered-tail s frame (next ∷ below) layers = by_side layers.1
   where
@@ -73,12 +73,12 @@ layered-tail s frame (next ∷ below) layers = by_side layers.1
     by_side (inr more) = more.1
 
 -- another frame of the same role on the same scripts
-layered-top : (s : Parts) (frame frame' : Frame) (below : List Frame) → frame'.role ≡ frame.role → AreLayered s (frame ∷ below) → AreLayered s (frame' ∷ below)
+layered-top : (s : Content) (frame frame' : Frame) (below : List Frame) → frame'.role ≡ frame.role → AreLayered s (frame ∷ below) → AreLayered s (frame' ∷ below)
 layered-top s frame frame' [] same layers = tt
 layered-top s frame frame' (next ∷ below) same layers = (ap is_worker same ∙ layers.0, layers.1)
 
 -- the script waits for no channel
-abbrev WaitsForNone : Parts → Frame → Type 0
+abbrev WaitsForNone : Content → Frame → Type 0
 WaitsForNone s frame = frame_waits s frame ≡ None
 
 plan-waitless : (plan : Plan) (stage : Stage) → is_some (plan_got plan stage) ≡ true → plan_waits plan stage ≡ None
@@ -92,15 +92,15 @@ call-waitless : (decls : List Decl) (call : Option Call) (stage : Stage) → is_
 call-waitless decls None stage is = absurd (cc)
 call-waitless decls (Some call) stage is = plan-waitless (plan_of decls call) stage is
 
-role-waitless : (s : Parts) (role : Role) (next : ℕ) (stage : Stage) → is_some (of_call plan_got s role next stage) ≡ true → of_call plan_waits s role next stage ≡ None
+role-waitless : (s : Content) (role : Role) (next : ℕ) (stage : Stage) → is_some (of_call plan_got s role next stage) ≡ true → of_call plan_waits s role next stage ≡ None
 role-waitless s (Script owner) next stage is = call-waitless s.decls (slice_get (calls_of s.scripts owner) next) stage is
 role-waitless s (Worker queue) next stage is = refl
 
-worker-waitless : (s : Parts) (role : Role) (next : ℕ) (stage : Stage) → is_worker role ≡ true → of_call plan_waits s role next stage ≡ None
+worker-waitless : (s : Content) (role : Role) (next : ℕ) (stage : Stage) → is_worker role ≡ true → of_call plan_waits s role next stage ≡ None
 worker-waitless s (Script owner) next stage is = absurd (cc)
 worker-waitless s (Worker queue) next stage is = refl
 
-below-waitless : (s : Parts) (frame : Frame) (below : List Frame) → AreLayered s (frame ∷ below) → All (WaitsForNone s) below
+below-waitless : (s : Content) (frame : Frame) (below : List Frame) → AreLayered s (frame ∷ below) → All (WaitsForNone s) below
 below-waitless s frame [] layers = All-nil (WaitsForNone s)
 below-waitless s frame (next ∷ below) layers = by_side (λ more. below-waitless s next below more) layers.1
   where
@@ -121,13 +121,13 @@ call-start : (decls : List Decl) (call : Option Call) → (option_and_then (λ (
 call-start decls None = (refl, refl)
 call-start decls (Some call) = plan-start (plan_of decls call)
 
-role-start : (s : Parts) (role : Role) (next : ℕ) → (of_call plan_got s role next stages.Start ≡ None) × (of_call plan_waits s role next stages.Start ≡ None)
+role-start : (s : Content) (role : Role) (next : ℕ) → (of_call plan_got s role next stages.Start ≡ None) × (of_call plan_waits s role next stages.Start ≡ None)
 role-start s (Script owner) next = call-start s.decls (slice_get (calls_of s.scripts owner) next)
 role-start s (Worker queue) next = (refl, refl)
 
 -- What is kept of the open scripts after a step.
 
-module _ (s : Parts) (chans : ChanHistories) (number : ℕ) where
+module _ (s : Content) (chans : ChanHistories) (number : ℕ) where
   -- the scripts that are left where those that are over are taken off
   settled-kept : (frames : List Frame) → AreLayered s frames → IsDistinct eqb (got s frames) → HoldsAll s chans number (got s frames) → All (WaitsForNone s) frames →
       AreKept s chans number (settled s frames)
@@ -218,7 +218,7 @@ pub worker-never : (decls : List Decl) (stage : Stage) (reply : StepReply) (word
 worker-never decls stages.Start (step_replies.Work (work_replies.Run item admission) place) word answer is = run-never _ word answer is
 worker-never decls stage reply word answer is = cc
 
-module _ (s : Parts) (chans : ChanHistories) (who : Who) (n : ℕ) where
+module _ (s : Content) (chans : ChanHistories) (who : Who) (n : ℕ) where
   -- a step of a script's call
   plan-kept : (below : List ℕ) (call : Call) (word : Word) (stage : Stage) (k : ℕ) (step : Step) (reply : StepReply) (plan : Plan) → plan_of s.decls call ≡ plan →
       slice_get (plan_attempts (plan_of s.decls call) stage) k ≡ Some step →
@@ -311,7 +311,7 @@ there-is f None b is = absurd (cc)
 there-is f (Some a) b is = refl
 
 -- different channels that a player holds are at most 16
-few-held : (s : Parts) (chans : ChanHistories) (number : ℕ) (held : List ℕ) → IsValid s → IsDistinct eqb held → HoldsAll s chans number held → length held ≤ 16
+few-held : (s : Content) (chans : ChanHistories) (number : ℕ) (held : List ℕ) → IsValid s → IsDistinct eqb held → HoldsAll s chans number held → length held ≤ 16
 few-held s chans number held valid apart all =
     omega (
       arith,
@@ -327,7 +327,7 @@ few-held s chans number held valid apart all =
         subst (λ (k : ℕ). list_any (eqb k) (places is_chan s.decls) ≡ true) same (among-places 0 s.decls chan start)
 
 -- so a call that holds its channel can enter a listener's script
-room-held : (s : Parts) (chans : ChanHistories) (number : ℕ) (frame : Frame) (below : List Frame) → IsValid s → AreKept s chans number (frame ∷ below) →
+room-held : (s : Content) (chans : ChanHistories) (number : ℕ) (frame : Frame) (below : List Frame) → IsValid s → AreKept s chans number (frame ∷ below) →
     is_some (frame_got s frame) ≡ true → length (frame ∷ below) < MOST_FRAMES
 room-held s chans number frame below valid kept holds =
     omega (
@@ -370,7 +370,7 @@ room-call frames decls None stage made reply room = tt
 room-call frames decls (Some call) stage made reply room = room-plan frames (word_of call) (plan_of decls call) stage made reply room
 
 -- each script that is to be entered has room
-room-now : (s : Parts) (chans : ChanHistories) (number : ℕ) (frames : List Frame) (made : Step) (reply : StepReply) → IsValid s → AreKept s chans number frames →
+room-now : (s : Content) (chans : ChanHistories) (number : ℕ) (frames : List Frame) (made : Step) (reply : StepReply) → IsValid s → AreKept s chans number frames →
     HasRoomFor frames (frames_progress s frames made reply)
 room-now s chans number [] made reply valid kept = tt
 room-now s chans number (frame ∷ below) made reply valid kept = of_role frame.role kept
@@ -394,7 +394,7 @@ room-now s chans number (frame ∷ below) made reply valid kept = of_role frame.
 
 -- A player from its start.
 
-first-kept : (s : Parts) (chans : ChanHistories) (number : ℕ) (role : Role) → AreKept s chans number (settled s (first_frame role ∷ []))
+first-kept : (s : Content) (chans : ChanHistories) (number : ℕ) (role : Role) → AreKept s chans number (settled s (first_frame role ∷ []))
 unfolding IsDistinct
 first-kept s chans number role =
     let none = role-start s role 0 in
@@ -403,23 +403,23 @@ first-kept s chans number role =
     (λ chan among. absurd (let nothing = ap (list_any (eqb chan)) same in cc))
     (All-cons (WaitsForNone s) (first_frame role) [] none.1 (All-nil (WaitsForNone s)))
 
-pub start-kept : (s : Parts) (chans : ChanHistories) (number : ℕ) (at : At) → start_at s number ≡ Some at → AreKept s chans at.who.number at.frames
+pub start-kept : (s : Content) (chans : ChanHistories) (number : ℕ) (at : PlayerPlace) → start_at s number ≡ Some at → AreKept s chans at.who.number at.frames
 start-kept s chans number at is =
-    let inner : ℕ → Option At = λ object. option_map (starting s number object) (slice_get s.decls object) in
+    let inner : ℕ → Option PlayerPlace = λ object. option_map (starting s number object) (slice_get s.decls object) in
     option_and_then_some inner (slice_get (players s.decls) number) at is
     (λ object found made. from_decl s chans number object (slice_get s.decls object) at made)
   where
-    from_decl : (s : Parts) (chans : ChanHistories) (number object : ℕ) (decl : Option Decl) (at : At) → option_map (starting s number object) decl ≡ Some at →
+    from_decl : (s : Content) (chans : ChanHistories) (number object : ℕ) (decl : Option Decl) (at : PlayerPlace) → option_map (starting s number object) decl ≡ Some at →
         AreKept s chans at.who.number at.frames
     from_decl s chans number object None at made = absurd (cc)
     from_decl s chans number object (Some decl) at made =
-        subst (λ (a : At). AreKept s chans a.who.number a.frames) (same_Some (starting s number object decl) at made) (first-kept s chans number (role_at decl object))
+        subst (λ (a : PlayerPlace). AreKept s chans a.who.number a.frames) (same_Some (starting s number object decl) at made) (first-kept s chans number (role_at decl object))
 
 -- a check uses no channel, and leaves what is open, or nothing
-pub kept-more : (s : Parts) (chans : ChanHistories) (who : Who) (at : At) (step : Step) (reply : StepReply) → IsAhead s at step → IsReplied s chans who step reply →
+pub kept-more : (s : Content) (chans : ChanHistories) (who : Who) (at : PlayerPlace) (step : Step) (reply : StepReply) → IsAhead s at step → IsReplied s chans who step reply →
     AreKept s chans who.number at.frames → AreKept s (chans_after chans who (length at.spots) step reply) who.number (after s at step reply).frames
 kept-more s chans who at step reply ahead replied kept =
-    turn (λ (a : At). AreKept s later who.number a.frames) s at step reply ahead (λ is. by_why is (oops_in reply)) (λ is.
+    turn (λ (a : PlayerPlace). AreKept s later who.number a.frames) s at step reply ahead (λ is. by_why is (oops_in reply)) (λ is.
     frames-kept s chans who (length at.spots) at.frames is.index step reply is.ahead replied kept)
   where
     later : ChanHistories
@@ -432,7 +432,7 @@ kept-more s chans who at step reply ahead replied kept =
     by_why is None = subst (λ (c : ChanHistories). AreKept s c who.number at.frames) (sym (same is)) kept
     by_why is (Some why) = tt
 
-always-room : (s : Parts) (chans : ChanHistories) (at : At) (made : List Made) → IsValid s → AreKept s chans at.who.number at.frames →
+always-room : (s : Content) (chans : ChanHistories) (at : PlayerPlace) (made : List StepMade) → IsValid s → AreKept s chans at.who.number at.frames →
     IsPlayedAmong s chans at made → AlwaysHasRoom s at made
 always-room s chans at [] valid kept plays = tt
 always-room s chans at (made ∷ more) valid kept plays =

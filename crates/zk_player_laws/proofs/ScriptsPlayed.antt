@@ -22,7 +22,7 @@ use Rattle.zk_model_wait.specs.declared.msgq.MsgqReply.TheVariants as msgq_repli
 use Rattle.zk_model_wait.specs.declared.sem.SemReply.TheVariants as sem_replies
 use Rattle.zk_model_work.specs.declared.ops.WorkOp.TheVariants as work_ops
 use Rattle.zk_model_work.specs.declared.ops.WorkReply.TheVariants as work_replies
-use Rattle.zk_scenario.specs.Parts.{Parts}
+use Rattle.zk_scenario.specs.Content.{Content}
 use Rattle.zk_scenario.specs.Players.{players, prio_of, calls_of}
 use Rattle.zk_words.specs.declared.timeout.Timeout.{Timeout}
 use Rattle.zk_words.specs.declared.word.Word.{Word}
@@ -49,13 +49,13 @@ use Rattle.zk_worker.specs.declared.steps.StepReply.{StepReply}
 use Rattle.zk_worker.specs.declared.steps.StepReply.TheVariants as step_replies
 use Rattle.zk_worker.specs.Calls.{plan_of, plan_attempts, plan_progress}
 use Rattle.zk_worker.specs.Checks.{oops_in}
-use Rattle.zk_worker.specs.Follows.{Made, IsPlayed}
-use Rattle.zk_worker.specs.Places.{At}
+use Rattle.zk_worker.specs.Follows.{StepMade, IsPlayed}
+use Rattle.zk_worker.specs.Places.{PlayerPlace}
 use Rattle.zk_worker.specs.Polls.{poll_answer, is_answered, poll_goes, poll_progress, event_of, marked, mark_of, alarm_after, fresh}
 use Rattle.zk_worker.specs.Protocol.{IsAhead, after, checked, moved, call_attempts, call_progress, role_attempts, role_progress, worker_attempts, worker_progress, run_progress, frames_attempts, frames_progress, frames_after, answers_after, is_over, settled, entered, first_frame, role_at, spot_of, starting, start_at}
 use Rattle.zk_worker.specs.Publishes.{use_step, visit_step, channel_attempts, visit_progress, channel_progress, asks_for}
 use Rattle.zk_worker.specs.Ranges.{is_start}
-use Rattle.zk_worker.specs.Waits.{opening_progress, until, wait_progress}
+use Rattle.zk_worker.specs.Waits.{opening_progress, with_alarm, wait_progress}
 use Rattle.zk_worker.proofs.CheckedSteps.{IsCheck, IsOwn, turn}
 use Rattle.zk_player_laws.specs.CheckLaws.{is_check}
 use Rattle.zk_player_laws.specs.ScriptLaws.{HasNoneLeft, IsThrough, AreLeft, from_its_start, opened_by, with_script, IsUnderWay, IsPlayedOn, IsPlayedTo, ArePlayedOn, own_role, IsFirstPlace, EachScriptIsPlayed}
@@ -71,19 +71,19 @@ use Rattle.zk_player_laws.proofs.OwnSteps.{own-no-check}
 -- What is closed.
 
 -- who is over has no call left, and who isn't has one
-over-through : (s : Parts) (role : Role) (next : ℕ) → is_over s role next ≡ true → HasNoneLeft s role next
+over-through : (s : Content) (role : Role) (next : ℕ) → is_over s role next ≡ true → HasNoneLeft s role next
 over-through s (Script owner) next over =
     slice_get_past (calls_of s.scripts owner) next (let past : length (calls_of s.scripts owner) ≤ next = grind (arith, nat_tests) in past)
 over-through s (Worker queue) next over = absurd (cc)
 
-through-over : (s : Parts) (role : Role) (next : ℕ) → is_over s role next ≡ false → HasNoneLeft s role next → ⊥
+through-over : (s : Content) (role : Role) (next : ℕ) → is_over s role next ≡ false → HasNoneLeft s role next → ⊥
 through-over s (Script owner) next on none = elim (slice_get_cases (calls_of s.scripts owner) next).1 [
   | inl is ↦ (let never = sym none ∙ is.2 in cc)
   | inr is ↦ (let past : length (calls_of s.scripts owner) ≤ next = is.0 in grind (arith, nat_tests))
 ]
 through-over s (Worker queue) next on none = none
 
-pub settled-left : (s : Parts) (frames : List Frame) → AreLeft s frames (settled s frames)
+pub settled-left : (s : Content) (frames : List Frame) → AreLeft s frames (settled s frames)
 settled-left s [] = record { closed = []; whole = refl; through = All-nil (IsThrough s); stands = tt }
 settled-left s (frame ∷ below) = by (is_over s frame.role frame.next) refl (settled-left s below) where
   by : (over : Bool) → is_over s frame.role frame.next ≡ over → AreLeft s below (settled s below) → AreLeft s (frame ∷ below) (cond over (settled s below) (frame ∷ below))
@@ -112,7 +112,7 @@ opening-on word (step_replies.Chan object chan_replies.Wait place) = refl
 opening-on word (step_replies.Obs object obs_replies.Wait place) = refl
 opening-on word reply = tt
 
-until-on : (moment : ℕ) (progress : Progress) → GoesUnderWay progress → GoesUnderWay (until moment progress)
+until-on : (moment : ℕ) (progress : Progress) → GoesUnderWay progress → GoesUnderWay (with_alarm moment progress)
 until-on moment (Goes (stages.Waits place)) on = refl
 until-on moment progress on = on
 
@@ -245,13 +245,13 @@ worker-opens decls queue number stages.Runs index step reply there =
 worker-opens decls queue number stage index step reply there = absurd (cc)
 
 -- What is known of a step of the innermost.
-record Moves (s : Parts) (role : Role) (next : ℕ) (made : Made) (progress : Progress) : Type 0 where
+record Moves (s : Content) (role : Role) (next : ℕ) (made : StepMade) (progress : Progress) : Type 0 where
   opens : opened_by s.decls role made ≡ entered_by progress
   on : (owner : ℕ) → role ≡ Script owner → GoesUnderWay progress
   stands : HasNoneLeft s role next → ⊥
   answers : (word : Word) (answer : Answer) → progress ≡ Answers word answer → (owner : ℕ) × (role ≡ Script owner)
 
-role-moves : (s : Parts) (role : Role) (next : ℕ) (stage : Stage) (index : ℕ) (m : Made) → slice_get (role_attempts s role next stage) index ≡ Some m.0 → IsFit m →
+role-moves : (s : Content) (role : Role) (next : ℕ) (stage : Stage) (index : ℕ) (m : StepMade) → slice_get (role_attempts s role next stage) index ≡ Some m.0 → IsFit m →
     Moves s role next m (role_progress s role next stage m.0 m.1)
 role-moves s (Worker queue) next stage index m ahead fit = record {
   opens = worker-opens s.decls queue _ stage index m.0 m.1 ahead;
@@ -279,7 +279,7 @@ way (Worker queue) stage on = tt
 has-room : (length most : ℕ) → length < most → nat_lt length most ≡ true
 has-room length most room = grind (arith, nat_tests)
 
-played-on : (s : Parts) (frame : Frame) (below : List Frame) (m : Made) (number : ℕ) (earlier : List Answered) (progress : Progress) → Moves s frame.role frame.next m progress →
+played-on : (s : Content) (frame : Frame) (below : List Frame) (m : StepMade) (number : ℕ) (earlier : List Answered) (progress : Progress) → Moves s frame.role frame.next m progress →
     HasRoomFor (frame ∷ below) progress → IsPlayedOn s frame below m earlier (answers_after earlier number progress) (frames_after s (frame ∷ below) progress)
 played-on s frame below m number earlier (Goes stage) moves room = record {
   now = record frame { stage = stage };
@@ -314,7 +314,7 @@ own-never-fails : (check : Bool) (why : Option OopsWhy) → check ≡ false → 
 own-never-fails true why own is = cc
 own-never-fails false why own is = cc
 
-check-played : (s : Parts) (at : At) (m : Made) (is : IsCheck s at m.0) (why : Option OopsWhy) → oops_in m.1 ≡ why → IsPlayedTo s at m (checked at is.check.word why (spot_of m.0 m.1))
+check-played : (s : Content) (at : PlayerPlace) (m : StepMade) (is : IsCheck s at m.0) (why : Option OopsWhy) → oops_in m.1 ≡ why → IsPlayedTo s at m (checked at is.check.word why (spot_of m.0 m.1))
 check-played s at m is None none = record {
   passes = λ checks passed. (refl, refl);
   ends = λ failed. absurd (none-fails (is_check m.0) (oops_in m.1) none failed);
@@ -326,7 +326,7 @@ check-played s at m is (Some why) some = record {
   plays = λ isnt. absurd (let checks = ap is_check is.is_step in cc);
 }
 
-own-played : (s : Parts) (at : At) (m : Made) → IsFit m → HasRoomFor at.frames (frames_progress s at.frames m.0 m.1) → IsOwn s at m.0 →
+own-played : (s : Content) (at : PlayerPlace) (m : StepMade) → IsFit m → HasRoomFor at.frames (frames_progress s at.frames m.0 m.1) → IsOwn s at m.0 →
     IsPlayedTo s at m (moved s at m.0 (frames_progress s at.frames m.0 m.1) (spot_of m.0 m.1))
 own-played s at m fit room is = record {
   passes = λ checks passed. absurd (let own = own-no-check s at.frames is.index m.0 is.ahead in cc);
@@ -346,10 +346,10 @@ own-played s at m fit room is = record {
           (role-moves s frame.role frame.next frame.stage is.index m ahead fit) room,
     )
 
-step-played : (s : Parts) (at : At) (m : Made) → IsAhead s at m.0 → IsFit m → HasRoomFor at.frames (frames_progress s at.frames m.0 m.1) → IsPlayedTo s at m (after s at m.0 m.1)
+step-played : (s : Content) (at : PlayerPlace) (m : StepMade) → IsAhead s at m.0 → IsFit m → HasRoomFor at.frames (frames_progress s at.frames m.0 m.1) → IsPlayedTo s at m (after s at m.0 m.1)
 step-played s at m ahead fit room = turn (IsPlayedTo s at m) s at m.0 m.1 ahead (λ is. check-played s at m is (oops_in m.1) refl) (own-played s at m fit room)
 
-all-played : (s : Parts) (at end : At) (made : List Made) → All IsFit made → IsPlayed s at made end → AlwaysHasRoom s at made → ArePlayedOn s at made
+all-played : (s : Content) (at end : PlayerPlace) (made : List StepMade) → All IsFit made → IsPlayed s at made end → AlwaysHasRoom s at made → ArePlayedOn s at made
 all-played s at end [] fit led room = tt
 all-played s at end (m ∷ more) fit led room = (
   step-played s at m led.0 (All-head IsFit m more fit) room.0,
@@ -358,9 +358,9 @@ all-played s at end (m ∷ more) fit led room = (
 
 -- Each player.
 
-pub first-place : (s : Parts) (number : ℕ) (at : At) → start_at s number ≡ Some at → IsFirstPlace s number at
+pub first-place : (s : Content) (number : ℕ) (at : PlayerPlace) → start_at s number ≡ Some at → IsFirstPlace s number at
 first-place s number at is =
-    let inner : ℕ → Option At = λ object. option_map (starting s number object) (slice_get s.decls object) in
+    let inner : ℕ → Option PlayerPlace = λ object. option_map (starting s number object) (slice_get s.decls object) in
     option_and_then_some inner (slice_get (players s.decls) number) at is (λ object found made. by_decl object found (slice_get s.decls object) refl made)
   where
     plays : (decl : Decl) (object : ℕ) → role_at decl object ≡ own_role (is_queue decl) object

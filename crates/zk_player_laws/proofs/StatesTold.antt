@@ -5,7 +5,7 @@ use Rattle.std.proofs.lemmas.Bool.{both_ways}
 use Rattle.std.proofs.lemmas.Bool.Decides.{nat_tests}
 use Rattle.std.proofs.lemmas.List.{length_push}
 use Rattle.std.proofs.lemmas.List.Folds.{list_any-append}
-use Rattle.zk_scenario.specs.Parts.{Parts}
+use Rattle.zk_scenario.specs.Content.{Content}
 use Rattle.zk_worker.specs.declared.frames.Frame.{Frame}
 use Rattle.zk_worker.specs.declared.frames.Role.{Role}
 use Rattle.zk_worker.specs.declared.frames.Role.TheVariants.{Worker}
@@ -16,8 +16,8 @@ use Rattle.zk_worker.specs.declared.steps.Spot.{Spot}
 use Rattle.zk_scenario.specs.Steps.{steps_of}
 use Rattle.zk_player_laws.specs.CheckLaws.{is_check, fails, tells_oops, has_oops, EndedByOops}
 use Rattle.zk_worker.specs.Checks.{oops_in}
-use Rattle.zk_worker.specs.Follows.{Made, IsPlayed, is_between, is_done, is_dead, is_spent_at}
-use Rattle.zk_worker.specs.Places.{At}
+use Rattle.zk_worker.specs.Follows.{StepMade, IsPlayed, is_between, is_done, is_dead, is_spent_at}
+use Rattle.zk_worker.specs.Places.{PlayerPlace}
 use Rattle.zk_worker.specs.Protocol.{after, spot_of}
 use Rattle.zk_player_laws.specs.StateLaws.{IsAtRest, IsStateOf, EachStateTells}
 use Rattle.zk_worker.proofs.CheckedSteps.{after-spots}
@@ -46,15 +46,15 @@ rested frames (inr between) = ap is_done between.2
 -- How many steps.
 
 -- a player records as many steps as it makes, and no more than it may
-counted : (s : Parts) (made : List Made) (at end : At) → IsPlayed s at made end → length end.spots ≡ length at.spots + length made
-counted s [] at end led = let same = ap (λ (a : At). length a.spots) led in omega (arith, same)
+counted : (s : Content) (made : List StepMade) (at end : PlayerPlace) → IsPlayed s at made end → length end.spots ≡ length at.spots + length made
+counted s [] at end led = let same = ap (λ (a : PlayerPlace). length a.spots) led in omega (arith, same)
 counted s (m ∷ more) at end led =
     let rest = counted s more (after s at m.0 m.1) end led.1 in
     let here = ap (λ (l : List Spot). length l) (after-spots s at m.0 m.1).1 ∙ length_push at.spots (spot_of m.0 m.1) in
     omega (arith, rest, here)
 
-short : (s : Parts) (made : List Made) (at end : At) → length at.spots ≤ steps_of s → IsPlayed s at made end → length end.spots ≤ steps_of s
-short s [] at end few led = subst (λ (a : At). length a.spots ≤ steps_of s) led few
+short : (s : Content) (made : List StepMade) (at end : PlayerPlace) → length at.spots ≤ steps_of s → IsPlayed s at made end → length end.spots ≤ steps_of s
+short s [] at end few led = subst (λ (a : PlayerPlace). length a.spots ≤ steps_of s) led few
 short s (m ∷ more) at end few led =
     let here = ap (λ (l : List Spot). length l) (after-spots s at m.0 m.1).1 ∙ length_push at.spots (spot_of m.0 m.1) in
     let below = ahead_short s at m.0 led.0 in
@@ -62,8 +62,8 @@ short s (m ∷ more) at end few led =
 
 -- Whether a check has failed.
 
-module _ (s : Parts) (number : ℕ) (made : List Made) (at : At) (ended : has_oops made at ≡ true → EndedByOops s number made at) where
-  failed-last : (front : List Made) (last : Made) → is_check last.0 ≡ true → is_some (oops_in last.1) ≡ true → list_any fails (front ++ last ∷ []) ≡ true
+module _ (s : Content) (number : ℕ) (made : List StepMade) (at : PlayerPlace) (ended : has_oops made at ≡ true → EndedByOops s number made at) where
+  failed-last : (front : List StepMade) (last : StepMade) → is_check last.0 ≡ true → is_some (oops_in last.1) ≡ true → list_any fails (front ++ last ∷ []) ≡ true
   failed-last front last is why =
       list_any-append fails front (last ∷ []) ∙ ap (λ (b : Bool). list_any fails front || ((b && is_some (oops_in last.1)) || false)) is
       ∙ ap (λ (b : Bool). list_any fails front || (b || false)) why ∙ by (list_any fails front)

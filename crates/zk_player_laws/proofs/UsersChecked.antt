@@ -12,7 +12,7 @@ use Rattle.zk_line.specs.declared.needs.Needed.{Needed}
 use Rattle.zk_line.specs.declared.types.Call.{Call}
 use Rattle.zk_line.specs.declared.types.Decl.{Decl}
 use Rattle.zk_model_bus.specs.declared.table.OopsWhy.{OopsWhy}
-use Rattle.zk_scenario.specs.Parts.{Parts}
+use Rattle.zk_scenario.specs.Content.{Content}
 use Rattle.zk_scenario.specs.Players.{players, calls_of}
 use Rattle.zk_words.specs.declared.word.Word.{Word}
 use Rattle.zk_worker.specs.declared.answers.Answer.TheVariants.{Oops}
@@ -34,11 +34,11 @@ use Rattle.zk_model_bus.specs.declared.table.TableOp.TheVariants as table_ops
 use Rattle.zk_worker.specs.declared.steps.Spot.{Spot}
 use Rattle.zk_worker.specs.declared.steps.Step.{Step}
 use Rattle.zk_worker.specs.declared.steps.Step.TheVariants as steps
-use Rattle.zk_player_laws.specs.CheckLaws.{checks_of, Passes, ArePassed, is_check, fails, enters_user, starts_as_user, is_user_behind, IsLed, ends_in_check, BeginsUnchecked}
+use Rattle.zk_player_laws.specs.CheckLaws.{checks_of, Passes, ChecksArePassed, is_check, fails, enters_user, starts_as_user, is_user_behind, IsLed, ends_in_check, BeginsUnchecked}
 use Rattle.zk_player_laws.specs.CheckLaws.{IsNextCheck, IsBehindChecks, IsCheckedIn, IsChecked, AreChecked, tells_oops, has_oops, EndedByOops, EachUserIsChecked}
 use Rattle.zk_worker.specs.Checks.{check_of, call_check, role_check, top_check, next_check, check_step, oops_in, is_oops, mode_after, start_mode}
-use Rattle.zk_worker.specs.Follows.{Made, IsPlayed, is_dead}
-use Rattle.zk_worker.specs.Places.{At}
+use Rattle.zk_worker.specs.Follows.{StepMade, IsPlayed, is_dead}
+use Rattle.zk_worker.specs.Places.{PlayerPlace}
 use Rattle.zk_worker.specs.Protocol.{IsAhead, checks_first, after, after_by, checked, moved, call_attempts, frames_attempts, frames_progress, frames_after, answers_after, is_over, settled, entered, first_frame, role_at, spot_of, starting, start_at}
 use Rattle.zk_worker.specs.Ranges.{is_start}
 use Rattle.zk_worker.proofs.CheckedSteps.{IsCheck, IsOwn, one-or-other, check_at, check-of-top, check-starts}
@@ -50,29 +50,29 @@ use Rattle.zk_player_laws.proofs.OwnSteps.{own-no-check, AnswersNoOops, own-no-o
 -- What holds of a player between its steps.
 
 -- a script that has made another step than a check in its next call has made all checks of that
-abbrev pub FrameChecked : Parts → ℕ → List Made → Frame → List Frame → Type 0
+abbrev pub FrameChecked : Content → ℕ → List StepMade → Frame → List Frame → Type 0
 FrameChecked s number made frame below =
     is_start frame.stage ≡ false → (owner : ℕ) → frame.role ≡ Script owner → IsBehindChecks s number made owner frame.next below
 
-abbrev pub FramesChecked : Parts → ℕ → List Made → List Frame → Type 0
+abbrev pub FramesChecked : Content → ℕ → List StepMade → List Frame → Type 0
 FramesChecked s number made [] = Unit {0}
 FramesChecked s number made (frame ∷ below) = FrameChecked s number made frame below × FramesChecked s number made below
 
 -- the innermost script's next call has made so many of its checks, and nothing else
-pub record AtChecks (s : Parts) (number : ℕ) (made : List Made) (now : At) (owner next : ℕ) (below : List Frame) : Type 0 where
-  pub before : List Made
-  pub since : List Made
+pub record AtChecks (s : Content) (number : ℕ) (made : List StepMade) (now : PlayerPlace) (owner next : ℕ) (below : List Frame) : Type 0 where
+  pub before : List StepMade
+  pub since : List StepMade
   pub whole : made ≡ before ++ since
-  pub at : At
+  pub at : PlayerPlace
   pub led : IsLed s number before at
   pub stood : at.frames ≡ record { role = Script owner; next = next; stage = Start } ∷ below
   pub fresh : at.passed ≡ 0
   pub unchecked : ends_in_check before ≡ false
   pub same_mode : is_user_behind s number before ≡ is_user_behind s number made
   pub count : length since ≡ now.passed
-  pub passed : (call : Call) → slice_get (calls_of s.scripts owner) next ≡ Some call → ArePassed since (take now.passed (checks_of call))
+  pub passed : (call : Call) → slice_get (calls_of s.scripts owner) next ≡ Some call → ChecksArePassed since (take now.passed (checks_of call))
 
-abbrev pub TopChecks : Parts → ℕ → List Made → At → List Frame → Type 0
+abbrev pub TopChecks : Content → ℕ → List StepMade → PlayerPlace → List Frame → Type 0
 TopChecks s number made now [] = Unit {0}
 TopChecks s number made now (frame ∷ below) =
     is_start frame.stage ≡ true → (owner : ℕ) → frame.role ≡ Script owner → AtChecks s number made now owner frame.next below
@@ -82,7 +82,7 @@ abbrev pub mode_of : Bool → Mode
 mode_of true = User
 mode_of false = Supervisor
 
-pub record Holds (s : Parts) (number : ℕ) (made : List Made) (at : At) : Type 0 where
+pub record Holds (s : Content) (number : ℕ) (made : List StepMade) (at : PlayerPlace) : Type 0 where
   pub led : IsLed s number made at
   pub mode : at.mode ≡ mode_of (is_user_behind s number made)
   pub passing : list_any fails made ≡ false
@@ -109,24 +109,24 @@ zip-next P (w ∷ xs) x (z ∷ ys) y (suc n) long all there holds =
 
 -- More steps.
 
-behind-more : (s : Parts) (number : ℕ) (made : List Made) (m : Made) (owner next : ℕ) (below : List Frame) → IsBehindChecks s number made owner next below →
+behind-more : (s : Content) (number : ℕ) (made : List StepMade) (m : StepMade) (owner next : ℕ) (below : List Frame) → IsBehindChecks s number made owner next below →
     IsBehindChecks s number (made ++ m ∷ []) owner next below
 behind-more s number made m owner next below was = record {
   before = was.before;
   since = was.since ++ m ∷ [];
-  whole = ap (λ (l : List Made). l ++ m ∷ []) was.whole ∙ append_assoc was.before was.since (m ∷ []);
+  whole = ap (λ (l : List StepMade). l ++ m ∷ []) was.whole ∙ append_assoc was.before was.since (m ∷ []);
   call = was.call;
   begins = was.begins;
-  checked = λ user. let old = was.checked user in (old.0, old.1 ++ m ∷ [], ap (λ (l : List Made). l ++ m ∷ []) old.2 ∙ append_assoc old.0 old.1 (m ∷ []), old.3);
+  checked = λ user. let old = was.checked user in (old.0, old.1 ++ m ∷ [], ap (λ (l : List StepMade). l ++ m ∷ []) old.2 ∙ append_assoc old.0 old.1 (m ∷ []), old.3);
 }
 
-frames-longer : (s : Parts) (number : ℕ) (made : List Made) (m : Made) (frames : List Frame) → FramesChecked s number made frames → FramesChecked s number (made ++ m ∷ []) frames
+frames-longer : (s : Content) (number : ℕ) (made : List StepMade) (m : StepMade) (frames : List Frame) → FramesChecked s number made frames → FramesChecked s number (made ++ m ∷ []) frames
 frames-longer s number made m [] was = tt
 frames-longer s number made m (frame ∷ below) was =
     (λ begun owner role. behind-more s number made m owner frame.next below (was.0 begun owner role), frames-longer s number made m below was.1)
 
 -- where a call begins whose checks are to be made
-unchecked-call : (s : Parts) (number : ℕ) (made : List Made) (now : At) (owner next : ℕ) (below : List Frame) (call : Call) → slice_get (calls_of s.scripts owner) next ≡ Some call →
+unchecked-call : (s : Content) (number : ℕ) (made : List StepMade) (now : PlayerPlace) (owner next : ℕ) (below : List Frame) (call : Call) → slice_get (calls_of s.scripts owner) next ≡ Some call →
     (was : AtChecks s number made now owner next below) → BeginsUnchecked s number was.before owner next call below
 unchecked-call s number made now owner next below call there was = record {
   begins = record { at = was.at; led = was.led; is_call = there; stood = was.stood };
@@ -135,13 +135,13 @@ unchecked-call s number made now owner next below call there was = record {
 }
 
 -- the last step is the one that was added
-ends-last : (made : List Made) (m : Made) → ends_in_check (made ++ m ∷ []) ≡ is_check m.0
+ends-last : (made : List StepMade) (m : StepMade) → ends_in_check (made ++ m ∷ []) ≡ is_check m.0
 ends-last [] m = refl
 ends-last (a ∷ []) m = refl
 ends-last (a ∷ b ∷ made) m = ends-last (b ∷ made) m
 
 -- a call that makes another step has made all its checks, if its caller was a user
-behind-now : (s : Parts) (number : ℕ) (made : List Made) (at : At) (owner next : ℕ) (below : List Frame) (call : Call) → slice_get (calls_of s.scripts owner) next ≡ Some call →
+behind-now : (s : Content) (number : ℕ) (made : List StepMade) (at : PlayerPlace) (owner next : ℕ) (below : List Frame) (call : Call) → slice_get (calls_of s.scripts owner) next ≡ Some call →
     AtChecks s number made at owner next below → (is_user_behind s number made ≡ true → call_check at.passed call ≡ None) → IsBehindChecks s number made owner next below
 behind-now s number made at owner next below call there was unchecked = record {
   before = was.before;
@@ -152,11 +152,11 @@ behind-now s number made at owner next below call there was unchecked = record {
   checked = λ user.
       let left = none-left call (needs_of call) at.passed (unchecked (sym was.same_mode ∙ user)) in
       let all = all-taken (checks_of call) at.passed (slice_get-map (check_of call) (needs_of call) at.passed ∙ ap (option_map (check_of call)) left) in
-      (was.since, [], sym (append-nil was.since), subst (ArePassed was.since) all (was.passed call there));
+      (was.since, [], sym (append-nil was.since), subst (ChecksArePassed was.since) all (was.passed call there));
 }
 
 -- where a call begins
-top-fresh : (s : Parts) (number : ℕ) (made : List Made) (now : At) (frames : List Frame) → IsLed s number made now → now.passed ≡ 0 → ends_in_check made ≡ false → now.frames ≡ frames →
+top-fresh : (s : Content) (number : ℕ) (made : List StepMade) (now : PlayerPlace) (frames : List Frame) → IsLed s number made now → now.passed ≡ 0 → ends_in_check made ≡ false → now.frames ≡ frames →
     TopChecks s number made now frames
 top-fresh s number made now [] led none apart same = tt
 top-fresh s number made now (frame ∷ below) led none apart same = λ begins owner role. record {
@@ -170,14 +170,14 @@ top-fresh s number made now (frame ∷ below) led none apart same = λ begins ow
   unchecked = apart;
   same_mode = refl;
   count = sym none;
-  passed = λ call there. subst (λ (k : ℕ). ArePassed [] (take k (checks_of call))) (sym none) tt;
+  passed = λ call there. subst (λ (k : ℕ). ChecksArePassed [] (take k (checks_of call))) (sym none) tt;
 }
   where
     is-start : (stage : Stage) → is_start stage ≡ true → stage ≡ Start
     is-start Start is = refl
     is-start stage is = absurd (cc)
 
-settled-checked : (s : Parts) (number : ℕ) (made : List Made) (frames : List Frame) → FramesChecked s number made frames → FramesChecked s number made (settled s frames)
+settled-checked : (s : Content) (number : ℕ) (made : List StepMade) (frames : List Frame) → FramesChecked s number made frames → FramesChecked s number made (settled s frames)
 settled-checked s number made [] was = tt
 settled-checked s number made (frame ∷ below) was = by (is_over s frame.role frame.next) (settled-checked s number made below was.1) where
   by : (b : Bool) → FramesChecked s number made (settled s below) → FramesChecked s number made (cond b (settled s below) (frame ∷ below))
@@ -185,7 +185,7 @@ settled-checked s number made (frame ∷ below) was = by (is_over s frame.role f
   by false rest = was
 
 -- the open scripts after another step than a check
-frames-checked : (s : Parts) (number : ℕ) (made : List Made) (frame : Frame) (below : List Frame) (progress : Progress) →
+frames-checked : (s : Content) (number : ℕ) (made : List StepMade) (frame : Frame) (below : List Frame) (progress : Progress) →
     ((owner : ℕ) → frame.role ≡ Script owner → IsBehindChecks s number made owner frame.next below) → FramesChecked s number made below →
     FramesChecked s number made (frames_after s (frame ∷ below) progress)
 frames-checked s number made frame below (Goes stage) behind more = (λ begun owner role. behind owner role, more)
@@ -201,13 +201,13 @@ frames-checked s number made frame below (Enters object stage) behind more =
 -- A step.
 
 -- where no check comes next, none is left of the call that does
-unchecked-of : (s : Parts) (mode : Mode) (passed owner next : ℕ) (below : List Frame) (call : Call) → slice_get (calls_of s.scripts owner) next ≡ Some call →
+unchecked-of : (s : Content) (mode : Mode) (passed owner next : ℕ) (below : List Frame) (call : Call) → slice_get (calls_of s.scripts owner) next ≡ Some call →
     next_check s mode passed (record { role = Script owner; next = next; stage = Start } ∷ below) ≡ None → mode ≡ User → call_check passed call ≡ None
 unchecked-of s User passed owner next below call there none user = ap (option_and_then (call_check passed)) (sym there) ∙ none
 unchecked-of s mode passed owner next below call there none user = absurd (cc)
 
 -- what makes another step than a check is behind all checks of its call
-behind-top : (s : Parts) (number : ℕ) (made : List Made) (at : At) (frame : Frame) (below : List Frame) (k : ℕ) (step : Step) → (is_user_behind s number made ≡ true → at.mode ≡ User) → next_check s at.mode at.passed (frame ∷ below) ≡ None →
+behind-top : (s : Content) (number : ℕ) (made : List StepMade) (at : PlayerPlace) (frame : Frame) (below : List Frame) (k : ℕ) (step : Step) → (is_user_behind s number made ≡ true → at.mode ≡ User) → next_check s at.mode at.passed (frame ∷ below) ≡ None →
     slice_get (frames_attempts s (frame ∷ below)) k ≡ Some step → FrameChecked s number made frame below → (is_start frame.stage ≡ true → (owner : ℕ) → frame.role ≡ Script owner → AtChecks s number made at owner frame.next below) →
     (owner : ℕ) → frame.role ≡ Script owner → IsBehindChecks s number made owner frame.next below
 behind-top s number made at frame below k step users none ahead checked top owner role = by frame.stage refl where
@@ -230,15 +230,15 @@ behind-top s number made at frame below k step users none ahead checked top owne
   by stage same = checked (ap is_start same) owner role
 
 -- what is behind its checks stays so, with the step
-behind-step : (s : Parts) (number : ℕ) (made : List Made) (m : Made) (frame : Frame) (below : List Frame) → ((owner : ℕ) → frame.role ≡ Script owner → IsBehindChecks s number made owner frame.next below) →
+behind-step : (s : Content) (number : ℕ) (made : List StepMade) (m : StepMade) (frame : Frame) (below : List Frame) → ((owner : ℕ) → frame.role ≡ Script owner → IsBehindChecks s number made owner frame.next below) →
     (owner : ℕ) → frame.role ≡ Script owner → IsBehindChecks s number (made ++ m ∷ []) owner frame.next below
 behind-step s number made m frame below behind owner role = behind-more s number made m owner frame.next below (behind owner role)
 
 -- a step more, whatever its player is
-user-more : (s : Parts) (number : ℕ) (made : List Made) (m : Made) → is_user_behind s number (made ++ m ∷ []) ≡ (is_user_behind s number made || enters_user m.0)
+user-more : (s : Content) (number : ℕ) (made : List StepMade) (m : StepMade) → is_user_behind s number (made ++ m ∷ []) ≡ (is_user_behind s number made || enters_user m.0)
 user-more s number made m =
-    ap (λ (b : Bool). starts_as_user s number || b) (list_any-append (λ (x : Made). enters_user x.0) made (m ∷ []))
-    ∙ by (starts_as_user s number) (list_any (λ (x : Made). enters_user x.0) made) (enters_user m.0)
+    ap (λ (b : Bool). starts_as_user s number || b) (list_any-append (λ (x : StepMade). enters_user x.0) made (m ∷ []))
+    ∙ by (starts_as_user s number) (list_any (λ (x : StepMade). enters_user x.0) made) (enters_user m.0)
   where
     by : (a b c : Bool) → (a || (b || (c || false))) ≡ ((a || b) || c)
     by true b c = refl
@@ -250,7 +250,7 @@ user-more s number made m =
 check-enters : (check : Check) (step : Step) → check_step check ≡ step → enters_user step ≡ false
 check-enters check step is = ap enters_user (sym is)
 
-user-kept : (s : Parts) (number : ℕ) (made : List Made) (m : Made) → enters_user m.0 ≡ false → is_user_behind s number (made ++ m ∷ []) ≡ is_user_behind s number made
+user-kept : (s : Content) (number : ℕ) (made : List StepMade) (m : StepMade) → enters_user m.0 ≡ false → is_user_behind s number (made ++ m ∷ []) ≡ is_user_behind s number made
 user-kept s number made m stays = user-more s number made m ∙ ap (λ (b : Bool). is_user_behind s number made || b) stays ∙ by (is_user_behind s number made) where
   by : (b : Bool) → (b || false) ≡ b
   by true = refl
@@ -278,7 +278,7 @@ both false true none passes = absurd (cc)
 both false false none passes = refl
 
 -- a step more of which none fails
-fails-more : (made : List Made) (m : Made) → list_any fails made ≡ false → fails m ≡ false → list_any fails (made ++ m ∷ []) ≡ false
+fails-more : (made : List StepMade) (m : StepMade) → list_any fails made ≡ false → fails m ≡ false → list_any fails (made ++ m ∷ []) ≡ false
 fails-more made m none passes = list_any-append fails made (m ∷ []) ∙ both (list_any fails made) (fails m) none passes
 
 -- an answer more that is no oops
@@ -288,11 +288,11 @@ untold-more answers number (Enters owner stage) none is = none
 untold-more answers number (Answers word answer) none is =
     list_any-append tells_oops answers (record { step = number; word = word; answer = answer } ∷ []) ∙ both (list_any tells_oops answers) (is_oops answer) none is
 
-led-more : (s : Parts) (number : ℕ) (made : List Made) (at : At) (m : Made) → IsLed s number made at → IsAhead s at m.0 → IsLed s number (made ++ m ∷ []) (after s at m.0 m.1)
+led-more : (s : Content) (number : ℕ) (made : List StepMade) (at : PlayerPlace) (m : StepMade) → IsLed s number made at → IsAhead s at m.0 → IsLed s number (made ++ m ∷ []) (after s at m.0 m.1)
 led-more s number made at m led ahead = (led.0, led.1, played-more s led.0 made at m led.2 ahead)
 
 -- a check that comes next is the next one of a user's call
-pub next-checked : (s : Parts) (number : ℕ) (made : List Made) (at : At) (frame : Frame) (below : List Frame) (check : Check) (m : Made) → is_user_behind s number made ≡ true →
+pub next-checked : (s : Content) (number : ℕ) (made : List StepMade) (at : PlayerPlace) (frame : Frame) (below : List Frame) (check : Check) (m : StepMade) → is_user_behind s number made ≡ true →
     role_check s at.passed frame.role frame.next frame.stage ≡ Some check → check_step check ≡ m.0 → TopChecks s number made at (frame ∷ below) →
     (owner : ℕ) → frame.role ≡ Script owner → (is : IsNextCheck s number made owner frame.next below m) × (word_of is.call ≡ check.word)
 next-checked s number made at frame below check m user comes makes top owner role = by frame.stage refl where
@@ -306,7 +306,7 @@ next-checked s number made at frame below check m user comes makes top owner rol
       call = call;
       begins = unchecked-call s number made at owner frame.next below call there was;
       user = was.same_mode ∙ user;
-      passed = subst (λ (k : ℕ). ArePassed was.since (take k (checks_of call))) (sym was.count) (was.passed call there);
+      passed = subst (λ (k : ℕ). ChecksArePassed was.since (take k (checks_of call))) (sym was.count) (was.passed call there);
       check = check;
       comes = ap (slice_get (checks_of call)) was.count ∙ is;
       makes = sym makes;
@@ -330,7 +330,7 @@ next-checked s number made at frame below check m user comes makes top owner rol
   by stage same = absurd (let starts = check-starts s at.passed frame.role frame.next frame.stage check comes in cc)
 
 -- only a script is checked
-pub check-script : (s : Parts) (passed : ℕ) (role : Role) (next : ℕ) (stage : Stage) (check : Check) → role_check s passed role next stage ≡ Some check → (owner : ℕ) × (role ≡ Script owner)
+pub check-script : (s : Content) (passed : ℕ) (role : Role) (next : ℕ) (stage : Stage) (check : Check) → role_check s passed role next stage ≡ Some check → (owner : ℕ) × (role ≡ Script owner)
 check-script s passed (Script owner) next stage check is = (owner, refl)
 check-script s passed (Worker queue) next stage check is = absurd (cc)
 
@@ -339,7 +339,7 @@ checks-itself : (check : Check) (step : Step) → check_step check ≡ step → 
 checks-itself check step is = ap is_check (sym is)
 
 -- so the step is checked
-check-checked : (s : Parts) (number : ℕ) (made : List Made) (at : At) (frames : List Frame) (check : Check) (m : Made) → is_user_behind s number made ≡ true → top_check s at.passed frames ≡ Some check →
+check-checked : (s : Content) (number : ℕ) (made : List StepMade) (at : PlayerPlace) (frames : List Frame) (check : Check) (m : StepMade) → is_user_behind s number made ≡ true → top_check s at.passed frames ≡ Some check →
     check_step check ≡ m.0 → TopChecks s number made at frames → IsChecked s number made frames m
 check-checked s number made at [] check m user comes makes top = absurd (cc)
 check-checked s number made at (frame ∷ below) check m user comes makes top =
@@ -350,12 +350,12 @@ check-checked s number made at (frame ∷ below) check m user comes makes top =
     by (Worker queue) comes next = absurd (cc)
     by (Script owner) comes next = (λ is. next owner refl, λ isnt. absurd (let is = checks-itself check m.0 makes in cc))
 
-module _ (s : Parts) (number : ℕ) (made : List Made) (m : Made) where
-  abbrev longer : List Made
+module _ (s : Content) (number : ℕ) (made : List StepMade) (m : StepMade) where
+  abbrev longer : List StepMade
   longer = made ++ m ∷ []
 
   -- another step
-  own-frames : (at : At) (frames : List Frame) (k : ℕ) → (is_user_behind s number made ≡ true → at.mode ≡ User) → next_check s at.mode at.passed frames ≡ None → slice_get (frames_attempts s frames) k ≡ Some m.0 →
+  own-frames : (at : PlayerPlace) (frames : List Frame) (k : ℕ) → (is_user_behind s number made ≡ true → at.mode ≡ User) → next_check s at.mode at.passed frames ≡ None → slice_get (frames_attempts s frames) k ≡ Some m.0 →
       FramesChecked s number made frames → TopChecks s number made at frames → FramesChecked s number longer (frames_after s frames (frames_progress s frames m.0 m.1)) × IsChecked s number made frames m
   own-frames at [] k users none ahead was top = absurd (cc)
   own-frames at (frame ∷ below) k users none ahead was top =
@@ -368,7 +368,7 @@ module _ (s : Parts) (number : ℕ) (made : List Made) (m : Made) where
       by (Worker queue) behind = own-no-check s (frame ∷ below) k m.0 ahead
       by (Script owner) behind = (λ is. absurd (let isnt = own-no-check s (frame ∷ below) k m.0 ahead in cc), λ isnt. behind owner refl)
 
-  pub own-holds : (at : At) → Holds s number made at → IsAhead s at m.0 → (is : IsOwn s at m.0) → IsChecked s number made at.frames m × Holds s number longer (after s at m.0 m.1)
+  pub own-holds : (at : PlayerPlace) → Holds s number made at → IsAhead s at m.0 → (is : IsOwn s at m.0) → IsChecked s number made at.frames m × Holds s number longer (after s at m.0 m.1)
   own-holds at was ahead is =
       let progress = frames_progress s at.frames m.0 m.1 in
       let next = moved s at m.0 progress (spot_of m.0 m.1) in
@@ -391,14 +391,14 @@ module _ (s : Parts) (number : ℕ) (made : List Made) (m : Made) where
       passes false is = refl
 
   -- a check that is passed
-  top-passed : (at : At) (frames : List Frame) (check : Check) → top_check s at.passed frames ≡ Some check → check_step check ≡ m.0 → oops_in m.1 ≡ None → TopChecks s number made at frames →
-      (now : At) → now.passed ≡ at.passed + 1 → TopChecks s number longer now frames
+  top-passed : (at : PlayerPlace) (frames : List Frame) (check : Check) → top_check s at.passed frames ≡ Some check → check_step check ≡ m.0 → oops_in m.1 ≡ None → TopChecks s number made at frames →
+      (now : PlayerPlace) → now.passed ≡ at.passed + 1 → TopChecks s number longer now frames
   top-passed at [] check is step none top now passed = tt
   top-passed at (frame ∷ below) check is step none top now passed = λ begins owner role.
       let was = top begins owner role in record {
         before = was.before;
         since = was.since ++ m ∷ [];
-        whole = ap (λ (l : List Made). l ++ m ∷ []) was.whole ∙ append_assoc was.before was.since (m ∷ []);
+        whole = ap (λ (l : List StepMade). l ++ m ∷ []) was.whole ∙ append_assoc was.before was.since (m ∷ []);
         at = was.at;
         led = was.led;
         stood = was.stood;
@@ -406,7 +406,7 @@ module _ (s : Parts) (number : ℕ) (made : List Made) (m : Made) where
         unchecked = was.unchecked;
         same_mode = was.same_mode ∙ sym (user-kept s number made m (check-enters check m.0 step));
         count = length-append was.since (m ∷ []) ∙ ap (λ (k : ℕ). k + 1) was.count ∙ sym passed;
-        passed = λ call there. subst (λ (k : ℕ). ArePassed (was.since ++ m ∷ []) (take k (checks_of call))) (sym passed)
+        passed = λ call there. subst (λ (k : ℕ). ChecksArePassed (was.since ++ m ∷ []) (take k (checks_of call))) (sym passed)
             (zip-next Passes was.since m (checks_of call) check at.passed was.count (was.passed call there) (comes frame.role frame.stage is owner role call there) (sym step, none));
       }
     where
@@ -417,7 +417,7 @@ module _ (s : Parts) (number : ℕ) (made : List Made) (m : Made) where
           ∙ (ap (option_and_then (call_check at.passed)) (sym there) ∙ ap (λ (r : Role). role_check s at.passed r frame.next Start) (sym same) ∙ is)
       comes role stage is owner same call there = absurd (cc)
 
-  pub passed-holds : (at : At) → Holds s number made at → IsAhead s at m.0 → (is : IsCheck s at m.0) → oops_in m.1 ≡ None → Holds s number longer (after s at m.0 m.1)
+  pub passed-holds : (at : PlayerPlace) → Holds s number made at → IsAhead s at m.0 → (is : IsCheck s at m.0) → oops_in m.1 ≡ None → Holds s number longer (after s at m.0 m.1)
   passed-holds at was ahead is none =
       let next = checked at is.check.word None (spot_of m.0 m.1) in
       let same : after s at m.0 m.1 ≡ next = ap (after_by s at m.0 m.1) is.comes ∙ ap (λ (w : Option OopsWhy). checked at is.check.word w (spot_of m.0 m.1)) none in
@@ -436,7 +436,7 @@ module _ (s : Parts) (number : ℕ) (made : List Made) (m : Made) where
       passes false why none = refl
 
   -- a check that fails ends its player
-  ended-by : (at : At) (frames : List Frame) (check : Check) (why : OopsWhy) → is_user_behind s number made ≡ true → top_check s at.passed frames ≡ Some check → check_step check ≡ m.0 → oops_in m.1 ≡ Some why →
+  ended-by : (at : PlayerPlace) (frames : List Frame) (check : Check) (why : OopsWhy) → is_user_behind s number made ≡ true → top_check s at.passed frames ≡ Some check → check_step check ≡ m.0 → oops_in m.1 ≡ Some why →
       length at.spots ≡ length made → list_any fails made ≡ false → list_any tells_oops at.answers ≡ false → TopChecks s number made at frames →
       EndedByOops s number longer (checked at check.word (Some why) (spot_of m.0 m.1))
   ended-by at [] check why user is step failed long passing untold top = absurd (cc)
@@ -462,12 +462,12 @@ module _ (s : Parts) (number : ℕ) (made : List Made) (m : Made) where
       }
 
 -- only a user's calls are checked
-pub checks-user : (s : Parts) (mode : Mode) (passed : ℕ) (frames : List Frame) (check : Check) → next_check s mode passed frames ≡ Some check → mode ≡ User
+pub checks-user : (s : Content) (mode : Mode) (passed : ℕ) (frames : List Frame) (check : Check) → next_check s mode passed frames ≡ Some check → mode ≡ User
 checks-user s User passed frames check is = refl
 checks-user s mode passed frames check is = absurd (cc)
 
 -- who has ended makes no step
-pub no-more : (s : Parts) (at end : At) (more : List Made) → at.frames ≡ [] → at.mode ≡ Dead → IsPlayed s at more end → (more ≡ []) × (end ≡ at)
+pub no-more : (s : Content) (at end : PlayerPlace) (more : List StepMade) → at.frames ≡ [] → at.mode ≡ Dead → IsPlayed s at more end → (more ≡ []) × (end ≡ at)
 no-more s at end [] none dead led = (refl, sym led)
 no-more s at end (m ∷ more) none dead led =
     absurd (let there = (cond_nil-at (nat_lt (length at.spots) (steps_of s)) (checks_first (check_at s at) (frames_attempts s at.frames)) led.0.0 m.0 led.0.1).1 in
@@ -479,7 +479,7 @@ no-more s at end (m ∷ more) none dead led =
 -- All steps.
 
 -- nothing says so of a player that none has ended
-unended : (s : Parts) (number : ℕ) (made : List Made) (at : At) → Holds s number made at → has_oops made at ≡ false
+unended : (s : Content) (number : ℕ) (made : List StepMade) (at : PlayerPlace) → Holds s number made at → has_oops made at ≡ false
 unended s number made at holds =
     by (list_any fails made) (list_any tells_oops at.answers) holds.passing holds.untold (ap is_dead holds.mode ∙ alive (is_user_behind s number made))
   where
@@ -492,7 +492,7 @@ unended s number made at holds =
     by false true first second third = absurd (cc)
     by false false first second third = third
 
-module _ (s : Parts) (number : ℕ) (at end : At) (front : List Made) (m : Made) (more : List Made) (long : length at.spots ≡ length front) (holds : Holds s number front at) (ahead : IsAhead s at m.0)
+module _ (s : Content) (number : ℕ) (at end : PlayerPlace) (front : List StepMade) (m : StepMade) (more : List StepMade) (long : length at.spots ≡ length front) (holds : Holds s number front at) (ahead : IsAhead s at m.0)
     (led : IsPlayed s (after s at m.0 m.1) more end) where
   Both : Type 0
   Both = AreChecked s number front at (m ∷ more) × (has_oops (front ++ m ∷ more) end ≡ true → EndedByOops s number (front ++ m ∷ more) end)
@@ -503,7 +503,7 @@ module _ (s : Parts) (number : ℕ) (at end : At) (front : List Made) (m : Made)
   with-rest : IsChecked s number front at.frames m → Rest → Both
   unfolding Both Rest
   with-rest here rest =
-      ((here, rest.0), subst (λ (l : List Made). has_oops l end ≡ true → EndedByOops s number l end) (append_assoc front (m ∷ []) more) rest.1)
+      ((here, rest.0), subst (λ (l : List StepMade). has_oops l end ≡ true → EndedByOops s number l end) (append_assoc front (m ∷ []) more) rest.1)
 
   by_check : (Holds s number (front ++ m ∷ []) (after s at m.0 m.1) → Rest) → (is : IsCheck s at m.0) → (why : Option OopsWhy) → oops_in m.1 ≡ why → Both
   unfolding Both
@@ -517,11 +517,11 @@ module _ (s : Parts) (number : ℕ) (at end : At) (front : List Made) (m : Made)
       by_why user comes here (Some why) failed =
           let next = checked at is.check.word (Some why) (spot_of m.0 m.1) in
           let same : after s at m.0 m.1 ≡ next = ap (after_by s at m.0 m.1) is.comes ∙ ap (λ (w : Option OopsWhy). checked at is.check.word w (spot_of m.0 m.1)) failed in
-          let over = no-more s (after s at m.0 m.1) end more (ap (λ (a : At). a.frames) same) (ap (λ (a : At). a.mode) same) led in
+          let over = no-more s (after s at m.0 m.1) end more (ap (λ (a : PlayerPlace). a.frames) same) (ap (λ (a : PlayerPlace). a.mode) same) led in
           let ended = ended-by s number front m at at.frames is.check why user comes is.is_step failed long holds.passing holds.untold holds.top in (
-            (here, subst (λ (l : List Made). AreChecked s number (front ++ m ∷ []) (after s at m.0 m.1) l) (sym over.0) tt),
-            λ told. subst (λ (l : List Made). EndedByOops s number (front ++ m ∷ l) end) (sym over.0)
-                (subst (λ (a : At). EndedByOops s number (front ++ m ∷ []) a) (sym (over.1 ∙ same)) ended),
+            (here, subst (λ (l : List StepMade). AreChecked s number (front ++ m ∷ []) (after s at m.0 m.1) l) (sym over.0) tt),
+            λ told. subst (λ (l : List StepMade). EndedByOops s number (front ++ m ∷ l) end) (sym over.0)
+                (subst (λ (a : PlayerPlace). EndedByOops s number (front ++ m ∷ []) a) (sym (over.1 ∙ same)) ended),
           )
 
   step-checked : (Holds s number (front ++ m ∷ []) (after s at m.0 m.1) → Rest) → Both
@@ -530,11 +530,11 @@ module _ (s : Parts) (number : ℕ) (at end : At) (front : List Made) (m : Made)
     by (inl is) = by_check further is (oops_in m.1) refl
     by (inr is) = let own = own-holds s number front m at holds ahead is in with-rest own.0 (further own.1)
 
-played-checked : (s : Parts) (number : ℕ) (at end : At) (front made : List Made) → length at.spots ≡ length front → Holds s number front at → IsPlayed s at made end →
+played-checked : (s : Content) (number : ℕ) (at end : PlayerPlace) (front made : List StepMade) → length at.spots ≡ length front → Holds s number front at → IsPlayed s at made end →
     AreChecked s number front at made × (has_oops (front ++ made) end ≡ true → EndedByOops s number (front ++ made) end)
 unfolding Both Rest
 played-checked s number at end front [] long holds led =
-    (tt, λ told. absurd (let none = ap (λ (l : List Made). has_oops l end) (append-nil front) ∙ ap (has_oops front) (sym led) ∙ unended s number front at holds in cc))
+    (tt, λ told. absurd (let none = ap (λ (l : List StepMade). has_oops l end) (append-nil front) ∙ ap (has_oops front) (sym led) ∙ unended s number front at holds in cc))
 played-checked s number at end front (m ∷ more) long holds led =
     let longer : length (after s at m.0 m.1).spots ≡ length (front ++ m ∷ []) =
     ap (λ (l : List Spot). length l) (after-spots s at m.0 m.1).1
@@ -544,9 +544,9 @@ played-checked s number at end front (m ∷ more) long holds led =
 
 -- A player from its start.
 
-pub starts-holding : (s : Parts) (number : ℕ) (at : At) → start_at s number ≡ Some at → Holds s number [] at × (at.spots ≡ [])
+pub starts-holding : (s : Content) (number : ℕ) (at : PlayerPlace) → start_at s number ≡ Some at → Holds s number [] at × (at.spots ≡ [])
 starts-holding s number at is =
-    let inner : ℕ → Option At = λ object. option_map (starting s number object) (slice_get s.decls object) in
+    let inner : ℕ → Option PlayerPlace = λ object. option_map (starting s number object) (slice_get s.decls object) in
     option_and_then_some inner (slice_get (players s.decls) number) at is (λ object found made. by_decl object found (slice_get s.decls object) refl made)
   where
     declared : (decl : Decl) → start_mode decl ≡ mode_of (is_user decl)
@@ -566,10 +566,10 @@ starts-holding s number at is =
         Holds s number [] at × (at.spots ≡ [])
     by_decl object found None there made = absurd (cc)
     by_decl object found (Some decl) there made =
-        let first : At = starting s number object decl in
+        let first : PlayerPlace = starting s number object decl in
         let same : first ≡ at = same_Some first at made in
         let led : IsLed s number [] first = (at, is, sym same) in
-        subst (λ (a : At). Holds s number [] a × (a.spots ≡ [])) same (
+        subst (λ (a : PlayerPlace). Holds s number [] a × (a.spots ≡ [])) same (
           record {
             led = led;
             mode = declared decl ∙ ap mode_of (sym (as_declared object found decl there));

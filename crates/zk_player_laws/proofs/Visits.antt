@@ -12,7 +12,7 @@ use Rattle.zk_line.specs.declared.types.Call.{Call}
 use Rattle.zk_line.specs.declared.types.Call.TheVariants as calls
 use Rattle.zk_line.specs.declared.types.Decl.{Decl}
 use Rattle.zk_line.specs.Objects.{number_of}
-use Rattle.zk_scenario.specs.Parts.{Parts}
+use Rattle.zk_scenario.specs.Content.{Content}
 use Rattle.zk_scenario.specs.Players.{players, calls_of}
 use Rattle.zk_model_work.specs.declared.ops.WorkOp.TheVariants as work_ops
 use Rattle.zk_words.specs.declared.word.Word.{Word}
@@ -31,8 +31,8 @@ use Rattle.zk_worker.specs.declared.steps.Step.{Step}
 use Rattle.zk_worker.specs.declared.steps.Step.TheVariants as steps
 use Rattle.zk_worker.specs.declared.steps.StepReply.{StepReply}
 use Rattle.zk_worker.specs.Calls.{plan_of, plan_attempts, plan_progress}
-use Rattle.zk_worker.specs.Follows.{Made, IsPlayed}
-use Rattle.zk_worker.specs.Places.{At}
+use Rattle.zk_worker.specs.Follows.{StepMade, IsPlayed}
+use Rattle.zk_worker.specs.Places.{PlayerPlace}
 use Rattle.zk_worker.specs.Protocol.{call_attempts, call_progress, role_attempts, role_progress, frames_attempts, frames_progress, frames_after, answers_after, worker_attempts, worker_progress, settled, entered, first_frame, role_at, spot_of, starting, start_at, after}
 use Rattle.zk_player_laws.specs.StackLaws.{ChanHistories, IsReplied, chans_after, IsPlayedAmong}
 use Rattle.zk_player_laws.specs.VisitLaws.{used_chan, is_use, is_free, OwnsChan, IsOwned, AreOwned, CallsChannel, is_publish, is_read, UsesOrIsRefused, IsAnswered, AreAnswered, EachPublishVisits}
@@ -53,11 +53,11 @@ use Rattle.zk_player_laws.proofs.ScriptsEntered.{kept-more, start-kept, worker-n
 
 -- What is known of the open scripts.
 
-abbrev pub RoleVisits : Parts → List Made → Role → ℕ → Stage → Type 0
+abbrev pub RoleVisits : Content → List StepMade → Role → ℕ → Stage → Type 0
 RoleVisits s done (Script owner) next stage = CallVisits s done owner next stage
 RoleVisits s done (Worker queue) next stage = Unit {0}
 
-abbrev pub FrameVisits : Parts → List Made → Frame → Type 0
+abbrev pub FrameVisits : Content → List StepMade → Frame → Type 0
 FrameVisits s done frame = RoleVisits s done frame.role frame.next frame.stage
 
 -- A step of a call that uses no channel.
@@ -72,7 +72,7 @@ other-word decls (calls.Notify channel timeout) other = absurd (cc)
 other-word decls (calls.Read channel timeout) other = absurd (cc)
 other-word decls call other = (refl, refl)
 
-module _ (s : Parts) (done : List Made) (number owner next : ℕ) (call : Call) (is_call : slice_get (calls_of s.scripts owner) next ≡ Some call)
+module _ (s : Content) (done : List StepMade) (number owner next : ℕ) (call : Call) (is_call : slice_get (calls_of s.scripts owner) next ≡ Some call)
     (other : is_channel (plan_of s.decls call) ≡ false) where
   never-with : CallsChannel s owner next → ⊥
   never-with by =
@@ -105,7 +105,7 @@ plan-used decls call (plans.Channel chan using_ timeout) is stage k step c there
     ∙ used-got chan using_ timeout stage k step c (sym (ap (λ (p : Plan). slice_get (plan_attempts p stage) k) is) ∙ there) used
 plan-used decls call plan is stage k step c there used = let none = uses-none step (call-calm decls call stage k step (ap is_channel is) there) in absurd (cc)
 
-call-used : (s : Parts) (call : Option Call) (stage : Stage) (k : ℕ) (step : Step) (c : ℕ) → slice_get (call_attempts s.decls call stage) k ≡ Some step → used_chan step ≡ Some c →
+call-used : (s : Content) (call : Option Call) (stage : Stage) (k : ℕ) (step : Step) (c : ℕ) → slice_get (call_attempts s.decls call stage) k ≡ Some step → used_chan step ≡ Some c →
     option_and_then (λ (call : Call). plan_got (plan_of s.decls call) stage) call ≡ Some c
 call-used s None stage k step c there used = absurd (cc)
 call-used s (Some call) stage k step c there used = plan-used s.decls call (plan_of s.decls call) refl stage k step c there used
@@ -115,13 +115,13 @@ worker-used queue stages.Start k step c there used = let one = ap used_chan (sli
 worker-used queue stages.Runs k step c there used = let one = ap used_chan (slice_get-one (steps.Work (work_ops.End queue)) step k there) in cc
 worker-used queue stage k step c there used = cc
 
-role-used : (s : Parts) (role : Role) (next : ℕ) (stage : Stage) (k : ℕ) (step : Step) (c : ℕ) → slice_get (role_attempts s role next stage) k ≡ Some step → used_chan step ≡ Some c →
+role-used : (s : Content) (role : Role) (next : ℕ) (stage : Stage) (k : ℕ) (step : Step) (c : ℕ) → slice_get (role_attempts s role next stage) k ≡ Some step → used_chan step ≡ Some c →
     of_call plan_got s role next stage ≡ Some c
 role-used s (Script owner) next stage k step c there used = call-used s (slice_get (calls_of s.scripts owner) next) stage k step c there used
 role-used s (Worker queue) next stage k step c there used = absurd (worker-used (number_of s.decls queue) stage k step c there used)
 
 -- a script that has a channel is at a call that uses it
-plan-calls : (s : Parts) (owner next : ℕ) (call : Call) → slice_get (calls_of s.scripts owner) next ≡ Some call → (plan : Plan) → plan_of s.decls call ≡ plan →
+plan-calls : (s : Content) (owner next : ℕ) (call : Call) → slice_get (calls_of s.scripts owner) next ≡ Some call → (plan : Plan) → plan_of s.decls call ≡ plan →
     (stage : Stage) (c : ℕ) → plan_got plan stage ≡ Some c → (by : CallsChannel s owner next) × (by.chan ≡ c) × (is_with_channel stage ≡ true)
 plan-calls s owner next call is_call (plans.Channel chan using_ timeout) is stage c has =
     let by : CallsChannel s owner next = record { call = call; chan = chan; using_ = using_; timeout = timeout; is_call = is_call; is_plan = is } in
@@ -134,13 +134,13 @@ plan-calls s owner next call is_call (plans.Channel chan using_ timeout) is stag
     by_stage stage has = absurd (cc)
 plan-calls s owner next call is_call plan is stage c has = absurd (cc)
 
-call-calls : (s : Parts) (owner next : ℕ) (call : Option Call) → slice_get (calls_of s.scripts owner) next ≡ call → (stage : Stage) (c : ℕ) →
+call-calls : (s : Content) (owner next : ℕ) (call : Option Call) → slice_get (calls_of s.scripts owner) next ≡ call → (stage : Stage) (c : ℕ) →
     option_and_then (λ (call : Call). plan_got (plan_of s.decls call) stage) call ≡ Some c → (by : CallsChannel s owner next) × (by.chan ≡ c) × (is_with_channel stage ≡ true)
 call-calls s owner next None is_call stage c has = absurd (cc)
 call-calls s owner next (Some call) is_call stage c has = plan-calls s owner next call is_call (plan_of s.decls call) refl stage c has
 
 -- so its player owns it
-role-owns : (s : Parts) (done : List Made) (role : Role) (next : ℕ) (stage : Stage) (c : ℕ) → of_call plan_got s role next stage ≡ Some c → RoleVisits s done role next stage → OwnsChan c done
+role-owns : (s : Content) (done : List StepMade) (role : Role) (next : ℕ) (stage : Stage) (c : ℕ) → of_call plan_got s role next stage ≡ Some c → RoleVisits s done role next stage → OwnsChan c done
 role-owns s done (Script owner) next stage c has v =
     let calls = call-calls s owner next (slice_get (calls_of s.scripts owner) next) refl stage c has in
     subst (λ (c : ℕ). OwnsChan c done) calls.1 (has-owns calls.0.chan calls.0.using_ done stage calls.2 (v calls.0))
@@ -149,7 +149,7 @@ role-owns s done (Worker queue) next stage c has v = absurd (cc)
 -- The scripts below.
 
 -- the step uses none of these channels
-abbrev pub UsesNone : List ℕ → Made → Type 0
+abbrev pub UsesNone : List ℕ → StepMade → Type 0
 UsesNone held made = (chan : ℕ) → list_any (eqb chan) held ≡ true → is_use chan made ≡ false
 
 eqb-is : (a b : ℕ) → eqb a b ≡ true → a ≡ b
@@ -159,7 +159,7 @@ eqb-itself : (a : ℕ) → eqb a a ≡ true
 eqb-itself a = grind (arith, nat_tests)
 
 -- it uses only the channel that the innermost script has
-uses-apart : (has : Option ℕ) (below : List ℕ) (made : Made) → ((c : ℕ) → used_chan made.0 ≡ Some c → has ≡ Some c) → IsDistinct eqb (option_to_list has ++ below) → UsesNone below made
+uses-apart : (has : Option ℕ) (below : List ℕ) (made : StepMade) → ((c : ℕ) → used_chan made.0 ≡ Some c → has ≡ Some c) → IsDistinct eqb (option_to_list has ++ below) → UsesNone below made
 uses-apart has below made own apart chan among = by_used (used_chan made.0) refl
   where
     by_test : (c : ℕ) (b : Bool) → eqb c chan ≡ b → used_chan made.0 ≡ Some c → b ≡ false
@@ -172,7 +172,7 @@ uses-apart has below made own apart chan among = by_used (used_chan made.0) refl
     by_used None is = ap (λ (o : Option ℕ). option_map_or (λ used. eqb used chan) o false) is
     by_used (Some c) is = ap (λ (o : Option ℕ). option_map_or (λ used. eqb used chan) o false) is ∙ by_test c (eqb c chan) refl is
 
-got-calls : (s : Parts) (owner next : ℕ) (by : CallsChannel s owner next) (stage : Stage) → is_with_channel stage ≡ true → of_call plan_got s (Script owner) next stage ≡ Some by.chan
+got-calls : (s : Content) (owner next : ℕ) (by : CallsChannel s owner next) (stage : Stage) → is_with_channel stage ≡ true → of_call plan_got s (Script owner) next stage ≡ Some by.chan
 got-calls s owner next by stage with_ =
     ap (option_and_then (λ (call : Call). plan_got (plan_of s.decls call) stage)) by.is_call ∙ ap (λ (plan : Plan). plan_got plan stage) by.is_plan ∙ by_stage stage with_
   where
@@ -183,7 +183,7 @@ got-calls s owner next by stage with_ =
     by_stage stage with_ = absurd (cc)
 
 -- a script whose channel the step doesn't use
-role-more : (s : Parts) (done : List Made) (made : Made) (role : Role) (next : ℕ) (stage : Stage) →
+role-more : (s : Content) (done : List StepMade) (made : StepMade) (role : Role) (next : ℕ) (stage : Stage) →
     ((chan : ℕ) → of_call plan_got s role next stage ≡ Some chan → is_use chan made ≡ false) → RoleVisits s done role next stage → RoleVisits s (done ++ made ∷ []) role next stage
 role-more s done made (Script owner) next stage none v = λ by.
     has-still by.chan by.using_ done made stage (λ with_. none by.chan (got-calls s owner next by stage with_)) (v by)
@@ -193,7 +193,7 @@ among-behind : (chan : ℕ) (o : Option ℕ) (below : List ℕ) → list_any (eq
 among-behind chan None below among = among
 among-behind chan (Some c) below among = or-behind (eqb chan c) (list_any (eqb chan) below) among
 
-frames-more : (s : Parts) (done : List Made) (made : Made) (frames : List Frame) → UsesNone (got s frames) made → All (FrameVisits s done) frames → All (FrameVisits s (done ++ made ∷ [])) frames
+frames-more : (s : Content) (done : List StepMade) (made : StepMade) (frames : List Frame) → UsesNone (got s frames) made → All (FrameVisits s done) frames → All (FrameVisits s (done ++ made ∷ [])) frames
 frames-more s done made [] none all = All-nil (FrameVisits s (done ++ made ∷ []))
 frames-more s done made (frame ∷ below) none all =
     All-cons (FrameVisits s (done ++ made ∷ [])) frame below
@@ -205,14 +205,14 @@ frames-more s done made (frame ∷ below) none all =
 -- A step of a player.
 
 -- the open scripts and the answers after a step
-abbrev AllVisit : Parts → List Made → List Frame → List Answered → Type 0
+abbrev AllVisit : Content → List StepMade → List Frame → List Answered → Type 0
 AllVisit s done frames answers = All (FrameVisits s done) frames × All (UsesOrIsRefused s done) answers
 
-started-role : (s : Parts) (done : List Made) (role : Role) (next : ℕ) → RoleVisits s done role next stages.Start
+started-role : (s : Content) (done : List StepMade) (role : Role) (next : ℕ) → RoleVisits s done role next stages.Start
 started-role s done (Script owner) next = λ by. tt
 started-role s done (Worker queue) next = tt
 
-module _ (s : Parts) (done : List Made) (number : ℕ) (answers : List Answered) (told : All (UsesOrIsRefused s done) answers) (below : List Frame) (all : All (FrameVisits s done) below) where
+module _ (s : Content) (done : List StepMade) (number : ℕ) (answers : List Answered) (told : All (UsesOrIsRefused s done) answers) (below : List Frame) (all : All (FrameVisits s done) below) where
   abbrev P : Frame → Type 0
   P = FrameVisits s done
 
@@ -241,8 +241,8 @@ module _ (s : Parts) (done : List Made) (number : ℕ) (answers : List Answered)
         told,
       )
 
-module _ (s : Parts) (chans : ChanHistories) (who : Who) (done : List Made) (number : ℕ) (long : number ≡ length done) (step : Step) (reply : StepReply) where
-  abbrev later : List Made
+module _ (s : Content) (chans : ChanHistories) (who : Who) (done : List StepMade) (number : ℕ) (long : number ≡ length done) (step : Step) (reply : StepReply) where
+  abbrev later : List StepMade
   later = done ++ (step, reply) ∷ []
 
   plan-visits : (owner next : ℕ) (call : Call) (is_call : slice_get (calls_of s.scripts owner) next ≡ Some call) (plan : Plan) → plan_of s.decls call ≡ plan → (stage : Stage) (k : ℕ) →
@@ -286,14 +286,14 @@ module _ (s : Parts) (chans : ChanHistories) (who : Who) (done : List Made) (num
           queue frame.next frame.stage (worker_progress s.decls frame.stage reply) (λ word answer is. worker-never s.decls frame.stage reply word answer is)
 
 -- a check uses no channel
-step-visits : (s : Parts) (chans : ChanHistories) (who : Who) (done : List Made) (at : At) → length at.spots ≡ length done → (step : Step) (reply : StepReply) → IsAhead s at step → IsReplied s chans who step reply →
+step-visits : (s : Content) (chans : ChanHistories) (who : Who) (done : List StepMade) (at : PlayerPlace) → length at.spots ≡ length done → (step : Step) (reply : StepReply) → IsAhead s at step → IsReplied s chans who step reply →
     AreKept s chans who.number at.frames → AllVisit s done at.frames at.answers →
     AllVisit s (done ++ (step, reply) ∷ []) (after s at step reply).frames (after s at step reply).answers × IsOwned done (step, reply)
 step-visits s chans who done at long step reply ahead replied kept was = turn P s at step reply ahead (λ is. by_why is (oops_in reply)) by_own where
-  later : List Made
+  later : List StepMade
   later = done ++ (step, reply) ∷ []
 
-  P : At → Type 0
+  P : PlayerPlace → Type 0
   P a = AllVisit s later a.frames a.answers × IsOwned done (step, reply)
 
   never : {A : Type 0} (is : IsCheck s at step) (chan : ℕ) → used_chan step ≡ Some chan → A
@@ -321,18 +321,18 @@ step-visits s chans who done at long step reply ahead replied kept was = turn P 
   by_own is = frames-visit s chans who done (length at.spots) long step reply at.frames is.index at.answers is.ahead replied kept was
 
 -- and frees none
-step-answers : (s : Parts) (chans : ChanHistories) (who : Who) (at : At) (step : Step) (reply : StepReply) → IsAhead s at step → is_free (step, reply) ≡ true → IsReplied s chans who step reply →
+step-answers : (s : Content) (chans : ChanHistories) (who : Who) (at : PlayerPlace) (step : Step) (reply : StepReply) → IsAhead s at step → is_free (step, reply) ≡ true → IsReplied s chans who step reply →
     IsAnswered (after s at step reply).answers (length at.spots)
-step-answers s chans who at step reply ahead frees replied = turn (λ (a : At). IsAnswered a.answers (length at.spots)) s at step reply ahead
+step-answers s chans who at step reply ahead frees replied = turn (λ (a : PlayerPlace). IsAnswered a.answers (length at.spots)) s at step reply ahead
     (λ is. absurd (let freed : false ≡ true = ap (λ (x : Step). is_free (x, reply)) is.is_step ∙ frees in cc))
     (λ is. free-answers s chans who step reply frees replied at.frames is.index at.answers (length at.spots) is.ahead)
 
 -- A player from its start.
 
-played-visits : (s : Parts) (chans : ChanHistories) (at end : At) (made done : List Made) → AreKept s chans at.who.number at.frames → IsPlayedAmong s chans at made → IsPlayed s at made end →
+played-visits : (s : Content) (chans : ChanHistories) (at end : PlayerPlace) (made done : List StepMade) → AreKept s chans at.who.number at.frames → IsPlayedAmong s chans at made → IsPlayed s at made end →
     length at.spots ≡ length done → AllVisit s done at.frames at.answers → All (UsesOrIsRefused s (done ++ made)) end.answers × AreOwned done made × AreAnswered end.answers (length done) made
 played-visits s chans at end [] done kept plays ends long was =
-    (subst (λ (l : List Made). All (UsesOrIsRefused s l) end.answers) (sym (append-nil done)) (subst (λ (x : At). All (UsesOrIsRefused s done) x.answers) ends was.1), tt, tt)
+    (subst (λ (l : List StepMade). All (UsesOrIsRefused s l) end.answers) (sym (append-nil done)) (subst (λ (x : PlayerPlace). All (UsesOrIsRefused s done) x.answers) ends was.1), tt, tt)
 played-visits s chans at end (made ∷ more) done kept plays ends long was =
     let found = plays.0 in
     let who = plays.1 in
@@ -345,7 +345,7 @@ played-visits s chans at end (made ∷ more) done kept plays ends long was =
     (own ∙ ap (λ (w : Who). w.number) (sym (after-spots s at made.0 made.1).0)) next) plays.6 ends.1
     (ap (λ (l : List Spot). length l) (after-spots s at made.0 made.1).1 ∙ (let spots = length-append at.spots (spot_of made.0 made.1 ∷ []) in let all = length-append done (made ∷ []) in omega arith)) visit.0 in
     let count : length done + 1 ≡ length (done ++ made ∷ []) = (let all = length-append done (made ∷ []) in omega arith) in (
-      subst (λ (l : List Made). All (UsesOrIsRefused s l) end.answers) (append_assoc done (made ∷ []) more) further.0,
+      subst (λ (l : List StepMade). All (UsesOrIsRefused s l) end.answers) (append_assoc done (made ∷ []) more) further.0,
       (visit.1, further.1),
       (
         λ frees. answered-still s (after s at made.0 made.1) end more (length done) ends.1
@@ -356,9 +356,9 @@ played-visits s chans at end (made ∷ more) done kept plays ends long was =
     )
 
 -- at its start a player has visited nothing
-start-visits : (s : Parts) (number : ℕ) (at : At) → start_at s number ≡ Some at → AllVisit s [] at.frames at.answers
+start-visits : (s : Content) (number : ℕ) (at : PlayerPlace) → start_at s number ≡ Some at → AllVisit s [] at.frames at.answers
 start-visits s number at is =
-    let inner : ℕ → Option At = λ object. option_map (starting s number object) (slice_get s.decls object) in
+    let inner : ℕ → Option PlayerPlace = λ object. option_map (starting s number object) (slice_get s.decls object) in
     option_and_then_some inner (slice_get (players s.decls) number) at is (λ object found made. by_decl object (slice_get s.decls object) made)
   where
     first : (role : Role) → All (FrameVisits s []) (settled s (first_frame role ∷ []))
@@ -367,7 +367,7 @@ start-visits s number at is =
     by_decl : (object : ℕ) (decl : Option Decl) → option_map (starting s number object) decl ≡ Some at → AllVisit s [] at.frames at.answers
     by_decl object None made = absurd (cc)
     by_decl object (Some decl) made =
-        subst (λ (a : At). AllVisit s [] a.frames a.answers) (same_Some (starting s number object decl) at made) (first (role_at decl object), All-nil (UsesOrIsRefused s []))
+        subst (λ (a : PlayerPlace). AllVisit s [] a.frames a.answers) (same_Some (starting s number object decl) at made) (first (role_at decl object), All-nil (UsesOrIsRefused s []))
 
 -- each publish or notify that came to its end has visited its observers
 pub each_publish_visits : EachPublishVisits

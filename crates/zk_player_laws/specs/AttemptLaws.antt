@@ -8,7 +8,7 @@ use Rattle.zk_model_wait.specs.declared.clock.ClockOp.TheVariants as clock_ops
 use Rattle.zk_model_wait.specs.declared.clock.ClockReply.TheVariants as clock_replies
 use Rattle.zk_model_work.specs.declared.ops.WorkOp.TheVariants as work_ops
 use Rattle.zk_model_work.specs.declared.ops.WorkReply.TheVariants as work_replies
-use Rattle.zk_scenario.specs.Parts.{Parts}
+use Rattle.zk_scenario.specs.Content.{Content}
 use Rattle.zk_words.specs.declared.timeout.Timeout.{Timeout}
 use Rattle.zk_words.specs.declared.timeout.Timeout.TheVariants.{No, Forever, Ticks}
 use Rattle.zk_words.specs.declared.word.Word.{Word}
@@ -26,8 +26,8 @@ use Rattle.zk_worker.specs.declared.steps.Step.TheVariants as steps
 use Rattle.zk_worker.specs.declared.steps.StepReply.{StepReply}
 use Rattle.zk_worker.specs.declared.steps.StepReply.TheVariants as step_replies
 use Rattle.zk_worker.specs.Calls.{plan_of, closing_step}
-use Rattle.zk_worker.specs.Follows.{Made, is_spent_at, IsFollowing}
-use Rattle.zk_worker.specs.Places.{At}
+use Rattle.zk_worker.specs.Follows.{StepMade, is_spent_at, IsFollowing}
+use Rattle.zk_worker.specs.Places.{PlayerPlace}
 use Rattle.zk_worker.specs.Polls.{poll_attempts}
 use Rattle.zk_worker.specs.Protocol.{attempts, after}
 use Rattle.zk_worker.specs.Publishes.{asks_for, use_step}
@@ -41,7 +41,7 @@ use Rattle.zk_player_laws.specs.VisitLaws.{visit_of}
 
 -- of a call that may begin a wait with this step, and end it so, behind its steps these come next, and no others: first that step;
 -- where it waits, the end of that wait
-abbrev pub ComeIn : Step → (ℕ → Step) → List Made → List Step → Type 0
+abbrev pub ComeIn : Step → (ℕ → Step) → List StepMade → List Step → Type 0
 ComeIn opening closing play next =
     ((play ≡ []) × (next ≡ opening ∷ []))
     ⊎ ((waited : StepReply) × (place : ℕ) × (waits_at waited ≡ Some place) × (play ≡ (opening, waited) ∷ [])
@@ -49,7 +49,7 @@ ComeIn opening closing play next =
 
 -- of a call that has set its alarm, for this moment: first the step that may begin its wait; where it waits, the end of that wait
 -- or else that of the alarm; and where the alarm has ended, that it gives the wait up
-abbrev pub ComeWithin : Waiting → ℕ → List Made → List Step → Type 0
+abbrev pub ComeWithin : Waiting → ℕ → List StepMade → List Step → Type 0
 ComeWithin waiting moment play next =
     ((play ≡ []) × (next ≡ open_step waiting true ∷ []))
     ⊎ ((waited : StepReply) × (place : ℕ) × (waits_at waited ≡ Some place)
@@ -59,12 +59,12 @@ ComeWithin waiting moment play next =
     × (next ≡ quit_step waiting place ∷ []))))
 
 -- of a call that asks for this and waits so long, if it has to: with ticks the alarm comes first
-abbrev pub ComeFor : Waiting → Timeout → List Made → List Step → Type 0
+abbrev pub ComeFor : Waiting → Timeout → List StepMade → List Step → Type 0
 ComeFor waiting No play next = ComeIn (open_step waiting false) (end_step waiting) play next
 ComeFor waiting Forever play next = ComeIn (open_step waiting true) (end_step waiting) play next
 ComeFor waiting (Ticks ticks) play next =
     ((play ≡ []) × (next ≡ steps.Clock (clock_ops.Alarm ticks) ∷ []))
-    ⊎ ((moment place : ℕ) × (more : List Made)
+    ⊎ ((moment place : ℕ) × (more : List StepMade)
     × (play ≡ (steps.Clock (clock_ops.Alarm ticks), step_replies.Clock (clock_replies.At moment) place) ∷ more)
     × ComeWithin waiting moment more next)
 
@@ -75,7 +75,7 @@ ComeToVisit chan (observer ∷ left) next = next ≡ visit_of chan observer ∷ 
 
 -- of a call that has its channel, and since then made these steps: first the use of it; of observers that this tells, those of
 -- which it has visited the first ones, the visit of the next; and behind the last, or with the message, its freeing
-abbrev pub ComeInUse : ℕ → Using → List Made → List Step → Type 0
+abbrev pub ComeInUse : ℕ → Using → List StepMade → List Step → Type 0
 ComeInUse chan using_ [] next = next ≡ use_step chan using_ ∷ []
 ComeInUse chan using_ (use_ ∷ visits) next =
     (use_.0 ≡ use_step chan using_)
@@ -86,7 +86,7 @@ ComeInUse chan using_ (use_ ∷ visits) next =
 
 -- of a call that goes by this plan: behind the steps that were made for it these come next, and no others; of a poll those of
 -- which the law of polls speaks
-abbrev pub ComeOf : Word → Plan → List Made → List Step → Type 0
+abbrev pub ComeOf : Word → Plan → List StepMade → List Step → Type 0
 ComeOf word (One first) play next = (play ≡ []) × (next ≡ first ∷ [])
 ComeOf word (Pair opening closing) play next = ComeIn opening (closing_step closing) play next
 ComeOf word (Twice first second) play next =
@@ -96,11 +96,11 @@ ComeOf word (Poll timeout events) play next =
     (stage : Stage) × LeadsOn word timeout events Start play stage × (next ≡ poll_attempts timeout events stage)
 ComeOf word (Channel chan using_ timeout) play next =
     ComeFor (asks_for chan using_) timeout play next
-    ⊎ ((front : List Made) × (gained : Made) × (since : List Made) × (play ≡ front ++ gained ∷ since)
+    ⊎ ((front : List StepMade) × (gained : StepMade) × (since : List StepMade) × (play ≡ front ++ gained ∷ since)
     × (at place : ℕ) × (gained.1 ≡ step_replies.Chan at chan_replies.Got place) × ComeInUse chan using_ since next)
 
 -- of these steps, from a place of the player on, those at which so many scripts and runs were open
-abbrev pub steps_at : Parts → ℕ → At → List Made → List Made
+abbrev pub steps_at : Content → ℕ → PlayerPlace → List StepMade → List StepMade
 steps_at s depth at [] = []
 steps_at s depth at (made ∷ more) =
     if length at.frames == depth
@@ -108,34 +108,34 @@ steps_at s depth at (made ∷ more) =
     else steps_at s depth (after s at made.0 made.1) more
 
 -- the step has begun a run
-abbrev pub begins_run : Made → Bool
+abbrev pub begins_run : StepMade → Bool
 begins_run (steps.Work (work_ops.Begin queue), step_replies.Work (work_replies.Run item admission) place) = true
 begins_run made = false
 
 -- the last of these steps has; so a worker is in a run, where these are its own
-abbrev pub is_in_run : List Made → Bool
+abbrev pub is_in_run : List StepMade → Bool
 is_in_run [] = false
 is_in_run (made ∷ []) = begins_run made
 is_in_run (made ∷ more) = is_in_run more
 
 -- the next check of a user's call comes, and nothing else
-abbrev pub CheckComes : Parts → ℕ → List Made → ℕ → ℕ → List Frame → List Step → Type 0
+abbrev pub CheckComes : Content → ℕ → List StepMade → ℕ → ℕ → List Frame → List Step → Type 0
 CheckComes s number front owner call below next =
     (check : Step) × (next ≡ check ∷ []) × ((reply : StepReply) → IsNextCheck s number front owner call below (check, reply))
 
 -- or the player has begun the next call of its innermost script, and behind the steps that it made for it since then, those at
 -- which as many were open as are now, these come next by the plan of the call
-pub record CallComes (s : Parts) (number : ℕ) (front : List Made) (owner call : ℕ) (below : List Frame) (depth : ℕ)
+pub record CallComes (s : Content) (number : ℕ) (front : List StepMade) (owner call : ℕ) (below : List Frame) (depth : ℕ)
     (next : List Step) : Type 0 where
-  pub before : List Made
-  pub since : List Made
+  pub before : List StepMade
+  pub since : List StepMade
   pub whole : front ≡ before ++ since
   pub of : Call
   pub begins : BeginsCall s number before owner call of below
   pub come : ComeOf (word_of of) (plan_of s.decls of) (steps_at s depth begins.at since) next
 
 -- a worker between two runs begins one, and in a run whose script is through it ends that; of a script a check or its call comes
-abbrev pub ComeToRole : Parts → ℕ → At → List Made → Role → ℕ → List Frame → ℕ → List Step → Type 0
+abbrev pub ComeToRole : Content → ℕ → PlayerPlace → List StepMade → Role → ℕ → List Frame → ℕ → List Step → Type 0
 ComeToRole s number start front (Worker queue) call below depth next =
     (is_in_run (steps_at s depth start front) ≡ false → next ≡ steps.Work (work_ops.Begin (number_of s.decls queue)) ∷ [])
     × (is_in_run (steps_at s depth start front) ≡ true → next ≡ steps.Work (work_ops.End (number_of s.decls queue)) ∷ [])
@@ -143,19 +143,19 @@ ComeToRole s number start front (Script owner) call below depth next =
     CheckComes s number front owner call below next ⊎ CallComes s number front owner call below depth next
 
 -- what comes next of the innermost open script or run; where none is open nothing does
-abbrev pub ComeTo : Parts → ℕ → At → List Made → List Frame → List Step → Type 0
+abbrev pub ComeTo : Content → ℕ → PlayerPlace → List StepMade → List Frame → List Step → Type 0
 ComeTo s number start front [] next = next ≡ []
 ComeTo s number start front (frame ∷ below) next =
     ComeToRole s number start front frame.role frame.next below (length (frame ∷ below)) next
 
 -- behind these steps, from its start on, a player attempts just what comes next, in that order; once it has made all its steps
 -- it attempts nothing
-pub record AttemptsItsNext (s : Parts) (number : ℕ) (start : At) (front : List Made) (at : At) : Type 0 where
+pub record AttemptsItsNext (s : Content) (number : ℕ) (start : PlayerPlace) (front : List StepMade) (at : PlayerPlace) : Type 0 where
   pub spent : is_spent_at s at ≡ true → attempts s at ≡ []
   pub goes_on : is_spent_at s at ≡ false → ComeTo s number start front at.frames (attempts s at)
 
 -- so it does before each of these steps, which go on from a place of the player, and behind the last
-abbrev pub AlwaysGoesOn : Parts → ℕ → At → List Made → At → List Made → Type 0
+abbrev pub AlwaysGoesOn : Content → ℕ → PlayerPlace → List StepMade → PlayerPlace → List StepMade → Type 0
 AlwaysGoesOn s number start front at [] = AttemptsItsNext s number start front at
 AlwaysGoesOn s number start front at (made ∷ more) =
     AttemptsItsNext s number start front at
@@ -163,5 +163,5 @@ AlwaysGoesOn s number start front at (made ∷ more) =
 
 -- of each player that follows a scenario, where what is shown of the clock is legal: at each moment it attempts what comes next
 abbrev pub EachCallGoesOn : Type 0
-EachCallGoesOn = (s : Parts) (number : ℕ) (shown : Shown) (at : At) (is : IsFollowing s number shown at) → ShowsLegalClock shown →
+EachCallGoesOn = (s : Content) (number : ℕ) (shown : Shown) (at : PlayerPlace) (is : IsFollowing s number shown at) → ShowsLegalClock shown →
     AlwaysGoesOn s number is.start [] is.start is.made

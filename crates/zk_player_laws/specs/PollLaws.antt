@@ -30,37 +30,37 @@ use Rattle.zk_worker.specs.declared.steps.Step.{Step}
 use Rattle.zk_worker.specs.declared.steps.Step.TheVariants as steps
 use Rattle.zk_worker.specs.declared.steps.StepReply.{StepReply}
 use Rattle.zk_worker.specs.declared.steps.StepReply.TheVariants as step_replies
-use Rattle.zk_worker.specs.Follows.{Made}
+use Rattle.zk_worker.specs.Follows.{StepMade}
 use Rattle.zk_worker.specs.Polls.{waits, poll_attempts, poll_progress}
 use Rattle.zk_worker.specs.Refs.{ref_object}
 
 -- at this stage of a poll the step is one of its next attempts, and its reply leads to this
 pub record Leads (word : Word) (timeout : Timeout) (events : List Event) (stage : Stage)
-    (made : Made) (progress : Progress) : Type 0 where
+    (made : StepMade) (progress : Progress) : Type 0 where
   pub index : ℕ
   pub ahead : slice_get (poll_attempts timeout events stage) index ≡ Some made.0
   pub comes : poll_progress word timeout events stage made.0 made.1 ≡ progress
 
 -- these steps with their replies lead a poll from one stage to another
-abbrev pub LeadsOn : Word → Timeout → List Event → Stage → List Made → Stage → Type 0
+abbrev pub LeadsOn : Word → Timeout → List Event → Stage → List StepMade → Stage → Type 0
 LeadsOn word timeout events stage [] end = stage ≡ end
 LeadsOn word timeout events stage (made ∷ more) end =
     (next : Stage) × Leads word timeout events stage made (Goes next)
     × LeadsOn word timeout events next more end
 
 -- the whole play of a poll that has its answer: its steps with their replies, from its start
-pub record IsAnswered (word : Word) (timeout : Timeout) (events : List Event) (play : List Made)
+pub record IsAnswered (word : Word) (timeout : Timeout) (events : List Event) (play : List StepMade)
     (answer : Answer) : Type 0 where
-  pub front : List Made
-  pub last : Made
+  pub front : List StepMade
+  pub last : StepMade
   pub stage : Stage
   pub whole : play ≡ front ++ last ∷ []
   pub led : LeadsOn word timeout events Start front stage
   pub answered : Leads word timeout events stage last (Answers word answer)
 
 -- a step of a play: it, and what was made before it
-pub record StandsAt (play before : List Made) (made : Made) : Type 0 where
-  pub rest : List Made
+pub record StandsAt (play before : List StepMade) (made : StepMade) : Type 0 where
+  pub rest : List StepMade
   pub whole : play ≡ before ++ made ∷ rest
 
 -- what a semaphore can tell a poll
@@ -84,7 +84,7 @@ msgq_may_tell (msgq_ops.PollQuit place) msgq_replies.Plain = true
 msgq_may_tell op reply = false
 
 -- what a service can reply to a step of a poll
-abbrev pub may_reply : Made → Bool
+abbrev pub may_reply : StepMade → Bool
 may_reply (steps.Clock (clock_ops.Alarm ticks), step_replies.Clock (clock_replies.At moment) place) =
     true
 may_reply (steps.Clock (clock_ops.AlarmEnd moment), step_replies.Clock clock_replies.Due place) =
@@ -95,7 +95,7 @@ may_reply (steps.LookSignal object must, step_replies.Seen seen) = true
 may_reply made = false
 
 -- where a step has registered its caller
-abbrev pub registered_at : Made → Option Spot
+abbrev pub registered_at : StepMade → Option Spot
 registered_at (steps.Sem object (sem_ops.PollArm waits), step_replies.Sem at sem_replies.Armed place) =
     Some (spots.Sem object place)
 registered_at (steps.Msgq object (msgq_ops.PollArm waits), step_replies.Msgq at msgq_replies.Armed place) =
@@ -103,7 +103,7 @@ registered_at (steps.Msgq object (msgq_ops.PollArm waits), step_replies.Msgq at 
 registered_at made = None
 
 -- the registration that a step ends or gives up
-abbrev pub ended_at : Made → Option Spot
+abbrev pub ended_at : StepMade → Option Spot
 ended_at (steps.Sem object (sem_ops.PollEnd place), reply) = Some (spots.Sem object place)
 ended_at (steps.Sem object (sem_ops.PollQuit place), reply) = Some (spots.Sem object place)
 ended_at (steps.Msgq object (msgq_ops.PollEnd place), reply) = Some (spots.Msgq object place)
@@ -112,33 +112,33 @@ ended_at made = None
 
 -- the replies are such as services give: each is one that its step can have, and no two steps have registered at one place
 -- of an object
-pub record AreServed (play : List Made) : Type 0 where
+pub record AreServed (play : List StepMade) : Type 0 where
   pub each : All (λ made. may_reply made ≡ true) play
-  pub apart : (before other : List Made) (a b : Made) (spot : Spot) →
+  pub apart : (before other : List StepMade) (a b : StepMade) (spot : Spot) →
       StandsAt play before a → StandsAt play other b →
       registered_at a ≡ Some spot → registered_at b ≡ Some spot → before ≡ other
 
 -- a step that asks for an event: it registers, or asks whether it is ready, or looks at a signal and takes what it finds
-abbrev pub is_ask : Made → Bool
+abbrev pub is_ask : StepMade → Bool
 is_ask (steps.Sem object (sem_ops.PollArm waits), reply) = true
 is_ask (steps.Msgq object (msgq_ops.PollArm waits), reply) = true
 is_ask (steps.LookSignal object false, reply) = true
 is_ask made = false
 
 -- a step that asks at a semaphore or a message queue
-abbrev pub is_arm : Made → Bool
+abbrev pub is_arm : StepMade → Bool
 is_arm (steps.Sem object (sem_ops.PollArm waits), reply) = true
 is_arm (steps.Msgq object (msgq_ops.PollArm waits), reply) = true
 is_arm made = false
 
 -- a step that asks to be registered
-abbrev pub asks_to_wait : Made → Bool
+abbrev pub asks_to_wait : StepMade → Bool
 asks_to_wait (steps.Sem object (sem_ops.PollArm waits), reply) = waits
 asks_to_wait (steps.Msgq object (msgq_ops.PollArm waits), reply) = waits
 asks_to_wait made = false
 
 -- a step that waits: for a note, for a signal to be raised, for the end of the alarm
-abbrev pub is_wait : Made → Bool
+abbrev pub is_wait : StepMade → Bool
 is_wait (steps.Sem object (sem_ops.PollEnd place), reply) = true
 is_wait (steps.Msgq object (msgq_ops.PollEnd place), reply) = true
 is_wait (steps.LookSignal object must, reply) = must
@@ -146,28 +146,28 @@ is_wait (steps.Clock (clock_ops.AlarmEnd moment), reply) = true
 is_wait made = false
 
 -- a step that gives a registration up
-abbrev pub is_quit : Made → Bool
+abbrev pub is_quit : StepMade → Bool
 is_quit (steps.Sem object (sem_ops.PollQuit place), reply) = true
 is_quit (steps.Msgq object (msgq_ops.PollQuit place), reply) = true
 is_quit made = false
 
 -- a step of the clock
-abbrev pub is_of_clock : Made → Bool
+abbrev pub is_of_clock : StepMade → Bool
 is_of_clock (steps.Clock op, reply) = true
 is_of_clock made = false
 
 -- a step that sets an alarm
-abbrev pub sets_alarm : Made → Bool
+abbrev pub sets_alarm : StepMade → Bool
 sets_alarm (steps.Clock (clock_ops.Alarm ticks), reply) = true
 sets_alarm made = false
 
 -- the end of the alarm
-abbrev pub is_alarm_end : Made → Bool
+abbrev pub is_alarm_end : StepMade → Bool
 is_alarm_end (steps.Clock (clock_ops.AlarmEnd moment), reply) = true
 is_alarm_end made = false
 
 -- a step tells that an event is ready: it was when it was asked, or its caller was noted, or a look found the signal raised
-abbrev pub tells_ready : Made → Bool
+abbrev pub tells_ready : StepMade → Bool
 tells_ready (steps.Sem object (sem_ops.PollArm waits), step_replies.Sem at sem_replies.Ready place) = true
 tells_ready (steps.Sem object (sem_ops.PollEnd ended), step_replies.Sem at sem_replies.Noted place) = true
 tells_ready (steps.Sem object (sem_ops.PollQuit ended), step_replies.Sem at sem_replies.Noted place) = true
@@ -178,7 +178,7 @@ tells_ready (steps.LookSignal object must, step_replies.Seen seen) = seen.raised
 tells_ready made = false
 
 -- the event is of the object that a step is made at
-abbrev pub names : Event → Made → Bool
+abbrev pub names : Event → StepMade → Bool
 names (Sem sem) (steps.Sem object op, reply) = object == ref_object sem
 names (Msgq queue) (steps.Msgq object op, reply) = object == ref_object queue
 names (Sig signal) (steps.LookSignal object must, reply) = object == ref_object signal
@@ -196,33 +196,33 @@ events_from n (Ignore ∷ events) = events_from (n + 1) events
 events_from n (event ∷ events) = (n, event) ∷ events_from (n + 1) events
 
 -- the steps of a play that ask, in order
-abbrev pub asks : List Made → List Made
+abbrev pub asks : List StepMade → List StepMade
 asks = filter is_ask
 
 -- all that a play has registered
-abbrev pub registrations : List Made → List Spot
+abbrev pub registrations : List StepMade → List Spot
 registrations = filter_map registered_at
 
 -- all that a play has ended or given up
-abbrev pub endings : List Made → List Spot
+abbrev pub endings : List StepMade → List Spot
 endings = filter_map ended_at
 
 -- behind these steps the event at this position is asked next: as many were asked as there are before it that aren't ignored
-abbrev pub IsAskFor : List Event → List Made → ℕ → Type 0
+abbrev pub IsAskFor : List Event → List StepMade → ℕ → Type 0
 IsAskFor events before k =
     (event : Event) × (slice_get (events_from 0 events) (length (asks before)) ≡ Some (k, event))
 
 -- the ask for the event at this position has registered its caller there
-pub record IsRegistered (events : List Event) (play : List Made) (spot : Spot) (k : ℕ) : Type 0 where
-  pub before : List Made
-  pub ask : Made
+pub record IsRegistered (events : List Event) (play : List StepMade) (spot : Spot) (k : ℕ) : Type 0 where
+  pub before : List StepMade
+  pub ask : StepMade
   pub stands : StandsAt play before ask
   pub at : registered_at ask ≡ Some spot
   pub for : IsAskFor events before k
 
 -- a step is for the event at a position: an ask in its turn, the end of what that event's ask has registered,
 -- a look that waits for a signal for the first event of that signal
-abbrev pub IsFor : List Event → List Made → Step → ℕ → Type 0
+abbrev pub IsFor : List Event → List StepMade → Step → ℕ → Type 0
 IsFor events before (steps.Sem object (sem_ops.PollArm waits)) k = IsAskFor events before k
 IsFor events before (steps.Sem object (sem_ops.PollEnd place)) k = IsRegistered events before (spots.Sem object place) k
 IsFor events before (steps.Sem object (sem_ops.PollQuit place)) k = IsRegistered events before (spots.Sem object place) k
@@ -234,9 +234,9 @@ IsFor events before (steps.LookSignal object true) k = position (is_of_signal ob
 IsFor events before step k = ⊥
 
 -- a step of the play tells that the event at this position is ready
-pub record IsTold (events : List Event) (play : List Made) (k : ℕ) : Type 0 where
-  pub before : List Made
-  pub made : Made
+pub record PollIsTold (events : List Event) (play : List StepMade) (k : ℕ) : Type 0 where
+  pub before : List StepMade
+  pub made : StepMade
   pub stands : StandsAt play before made
   pub tells : tells_ready made ≡ true
   pub for : IsFor events before made.0 k
@@ -247,29 +247,29 @@ AreRising n [] = Unit {0}
 AreRising n (k ∷ more) = (n ≤ k) × AreRising (k + 1) more
 
 -- the positions are just those of the events that a step told to be ready
-pub record NamesWhatIsTold (events : List Event) (play : List Made) (positions : List ℕ) : Type 0 where
+pub record NamesWhatIsTold (events : List Event) (play : List StepMade) (positions : List ℕ) : Type 0 where
   pub rising : AreRising 0 positions
-  pub named : (k : ℕ) → Contains positions k → IsTold events play k
-  pub told : (k : ℕ) → IsTold events play k → Contains positions k
+  pub named : (k : ℕ) → Contains positions k → PollIsTold events play k
+  pub told : (k : ℕ) → PollIsTold events play k → Contains positions k
 
 -- a poll that was told of something names it all, and nothing else; one that was told of nothing answers again
-pub record AnswersWhatIsTold (events : List Event) (play : List Made) (answer : Answer) : Type 0 where
+pub record AnswersWhatIsTold (events : List Event) (play : List StepMade) (answer : Answer) : Type 0 where
   pub told : list_any tells_ready play ≡ true →
       (positions : List ℕ) × (answer ≡ answers.Ready positions) × NamesWhatIsTold events play positions
   pub none : list_any tells_ready play ≡ false → answer ≡ answers.Refused Again
 
 -- each event that isn't ignored was asked, once, in order
-abbrev pub AsksEachOnce : List Event → List Made → Type 0
+abbrev pub AsksEachOnce : List Event → List StepMade → Type 0
 AsksEachOnce events play =
     AllZip (λ asked made. names asked.1 made ≡ true) (events_from 0 events) (asks play)
 
 -- whatever is counted, there are as many registrations as ends of them: each was ended or given up, once, and nothing else was
-abbrev pub NothingStaysRegistered : List Made → Type 0
+abbrev pub NothingStaysRegistered : List StepMade → Type 0
 NothingStaysRegistered play =
     (test : Spot → Bool) → count_by test (registrations play) ≡ count_by test (endings play)
 
 -- a step is for just one event, which is of its object
-pub record IsForOne (events : List Event) (before : List Made) (made : Made) : Type 0 where
+pub record IsForOne (events : List Event) (before : List StepMade) (made : StepMade) : Type 0 where
   pub place : ℕ
   pub event : Event
   pub for : IsFor events before made.0 place
@@ -278,17 +278,17 @@ pub record IsForOne (events : List Event) (before : List Made) (made : Made) : T
   pub named : names event made ≡ true
 
 -- each step but those of the clock is for just one event
-abbrev pub EachIsForOne : List Event → List Made → Type 0
-EachIsForOne events play = (before : List Made) (made : Made) → StandsAt play before made →
+abbrev pub EachIsForOne : List Event → List StepMade → Type 0
+EachIsForOne events play = (before : List StepMade) (made : StepMade) → StandsAt play before made →
     is_of_clock made ≡ false → IsForOne events before made
 
 -- the waiting is over: some event was told to be ready, or the alarm has ended
-abbrev pub is_over : List Made → Bool
+abbrev pub is_over : List StepMade → Bool
 is_over play = list_any tells_ready play || list_any is_alarm_end play
 
 -- a step comes in its time: an ask registers where the call waits and nothing was told to be ready yet; all else comes once
 -- each event was asked; it waits until the waiting is over, and gives up only then
-pub record IsInTime (timeout : Timeout) (events : List Event) (before : List Made) (made : Made) :
+pub record IsInTime (timeout : Timeout) (events : List Event) (before : List StepMade) (made : StepMade) :
     Type 0 where
   pub arms : is_arm made ≡ true → asks_to_wait made ≡ (waits timeout && not (list_any tells_ready before))
   pub asked : is_ask made ≡ false → sets_alarm made ≡ false → length (asks before) ≡ length (events_from 0 events)
@@ -296,19 +296,19 @@ pub record IsInTime (timeout : Timeout) (events : List Event) (before : List Mad
   pub quitting : is_quit made ≡ true → is_over before ≡ true
 
 -- each step comes in its time
-abbrev pub EachIsInTime : Timeout → List Event → List Made → Type 0
-EachIsInTime timeout events play = (before : List Made) (made : Made) → StandsAt play before made →
+abbrev pub EachIsInTime : Timeout → List Event → List StepMade → Type 0
+EachIsInTime timeout events play = (before : List StepMade) (made : StepMade) → StandsAt play before made →
     IsInTime timeout events before made
 
 -- the first step has set an alarm, for this moment
-pub record IsDue (play : List Made) (moment : ℕ) : Type 0 where
+pub record IsDue (play : List StepMade) (moment : ℕ) : Type 0 where
   pub ticks : ℕ
   pub place : ℕ
   pub stands : StandsAt play []
       (steps.Clock (clock_ops.Alarm ticks), step_replies.Clock (clock_replies.At moment) place)
 
 -- a poll with ticks sets its alarm first, and no other one does; what it ends is that alarm
-pub record IsAlarmed (timeout : Timeout) (before : List Made) (made : Made) : Type 0 where
+pub record IsAlarmed (timeout : Timeout) (before : List StepMade) (made : StepMade) : Type 0 where
   pub begins : (ticks : ℕ) → timeout ≡ Ticks ticks → before ≡ [] →
       made.0 ≡ steps.Clock (clock_ops.Alarm ticks)
   pub sets : (ticks : ℕ) → made.0 ≡ steps.Clock (clock_ops.Alarm ticks) →
@@ -316,18 +316,18 @@ pub record IsAlarmed (timeout : Timeout) (before : List Made) (made : Made) : Ty
   pub ends : (moment : ℕ) → made.0 ≡ steps.Clock (clock_ops.AlarmEnd moment) → IsDue before moment
 
 -- it keeps to its alarm at each step
-abbrev pub KeepsItsAlarm : Timeout → List Made → Type 0
-KeepsItsAlarm timeout play = (before : List Made) (made : Made) → StandsAt play before made →
+abbrev pub KeepsItsAlarm : Timeout → List StepMade → Type 0
+KeepsItsAlarm timeout play = (before : List StepMade) (made : StepMade) → StandsAt play before made →
     IsAlarmed timeout before made
 
 -- a poll is done: all is asked, it waits no more, be it that it never does, and nothing stays registered
-pub record IsDone (timeout : Timeout) (events : List Event) (play : List Made) : Type 0 where
+pub record IsDone (timeout : Timeout) (events : List Event) (play : List StepMade) : Type 0 where
   pub asked : length (asks play) ≡ length (events_from 0 events)
   pub over : (is_over play || not (waits timeout)) ≡ true
   pub ends : NothingStaysRegistered play
 
 -- a poll with its answer keeps all of it
-pub record KeepsPollLaws (timeout : Timeout) (events : List Event) (play : List Made)
+pub record KeepsPollLaws (timeout : Timeout) (events : List Event) (play : List StepMade)
     (answer : Answer) : Type 0 where
   pub names : AnswersWhatIsTold events play answer
   pub asks : AsksEachOnce events play
@@ -337,9 +337,9 @@ pub record KeepsPollLaws (timeout : Timeout) (events : List Event) (play : List 
   pub alarm : KeepsItsAlarm timeout play
 
 -- it holds of each answered play of each poll of up to eight events, over any services
-abbrev pub OfEachPoll : (Timeout → List Event → List Made → Answer → Type 0) → Type 0
+abbrev pub OfEachPoll : (Timeout → List Event → List StepMade → Answer → Type 0) → Type 0
 OfEachPoll P = (word : Word) (timeout : Timeout) (events : List Event) → length events ≤ MOST_EVENTS →
-    (play : List Made) (answer : Answer) → IsAnswered word timeout events play answer →
+    (play : List StepMade) (answer : Answer) → IsAnswered word timeout events play answer →
     AreServed play → P timeout events play answer
 
 -- the step that waits for the note of a registration
@@ -349,14 +349,14 @@ end_of (spots.Msgq object place) = Some (steps.Msgq object (msgq_ops.PollEnd pla
 end_of spot = None
 
 -- the step waits for the event at this position: it ends its registration, or looks at its signal
-abbrev pub WaitsFor : List Event → List Made → ℕ → Step → Type 0
+abbrev pub WaitsFor : List Event → List StepMade → ℕ → Step → Type 0
 WaitsFor events play k step =
     ((spot : Spot) × IsRegistered events play spot k × (end_of spot ≡ Some step))
     ⊎ ((signal : Ref) × (slice_get events k ≡ Some (Sig signal))
     × (steps.LookSignal (ref_object signal) true ≡ step))
 
 -- a poll that waits attempts all that it waits for, in the order of the events, and the end of its alarm last
-pub record WaitsForAll (events : List Event) (play : List Made) (attempts : List Step) : Type 0 where
+pub record WaitsForAll (events : List Event) (play : List StepMade) (attempts : List Step) : Type 0 where
   pub all : (k : ℕ) (step : Step) → WaitsFor events play k step →
       (index : ℕ) × (slice_get attempts index ≡ Some step)
   pub in_order : (j k : ℕ) (first second : Step) → j < k → WaitsFor events play j first →
@@ -376,7 +376,7 @@ quit_of (spots.Msgq object place) = Some (steps.Msgq object (msgq_ops.PollQuit p
 quit_of spot = None
 
 -- the step gives up the first registration that stands: it isn't ended, and those of earlier events are
-pub record GivesUpFirst (events : List Event) (play : List Made) (step : Step) : Type 0 where
+pub record GivesUpFirst (events : List Event) (play : List StepMade) (step : Step) : Type 0 where
   pub place : ℕ
   pub spot : Spot
   pub quits : quit_of spot ≡ Some step
@@ -389,7 +389,7 @@ pub record GivesUpFirst (events : List Event) (play : List Made) (step : Step) :
 -- a poll that isn't answered has its attempts: with ticks the alarm first; then an ask as long as some event isn't asked; then
 -- all that it waits for; and once the waiting is over the step that gives the first registration up. It isn't done, and what it
 -- did is in its time
-pub record GoesOn (timeout : Timeout) (events : List Event) (play : List Made) (attempts : List Step) :
+pub record GoesOn (timeout : Timeout) (events : List Event) (play : List StepMade) (attempts : List Step) :
     Type 0 where
   pub begins : (ticks : ℕ) → timeout ≡ Ticks ticks → play ≡ [] →
       attempts ≡ steps.Clock (clock_ops.Alarm ticks) ∷ []
@@ -406,7 +406,7 @@ pub record GoesOn (timeout : Timeout) (events : List Event) (play : List Made) (
   pub alarm : KeepsItsAlarm timeout play
 
 -- it holds of each poll of up to eight events, as far as it was played without its answer, over any services
-abbrev pub OfEachStage : (Timeout → List Event → List Made → List Step → Type 0) → Type 0
+abbrev pub OfEachStage : (Timeout → List Event → List StepMade → List Step → Type 0) → Type 0
 OfEachStage P = (word : Word) (timeout : Timeout) (events : List Event) → length events ≤ MOST_EVENTS →
-    (play : List Made) (stage : Stage) → LeadsOn word timeout events Start play stage →
+    (play : List StepMade) (stage : Stage) → LeadsOn word timeout events Start play stage →
     AreServed play → P timeout events play (poll_attempts timeout events stage)

@@ -6,9 +6,9 @@ use Rattle.zk_model_wait.specs.declared.clock.ClockOp.{ClockOp}
 use Rattle.zk_model_wait.specs.declared.clock.ClockOp.TheVariants as clock_ops
 use Rattle.zk_model_wait.specs.declared.clock.ClockReply.{ClockReply}
 use Rattle.zk_model_wait.specs.declared.clock.ClockReply.TheVariants as clock_replies
-use Rattle.zk_scenario.specs.Parts.{Parts}
+use Rattle.zk_scenario.specs.Content.{Content}
 use Rattle.zk_scenario.specs.Valid.{IsValid}
-use Rattle.zk_worker.specs.Follows.{Made}
+use Rattle.zk_worker.specs.Follows.{StepMade}
 use Rattle.zk_worker.specs.declared.steps.Step.{Step}
 use Rattle.zk_worker.specs.declared.steps.Step.TheVariants as steps
 use Rattle.zk_worker.specs.declared.steps.StepReply.{StepReply}
@@ -19,7 +19,7 @@ use Rattle.zk_worker.specs.declared.frames.Progress.{Progress}
 use Rattle.zk_worker.specs.declared.frames.Progress.TheVariants.{Enters}
 use Rattle.zk_worker.specs.Families.{with_entry, EachGrew, answer_at}
 use Rattle.zk_worker.specs.Machines.{machines_of}
-use Rattle.zk_worker.specs.Places.{At}
+use Rattle.zk_worker.specs.Places.{PlayerPlace}
 use Rattle.zk_worker.specs.Protocol.{IsAhead, after, frames_progress, start_at}
 
 -- by object number the histories of the channels
@@ -48,7 +48,7 @@ is_reply_to (steps.LookSignal object must) (step_replies.Seen seen) = true
 is_reply_to step reply = false
 
 -- a step at a channel is replied what its machine answers behind this history; of other services only which replies they have
-abbrev pub IsReplied : Parts → ChanHistories → Who → Step → StepReply → Type 0
+abbrev pub IsReplied : Content → ChanHistories → Who → Step → StepReply → Type 0
 IsReplied s chans who (steps.Chan object op) reply =
     answer_at (machines_of s).chans chans step_replies.Chan who object op ≡ Some reply
 IsReplied s chans who step reply = is_reply_to step reply ≡ true
@@ -61,7 +61,7 @@ chans_after chans who number step reply = chans
 
 -- the steps of a player from this place on: each is one of its next attempts, and is replied behind the entries of others that
 -- came to the channels meanwhile
-abbrev pub IsPlayedAmong : Parts → ChanHistories → At → List Made → Type 0
+abbrev pub IsPlayedAmong : Content → ChanHistories → PlayerPlace → List StepMade → Type 0
 IsPlayedAmong s chans at [] = Unit {0}
 IsPlayedAmong s chans at (made ∷ more) =
     (found : ChanHistories) × (who : Who) × (who.number ≡ at.who.number) × EachGrew at.who.number chans found
@@ -74,7 +74,7 @@ HasRoomFor frames (Enters owner stage) = length frames < MOST_FRAMES
 HasRoomFor frames progress = Unit {0}
 
 -- and so it is at each of these steps
-abbrev pub AlwaysHasRoom : Parts → At → List Made → Type 0
+abbrev pub AlwaysHasRoom : Content → PlayerPlace → List StepMade → Type 0
 AlwaysHasRoom s at [] = Unit {0}
 AlwaysHasRoom s at (made ∷ more) =
     HasRoomFor at.frames (frames_progress s at.frames made.0 made.1)
@@ -82,5 +82,5 @@ AlwaysHasRoom s at (made ∷ more) =
 
 -- of each player of each valid scenario, whatever else its services do meanwhile: each script that it is to enter is entered
 abbrev pub EachScriptIsEntered : Type 0
-EachScriptIsEntered = (s : Parts) (chans : ChanHistories) (number : ℕ) (at : At) (made : List Made) →
+EachScriptIsEntered = (s : Content) (chans : ChanHistories) (number : ℕ) (at : PlayerPlace) (made : List StepMade) →
     IsValid s → start_at s number ≡ Some at → IsPlayedAmong s chans at made → AlwaysHasRoom s at made

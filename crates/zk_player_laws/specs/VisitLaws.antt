@@ -8,7 +8,7 @@ use Rattle.zk_model_bus.specs.declared.channel.ChanReply.{ChanReply}
 use Rattle.zk_model_bus.specs.declared.channel.ChanReply.TheVariants as chan_replies
 use Rattle.zk_model_bus.specs.declared.observer.ObsOp.TheVariants as obs_ops
 use Rattle.zk_model_bus.specs.declared.observer.ObsReply.TheVariants as obs_replies
-use Rattle.zk_scenario.specs.Parts.{Parts}
+use Rattle.zk_scenario.specs.Content.{Content}
 use Rattle.zk_scenario.specs.Players.{calls_of}
 use Rattle.zk_scenario.specs.Valid.{IsValid}
 use Rattle.zk_words.specs.declared.timeout.Timeout.{Timeout}
@@ -23,8 +23,8 @@ use Rattle.zk_worker.specs.declared.steps.Step.TheVariants as steps
 use Rattle.zk_worker.specs.declared.steps.StepReply.TheVariants as step_replies
 use Rattle.zk_worker.specs.Calls.{plan_of}
 use Rattle.zk_worker.specs.Checks.{is_oops}
-use Rattle.zk_worker.specs.Follows.{Made, IsFollowing}
-use Rattle.zk_worker.specs.Places.{At}
+use Rattle.zk_worker.specs.Follows.{StepMade, IsFollowing}
+use Rattle.zk_worker.specs.Places.{PlayerPlace}
 use Rattle.zk_worker.specs.Publishes.{asks_for, use_step, visits_answer}
 use Rattle.zk_worker.specs.Replies.{answer_of}
 use Rattle.zk_worker.specs.Shown.{Shown, ShowsLog}
@@ -41,16 +41,16 @@ used_chan (steps.Obs observer (obs_ops.Visit chan)) = Some chan
 used_chan step = None
 
 -- the step uses this channel
-abbrev pub is_use : ℕ → Made → Bool
+abbrev pub is_use : ℕ → StepMade → Bool
 is_use chan made = option_map_or (λ used. used == chan) (used_chan made.0) false
 
 -- the step frees a channel
-abbrev pub is_free : Made → Bool
+abbrev pub is_free : StepMade → Bool
 is_free (steps.Chan chan chan_ops.Free, reply) = true
 is_free made = false
 
 -- an observer's list was full
-abbrev pub is_full : Made → Bool
+abbrev pub is_full : StepMade → Bool
 is_full (step, step_replies.Obs at obs_replies.Full place) = true
 is_full made = false
 
@@ -59,43 +59,43 @@ abbrev pub visit_of : ℕ → ℕ → Step
 visit_of chan observer = steps.Obs observer (obs_ops.Visit chan)
 
 -- a call that uses a channel so asked for it, and was told to wait, by the entry of this place
-abbrev pub HasWaited : ℕ → Using → List Made → ℕ → Type 0
-HasWaited chan using_ made place =
+abbrev pub HasWaitedFor : ℕ → Using → List StepMade → ℕ → Type 0
+HasWaitedFor chan using_ made place =
     (waits : Bool) × Contains made (open_step (asks_for chan using_) waits, step_replies.Chan chan chan_replies.Wait place)
 
 -- behind these steps, this one asks for a channel as a call that uses it so does, or ends such a wait, or gives it up
-abbrev pub Asks : ℕ → Using → List Made → Step → Type 0
+abbrev pub Asks : ℕ → Using → List StepMade → Step → Type 0
 Asks chan using_ made step =
     ((waits : Bool) × (step ≡ open_step (asks_for chan using_) waits))
-    ⊎ ((place : ℕ) × HasWaited chan using_ made place
+    ⊎ ((place : ℕ) × HasWaitedFor chan using_ made place
     × ((step ≡ end_step (asks_for chan using_) place) ⊎ (step ≡ quit_step (asks_for chan using_) place)))
 
 -- among the steps that were made a channel was given for such a use, and since then these used it
-pub record HasGained (chan : ℕ) (using_ : Using) (made uses : List Made) : Type 0 where
-  pub before : List Made
-  pub gained : Made
-  pub since : List Made
+pub record HasGained (chan : ℕ) (using_ : Using) (made uses : List StepMade) : Type 0 where
+  pub before : List StepMade
+  pub gained : StepMade
+  pub since : List StepMade
   pub whole : made ≡ before ++ gained ∷ since
   pub asks : Asks chan using_ before gained.0
   pub got : (place : ℕ) × (gained.1 ≡ step_replies.Chan chan chan_replies.Got place)
   pub used : filter (is_use chan) since ≡ uses
 
 -- behind these steps their player owns the channel: it was given it for some use, and hasn't freed it since
-abbrev pub OwnsChan : ℕ → List Made → Type 0
+abbrev pub OwnsChan : ℕ → List StepMade → Type 0
 OwnsChan chan made =
-    (using_ : Using) × (uses : List Made) × HasGained chan using_ made uses × (list_any is_free uses ≡ false)
+    (using_ : Using) × (uses : List StepMade) × HasGained chan using_ made uses × (list_any is_free uses ≡ false)
 
 -- the step uses no channel but one that its player owns
-abbrev pub IsOwned : List Made → Made → Type 0
+abbrev pub IsOwned : List StepMade → StepMade → Type 0
 IsOwned front made = (chan : ℕ) → used_chan made.0 ≡ Some chan → OwnsChan chan front
 
 -- and so does each of these, behind those before it
-abbrev pub AreOwned : List Made → List Made → Type 0
+abbrev pub AreOwned : List StepMade → List StepMade → Type 0
 AreOwned front [] = Unit {0}
 AreOwned front (made ∷ more) = IsOwned front made × AreOwned (front ++ made ∷ []) more
 
 -- a call of a script that uses a channel
-pub record CallsChannel (s : Parts) (owner next : ℕ) : Type 0 where
+pub record CallsChannel (s : Content) (owner next : ℕ) : Type 0 where
   pub call : Call
   pub chan : ℕ
   pub using_ : Using
@@ -104,27 +104,27 @@ pub record CallsChannel (s : Parts) (owner next : ℕ) : Type 0 where
   pub is_plan : plan_of s.decls call ≡ Channel chan using_ timeout
 
 -- a call that used its channel, from being given it to freeing it, for its set, list or get, and then for these other steps
-pub record HasUsed (s : Parts) (made : List Made) (a : Answered) : Type 0 where
+pub record HasUsed (s : Content) (made : List StepMade) (a : Answered) : Type 0 where
   pub owner : ℕ
   pub next : ℕ
   pub by : CallsChannel s owner next
   pub is_word : a.word ≡ word_of by.call
   -- its free, which is the step that was answered
-  pub front : List Made
-  pub free : Made
-  pub rest : List Made
+  pub front : List StepMade
+  pub free : StepMade
+  pub rest : List StepMade
   pub whole : made ≡ front ++ free ∷ rest
   pub last : a.step ≡ length front
   pub frees : free.0 ≡ steps.Chan by.chan chan_ops.Free
   -- what it used the channel for
-  pub use_ : Made
-  pub others : List Made
+  pub use_ : StepMade
+  pub others : List StepMade
   pub gained : HasGained by.chan by.using_ front (use_ ∷ others)
   pub uses : use_.0 ≡ use_step by.chan by.using_
 
 -- a call that visited just the observers that its set or list was told, in that order, each once: it was answered fault where one
 -- of these visits found a full list, else 0
-pub record HasVisited (s : Parts) (made : List Made) (a : Answered) : Type 0 where
+pub record HasVisited (s : Content) (made : List StepMade) (a : Answered) : Type 0 where
   pub used : HasUsed s made a
   pub told : List ℕ
   pub tells : (place : ℕ) × (used.use_.1 ≡ step_replies.Chan used.by.chan (chan_replies.Observers told) place)
@@ -132,7 +132,7 @@ pub record HasVisited (s : Parts) (made : List Made) (a : Answered) : Type 0 whe
   pub answer : a.answer ≡ visits_answer (list_any is_full used.others)
 
 -- a call that got the channel's message, and did nothing else: it was answered that message
-pub record HasRead (s : Parts) (made : List Made) (a : Answered) : Type 0 where
+pub record HasRead (s : Content) (made : List StepMade) (a : Answered) : Type 0 where
   pub used : HasUsed s made a
   pub message : List ℕ
   pub tells : (place : ℕ) × (used.use_.1 ≡ step_replies.Chan used.by.chan (chan_replies.Bytes message) place)
@@ -147,15 +147,15 @@ refuses chan_replies.Again = true
 refuses reply = false
 
 -- a call that wasn't given its channel: the step that was answered asks for it and is refused, and the call answered why
-pub record WasRefused (s : Parts) (made : List Made) (a : Answered) : Type 0 where
+pub record WasRefused (s : Content) (made : List StepMade) (a : Answered) : Type 0 where
   pub owner : ℕ
   pub next : ℕ
   pub by : CallsChannel s owner next
   pub is_word : a.word ≡ word_of by.call
   -- the step
-  pub front : List Made
-  pub step : Made
-  pub rest : List Made
+  pub front : List StepMade
+  pub step : StepMade
+  pub rest : List StepMade
   pub whole : made ≡ front ++ step ∷ rest
   pub last : a.step ≡ length front
   pub asks : Asks by.chan by.using_ front step.0
@@ -174,15 +174,15 @@ is_read words.Read = true
 is_read word = false
 
 -- a publish or notify that is answered has visited its observers, or was refused its channel
-abbrev pub VisitsOrIsRefused : Parts → List Made → Answered → Type 0
+abbrev pub VisitsOrIsRefused : Content → List StepMade → Answered → Type 0
 VisitsOrIsRefused s made a = is_publish a.word ≡ true → HasVisited s made a ⊎ WasRefused s made a
 
 -- a read that is answered has read, or was refused its channel
-abbrev pub ReadsOrIsRefused : Parts → List Made → Answered → Type 0
+abbrev pub ReadsOrIsRefused : Content → List StepMade → Answered → Type 0
 ReadsOrIsRefused s made a = is_read a.word ≡ true → HasRead s made a ⊎ WasRefused s made a
 
 -- both, where its checks were passed
-abbrev pub UsesOrIsRefused : Parts → List Made → Answered → Type 0
+abbrev pub UsesOrIsRefused : Content → List StepMade → Answered → Type 0
 UsesOrIsRefused s made a = is_oops a.answer ≡ false → VisitsOrIsRefused s made a × ReadsOrIsRefused s made a
 
 -- at the step of this number one of these calls was answered
@@ -193,7 +193,7 @@ pub record IsAnswered (answers : List Answered) (number : ℕ) : Type 0 where
   pub is_word : (is_publish answered.word || is_read answered.word) ≡ true
 
 -- and so it is at each step that frees a channel; the first of these steps has this number
-abbrev pub AreAnswered : List Answered → ℕ → List Made → Type 0
+abbrev pub AreAnswered : List Answered → ℕ → List StepMade → Type 0
 AreAnswered answers number [] = Unit {0}
 AreAnswered answers number (made ∷ more) =
     (is_free made ≡ true → IsAnswered answers number) × AreAnswered answers (number + 1) more
@@ -202,6 +202,6 @@ AreAnswered answers number (made ∷ more) =
 -- calls that is answered has used its channel as it ought to, no step uses a channel that the player doesn't own, and each
 -- freeing ends such a call
 abbrev pub EachPublishVisits : Type 0
-EachPublishVisits = (s : Parts) (number : ℕ) (shown : Shown) (at : At) (is : IsFollowing s number shown at) →
+EachPublishVisits = (s : Content) (number : ℕ) (shown : Shown) (at : PlayerPlace) (is : IsFollowing s number shown at) →
     IsValid s → ShowsLog shown number at.spots → ShowsLegalClock shown → ShowsLegalChans s shown →
     All (UsesOrIsRefused s is.made) at.answers × AreOwned [] is.made × AreAnswered at.answers 0 is.made

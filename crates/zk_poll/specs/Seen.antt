@@ -1,18 +1,18 @@
 use Rattle.std.specs.Prelude.{List}
 use Rattle.zk_base.specs.declared.ids.Entry.{Entry}
 use Rattle.zk_base.specs.declared.seen.Seen.{Seen}
-use Rattle.zk_base.specs.Shown.{Shown}
+use Rattle.zk_base.specs.RecordedView.{RecordedView}
 use Rattle.zk_model_wait.specs.declared.signal.SignalOp.{SignalOp}
 use Rattle.zk_model_wait.specs.declared.signal.SignalReply.{SignalReply}
 use Rattle.zk_model_wait.specs.declared.signal.SignalReply.TheVariants.{Stamp}
 use Rattle.zk_model_wait.specs.Signal as model
 
 -- the state that the service began in
-abbrev pub signal_start : Shown model.Signal SignalOp SignalReply → model.Signal
+abbrev pub signal_start : RecordedView model.Signal SignalOp SignalReply → model.Signal
 signal_start s = s.start
 
 -- all that was done at it, oldest first
-abbrev pub signal_history : Shown model.Signal SignalOp SignalReply → List (Entry SignalOp SignalReply)
+abbrev pub signal_history : RecordedView model.Signal SignalOp SignalReply → List (Entry SignalOp SignalReply)
 signal_history s = s.history
 
 -- what a write leaves that was answered so

@@ -18,13 +18,13 @@ pub struct Signal {
 
 impl Model for Signal {
     ghost use Rattle.std.specs.Prelude.{◌≡◌};
-    ghost use Rattle.zk_base.specs.Shown.{Shown};
+    ghost use Rattle.zk_base.specs.RecordedView.{RecordedView};
     ghost use Rattle.zk_model_wait.specs.Signal.{new_signal};
     ghost use Rattle.zk_model_wait.specs.Signal as model;
     ghost use Rattle.zk_model_wait.specs.declared.signal.SignalOp.{SignalOp};
     ghost use Rattle.zk_model_wait.specs.declared.signal.SignalReply.{SignalReply};
 
-    ghost Value = { Shown model.Signal SignalOp SignalReply };
+    ghost Value = { RecordedView model.Signal SignalOp SignalReply };
 
     ghost view = { λ s. s.inner };
 

@@ -5,7 +5,7 @@ use Rattle.std.specs.Option.{option_map_or}
 use Rattle.zk_model_work.specs.Lists.{first}
 use Rattle.zk_model_work.specs.Questions.{busy_flags}
 use Rattle.zk_queue.specs.declared.ticket.Ticket.{Ticket}
-use Rattle.zk_queue.specs.declared.marks.Marks.{Marks}
+use Rattle.zk_queue.specs.declared.marks.ItemMarks.{ItemMarks}
 use Rattle.zk_queue.specs.Line.{is_of, has_number, without, number_among}
 
 -- the open admissions: how many items and queues there are, what waits for each queue, lowest number first,
@@ -15,15 +15,15 @@ pub record Open : Type 0 where
   pub queues : ℕ
   pub lines : List (List Ticket)
   pub runs : List (Option Ticket)
-  pub marks : List Marks
+  pub marks : List ItemMarks
 
 -- the marks among these busy flags: 2 cancelling, 8 delayed, 16 flushing
-abbrev pub marks_in : ℕ → Marks
+abbrev pub marks_in : ℕ → ItemMarks
 marks_in flags =
     record { cancelling = bit_and flags 2 == 2; delayed = bit_and flags 8 == 8; flushing = bit_and flags 16 == 16 }
 
 -- no marks
-abbrev pub unmarked : Marks
+abbrev pub unmarked : ItemMarks
 unmarked = record { cancelling = false; delayed = false; flushing = false }
 
 -- before the first admission
@@ -46,7 +46,7 @@ abbrev pub run : Open → ℕ → Option Ticket
 run o queue = slice_index_or o.runs queue None
 
 -- the marks of the item
-abbrev pub marks_of : Open → ℕ → Marks
+abbrev pub marks_of : Open → ℕ → ItemMarks
 marks_of o item = slice_index_or o.marks item unmarked
 
 -- the run is the item's

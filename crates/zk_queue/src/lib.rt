@@ -9,6 +9,6 @@ mod runs;
 mod ticket;
 mod waiting;
 
-pub use marks::Marks;
+pub use marks::ItemMarks;
 pub use queues::Queues;
 pub use ticket::Ticket;

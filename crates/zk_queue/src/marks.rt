@@ -6,7 +6,7 @@ use zk_model_work::BusyFlags;
 
 /// The busy flags of an item that don't follow from its admissions.
 #[derive(Clone, Copy, Debug)]
-pub struct Marks {
+pub struct ItemMarks {
     /// Its run is being cancelled.
     pub cancelling: bool,
     /// It is armed.
@@ -15,12 +15,12 @@ pub struct Marks {
     pub flushing: bool,
 }
 
-impl Marks {
+impl ItemMarks {
     /// The marks among these flags.
-    pub fn among(flags: BusyFlags) -> Marks
+    pub fn among(flags: BusyFlags) -> ItemMarks
         ensures { result ≡ marks_in flags.0 }
     {
-        Marks {
+        ItemMarks {
             cancelling: flags.contains(BusyFlags::CANCELING),
             delayed: flags.contains(BusyFlags::DELAYED),
             flushing: flags.contains(BusyFlags::FLUSHING),

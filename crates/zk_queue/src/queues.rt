@@ -4,7 +4,7 @@ ghost use Rattle.zk_queue.specs.Open.{nothing_open, line, run, is_queued, IsAbov
 
 use crate::copies::copies;
 use crate::waiting::Waiting;
-use crate::{Marks, Ticket, runs};
+use crate::{ItemMarks, Ticket, runs};
 use std::alloc::Global;
 use std::marker::Model;
 use zk_base::NoMemory;
@@ -18,7 +18,7 @@ use zk_model_work::{BusyFlags, united};
 pub struct Queues {
     waiting: Waiting,
     runs: Vec<Option<Ticket>>,
-    marks: Vec<Marks>,
+    marks: Vec<ItemMarks>,
 }
 
 impl Model for Queues {
@@ -50,7 +50,7 @@ impl Queues {
     {
         let waiting = Waiting::new(alloc, items, queues)?;
         let runs = copies(alloc, None, queues)?;
-        let unmarked = Marks {
+        let unmarked = ItemMarks {
             cancelling: false,
             delayed: false,
             flushing: false,
@@ -107,7 +107,7 @@ impl Queues {
         requires { item < self.old.items }
         ensures { self.new ≡ mark self.old item bits.0 }
     {
-        self.marks[item as usize] = Marks::among(bits);
+        self.marks[item as usize] = ItemMarks::among(bits);
     }
 
     /// The item waits for the queue, behind all that wait already: the numbers of admissions rise.

@@ -4,7 +4,7 @@ use Rattle.std.specs.List.{sum_by, slice_get}
 use Rattle.std.proofs.lemmas.Bool.Decides.{nat_tests}
 use Rattle.std.proofs.lemmas.List.Elements.{All-weaker}
 use Rattle.std.proofs.lemmas.List.Folds.{list_any_none}
-use Rattle.zk_scenario.specs.Parts.{Parts}
+use Rattle.zk_scenario.specs.Content.{Content}
 use Rattle.zk_scenario.specs.Valid.{IsValid}
 use Rattle.zk_scenario.specs.Players.{players}
 use Rattle.zk_scenario.proofs.Valid.{length-players}
@@ -22,7 +22,7 @@ use Rattle.zk_model_bus.specs.declared.observer.ObsReply.{ObsReply}
 use Rattle.zk_worker.specs.Families.{no_entries}
 use Rattle.zk_worker.specs.declared.steps.Spot.{Spot}
 use Rattle.zk_scenario.specs.Steps.{steps_of}
-use Rattle.zk_worker.specs.Places.{At}
+use Rattle.zk_worker.specs.Places.{PlayerPlace}
 use Rattle.zk_worker.specs.Protocol.{start_at}
 use Rattle.zk_worker.specs.Follows.{is_spent_at}
 use Rattle.zk_worker.specs.Ranges.{IsFit}
@@ -40,11 +40,11 @@ use Rattle.zk_replay.specs.Ready.{IsReady}
 use Rattle.zk_replay.specs.Turning.{world}
 
 -- each player of the first world is where it starts
-pub first-there : (s : Parts) (p : ℕ) (at : At) → slice_get (first s).players p ≡ Some at → start_at s p ≡ Some at
+pub first-there : (s : Content) (p : ℕ) (at : PlayerPlace) → slice_get (first s).players p ≡ Some at → start_at s p ≡ Some at
 first-there s p at is = starts-there s (length (players s.decls)) (omega arith) p at is
 
 -- the first world has all players
-pub first-players : (s : Parts) → length (first s).players ≡ length (players s.decls)
+pub first-players : (s : Content) → length (first s).players ≡ length (players s.decls)
 first-players s = length-starts s (length (players s.decls)) (omega arith)
 
 -- nothing that was done counts nothing
@@ -53,12 +53,12 @@ none-counted O R [] = refl
 none-counted O R (o ∷ os) = none-counted O R os
 
 -- the first world of a valid scenario is ready
-pub ready-first : (s : Parts) → IsValid s → IsReady s (first s)
+pub ready-first : (s : Content) → IsValid s → IsReady s (first s)
 ready-first s valid =
     let n = length (players s.decls) in
-    let count : At → ℕ = λ at. length at.spots in
-    let None_made : At → Type 0 = λ at. length at.spots ≤ 0 in
-    let Short : At → Type 0 = λ at. length at.spots ≤ steps_of s in
+    let count : PlayerPlace → ℕ = λ at. length at.spots in
+    let None_made : PlayerPlace → Type 0 = λ at. length at.spots ≤ 0 in
+    let Short : PlayerPlace → Type 0 = λ at. length at.spots ≤ steps_of s in
     let none : All None_made (starts s n) =
     starts-all None_made s (λ k at is. omega (arith, ap (λ (l : List Spot). length l) (start_at-fresh s k at is).none_made)) n in
     record {
@@ -75,17 +75,17 @@ ready-first s valid =
       fits = starts-all (IsFit s) s (λ k at is. start_at-fits s k at is) n;
     }
 
-unspent-fresh : (s : Parts) (at : At) → length at.spots ≤ 0 → is_spent_at s at ≡ false
+unspent-fresh : (s : Content) (at : PlayerPlace) → length at.spots ≤ 0 → is_spent_at s at ≡ false
 unspent-fresh s at none = grind (arith, nat_tests)
 
 -- and no player of it is spent
-pub unspent-first : (s : Parts) → is_spent s (first s) ≡ false
+pub unspent-first : (s : Content) → is_spent s (first s) ≡ false
 unspent-first s =
     let n = length (players s.decls) in
-    let P : At → Type 0 = λ at. is_spent_at s at ≡ false in
+    let P : PlayerPlace → Type 0 = λ at. is_spent_at s at ≡ false in
     list_any_none (is_spent_at s) (starts s n)
     (starts-all P s (λ k at is. unspent-fresh s at (omega (arith, ap (λ (l : List Spot). length l) (start_at-fresh s k at is).none_made))) n)
 
 -- nothing done, and the players as they start, are the first world
-pub world-first : (s : Parts) (shown : Shown) (made : List At) → shown ≡ nothing_shown s.decls → made ≡ starts s (length (players s.decls)) → world shown made ≡ first s
+pub world-first : (s : Content) (shown : Shown) (made : List PlayerPlace) → shown ≡ nothing_shown s.decls → made ≡ starts s (length (players s.decls)) → world shown made ≡ first s
 world-first s shown made nothing all = ap (λ (x : Shown). world x made) nothing ∙ ap (world (nothing_shown s.decls)) all

@@ -3,14 +3,14 @@ use Rattle.std.proofs.Common.{◌≡◌, ℕ, zero, suc, ◌<◌, Bool, true, fa
 use Rattle.std.specs.List.{slice_get}
 use Rattle.std.proofs.lemmas.Option.{slice_get_within}
 use Rattle.zk_base.specs.declared.ids.Who.{Who}
-use Rattle.zk_scenario.specs.Parts.{Parts}
+use Rattle.zk_scenario.specs.Content.{Content}
 use Rattle.zk_scenario.specs.Steps.{steps_of}
 use Rattle.zk_worker.specs.declared.steps.Step.{Step}
 use Rattle.zk_worker.specs.declared.steps.StepReply.{StepReply}
 use Rattle.zk_worker.specs.declared.frames.Frame.{Frame}
 use Rattle.zk_worker.specs.declared.playing.Stepped.{Stepped}
 use Rattle.zk_worker.specs.declared.playing.Stepped.TheVariants.{Did, NotYet, Ended, Spent}
-use Rattle.zk_worker.specs.Places.{At}
+use Rattle.zk_worker.specs.Places.{PlayerPlace}
 use Rattle.zk_worker.specs.declared.checks.Mode.{Mode}
 use Rattle.zk_worker.specs.declared.checks.Mode.TheVariants.{User}
 use Rattle.zk_worker.specs.Checks.{next_check}
@@ -19,9 +19,9 @@ use Rattle.zk_worker.specs.Follows.{is_spent_at, is_through}
 use Rattle.zk_worker.specs.Machines.{Machines}
 use Rattle.zk_worker.specs.Shown.{Shown, shown_after}
 use Rattle.zk_worker.specs.Attempt.{reply_in, Counts}
-use Rattle.zk_worker.specs.Playing.{WereTried, HasStepped, HasWaited, Does}
+use Rattle.zk_worker.specs.Playing.{WereTried, HasStepped, HasWaited, StepOutcome}
 use Rattle.zk_worker.specs.Choosing.{or_else, first_possible, chosen}
-use Rattle.zk_replay.specs.Turning.{did, shown_with, at_after, IsTurn}
+use Rattle.zk_replay.specs.Turning.{made_step, shown_with, at_after, IsTurn}
 
 module _ (m : Machines) (shown : Shown) (who : Who) where
   -- the first of the attempts that is possible is the one that is chosen
@@ -44,7 +44,7 @@ module _ (m : Machines) (shown : Shown) (who : Who) where
       ap (λ (o : Option StepReply). or_else x o (first_possible m shown who xs)) (each 0 x refl) ∙ none-is xs (λ k y there. each (suc k) y there)
 
 -- a player that is through has no attempts
-through-none : (s : Parts) (at : At) → is_through at.frames ≡ true → attempts s at ≡ []
+through-none : (s : Content) (at : PlayerPlace) → is_through at.frames ≡ true → attempts s at ≡ []
 through-none s at through = by_frames at.frames through
   where
     none-next : (mode : Mode) → checks_first (next_check s mode at.passed []) (frames_attempts s []) ≡ []
@@ -60,7 +60,7 @@ through-none s at through = by_frames at.frames through
     by_frames [] is = by_room (nat_lt (length at.spots) (steps_of s))
     by_frames (frame ∷ below) is = absurd (cc)
 
-module _ (m : Machines) (s : Parts) (at at' : At) (old new : Shown) (counts counts' : Counts) where
+module _ (m : Machines) (s : Content) (at at' : PlayerPlace) (old new : Shown) (counts counts' : Counts) where
   still-turn : chosen m s old at ≡ None → at' ≡ at → new ≡ old → IsTurn m s at at' old new false
   still-turn none same nothing = record {
     place = same ∙ ap (at_after s at) (sym none);
@@ -97,7 +97,7 @@ module _ (m : Machines) (s : Parts) (at at' : At) (old new : Shown) (counts coun
       (λ k step there. was-none (attempts s at) (length (attempts s at)) new none.tried k step (slice_get_within (attempts s at) k step there) there))
       has.unchanged none.others
 
-  by-answer : (stepped : Stepped) → is_spent_at s at ≡ false → Does true m s at at' old new counts counts' stepped → IsTurn m s at at' old new (did stepped)
+  by-answer : (stepped : Stepped) → is_spent_at s at ≡ false → StepOutcome true m s at at' old new counts counts' stepped → IsTurn m s at at' old new (made_step stepped)
   by-answer Did unspent does = stepped-turn does
   by-answer NotYet unspent does = waited-turn does
   by-answer Ended unspent does =
@@ -105,7 +105,7 @@ module _ (m : Machines) (s : Parts) (at at' : At) (old new : Shown) (counts coun
   by-answer Spent unspent does = absurd (cc)
 
 -- what a step does is what the definition of a turn says
-pub is-turn : (alone : Bool) (m : Machines) (s : Parts) (at at' : At) (old new : Shown) (counts counts' : Counts) (stepped : Stepped) → alone ≡ true → is_spent_at s at ≡ false →
-    Does alone m s at at' old new counts counts' stepped → IsTurn m s at at' old new (did stepped)
+pub is-turn : (alone : Bool) (m : Machines) (s : Content) (at at' : PlayerPlace) (old new : Shown) (counts counts' : Counts) (stepped : Stepped) → alone ≡ true → is_spent_at s at ≡ false →
+    StepOutcome alone m s at at' old new counts counts' stepped → IsTurn m s at at' old new (made_step stepped)
 is-turn alone m s at at' old new counts counts' stepped is_alone unspent does =
-    by-answer m s at at' old new counts counts' stepped unspent (subst (λ (b : Bool). Does b m s at at' old new counts counts' stepped) is_alone does)
+    by-answer m s at at' old new counts counts' stepped unspent (subst (λ (b : Bool). StepOutcome b m s at at' old new counts counts' stepped) is_alone does)

@@ -16,7 +16,7 @@ use Rattle.zk_model_work.specs.declared.parts.Life.TheVariants.{Waiting, Running
 use Rattle.zk_model_work.specs.Questions.{is_waiting, is_running, is_open, waits_for, runs_on}
 use Rattle.zk_model_work.specs.State.{State}
 use Rattle.zk_model_work.specs.Machine.{work_machine, work_reply, work_next}
-use Rattle.zk_scenario.specs.Parts.{Parts}
+use Rattle.zk_scenario.specs.Content.{Content}
 use Rattle.zk_scenario.specs.Valid.{IsValid}
 use Rattle.zk_line.specs.Objects.{places, is_thread, is_queue}
 use Rattle.zk_scenario.specs.Steps.{steps_of}
@@ -29,7 +29,7 @@ use Rattle.zk_worker.specs.declared.frames.Role.{Role}
 use Rattle.zk_worker.specs.declared.frames.Role.TheVariants.{Worker}
 use Rattle.zk_worker.specs.declared.frames.Stage.{Stage}
 use Rattle.zk_worker.specs.declared.frames.Stage.TheVariants.{Start, Runs}
-use Rattle.zk_worker.specs.Places.{At}
+use Rattle.zk_worker.specs.Places.{PlayerPlace}
 use Rattle.zk_worker.specs.declared.checks.Mode.{Mode}
 use Rattle.zk_worker.specs.Checks.{next_check}
 use Rattle.zk_worker.specs.Protocol.{IsAhead, attempts, checks_first, frames_attempts, frames_progress, role_attempts, after}
@@ -53,7 +53,7 @@ use Rattle.zk_trace.specs.Ending.{none_waits}
 use Rattle.zk_replay.specs.Replay.{all_done, ending_of, trace_of, IsReplay}
 use Rattle.zk_replay.specs.Ending.{ending_by}
 use Rattle.zk_replay.specs.Over.{IsOver}
-use Rattle.zk_replay.specs.Tending.{IsIdle, IsWorkers, Tends, IsTended}
+use Rattle.zk_replay.specs.Tending.{IsIdle, IsWorkers, WorksQueue, EachQueueIsWorked}
 use Rattle.zk_replay.proofs.Readiness.{ready-stepped}
 use Rattle.zk_replay.proofs.Beginning.{ready-first, first-there, first-players}
 use Rattle.zk_model_work.proofs.Runs.{none-waits-for}
@@ -61,15 +61,15 @@ use Rattle.zk_replay.proofs.WorkerRuns.{IsElsewhere, tended-step, tended-elsewhe
 use Rattle.zk_replay.proofs.StillRounds.{first_possible-is, rounds-keep, round-still}
 
 -- what holds of each world of the run of a valid scenario
-record IsGood (s : Parts) (w : World) : Type 0 where
+record IsGood (s : Content) (w : World) : Type 0 where
   all_there : length w.players ≡ length (places is_thread s.decls) + length (places is_queue s.decls)
   ready : IsReady s w
   state : State
-  tended : IsTended s w state
+  tended : EachQueueIsWorked s w state
 
 -- a step keeps what holds of each world, if each worker still tends its queue
-good-from : (s : Parts) (w : World) (p : ℕ) (at : At) (made : Step × StepReply) (state : State) → IsGood s w → is_spent s w ≡ false → slice_get w.players p ≡ Some at →
-    chosen (machines_of s) s w.shown at ≡ Some made → IsTended s (stepped s w p at (Some made)) state → IsGood s (stepped s w p at (Some made))
+good-from : (s : Content) (w : World) (p : ℕ) (at : PlayerPlace) (made : Step × StepReply) (state : State) → IsGood s w → is_spent s w ≡ false → slice_get w.players p ≡ Some at →
+    chosen (machines_of s) s w.shown at ≡ Some made → EachQueueIsWorked s (stepped s w p at (Some made)) state → IsGood s (stepped s w p at (Some made))
 good-from s w p at made state good unspent is choice tended = record {
   all_there = length-set w.players p (after s at made.0 made.1) ∙ good.all_there;
   ready = ready-stepped (machines_of s) s w p at made refl good.ready is (none-passes (is_spent_at s) w.players p at unspent is)
@@ -78,7 +78,7 @@ good-from s w p at made state good unspent is choice tended = record {
   tended = tended;
 }
 
-good-step : (s : Parts) (w : World) (p : ℕ) (at : At) (made : Step × StepReply) → IsGood s w → is_spent s w ≡ false → slice_get w.players p ≡ Some at →
+good-step : (s : Content) (w : World) (p : ℕ) (at : PlayerPlace) (made : Step × StepReply) → IsGood s w → is_spent s w ≡ false → slice_get w.players p ≡ Some at →
     chosen (machines_of s) s w.shown at ≡ Some made → IsGood s (stepped s w p at (Some made))
 good-step s w p at (step, reply) good unspent is choice =
     let made = first_possible-is (machines_of s) w.shown at.who (attempts s at) (step, reply) choice in
@@ -104,7 +104,7 @@ good-step s w p at (step, reply) good unspent is choice =
         let progress = fits (steps.Work op) (step_replies.Work from.0 place) (answered ∙ ap (λ (r : StepReply). Some r) (sym from.2)) in
         let tended = tended-step s w good.state p at op from.0 place good.ready.valid good.tended is (good.ready.numbers p at is) ahead possible progress in
         good-from s w p at (steps.Work op, reply) (work_next good.state at.who op) good unspent is choice
-        (subst (λ (r : StepReply). IsTended s (stepped s w p at (Some (steps.Work op, r))) (work_next good.state at.who op)) from.2 tended)
+        (subst (λ (r : StepReply). EachQueueIsWorked s (stepped s w p at (Some (steps.Work op, r))) (work_next good.state at.who op)) from.2 tended)
     by_step (steps.Clock op) reply choice ahead answered = elsewhere (steps.Clock op) reply tt choice ahead answered
     by_step (steps.Table op) reply choice ahead answered = elsewhere (steps.Table op) reply tt choice ahead answered
     by_step (steps.Sem object op) reply choice ahead answered = elsewhere (steps.Sem object op) reply tt choice ahead answered
@@ -115,7 +115,7 @@ good-step s w p at (step, reply) good unspent is choice =
     by_step (steps.LookItem object) reply choice ahead answered = elsewhere (steps.LookItem object) reply tt choice ahead answered
     by_step (steps.LookSignal object must) reply choice ahead answered = elsewhere (steps.LookSignal object must) reply tt choice ahead answered
 
-good-first : (s : Parts) → IsValid s → IsGood s (first s)
+good-first : (s : Content) → IsValid s → IsGood s (first s)
 good-first s valid = record {
   all_there = first-players s ∙ length-append (places is_thread s.decls) (places is_queue s.decls);
   ready = ready-first s valid;
@@ -123,11 +123,11 @@ good-first s valid = record {
   tended = tended-first s (first-there s) (same-lengths s);
 }
 
-good-rounds : (s : Parts) (n : ℕ) → IsValid s → IsGood s (rounds (machines_of s) s n (first s))
+good-rounds : (s : Content) (n : ℕ) → IsValid s → IsGood s (rounds (machines_of s) s n (first s))
 good-rounds s n valid = rounds-keep (machines_of s) s (IsGood s) (good-step s) n (first s) (good-first s valid)
 
 -- a worker between two runs, whose queue runs nothing, can only begin
-done-ahead : (s : Parts) (queue : ℕ) (frames : List Frame) (admissions : List Admission) → Tends s.decls queue frames admissions → is_done frames ≡ true →
+done-ahead : (s : Content) (queue : ℕ) (frames : List Frame) (admissions : List Admission) → WorksQueue s.decls queue frames admissions → is_done frames ≡ true →
     (frames_attempts s frames ≡ steps.Work (ops.Begin queue) ∷ []) × IsIdle queue admissions
 done-ahead s queue [] admissions tends done = absurd tends
 done-ahead s queue (frame ∷ next ∷ below) admissions tends done = absurd (cc)
@@ -156,11 +156,11 @@ none-wait many (a ∷ xs) homes none =
     not_waits true false is none = refl
     not_waits false c is none = absurd (cc)
 
-short-unspent : (s : Parts) (at : At) → is_spent_at s at ≡ false → nat_lt (length at.spots) (steps_of s) ≡ true
+short-unspent : (s : Content) (at : PlayerPlace) → is_spent_at s at ≡ false → nat_lt (length at.spots) (steps_of s) ≡ true
 short-unspent s at is = grind (arith, nat_tests)
 
 -- where a list is long enough something is at a place
-pub there-is : (xs : List At) (p : ℕ) → p < length xs → (x : At) × (slice_get xs p ≡ Some x)
+pub there-is : (xs : List PlayerPlace) (p : ℕ) → p < length xs → (x : PlayerPlace) × (slice_get xs p ≡ Some x)
 there-is [] p within = absurd (omega arith)
 there-is (x ∷ xs) zero within = (x, refl)
 there-is (x ∷ xs) (suc p) within = there-is xs p (omega arith)
@@ -171,9 +171,9 @@ not-open Running waits runs = absurd (cc)
 not-open Ended waits runs = refl
 not-open Dropped waits runs = refl
 
-module _ (s : Parts) (w : World) (good : IsGood s w) (still : round (machines_of s) s w ≡ w) (unspent : is_spent s w ≡ false) (done : all_done w.players ≡ true) where
+module _ (s : Content) (w : World) (good : IsGood s w) (still : round (machines_of s) s w ≡ w) (unspent : is_spent s w ≡ false) (done : all_done w.players ≡ true) where
   -- the worker of a queue, which stands between two runs
-  worker-at : (queue : ℕ) → queue < length (places is_queue s.decls) → (at : At) × (slice_get w.players (length (places is_thread s.decls) + queue) ≡ Some at)
+  worker-at : (queue : ℕ) → queue < length (places is_queue s.decls) → (at : PlayerPlace) × (slice_get w.players (length (places is_thread s.decls) + queue) ≡ Some at)
   worker-at queue within = there-is w.players (length (places is_thread s.decls) + queue) (omega (arith, good.all_there))
 
   between : (queue : ℕ) (within : queue < length (places is_queue s.decls)) →
@@ -218,7 +218,7 @@ module _ (s : Parts) (w : World) (good : IsGood s w) (still : round (machines_of
       (and_second (eqb a.queue a.queue) (is_waiting a.life) here (All-at Waits good.state.admissions number a (none-for a.queue within) is))
       (and_second (eqb a.queue a.queue) (is_running a.life) here (All-at Runs good.state.admissions number a (between a.queue within).1 is))
 
-ending-good : (s : Parts) (w : World) → IsGood s w → round (machines_of s) s w ≡ w → ending_by s w.players ≡ ending_of s w
+ending-good : (s : Content) (w : World) → IsGood s w → round (machines_of s) s w ≡ w → ending_by s w.players ≡ ending_of s w
 ending-good s w good still = by_spent (is_spent s w) refl
   where
     waits : Bool
@@ -234,12 +234,12 @@ ending-good s w good still = by_spent (is_spent s w) refl
     by_spent false unspent = by_done (all_done w.players) unspent refl
 
 -- at the end of a run the players alone say how it ended
-ending-is : (s : Parts) (w : World) → IsValid s → IsRun (machines_of s) s w → ending_by s w.players ≡ ending_of s w
+ending-is : (s : Content) (w : World) → IsValid s → IsRun (machines_of s) s w → ending_by s w.players ≡ ending_of s w
 ending-is s w valid run =
     ending-good s w (subst (λ (v : World). IsGood s v) (sym run.1) (good-rounds s run.0 valid)) run.2
 
 -- what the code hands out is the trace of the run
-pub replayed : (s : Parts) (old w : World) (ending : Ending) (t : Trace) → IsValid s →
+pub replayed : (s : Content) (old w : World) (ending : Ending) (t : Trace) → IsValid s →
     old ≡ first s → (n : ℕ) → w ≡ rounds (machines_of s) s n old → round (machines_of s) s w ≡ w →
     ending ≡ ending_by s w.players → t ≡ gathered ending w.shown (map (log_of s) w.players) →
     IsReplay s t
@@ -257,7 +257,7 @@ life-closed : (o : Option Admission) (life : Life) → ((a : Admission) → o �
 life-closed None life each is = absurd (cc)
 life-closed (Some a) life each is = let same : a.life ≡ life = cc in subst (λ (l : Life). is_open l ≡ false) same (each a refl)
 
-run-over : (s : Parts) (w : World) → IsValid s → IsRun (machines_of s) s w → IsOver s (trace_of s w)
+run-over : (s : Content) (w : World) → IsValid s → IsRun (machines_of s) s w → IsOver s (trace_of s w)
 run-over s w valid run ends number life is =
     let good = subst (λ (v : World). IsGood s v) (sym run.1) (good-rounds s run.0 valid) in
     let parts = ended-parts (is_spent s w) (all_done w.players) (none_waits (state_after work_machine (work_start_of s) w.shown.work)) ends in
@@ -265,5 +265,5 @@ run-over s w valid run ends number life is =
     (λ a there. over-at s w good run.2 parts.0 parts.1 number a (ap (λ (t : State). slice_get t.admissions number) good.tended.after ∙ there)) is
 
 -- where the trace of a run has ended, none of its admissions waits or runs
-pub over : (s : Parts) (t : Trace) → IsValid s → IsReplay s t → IsOver s t
+pub over : (s : Content) (t : Trace) → IsValid s → IsReplay s t → IsOver s t
 over s t valid run = subst (λ (x : Trace). IsOver s x) (sym run.2) (run-over s run.0 valid run.1)

@@ -11,7 +11,7 @@ use Rattle.zk_base.specs.Legal.{state_after}
 use Rattle.zk_worker.specs.Right.{LooksRight}
 use Rattle.zk_trace.specs.Look.{AreRight}
 use Rattle.zk_model_work.specs.Machine.{work_machine}
-use Rattle.zk_scenario.specs.Parts.{Parts}
+use Rattle.zk_scenario.specs.Content.{Content}
 use Rattle.zk_scenario.specs.Players.{players}
 use Rattle.zk_scenario.specs.Valid.{IsValid}
 use Rattle.zk_scenario.specs.Steps.{steps_of}
@@ -21,7 +21,7 @@ use Rattle.zk_worker.specs.declared.steps.Spot.{Spot}
 use Rattle.zk_worker.specs.declared.steps.Spot.TheVariants as spots
 use Rattle.zk_worker.specs.declared.log.PlayerState.TheVariants as states
 use Rattle.zk_worker.specs.declared.log.Log.{Log}
-use Rattle.zk_worker.specs.Places.{At}
+use Rattle.zk_worker.specs.Places.{PlayerPlace}
 use Rattle.zk_worker.specs.Protocol.{attempts, after, spot_of}
 use Rattle.zk_worker.specs.Follows.{is_dead, log_of, is_done, is_spent_at, IsFollowing, Follows}
 use Rattle.zk_worker.specs.Machines.{Machines, work_start_of, machines_of}
@@ -54,7 +54,7 @@ use Rattle.zk_replay.proofs.OneRun.{none_goes_on}
 abbrev AreKnown : World → Type 0
 AreKnown w = (spot : Spot) (number step : ℕ) → shown_at w.shown spot ≡ Some (number, step) → number < length w.players
 
-known-first : (s : Parts) → AreKnown (first s)
+known-first : (s : Content) → AreKnown (first s)
 known-first s (spots.Work place) number step is = absurd (cc)
 known-first s (spots.Clock place) number step is = absurd (cc)
 known-first s (spots.Table place) number step is = absurd (cc)
@@ -66,7 +66,7 @@ known-first s (spots.Obs object place) number step is = absurd (none-there step_
 known-first s (spots.LookItem object flags at) number step is = absurd (cc)
 known-first s (spots.LookSignal object seen) number step is = absurd (cc)
 
-known-step : (m : Machines) (s : Parts) (w : World) (p : ℕ) (at : At) (made : Step × StepReply) → IsReady s w → AreKnown w → slice_get w.players p ≡ Some at → chosen m s w.shown at ≡ Some made →
+known-step : (m : Machines) (s : Content) (w : World) (p : ℕ) (at : PlayerPlace) (made : Step × StepReply) → IsReady s w → AreKnown w → slice_get w.players p ≡ Some at → chosen m s w.shown at ≡ Some made →
     AreKnown (stepped s w p at (Some made))
 known-step m s w p at made ready known there choice spot number step is = by_spot (more.back spot (number, step) is)
   where
@@ -84,7 +84,7 @@ known-step m s w p at made ready known there choice spot number step is = by_spo
         omega (arith, long, ready.numbers p at there, slice_get_within w.players p at there)
 
 -- each world of the run of a valid scenario is ready, and each of its entries is of a player that is there
-run-known : (s : Parts) (w : World) → IsValid s → IsRun (machines_of s) s w → IsReady s w × AreKnown w
+run-known : (s : Content) (w : World) → IsValid s → IsRun (machines_of s) s w → IsReady s w × AreKnown w
 run-known s w valid run =
     let m = machines_of s in
     let P : World → Type 0 = λ v. IsReady s v × AreKnown v in
@@ -96,7 +96,7 @@ run-known s w valid run =
     )) run.0 (first s) (ready-first s valid, known-first s))
 
 -- and there are as many players as the scenario has
-run-players : (s : Parts) (w : World) → IsRun (machines_of s) s w → length w.players ≡ length (players s.decls)
+run-players : (s : Content) (w : World) → IsRun (machines_of s) s w → length w.players ≡ length (players s.decls)
 run-players s w run =
     let P : World → Type 0 = λ v. length v.players ≡ length (players s.decls) in
     subst P (sym run.1)
@@ -115,13 +115,13 @@ done-state false true b unspent whole = sym (whole refl)
 done-state false false true unspent whole = refl
 done-state false false false unspent whole = refl
 
-any-spent : (s : Parts) (xs : List At) → list_any (λ log. is_spent_state log.state) (map (log_of s) xs) ≡ list_any (is_spent_at s) xs
+any-spent : (s : Content) (xs : List PlayerPlace) → list_any (λ log. is_spent_state log.state) (map (log_of s) xs) ≡ list_any (is_spent_at s) xs
 any-spent s [] = refl
 any-spent s (x ∷ xs) =
     ap (λ (b : Bool). b || (list_any (λ log. is_spent_state log.state) (map (log_of s) xs))) (spent-state (is_spent_at s x) (is_dead x.mode) (is_done x.frames))
     ∙ ap (λ (b : Bool). is_spent_at s x || b) (any-spent s xs)
 
-all-done : (s : Parts) (xs : List At) → ((p : ℕ) (x : At) → slice_get xs p ≡ Some x → is_dead x.mode ≡ true → is_done x.frames ≡ true) → list_any (is_spent_at s) xs ≡ false →
+all-done : (s : Content) (xs : List PlayerPlace) → ((p : ℕ) (x : PlayerPlace) → slice_get xs p ≡ Some x → is_dead x.mode ≡ true → is_done x.frames ≡ true) → list_any (is_spent_at s) xs ≡ false →
     list_all (λ log. is_done_state log.state) (map (log_of s) xs) ≡ all_done xs
 all-done s [] whole unspent = refl
 all-done s (x ∷ xs) whole unspent =
@@ -129,12 +129,12 @@ all-done s (x ∷ xs) whole unspent =
     ap (λ (b : Bool). b && list_all (λ log. is_done_state log.state) (map (log_of s) xs)) (done-state (is_spent_at s x) (is_dead x.mode) (is_done x.frames) both.0 (whole 0 x refl))
     ∙ ap (λ (b : Bool). is_done x.frames && b) (all-done s xs (λ p y there. whole (suc p) y there) both.1)
 
-ends-so : (s : Parts) (w : World) → IsReady s w → ending_of s w ≡ lawful_ending s (trace_of s w)
+ends-so : (s : Content) (w : World) → IsReady s w → ending_of s w ≡ lawful_ending s (trace_of s w)
 ends-so s w ready =
     by_spent (is_spent s w) refl
     ∙ sym (ap (λ (b : Bool). cond b Spent (cond (list_all (λ log. is_done_state log.state) (map (log_of s) w.players) && waits) Ended Stuck)) (any-spent s w.players))
   where
-    whole : (p : ℕ) (at : At) → slice_get w.players p ≡ Some at → is_dead at.mode ≡ true → is_done at.frames ≡ true
+    whole : (p : ℕ) (at : PlayerPlace) → slice_get w.players p ≡ Some at → is_dead at.mode ≡ true → is_done at.frames ≡ true
     whole p at there dead = ap is_done (dead-whole s p w.shown at (ready.follow p at there) dead)
 
     waits : Bool
@@ -146,7 +146,7 @@ ends-so s w ready =
     by_spent false unspent = sym (ap (λ (d : Bool). cond (d && none_waits (state_after work_machine (work_start_of s) w.shown.work)) Ended Stuck) (all-done s w.players whole unspent))
 
 -- where the ending isn't spent, no player has made all its steps
-unspent-ending : (s : Parts) (w : World) → (ending_of s w ≡ Spent → ⊥) → is_spent s w ≡ false
+unspent-ending : (s : Content) (w : World) → (ending_of s w ≡ Spent → ⊥) → is_spent s w ≡ false
 unspent-ending s w never = by_spent (is_spent s w) refl
   where
     by_spent : (b : Bool) → is_spent s w ≡ b → is_spent s w ≡ false
@@ -160,7 +160,7 @@ whole-same shown whole unlooked =
     ap (λ (looks : Option (List (List Seen))). record shown { looks = looks; looked = None }) (sym whole)
     ∙ ap (λ (looked : Option ℕ). record shown { looked = looked }) (sym unlooked)
 
-module _ (s : Parts) (w : World) (valid : IsValid s) (run : IsRun (machines_of s) s w) where
+module _ (s : Content) (w : World) (valid : IsValid s) (run : IsRun (machines_of s) s w) where
   known : IsReady s w × AreKnown w
   known = run-known s w valid run
 
@@ -181,7 +181,7 @@ module _ (s : Parts) (w : World) (valid : IsValid s) (run : IsRun (machines_of s
   placed = record {
     short = λ number log is.
         let found = there-mapped (log_of s) w.players number log is in
-        let P : At → Type 0 = λ at. length at.spots ≤ steps_of s in
+        let P : PlayerPlace → Type 0 = λ at. length at.spots ≤ steps_of s in
         subst (λ (l : Log). length l.steps ≤ steps_of s) found.2 (All-at P w.players number found.0 known.0.short found.1);
     stands = λ number step spot log is recorded no_look.
         let found = there-mapped (log_of s) w.players number log is in
@@ -224,12 +224,12 @@ module _ (s : Parts) (w : World) (valid : IsValid s) (run : IsRun (machines_of s
           let found = there-mapped (log_of s) w.players number log is in
           let own : IsFollowing s number (trace_shown (trace_of s w)) found.0 = subst (λ (x : Shown). IsFollowing s number x found.0) (sym shown-same) (known.0.follow number found.0 found.1) in
           let same : end ≡ found.0 = one-place s number (trace_shown (trace_of s w)) end found.0 led own (ap (λ (l : Log). l.steps) (logged ∙ sym found.2)) in
-          ap (λ (x : At). chosen (machines_of s) s (trace_shown (trace_of s w)) x) same
+          ap (λ (x : PlayerPlace). chosen (machines_of s) s (trace_shown (trace_of s w)) x) same
           ∙ ap (λ (x : Shown). chosen (machines_of s) s x found.0) shown-same
           ∙ none_goes_on s w run (unspent-ending s w never) number found.0 found.1;
     };
   }
 
 -- the trace of a run of a valid scenario is lawful
-pub lawful : (s : Parts) (t : Trace) → IsValid s → IsReplay s t → IsLawful s t
+pub lawful : (s : Content) (t : Trace) → IsValid s → IsReplay s t → IsLawful s t
 lawful s t valid run = subst (λ (x : Trace). IsLawful s x) (sym run.2) (lawful-run s run.0 valid run.1)

@@ -8,7 +8,7 @@ use Rattle.zk_base.specs.declared.ids.Entry.{Entry}
 use Rattle.zk_base.specs.History.{entry, IsAbove}
 use Rattle.zk_base.specs.Legal.{Machine, state_after, IsLegal}
 use Rattle.zk_base.proofs.Histories.{IsLegal-nil, IsLegal-snoc}
-use Rattle.zk_scenario.specs.Parts.{Parts}
+use Rattle.zk_scenario.specs.Content.{Content}
 use Rattle.zk_scenario.specs.Valid.{IsValid}
 use Rattle.zk_worker.specs.declared.steps.Step.{Step}
 use Rattle.zk_worker.specs.declared.steps.Step.TheVariants as steps
@@ -27,7 +27,7 @@ use Rattle.zk_worker.specs.Machines.{Machines, machines_of, sem_start, msgq_star
 use Rattle.zk_worker.specs.Single.{answer_in}
 use Rattle.zk_worker.specs.Families.{Family, start_of, no_entries, with_entry, answer_at, takes_at}
 use Rattle.zk_worker.specs.Shown.{Shown, shown_after, IsLater}
-use Rattle.zk_worker.specs.Attempt.{reply_in, takes}
+use Rattle.zk_worker.specs.Attempt.{reply_in, is_in_range}
 use Rattle.zk_worker.proofs.Between.{above-work, above-clock, above-table, above-sems, above-msgqs, above-signals, above-chans, above-observers, log-later}
 use Rattle.zk_worker.proofs.Ranges.{ahead-takes}
 use Rattle.zk_worker.proofs.ShownSteps.{made-of}
@@ -134,7 +134,7 @@ module _ {S O R : Type 0} where
 
 -- a step that the machines answer keeps what is shown legal
 legal-after : (m : Machines) (shown : Shown) (who : Who) (number : ℕ) (step : Step) (reply : StepReply) → IsLegalShown m shown → reply_in m shown who step ≡ Some reply →
-    takes m step ≡ true → IsLater shown who.number number → IsLegalShown m (shown_after shown who number step reply)
+    is_in_range m step ≡ true → IsLater shown who.number number → IsLegalShown m (shown_after shown who number step reply)
 legal-after m shown who number (steps.Work op) (step_replies.Work reply place) legal answered taken later Work =
     let one = one-answer m.work m.work_start shown.work step_replies.Work who op (step_replies.Work reply place) answered in
     let same : one.0 ≡ reply = cc in
@@ -184,7 +184,7 @@ legal-after m shown who number (steps.LookItem object) (step_replies.Flags flags
 legal-after m shown who number step reply legal answered taken later service = legal service
 
 -- nothing done is legal
-legal-first : (s : Parts) → IsLegalShown (machines_of s) (first s).shown
+legal-first : (s : Content) → IsLegalShown (machines_of s) (first s).shown
 legal-first s Work = IsLegal-nil (machines_of s).work (machines_of s).work_start
 legal-first s Clock = IsLegal-nil (machines_of s).clock (machines_of s).clock_start
 legal-first s Table = IsLegal-nil (machines_of s).table (machines_of s).table_start
@@ -195,7 +195,7 @@ legal-first s Chans = none-legal chan_machine chan_start s.decls
 legal-first s Observers = none-legal obs_machine observer_start s.decls
 
 -- all that a run of a valid scenario shows is legal
-pub run-legal : (s : Parts) (w : World) → IsValid s → IsRun (machines_of s) s w → IsLegalShown (machines_of s) w.shown
+pub run-legal : (s : Content) (w : World) → IsValid s → IsRun (machines_of s) s w → IsLegalShown (machines_of s) w.shown
 run-legal s w valid run =
     let m = machines_of s in
     let P : World → Type 0 = λ v. IsReady s v × IsLegalShown m v.shown in

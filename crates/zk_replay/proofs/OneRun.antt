@@ -1,13 +1,13 @@
 -- The run of a scenario is one, and ends where no player can go on.
 use Rattle.std.proofs.Common.{◌≡◌, ℕ, zero, suc, ◌+◌, sym, ap, ◌∙◌, arith}
 use Rattle.std.proofs.lemmas.Option.{slice_get_within}
-use Rattle.zk_scenario.specs.Parts.{Parts}
+use Rattle.zk_scenario.specs.Content.{Content}
 use Rattle.zk_worker.specs.Machines.{Machines, machines_of}
 use Rattle.zk_replay.specs.RoundRobin.{World, first, round, rounds, IsRun}
 use Rattle.zk_replay.specs.Laws.{HasOneRun, NoneGoesOn}
 use Rattle.zk_replay.proofs.StillRounds.{round-still}
 
-module _ (m : Machines) (s : Parts) where
+module _ (m : Machines) (s : Content) where
   -- behind the last round no further one changes anything
   rounds-stay : (n k : ℕ) (w : World) → round m s (rounds m s n w) ≡ rounds m s n w → rounds m s (k + n) w ≡ rounds m s n w
   rounds-stay n zero w over = let same : zero + n ≡ n = omega arith in ap (λ (j : ℕ). rounds m s j w) same

@@ -7,13 +7,13 @@ use Rattle.std.proofs.lemmas.List.Sums.{sum_by-le}
 use Rattle.std.proofs.lemmas.List.Elements.{All-set, All-map, All-weaker}
 use Rattle.zk_base.proofs.Lists.{All-at}
 use Rattle.zk_base.specs.declared.ids.Who.{Who}
-use Rattle.zk_scenario.specs.Parts.{Parts}
+use Rattle.zk_scenario.specs.Content.{Content}
 use Rattle.zk_scenario.specs.declared.scenario.TheConstants.{MOST_STEPS}
 use Rattle.zk_scenario.specs.Steps.{steps_of}
 use Rattle.zk_scenario.proofs.Steps.{steps-most}
 use Rattle.zk_worker.specs.declared.steps.Step.{Step}
 use Rattle.zk_worker.specs.declared.steps.StepReply.{StepReply}
-use Rattle.zk_worker.specs.Places.{At}
+use Rattle.zk_worker.specs.Places.{PlayerPlace}
 use Rattle.zk_worker.specs.Protocol.{attempts, after, spot_of}
 use Rattle.zk_worker.specs.declared.log.Log.{Log}
 use Rattle.zk_worker.specs.Follows.{log_of, is_spent_at, StandsMore, IsFollowing}
@@ -39,13 +39,13 @@ use Rattle.zk_replay.specs.Ready.{IsReady, left, all_left}
 use Rattle.zk_replay.proofs.StillRounds.{IsChosen}
 
 -- players that make no more steps than those of their scenario make no more than any may
-few-steps : (s : Parts) (players : List At) → All (λ at. length at.spots ≤ steps_of s) players → All (λ at. length at.spots ≤ MOST_STEPS) players
+few-steps : (s : Content) (players : List PlayerPlace) → All (λ at. length at.spots ≤ steps_of s) players → All (λ at. length at.spots ≤ MOST_STEPS) players
 few-steps s players = All-weaker (λ at. length at.spots ≤ steps_of s) (λ at. length at.spots ≤ MOST_STEPS) (λ at le. omega (arith, steps-most s)) players
 
 -- each history is shorter than a history may be
-pub short-shown : (s : Parts) (w : World) → IsReady s w → AreShort w.shown
+pub short-shown : (s : Content) (w : World) → IsReady s w → AreShort w.shown
 short-shown s w ready =
-    let count : At → ℕ = λ at. length at.spots in
+    let count : PlayerPlace → ℕ = λ at. length at.spots in
     let most : sum_by count w.players ≤ length w.players * MOST_STEPS = sum_by-le count MOST_STEPS w.players (few-steps s w.players ready.short) in
     record {
       work = omega (arith, ready.few, ready.counted, most);
@@ -58,15 +58,15 @@ short-shown s w ready =
       observers = each-short w.shown.observers (2 ^ 32 - 1) (omega (arith, ready.few, ready.counted, most));
     }
 
-unspent-short : (s : Parts) (at : At) → is_spent_at s at ≡ false → length at.spots < steps_of s
+unspent-short : (s : Content) (at : PlayerPlace) → is_spent_at s at ≡ false → length at.spots < steps_of s
 unspent-short s at is = grind (arith, nat_tests)
 
 -- a player that has made one step more
-record IsOneMore (s : Parts) (at at' : At) : Type 0 where
+record IsOneMore (s : Content) (at at' : PlayerPlace) : Type 0 where
   who : at'.who ≡ at.who
   count : length at'.spots ≡ length at.spots + 1
 
-after-one : (s : Parts) (at : At) (step : Step) (reply : StepReply) → IsOneMore s at (after s at step reply)
+after-one : (s : Content) (at : PlayerPlace) (step : Step) (reply : StepReply) → IsOneMore s at (after s at step reply)
 after-one s at step reply =
     let kept = after-spots s at step reply in
     record {
@@ -74,15 +74,15 @@ after-one s at step reply =
       count = omega (arith, ap (λ (l : List Spot). length l) kept.1, length-append at.spots (spot_of step reply ∷ []));
     }
 
-shows-after : (m : Machines) (s : Parts) (w : World) (p : ℕ) (at : At) (step : Step) (reply : StepReply) → IsReady s w → slice_get w.players p ≡ Some at → reply_in m w.shown at.who step ≡ Some reply →
-    (q : ℕ) (other : At) → slice_get (set w.players p (after s at step reply)) q ≡ Some other → ShowsLog (shown_after w.shown at.who (length at.spots) step reply) other.who.number other.spots
+shows-after : (m : Machines) (s : Content) (w : World) (p : ℕ) (at : PlayerPlace) (step : Step) (reply : StepReply) → IsReady s w → slice_get w.players p ≡ Some at → reply_in m w.shown at.who step ≡ Some reply →
+    (q : ℕ) (other : PlayerPlace) → slice_get (set w.players p (after s at step reply)) q ≡ Some other → ShowsLog (shown_after w.shown at.who (length at.spots) step reply) other.who.number other.spots
 shows-after m s w p at step reply ready is answered q other found = by_place (slice_get-set w.players p q (after s at step reply) other found)
   where
     by_place : ((q ≡ p) × (other ≡ after s at step reply)) ⊎ ((q ≢ p) × (slice_get w.players q ≡ Some other)) →
         ShowsLog (shown_after w.shown at.who (length at.spots) step reply) other.who.number other.spots
     by_place (inl same) =
         let kept = after-spots s at step reply in
-        subst (λ (o : At). ShowsLog (shown_after w.shown at.who (length at.spots) step reply) o.who.number o.spots) (sym same.1)
+        subst (λ (o : PlayerPlace). ShowsLog (shown_after w.shown at.who (length at.spots) step reply) o.who.number o.spots) (sym same.1)
         (subst (λ (spots : List Spot). ShowsLog (shown_after w.shown at.who (length at.spots) step reply) (after s at step reply).who.number spots) (sym kept.1)
         (subst (λ (who : Who). ShowsLog (shown_after w.shown at.who (length at.spots) step reply) who.number (at.spots ++ spot_of step reply ∷ [])) (sym kept.0)
         (log-answered m w.shown at.who at.spots step reply (ready.shows p at is) answered)))
@@ -92,8 +92,8 @@ shows-after m s w p at step reply ready is answered q other found = by_place (sl
         log-others w.shown (shown_after w.shown at.who (length at.spots) step reply) at.who.number other.who.number (length at.spots) other.spots (spot_of step reply) (step, reply)
         (made-more m w.shown at.who (length at.spots) step reply answered) differ unlooked (ready.shows q other apart.1)
 
-looks-after : (m : Machines) (s : Parts) (w : World) (p : ℕ) (at : At) (step : Step) (reply : StepReply) → m ≡ machines_of s → IsReady s w → slice_get w.players p ≡ Some at →
-    reply_in m w.shown at.who step ≡ Some reply → (q : ℕ) (other : At) → slice_get (set w.players p (after s at step reply)) q ≡ Some other →
+looks-after : (m : Machines) (s : Content) (w : World) (p : ℕ) (at : PlayerPlace) (step : Step) (reply : StepReply) → m ≡ machines_of s → IsReady s w → slice_get w.players p ≡ Some at →
+    reply_in m w.shown at.who step ≡ Some reply → (q : ℕ) (other : PlayerPlace) → slice_get (set w.players p (after s at step reply)) q ≡ Some other →
     LooksRight (machines_of s) (shown_after w.shown at.who (length at.spots) step reply) other.spots
 looks-after m s w p at step reply same ready is answered q other found = by_place (slice_get-set w.players p q (after s at step reply) other found)
   where
@@ -109,8 +109,8 @@ looks-after m s w p at step reply same ready is answered q other found = by_plac
         looks-stepped true m (machines_of s) s at other step reply w.shown longer (sym same) (ready.shows p at is) right made mine.1
     by_place (inr apart) = looks-others (machines_of s) w.shown at.who (length at.spots) step reply other.spots (ready.looks q other apart.1)
 
-follow-after : (m : Machines) (s : Parts) (w : World) (p : ℕ) (at : At) (made : Step × StepReply) → IsReady s w → slice_get w.players p ≡ Some at →
-    IsChosen m w.shown at.who (attempts s at) made → (q : ℕ) (other : At) → slice_get (set w.players p (after s at made.0 made.1)) q ≡ Some other →
+follow-after : (m : Machines) (s : Content) (w : World) (p : ℕ) (at : PlayerPlace) (made : Step × StepReply) → IsReady s w → slice_get w.players p ≡ Some at →
+    IsChosen m w.shown at.who (attempts s at) made → (q : ℕ) (other : PlayerPlace) → slice_get (set w.players p (after s at made.0 made.1)) q ≡ Some other →
     IsFollowing s q (shown_after w.shown at.who (length at.spots) made.0 made.1) other
 follow-after m s w p at made ready is found q other there = by_place (slice_get-set w.players p q (after s at made.0 made.1) other there)
   where
@@ -123,27 +123,27 @@ follow-after m s w p at made ready is found q other there = by_place (slice_get-
     by_place : ((q ≡ p) × (other ≡ after s at made.0 made.1)) ⊎ ((q ≢ p) × (slice_get w.players q ≡ Some other)) → IsFollowing s q longer other
     by_place (inl same) =
         subst (λ (n : ℕ). IsFollowing s n longer other) (sym same.0)
-        (subst (λ (a : At). IsFollowing s p longer a) (sym same.1)
+        (subst (λ (a : PlayerPlace). IsFollowing s p longer a) (sym same.1)
         (following-more s p w.shown longer at made.0 made.1 stands (found.place, found.is_there) (ready.follow p at is)))
     by_place (inr apart) = following-still s q w.shown longer other stands.still (ready.follow q other apart.1)
 
-numbers-after : (s : Parts) (w : World) (p : ℕ) (at at' : At) → IsReady s w → slice_get w.players p ≡ Some at → IsOneMore s at at' →
-    (q : ℕ) (other : At) → slice_get (set w.players p at') q ≡ Some other → other.who.number ≡ q
+numbers-after : (s : Content) (w : World) (p : ℕ) (at at' : PlayerPlace) → IsReady s w → slice_get w.players p ≡ Some at → IsOneMore s at at' →
+    (q : ℕ) (other : PlayerPlace) → slice_get (set w.players p at') q ≡ Some other → other.who.number ≡ q
 numbers-after s w p at at' ready is more q other found = by_place (slice_get-set w.players p q at' other found)
   where
     by_place : ((q ≡ p) × (other ≡ at')) ⊎ ((q ≢ p) × (slice_get w.players q ≡ Some other)) → other.who.number ≡ q
-    by_place (inl same) = ap (λ (o : At). o.who.number) same.1 ∙ ap (λ w. w.number) more.who ∙ ready.numbers p at is ∙ sym same.0
+    by_place (inl same) = ap (λ (o : PlayerPlace). o.who.number) same.1 ∙ ap (λ w. w.number) more.who ∙ ready.numbers p at is ∙ sym same.0
     by_place (inr apart) = ready.numbers q other apart.1
 
 -- a world that is ready is so after a step that a player with steps left chooses
-pub ready-stepped : (m : Machines) (s : Parts) (w : World) (p : ℕ) (at : At) (made : Step × StepReply) → m ≡ machines_of s → IsReady s w → slice_get w.players p ≡ Some at →
+pub ready-stepped : (m : Machines) (s : Content) (w : World) (p : ℕ) (at : PlayerPlace) (made : Step × StepReply) → m ≡ machines_of s → IsReady s w → slice_get w.players p ≡ Some at →
     is_spent_at s at ≡ false → IsChosen m w.shown at.who (attempts s at) made → IsReady s (stepped s w p at (Some made))
 ready-stepped m s w p at made same ready is unspent found =
     let at' = after s at made.0 made.1 in
     let more = after-one s at made.0 made.1 in
     let long = (made-more m w.shown at.who (length at.spots) made.0 made.1 found.answered).count in
-    let count : At → ℕ = λ at. length at.spots in
-    let Short : At → Type 0 = λ at. length at.spots ≤ steps_of s in
+    let count : PlayerPlace → ℕ = λ at. length at.spots in
+    let Short : PlayerPlace → Type 0 = λ at. length at.spots ≤ steps_of s in
     let told = replied-fits s m w.shown at.who made.0 made.1 ready.valid same found.answered in
     let passes = replied-passes s m w.shown at.who made.0 made.1 same found.answered in
     record {
@@ -162,14 +162,14 @@ ready-stepped m s w p at made same ready is unspent found =
     }
 
 -- a step leaves fewer steps
-pub left-stepped : (s : Parts) (w : World) (p : ℕ) (at : At) (made : Step × StepReply) → slice_get w.players p ≡ Some at → is_spent_at s at ≡ false →
+pub left-stepped : (s : Content) (w : World) (p : ℕ) (at : PlayerPlace) (made : Step × StepReply) → slice_get w.players p ≡ Some at → is_spent_at s at ≡ false →
     all_left s (stepped s w p at (Some made)).players < all_left s w.players
 left-stepped s w p at made is unspent =
     let at' = after s at made.0 made.1 in
     omega (arith, sum-set (left s) w.players p at at' is, (after-one s at made.0 made.1).count, unspent-short s at unspent)
 
 -- the logs of the players of a run are short
-pub logs-short : (s : Parts) (w : World) → IsReady s w → looks.AreShort (map (log_of s) w.players)
+pub logs-short : (s : Content) (w : World) → IsReady s w → looks.AreShort (map (log_of s) w.players)
 logs-short s w ready = record {
   few = omega (arith, ready.few, length-map w.players (log_of s));
   short = All-map (λ (log : Log). length log.steps ≤ MOST_STEPS) (log_of s) w.players (few-steps s w.players ready.short);

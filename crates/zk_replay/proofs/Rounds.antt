@@ -3,18 +3,18 @@ use Rattle.std.proofs.Common.{◌≡◌, ℕ, zero, suc, ◌+◌, ◌<◌, Bool,
 use Rattle.std.specs.List.{slice_get}
 use Rattle.std.proofs.lemmas.Option.{slice_get_within}
 use Rattle.zk_base.specs.declared.errors.NoMemory.{NoMemory}
-use Rattle.zk_scenario.specs.Parts.{Parts}
+use Rattle.zk_scenario.specs.Content.{Content}
 use Rattle.zk_worker.specs.declared.steps.Step.{Step}
 use Rattle.zk_worker.specs.declared.steps.StepReply.{StepReply}
-use Rattle.zk_worker.specs.Places.{At}
+use Rattle.zk_worker.specs.Places.{PlayerPlace}
 use Rattle.zk_worker.specs.Protocol.{attempts}
 use Rattle.zk_worker.specs.Machines.{Machines, machines_of}
 use Rattle.zk_worker.specs.Shown.{Shown}
 use Rattle.zk_worker.specs.Follows.{is_spent_at}
 use Rattle.zk_worker.proofs.Lists.{set-there, none-passes, any-set}
 use Rattle.zk_replay.specs.declared.turns.Turn.{Turn}
-use Rattle.zk_replay.specs.declared.turns.Course.{Course}
-use Rattle.zk_replay.specs.declared.turns.Course.TheVariants.{Still, Goes, Spent}
+use Rattle.zk_replay.specs.declared.turns.RoundEnd.{RoundEnd}
+use Rattle.zk_replay.specs.declared.turns.RoundEnd.TheVariants.{Still, Goes, Spent}
 use Rattle.zk_worker.specs.Choosing.{chosen}
 use Rattle.zk_replay.specs.RoundRobin.{World, stepped, turn, turn_of, turns, round, rounds, is_spent}
 use Rattle.zk_replay.specs.Ready.{IsReady, all_left}
@@ -22,19 +22,19 @@ use Rattle.zk_replay.specs.Turning.{world, shown_with, at_after, IsTurn, Turned,
 use Rattle.zk_replay.proofs.StillRounds.{first_possible-is}
 use Rattle.zk_replay.proofs.Readiness.{ready-stepped, left-stepped}
 
-module _ (m : Machines) (s : Parts) where
-  turn-unspent : (w : World) (p : ℕ) (at : At) → is_spent s w ≡ false → slice_get w.players p ≡ Some at → turn m s w p ≡ stepped s w p at (chosen m s w.shown at)
+module _ (m : Machines) (s : Content) where
+  turn-unspent : (w : World) (p : ℕ) (at : PlayerPlace) → is_spent s w ≡ false → slice_get w.players p ≡ Some at → turn m s w p ≡ stepped s w p at (chosen m s w.shown at)
   turn-unspent w p at unspent is =
       ap (λ b. cond b w (turn_of m s w p (slice_get w.players p))) unspent ∙ ap (turn_of m s w p) is
 
   -- the world that a turn leaves
-  left-by : (shown : Shown) (players : List At) (p : ℕ) (at : At) (made : Option (Step × StepReply)) → slice_get players p ≡ Some at →
+  left-by : (shown : Shown) (players : List PlayerPlace) (p : ℕ) (at : PlayerPlace) (made : Option (Step × StepReply)) → slice_get players p ≡ Some at →
       world (shown_with shown at.who (length at.spots) made) (set players p (at_after s at made)) ≡ stepped s (world shown players) p at made
   left-by shown players p at None is = ap (world shown) (set-there players p at is)
   left-by shown players p at (Some made) is = refl
 
   -- a turn in the code is a turn of the definition
-  pub turned-from : (shown shown' : Shown) (players players' : List At) (p : ℕ) (at at' : At) (told : Turn) (made : Option (Step × StepReply)) →
+  pub turned-from : (shown shown' : Shown) (players players' : List PlayerPlace) (p : ℕ) (at at' : PlayerPlace) (told : Turn) (made : Option (Step × StepReply)) →
       m ≡ machines_of s → IsReady s (world shown players) → is_spent s (world shown players) ≡ false → slice_get players p ≡ Some at → chosen m s shown at ≡ made →
       shown' ≡ shown_with shown at.who (length at.spots) made → at' ≡ at_after s at made → players' ≡ set players p at' →
       told.moved ≡ is_some made → told.spent ≡ is_spent_at s at' → Turned m s (world shown players) (world shown' players') p told
@@ -47,7 +47,7 @@ module _ (m : Machines) (s : Parts) where
       record {
         next = all ∙ ap (stepped s (world shown players) p at) (sym choice) ∙ sym (turn-unspent (world shown players) p at unspent is);
         ready = subst W (sym all) (ready_after made choice);
-        spent = spent ∙ sym (any-set (is_spent_at s) players p at' unspent (slice_get_within players p at is)) ∙ ap (λ (l : List At). is_spent s (world shown' l)) (sym written);
+        spent = spent ∙ sym (any-set (is_spent_at s) players p at' unspent (slice_get_within players p at is)) ∙ ap (λ (l : List PlayerPlace). is_spent s (world shown' l)) (sym written);
         moved = λ moves. subst (λ (w : World). all_left s w.players < all_left s players) (sym all) (less made (sym moved ∙ moves));
         still = λ rests. all ∙ same made (sym moved ∙ rests);
       }
@@ -132,7 +132,7 @@ module _ (m : Machines) (s : Parts) where
   rounds-next first old new n so_far next = next ∙ ap (round m s) so_far
 
 -- the same of a turn in the code, which may have had no memory
-pub turned-if : (m : Machines) (s : Parts) (result : Result Turn NoMemory) (old new : Shown) (players players' : List At) (p : ℕ) (at at' : At) →
+pub turned-if : (m : Machines) (s : Content) (result : Result Turn NoMemory) (old new : Shown) (players players' : List PlayerPlace) (p : ℕ) (at at' : PlayerPlace) →
     m ≡ machines_of s → IsReady s (world old players) → is_spent s (world old players) ≡ false → slice_get players p ≡ Some at → players' ≡ set players p at' →
     IfOk result (λ told. IsTurn m s at at' old new told.moved) → IfOk result (λ told. told.spent ≡ is_spent_at s at') →
     IfOk result (λ told. Turned m s (world old players) (world new players') p told)
@@ -142,16 +142,16 @@ turned-if m s (Ok told) old new players players' p at at' of_scenario ready unsp
 turned-if m s (Err e) old new players players' p at at' of_scenario ready unspent is written turn spent = tt
 
 -- what a turn leaves, by the machines of the services
-pub turned-at : (m m' : Machines) (s : Parts) (old new : World) (p : ℕ) (result : Result Turn NoMemory) → m ≡ m' →
+pub turned-at : (m m' : Machines) (s : Content) (old new : World) (p : ℕ) (result : Result Turn NoMemory) → m ≡ m' →
     IfOk result (λ told. Turned m s old new p told) → IfOk result (λ told. Turned m' s old new p told)
 turned-at m m' s old new p result same turned = subst (λ (x : Machines). IfOk result (λ told. Turned x s old new p told)) same turned
 
 -- what a round leaves doesn't rest on how its course is written
-pub rounded-at : (m : Machines) (s : Parts) (old new : World) (course course' : Course) → course ≡ course' →
+pub rounded-at : (m : Machines) (s : Content) (old new : World) (course course' : RoundEnd) → course ≡ course' →
     Rounded m s old new course → Rounded m s old new course'
-rounded-at m s old new course course' told rounded = subst (λ (c : Course). Rounded m s old new c) told rounded
+rounded-at m s old new course course' told rounded = subst (λ (c : RoundEnd). Rounded m s old new c) told rounded
 
 -- the turns that are left in a round, one by one
-pub within-left : (m : Machines) (s : Parts) (old now : World) (moved : Bool) (k l p : ℕ) → k ≡ l →
+pub within-left : (m : Machines) (s : Content) (old now : World) (moved : Bool) (k l p : ℕ) → k ≡ l →
     WithinRound m s old now moved k p → WithinRound m s old now moved l p
 within-left m s old now moved k l p same within = subst (λ (j : ℕ). WithinRound m s old now moved j p) same within

@@ -2,10 +2,10 @@
 use Rattle.std.proofs.Common.{◌≡◌, ◌⊎◌, inl, inr, ℕ, zero, suc, ◌+◌, ◌<◌, ◌≤◌, Bool, true, false, cond, Option, Some, None, List, [], ◌∷◌, length, refl, sym, ap, subst, ◌∙◌, arith, length-append}
 use Rattle.std.specs.List.{slice_get, sum_by}
 use Rattle.zk_base.specs.declared.ids.Who.{Who}
-use Rattle.zk_scenario.specs.Parts.{Parts}
+use Rattle.zk_scenario.specs.Content.{Content}
 use Rattle.zk_worker.specs.declared.steps.Step.{Step}
 use Rattle.zk_worker.specs.declared.steps.StepReply.{StepReply}
-use Rattle.zk_worker.specs.Places.{At}
+use Rattle.zk_worker.specs.Places.{PlayerPlace}
 use Rattle.zk_worker.specs.Protocol.{after, spot_of}
 use Rattle.zk_worker.specs.Machines.{Machines}
 use Rattle.zk_worker.specs.Attempt.{reply_in}
@@ -56,17 +56,17 @@ at_or_above (suc p) (suc q) low = further (at_or_above p q (omega arith))
 abbrev steps_of : World → ℕ
 steps_of w = sum_by (λ at. length at.spots) w.players
 
-module _ (m : Machines) (s : Parts) where
+module _ (m : Machines) (s : Content) where
   -- what holds before a turn, and after a step of its player, holds after the turn
   pub turn-keeps : (P : World → Type 0) (w : World) (p : ℕ) → P w →
-      ((at : At) (made : Step × StepReply) → is_spent s w ≡ false → slice_get w.players p ≡ Some at → chosen m s w.shown at ≡ Some made → P (stepped s w p at (Some made))) → P (turn m s w p)
+      ((at : PlayerPlace) (made : Step × StepReply) → is_spent s w ≡ false → slice_get w.players p ≡ Some at → chosen m s w.shown at ≡ Some made → P (stepped s w p at (Some made))) → P (turn m s w p)
   turn-keeps P w p here kept = by_spent (is_spent s w) refl
     where
-      by_made : (at : At) (made : Option (Step × StepReply)) → is_spent s w ≡ false → slice_get w.players p ≡ Some at → chosen m s w.shown at ≡ made → P (stepped s w p at made)
+      by_made : (at : PlayerPlace) (made : Option (Step × StepReply)) → is_spent s w ≡ false → slice_get w.players p ≡ Some at → chosen m s w.shown at ≡ made → P (stepped s w p at made)
       by_made at None unspent is choice = here
       by_made at (Some made) unspent is choice = kept at made unspent is choice
 
-      by_at : (o : Option At) → is_spent s w ≡ false → slice_get w.players p ≡ o → P (turn_of m s w p o)
+      by_at : (o : Option PlayerPlace) → is_spent s w ≡ false → slice_get w.players p ≡ o → P (turn_of m s w p o)
       by_at None unspent is = here
       by_at (Some at) unspent is = by_made at (chosen m s w.shown at) unspent is refl
 
@@ -74,7 +74,7 @@ module _ (m : Machines) (s : Parts) where
       by_spent true spent = here
       by_spent false unspent = by_at (slice_get w.players p) unspent refl
 
-  module _ (P : World → Type 0) (kept : (w : World) (p : ℕ) (at : At) (made : Step × StepReply) → P w → is_spent s w ≡ false → slice_get w.players p ≡ Some at →
+  module _ (P : World → Type 0) (kept : (w : World) (p : ℕ) (at : PlayerPlace) (made : Step × StepReply) → P w → is_spent s w ≡ false → slice_get w.players p ≡ Some at →
       chosen m s w.shown at ≡ Some made → P (stepped s w p at (Some made))) where
     pub turns-keep : (w : World) (n p : ℕ) → P w → P (turns m s w n p)
     turns-keep w zero p here = here
@@ -87,9 +87,9 @@ module _ (m : Machines) (s : Parts) where
     rounds-keep (suc n) w here = let before = rounds m s n w in turns-keep before (length before.players) 0 (rounds-keep n w here)
 
   -- a step more is made
-  steps-more : (w : World) (p : ℕ) (at : At) (made : Step × StepReply) → slice_get w.players p ≡ Some at → steps_of (stepped s w p at (Some made)) ≡ steps_of w + 1
+  steps-more : (w : World) (p : ℕ) (at : PlayerPlace) (made : Step × StepReply) → slice_get w.players p ≡ Some at → steps_of (stepped s w p at (Some made)) ≡ steps_of w + 1
   steps-more w p at made is =
-      let count : At → ℕ = λ at. length at.spots in
+      let count : PlayerPlace → ℕ = λ at. length at.spots in
       let longer = ap (λ (l : List Spot). length l) (after-spots s at made.0 made.1).1 in
       omega (arith, sum-set count w.players p at (after s at made.0 made.1) is, longer, length-append at.spots (spot_of made.0 made.1 ∷ []))
 
@@ -100,27 +100,27 @@ module _ (m : Machines) (s : Parts) where
 
   -- a turn in which no step is made changes nothing, since its player can't go on
   turn-still : (w : World) (p : ℕ) → is_spent s w ≡ false → steps_of (turn m s w p) ≤ steps_of w →
-      (turn m s w p ≡ w) × ((at : At) → slice_get w.players p ≡ Some at → chosen m s w.shown at ≡ None)
+      (turn m s w p ≡ w) × ((at : PlayerPlace) → slice_get w.players p ≡ Some at → chosen m s w.shown at ≡ None)
   turn-still w p unspent short = by_at (slice_get w.players p) refl (subst (λ (v : World). steps_of v ≤ steps_of w) opened short)
     where
       opened : turn m s w p ≡ turn_of m s w p (slice_get w.players p)
       opened = ap (λ b. cond b w (turn_of m s w p (slice_get w.players p))) unspent
 
-      by_made : (at : At) (made : Option (Step × StepReply)) → slice_get w.players p ≡ Some at → chosen m s w.shown at ≡ made → steps_of (stepped s w p at made) ≤ steps_of w →
+      by_made : (at : PlayerPlace) (made : Option (Step × StepReply)) → slice_get w.players p ≡ Some at → chosen m s w.shown at ≡ made → steps_of (stepped s w p at made) ≤ steps_of w →
           turn_of m s w p (slice_get w.players p) ≡ stepped s w p at made →
-          (turn m s w p ≡ w) × ((at : At) → slice_get w.players p ≡ Some at → chosen m s w.shown at ≡ None)
+          (turn m s w p ≡ w) × ((at : PlayerPlace) → slice_get w.players p ≡ Some at → chosen m s w.shown at ≡ None)
       by_made at None is choice short same =
           (opened ∙ same, λ other there. let it : at ≡ other = cc in ap (chosen m s w.shown) (sym it) ∙ choice)
       by_made at (Some made) is choice short same = absurd (omega (arith, steps-more w p at made is))
 
-      by_at : (o : Option At) → slice_get w.players p ≡ o → steps_of (turn_of m s w p (slice_get w.players p)) ≤ steps_of w →
-          (turn m s w p ≡ w) × ((at : At) → slice_get w.players p ≡ Some at → chosen m s w.shown at ≡ None)
+      by_at : (o : Option PlayerPlace) → slice_get w.players p ≡ o → steps_of (turn_of m s w p (slice_get w.players p)) ≤ steps_of w →
+          (turn m s w p ≡ w) × ((at : PlayerPlace) → slice_get w.players p ≡ Some at → chosen m s w.shown at ≡ None)
       by_at None is short = (opened ∙ ap (turn_of m s w p) is, λ at there. absurd (cc))
       by_at (Some at) is short =
           let same = ap (turn_of m s w p) is in
           by_made at (chosen m s w.shown at) is refl (subst (λ (v : World). steps_of v ≤ steps_of w) same short) same
 
-  turns-still : (w : World) (n p : ℕ) → is_spent s w ≡ false → turns m s w n p ≡ w → (q : ℕ) (at : At) → p ≤ q → q < p + n → slice_get w.players q ≡ Some at → chosen m s w.shown at ≡ None
+  turns-still : (w : World) (n p : ℕ) → is_spent s w ≡ false → turns m s w n p ≡ w → (q : ℕ) (at : PlayerPlace) → p ≤ q → q < p + n → slice_get w.players q ≡ Some at → chosen m s w.shown at ≡ None
   turns-still w zero p unspent same q at low high is = absurd (omega arith)
   turns-still w (suc n) p unspent same q at low high is =
       let long = turns-longer (turn m s w p) n (p + 1) in
@@ -129,11 +129,11 @@ module _ (m : Machines) (s : Parts) where
       let further = turns-still w n (p + 1) unspent (ap (λ (v : World). turns m s v n (p + 1)) (sym here.0) ∙ same) in
       by_place (at_or_above p q low) here.1 (λ above. further q at above (omega arith) is)
     where
-      by_place : (p ≡ q) ⊎ (p + 1 ≤ q) → ((other : At) → slice_get w.players p ≡ Some other → chosen m s w.shown other ≡ None) →
+      by_place : (p ≡ q) ⊎ (p + 1 ≤ q) → ((other : PlayerPlace) → slice_get w.players p ≡ Some other → chosen m s w.shown other ≡ None) →
           (p + 1 ≤ q → chosen m s w.shown at ≡ None) → chosen m s w.shown at ≡ None
       by_place (inl here) mine others = mine at (ap (λ (k : ℕ). slice_get w.players k) here ∙ is)
       by_place (inr above) mine others = others above
 
   -- where a round changes nothing and no player is spent, no player has a possible attempt
-  pub round-still : (w : World) → round m s w ≡ w → is_spent s w ≡ false → (q : ℕ) (at : At) → q < length w.players → slice_get w.players q ≡ Some at → chosen m s w.shown at ≡ None
+  pub round-still : (w : World) → round m s w ≡ w → is_spent s w ≡ false → (q : ℕ) (at : PlayerPlace) → q < length w.players → slice_get w.players q ≡ Some at → chosen m s w.shown at ≡ None
   round-still w same unspent q at within is = turns-still w (length w.players) 0 unspent same q at (omega arith) (omega arith) is

@@ -22,15 +22,15 @@ use Rattle.zk_worker.specs.declared.steps.Step.TheVariants as steps
 use Rattle.zk_worker.specs.declared.steps.StepReply.{StepReply}
 use Rattle.zk_worker.specs.declared.steps.StepReply.TheVariants as step_replies
 use Rattle.zk_base.specs.declared.seen.Seen.{Seen}
-use Rattle.zk_scenario.specs.Parts.{Parts}
-use Rattle.zk_worker.specs.Places.{At}
+use Rattle.zk_scenario.specs.Content.{Content}
+use Rattle.zk_worker.specs.Places.{PlayerPlace}
 use Rattle.zk_worker.specs.Single.{answer_in}
 use Rattle.zk_worker.specs.Families.{Family, start_of, answer_at}
 use Rattle.zk_worker.specs.Protocol.{attempts, IsAhead}
 use Rattle.zk_worker.specs.Machines.{Machines, machines_of}
 use Rattle.zk_worker.specs.Shown.{Shown}
 use Rattle.zk_worker.specs.Attempt.{reply_in}
-use Rattle.zk_worker.specs.Looks.{look, look_at, looks_at, found_by, seen_after}
+use Rattle.zk_worker.specs.Looks.{look_reply, look_at, looks_at, found_by, seen_after}
 use Rattle.zk_worker.specs.Choosing.{or_else, first_possible, chosen}
 use Rattle.zk_worker.proofs.ShownSteps.{whole-after}
 use Rattle.zk_replay.specs.RoundRobin.{World, stepped, is_spent, turn, turn_of, turns, rounds, first, IsRun}
@@ -63,14 +63,14 @@ object-none family hs tell who object op start h starts there none =
     ∙ ap (option_and_then (λ h. answer_in family.machine start h (tell object) who op)) there in
     nothing-mapped (λ reply. tell object reply (length h)) (family.machine.reply_of (state_after family.machine start h) who op) (sym one ∙ none)
 
-module _ (m : Machines) (s : Parts) where
+module _ (m : Machines) (s : Content) where
   -- whole histories are shown along a run
-  whole-stepped : (w : World) (p : ℕ) (at : At) (made : Option (Step × StepReply)) → w.shown.looks ≡ None →
+  whole-stepped : (w : World) (p : ℕ) (at : PlayerPlace) (made : Option (Step × StepReply)) → w.shown.looks ≡ None →
       (stepped s w p at made).shown.looks ≡ None
   whole-stepped w p at None whole = whole
   whole-stepped w p at (Some made) whole = whole-after w.shown at.who (length at.spots) made.0 made.1 whole
 
-  whole-turn_of : (w : World) (p : ℕ) (at : Option At) → w.shown.looks ≡ None → (turn_of m s w p at).shown.looks ≡ None
+  whole-turn_of : (w : World) (p : ℕ) (at : Option PlayerPlace) → w.shown.looks ≡ None → (turn_of m s w p at).shown.looks ≡ None
   whole-turn_of w p None whole = whole
   whole-turn_of w p (Some at) whole = whole-stepped w p at (chosen m s w.shown at) whole
 
@@ -92,12 +92,12 @@ module _ (m : Machines) (s : Parts) where
   whole-run w run = subst (λ (v : World). v.shown.looks ≡ None) (sym run.1) (whole-rounds (first s) run.0 refl)
 
 -- a look that must find a signal raised and finds nothing, finds it clear
-not-raised : (seen : Seen) → look true seen ≡ None → seen.raised ≡ false
+not-raised : (seen : Seen) → look_reply true seen ≡ None → seen.raised ≡ false
 not-raised seen none = by_mark seen.raised refl none where
-  by_mark : (raised : Bool) → seen.raised ≡ raised → look true seen ≡ None → seen.raised ≡ false
+  by_mark : (raised : Bool) → seen.raised ≡ raised → look_reply true seen ≡ None → seen.raised ≡ false
   by_mark false is none = is
   by_mark true is none =
-      let found : look true seen ≡ Some (step_replies.Seen seen) =
+      let found : look_reply true seen ≡ Some (step_replies.Seen seen) =
       ap (λ (b : Bool). cond (not b) None (Some (step_replies.Seen seen))) is in absurd (cc)
 
 pub none_is_served : NoneIsServed
@@ -131,9 +131,9 @@ none_is_served s w run unspent player at is = record {
       (object-none (machines_of s).msgqs w.shown.msgqs step_replies.Msgq at.who object (msgq_ops.PollEnd place) stands.0 stands.1 stands.2 stands.3
       (impossible (steps.Msgq object (msgq_ops.PollEnd place)) ahead));
   signals = λ object h ahead shows.
-      let read : look_at w.shown.looks w.shown.signals object true ≡ look true (seen_after h) =
+      let read : look_at w.shown.looks w.shown.signals object true ≡ look_reply true (seen_after h) =
       ap (λ (o : Option (List (List Seen))). look_at o w.shown.signals object true) (whole-run (machines_of s) s w run)
-      ∙ ap (option_and_then (λ h. option_and_then (look true) (found_by (looks_at None object) h))) shows in
+      ∙ ap (option_and_then (λ h. option_and_then (look_reply true) (found_by (looks_at None object) h))) shows in
       not-raised (seen_after h) (sym read ∙ impossible (steps.LookSignal object true) ahead);
   alarms = λ moment ahead.
       nothing-mapped (λ (reply : ClockReply). step_replies.Clock reply (length w.shown.clock)) (clock_reply (state_after clock_machine new_clock w.shown.clock) at.who (clock_ops.AlarmEnd moment))

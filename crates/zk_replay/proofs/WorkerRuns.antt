@@ -14,8 +14,8 @@ use Rattle.zk_line.specs.declared.types.Decl.{Decl}
 use Rattle.zk_line.specs.declared.types.Decl.TheVariants as decls
 use Rattle.zk_line.specs.declared.types.Call.{Call}
 use Rattle.zk_line.specs.declared.types.Call.TheVariants as calls
-use Rattle.zk_scenario.specs.Parts.{Parts}
-use Rattle.zk_line.specs.Objects.{places_from, places, is_at, is_thread, is_queue, is_item, same_kind, number_of}
+use Rattle.zk_scenario.specs.Content.{Content}
+use Rattle.zk_line.specs.Objects.{places_from, places, is_at, is_thread, is_queue, is_item, has_kind_of, number_of}
 use Rattle.zk_scenario.specs.Players.{players, calls_of}
 use Rattle.zk_line.proofs.Lists.{count_by-cons}
 use Rattle.zk_model_wait.specs.declared.clock.ClockOp.TheVariants as clock_ops
@@ -38,7 +38,7 @@ use Rattle.zk_worker.specs.declared.frames.Role.TheVariants.{Script, Worker}
 use Rattle.zk_worker.specs.declared.frames.Stage.{Stage}
 use Rattle.zk_worker.specs.declared.frames.Closing.{Closing}
 use Rattle.zk_worker.specs.declared.frames.Closing.TheVariants as closings
-use Rattle.zk_worker.specs.Places.{At}
+use Rattle.zk_worker.specs.Places.{PlayerPlace}
 use Rattle.zk_worker.specs.declared.checks.Mode.{Mode}
 use Rattle.zk_worker.specs.declared.checks.Mode.TheVariants.{Supervisor}
 use Rattle.zk_worker.specs.Checks.{next_check, mode_after}
@@ -48,7 +48,7 @@ use Rattle.zk_worker.specs.Machines.{workers, work_start_of, is_on}
 use Rattle.zk_worker.proofs.Lists.{slice_get-set}
 use Rattle.zk_services.specs.Starts.{starts}
 use Rattle.zk_replay.specs.RoundRobin.{World, first, stepped}
-use Rattle.zk_replay.specs.Tending.{IsIdle, IsWorkers, IsScript, Tends, Works, IsTended}
+use Rattle.zk_replay.specs.Tending.{IsIdle, IsWorkers, IsScript, WorksQueue, Works, EachQueueIsWorked}
 use Rattle.zk_model_work.proofs.Runs.{IsCalled, idle-called, idle-ended, idle-next, begin-told, homes-next, workers-next}
 use Rattle.zk_model_bus.specs.declared.channel.ChanOp.TheVariants as chan_ops
 use Rattle.zk_model_bus.specs.declared.table.TableOp.TheVariants as table_ops
@@ -91,35 +91,35 @@ workers-keep ds queue role stage old new keeps tends = absurd tends
 
 -- what leaves a queue idle leaves it tended
 tends-keep : (ds : List Decl) (queue : ℕ) (frames : List Frame) (old new : List Admission) → (IsIdle queue old → IsIdle queue new) →
-    Tends ds queue frames old → Tends ds queue frames new
+    WorksQueue ds queue frames old → WorksQueue ds queue frames new
 tends-keep ds queue [] old new keeps tends = absurd tends
 tends-keep ds queue (frame ∷ []) old new keeps tends = workers-keep ds queue frame.role frame.stage old new keeps tends
 tends-keep ds queue (frame ∷ next ∷ below) old new keeps tends = (tends.0, tends-keep ds queue (next ∷ below) old new keeps tends.1)
 
-never-over : (s : Parts) (queue : ℕ) (role : Role) (next : ℕ) (stage : Stage) (admissions : List Admission) → IsWorkers s.decls queue role stage admissions → is_over s role next ≡ false
+never-over : (s : Content) (queue : ℕ) (role : Role) (next : ℕ) (stage : Stage) (admissions : List Admission) → IsWorkers s.decls queue role stage admissions → is_over s role next ≡ false
 never-over s queue (Worker object) next stage admissions tends = refl
 never-over s queue (Script owner) next stage admissions tends = absurd tends
 
 -- the run of a worker stays where its scripts are over
-tends-settled : (s : Parts) (queue : ℕ) (frames : List Frame) (admissions : List Admission) → Tends s.decls queue frames admissions → Tends s.decls queue (settled s frames) admissions
+tends-settled : (s : Content) (queue : ℕ) (frames : List Frame) (admissions : List Admission) → WorksQueue s.decls queue frames admissions → WorksQueue s.decls queue (settled s frames) admissions
 tends-settled s queue [] admissions tends = tends
 tends-settled s queue (frame ∷ []) admissions tends =
-    subst (λ b. Tends s.decls queue (cond b [] (frame ∷ [])) admissions) (sym (never-over s queue frame.role frame.next frame.stage admissions tends)) tends
+    subst (λ b. WorksQueue s.decls queue (cond b [] (frame ∷ [])) admissions) (sym (never-over s queue frame.role frame.next frame.stage admissions tends)) tends
 tends-settled s queue (frame ∷ next ∷ below) admissions tends =
-    elim (is_over s frame.role frame.next) as (λ b. Tends s.decls queue (cond b (settled s (next ∷ below)) (frame ∷ next ∷ below)) admissions)
+    elim (is_over s frame.role frame.next) as (λ b. WorksQueue s.decls queue (cond b (settled s (next ∷ below)) (frame ∷ next ∷ below)) admissions)
     [ true ↦ tends-settled s queue (next ∷ below) admissions tends.1 | false ↦ tends ]
 
 tends-entered : (ds : List Decl) (queue owner : ℕ) (frame : Frame) (below : List Frame) (admissions : List Admission) → is_at is_thread ds owner ≡ false →
-    Tends ds queue (frame ∷ below) admissions → Tends ds queue (entered (frame ∷ below) owner) admissions
+    WorksQueue ds queue (frame ∷ below) admissions → WorksQueue ds queue (entered (frame ∷ below) owner) admissions
 tends-entered ds queue owner frame below admissions none tends =
-    elim (nat_lt (length (frame ∷ below)) MOST_FRAMES) as (λ b. Tends ds queue (cond b (first_frame (Script owner) ∷ frame ∷ below) (frame ∷ below)) admissions)
+    elim (nat_lt (length (frame ∷ below)) MOST_FRAMES) as (λ b. WorksQueue ds queue (cond b (first_frame (Script owner) ∷ frame ∷ below) (frame ∷ below)) admissions)
     [ true ↦ (none, tends) | false ↦ tends ]
 
 -- the run of a worker after a step of its own
-own-run : (s : Parts) (st : State) (who : Who) (queue : ℕ) (role : Role) (next : ℕ) (stage : Stage) (op : WorkOp) (reply : WorkReply) (place k : ℕ) →
+own-run : (s : Content) (st : State) (who : Who) (queue : ℕ) (role : Role) (next : ℕ) (stage : Stage) (op : WorkOp) (reply : WorkReply) (place k : ℕ) →
     IsWorkers s.decls queue role stage st.admissions → slice_get (frames_attempts s (record { role = role; next = next; stage = stage } ∷ [])) k ≡ Some (steps.Work op) →
     work_reply st who op ≡ Some reply → ProgressFits s.decls (frames_progress s (record { role = role; next = next; stage = stage } ∷ []) (steps.Work op) (step_replies.Work reply place)) →
-    Tends s.decls queue (frames_after s (record { role = role; next = next; stage = stage } ∷ [])
+    WorksQueue s.decls queue (frames_after s (record { role = role; next = next; stage = stage } ∷ [])
     (frames_progress s (record { role = role; next = next; stage = stage } ∷ []) (steps.Work op) (step_replies.Work reply place))) (work_next st who op).admissions
 own-run s st who queue (Script owner) next stage op reply place k tends is made fits = absurd tends
 own-run s st who queue (Worker object) next Start op reply place k tends is made fits =
@@ -129,11 +129,11 @@ own-run s st who queue (Worker object) next Start op reply place k tends is made
     let frame : Frame = record { role = Worker object; next = next; stage = Start } in
     let new = (work_next st who op).admissions in
     subst (λ (r : WorkReply). ProgressFits s.decls (frames_progress s (frame ∷ []) (steps.Work op) (step_replies.Work r place)) →
-    Tends s.decls queue (frames_after s (frame ∷ []) (frames_progress s (frame ∷ []) (steps.Work op) (step_replies.Work r place))) new) (sym told.2)
+    WorksQueue s.decls queue (frames_after s (frame ∷ []) (frames_progress s (frame ∷ []) (steps.Work op) (step_replies.Work r place))) new) (sym told.2)
     (by_item (slice_get (places is_item s.decls) told.0)) fits
   where
     by_item : (owner : Option ℕ) → ProgressFits s.decls (run_progress owner) →
-        Tends s.decls queue (frames_after s (record { role = Worker object; next = next; stage = Start } ∷ []) (run_progress owner)) (work_next st who op).admissions
+        WorksQueue s.decls queue (frames_after s (record { role = Worker object; next = next; stage = Start } ∷ []) (run_progress owner)) (work_next st who op).admissions
     by_item None fits = tends.0
     by_item (Some owner) fits =
         let frame : Frame = record { role = Worker object; next = next; stage = Runs } in
@@ -152,7 +152,7 @@ IsElsewhere (steps.Work op) = ⊥
 IsElsewhere step = Unit {0}
 
 -- a worker asks nothing of another service by itself
-none-elsewhere : (s : Parts) (queue : ℕ) (role : Role) (next : ℕ) (stage : Stage) (admissions : List Admission) (step : Step) (k : ℕ) → IsElsewhere step →
+none-elsewhere : (s : Content) (queue : ℕ) (role : Role) (next : ℕ) (stage : Stage) (admissions : List Admission) (step : Step) (k : ℕ) → IsElsewhere step →
     IsWorkers s.decls queue role stage admissions → slice_get (frames_attempts s (record { role = role; next = next; stage = stage } ∷ [])) k ≡ Some step → ⊥
 none-elsewhere s queue (Worker object) next Start admissions step k elsewhere tends is =
     subst IsElsewhere (sym (slice_get-one (steps.Work (ops.Begin (number_of s.decls object))) step k is)) elsewhere
@@ -185,7 +185,7 @@ plan_of-called decls calls.User other = absurd (cc)
 plan_of-called decls call other = tt
 
 -- a script that isn't a thread's makes nobody a user
-no-user-call : (s : Parts) (owner next : ℕ) (call : Call) → IsValid s → is_at is_thread s.decls owner ≡ false → slice_get (calls_of s.scripts owner) next ≡ Some call →
+no-user-call : (s : Content) (owner next : ℕ) (call : Call) → IsValid s → is_at is_thread s.decls owner ≡ false → slice_get (calls_of s.scripts owner) next ≡ Some call →
     is_user_call call ≡ false
 no-user-call s owner next call valid none there = by (is_user_call call) refl
   where
@@ -306,17 +306,17 @@ call-called decls (Some call) stage step k other is =
     All-at IsCalledStep (plan_attempts (plan_of decls call) stage) k step (attempts-called (plan_of decls call) stage (plan_of-called decls call (other call refl))) is
 
 -- the scripts of a worker after a step of the innermost one, which leaves the queue idle where a call asks for it
-own-script : (s : Parts) (queue : ℕ) (frame next : Frame) (below : List Frame) (step : Step) (reply : StepReply) (k : ℕ) (call : Option Call) (old new : List Admission) →
-    (IsCalledStep step → IsIdle queue old → IsIdle queue new) → IsScript s.decls frame.role → Tends s.decls queue (next ∷ below) old →
+own-script : (s : Content) (queue : ℕ) (frame next : Frame) (below : List Frame) (step : Step) (reply : StepReply) (k : ℕ) (call : Option Call) (old new : List Admission) →
+    (IsCalledStep step → IsIdle queue old → IsIdle queue new) → IsScript s.decls frame.role → WorksQueue s.decls queue (next ∷ below) old →
     ((own : Call) → call ≡ Some own → is_user_call own ≡ false) → slice_get (call_attempts s.decls call frame.stage) k ≡ Some step →
     ProgressFits s.decls (call_progress s.decls call frame.stage step reply) →
-    Tends s.decls queue (frames_after s (frame ∷ next ∷ below) (call_progress s.decls call frame.stage step reply)) new
+    WorksQueue s.decls queue (frames_after s (frame ∷ next ∷ below) (call_progress s.decls call frame.stage step reply)) new
 own-script s queue frame next below step reply k call old new keeps script tends other is fits = by_progress (call_progress s.decls call frame.stage step reply) fits
   where
-    kept : Tends s.decls queue (next ∷ below) new
+    kept : WorksQueue s.decls queue (next ∷ below) new
     kept = tends-keep s.decls queue (next ∷ below) old new (keeps (call-called s.decls call frame.stage step k other is)) tends
 
-    by_progress : (progress : Progress) → ProgressFits s.decls progress → Tends s.decls queue (frames_after s (frame ∷ next ∷ below) progress) new
+    by_progress : (progress : Progress) → ProgressFits s.decls progress → WorksQueue s.decls queue (frames_after s (frame ∷ next ∷ below) progress) new
     by_progress (Goes stage) fits = (script, kept)
     by_progress (Answers word answer) fits = tends-settled s queue (record frame { next = frame.next + 1; stage = Start } ∷ next ∷ below) new (script, kept)
     by_progress (Enters owner stage) fits =
@@ -324,15 +324,15 @@ own-script s queue frame next below step reply k call old new keeps script tends
         tends-settled s queue (entered (here ∷ next ∷ below) owner) new (tends-entered s.decls queue owner here (next ∷ below) new fits.1 (script, kept))
 
 -- the same of the open scripts and the run below
-own-scripts : (s : Parts) (queue : ℕ) (frame next : Frame) (below : List Frame) (step : Step) (reply : StepReply) (k : ℕ) (old new : List Admission) → IsValid s →
-    (IsCalledStep step → IsIdle queue old → IsIdle queue new) → Tends s.decls queue (frame ∷ next ∷ below) old → slice_get (frames_attempts s (frame ∷ next ∷ below)) k ≡ Some step →
+own-scripts : (s : Content) (queue : ℕ) (frame next : Frame) (below : List Frame) (step : Step) (reply : StepReply) (k : ℕ) (old new : List Admission) → IsValid s →
+    (IsCalledStep step → IsIdle queue old → IsIdle queue new) → WorksQueue s.decls queue (frame ∷ next ∷ below) old → slice_get (frames_attempts s (frame ∷ next ∷ below)) k ≡ Some step →
     ProgressFits s.decls (frames_progress s (frame ∷ next ∷ below) step reply) →
-    Tends s.decls queue (frames_after s (frame ∷ next ∷ below) (frames_progress s (frame ∷ next ∷ below) step reply)) new
+    WorksQueue s.decls queue (frames_after s (frame ∷ next ∷ below) (frames_progress s (frame ∷ next ∷ below) step reply)) new
 own-scripts s queue frame next below step reply k old new valid keeps tends is fits = by_role frame.role frame.next frame.stage tends.0 is fits
   where
     by_role : (role : Role) (at : ℕ) (stage : Stage) → IsScript s.decls role → slice_get (frames_attempts s (record { role = role; next = at; stage = stage } ∷ next ∷ below)) k ≡ Some step →
         ProgressFits s.decls (frames_progress s (record { role = role; next = at; stage = stage } ∷ next ∷ below) step reply) →
-        Tends s.decls queue (frames_after s (record { role = role; next = at; stage = stage } ∷ next ∷ below)
+        WorksQueue s.decls queue (frames_after s (record { role = role; next = at; stage = stage } ∷ next ∷ below)
         (frames_progress s (record { role = role; next = at; stage = stage } ∷ next ∷ below) step reply)) new
     by_role (Script owner) at stage script is fits =
         own-script s queue (record { role = Script owner; next = at; stage = stage }) next below step reply k (slice_get (calls_of s.scripts owner) at) old new keeps script tends.1
@@ -340,10 +340,10 @@ own-scripts s queue frame next below step reply k old new valid keeps tends is f
     by_role (Worker object) at stage script is fits = absurd script
 
 -- a worker tends its queue after each step of its own at the work service
-pub tends-own : (s : Parts) (st : State) (who : Who) (queue : ℕ) (frames : List Frame) (op : WorkOp) (reply : WorkReply) (place k : ℕ) → IsValid s →
-    Tends s.decls queue frames st.admissions → slice_get (frames_attempts s frames) k ≡ Some (steps.Work op) → work_reply st who op ≡ Some reply →
+pub tends-own : (s : Content) (st : State) (who : Who) (queue : ℕ) (frames : List Frame) (op : WorkOp) (reply : WorkReply) (place k : ℕ) → IsValid s →
+    WorksQueue s.decls queue frames st.admissions → slice_get (frames_attempts s frames) k ≡ Some (steps.Work op) → work_reply st who op ≡ Some reply →
     ProgressFits s.decls (frames_progress s frames (steps.Work op) (step_replies.Work reply place)) →
-    Tends s.decls queue (frames_after s frames (frames_progress s frames (steps.Work op) (step_replies.Work reply place))) (work_next st who op).admissions
+    WorksQueue s.decls queue (frames_after s frames (frames_progress s frames (steps.Work op) (step_replies.Work reply place))) (work_next st who op).admissions
 tends-own s st who queue [] op reply place k valid tends is made fits = absurd tends
 tends-own s st who queue (frame ∷ []) op reply place k valid tends is made fits = own-run s st who queue frame.role frame.next frame.stage op reply place k tends is made fits
 tends-own s st who queue (frame ∷ next ∷ below) op reply place k valid tends is made fits =
@@ -351,9 +351,9 @@ tends-own s st who queue (frame ∷ next ∷ below) op reply place k valid tends
     (λ called. idle-called st who op queue called) tends is fits
 
 -- and after each at another service
-tends-elsewhere : (s : Parts) (queue : ℕ) (frames : List Frame) (admissions : List Admission) (step : Step) (reply : StepReply) (k : ℕ) → IsValid s → IsElsewhere step →
-    Tends s.decls queue frames admissions → slice_get (frames_attempts s frames) k ≡ Some step → ProgressFits s.decls (frames_progress s frames step reply) →
-    Tends s.decls queue (frames_after s frames (frames_progress s frames step reply)) admissions
+tends-elsewhere : (s : Content) (queue : ℕ) (frames : List Frame) (admissions : List Admission) (step : Step) (reply : StepReply) (k : ℕ) → IsValid s → IsElsewhere step →
+    WorksQueue s.decls queue frames admissions → slice_get (frames_attempts s frames) k ≡ Some step → ProgressFits s.decls (frames_progress s frames step reply) →
+    WorksQueue s.decls queue (frames_after s frames (frames_progress s frames step reply)) admissions
 tends-elsewhere s queue [] admissions step reply k valid elsewhere tends is fits = absurd tends
 tends-elsewhere s queue (frame ∷ []) admissions step reply k valid elsewhere tends is fits =
     absurd (none-elsewhere s queue frame.role frame.next frame.stage admissions step k elsewhere tends is)
@@ -361,8 +361,8 @@ tends-elsewhere s queue (frame ∷ next ∷ below) admissions step reply k valid
     own-scripts s queue frame next below step reply k admissions admissions valid (λ called idle. idle) tends is fits
 
 -- a worker stays a supervisor
-own-supervises : (s : Parts) (queue : ℕ) (frames : List Frame) (admissions : List Admission) (step : Step) (k : ℕ) → IsValid s →
-    Tends s.decls queue frames admissions → slice_get (frames_attempts s frames) k ≡ Some step → mode_after Supervisor step ≡ Supervisor
+own-supervises : (s : Content) (queue : ℕ) (frames : List Frame) (admissions : List Admission) (step : Step) (k : ℕ) → IsValid s →
+    WorksQueue s.decls queue frames admissions → slice_get (frames_attempts s frames) k ≡ Some step → mode_after Supervisor step ≡ Supervisor
 own-supervises s queue [] admissions step k valid tends is = absurd tends
 own-supervises s queue (frame ∷ []) admissions step k valid tends is = by_role frame.role frame.next frame.stage tends is
   where
@@ -382,8 +382,8 @@ own-supervises s queue (frame ∷ next ∷ below) admissions step k valid tends 
     by_role (Worker object) at stage script is = absurd script
 
 -- it goes on with what it has open: no call of it is checked
-works-on : (s : Parts) (queue : ℕ) (at : At) (step : Step) (reply : StepReply) (old new : List Admission) → IsValid s → Works s.decls queue at old →
-    ((k : ℕ) → slice_get (frames_attempts s at.frames) k ≡ Some step → Tends s.decls queue (frames_after s at.frames (frames_progress s at.frames step reply)) new) →
+works-on : (s : Content) (queue : ℕ) (at : PlayerPlace) (step : Step) (reply : StepReply) (old new : List Admission) → IsValid s → Works s.decls queue at old →
+    ((k : ℕ) → slice_get (frames_attempts s at.frames) k ≡ Some step → WorksQueue s.decls queue (frames_after s at.frames (frames_progress s at.frames step reply)) new) →
     IsAhead s at step → Works s.decls queue (after s at step reply) new
 works-on s queue at step reply old new valid works next ahead =
     turn (λ a. Works s.decls queue a new) s at step reply ahead
@@ -393,7 +393,7 @@ works-on s queue at step reply old new valid works next ahead =
       tends = next own.index own.ahead;
     })
 
-works-keep : (ds : List Decl) (queue : ℕ) (at : At) (old new : List Admission) → (IsIdle queue old → IsIdle queue new) → Works ds queue at old → Works ds queue at new
+works-keep : (ds : List Decl) (queue : ℕ) (at : PlayerPlace) (old new : List Admission) → (IsIdle queue old → IsIdle queue new) → Works ds queue at old → Works ds queue at new
 works-keep ds queue at old new keeps works = record { supervises = works.supervises; tends = tends-keep ds queue at.frames old new keeps works.tends }
 
 -- a number of a row
@@ -402,21 +402,21 @@ row-at a n i within =
     slice_get-get_or (range_with_len a n) i 0 (omega (arith, length-range_with_len a n)) ∙ ap (λ (x : ℕ). Some x) (get_or-range_with_len a n i 0 within)
 
 -- the worker of each queue
-pub worker-of : (s : Parts) (w : World) (st : State) (queue : ℕ) → IsTended s w st → queue < length (places is_queue s.decls) →
+pub worker-of : (s : Content) (w : World) (st : State) (queue : ℕ) → EachQueueIsWorked s w st → queue < length (places is_queue s.decls) →
     slice_get (map (λ (q : Queue). q.worker) st.queues) queue ≡ Some (length (places is_thread s.decls) + queue)
 worker-of s w st queue tended within =
     ap (λ (l : List ℕ). slice_get l queue) tended.has_workers ∙ row-at (length (places is_thread s.decls)) (length (places is_queue s.decls)) queue within
 
-many-queues : (s : Parts) (w : World) (st : State) → IsTended s w st → length st.queues ≡ length (places is_queue s.decls)
+many-queues : (s : Content) (w : World) (st : State) → EachQueueIsWorked s w st → length st.queues ≡ length (places is_queue s.decls)
 many-queues s w st tended =
     let workers_long = ap (λ (l : List ℕ). length l) tended.has_workers in
     let row = length-range_with_len (length (places is_thread s.decls)) (length (places is_queue s.decls)) in
     sym (length-map st.queues (λ (q : Queue). q.worker)) ∙ workers_long ∙ row
 
 -- each worker tends its queue after a step of any player
-pub tended-step : (s : Parts) (w : World) (st : State) (p : ℕ) (at : At) (op : WorkOp) (reply : WorkReply) (place : ℕ) → IsValid s → IsTended s w st → slice_get w.players p ≡ Some at → at.who.number ≡ p →
+pub tended-step : (s : Content) (w : World) (st : State) (p : ℕ) (at : PlayerPlace) (op : WorkOp) (reply : WorkReply) (place : ℕ) → IsValid s → EachQueueIsWorked s w st → slice_get w.players p ≡ Some at → at.who.number ≡ p →
     IsAhead s at (steps.Work op) → work_reply st at.who op ≡ Some reply → ProgressFits s.decls (frames_progress s at.frames (steps.Work op) (step_replies.Work reply place)) →
-    IsTended s (stepped s w p at (Some (steps.Work op, step_replies.Work reply place))) (work_next st at.who op)
+    EachQueueIsWorked s (stepped s w p at (Some (steps.Work op, step_replies.Work reply place))) (work_next st at.who op)
 tended-step s w st p at op reply place valid tended is number ahead made fits = record {
   after = ap (λ (t : State). work_next t at.who op) tended.after ∙ sym (state_after-snoc work_machine (work_start_of s) w.shown.work (entry at.who (length at.spots) op reply));
   homes = homes-next (length (places is_queue s.decls)) st at.who op (many-queues s w st tended) tended.homes;
@@ -424,13 +424,13 @@ tended-step s w st p at op reply place valid tended is number ahead made fits = 
   tended = λ queue other there within. by_place queue other within (slice_get-set w.players p (length (places is_thread s.decls) + queue) (after s at (steps.Work op) (step_replies.Work reply place)) other there);
 }
   where
-    by_place : (queue : ℕ) (other : At) → queue < length (places is_queue s.decls) →
+    by_place : (queue : ℕ) (other : PlayerPlace) → queue < length (places is_queue s.decls) →
         ((length (places is_thread s.decls) + queue ≡ p) × (other ≡ after s at (steps.Work op) (step_replies.Work reply place)))
         ⊎ ((length (places is_thread s.decls) + queue ≢ p) × (slice_get w.players (length (places is_thread s.decls) + queue) ≡ Some other)) →
         Works s.decls queue other (work_next st at.who op).admissions
     by_place queue other within (inl same) =
         let mine = tended.tended queue at (ap (λ (n : ℕ). slice_get w.players n) same.0 ∙ is) within in
-        subst (λ (o : At). Works s.decls queue o (work_next st at.who op).admissions) (sym same.1)
+        subst (λ (o : PlayerPlace). Works s.decls queue o (work_next st at.who op).admissions) (sym same.1)
         (works-on s queue at (steps.Work op) (step_replies.Work reply place) st.admissions (work_next st at.who op).admissions valid mine
         (λ k own. tends-own s st at.who queue at.frames op reply place k valid mine.tends own made fits) ahead)
     by_place queue other within (inr apart) =
@@ -452,8 +452,8 @@ work-stays shown who number (steps.LookItem object) (step_replies.Flags flags at
 work-stays shown who number step reply elsewhere = refl
 
 -- and after a step at another service
-pub tended-elsewhere : (s : Parts) (w : World) (st : State) (p : ℕ) (at : At) (step : Step) (reply : StepReply) → IsValid s → IsElsewhere step → IsTended s w st →
-    slice_get w.players p ≡ Some at → IsAhead s at step → ProgressFits s.decls (frames_progress s at.frames step reply) → IsTended s (stepped s w p at (Some (step, reply))) st
+pub tended-elsewhere : (s : Content) (w : World) (st : State) (p : ℕ) (at : PlayerPlace) (step : Step) (reply : StepReply) → IsValid s → IsElsewhere step → EachQueueIsWorked s w st →
+    slice_get w.players p ≡ Some at → IsAhead s at step → ProgressFits s.decls (frames_progress s at.frames step reply) → EachQueueIsWorked s (stepped s w p at (Some (step, reply))) st
 tended-elsewhere s w st p at step reply valid elsewhere tended is ahead fits = record {
   after = tended.after ∙ ap (state_after work_machine (work_start_of s)) (sym (work-stays w.shown at.who (length at.spots) step reply elsewhere));
   homes = tended.homes;
@@ -461,13 +461,13 @@ tended-elsewhere s w st p at step reply valid elsewhere tended is ahead fits = r
   tended = λ queue other there within. by_place queue other within (slice_get-set w.players p (length (places is_thread s.decls) + queue) (after s at step reply) other there);
 }
   where
-    by_place : (queue : ℕ) (other : At) → queue < length (places is_queue s.decls) →
+    by_place : (queue : ℕ) (other : PlayerPlace) → queue < length (places is_queue s.decls) →
         ((length (places is_thread s.decls) + queue ≡ p) × (other ≡ after s at step reply))
         ⊎ ((length (places is_thread s.decls) + queue ≢ p) × (slice_get w.players (length (places is_thread s.decls) + queue) ≡ Some other)) →
         Works s.decls queue other st.admissions
     by_place queue other within (inl same) =
         let mine = tended.tended queue at (ap (λ (n : ℕ). slice_get w.players n) same.0 ∙ is) within in
-        subst (λ (o : At). Works s.decls queue o st.admissions) (sym same.1)
+        subst (λ (o : PlayerPlace). Works s.decls queue o st.admissions) (sym same.1)
         (works-on s queue at step reply st.admissions st.admissions valid mine
         (λ k own. tends-elsewhere s queue at.frames st.admissions step reply k valid elsewhere mine.tends own fits) ahead)
     by_place queue other within (inr apart) = tended.tended queue other apart.1 within
@@ -494,18 +494,18 @@ behind-first [] ys q = let same : length {A = ℕ} [] + q ≡ q = omega arith in
 behind-first (x ∷ xs) ys q = let same : length (x ∷ xs) + q ≡ suc (length xs + q) = omega arith in ap (λ (n : ℕ). slice_get (x ∷ (xs ++ ys)) n) same ∙ behind-first xs ys q
 
 -- the worker of a queue starts between two runs
-starting-tends : (s : Parts) (number queue object : ℕ) (decl : Decl) → is_queue decl ≡ true → slice_get s.decls object ≡ Some decl → count_by is_queue (take object s.decls) ≡ queue →
+starting-tends : (s : Content) (number queue object : ℕ) (decl : Decl) → is_queue decl ≡ true → slice_get s.decls object ≡ Some decl → count_by is_queue (take object s.decls) ≡ queue →
     Works s.decls queue (starting s number object decl) []
 starting-tends s number queue object (decls.Queue name prio on) kind is count =
-    let here : number_of s.decls object ≡ queue = ap (λ (o : Option Decl). option_map_or (λ d. count_by (same_kind d) (take object s.decls)) o 0) is ∙ count in
+    let here : number_of s.decls object ≡ queue = ap (λ (o : Option Decl). option_map_or (λ d. count_by (has_kind_of d) (take object s.decls)) o 0) is ∙ count in
     let P : Admission → Type 0 = λ a. runs_on queue a ≡ false in
     record { supervises = refl; tends = (here, All-nil P) }
 starting-tends s number queue object decl kind is count = absurd (cc)
 
-start-tends : (s : Parts) (queue : ℕ) (at : At) → start_at s (length (places is_thread s.decls) + queue) ≡ Some at → Works s.decls queue at []
+start-tends : (s : Content) (queue : ℕ) (at : PlayerPlace) → start_at s (length (places is_thread s.decls) + queue) ≡ Some at → Works s.decls queue at []
 start-tends s queue at is =
     let number = length (places is_thread s.decls) + queue in
-    let inner : ℕ → Option At = λ object. option_map (starting s number object) (slice_get s.decls object) in
+    let inner : ℕ → Option PlayerPlace = λ object. option_map (starting s number object) (slice_get s.decls object) in
     option_and_then_some inner (slice_get (players s.decls) number) at is (λ object found made. by_place object
     (placed is_queue 0 s.decls queue object (sym (behind-first (places is_thread s.decls) (places is_queue s.decls) queue) ∙ found)) made)
   where
@@ -517,7 +517,7 @@ start-tends s queue at is =
         let declared : slice_get s.decls object ≡ Some there.2 = ap (λ (n : ℕ). slice_get s.decls n) (sym same) ∙ there.3 in
         let it : Some (starting s number object there.2) ≡ Some at = sym (ap (option_map (starting s number object)) declared) ∙ made in
         let is_it : starting s number object there.2 ≡ at = cc in
-        subst (λ (a : At). Works s.decls queue a []) is_it
+        subst (λ (a : PlayerPlace). Works s.decls queue a []) is_it
         (starting-tends s number queue object there.2 there.4 declared (ap (λ (n : ℕ). count_by is_queue (take n s.decls)) (sym same) ∙ there.5))
 
 fresh-workers : (ws : List ℕ) (on : List Bool) → length ws ≡ length on → map (λ (q : Queue). q.worker) (fresh_queues ws on) ≡ ws
@@ -526,8 +526,8 @@ fresh-workers (w ∷ ws) [] same = absurd (omega arith)
 fresh-workers (w ∷ ws) (b ∷ bs) same = ap (λ (l : List ℕ). w ∷ l) (fresh-workers ws bs (omega arith))
 
 -- in the first world nothing runs
-pub tended-first : (s : Parts) → ((p : ℕ) (at : At) → slice_get (first s).players p ≡ Some at → start_at s p ≡ Some at) →
-    length (workers s.decls) ≡ length (map (is_on s.decls) (places is_queue s.decls)) → IsTended s (first s) (work_start_of s)
+pub tended-first : (s : Content) → ((p : ℕ) (at : PlayerPlace) → slice_get (first s).players p ≡ Some at → start_at s p ≡ Some at) →
+    length (workers s.decls) ≡ length (map (is_on s.decls) (places is_queue s.decls)) → EachQueueIsWorked s (first s) (work_start_of s)
 tended-first s starts same = record {
   after = refl;
   homes = let P : Admission → Type 0 = λ a. a.queue < length (places is_queue s.decls) in All-nil P;

@@ -14,11 +14,11 @@ use Rattle.zk_model_wait.specs.declared.signal.SignalReply.{SignalReply}
 use Rattle.zk_model_wait.specs.Clock.{new_clock, clock_reply, clock_machine}
 use Rattle.zk_model_wait.specs.Sem.{Sem}
 use Rattle.zk_model_wait.specs.Msgq.{Msgq}
-use Rattle.zk_scenario.specs.Parts.{Parts}
+use Rattle.zk_scenario.specs.Content.{Content}
 use Rattle.zk_worker.specs.declared.steps.Step.TheVariants as steps
 use Rattle.zk_worker.specs.Families.{Family, start_of}
 use Rattle.zk_worker.specs.Looks.{seen_after}
-use Rattle.zk_worker.specs.Places.{At}
+use Rattle.zk_worker.specs.Places.{PlayerPlace}
 use Rattle.zk_worker.specs.Protocol.{IsAhead}
 use Rattle.zk_worker.specs.Machines.{machines_of}
 use Rattle.zk_worker.specs.Choosing.{chosen}
@@ -27,12 +27,12 @@ use Rattle.zk_replay.specs.RoundRobin.{World, IsRun, is_spent}
 -- a scenario has at most one round robin run
 abbrev pub HasOneRun : Type 0
 HasOneRun =
-    (s : Parts) (v w : World) → IsRun (machines_of s) s v → IsRun (machines_of s) s w → v ≡ w
+    (s : Content) (v w : World) → IsRun (machines_of s) s v → IsRun (machines_of s) s w → v ≡ w
 
 -- at the end of a run in which no player is spent, no player has a possible attempt
 abbrev pub NoneGoesOn : Type 0
-NoneGoesOn = (s : Parts) (w : World) → IsRun (machines_of s) s w → is_spent s w ≡ false →
-    (player : ℕ) (at : At) → slice_get w.players player ≡ Some at →
+NoneGoesOn = (s : Content) (w : World) → IsRun (machines_of s) s w → is_spent s w ≡ false →
+    (player : ℕ) (at : PlayerPlace) → slice_get w.players player ≡ Some at →
     chosen (machines_of s) s w.shown at ≡ None
 
 -- an object of a kind is in this state as its history leaves it
@@ -42,24 +42,24 @@ StandsIn {S} {O} {R} family histories object state = (start : S) × (h : List (E
     (state ≡ state_after family.machine start h)
 
 -- a semaphore as its history leaves it
-abbrev pub IsSemAt : Parts → World → ℕ → Sem → Type 0
+abbrev pub IsSemAt : Content → World → ℕ → Sem → Type 0
 IsSemAt s w object sem = StandsIn (machines_of s).sems w.shown.sems object sem
 
 -- a message queue as its history leaves it
-abbrev pub IsMsgqAt : Parts → World → ℕ → Msgq → Type 0
+abbrev pub IsMsgqAt : Content → World → ℕ → Msgq → Type 0
 IsMsgqAt s w object queue = StandsIn (machines_of s).msgqs w.shown.msgqs object queue
 
 -- a channel as its history leaves it
-abbrev pub IsChanAt : Parts → World → ℕ → Channel → Type 0
+abbrev pub IsChanAt : Content → World → ℕ → Channel → Type 0
 IsChanAt s w object channel = StandsIn (machines_of s).chans w.shown.chans object channel
 
 -- an observer as its history leaves it
-abbrev pub IsObserverAt : Parts → World → ℕ → Observer → Type 0
+abbrev pub IsObserverAt : Content → World → ℕ → Observer → Type 0
 IsObserverAt s w object observer = StandsIn (machines_of s).observers w.shown.observers object observer
 
 -- a player that may only end a wait hasn't been served; one that polls hasn't been noted, nor is a signal raised that
 -- it polls; and where it may end an alarm the moment of that hasn't come
-pub record IsUnserved (s : Parts) (w : World) (at : At) : Type 0 where
+pub record IsUnserved (s : Content) (w : World) (at : PlayerPlace) : Type 0 where
   pub takes : (object place : ℕ) (sem : Sem) → IsAhead s at (steps.Sem object (sem_ops.TakeEnd place)) →
       IsSemAt s w object sem → decision_of sem.takers at.who.number place ≡ None
   pub puts : (object place : ℕ) (queue : Msgq) → IsAhead s at (steps.Msgq object (msgq_ops.PutEnd place)) →
@@ -82,5 +82,5 @@ pub record IsUnserved (s : Parts) (w : World) (at : At) : Type 0 where
 -- at the end of a run in which no player is spent, whoever waits does so since nobody has served it, and whoever polls
 -- since nothing that it polls has come
 abbrev pub NoneIsServed : Type 0
-NoneIsServed = (s : Parts) (w : World) → IsRun (machines_of s) s w → is_spent s w ≡ false →
-    (player : ℕ) (at : At) → slice_get w.players player ≡ Some at → IsUnserved s w at
+NoneIsServed = (s : Content) (w : World) → IsRun (machines_of s) s w → is_spent s w ≡ false →
+    (player : ℕ) (at : PlayerPlace) → slice_get w.players player ≡ Some at → IsUnserved s w at

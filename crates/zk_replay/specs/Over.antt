@@ -1,5 +1,5 @@
 use Rattle.std.specs.Prelude.{◌≡◌, ℕ, false, Some}
-use Rattle.zk_scenario.specs.Parts.{Parts}
+use Rattle.zk_scenario.specs.Content.{Content}
 use Rattle.zk_model_work.specs.declared.parts.Life.{Life}
 use Rattle.zk_model_work.specs.Questions.{is_open}
 use Rattle.zk_model_work.specs.Histories.{life_after}
@@ -8,7 +8,7 @@ use Rattle.zk_trace.specs.declared.trace.Ending.TheVariants.{Ended}
 use Rattle.zk_trace.specs.declared.trace.Trace.{Trace}
 
 -- where a trace has ended, none of its admissions waits or runs
-abbrev pub IsOver : Parts → Trace → Type 0
+abbrev pub IsOver : Content → Trace → Type 0
 IsOver s t =
     t.ending ≡ Ended → (number : ℕ) (life : Life) →
     life_after (work_start_of s) t.work number ≡ Some life → is_open life ≡ false

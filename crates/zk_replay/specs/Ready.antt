@@ -1,9 +1,9 @@
 use Rattle.std.specs.Prelude.{◌≡◌, ℕ, ◌-◌, ◌≤◌, Some, None, List, length, slice_get, All}
 use Rattle.std.specs.List.{sum_by}
-use Rattle.zk_scenario.specs.Parts.{Parts}
+use Rattle.zk_scenario.specs.Content.{Content}
 use Rattle.zk_scenario.specs.Steps.{steps_of}
 use Rattle.zk_scenario.specs.Valid.{IsValid}
-use Rattle.zk_worker.specs.Places.{At}
+use Rattle.zk_worker.specs.Places.{PlayerPlace}
 use Rattle.zk_worker.specs.Follows.{IsFollowing}
 use Rattle.zk_worker.specs.Ranges.{IsFit}
 use Rattle.zk_worker.specs.Machines.{machines_of}
@@ -12,25 +12,25 @@ use Rattle.zk_worker.specs.Right.{LooksRight}
 use Rattle.zk_replay.specs.RoundRobin.{World}
 
 -- how many steps of the player are left
-abbrev pub left : Parts → At → ℕ
+abbrev pub left : Content → PlayerPlace → ℕ
 left s at = steps_of s - length at.spots
 
 -- how many steps of all players are left
-abbrev pub all_left : Parts → List At → ℕ
+abbrev pub all_left : Content → List PlayerPlace → ℕ
 all_left s players = sum_by (left s) players
 
 -- what holds of every world that a run comes to
-pub record IsReady (s : Parts) (w : World) : Type 0 where
+pub record IsReady (s : Content) (w : World) : Type 0 where
   pub valid : IsValid s
   pub few : length w.players ≤ 64
-  pub numbers : (p : ℕ) (at : At) → slice_get w.players p ≡ Some at → at.who.number ≡ p
-  pub shows : (p : ℕ) (at : At) → slice_get w.players p ≡ Some at →
+  pub numbers : (p : ℕ) (at : PlayerPlace) → slice_get w.players p ≡ Some at → at.who.number ≡ p
+  pub shows : (p : ℕ) (at : PlayerPlace) → slice_get w.players p ≡ Some at →
       ShowsLog w.shown at.who.number at.spots
-  pub looks : (p : ℕ) (at : At) → slice_get w.players p ≡ Some at →
+  pub looks : (p : ℕ) (at : PlayerPlace) → slice_get w.players p ≡ Some at →
       LooksRight (machines_of s) w.shown at.spots
   pub short : All (λ at. length at.spots ≤ steps_of s) w.players
   pub counted : entry_count w.shown ≤ sum_by (λ at. length at.spots) w.players
   pub whole : w.shown.looks ≡ None
   pub unlooked : w.shown.looked ≡ None
-  pub follow : (p : ℕ) (at : At) → slice_get w.players p ≡ Some at → IsFollowing s p w.shown at
+  pub follow : (p : ℕ) (at : PlayerPlace) → slice_get w.players p ≡ Some at → IsFollowing s p w.shown at
   pub fits : All (IsFit s) w.players

@@ -8,7 +8,7 @@ ghost use Rattle.zk_worker.specs.Right.{LooksRight};
 ghost use Rattle.zk_worker.specs.Choosing.{chosen};
 ghost use Rattle.zk_replay.specs.RoundRobin.{World, turn, round, rounds, is_spent};
 ghost use Rattle.zk_replay.specs.Ready.{IsReady};
-ghost use Rattle.zk_replay.specs.Turning.{did, world, IsAlone, IsTurn, Turned, Rounded};
+ghost use Rattle.zk_replay.specs.Turning.{made_step, world, IsAlone, IsTurn, Turned, Rounded};
 
 use zk_base::NoMemory;
 use zk_scenario::Scenario;
@@ -25,7 +25,7 @@ pub struct Turn {
 
 /// How the run goes on after a round.
 #[derive(Clone, Copy, Debug)]
-pub enum Course {
+pub enum RoundEnd {
     /// No player made a step.
     Still,
     /// Some player did.
@@ -34,8 +34,8 @@ pub enum Course {
     Spent,
 }
 
-fn did(stepped: Stepped) -> bool
-    ensures { result ≡ did stepped }
+fn made_step(stepped: Stepped) -> bool
+    ensures { result ≡ made_step stepped }
 {
     match stepped {
         Stepped::Did => true,
@@ -63,7 +63,7 @@ fn play<V: Services>(
     ensures alone { IsAlone scenario.now (V.alone services.new) (V.machines services.new) (V.serves services.new) }
 {
     let stepped = player.step(scenario, services)?;
-    let moved = did(stepped);
+    let moved = made_step(stepped);
     let spent = player.is_spent(scenario);
     Ok(Turn { moved, spent })
 }
@@ -96,7 +96,7 @@ fn play_round<V: Services>(
     services: &mut V,
     scenario: &Scenario,
     players: &mut Vec<Player>,
-) -> Result<Course, NoMemory>
+) -> Result<RoundEnd, NoMemory>
     requires valid { IsValid scenario.now }
     requires alone { IsAlone scenario.now (V.alone services.old) (V.machines services.old) (V.serves services.old) }
     requires ready { IsReady scenario.now (world (V.shown services.old) players.old.items) }
@@ -111,11 +111,15 @@ fn play_round<V: Services>(
     for number in 0..players.len() {
         let turn = take_turn(services, scenario, players, number)?;
         if turn.spent {
-            return Ok(Course::Spent);
+            return Ok(RoundEnd::Spent);
         }
         moved |= turn.moved;
     }
-    Ok(if moved { Course::Goes } else { Course::Still })
+    Ok(if moved {
+        RoundEnd::Goes
+    } else {
+        RoundEnd::Still
+    })
 }
 
 /// Rounds until one has no step, or until a player is spent.
@@ -139,9 +143,9 @@ pub fn play_rounds<V: Services>(
 {
     loop {
         match play_round(services, scenario, players)? {
-            Course::Goes => {}
-            Course::Still => return Ok(()),
-            Course::Spent => return Ok(()),
+            RoundEnd::Goes => {}
+            RoundEnd::Still => return Ok(()),
+            RoundEnd::Spent => return Ok(()),
         }
     }
 }

@@ -40,10 +40,10 @@ use Rattle.zk_scenario.specs.declared.types.Script.{Script}
 use Rattle.zk_scenario.specs.declared.refused.Why.{Why}
 use Rattle.zk_scenario.specs.declared.refused.Why.TheVariants as why
 use Rattle.zk_scenario.specs.Free.{is_free, next_is_free, is_free_line}
-use Rattle.zk_scenario.specs.Parts.{Parts}
+use Rattle.zk_scenario.specs.Content.{Content}
 use Rattle.zk_scenario.specs.Reading.{Reading, all_scripts, declared, permitted, begun, with_call, called, parts_of}
 use Rattle.zk_scenario.specs.Scripts.{script_of}
-use Rattle.zk_scenario.specs.Valid.{IsValid, OneEach, bars, call_stands, calls_fit, script_fits, script_stands, call_count}
+use Rattle.zk_scenario.specs.Valid.{IsValid, OneEach, forbids_call, call_stands, calls_fit, script_fits, script_stands, call_count}
 use Rattle.zk_scenario.specs.Verdict.{has_begun, has_script, is_barred, is_misplaced, is_full, is_past_limit, is_said_before, are_named, verdict, opened, after}
 use Rattle.zk_scenario.specs.Written.{is_allowed, AreInOrder}
 use Rattle.zk_scenario.proofs.FreeLines.{calls_pass-push}
@@ -120,11 +120,11 @@ all-push test xs x = list_all-append test xs (x ∷ []) ∙ ap (λ b. list_all t
   and-true true = refl
   and-true false = refl
 
-room-valid : (p : Parts) → IsValid p → HasRoom p.decls
+room-valid : (p : Content) → IsValid p → HasRoom p.decls
 room-valid p valid = record { players = valid.players; queues = valid.queues; items = valid.items; sems = valid.sems; msgqs = valid.msgqs; signals = valid.signals; chans = valid.chans; observers = valid.observers }
 
 -- a scenario is valid, by what there is room for and what is said of its scripts
-IsValid-made : (p : Parts) → HasRoom p.decls → call_count p.scripts ≤ 4096 → AreNames p.decls → list_all decl_fits p.decls ≡ true → AreObserved p.decls → AreInOrder p.decls p.written → list_all (script_fits p.decls) p.scripts ≡ true → list_all (script_stands p.decls) p.scripts ≡ true → OneEach p.scripts → IsValid p
+IsValid-made : (p : Content) → HasRoom p.decls → call_count p.scripts ≤ 4096 → AreNames p.decls → list_all decl_fits p.decls ≡ true → AreObserved p.decls → AreInOrder p.decls p.written → list_all (script_fits p.decls) p.scripts ≡ true → list_all (script_stands p.decls) p.scripts ≡ true → OneEach p.scripts → IsValid p
 IsValid-made p room calls named in_range observed in_order fit stand one_each =
     record { players = room.players; queues = room.queues; items = room.items; sems = room.sems; msgqs = room.msgqs; signals = room.signals; chans = room.chans; observers = room.observers; calls = calls; named = named; in_range = in_range; observed = observed; in_order = in_order; fit = fit; stand = stand; one_each = one_each }
 
@@ -209,7 +209,7 @@ fresh-closed r s valid e = one_each-fresh r.scripts s (subst (λ o. OneEach (r.s
 -- whether a call is barred in a script, where there is one
 abbrev barred_in : List Decl → Option Script → Word → Bool
 barred_in decls o w =
-    bars (option_map_or (is_free decls) o false) (option_map_or (λ script. is_at is_listener decls script.owner) o false) (option_map_or (λ script. is_at is_item decls script.owner) o false) w
+    forbids_call (option_map_or (is_free decls) o false) (option_map_or (λ script. is_at is_listener decls script.owner) o false) (option_map_or (λ script. is_at is_item decls script.owner) o false) w
 
 called_fits : (r : Reading) (c : Call) → IsValid (parts_of r) → is_some r.current ≡ true → call_fits (next_is_free r) r.decls c ≡ true → is_barred r (word_of c) ≡ false → nat_le 4096 (call_count (all_scripts r)) ≡ false → IsValid (parts_of (called r c))
 called_fits r c valid inside fits unbarred few =

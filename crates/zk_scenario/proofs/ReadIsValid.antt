@@ -13,7 +13,7 @@ use Rattle.zk_words.specs.Lines.{line_of}
 use Rattle.zk_words.specs.Parts.{Placed}
 use Rattle.zk_words.proofs.Formed.{line_is_form}
 use Rattle.zk_scenario.specs.Grammar.{told, taken, read_line, ended_parts, at_end, behind, read_lines, behind_header, read_pieces, pieces_of, scenario_of, IsReadable}
-use Rattle.zk_scenario.specs.Parts.{Parts}
+use Rattle.zk_scenario.specs.Content.{Content}
 use Rattle.zk_scenario.specs.Reading.{Reading, start, parts_of}
 use Rattle.zk_scenario.specs.Spelling.{text_of}
 use Rattle.zk_scenario.specs.Valid.{IsValid}
@@ -35,7 +35,7 @@ valid-line r s text e valid = by_line (line_of text) refl e where
   by_line line.Misspelled same here = absurd (cc)
   by_line (line.Formed h parts) same here = by_verdict h parts same (verdict r h parts) refl here
 
-valid-at_end : (n : ℕ) (r : Reading) (p : Parts) (piece : List ℕ) → at_end n r piece ≡ Ok p → IsValid (parts_of r) → IsValid p
+valid-at_end : (n : ℕ) (r : Reading) (p : Content) (piece : List ℕ) → at_end n r piece ≡ Ok p → IsValid (parts_of r) → IsValid p
 valid-at_end n r p [] e valid = by_current r.current refl e where
   by_current : (o : Option Script) → r.current ≡ o → cond (is_some o) (Err (At n why.Order)) (Ok (ended_parts r)) ≡ Ok p → IsValid p
   by_current None none here =
@@ -44,7 +44,7 @@ valid-at_end n r p [] e valid = by_current r.current refl e where
   by_current (Some script) none here = absurd (cc)
 valid-at_end n r p (b ∷ bs) e valid = absurd (cc)
 
-valid-rest : (n : ℕ) (r : Reading) (p : Parts) (piece : List ℕ) (more : List (List ℕ)) → read_lines n r piece more ≡ Ok p → IsValid (parts_of r) → IsValid p
+valid-rest : (n : ℕ) (r : Reading) (p : Content) (piece : List ℕ) (more : List (List ℕ)) → read_lines n r piece more ≡ Ok p → IsValid (parts_of r) → IsValid p
 valid-rest n r p piece [] e valid = valid-at_end n r p piece e valid
 valid-rest n r p piece (next ∷ more) e valid = by_result (read_line r piece) refl e (λ s. valid-rest (n + 1) s p next more) where
   by_result : (o : Result Reading Why) → read_line r piece ≡ o → behind n o (λ s. read_lines (n + 1) s next more) ≡ Ok p
@@ -55,7 +55,7 @@ valid-rest n r p piece (next ∷ more) e valid = by_result (read_line r piece) r
 pub valid-start : IsValid (parts_of start)
 valid-start = record { players = omega arith; queues = omega arith; items = omega arith; sems = omega arith; msgqs = omega arith; signals = omega arith; chans = omega arith; observers = omega arith; calls = omega arith; named = record { formed = λ object d e. absurd (cc); distinct = λ object d e. absurd (cc) }; in_range = refl; observed = λ object d e. absurd (cc); in_order = record { all = refl; each = λ n line e. absurd (cc) }; fit = refl; stand = refl; one_each = λ n script e. absurd (cc) }
 
-valid-pieces : (p : Parts) (pieces : List (List ℕ)) → read_pieces pieces ≡ Ok p → IsValid p
+valid-pieces : (p : Content) (pieces : List (List ℕ)) → read_pieces pieces ≡ Ok p → IsValid p
 valid-pieces p [] e = absurd (cc)
 valid-pieces p (first ∷ more) e = by_header (bytes_eq first (codes "zk 1")) e where
   by_more : (more : List (List ℕ)) → behind_header more ≡ Ok p → IsValid p
@@ -67,16 +67,16 @@ valid-pieces p (first ∷ more) e = by_header (bytes_eq first (codes "zk 1")) e 
   by_header false here = absurd (cc)
 
 -- what is read is valid
-pub IsValid-read : (text : List ℕ) (p : Parts) → scenario_of text ≡ Ok p → IsValid p
+pub IsValid-read : (text : List ℕ) (p : Content) → scenario_of text ≡ Ok p → IsValid p
 IsValid-read text p e = by_length (nat_lt 1048576 (length text)) e where
   by_length : (b : Bool) → cond b (Err (At 0 why.Length)) (read_pieces (pieces_of text)) ≡ Ok p → IsValid p
   by_length true here = absurd (cc)
   by_length false here = valid-pieces p (pieces_of text) here
 
 -- a scenario whose text is read as it is valid
-pub IsValid-readable : (p : Parts) → IsReadable p → IsValid p
+pub IsValid-readable : (p : Content) → IsReadable p → IsValid p
 IsValid-readable p readable = IsValid-read (text_of p) p readable.read_back
 
 -- scenarios with one text are equal
-pub one_scenario : (p q : Parts) → IsReadable p → IsReadable q → text_of p ≡ text_of q → p ≡ q
-one_scenario p q first second same = let read : ◌≡◌ {A = Result Parts ScenarioRefused} (Ok p) (Ok q) = sym first.read_back ∙ ap scenario_of same ∙ second.read_back in cc
+pub one_scenario : (p q : Content) → IsReadable p → IsReadable q → text_of p ≡ text_of q → p ≡ q
+one_scenario p q first second same = let read : ◌≡◌ {A = Result Content ScenarioRefused} (Ok p) (Ok q) = sym first.read_back ∙ ap scenario_of same ∙ second.read_back in cc

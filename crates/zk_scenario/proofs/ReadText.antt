@@ -39,7 +39,7 @@ use Rattle.zk_scenario.specs.declared.refused.Why.{Why}
 use Rattle.zk_scenario.specs.declared.refused.Why.TheVariants as why
 use Rattle.zk_scenario.specs.declared.refused.ScenarioRefused.TheVariants.{At}
 use Rattle.zk_scenario.specs.Grammar.{told, taken, read_line, ended_parts, at_end, behind, read_lines, behind_header, read_pieces, pieces_of, scenario_of, IsReadable}
-use Rattle.zk_scenario.specs.Parts.{Parts}
+use Rattle.zk_scenario.specs.Content.{Content}
 use Rattle.zk_scenario.specs.Reading.{Reading, start, declared, permitted, with_call, called, closed, parts_of}
 use Rattle.zk_scenario.specs.Spelling.{declared_line, script_line, end_line, begun_lines, script_lines, body_lines, lines_of, lines_text, text_of}
 use Rattle.zk_scenario.specs.Verdict.{has_script, opened, verdict, after}
@@ -156,7 +156,7 @@ read-line r s text valid e = by_line (line_of text) refl e where
   by_line (line.Formed h parts) same here = by_verdict h parts same (verdict r h parts) refl here
 
 -- the lines that were read and those that are left are the scenario's, and nothing stands behind the last feed
-read-at_end : (n : ℕ) (r : Reading) (p : Parts) (piece : List ℕ) → at_end n r piece ≡ Ok p → read_lines_of r ++ piece ∷ [] ≡ body_lines p.decls p.written p.scripts ++ [] ∷ []
+read-at_end : (n : ℕ) (r : Reading) (p : Content) (piece : List ℕ) → at_end n r piece ≡ Ok p → read_lines_of r ++ piece ∷ [] ≡ body_lines p.decls p.written p.scripts ++ [] ∷ []
 read-at_end n r p [] e = by_current r.current refl e where
   by_current : (o : Option Script) → r.current ≡ o → cond (is_some o) (Err (At n why.Order)) (Ok (ended_parts r)) ≡ Ok p → read_lines_of r ++ [] ∷ [] ≡ body_lines p.decls p.written p.scripts ++ [] ∷ []
   by_current None none here =
@@ -165,7 +165,7 @@ read-at_end n r p [] e = by_current r.current refl e where
   by_current (Some script) none here = absurd (cc)
 read-at_end n r p (b ∷ bs) e = absurd (cc)
 
-read-rest : (n : ℕ) (r : Reading) (p : Parts) (piece : List ℕ) (more : List (List ℕ)) → IsValid (parts_of r) → read_lines n r piece more ≡ Ok p → read_lines_of r ++ piece ∷ more ≡ body_lines p.decls p.written p.scripts ++ [] ∷ []
+read-rest : (n : ℕ) (r : Reading) (p : Content) (piece : List ℕ) (more : List (List ℕ)) → IsValid (parts_of r) → read_lines n r piece more ≡ Ok p → read_lines_of r ++ piece ∷ more ≡ body_lines p.decls p.written p.scripts ++ [] ∷ []
 read-rest n r p piece [] valid e = read-at_end n r p piece e
 read-rest n r p piece (next ∷ more) valid e = by_result (read_line r piece) refl e (λ s. read-rest (n + 1) s p next more) where
   by_result : (o : Result Reading Why) → read_line r piece ≡ o → behind n o (λ s. read_lines (n + 1) s next more) ≡ Ok p
@@ -176,7 +176,7 @@ read-rest n r p piece (next ∷ more) valid e = by_result (read_line r piece) re
   by_result (Err reason) same here rest = absurd (cc)
 
 -- the pieces of a text that was read are the scenario's lines, and nothing behind the last feed
-read-pieces : (p : Parts) (pieces : List (List ℕ)) → read_pieces pieces ≡ Ok p → pieces ≡ lines_of p ++ [] ∷ []
+read-pieces : (p : Content) (pieces : List (List ℕ)) → read_pieces pieces ≡ Ok p → pieces ≡ lines_of p ++ [] ∷ []
 read-pieces p [] e = absurd (cc)
 read-pieces p (first ∷ more) e = by_header (bytes_eq first (codes "zk 1")) refl e where
   by_more : (more : List (List ℕ)) → behind_header more ≡ Ok p → more ≡ body_lines p.decls p.written p.scripts ++ [] ∷ []
@@ -194,7 +194,7 @@ join-lines (l ∷ []) = sym (append-nil (l ++ 10 ∷ []))
 join-lines (l ∷ m ∷ lines) = ap (λ t. l ++ (10 ∷ t)) (join-lines (m ∷ lines)) ∙ sym (append_assoc l (10 ∷ []) (lines_text (m ∷ lines)))
 
 -- what is read is spelled so
-pub text_of-read : (text : List ℕ) (p : Parts) → scenario_of text ≡ Ok p → text ≡ text_of p
+pub text_of-read : (text : List ℕ) (p : Content) → scenario_of text ≡ Ok p → text ≡ text_of p
 text_of-read text p e = by_length (nat_lt 1048576 (length text)) e where
   by_length : (b : Bool) → cond b (Err (At 0 why.Length)) (read_pieces (pieces_of text)) ≡ Ok p → text ≡ text_of p
   by_length true here = absurd (cc)
@@ -202,5 +202,5 @@ text_of-read text p e = by_length (nat_lt 1048576 (length text)) e where
       sym (join_with_byte-slice_split 10 text) ∙ ap (join_with_byte 10) (read-pieces p (pieces_of text) here) ∙ join-lines (lines_of p)
 
 -- what was read is a scenario whose text is read as it
-pub IsReadable-read : (text : List ℕ) (p : Parts) → scenario_of text ≡ Ok p → IsReadable p
+pub IsReadable-read : (text : List ℕ) (p : Content) → scenario_of text ≡ Ok p → IsReadable p
 IsReadable-read text p e = record { read_back = ap scenario_of (sym (text_of-read text p e)) ∙ e }

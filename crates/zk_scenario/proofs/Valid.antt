@@ -11,12 +11,12 @@ use Rattle.zk_line.specs.declared.types.Call.TheVariants.{User}
 use Rattle.zk_line.specs.Calls.{word_of, is_user_call}
 use Rattle.zk_line.specs.declared.types.Decl.TheVariants.{Thread, Queue, Item, Sem, Msgq, Signal, Listener, Sub, Chan}
 use Rattle.zk_scenario.specs.declared.types.Script.{Script}
-use Rattle.zk_line.specs.Objects.{is_at, is_user, plays_script, is_thread, is_queue, is_item, is_sem, is_msgq, is_signal, is_listener, is_chan, is_observer, same_kind, places, number_of, player_count, observers_of}
-use Rattle.zk_scenario.specs.Parts.{Parts}
+use Rattle.zk_line.specs.Objects.{is_at, is_user, plays_script, is_thread, is_queue, is_item, is_sem, is_msgq, is_signal, is_listener, is_chan, is_observer, has_kind_of, places, number_of, player_count, observers_of}
+use Rattle.zk_scenario.specs.Content.{Content}
 use Rattle.zk_scenario.specs.Players.{players, calls_of}
 use Rattle.zk_line.specs.Fits.{decl_fits, observers_fit}
 use Rattle.zk_line.proofs.Lists.{count_by-cons}
-use Rattle.zk_scenario.specs.Valid.{IsValid, calls_pass, calls_fit, script_fits, is_supervisors, makes_user, bars, call_stands, script_stands}
+use Rattle.zk_scenario.specs.Valid.{IsValid, calls_pass, calls_fit, script_fits, is_supervisors, makes_user, forbids_call, call_stands, script_stands}
 use Rattle.zk_scenario.proofs.InOrder.{count_by-take-lt, is_at-take, permission-declared}
 use Rattle.zk_scenario.proofs.FreeLines.{calls_pass-at}
 use Rattle.zk_line.proofs.Tables.{length-places}
@@ -48,68 +48,68 @@ length-kinds (Chan name message valid own ∷ ds) =
     let d = Chan name message valid own in omega (arith, length-kinds ds, count_by-cons is_thread d ds, count_by-cons is_queue d ds, count_by-cons is_item d ds, count_by-cons is_sem d ds, count_by-cons is_msgq d ds, count_by-cons is_signal d ds, count_by-cons is_chan d ds, count_by-cons is_observer d ds)
 
 -- a valid scenario has at most 448 declarations
-pub length-decls : (p : Parts) → IsValid p → length p.decls ≤ 448
+pub length-decls : (p : Content) → IsValid p → length p.decls ≤ 448
 length-decls p valid = omega (arith, length-kinds p.decls, valid.players, valid.items, valid.sems, valid.msgqs, valid.signals, valid.chans, valid.observers)
 
-below : (test : Decl → Bool) (decls : List Decl) (object : ℕ) → ((d : Decl) → test d ≡ true → same_kind d ≡ test) → is_at test decls object ≡ true → number_of decls object < count_by test decls
+below : (test : Decl → Bool) (decls : List Decl) (object : ℕ) → ((d : Decl) → test d ≡ true → has_kind_of d ≡ test) → is_at test decls object ≡ true → number_of decls object < count_by test decls
 below test decls object kind at = at_some (slice_get decls object) refl at where
-  at_some : (o : Option Decl) → slice_get decls object ≡ o → option_map_or test o false ≡ true → option_map_or (λ d. count_by (same_kind d) (take object decls)) o 0 < count_by test decls
+  at_some : (o : Option Decl) → slice_get decls object ≡ o → option_map_or test o false ≡ true → option_map_or (λ d. count_by (has_kind_of d) (take object decls)) o 0 < count_by test decls
   at_some None e here = absurd (cc)
   at_some (Some d) e here = omega (arith, ap (λ p. count_by p (take object decls)) (kind d here), count_by-take-lt test decls object d e here)
 
 -- the number of an item is below the count of the items
 pub number_of-item : (decls : List Decl) (object : ℕ) → is_at is_item decls object ≡ true → number_of decls object < count_by is_item decls
 number_of-item decls object at = below is_item decls object kind at where
-  kind : (d : Decl) → is_item d ≡ true → same_kind d ≡ is_item
+  kind : (d : Decl) → is_item d ≡ true → has_kind_of d ≡ is_item
   kind (Item name) e = refl
   kind d e = absurd (cc)
 
 -- the number of a queue is below the count of the queues
 pub number_of-queue : (decls : List Decl) (object : ℕ) → is_at is_queue decls object ≡ true → number_of decls object < count_by is_queue decls
 number_of-queue decls object at = below is_queue decls object kind at where
-  kind : (d : Decl) → is_queue d ≡ true → same_kind d ≡ is_queue
+  kind : (d : Decl) → is_queue d ≡ true → has_kind_of d ≡ is_queue
   kind (Queue name prio on) e = refl
   kind d e = absurd (cc)
 
 -- the number of a thread is below the count of the threads
 pub number_of-thread : (decls : List Decl) (object : ℕ) → is_at is_thread decls object ≡ true → number_of decls object < count_by is_thread decls
 number_of-thread decls object at = below is_thread decls object kind at where
-  kind : (d : Decl) → is_thread d ≡ true → same_kind d ≡ is_thread
+  kind : (d : Decl) → is_thread d ≡ true → has_kind_of d ≡ is_thread
   kind (Thread name prio user) e = refl
   kind d e = absurd (cc)
 
 -- the number of a semaphore is below the count of the semaphores
 pub number_of-sem : (decls : List Decl) (object : ℕ) → is_at is_sem decls object ≡ true → number_of decls object < count_by is_sem decls
 number_of-sem decls object at = below is_sem decls object kind at where
-  kind : (d : Decl) → is_sem d ≡ true → same_kind d ≡ is_sem
+  kind : (d : Decl) → is_sem d ≡ true → has_kind_of d ≡ is_sem
   kind (Sem name initial limit raw) e = refl
   kind d e = absurd (cc)
 
 -- the number of a message queue is below the count of the message queues
 pub number_of-msgq : (decls : List Decl) (object : ℕ) → is_at is_msgq decls object ≡ true → number_of decls object < count_by is_msgq decls
 number_of-msgq decls object at = below is_msgq decls object kind at where
-  kind : (d : Decl) → is_msgq d ≡ true → same_kind d ≡ is_msgq
+  kind : (d : Decl) → is_msgq d ≡ true → has_kind_of d ≡ is_msgq
   kind (Msgq name size capacity raw) e = refl
   kind d e = absurd (cc)
 
 -- the number of a signal is below the count of the signals
 pub number_of-signal : (decls : List Decl) (object : ℕ) → is_at is_signal decls object ≡ true → number_of decls object < count_by is_signal decls
 number_of-signal decls object at = below is_signal decls object kind at where
-  kind : (d : Decl) → is_signal d ≡ true → same_kind d ≡ is_signal
+  kind : (d : Decl) → is_signal d ≡ true → has_kind_of d ≡ is_signal
   kind (Signal name raw) e = refl
   kind d e = absurd (cc)
 
 -- the number of a channel is below the count of the channels
 pub number_of-chan : (decls : List Decl) (object : ℕ) → is_at is_chan decls object ≡ true → number_of decls object < count_by is_chan decls
 number_of-chan decls object at = below is_chan decls object kind at where
-  kind : (d : Decl) → is_chan d ≡ true → same_kind d ≡ is_chan
+  kind : (d : Decl) → is_chan d ≡ true → has_kind_of d ≡ is_chan
   kind (Chan name message valid own) e = refl
   kind d e = absurd (cc)
 
 -- the number of a subscriber or a listener is below the count of both
 pub number_of-observer : (decls : List Decl) (object : ℕ) → is_at is_observer decls object ≡ true → number_of decls object < count_by is_observer decls
 number_of-observer decls object at = below is_observer decls object kind at where
-  kind : (d : Decl) → is_observer d ≡ true → same_kind d ≡ is_observer
+  kind : (d : Decl) → is_observer d ≡ true → has_kind_of d ≡ is_observer
   kind (Listener name) e = refl
   kind (Sub name capacity) e = refl
   kind d e = absurd (cc)
@@ -121,15 +121,15 @@ all_at-take test decls n (object ∷ objects) all =
     and_from (is_at test decls object) (list_all (is_at test decls) objects) (is_at-take test decls n object both.0) (all_at-take test decls n objects both.1)
 
 -- the observers of a channel are subscribers and listeners that are declared
-pub observers-valid : (p : Parts) (object : ℕ) (d : Decl) → IsValid p → slice_get p.decls object ≡ Some d → observers_fit p.decls d ≡ true
+pub observers-valid : (p : Content) (object : ℕ) (d : Decl) → IsValid p → slice_get p.decls object ≡ Some d → observers_fit p.decls d ≡ true
 observers-valid p object d valid e = all_at-take is_observer p.decls object (observers_of d) (valid.observed object d e)
 
 -- each permission is of a thread on an object that are declared
-pub permission-valid : (p : Parts) (n thread object : ℕ) → IsValid p → slice_get p.written n ≡ Some (Allow thread object) → (is_at is_thread p.decls thread ≡ true) × (object < length p.decls)
+pub permission-valid : (p : Content) (n thread object : ℕ) → IsValid p → slice_get p.written n ≡ Some (Allow thread object) → (is_at is_thread p.decls thread ≡ true) × (object < length p.decls)
 permission-valid p n thread object valid e = permission-declared p.decls p.written n thread object valid.in_order e
 
 -- each declaration is in range
-pub decl_fits-valid : (p : Parts) (object : ℕ) (d : Decl) → IsValid p → slice_get p.decls object ≡ Some d → decl_fits d ≡ true
+pub decl_fits-valid : (p : Content) (object : ℕ) (d : Decl) → IsValid p → slice_get p.decls object ≡ Some d → decl_fits d ≡ true
 decl_fits-valid p object d valid e = list_all-at decl_fits p.decls object d valid.in_range e
 
 -- what holds of no calls, and of those of each script of an object, holds of the object's calls
@@ -142,7 +142,7 @@ own_calls (s ∷ ss) owner P none each = by_owner (eqb s.owner owner) refl (own_
   by_owner false e rest = rest
 
 -- the calls of an object's script fit; those of a user are free
-pub calls_fit-calls_of : (p : Parts) (owner : ℕ) → IsValid p → calls_fit (is_at is_user p.decls owner) p.decls (calls_of p.scripts owner) ≡ true
+pub calls_fit-calls_of : (p : Content) (owner : ℕ) → IsValid p → calls_fit (is_at is_user p.decls owner) p.decls (calls_of p.scripts owner) ≡ true
 calls_fit-calls_of p owner valid = own_calls p.scripts owner (λ calls. calls_fit (is_at is_user p.decls owner) p.decls calls ≡ true) refl own where
   own : (n : ℕ) (script : Script) → slice_get p.scripts n ≡ Some script → script.owner ≡ owner → calls_fit (is_at is_user p.decls owner) p.decls script.calls ≡ true
   own n script e same =
@@ -150,14 +150,14 @@ calls_fit-calls_of p owner valid = own_calls p.scripts owner (λ calls. calls_fi
       ∙ (and_parts (is_at plays_script p.decls script.owner) (calls_fit (is_at is_user p.decls script.owner) p.decls script.calls) (list_all-at (script_fits p.decls) p.scripts n script valid.fit e)).1
 
 -- the calls of an object's script stand where they may
-calls_stand-calls_of : (p : Parts) (owner : ℕ) → IsValid p → calls_pass (call_stands p.decls owner) (is_at is_user p.decls owner) (calls_of p.scripts owner) ≡ true
+calls_stand-calls_of : (p : Content) (owner : ℕ) → IsValid p → calls_pass (call_stands p.decls owner) (is_at is_user p.decls owner) (calls_of p.scripts owner) ≡ true
 calls_stand-calls_of p owner valid = own_calls p.scripts owner (λ calls. calls_pass (call_stands p.decls owner) (is_at is_user p.decls owner) calls ≡ true) refl own where
   own : (n : ℕ) (script : Script) → slice_get p.scripts n ≡ Some script → script.owner ≡ owner → calls_pass (call_stands p.decls owner) (is_at is_user p.decls owner) script.calls ≡ true
   own n script e same =
       ap (λ k. calls_pass (call_stands p.decls k) (is_at is_user p.decls k) script.calls) (sym same) ∙ list_all-at (script_stands p.decls) p.scripts n script valid.stand e
 
 -- each call of an object's script stands where it may
-pub call_stands-at : (p : Parts) (owner next : ℕ) (call : Call) → IsValid p → slice_get (calls_of p.scripts owner) next ≡ Some call
+pub call_stands-at : (p : Content) (owner next : ℕ) (call : Call) → IsValid p → slice_get (calls_of p.scripts owner) next ≡ Some call
     → call_stands p.decls owner (is_at is_user p.decls owner || list_any is_user_call (take next (calls_of p.scripts owner))) call ≡ true
 call_stands-at p owner next call valid e =
     calls_pass-at (call_stands p.decls owner) (is_at is_user p.decls owner) (calls_of p.scripts owner) next call (calls_stand-calls_of p owner valid) e
@@ -168,7 +168,7 @@ unbarred true free listener rest e here = absurd (cc)
 unbarred false free listener rest e here = refl
 
 -- a call in a free line of a script is none of the supervisors' calls
-pub stands-next : (p : Parts) (owner next : ℕ) (call : Call) → IsValid p → slice_get (calls_of p.scripts owner) next ≡ Some call
+pub stands-next : (p : Content) (owner next : ℕ) (call : Call) → IsValid p → slice_get (calls_of p.scripts owner) next ≡ Some call
     → (is_at is_user p.decls owner || list_any is_user_call (take next (calls_of p.scripts owner))) ≡ true → is_supervisors (word_of call) ≡ false
 stands-next p owner next call valid e free =
     let loose = is_at is_user p.decls owner || list_any is_user_call (take next (calls_of p.scripts owner)) in
@@ -176,19 +176,19 @@ stands-next p owner next call valid e free =
     (call_stands-at p owner next call valid e) (ap (λ b. b || is_at is_listener p.decls owner) free)
 
 -- each script is played by a thread, an item or a listener
-pub plays_script-owner : (p : Parts) (n : ℕ) (script : Script) → IsValid p → slice_get p.scripts n ≡ Some script → is_at plays_script p.decls script.owner ≡ true
+pub plays_script-owner : (p : Content) (n : ℕ) (script : Script) → IsValid p → slice_get p.scripts n ≡ Some script → is_at plays_script p.decls script.owner ≡ true
 plays_script-owner p n script valid e =
     (and_parts (is_at plays_script p.decls script.owner) (calls_fit (is_at is_user p.decls script.owner) p.decls script.calls) (list_all-at (script_fits p.decls) p.scripts n script valid.fit e)).0
 
 -- what has the call in its script that makes its caller a user plays scripts, and it is no item and no listener
-user_owner : (p : Parts) (owner next : ℕ) (call : Call) → IsValid p → slice_get (calls_of p.scripts owner) next ≡ Some call → is_user_call call ≡ true
+user_owner : (p : Content) (owner next : ℕ) (call : Call) → IsValid p → slice_get (calls_of p.scripts owner) next ≡ Some call → is_user_call call ≡ true
     → (is_at plays_script p.decls owner ≡ true) × (is_at is_item p.decls owner ≡ false) × (is_at is_listener p.decls owner ≡ false)
 user_owner p owner next call valid e makes = (plays, barred.0, barred.1) where
   plays : is_at plays_script p.decls owner ≡ true
   plays = own_calls p.scripts owner (λ calls. slice_get calls next ≡ Some call → is_at plays_script p.decls owner ≡ true) (λ none. absurd (cc))
       (λ n script at same here. ap (is_at plays_script p.decls) (sym same) ∙ plays_script-owner p n script valid at) e
 
-  by_call : (c : Call) (free listener item : Bool) → is_user_call c ≡ true → not (bars free listener item (word_of c)) ≡ true → (item ≡ false) × (listener ≡ false)
+  by_call : (c : Call) (free listener item : Bool) → is_user_call c ≡ true → not (forbids_call free listener item (word_of c)) ≡ true → (item ≡ false) × (listener ≡ false)
   by_call User false false false is stands = (refl, refl)
   by_call User true listener item is stands = absurd (cc)
   by_call User false true item is stands = absurd (cc)
@@ -199,17 +199,17 @@ user_owner p owner next call valid e makes = (plays, barred.0, barred.1) where
   barred = by_call call (is_at is_user p.decls owner || list_any is_user_call (take next (calls_of p.scripts owner))) (is_at is_listener p.decls owner) (is_at is_item p.decls owner) makes (call_stands-at p owner next call valid e)
 
 -- whoever has the call in its script that makes its caller a user is no item
-pub user-no_item : (p : Parts) (owner next : ℕ) (call : Call) → IsValid p → slice_get (calls_of p.scripts owner) next ≡ Some call → is_user_call call ≡ true
+pub user-no_item : (p : Content) (owner next : ℕ) (call : Call) → IsValid p → slice_get (calls_of p.scripts owner) next ≡ Some call → is_user_call call ≡ true
     → is_at is_item p.decls owner ≡ false
 user-no_item p owner next call valid e makes = (user_owner p owner next call valid e makes).1
 
 -- nor a listener
-pub user-no_listener : (p : Parts) (owner next : ℕ) (call : Call) → IsValid p → slice_get (calls_of p.scripts owner) next ≡ Some call → is_user_call call ≡ true
+pub user-no_listener : (p : Content) (owner next : ℕ) (call : Call) → IsValid p → slice_get (calls_of p.scripts owner) next ≡ Some call → is_user_call call ≡ true
     → is_at is_listener p.decls owner ≡ false
 user-no_listener p owner next call valid e makes = (user_owner p owner next call valid e makes).2
 
 -- it is a thread
-pub user-owner : (p : Parts) (owner next : ℕ) (call : Call) → IsValid p → slice_get (calls_of p.scripts owner) next ≡ Some call → is_user_call call ≡ true
+pub user-owner : (p : Content) (owner next : ℕ) (call : Call) → IsValid p → slice_get (calls_of p.scripts owner) next ≡ Some call → is_user_call call ≡ true
     → is_at is_thread p.decls owner ≡ true
 user-owner p owner next call valid e makes =
     let is = user_owner p owner next call valid e makes in of_three (slice_get p.decls owner) is.0 is.1 is.2 where

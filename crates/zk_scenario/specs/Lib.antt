@@ -1,7 +1,7 @@
 pub mod Free
 pub mod Grammar
 pub mod Kept
-pub mod Parts
+pub mod Content
 pub mod Players
 pub mod Reading
 pub mod Reasons

@@ -4,7 +4,7 @@ use Rattle.zk_line.specs.declared.types.Declared.{Declared}
 use Rattle.zk_line.specs.declared.types.Declared.TheVariants.{Object, Allow}
 use Rattle.zk_line.specs.declared.types.Call.{Call}
 use Rattle.zk_scenario.specs.declared.types.Script.{Script}
-use Rattle.zk_scenario.specs.Parts.{Parts}
+use Rattle.zk_scenario.specs.Content.{Content}
 
 -- what the lines so far said: the objects, the lines of their declarations and of permissions, the scripts that have
 -- ended, and the one that is open
@@ -47,5 +47,5 @@ abbrev pub closed : Reading → Reading
 closed r = record r { scripts = all_scripts r; current = None }
 
 -- the scenario of what was read
-abbrev pub parts_of : Reading → Parts
+abbrev pub parts_of : Reading → Content
 parts_of r = record { decls = r.decls; written = r.written; scripts = all_scripts r }

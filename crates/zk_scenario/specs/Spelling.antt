@@ -9,7 +9,7 @@ use Rattle.zk_line.specs.declared.types.Ref.TheVariants.{Known}
 use Rattle.zk_line.specs.declared.types.Arg.TheVariants as arg
 use Rattle.zk_line.specs.Text.{said_line, decl_line, allow_line, call_line}
 use Rattle.zk_scenario.specs.declared.types.Script.{Script}
-use Rattle.zk_scenario.specs.Parts.{Parts}
+use Rattle.zk_scenario.specs.Content.{Content}
 
 -- the line that opens the script of an object
 abbrev pub script_line : List Decl → ℕ → List ℕ
@@ -41,7 +41,7 @@ abbrev pub body_lines : List Decl → List Declared → List Script → List (Li
 body_lines decls written scripts = map (declared_line decls) written ++ flat_map (script_lines decls) scripts
 
 -- the lines of a scenario
-abbrev pub lines_of : Parts → List (List ℕ)
+abbrev pub lines_of : Content → List (List ℕ)
 lines_of p = codes "zk 1" ∷ body_lines p.decls p.written p.scripts
 
 -- a line and its line feed
@@ -53,5 +53,5 @@ abbrev pub lines_text : List (List ℕ) → List ℕ
 lines_text lines = flat_map fed lines
 
 -- the text of a scenario
-abbrev pub text_of : Parts → List ℕ
+abbrev pub text_of : Content → List ℕ
 text_of p = lines_text (lines_of p)

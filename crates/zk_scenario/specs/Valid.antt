@@ -8,7 +8,7 @@ use Rattle.zk_line.specs.Calls.{word_of, is_user_call}
 use Rattle.zk_line.specs.Fits.{call_fits, decl_fits, AreObserved}
 use Rattle.zk_line.specs.Objects.{AreNames, is_at, is_user, plays_script, is_queue, is_item, is_sem, is_msgq, is_signal, is_listener, is_chan, is_observer, player_count}
 use Rattle.zk_scenario.specs.declared.types.Script.{Script}
-use Rattle.zk_scenario.specs.Parts.{Parts}
+use Rattle.zk_scenario.specs.Content.{Content}
 use Rattle.zk_scenario.specs.Scripts.{script_of}
 use Rattle.zk_scenario.specs.Written.{AreInOrder}
 
@@ -42,13 +42,13 @@ makes_user word = false
 
 -- whether a call may not stand in a line: a supervisor's in one that is free or in a listener's script, and one that makes
 -- its caller a user in an item's script
-abbrev pub bars : Bool → Bool → Bool → Word → Bool
-bars free listener item word = is_supervisors word && (free || listener) || makes_user word && item
+abbrev pub forbids_call : Bool → Bool → Bool → Word → Bool
+forbids_call free listener item word = is_supervisors word && (free || listener) || makes_user word && item
 
 -- whether a call may stand in the script of an object, in a line that is free or isn't
 abbrev pub call_stands : List Decl → ℕ → Bool → Call → Bool
 call_stands decls owner free call =
-    not (bars free (is_at is_listener decls owner) (is_at is_item decls owner) (word_of call))
+    not (forbids_call free (is_at is_listener decls owner) (is_at is_item decls owner) (word_of call))
 
 -- whether each call of a script stands where it may
 abbrev pub script_stands : List Decl → Script → Bool
@@ -66,7 +66,7 @@ OneEach scripts = (n : ℕ) (script : Script) → slice_get scripts n ≡ Some s
 -- within the limits, the declared names are well formed and differ, each declaration is in range, the observers of each
 -- channel are declared before it, the lines of objects and permissions are in order, each script fits, its calls stand
 -- where they may, and each object has at most one
-pub record IsValid (p : Parts) : Type 0 where
+pub record IsValid (p : Content) : Type 0 where
   pub players : player_count p.decls ≤ 64
   pub queues : count_by is_queue p.decls ≤ 8
   pub items : count_by is_item p.decls ≤ 256

@@ -19,7 +19,7 @@ use Rattle.zk_scenario.specs.declared.refused.Why.TheVariants as why
 use Rattle.zk_scenario.specs.Free.{next_is_free, is_free_line}
 use Rattle.zk_scenario.specs.Reading.{Reading, all_scripts, declared, permitted, begun, called, closed}
 use Rattle.zk_scenario.specs.Scripts.{script_of}
-use Rattle.zk_scenario.specs.Valid.{bars, call_count}
+use Rattle.zk_scenario.specs.Valid.{forbids_call, call_count}
 use Rattle.zk_scenario.specs.Written.{is_allowed}
 
 -- whether a script stands already, be it open or not
@@ -36,7 +36,7 @@ is_within test r = option_map_or (λ script. is_at test r.decls script.owner) r.
 
 -- whether a call is one that may not stand in the open script
 abbrev pub is_barred : Reading → Word → Bool
-is_barred r word = bars (next_is_free r) (is_within is_listener r) (is_within is_item r) word
+is_barred r word = forbids_call (next_is_free r) (is_within is_listener r) (is_within is_item r) word
 
 -- whether the line may not stand there: declarations and permissions stand before all scripts, calls and ends in one
 -- where they aren't barred, and a script's head outside of each, once for an object

@@ -6,7 +6,7 @@ use Rattle.zk_line.specs.declared.types.Declared.{Declared}
 use Rattle.zk_line.specs.declared.types.Declared.TheVariants.{Object, Allow}
 use Rattle.zk_line.specs.Objects.{is_at, is_thread}
 use Rattle.zk_scenario.specs.declared.pairs.Pairs.{Pairs}
-use Rattle.zk_scenario.specs.Parts.{Parts}
+use Rattle.zk_scenario.specs.Content.{Content}
 
 -- whether a line declares an object
 abbrev pub is_object : Declared → Bool
@@ -36,7 +36,7 @@ abbrev pub permissions : List Declared → List (ℕ × ℕ)
 permissions written = flat_map permission_in written
 
 -- the permissions of a scenario
-abbrev pub allowed : Parts → List (ℕ × ℕ)
+abbrev pub allowed : Content → List (ℕ × ℕ)
 allowed p = permissions p.written
 
 -- whether a line may stand behind these: it declares the next object, or allows a thread to use an object, where both

@@ -19,7 +19,7 @@ use zk_base::{Listed, NoMemory, make_room_for_one, push_within};
 use zk_line::{
     Arg, Args, Call, Decl, Declared, Objects, Ref, Wrong, call_of, decl_of, first_object,
     has_many_events, has_many_observers, is_item_at, is_listener_at, is_user_at, is_user_call,
-    permission_of, weigh,
+    judge_words, permission_of,
 };
 use zk_words::{Head, Kind, Line, Parts, Word, line_of, makes_player};
 
@@ -185,7 +185,7 @@ impl Reader {
         if self.is_misplaced(head, parts) {
             return Ok(Some(Why::Order));
         }
-        match weigh(args, &self.objects, self.is_free_line(head), head, parts)? {
+        match judge_words(args, &self.objects, self.is_free_line(head), head, parts)? {
             Some(Wrong::OutOfRange) => Ok(Some(Why::Number)),
             Some(Wrong::Misnamed) => Ok(Some(Why::Name)),
             None => {

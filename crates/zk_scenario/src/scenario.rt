@@ -1,6 +1,6 @@
 ghost use Rattle.std.specs.Prelude.{◌≡◌, ℕ, ◌≤◌, ◌++◌, length, slice_get};
 ghost use Rattle.zk_scenario.specs.Grammar.{IsReadable};
-ghost use Rattle.zk_scenario.specs.Parts.{Parts};
+ghost use Rattle.zk_scenario.specs.Content.{Content};
 ghost use Rattle.zk_line.specs.Objects.{is_thread, is_queue, is_item, is_sem, is_msgq, is_signal, is_chan, is_observer, places, number_of, object_of};
 ghost use Rattle.zk_scenario.specs.Players.{prio_of, players, who_of, calls_of};
 ghost use Rattle.zk_scenario.specs.Steps.{steps_of};
@@ -27,10 +27,10 @@ pub struct Scenario {
 
 impl Model for Scenario {
     ghost use Rattle.zk_scenario.specs.Grammar.{IsReadable};
-    ghost use Rattle.zk_scenario.specs.Parts.{Parts};
+    ghost use Rattle.zk_scenario.specs.Content.{Content};
     ghost use Rattle.zk_scenario.specs.Grammar.{IsReadable};
 
-    ghost Value = { Parts };
+    ghost Value = { Content };
 
     ghost view = { λ a. record { decls = a.objects; written = a.written.items; scripts = a.scripts } };
 

@@ -3,7 +3,7 @@ use Rattle.std.proofs.Common.{◌≡◌, ◌≢◌, ℕ, zero, suc, ◌+◌, ◌
 use Rattle.std.specs.List.{range_with_len}
 use Rattle.std.proofs.lemmas.List.{map-append}
 use Rattle.std.proofs.lemmas.List.FromFn.{length-range_with_len, get_or-range_with_len}
-use Rattle.zk_scenario.specs.Parts.{Parts}
+use Rattle.zk_scenario.specs.Content.{Content}
 use Rattle.zk_scenario.specs.Valid.{IsValid}
 use Rattle.zk_line.specs.declared.types.Decl.{Decl}
 use Rattle.zk_line.specs.Objects.{places, is_thread, is_queue, is_item}
@@ -29,13 +29,13 @@ use Rattle.zk_services.specs.Objects.{starts_of, histories_of}
 use Rattle.zk_worker.specs.Shown.{nothing_shown}
 
 -- there are few threads and queues
-pub few-threads : (s : Parts) → IsValid s → length (places is_thread s.decls) ≤ 64
+pub few-threads : (s : Content) → IsValid s → length (places is_thread s.decls) ≤ 64
 few-threads s valid = omega (arith, valid.players, length-places is_thread s.decls)
 
-pub few-queues : (s : Parts) → IsValid s → length (places is_queue s.decls) ≤ 8
+pub few-queues : (s : Content) → IsValid s → length (places is_queue s.decls) ≤ 8
 few-queues s valid = omega (arith, valid.queues, length-places is_queue s.decls)
 
-pub few-items : (s : Parts) → IsValid s → length (places is_item s.decls) ≤ 256
+pub few-items : (s : Content) → IsValid s → length (places is_item s.decls) ≤ 256
 few-items s valid = omega (arith, valid.items, length-places is_item s.decls)
 
 -- one number more of a row
@@ -56,12 +56,12 @@ range_differs a n = λ i j d less within same.
     omega arith
 
 -- there are few workers
-pub few-workers : (s : Parts) → IsValid s → length (workers s.decls) ≤ 8
+pub few-workers : (s : Content) → IsValid s → length (workers s.decls) ≤ 8
 few-workers s valid =
     omega (arith, few-queues s valid, length-range_with_len (length (places is_thread s.decls)) (length (places is_queue s.decls)))
 
 -- services that start as those of a scenario do have its machines
-pub machines-first : (s : Parts) (p : Plain) →
+pub machines-first : (s : Content) (p : Plain) →
     work_start p.work ≡ work_start_of s → p.items.items ≡ items_of s.decls → clock_start p.clock ≡ new_clock →
     objects_start p.table ≡ new_table (setup_of s) →
     starts_of sem_start p.sems.items ≡ map machines.sem_start s.decls →
@@ -73,7 +73,7 @@ pub machines-first : (s : Parts) (p : Plain) →
 machines-first s p same_work same_items same_clock same_table same_sems same_msgqs same_signals same_chans same_observers = cc
 
 -- and show nothing
-pub shown-first : (s : Parts) (p : Plain) →
+pub shown-first : (s : Content) (p : Plain) →
     work_history p.work ≡ [] → clock_history p.clock ≡ [] → objects_history p.table ≡ [] →
     histories_of sem_history p.sems.items ≡ no_entries s.decls →
     histories_of msgq_history p.msgqs.items ≡ no_entries s.decls →

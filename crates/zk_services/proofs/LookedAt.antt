@@ -25,7 +25,7 @@ use Rattle.zk_worker.specs.declared.steps.StepReply.TheVariants as step_replies
 use Rattle.zk_worker.specs.Attempt.{reply_in, Attempted}
 use Rattle.zk_worker.specs.Machines.{Machines}
 use Rattle.zk_worker.specs.Shown.{Shown, shown_after}
-use Rattle.zk_worker.specs.Looks.{looks_at, found_by, look, look_at}
+use Rattle.zk_worker.specs.Looks.{looks_at, found_by, look_reply, look_at}
 use Rattle.zk_worker.proofs.Looking.{reads-whole}
 use Rattle.zk_worker.proofs.SignalWrites.{seen-state}
 use Rattle.zk_services.specs.Objects.{history_of, histories_of}
@@ -43,12 +43,12 @@ there-read {A} xs ys i x y same within read is =
 
 -- what a look at a signal is answered, by what its service has seen
 pub signal-told : {V : Type 0} (start : V → Signal) (history : V → List (Entry SignalOp SignalReply)) (signals : List (Option V)) (object : ℕ) (must : Bool) (service : V) (seen : Seen) (result : Option StepReply) →
-    slice_get signals object ≡ Some (Some service) → seen ≡ signal_seen (state_after signal_machine (start service) (history service)) → start service ≡ new_signal → result ≡ look must seen →
+    slice_get signals object ≡ Some (Some service) → seen ≡ signal_seen (state_after signal_machine (start service) (history service)) → start service ≡ new_signal → result ≡ look_reply must seen →
     look_at None (histories_of history signals) object must ≡ result
 signal-told {V} start history signals object must service seen result there found fresh is =
-    ap (λ (o : Option (List (Entry SignalOp SignalReply))). option_and_then (λ h. option_and_then (look must) (found_by (looks_at None object) h)) o)
+    ap (λ (o : Option (List (Entry SignalOp SignalReply))). option_and_then (λ h. option_and_then (look_reply must) (found_by (looks_at None object) h)) o)
     (slice_get-map (history_of history) signals object ∙ ap (option_map (history_of history)) there)
-    ∙ ap (look must) (sym (found ∙ seen-state (start service) (history service) fresh))
+    ∙ ap (look_reply must) (sym (found ∙ seen-state (start service) (history service) fresh))
     ∙ sym is
 
 -- the word of an item that is in range is what a look at it is answered

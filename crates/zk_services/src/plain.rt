@@ -1,7 +1,7 @@
 ghost use Rattle.std.specs.Prelude.{◌≡◌, true, Some, IfOk};
 ghost use Rattle.zk_base.specs.declared.ids.Who.{Who};
-ghost use Rattle.zk_worker.specs.Attempt.{reply_in, takes};
-ghost use Rattle.zk_worker.specs.Looks.{look};
+ghost use Rattle.zk_worker.specs.Attempt.{reply_in, is_in_range};
+ghost use Rattle.zk_worker.specs.Looks.{look_reply};
 ghost use Rattle.zk_services.specs.Alone.{plain_machines, plain_shown};
 
 use crate::objects::{act_at, histories_of};
@@ -93,7 +93,7 @@ impl Plain {
 
     /// The busy flags of the item of this object number, and how many entries the work service has.
     fn look_at_item(&self, object: u32) -> StepReply
-        requires { takes (plain_machines self.now) (Step.LookItem object) ≡ true }
+        requires { is_in_range (plain_machines self.now) (Step.LookItem object) ≡ true }
         ensures { (who : Who) →
             reply_in (plain_machines self.now) (plain_shown self.now) who (Step.LookItem object) ≡ Some result }
     {
@@ -106,7 +106,7 @@ impl Plain {
 
     /// What was last written to the signal of this object number. Nothing comes where it has to be raised and isn't.
     fn look_at_signal(&self, object: u32, must: bool) -> Option<StepReply>
-        requires { takes (plain_machines self.now) (Step.LookSignal object must) ≡ true }
+        requires { is_in_range (plain_machines self.now) (Step.LookSignal object must) ≡ true }
         ensures { (who : Who) →
             reply_in (plain_machines self.now) (plain_shown self.now) who (Step.LookSignal object must) ≡ result }
     {
@@ -119,7 +119,7 @@ impl Plain {
 
 /// What a look that found this is answered: nothing where it has to find the signal raised and doesn't.
 fn told(must: bool, seen: Seen) -> Option<StepReply>
-    ensures { result ≡ look must seen }
+    ensures { result ≡ look_reply must seen }
 {
     if must && !seen.raised {
         return None;

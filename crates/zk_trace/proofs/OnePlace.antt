@@ -13,7 +13,7 @@ use Rattle.zk_line.specs.declared.types.Decl.{Decl}
 use Rattle.zk_model_bus.specs.declared.channel.ChanOp.TheVariants as chan_ops
 use Rattle.zk_model_wait.specs.declared.clock.ClockOp.TheVariants as clock_ops
 use Rattle.zk_model_work.specs.declared.ops.WorkOp.TheVariants as work_ops
-use Rattle.zk_scenario.specs.Parts.{Parts}
+use Rattle.zk_scenario.specs.Content.{Content}
 use Rattle.zk_scenario.specs.Players.{calls_of}
 use Rattle.zk_words.specs.declared.timeout.Timeout.{Timeout}
 use Rattle.zk_words.specs.declared.timeout.Timeout.TheVariants.{No, Forever, Ticks}
@@ -39,7 +39,7 @@ use Rattle.zk_worker.specs.declared.steps.StepReply.{StepReply}
 use Rattle.zk_worker.specs.declared.steps.StepReply.TheVariants as step_replies
 use Rattle.zk_worker.specs.Calls.{plan_of, closing_step, plan_attempts}
 use Rattle.zk_worker.specs.Follows.{Stands, IsPlayed, IsFollowing}
-use Rattle.zk_worker.specs.Places.{At}
+use Rattle.zk_worker.specs.Places.{PlayerPlace}
 use Rattle.zk_worker.specs.Polls.{poll_attempts, polling, watching, watch_step, alarm_steps, asking, dropping, asks_more, is_closing, registers, fresh}
 use Rattle.zk_worker.specs.Protocol.{IsAhead, after, call_attempts, frames_attempts, role_attempts, worker_attempts}
 use Rattle.zk_worker.specs.Publishes.{asks_for, use_step, visit_step, channel_attempts}
@@ -142,14 +142,14 @@ worker-alike queue stages.Start = one-alike (steps.Work (work_ops.Begin queue))
 worker-alike queue stages.Runs = one-alike (steps.Work (work_ops.End queue))
 worker-alike queue stage = none-alike
 
-frames-alike : (s : Parts) (frames : List Frame) → AreAlike (frames_attempts s frames)
+frames-alike : (s : Content) (frames : List Frame) → AreAlike (frames_attempts s frames)
 frames-alike s [] = none-alike
 frames-alike s (frame ∷ below) = by frame.role where
   by : (role : Role) → AreAlike (role_attempts s role frame.next frame.stage)
   by (Script owner) = call-alike s.decls (slice_get (calls_of s.scripts owner) frame.next) frame.stage
   by (Worker queue) = worker-alike (number_of s.decls queue) frame.stage
 
-own-musts : (s : Parts) (at : At) (object : ℕ) (must : Bool) → IsAhead s at (steps.LookSignal object must) → must ≡ (frames-alike s at.frames).0
+own-musts : (s : Content) (at : PlayerPlace) (object : ℕ) (must : Bool) → IsAhead s at (steps.LookSignal object must) → must ≡ (frames-alike s at.frames).0
 own-musts s at object must ahead = by (one-or-other s at (steps.LookSignal object must) ahead) where
   by : IsCheck s at (steps.LookSignal object must) ⊎ IsOwn s at (steps.LookSignal object must) → must ≡ (frames-alike s at.frames).0
   by (inl is) = absurd (let check = is.is_step in cc)
@@ -160,7 +160,7 @@ own-musts s at object must ahead = by (one-or-other s at (steps.LookSignal objec
 -- The place.
 
 -- a spot stands for one step of a player at a place
-step-same : (s : Parts) (shown : Shown) (at : At) (spot : Spot) (a b : Step × StepReply) → IsAhead s at a.0 → IsAhead s at b.0 → Stands shown spot a → Stands shown spot b → a ≡ b
+step-same : (s : Content) (shown : Shown) (at : PlayerPlace) (spot : Spot) (a b : Step × StepReply) → IsAhead s at a.0 → IsAhead s at b.0 → Stands shown spot a → Stands shown spot b → a ≡ b
 step-same s shown at (spots.LookItem object flags place) a b first second one two = one ∙ sym two
 step-same s shown at (spots.LookSignal object seen) a b first second one two =
     let here : one.0 ≡ two.0 = own-musts s at object one.0 (subst (λ (m : Step × StepReply). IsAhead s at m.0) one.1 first)
@@ -168,7 +168,7 @@ step-same s shown at (spots.LookSignal object seen) a b first second one two =
     one.1 ∙ ap (λ (must : Bool). (steps.LookSignal object must, step_replies.Seen seen)) here ∙ sym two.1
 step-same s shown at spot a b first second one two = same_Some {A = Step × StepReply} a b (sym one ∙ two)
 
-same-end : (s : Parts) (shown : Shown) (log : List Spot) (made other : List (Step × StepReply)) (at a b : At) → AllZip (Stands shown) log made → AllZip (Stands shown) log other →
+same-end : (s : Content) (shown : Shown) (log : List Spot) (made other : List (Step × StepReply)) (at a b : PlayerPlace) → AllZip (Stands shown) log made → AllZip (Stands shown) log other →
     IsPlayed s at made a → IsPlayed s at other b → a ≡ b
 same-end s shown [] [] [] at a b one two led also = sym led ∙ also
 same-end s shown [] [] (n ∷ other) at a b one two led also = absurd two
@@ -181,8 +181,8 @@ same-end s shown (spot ∷ log) (m ∷ made) (n ∷ other) at a b one two led al
     (subst (λ (x : Step × StepReply). IsPlayed s (after s at x.0 x.1) other b) (sym same) also.1)
 
 -- two places that a player's spots lead to are one
-pub one-place : (s : Parts) (number : ℕ) (shown : Shown) (a b : At) → IsFollowing s number shown a → IsFollowing s number shown b → a.spots ≡ b.spots → a ≡ b
+pub one-place : (s : Content) (number : ℕ) (shown : Shown) (a b : PlayerPlace) → IsFollowing s number shown a → IsFollowing s number shown b → a.spots ≡ b.spots → a ≡ b
 one-place s number shown a b one two same =
     let start = same_Some one.start two.start (sym one.starts ∙ two.starts) in
     same-end s shown a.spots one.made two.made one.start a b one.stands (subst (λ (l : List Spot). AllZip (Stands shown) l two.made) (sym same) two.stands) one.played
-    (subst (λ (x : At). IsPlayed s x two.made b) (sym start) two.played)
+    (subst (λ (x : PlayerPlace). IsPlayed s x two.made b) (sym start) two.played)

@@ -2,7 +2,7 @@ use Rattle.std.specs.Prelude.{◌≡◌, Option, Some, None, List, []}
 use Rattle.std.specs.List.{AllZip}
 use Rattle.zk_base.specs.declared.ids.Entry.{Entry}
 use Rattle.zk_base.specs.Legal.{Machine, IsLegal}
-use Rattle.zk_scenario.specs.Parts.{Parts}
+use Rattle.zk_scenario.specs.Content.{Content}
 use Rattle.zk_model_bus.specs.Table.{new_table, table_machine}
 use Rattle.zk_model_wait.specs.Clock.{new_clock, clock_machine}
 use Rattle.zk_model_work.specs.Machine.{work_machine}
@@ -21,7 +21,7 @@ abbrev pub EachLegal : {S O R : Type 0} → Family S O R → List (List (Entry O
 EachLegal family histories = AllZip (IsLegalAt family.machine) family.starts histories
 
 -- the machine of each service lets its history stand, entry for entry, and each player's entries rise in step
-pub record AreLegal (s : Parts) (t : Trace) : Type 0 where
+pub record AreLegal (s : Content) (t : Trace) : Type 0 where
   pub work : IsLegal work_machine (work_start_of s) t.work
   pub clock : IsLegal clock_machine new_clock t.clock
   pub table : IsLegal table_machine (new_table (setup_of s)) t.table

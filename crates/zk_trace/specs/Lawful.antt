@@ -1,4 +1,4 @@
-use Rattle.zk_scenario.specs.Parts.{Parts}
+use Rattle.zk_scenario.specs.Content.{Content}
 use Rattle.zk_trace.specs.declared.trace.Trace.{Trace}
 use Rattle.zk_trace.specs.Place.{IsPlaced}
 use Rattle.zk_trace.specs.History.{AreLegal}
@@ -7,7 +7,7 @@ use Rattle.zk_trace.specs.Look.{AreRight}
 use Rattle.zk_trace.specs.Ending.{EndsSo}
 
 -- a trace is lawful for a scenario
-pub record IsLawful (s : Parts) (t : Trace) : Type 0 where
+pub record IsLawful (s : Content) (t : Trace) : Type 0 where
   -- each step stands in one entry or look
   pub place : IsPlaced s t
   -- the histories are those of the services

@@ -1,5 +1,5 @@
 use Rattle.std.specs.Prelude.{◌≡◌, ℕ, ◌≤◌, false, Some, length, slice_get, option_and_then}
-use Rattle.zk_scenario.specs.Parts.{Parts}
+use Rattle.zk_scenario.specs.Content.{Content}
 use Rattle.zk_scenario.specs.Steps.{steps_of}
 use Rattle.zk_worker.specs.declared.steps.Spot.{Spot}
 use Rattle.zk_worker.specs.declared.log.Log.{Log}
@@ -9,7 +9,7 @@ use Rattle.zk_trace.specs.Looked.{item_looks_of, signal_looks_of}
 use Rattle.zk_trace.specs.Shown.{trace_shown}
 
 -- each step of each player stands in exactly one entry or look
-pub record IsPlaced (s : Parts) (t : Trace) : Type 0 where
+pub record IsPlaced (s : Content) (t : Trace) : Type 0 where
   -- no player makes more steps than it may
   pub short : (number : ℕ) (log : Log) → slice_get t.logs number ≡ Some log →
       length log.steps ≤ steps_of s

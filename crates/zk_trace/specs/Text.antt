@@ -5,7 +5,7 @@ use Rattle.zk_base.specs.declared.ids.Entry.{Entry}
 use Rattle.zk_words.specs.Text.{line_text}
 use Rattle.zk_line.specs.declared.types.Decl.{Decl}
 use Rattle.zk_line.specs.Objects.{name_at}
-use Rattle.zk_scenario.specs.Parts.{Parts}
+use Rattle.zk_scenario.specs.Content.{Content}
 use Rattle.zk_worker.specs.declared.answers.Answered.{Answered}
 use Rattle.zk_worker.specs.declared.log.Log.{Log}
 use Rattle.zk_worker.specs.declared.log.PlayerState.{PlayerState}
@@ -103,7 +103,7 @@ player_sections decls player (log ∷ logs) =
     player_section decls player log ++ player_sections decls (player + 1) logs
 
 -- the sections of the services of which there is one: of the work service, the clock and the object table
-abbrev pub single_sections : Parts → Trace → List ℕ
+abbrev pub single_sections : Content → Trace → List ℕ
 single_sections s t =
     looked_section work.op_words work.reply_words item_look_line s.decls (codes "work") t.work t.item_looks
     ++ service_section clock.op_words clock.reply_words s.decls (codes "clock") t.clock
@@ -111,7 +111,7 @@ single_sections s t =
 
 -- the sections of the services: of those of which there is one, of the semaphores, the message queues, the signals, the
 -- channels and the observers
-abbrev pub service_sections : Parts → Trace → List ℕ
+abbrev pub service_sections : Content → Trace → List ℕ
 service_sections s t =
     single_sections s t
     ++ object_sections sem.op_words sem.reply_words s.decls 0 t.sems
@@ -121,7 +121,7 @@ service_sections s t =
     ++ object_sections obs.op_words obs.reply_words s.decls 0 t.observers
 
 -- the trace part of the output: its head, the ending, the services and the players
-abbrev pub trace_text : Parts → Trace → List ℕ
+abbrev pub trace_text : Content → Trace → List ℕ
 trace_text s t =
     line (codes "zt" ∷ codes "1" ∷ []) ++ line (ending_word t.ending ∷ [])
     ++ service_sections s t ++ player_sections s.decls 0 t.logs

@@ -18,7 +18,7 @@ use Rattle.zk_model_work.specs.declared.parts.Closing.TheVariants as closings
 use Rattle.zk_model_work.specs.declared.parts.Wait.{Wait}
 use Rattle.zk_model_work.specs.declared.parts.Item.{Item}
 use Rattle.zk_model_work.specs.Questions.{is_waiting, is_running, is_open, is_ended, waits_as, runs_as, is_open_as, waiting, running, armed, is_flushing, flushes, passes_at, item_of as machine_item}
-use Rattle.zk_model_work.specs.Answers.{flushed, wait_for, is_unanswered, closes, flags, comes}
+use Rattle.zk_model_work.specs.Answers.{flushed, wait_for, is_unanswered, closes, flags, is_awaited_over}
 use Rattle.zk_model_work.specs.Machine.{flags_of, has_come, may_close, answer_where, answer_one, answered_waits}
 use Rattle.zk_model_work.specs.State.{State}
 use Rattle.zk_model_work.proofs.Overlaps.{position-none}
@@ -306,11 +306,11 @@ module _ (k : EngineState) (s : State) (st : StandsFor k s) where
           come : (closing : Closing) (awaited : Awaited) (answered : Bool) →
               has_come s.admissions s.queues closing awaited ≡ true → is_there s.admissions awaited answered ≡ true →
               is_there s.admissions awaited true ≡ true
-          come closing (Cancel n) answered comes is = is
-          come closing (Drain queue count) answered comes is = refl
-          come closings.Flush (Flush n) answered comes is = comes
-          come closings.Cancel (Flush n) answered comes is = absurd (cc)
-          come closings.Drain (Flush n) answered comes is = absurd (cc)
+          come closing (Cancel n) answered came is = is
+          come closing (Drain queue count) answered came is = refl
+          come closings.Flush (Flush n) answered came is = came
+          come closings.Cancel (Flush n) answered came is = absurd (cc)
+          come closings.Drain (Flush n) answered came is = absurd (cc)
 
           by : (c : Bool) → closes (has_come s.admissions s.queues closing) who place w ≡ c →
               is_there s.admissions w.awaited w.answered ≡ true →

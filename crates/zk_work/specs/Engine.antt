@@ -16,7 +16,7 @@ use Rattle.zk_model_work.specs.declared.ops.Submitted.{Submitted}
 use Rattle.zk_model_work.specs.declared.ops.Expiry.{Expiry}
 use Rattle.zk_model_work.specs.declared.ops.WorkReply.{WorkReply}
 use Rattle.zk_model_work.specs.declared.ops.WorkReply.TheVariants.{Sub, Flags, Truth, Number, Done, Now, Run}
-use Rattle.zk_model_work.specs.Answers.{submission, admitted_to, flags, is_pending, cancel_start_reply, flush_start_reply, delay_reply, schedule_reply, remaining, drain_reply, start_reply, unplug_reply, cancel_wait, flushed, flush_wait, drain_wait, comes, closes, is_worker}
+use Rattle.zk_model_work.specs.Answers.{submission, admitted_to, flags, is_pending, cancel_start_reply, flush_start_reply, delay_reply, schedule_reply, remaining, drain_reply, start_reply, unplug_reply, cancel_wait, flushed, flush_wait, drain_wait, is_awaited_over, closes, is_worker}
 use Rattle.zk_model_work.specs.Machine.{settle_from, change, drain, awaiting}
 use Rattle.zk_time.specs.declared.timeout.Timeout.{Timeout}
 use Rattle.zk_time.specs.Timeouts.{is_armed, deadline_of, queue_of, count_due, arm, disarm, due_first, drop_due}
@@ -152,7 +152,7 @@ is_over o number = not (is_open o number)
 
 -- what is awaited has come: what has begun and is open no longer has ended
 abbrev pub has_come : Open → List Queue → Closing → Awaited → Bool
-has_come o queues closing awaited = comes (is_over o) (is_over o) queues closing awaited
+has_come o queues closing awaited = is_awaited_over (is_over o) (is_over o) queues closing awaited
 
 -- there is an unanswered wait of the player of this place, and what it awaits has come
 abbrev pub may_close : EngineState → Closing → Who → ℕ → Bool

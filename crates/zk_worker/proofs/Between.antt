@@ -30,7 +30,7 @@ use Rattle.zk_worker.specs.Follows.{Stands}
 use Rattle.zk_worker.specs.Single.{step_of, OthersGrew}
 use Rattle.zk_worker.specs.Families.{entry_at, EachGrew}
 use Rattle.zk_worker.specs.Looks.{Longer, LooksGrew, LookedBelow}
-use Rattle.zk_worker.specs.Shown.{Shown, nothing_shown, shown_at, ShowsLog, IsLater, AreShort, AllGrew, Between}
+use Rattle.zk_worker.specs.Shown.{Shown, nothing_shown, shown_at, ShowsLog, IsLater, AreShort, AllGrew, OnlyOthersCame}
 use Rattle.zk_worker.proofs.Lists.{known-longer, known-back, known-there}
 use Rattle.zk_worker.proofs.Families.{of-object, none-there}
 
@@ -142,7 +142,7 @@ looks-both (Some o) (Some m) None first then_ = absurd then_
 looks-both (Some o) (Some m) (Some n) first then_ = longer-both_each o m n first then_
 
 -- nothing comes between a moment and itself
-pub between-none : (alone : Bool) (number : ℕ) (shown : Shown) → Between alone number shown shown
+pub between-none : (alone : Bool) (number : ℕ) (shown : Shown) → OnlyOthersCame alone number shown shown
 between-none true number shown = refl
 between-none false number shown = record {
   work = grew-none number shown.work;
@@ -158,7 +158,7 @@ between-none false number shown = record {
 }
 
 -- what comes between two moments, and then between the second and a third
-pub between-both : (alone : Bool) (number : ℕ) (old mid new : Shown) → Between alone number old mid → Between alone number mid new → Between alone number old new
+pub between-both : (alone : Bool) (number : ℕ) (old mid new : Shown) → OnlyOthersCame alone number old mid → OnlyOthersCame alone number mid new → OnlyOthersCame alone number old new
 between-both true number old mid new first then_ = then_ ∙ first
 between-both false number old mid new first then_ = record {
   work = grew-both number old.work mid.work new.work first.work then_.work;
@@ -174,7 +174,7 @@ between-both false number old mid new first then_ = record {
 }
 
 -- histories that have room have it still where nothing came between
-pub short-still : (alone : Bool) (number : ℕ) (old new : Shown) → (alone ≡ true → AreShort old) → Between alone number old new → alone ≡ true → AreShort new
+pub short-still : (alone : Bool) (number : ℕ) (old new : Shown) → (alone ≡ true → AreShort old) → OnlyOthersCame alone number old new → alone ≡ true → AreShort new
 short-still true number old new short nothing is = subst (λ (s : Shown). AreShort s) (sym nothing) (short is)
 short-still false number old new short others is = absurd (cc)
 
@@ -242,7 +242,7 @@ shown-back number step old new (spots.LookItem object flags at) grew is = is
 shown-back number step old new (spots.LookSignal object seen) grew is = is
 
 -- a log is shown as before
-pub log-still : (alone : Bool) (number : ℕ) (log : List Spot) (old new : Shown) → ShowsLog old number log → Between alone number old new → ShowsLog new number log
+pub log-still : (alone : Bool) (number : ℕ) (log : List Spot) (old new : Shown) → ShowsLog old number log → OnlyOthersCame alone number old new → ShowsLog new number log
 log-still true number log old new shows nothing = subst (λ (s : Shown). ShowsLog s number log) (sym nothing) shows
 log-still false number log old new shows grew = record {
   each = λ step spot is not_look. shown-longer number old new spot (number, step) grew (shows.each step spot is not_look);

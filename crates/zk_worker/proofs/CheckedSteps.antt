@@ -3,7 +3,7 @@ use Rattle.std.proofs.Common.{◌≡◌, ◌⊎◌, inl, inr, ℕ, ◌≤◌, Op
 use Rattle.std.specs.List.{slice_get}
 use Rattle.zk_base.proofs.Lists.{slice_get-one, cond_nil-at}
 use Rattle.zk_model_bus.specs.declared.table.OopsWhy.{OopsWhy}
-use Rattle.zk_scenario.specs.Parts.{Parts}
+use Rattle.zk_scenario.specs.Content.{Content}
 use Rattle.zk_words.specs.declared.word.Word.{Word}
 use Rattle.zk_worker.specs.declared.checks.Check.{Check}
 use Rattle.zk_scenario.specs.Steps.{steps_of}
@@ -18,26 +18,26 @@ use Rattle.zk_worker.specs.declared.frames.Role.TheVariants.{Script}
 use Rattle.zk_worker.specs.declared.frames.Stage.{Stage}
 use Rattle.zk_worker.specs.declared.frames.Stage.TheVariants.{Start}
 use Rattle.zk_worker.specs.Checks.{role_check, top_check, next_check, check_step, oops_in}
-use Rattle.zk_worker.specs.Places.{At}
+use Rattle.zk_worker.specs.Places.{PlayerPlace}
 use Rattle.zk_worker.specs.Protocol.{IsAhead, after, after_by, checks_first, checked, frames_attempts, frames_progress, moved, spot_of}
 
 -- the check that comes next, at a place of a player
-abbrev pub check_at : Parts → At → Option Check
+abbrev pub check_at : Content → PlayerPlace → Option Check
 check_at s at = next_check s at.mode at.passed at.frames
 
 -- the step is the check that comes next
-pub record IsCheck (s : Parts) (at : At) (step : Step) : Type 0 where
+pub record IsCheck (s : Content) (at : PlayerPlace) (step : Step) : Type 0 where
   pub check : Check
   pub comes : check_at s at ≡ Some check
   pub is_step : check_step check ≡ step
 
 -- no check comes next, and the step is an attempt of the innermost open script or run
-pub record IsOwn (s : Parts) (at : At) (step : Step) : Type 0 where
+pub record IsOwn (s : Content) (at : PlayerPlace) (step : Step) : Type 0 where
   pub none : check_at s at ≡ None
   pub index : ℕ
   pub ahead : slice_get (frames_attempts s at.frames) index ≡ Some step
 
-pub one-or-other : (s : Parts) (at : At) (step : Step) → IsAhead s at step → IsCheck s at step ⊎ IsOwn s at step
+pub one-or-other : (s : Content) (at : PlayerPlace) (step : Step) → IsAhead s at step → IsCheck s at step ⊎ IsOwn s at step
 one-or-other s at step ahead = by (check_at s at) refl where
   by : (check : Option Check) → check_at s at ≡ check → IsCheck s at step ⊎ IsOwn s at step
   by (Some check) is = inl (record {
@@ -54,7 +54,7 @@ one-or-other s at step ahead = by (check_at s at) refl where
   })
 
 -- what holds after a check, and after a step of the innermost open script or run, holds after each step
-pub turn : (P : At → Type 0) (s : Parts) (at : At) (step : Step) (reply : StepReply) → IsAhead s at step →
+pub turn : (P : PlayerPlace → Type 0) (s : Content) (at : PlayerPlace) (step : Step) (reply : StepReply) → IsAhead s at step →
     ((is : IsCheck s at step) → P (checked at is.check.word (oops_in reply) (spot_of step reply))) →
     (IsOwn s at step → P (moved s at step (frames_progress s at.frames step reply) (spot_of step reply))) → P (after s at step reply)
 turn P s at step reply ahead check own = by (one-or-other s at step ahead) where
@@ -63,7 +63,7 @@ turn P s at step reply ahead check own = by (one-or-other s at step ahead) where
   by (inr is) = subst (λ (c : Option Check). P (after_by s at step reply c)) (sym is.none) (own is)
 
 -- a player stays who it is, and its step is recorded
-pub after-spots : (s : Parts) (at : At) (step : Step) (reply : StepReply) →
+pub after-spots : (s : Content) (at : PlayerPlace) (step : Step) (reply : StepReply) →
     ((after s at step reply).who ≡ at.who) × ((after s at step reply).spots ≡ at.spots ++ spot_of step reply ∷ [])
 after-spots s at step reply = by (check_at s at) where
   by_why : (word : Word) (why : Option OopsWhy) (spot : Spot) → ((checked at word why spot).who ≡ at.who) × ((checked at word why spot).spots ≡ at.spots ++ spot ∷ [])
@@ -75,12 +75,12 @@ after-spots s at step reply = by (check_at s at) where
   by None = (refl, refl)
 
 -- only a user's call is at its checks, and it is the innermost
-pub check-of-top : (s : Parts) (mode : Mode) (passed : ℕ) (frames : List Frame) (check : Check) → next_check s mode passed frames ≡ Some check → top_check s passed frames ≡ Some check
+pub check-of-top : (s : Content) (mode : Mode) (passed : ℕ) (frames : List Frame) (check : Check) → next_check s mode passed frames ≡ Some check → top_check s passed frames ≡ Some check
 check-of-top s User passed frames check is = is
 check-of-top s mode passed frames check is = absurd (cc)
 
 -- it has made no other step
-pub check-starts : (s : Parts) (passed : ℕ) (role : Role) (next : ℕ) (stage : Stage) (check : Check) → role_check s passed role next stage ≡ Some check → stage ≡ Start
+pub check-starts : (s : Content) (passed : ℕ) (role : Role) (next : ℕ) (stage : Stage) (check : Check) → role_check s passed role next stage ≡ Some check → stage ≡ Start
 check-starts s passed (Script owner) next Start check is = refl
 check-starts s passed role next stage check is = absurd (cc)
 

@@ -13,7 +13,7 @@ use Rattle.zk_line.specs.declared.types.Call.TheVariants as calls
 use Rattle.zk_line.specs.Objects.{places, is_queue, is_item, is_sem, is_msgq, is_signal, is_chan, is_observer, is_met, can_be_raw, number_of, is_at, size_at}
 use Rattle.zk_scenario.specs.Players.{calls_of}
 use Rattle.zk_base.specs.declared.kinds.Need.TheVariants as need
-use Rattle.zk_scenario.specs.Parts.{Parts}
+use Rattle.zk_scenario.specs.Content.{Content}
 use Rattle.zk_model_bus.specs.declared.channel.ChanOp.TheVariants as chan_ops
 use Rattle.zk_model_wait.specs.declared.clock.ClockOp.TheVariants as clock_ops
 use Rattle.zk_model_work.specs.declared.ops.WorkOp.TheVariants as ops
@@ -385,13 +385,13 @@ worker_attempts-fit decls queue stages.Runs k step fits is = one-fits decls (ste
 worker_attempts-fit decls queue stage k step fits is = absurd (cc)
 
 -- the next call of a script, where it has the objects that it needs
-call-met : (s : Parts) (owner next : ℕ) → HasObjects s (roles.Script owner) next → option_map_or (call_fits false s.decls) (slice_get (calls_of s.scripts owner) next) true ≡ true
+call-met : (s : Content) (owner next : ℕ) → HasObjects s (roles.Script owner) next → option_map_or (call_fits false s.decls) (slice_get (calls_of s.scripts owner) next) true ≡ true
 call-met s owner next met = by (slice_get (calls_of s.scripts owner) next) refl where
   by : (o : Option Call) → slice_get (calls_of s.scripts owner) next ≡ o → option_map_or (call_fits false s.decls) o true ≡ true
   by None there = refl
   by (Some call) there = met call there
 
-role_attempts-fit : (s : Parts) (role : Role) (next : ℕ) (stage : Stage) (k : ℕ) (step : Step) → HasObjects s role next →
+role_attempts-fit : (s : Content) (role : Role) (next : ℕ) (stage : Stage) (k : ℕ) (step : Step) → HasObjects s role next →
     role_fits s.decls role ≡ true → StageFits s.decls stage → slice_get (role_attempts s role next stage) k ≡ Some step → step_fits s.decls step ≡ true
 role_attempts-fit s (roles.Script owner) next stage k step met fits at is =
     call_attempts-fit s.decls (slice_get (calls_of s.scripts owner) next) stage k step (call-met s owner next met) at is
@@ -399,19 +399,19 @@ role_attempts-fit s (roles.Worker queue) next stage k step met fits at is =
     worker_attempts-fit s.decls (number_of s.decls queue) stage k step (queue-fits s.decls queue fits) is
 
 -- that of the innermost open script has them
-abbrev pub TopHasObjects : Parts → List Frame → Type 0
+abbrev pub TopHasObjects : Content → List Frame → Type 0
 TopHasObjects s [] = Unit {0}
 TopHasObjects s (frame ∷ below) = HasObjects s frame.role frame.next
 
 -- each attempt of what is open names what is declared
-pub frames_attempts-fit : (s : Parts) (frames : List Frame) (k : ℕ) (step : Step) → TopHasObjects s frames →
+pub frames_attempts-fit : (s : Content) (frames : List Frame) (k : ℕ) (step : Step) → TopHasObjects s frames →
     FramesFit s.decls frames → slice_get (frames_attempts s frames) k ≡ Some step → step_fits s.decls step ≡ true
 frames_attempts-fit s [] k step met fits is = absurd (cc)
 frames_attempts-fit s (frame ∷ below) k step met fits is =
     let here = All-head (FrameFits s.decls) frame below fits in
     role_attempts-fit s frame.role frame.next frame.stage k step met here.0 here.1 is
 
-pub frames_after-fit : (s : Parts) (frames : List Frame) (progress : Progress) → FramesFit s.decls frames → ProgressFits s.decls progress →
+pub frames_after-fit : (s : Content) (frames : List Frame) (progress : Progress) → FramesFit s.decls frames → ProgressFits s.decls progress →
     FramesFit s.decls (frames_after s frames progress)
 frames_after-fit s [] progress fits more = fits
 frames_after-fit s (frame ∷ below) (Goes stage) fits more =
@@ -432,7 +432,7 @@ role_at-fits decls object (decl_kinds.Thread name prio user) is = refl
 role_at-fits decls object (decl_kinds.Queue name prio on) is = ap (λ (o : Option Decl). option_map_or is_queue o false) is
 role_at-fits decls object decl is = refl
 
-pub starting-fits : (s : Parts) (number object : ℕ) (decl : Decl) → slice_get s.decls object ≡ Some decl → FramesFit s.decls (starting s number object decl).frames
+pub starting-fits : (s : Content) (number object : ℕ) (decl : Decl) → slice_get s.decls object ≡ Some decl → FramesFit s.decls (starting s number object decl).frames
 starting-fits s number object decl is =
     let F : Frame → Type 0 = FrameFits s.decls in
     let first = first_frame (role_at decl object) in

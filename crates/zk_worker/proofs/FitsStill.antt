@@ -18,7 +18,7 @@ use Rattle.zk_line.specs.Objects.{is_at, is_thread, is_user}
 use Rattle.zk_base.specs.declared.kinds.Need.{Need}
 use Rattle.zk_model_bus.specs.declared.table.OopsWhy.{OopsWhy}
 use Rattle.zk_model_bus.specs.declared.table.TableOp.TheVariants as table_ops
-use Rattle.zk_scenario.specs.Parts.{Parts}
+use Rattle.zk_scenario.specs.Content.{Content}
 use Rattle.zk_scenario.specs.Players.{players, calls_of}
 use Rattle.zk_scenario.specs.Valid.{IsValid}
 use Rattle.zk_worker.specs.declared.checks.Check.{Check}
@@ -35,7 +35,7 @@ use Rattle.zk_worker.specs.declared.steps.Step.{Step}
 use Rattle.zk_worker.specs.declared.steps.Step.TheVariants as steps
 use Rattle.zk_worker.specs.declared.steps.StepReply.{StepReply}
 use Rattle.zk_worker.specs.Checks.{check_of, call_check, role_check, top_check, next_check, check_step, oops_in, mode_after, start_mode}
-use Rattle.zk_worker.specs.Places.{At}
+use Rattle.zk_worker.specs.Places.{PlayerPlace}
 use Rattle.zk_worker.specs.Protocol.{IsAhead, after, checked, moved, call_attempts, frames_attempts, frames_progress, frames_after, entered, first_frame, role_at, spot_of, starting, start_at}
 use Rattle.zk_worker.specs.Ranges.{step_fits, ReplyFits, HasBegun, is_free_at, IsUsers, ArePassedAt, ArePassed, IsFit, IsAsked, PassesFit}
 use Rattle.zk_worker.specs.Refs.{ref_declared}
@@ -49,7 +49,7 @@ use Rattle.zk_worker.proofs.StageFits.{ProgressFits, frames_progress-fits}
 -- A check.
 
 -- it is of what is declared
-check-fits : (s : Parts) (passed : ℕ) (frames : List Frame) (check : Check) → IsValid s → top_check s passed frames ≡ Some check → step_fits s.decls (check_step check) ≡ true
+check-fits : (s : Content) (passed : ℕ) (frames : List Frame) (check : Check) → IsValid s → top_check s passed frames ≡ Some check → step_fits s.decls (check_step check) ≡ true
 check-fits s passed [] check valid is = absurd (cc)
 check-fits s passed (frame ∷ below) check valid is = by_role frame.role frame.stage is where
   of_needed : (call : Call) (n : Needed) → IsThere s.decls n → step_fits s.decls (check_step (check_of call n)) ≡ true
@@ -73,14 +73,14 @@ check-fits s passed (frame ∷ below) check valid is = by_role frame.role frame.
 -- Another step.
 
 -- it is of a call that has the objects that it needs
-own-top : (s : Parts) (mode : Mode) (passed : ℕ) (frames : List Frame) → IsValid s → All (IsUsers s mode) frames → All (HasBegun s) frames → ArePassed s passed frames →
+own-top : (s : Content) (mode : Mode) (passed : ℕ) (frames : List Frame) → IsValid s → All (IsUsers s mode) frames → All (HasBegun s) frames → ArePassed s passed frames →
     next_check s mode passed frames ≡ None → TopHasObjects s frames
 own-top s mode passed [] valid users begun are none = tt
 own-top s mode passed (frame ∷ below) valid users begun are none =
     own-objects s mode passed frame below valid (All-head (IsUsers s mode) frame below users) (All-head (HasBegun s) frame below begun) are none
 
 -- each attempt of a player of a valid scenario names what is declared
-pub ahead-fits : (s : Parts) (at : At) (step : Step) → IsValid s → IsFit s at → IsAhead s at step → step_fits s.decls step ≡ true
+pub ahead-fits : (s : Content) (at : PlayerPlace) (step : Step) → IsValid s → IsFit s at → IsAhead s at step → step_fits s.decls step ≡ true
 ahead-fits s at step valid fit ahead = by (one-or-other s at step ahead) where
   by : IsCheck s at step ⊎ IsOwn s at step → step_fits s.decls step ≡ true
   by (inl is) = subst (λ (x : Step). step_fits s.decls x ≡ true) is.is_step
@@ -101,7 +101,7 @@ met-asked decls n asked = by n.object n.need asked where
   by (Known object) need asked = asked
   by (Unknown name) need asked = absurd asked
 
-passed-more : (s : Parts) (passed : ℕ) (frames : List Frame) (check : Check) → top_check s passed frames ≡ Some check → IsAsked s.decls check.object check.need → ArePassed s passed frames →
+passed-more : (s : Content) (passed : ℕ) (frames : List Frame) (check : Check) → top_check s passed frames ≡ Some check → IsAsked s.decls check.object check.need → ArePassed s passed frames →
     ArePassed s (passed + 1) frames
 passed-more s passed [] check is asked are = tt
 passed-more s passed (frame ∷ below) check is asked are = by_role frame.role frame.stage is are where
@@ -119,7 +119,7 @@ passed-more s passed (frame ∷ below) check is asked are = by_role frame.role f
       by_need call (are call there) (slice_get (needs_of call) passed) refl (ap (option_and_then (call_check passed)) (sym there) ∙ is)
   by_role role stage is are = absurd (cc)
 
-passed-none : (s : Parts) (frames : List Frame) → ArePassed s 0 frames
+passed-none : (s : Content) (frames : List Frame) → ArePassed s 0 frames
 passed-none s [] = tt
 passed-none s (frame ∷ below) = by frame.role where
   by : (role : Role) → ArePassedAt s 0 role frame.next
@@ -162,7 +162,7 @@ no-user (decls_of.Thread name prio user ∷ ds) zero none = absurd (cc)
 no-user (d ∷ ds) zero none = refl
 no-user (d ∷ ds) (suc object) none = no-user ds object none
 
-module _ (s : Parts) (mode : Mode) (made : Step) where
+module _ (s : Content) (mode : Mode) (made : Step) where
   abbrev later : Mode
   later = mode_after mode made
 
@@ -207,7 +207,7 @@ module _ (s : Parts) (mode : Mode) (made : Step) where
           (λ free. absurd (let not = no-user s.decls owner fits.1 in let none : (is_at is_user s.decls owner || false) ≡ true = free in cc)) (with_stage stage))
 
 -- a call that goes on has begun
-begun-after : (s : Parts) (frames : List Frame) (progress : Progress) → TopHasObjects s frames → All (HasBegun s) frames → All (HasBegun s) (frames_after s frames progress)
+begun-after : (s : Content) (frames : List Frame) (progress : Progress) → TopHasObjects s frames → All (HasBegun s) frames → All (HasBegun s) (frames_after s frames progress)
 begun-after s [] progress objects begun = All-nil (HasBegun s)
 begun-after s (frame ∷ below) progress objects begun = by progress
   where
@@ -224,7 +224,7 @@ begun-after s (frame ∷ below) progress objects begun = by progress
         settled-all (HasBegun s) s (entered (next ∷ below) owner) (entered-all (HasBegun s) (next ∷ below) owner (λ started. absurd (cc)) (with_stage stage))
 
 -- a step keeps all of it
-pub after-fits : (s : Parts) (at : At) (made : Step) (reply : StepReply) → IsValid s → IsFit s at → IsAhead s at made → ReplyFits s.decls reply → PassesFit s.decls made reply →
+pub after-fits : (s : Content) (at : PlayerPlace) (made : Step) (reply : StepReply) → IsValid s → IsFit s at → IsAhead s at made → ReplyFits s.decls reply → PassesFit s.decls made reply →
     IsFit s (after s at made reply)
 after-fits s at made reply valid fit ahead told passes = turn (IsFit s) s at made reply ahead (λ is. by_why is (oops_in reply) refl) by_own where
   by_why : (is : IsCheck s at made) (why : Option OopsWhy) → oops_in reply ≡ why → IsFit s (checked at is.check.word why (spot_of made reply))
@@ -250,13 +250,13 @@ after-fits s at made reply valid fit ahead told passes = turn (IsFit s) s at mad
 
 -- A player from its start.
 
-starts-user : (s : Parts) (object : ℕ) (decl : Decl) → slice_get s.decls object ≡ Some decl → is_free_at s (role_at decl object) 0 ≡ true → start_mode decl ≡ User
+starts-user : (s : Content) (object : ℕ) (decl : Decl) → slice_get s.decls object ≡ Some decl → is_free_at s (role_at decl object) 0 ≡ true → start_mode decl ≡ User
 starts-user s object (decls_of.Thread name prio true) there free = refl
 starts-user s object (decls_of.Thread name prio false) there free = absurd (let not = ap (λ (o : Option Decl). option_map_or is_user o false) there in cc)
 starts-user s object (decls_of.Queue name prio on) there free = absurd (cc)
 starts-user s object decl there free = absurd (let not = ap (λ (o : Option Decl). option_map_or is_user o false) there in cc)
 
-starting-fit : (s : Parts) (number object : ℕ) (decl : Decl) → slice_get s.decls object ≡ Some decl → IsFit s (starting s number object decl)
+starting-fit : (s : Content) (number object : ℕ) (decl : Decl) → slice_get s.decls object ≡ Some decl → IsFit s (starting s number object decl)
 starting-fit s number object decl is =
     let first = first_frame (role_at decl object) in record {
       frames = starting-fits s number object decl is;
@@ -266,13 +266,13 @@ starting-fit s number object decl is =
     }
 
 -- a player that has made no step fits
-pub start_at-fits : (s : Parts) (number : ℕ) (at : At) → start_at s number ≡ Some at → IsFit s at
+pub start_at-fits : (s : Content) (number : ℕ) (at : PlayerPlace) → start_at s number ≡ Some at → IsFit s at
 start_at-fits s number at is =
-    let inner : ℕ → Option At = λ object. option_map (starting s number object) (slice_get s.decls object) in
+    let inner : ℕ → Option PlayerPlace = λ object. option_map (starting s number object) (slice_get s.decls object) in
     option_and_then_some inner (slice_get (players s.decls) number) at is
     (λ object found made. from_decl s number object (slice_get s.decls object) refl at made)
   where
-    from_decl : (s : Parts) (number object : ℕ) (decl : Option Decl) → slice_get s.decls object ≡ decl → (at : At) →
+    from_decl : (s : Content) (number object : ℕ) (decl : Option Decl) → slice_get s.decls object ≡ decl → (at : PlayerPlace) →
         option_map (starting s number object) decl ≡ Some at → IsFit s at
     from_decl s number object None is at made = absurd (cc)
     from_decl s number object (Some decl) is at made =

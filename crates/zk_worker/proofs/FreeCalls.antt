@@ -13,7 +13,7 @@ use Rattle.zk_line.specs.Needs.{needs_of, IsMet, IsThere}
 use Rattle.zk_line.specs.Objects.{is_at, is_user}
 use Rattle.zk_line.proofs.NeedsMet.{needs-met}
 use Rattle.zk_line.proofs.NeedsThere.{needs-there}
-use Rattle.zk_scenario.specs.Parts.{Parts}
+use Rattle.zk_scenario.specs.Content.{Content}
 use Rattle.zk_scenario.specs.Players.{calls_of}
 use Rattle.zk_scenario.specs.Valid.{IsValid, calls_fit}
 use Rattle.zk_scenario.proofs.Valid.{calls_fit-calls_of}
@@ -47,13 +47,13 @@ calls_fit-at free decls (c ∷ cs) (suc next) call fits there =
     or-both false b c = refl
 
 -- the next call of a script fits by whether it stands in a free line
-pub call_fits-next : (s : Parts) (owner next : ℕ) (call : Call) → IsValid s → slice_get (calls_of s.scripts owner) next ≡ Some call →
+pub call_fits-next : (s : Content) (owner next : ℕ) (call : Call) → IsValid s → slice_get (calls_of s.scripts owner) next ≡ Some call →
     call_fits (is_free_at s (Script owner) next) s.decls call ≡ true
 call_fits-next s owner next call valid there =
     calls_fit-at (is_at is_user s.decls owner) s.decls (calls_of s.scripts owner) next call (calls_fit-calls_of s owner valid) there
 
 -- so the objects that it names by their numbers are declared
-pub next-there : (s : Parts) (owner next : ℕ) (call : Call) → IsValid s → slice_get (calls_of s.scripts owner) next ≡ Some call → All (IsThere s.decls) (needs_of call)
+pub next-there : (s : Content) (owner next : ℕ) (call : Call) → IsValid s → slice_get (calls_of s.scripts owner) next ≡ Some call → All (IsThere s.decls) (needs_of call)
 next-there s owner next call valid there = needs-there (is_free_at s (Script owner) next) s.decls call (call_fits-next s owner next call valid there)
 
 -- where nothing is left to check all is checked
@@ -71,7 +71,7 @@ none-left call needs passed none = by (slice_get needs passed) none where
   by (Some n) none = absurd (cc)
 
 -- a call that makes another step than a check has the objects that it needs
-pub own-objects : (s : Parts) (mode : Mode) (passed : ℕ) (frame : Frame) (below : List Frame) → IsValid s → (is_free_at s frame.role frame.next ≡ true → mode ≡ User) →
+pub own-objects : (s : Content) (mode : Mode) (passed : ℕ) (frame : Frame) (below : List Frame) → IsValid s → (is_free_at s frame.role frame.next ≡ true → mode ≡ User) →
     (is_start frame.stage ≡ false → HasObjects s frame.role frame.next) → ArePassedAt s passed frame.role frame.next → next_check s mode passed (frame ∷ below) ≡ None →
     HasObjects s frame.role frame.next
 own-objects s mode passed frame below valid users begun are none = by_role frame.role frame.stage users begun are none where

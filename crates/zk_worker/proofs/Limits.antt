@@ -5,7 +5,7 @@ use Rattle.std.proofs.lemmas.List.Elements.{All-nil, All-cons, All-head, All-tai
 use Rattle.std.proofs.lemmas.Bool.{ltb-true}
 use Rattle.std.proofs.lemmas.Bool.Decides.{nat_tests}
 use Rattle.zk_base.proofs.Lists.{cond_nil-at}
-use Rattle.zk_scenario.specs.Parts.{Parts}
+use Rattle.zk_scenario.specs.Content.{Content}
 use Rattle.zk_words.specs.declared.timeout.Timeout.{Timeout}
 use Rattle.zk_scenario.specs.declared.scenario.TheConstants.{MOST_STEPS}
 use Rattle.zk_scenario.specs.Steps.{steps_of}
@@ -26,7 +26,7 @@ use Rattle.zk_worker.specs.declared.frames.Plan.{Plan}
 use Rattle.zk_worker.specs.declared.frames.Plan.TheVariants.{One, Pair, Twice, Wait, Poll, Channel}
 use Rattle.zk_worker.specs.declared.frames.Using.{Using}
 use Rattle.zk_worker.specs.declared.frames.Waiting.{Waiting}
-use Rattle.zk_worker.specs.Places.{At}
+use Rattle.zk_worker.specs.Places.{PlayerPlace}
 use Rattle.zk_worker.specs.Calls.{plan_of, plan_attempts}
 use Rattle.zk_worker.specs.Publishes.{asks_for, channel_attempts}
 use Rattle.zk_worker.specs.Waits.{wait_attempts}
@@ -38,7 +38,7 @@ use Rattle.zk_worker.proofs.CheckedSteps.{check_at, checks_first-few}
 use Rattle.zk_worker.proofs.PollSteps.{poll_attempts-few}
 
 -- a player with a next attempt has made fewer steps than it may
-pub ahead_short : (s : Parts) (at : At) (step : Step) → IsAhead s at step → length at.spots < MOST_STEPS
+pub ahead_short : (s : Content) (at : PlayerPlace) (step : Step) → IsAhead s at step → length at.spots < MOST_STEPS
 ahead_short s at step ahead =
     omega (
       arith,
@@ -48,13 +48,13 @@ ahead_short s at step ahead =
     )
 
 -- what holds of each frame holds of those that are left
-pub settled-all : (P : Frame → Type 0) (s : Parts) (frames : List Frame) → All P frames → All P (settled s frames)
+pub settled-all : (P : Frame → Type 0) (s : Content) (frames : List Frame) → All P frames → All P (settled s frames)
 settled-all P s [] all = all
 settled-all P s (frame ∷ below) all =
     elim (is_over s frame.role frame.next) as (λ b. All P (cond b (settled s below) (frame ∷ below)))
     [ true ↦ settled-all P s below (All-tail P frame below all) | false ↦ all ]
 
-settled-length : (s : Parts) (frames : List Frame) → length (settled s frames) ≤ length frames
+settled-length : (s : Content) (frames : List Frame) → length (settled s frames) ≤ length frames
 settled-length s [] = omega arith
 settled-length s (frame ∷ below) =
     elim (is_over s frame.role frame.next) as (λ b. length (cond b (settled s below) (frame ∷ below)) ≤ length (frame ∷ below))
@@ -68,7 +68,7 @@ entered-all P frames owner first all =
 entered-length : (frames : List Frame) (owner : ℕ) → length frames ≤ MOST_FRAMES → length (entered frames owner) ≤ MOST_FRAMES
 entered-length frames owner few = grind (arith, nat_tests)
 
-frames_after-length : (s : Parts) (frames : List Frame) (progress : Progress) → length frames ≤ MOST_FRAMES → length (frames_after s frames progress) ≤ MOST_FRAMES
+frames_after-length : (s : Content) (frames : List Frame) (progress : Progress) → length frames ≤ MOST_FRAMES → length (frames_after s frames progress) ≤ MOST_FRAMES
 frames_after-length s [] progress few = few
 frames_after-length s (frame ∷ below) (Goes stage) few = few
 frames_after-length s (frame ∷ below) (Answers word answer) few =
@@ -78,7 +78,7 @@ frames_after-length s (frame ∷ below) (Enters owner stage) few =
     let next = record frame { stage = stage } in
     omega (arith, settled-length s (entered (next ∷ below) owner), entered-length (next ∷ below) owner few)
 
-frames_after-nexts : (s : Parts) (n : ℕ) (frames : List Frame) (progress : Progress) →
+frames_after-nexts : (s : Content) (n : ℕ) (frames : List Frame) (progress : Progress) →
     All (λ frame. frame.next ≤ n) frames → All (λ frame. frame.next ≤ n + 1) (frames_after s frames progress)
 frames_after-nexts s n [] progress all = let P : Frame → Type 0 = λ frame. frame.next ≤ n + 1 in All-nil P
 frames_after-nexts s n (frame ∷ below) progress all =
@@ -104,7 +104,7 @@ answers_after-length answers number (Answers word answer) =
 answers_after-length answers number (Enters owner stage) = omega arith
 
 -- the limits are kept by a step of a player that has made fewer steps than it may
-pub IsRoomy-moved : (s : Parts) (frames frames' : List Frame) (answers answers' : List Answered) (spots spots' : List Spot) (spot : Spot) (number : ℕ) (progress : Progress) (passed a b c a' b' c' : ℕ) →
+pub IsRoomy-moved : (s : Content) (frames frames' : List Frame) (answers answers' : List Answered) (spots spots' : List Spot) (spot : Spot) (number : ℕ) (progress : Progress) (passed a b c a' b' c' : ℕ) →
     IsRoomy passed frames answers spots a b c → length spots < MOST_STEPS →
     frames' ≡ frames_after s frames progress → answers' ≡ answers_after answers number progress → spots' ≡ spots ++ spot ∷ [] →
     a ≤ a' → b ≤ b' → c ≤ c' → IsRoomy 0 frames' answers' spots' a' b' c'
@@ -185,22 +185,22 @@ plan_attempts-few (Wait waiting timeout) stage = omega (arith, wait_attempts-few
 plan_attempts-few (Poll timeout events) stage = poll_attempts-few timeout events stage
 plan_attempts-few (Channel chan using timeout) stage = omega (arith, channel_attempts-few chan using timeout stage)
 
-frames_attempts-few : (s : Parts) (frames : List Frame) → length (frames_attempts s frames) ≤ 9
+frames_attempts-few : (s : Content) (frames : List Frame) → length (frames_attempts s frames) ≤ 9
 frames_attempts-few s [] = omega arith
 frames_attempts-few s (frame ∷ below) = role_few s frame.role frame.next frame.stage
   where
-    call_few : (s : Parts) (call : Option Call) (stage : Stage) → length (call_attempts s.decls call stage) ≤ 9
+    call_few : (s : Content) (call : Option Call) (stage : Stage) → length (call_attempts s.decls call stage) ≤ 9
     call_few s None stage = omega arith
     call_few s (Some call) stage = plan_attempts-few (plan_of s.decls call) stage
 
-    role_few : (s : Parts) (role : Role) (next : ℕ) (stage : Stage) → length (role_attempts s role next stage) ≤ 9
+    role_few : (s : Content) (role : Role) (next : ℕ) (stage : Stage) → length (role_attempts s role next stage) ≤ 9
     role_few s (Script owner) next stage = call_few s (slice_get (calls_of s.scripts owner) next) stage
     role_few s (Worker queue) next Start = omega arith
     role_few s (Worker queue) next Runs = omega arith
     role_few s (Worker queue) next stage = omega arith
 
 -- a player has few attempts at a time
-pub attempts-few : (s : Parts) (at : At) → length (attempts s at) ≤ MOST_ATTEMPTS
+pub attempts-few : (s : Content) (at : PlayerPlace) → length (attempts s at) ≤ MOST_ATTEMPTS
 attempts-few s at =
     elim (nat_lt (length at.spots) (steps_of s)) as (λ b. length (cond b (checks_first (check_at s at) (frames_attempts s at.frames)) []) ≤ MOST_ATTEMPTS)
     [ true ↦ checks_first-few MOST_ATTEMPTS (check_at s at) (frames_attempts s at.frames) (omega arith) (omega (arith, frames_attempts-few s at.frames)) | false ↦ omega arith ]

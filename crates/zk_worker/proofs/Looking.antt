@@ -16,20 +16,20 @@ use Rattle.zk_model_wait.specs.Signal.{written_by, value_at}
 use Rattle.zk_model_wait.proofs.Writes.{value-stamp}
 use Rattle.zk_model_work.specs.declared.ops.WorkOp.{WorkOp}
 use Rattle.zk_model_work.specs.declared.ops.WorkReply.{WorkReply}
-use Rattle.zk_scenario.specs.Parts.{Parts}
+use Rattle.zk_scenario.specs.Content.{Content}
 use Rattle.zk_worker.specs.declared.steps.Step.{Step}
 use Rattle.zk_worker.specs.declared.steps.Step.TheVariants as steps
 use Rattle.zk_worker.specs.declared.steps.StepReply.{StepReply}
 use Rattle.zk_worker.specs.declared.steps.StepReply.TheVariants as step_replies
 use Rattle.zk_worker.specs.declared.steps.Spot.{Spot}
 use Rattle.zk_worker.specs.declared.steps.Spot.TheVariants as spots
-use Rattle.zk_worker.specs.Places.{At}
+use Rattle.zk_worker.specs.Places.{PlayerPlace}
 use Rattle.zk_worker.specs.Protocol.{after, spot_of}
 use Rattle.zk_worker.specs.Single.{step_of}
 use Rattle.zk_worker.specs.Families.{with_entry, EachGrew}
 use Rattle.zk_worker.specs.Looks.{Longer, LooksGrew, last_of, looks_at, found_by, IsKnown, writes_of, seen_after}
 use Rattle.zk_worker.specs.Machines.{Machines, flags_after}
-use Rattle.zk_worker.specs.Shown.{Shown, shown_at, is_look, shown_after, ShowsLog, AllGrew, Between}
+use Rattle.zk_worker.specs.Shown.{Shown, shown_at, is_look, shown_after, ShowsLog, AllGrew, OnlyOthersCame}
 use Rattle.zk_worker.specs.Attempt.{reply_in, ReadsAt, IsMade}
 use Rattle.zk_worker.specs.Right.{IsRight, work_front, stamp_at, NotOlder, LooksRight}
 use Rattle.zk_worker.proofs.Lists.{at-end, at-front, there-longer, known-there}
@@ -141,7 +141,7 @@ right-still m old new (spots.LookSignal object seen) grew right =
     )
 right-still m old new spot grew right = tt
 
-still-between : (alone : Bool) (m : Machines) (number : ℕ) (log : List Spot) (old new : Shown) → LooksRight m old log → Between alone number old new → LooksRight m new log
+still-between : (alone : Bool) (m : Machines) (number : ℕ) (log : List Spot) (old new : Shown) → LooksRight m old log → OnlyOthersCame alone number old new → LooksRight m new log
 still-between true m number log old new right same = subst (λ (s : Shown). LooksRight m s log) (sym same) right
 still-between false m number log old new right grew = record {
   each = λ step spot is. right-still m old new spot (goes-on number old new grew) (right.each step spot is);
@@ -149,7 +149,7 @@ still-between false m number log old new right grew = record {
 }
 
 -- what was right stays so, whatever comes between
-pub looks-still : (alone : Bool) (m m' : Machines) (number : ℕ) (log : List Spot) (old new : Shown) → m' ≡ m → LooksRight m old log → Between alone number old new → LooksRight m' new log
+pub looks-still : (alone : Bool) (m m' : Machines) (number : ℕ) (log : List Spot) (old new : Shown) → m' ≡ m → LooksRight m old log → OnlyOthersCame alone number old new → LooksRight m' new log
 looks-still alone m m' number log old new same right between =
     subst (λ (x : Machines). LooksRight x new log) (sym same) (still-between alone m number log old new right between)
 
@@ -267,14 +267,14 @@ looks-answered m shown who log step reply shows right is at = record {
         earlier (inr same) = absurd (let e = same.0 in let e' = last.0 in omega (arith, less, e, e'))
 
 -- and when its player has made a step
-pub looks-stepped : (alone : Bool) (m m' : Machines) (s : Parts) (at at' : At) (step : Step) (reply : StepReply) (old new : Shown) → m' ≡ m → ShowsLog old at.who.number at.spots →
+pub looks-stepped : (alone : Bool) (m m' : Machines) (s : Content) (at at' : PlayerPlace) (step : Step) (reply : StepReply) (old new : Shown) → m' ≡ m → ShowsLog old at.who.number at.spots →
     LooksRight m old at.spots → IsMade alone m at.who (length at.spots) step reply old new → at' ≡ after s at step reply → LooksRight m' new at'.spots
 looks-stepped alone m m' s at at' step reply old new same shows right made next =
     let found = log-still alone at.who.number at.spots old made.found shows made.since in
     let still = still-between alone m at.who.number at.spots old made.found right made.since in
     let answered = looks-answered m made.found at.who at.spots step reply found still made.replied made.read_at in
     subst (λ (x : Machines). LooksRight x new at'.spots) (sym same)
-    (subst (λ (a : At). LooksRight m new a.spots) (sym next)
+    (subst (λ (a : PlayerPlace). LooksRight m new a.spots) (sym next)
     (subst (λ (l : List Spot). LooksRight m new l) (sym (after-spots s at step reply).1)
     (subst (λ (x : Shown). LooksRight m x (at.spots ++ spot_of step reply ∷ [])) (sym made.shown) answered)))
 

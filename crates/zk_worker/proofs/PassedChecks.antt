@@ -12,7 +12,7 @@ use Rattle.zk_model_bus.specs.declared.table.TableReply.{TableReply}
 use Rattle.zk_model_bus.specs.declared.table.TableReply.TheVariants.{Done, Oops}
 use Rattle.zk_model_bus.specs.Table.{Setup, Table, new_table, has_kind, is_allowed, is_public, is_ready, may, check_reply, table_machine}
 use Rattle.zk_base.specs.Kinds.{is_any}
-use Rattle.zk_scenario.specs.Parts.{Parts}
+use Rattle.zk_scenario.specs.Content.{Content}
 use Rattle.zk_worker.specs.declared.steps.Step.{Step}
 use Rattle.zk_worker.specs.declared.steps.Step.TheVariants as steps
 use Rattle.zk_worker.specs.declared.steps.StepReply.{StepReply}
@@ -32,7 +32,7 @@ same-setup t [] = refl
 same-setup t (e ∷ h) = same-setup (table_machine.next t e.who e.op) h
 
 -- what passes a check is what it has to be
-pub replied-passes : (s : Parts) (m : Machines) (shown : Shown) (who : Who) (step : Step) (reply : StepReply) → m ≡ machines_of s →
+pub replied-passes : (s : Content) (m : Machines) (shown : Shown) (who : Who) (step : Step) (reply : StepReply) → m ≡ machines_of s →
     reply_in m shown who step ≡ Some reply → PassesFit s.decls step reply
 replied-passes s m shown who step reply same is = by_step step (subst (λ (n : Machines). reply_in n shown who step ≡ Some reply) same is)
   where

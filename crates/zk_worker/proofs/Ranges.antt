@@ -6,7 +6,7 @@ use Rattle.std.proofs.lemmas.Option.{slice_get-map}
 use Rattle.std.proofs.lemmas.List.{length-map}
 use Rattle.std.proofs.lemmas.List.FromFn.{length-range_with_len}
 use Rattle.zk_line.specs.declared.types.Decl.{Decl}
-use Rattle.zk_scenario.specs.Parts.{Parts}
+use Rattle.zk_scenario.specs.Content.{Content}
 use Rattle.zk_scenario.specs.Valid.{IsValid}
 use Rattle.zk_line.specs.Objects.{places, number_of, is_at, is_thread, is_queue, is_item}
 use Rattle.zk_model_bus.specs.Channel.{chan_machine}
@@ -18,11 +18,11 @@ use Rattle.zk_model_work.specs.State.{fresh_queues}
 use Rattle.zk_model_work.specs.Machine.{is_among}
 use Rattle.zk_worker.specs.declared.steps.Step.{Step}
 use Rattle.zk_worker.specs.declared.steps.Step.TheVariants as steps
-use Rattle.zk_worker.specs.Places.{At}
+use Rattle.zk_worker.specs.Places.{PlayerPlace}
 use Rattle.zk_worker.specs.Protocol.{IsAhead}
 use Rattle.zk_worker.specs.Ranges.{IsFit, step_fits}
 use Rattle.zk_worker.specs.Machines.{Machines, machines_of, workers, is_on, item_number, items_of, sem_start, msgq_start, signal_start, chan_start, observer_start}
-use Rattle.zk_worker.specs.Attempt.{takes}
+use Rattle.zk_worker.specs.Attempt.{is_in_range}
 use Rattle.zk_worker.specs.Families.{is_declared}
 use Rattle.zk_worker.proofs.Fits.{item-fits}
 use Rattle.zk_worker.proofs.FitsStill.{ahead-fits}
@@ -35,7 +35,7 @@ length-fresh_queues (w ∷ ws) [] same = absurd (omega arith)
 length-fresh_queues (w ∷ ws) (b ∷ bs) same = let more = length-fresh_queues ws bs (omega arith) in omega arith
 
 -- each worker has its queue's mark whether it is started
-pub same-lengths : (s : Parts) → length (workers s.decls) ≡ length (map (is_on s.decls) (places is_queue s.decls))
+pub same-lengths : (s : Content) → length (workers s.decls) ≡ length (map (is_on s.decls) (places is_queue s.decls))
 same-lengths s =
     length-range_with_len (length (places is_thread s.decls)) (length (places is_queue s.decls)) ∙ sym (length-map (places is_queue s.decls) (is_on s.decls))
 
@@ -67,7 +67,7 @@ starts-declared start (d ∷ ds) zero is = is
 starts-declared start (d ∷ ds) (suc object) is = starts-declared start ds object is
 
 -- the services of a scenario take all that is declared
-pub takes-declared : (s : Parts) (step : Step) → step_fits s.decls step ≡ true → takes (machines_of s) step ≡ true
+pub takes-declared : (s : Content) (step : Step) → step_fits s.decls step ≡ true → is_in_range (machines_of s) step ≡ true
 takes-declared s (steps.Work op) fits =
     let long = length-fresh_queues (workers s.decls) (map (is_on s.decls) (places is_queue s.decls)) (same-lengths s)
     ∙ length-range_with_len (length (places is_thread s.decls)) (length (places is_queue s.decls)) in
@@ -86,6 +86,6 @@ takes-declared s (steps.LookItem object) fits =
 takes-declared s (steps.LookSignal object must) fits = starts-declared signal_start s.decls object fits
 
 -- and so each attempt of a player of a valid scenario
-pub ahead-takes : (s : Parts) (m : Machines) (at : At) → IsValid s → m ≡ machines_of s → IsFit s at → (step : Step) → IsAhead s at step → takes m step ≡ true
+pub ahead-takes : (s : Content) (m : Machines) (at : PlayerPlace) → IsValid s → m ≡ machines_of s → IsFit s at → (step : Step) → IsAhead s at step → is_in_range m step ≡ true
 ahead-takes s m at valid same fits = λ step ahead.
-    subst (λ (n : Machines). takes n step ≡ true) (sym same) (takes-declared s step (ahead-fits s at step valid fits ahead))
+    subst (λ (n : Machines). is_in_range n step ≡ true) (sym same) (takes-declared s step (ahead-fits s at step valid fits ahead))

@@ -10,7 +10,7 @@ use Rattle.zk_base.specs.Legal.{state_after}
 use Rattle.zk_line.specs.declared.types.Decl.{Decl}
 use Rattle.zk_line.specs.declared.types.Decl.TheVariants as decl_kinds
 use Rattle.zk_line.specs.Objects.{is_at, is_observer}
-use Rattle.zk_scenario.specs.Parts.{Parts}
+use Rattle.zk_scenario.specs.Content.{Content}
 use Rattle.zk_scenario.specs.Valid.{IsValid}
 use Rattle.zk_model_bus.specs.declared.channel.ChanOp.{ChanOp}
 use Rattle.zk_model_bus.specs.declared.channel.ChanReply.{ChanReply}
@@ -66,7 +66,7 @@ started-by start (d ∷ ds) zero state is = (d, refl, is)
 started-by start (d ∷ ds) (suc object) state is = started-by start ds object state is
 
 -- a channel tells only of observers that are declared
-declared-tells : (s : Parts) → IsValid s → (object : ℕ) (decl : Decl) → slice_get s.decls object ≡ Some decl → (start : Channel) → chan_start decl ≡ Some start →
+declared-tells : (s : Content) → IsValid s → (object : ℕ) (decl : Decl) → slice_get s.decls object ≡ Some decl → (start : Channel) → chan_start decl ≡ Some start →
     (h : ChanHistory) (who : Who) (op : ChanOp) (reply : ChanReply) → chan_reply (state_after chan_machine start h) who op ≡ Some reply →
     TellsOnly (Observes s.decls) reply
 declared-tells s valid object (decl_kinds.Chan name message takes observers) there start is h who op reply told =
@@ -81,7 +81,7 @@ tells-fit : (decls : List Decl) (object : ℕ) (reply : ChanReply) (place : ℕ)
 tells-fit decls object (chan_replies.Observers told) place only = only
 tells-fit decls object reply place only = tt
 
-chan-fits : (s : Parts) (shown : Shown) (who : Who) (object : ℕ) (op : ChanOp) (reply : StepReply) → IsValid s →
+chan-fits : (s : Content) (shown : Shown) (who : Who) (object : ℕ) (op : ChanOp) (reply : StepReply) → IsValid s →
     answer_at (machines_of s).chans shown.chans step_replies.Chan who object op ≡ Some reply → ReplyFits s.decls reply
 chan-fits s shown who object op reply valid is =
     let Q : Type 0 = ReplyFits s.decls reply in
@@ -99,7 +99,7 @@ chan-fits s shown who object op reply valid is =
         (tells-fit s.decls object r (length h) (declared-tells s valid object from.0 from.1 start from.2 h who op r told))
 
 -- an observer that replies is declared as one
-obs-declared : (s : Parts) (shown : Shown) (who : Who) (object : ℕ) (op : ObsOp) (reply : StepReply) →
+obs-declared : (s : Content) (shown : Shown) (who : Who) (object : ℕ) (op : ObsOp) (reply : StepReply) →
     answer_at (machines_of s).observers shown.observers step_replies.Obs who object op ≡ Some reply → is_declared observer_start s.decls object ≡ true
 obs-declared s shown who object op reply is =
     let family = (machines_of s).observers in
@@ -115,7 +115,7 @@ other-fits : (decls : List Decl) (tell : StepReply) (reply : StepReply) → tell
 other-fits decls tell reply same fits = subst (λ (x : StepReply). ReplyFits decls x) same fits
 
 -- what a service of a valid scenario answers to a step fits
-pub replied-fits : (s : Parts) (m : Machines) (shown : Shown) (who : Who) (step : Step) (reply : StepReply) → IsValid s → m ≡ machines_of s →
+pub replied-fits : (s : Content) (m : Machines) (shown : Shown) (who : Who) (step : Step) (reply : StepReply) → IsValid s → m ≡ machines_of s →
     reply_in m shown who step ≡ Some reply → ReplyFits s.decls reply
 replied-fits s m shown who step reply valid same is = by_step step (subst (λ (n : Machines). reply_in n shown who step ≡ Some reply) same is)
   where

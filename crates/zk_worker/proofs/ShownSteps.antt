@@ -8,7 +8,7 @@ use Rattle.zk_base.specs.declared.ids.Entry.{Entry}
 use Rattle.zk_base.specs.declared.seen.Seen.{Seen}
 use Rattle.zk_base.specs.History.{entry}
 use Rattle.zk_base.specs.Legal.{state_after}
-use Rattle.zk_scenario.specs.Parts.{Parts}
+use Rattle.zk_scenario.specs.Content.{Content}
 use Rattle.zk_model_bus.specs.declared.channel.ChanOp.{ChanOp}
 use Rattle.zk_model_bus.specs.declared.channel.ChanReply.{ChanReply}
 use Rattle.zk_model_bus.specs.declared.observer.ObsOp.{ObsOp}
@@ -31,13 +31,13 @@ use Rattle.zk_worker.specs.declared.steps.StepReply.{StepReply}
 use Rattle.zk_worker.specs.declared.steps.StepReply.TheVariants as step_replies
 use Rattle.zk_worker.specs.declared.steps.Spot.{Spot}
 use Rattle.zk_worker.specs.declared.steps.Spot.TheVariants as spots
-use Rattle.zk_worker.specs.Places.{At}
+use Rattle.zk_worker.specs.Places.{PlayerPlace}
 use Rattle.zk_worker.specs.Protocol.{after, spot_of}
 use Rattle.zk_worker.specs.Follows.{made_at, Stands, StandsMore}
 use Rattle.zk_worker.specs.Machines.{Machines, flags_after}
 use Rattle.zk_worker.specs.Single.{step_of}
 use Rattle.zk_worker.specs.Families.{Family, entry_at, with_entry, answer_at}
-use Rattle.zk_worker.specs.Looks.{LookedBelow, looks_at, found_by, look, look_at}
+use Rattle.zk_worker.specs.Looks.{LookedBelow, looks_at, found_by, look_reply, look_at}
 use Rattle.zk_worker.specs.Shown.{Shown, shown_at, shown_after, is_look, entry_count, ShowsLog}
 use Rattle.zk_worker.specs.Attempt.{reply_in, IsMade}
 use Rattle.zk_worker.proofs.Lists.{at-end, there-longer, there-behind}
@@ -226,7 +226,7 @@ observers-elsewhere shown hs at = inr (refl, refl)
 -- a look adds no entry
 look-more : (old new : Shown) (spot : Spot) (step : ℕ × ℕ) (made : Step × StepReply) → is_look spot ≡ true → Stands new spot made →
     ((at : Spot) → (shown_at new at ≡ shown_at old at) × (made_at new at ≡ made_at old at)) → entry_count new ≤ entry_count old + 1 → IsMore old new spot step made
-look-more old new spot step made look stands same count = record {
+look-more old new spot step made looks stands same count = record {
   here = λ not_look. absurd (cc);
   stays = λ at b is. (same at).0 ∙ is;
   back = λ at b is. inl (sym (same at).0 ∙ is);
@@ -251,8 +251,8 @@ pub record HasLooked (shown : Shown) (object : ℕ) (must : Bool) (reply : StepR
 pub look-answered : (shown : Shown) (object : ℕ) (must : Bool) (reply : StepReply) → look_at shown.looks shown.signals object must ≡ Some reply → HasLooked shown object must reply
 look-answered shown object must reply is =
     let Q : Type 0 = HasLooked shown object must reply in
-    option_and_then_some {P = Q} (λ h. option_and_then (look must) (found_by (looks_at shown.looks object) h)) (slice_get shown.signals object) reply is
-    (λ h there answered. option_and_then_some {P = Q} (look must) (found_by (looks_at shown.looks object) h) reply answered
+    option_and_then_some {P = Q} (λ h. option_and_then (look_reply must) (found_by (looks_at shown.looks object) h)) (slice_get shown.signals object) reply is
+    (λ h there answered. option_and_then_some {P = Q} (look_reply must) (found_by (looks_at shown.looks object) h) reply answered
     (λ seen found looked. by_raised h seen there found must refl seen.raised refl looked))
   where
     by_raised : (h : List (Entry SignalOp SignalReply)) (seen : Seen) → slice_get shown.signals object ≡ Some h → found_by (looks_at shown.looks object) h ≡ Some seen →
@@ -425,12 +425,12 @@ log-answered m shown who log step reply shows answered =
     (looked-after shown who (length log) step reply shows.looked) shows
 
 -- the log of a player is shown with the step that it has made
-pub log-stepped : (alone : Bool) (m : Machines) (s : Parts) (at at' : At) (step : Step) (reply : StepReply) (old new : Shown) → ShowsLog old at.who.number at.spots →
+pub log-stepped : (alone : Bool) (m : Machines) (s : Content) (at at' : PlayerPlace) (step : Step) (reply : StepReply) (old new : Shown) → ShowsLog old at.who.number at.spots →
     IsMade alone m at.who (length at.spots) step reply old new → at' ≡ after s at step reply → ShowsLog new at'.who.number at'.spots
 log-stepped alone m s at at' step reply old new shows made next =
     let found = log-still alone at.who.number at.spots old made.found shows made.since in
     let later = after-spots s at step reply in
-    subst (λ (a : At). ShowsLog new a.who.number a.spots) (sym next)
+    subst (λ (a : PlayerPlace). ShowsLog new a.who.number a.spots) (sym next)
     (subst (λ (w : Who). ShowsLog new w.number (after s at step reply).spots) (sym later.0)
     (subst (λ (l : List Spot). ShowsLog new at.who.number l) (sym later.1)
     (subst (λ (x : Shown). ShowsLog x at.who.number (at.spots ++ spot_of step reply ∷ [])) (sym made.shown) (log-answered m made.found at.who at.spots step reply found made.replied))))

@@ -8,7 +8,7 @@ use Rattle.zk_line.specs.declared.events.Event.{Event}
 use Rattle.zk_line.specs.Calls.{word_of}
 use Rattle.zk_line.specs.declared.types.Decl.TheVariants as decls_of
 use Rattle.zk_line.specs.Objects.{places, is_at, is_thread, is_item}
-use Rattle.zk_scenario.specs.Parts.{Parts}
+use Rattle.zk_scenario.specs.Content.{Content}
 use Rattle.zk_scenario.specs.Players.{calls_of}
 use Rattle.zk_words.specs.declared.timeout.Timeout.{Timeout}
 use Rattle.zk_words.specs.declared.word.Word.{Word}
@@ -41,7 +41,7 @@ use Rattle.zk_worker.specs.Protocol.{run_progress, worker_progress, call_progres
 use Rattle.zk_worker.specs.Publishes.{rest_of, holds_progress, visit_progress, asking_progress, channel_progress}
 use Rattle.zk_worker.specs.Ranges.{AreObservers, StageFits, FrameFits, FramesFit, ReplyFits}
 use Rattle.zk_worker.proofs.TableSetups.{placed}
-use Rattle.zk_worker.specs.Waits.{opening_progress, until, wait_progress}
+use Rattle.zk_worker.specs.Waits.{opening_progress, with_alarm, wait_progress}
 
 -- the observers that are left behind what a reply does are declared as such, and what is entered is no thread's script
 abbrev pub ProgressFits : List Decl → Progress → Type 0
@@ -58,7 +58,7 @@ opening-fits decls word (step_replies.Chan object chan_replies.Wait place) = tt
 opening-fits decls word (step_replies.Obs object obs_replies.Wait place) = tt
 opening-fits decls word reply = tt
 
-until-fits : (decls : List Decl) (moment : ℕ) (progress : Progress) → ProgressFits decls progress → ProgressFits decls (until moment progress)
+until-fits : (decls : List Decl) (moment : ℕ) (progress : Progress) → ProgressFits decls progress → ProgressFits decls (with_alarm moment progress)
 until-fits decls moment (Goes (Waits place)) fits = tt
 until-fits decls moment progress fits = fits
 
@@ -152,7 +152,7 @@ call_progress-fits : (decls : List Decl) (call : Option Call) (stage : Stage) (m
 call_progress-fits decls None stage made reply fits told = fits
 call_progress-fits decls (Some call) stage made reply fits told = plan_progress-fits decls (word_of call) (plan_of decls call) stage made reply fits told
 
-pub frames_progress-fits : (s : Parts) (frames : List Frame) (made : Step) (reply : StepReply) → FramesFit s.decls frames → ReplyFits s.decls reply →
+pub frames_progress-fits : (s : Content) (frames : List Frame) (made : Step) (reply : StepReply) → FramesFit s.decls frames → ReplyFits s.decls reply →
     ProgressFits s.decls (frames_progress s frames made reply)
 frames_progress-fits s [] made reply fits told = tt
 frames_progress-fits s (frame ∷ below) made reply fits told = by_role frame.role

@@ -11,7 +11,7 @@ use Rattle.zk_model_bus.specs.declared.table.TableOp.{TableOp}
 use Rattle.zk_model_bus.specs.declared.table.TableOp.TheVariants as table_ops
 use Rattle.zk_base.specs.Kinds as base
 use Rattle.zk_model_bus.specs.Table as tables
-use Rattle.zk_scenario.specs.Parts.{Parts}
+use Rattle.zk_scenario.specs.Content.{Content}
 use Rattle.zk_worker.specs.TableSetup.{setup_of, is_object, names_declared}
 
 -- the kinds of all objects say which of them meet a need
@@ -38,7 +38,7 @@ thread-at decls thread object both =
     (met-at needs.Thread decls thread ∙ parts.0) (object-at decls object parts.1)
 
 -- so it is of an operation
-pub names-declared : (s : Parts) (op : TableOp) → names_declared s.decls op ≡ true → tables.names_objects (setup_of s) op ≡ true
+pub names-declared : (s : Content) (op : TableOp) → names_declared s.decls op ≡ true → tables.names_objects (setup_of s) op ≡ true
 names-declared s (table_ops.Check None need) fits = refl
 names-declared s (table_ops.Check (Some object) need) fits = object-at s.decls object fits
 names-declared s (table_ops.Grant thread object) fits = thread-at s.decls thread object fits

@@ -18,7 +18,7 @@ use Rattle.zk_base.specs.declared.kinds.Kind.TheVariants as kinds
 use Rattle.zk_base.specs.Kinds as base
 use Rattle.zk_model_bus.specs.Table.{IsSetup}
 use Rattle.zk_scenario.proofs.Valid.{number_of-thread}
-use Rattle.zk_scenario.specs.Parts.{Parts}
+use Rattle.zk_scenario.specs.Content.{Content}
 use Rattle.zk_scenario.specs.Valid.{IsValid}
 use Rattle.zk_scenario.specs.Written.{is_object, objects_in, is_allowed, permission_in, permissions, allowed, AreInOrder}
 use Rattle.zk_worker.specs.TableSetup.{thread_of, permission_of, setup_of}
@@ -101,7 +101,7 @@ taken-at test (suc n) (d ∷ ds) (suc object) is = taken-at test n ds object is
 abbrev IsOfThread : List Decl → ℕ × ℕ → Type 0
 IsOfThread decls pair = (is_at is_thread decls pair.0 ≡ true) × (pair.1 < length decls)
 
-allows-thread : (s : Parts) (n : ℕ) (line : Declared) → AreInOrder s.decls s.written → slice_get s.written n ≡ Some line → All (IsOfThread s.decls) (permission_in line)
+allows-thread : (s : Content) (n : ℕ) (line : Declared) → AreInOrder s.decls s.written → slice_get s.written n ≡ Some line → All (IsOfThread s.decls) (permission_in line)
 allows-thread s n (Object object) order there = All-nil (IsOfThread s.decls)
 allows-thread s n (Allow thread object) order there =
     let before = take n s.written in
@@ -121,7 +121,7 @@ all-mapped P Q f [] each all = All-nil Q
 all-mapped P Q f (x ∷ xs) each all = All-cons Q (f x) (map f xs) (each x (All-head P x xs all)) (all-mapped P Q f xs each (All-tail P x xs all))
 
 -- all of it
-pub setup_fits : (s : Parts) → IsValid s → IsSetup (setup_of s)
+pub setup_fits : (s : Content) → IsValid s → IsSetup (setup_of s)
 setup_fits s valid = record {
   long = length-map s.decls (λ decl. not (is_raw decl)) ∙ sym (length-map s.decls kind_of);
   few = omega (arith, many, valid.players);

@@ -8,7 +8,7 @@ use Rattle.zk_base.proofs.Causes.{Rose-from}
 use Rattle.zk_worker.specs.declared.steps.Step.{Step}
 use Rattle.zk_worker.specs.declared.steps.StepReply.{StepReply}
 use Rattle.zk_worker.specs.Machines.{Machines}
-use Rattle.zk_worker.specs.Shown.{Shown, Between}
+use Rattle.zk_worker.specs.Shown.{Shown, OnlyOthersCame}
 use Rattle.zk_worker.specs.Attempt.{Counts, NoneFell, IsMade, reply_in, Attempted}
 use Rattle.zk_worker.specs.Playing.{WasTried, WereTried, WasFirst, WasNone, Tried}
 use Rattle.zk_worker.proofs.Between.{between-none, between-both}
@@ -20,7 +20,7 @@ rose-since a b c (inr full) kept most = inr (omega arith)
 
 -- what was tried before a moment was tried before a later one
 pub tried-since : (alone : Bool) (m : Machines) (who : Who) (ahead : List Step) (many : ℕ) (old mid new : Shown) (counts counts' counts'' : Counts) →
-    WereTried alone m who ahead many old mid counts counts' → Between alone who.number mid new → NoneFell counts' counts'' → WereTried alone m who ahead many old new counts counts''
+    WereTried alone m who ahead many old mid counts counts' → OnlyOthersCame alone who.number mid new → NoneFell counts' counts'' → WereTried alone m who ahead many old new counts counts''
 tried-since alone m who ahead many old mid new counts counts' counts'' tried others kept = λ k step below is.
     let was = tried k step below is in
     record {
@@ -42,7 +42,7 @@ lower-or-last (suc k) (suc n) low = further (lower-or-last k n (omega arith))
 
 -- one attempt more was made, and wasn't possible
 pub tried-next : (alone : Bool) (m : Machines) (who : Who) (ahead : List Step) (many : ℕ) (last : Step) (old mid new : Shown) (counts counts' counts'' : Counts) →
-    WereTried alone m who ahead many old mid counts counts' → slice_get ahead many ≡ Some last → Between alone who.number old mid → Between alone who.number mid new →
+    WereTried alone m who ahead many old mid counts counts' → slice_get ahead many ≡ Some last → OnlyOthersCame alone who.number old mid → OnlyOthersCame alone who.number mid new →
     reply_in m new who last ≡ None → Rose (counts' last) (counts'' last) → ((step : Step) → counts step ≤ counts' step) → NoneFell counts' counts'' →
     WereTried alone m who ahead (many + 1) old new counts counts''
 tried-next alone m who ahead many last old mid new counts counts' counts'' tried is before others impossible rose kept none_fell = λ k step below there.
@@ -63,7 +63,7 @@ tried-next alone m who ahead many last old mid new counts counts' counts'' tried
 
 -- an attempt is made, behind those that weren't possible
 pub first-made : (alone : Bool) (m : Machines) (who : Who) (number : ℕ) (ahead : List Step) (many : ℕ) (step : Step) (reply : StepReply) (old mid new : Shown) (counts counts' counts'' : Counts) →
-    WereTried alone m who ahead many old mid counts counts' → slice_get ahead many ≡ Some step → Between alone who.number old mid →
+    WereTried alone m who ahead many old mid counts counts' → slice_get ahead many ≡ Some step → OnlyOthersCame alone who.number old mid →
     IsMade alone m who number step reply mid new → NoneFell counts' counts'' → WasFirst alone m who number ahead step reply old new counts counts''
 first-made alone m who number ahead many step reply old mid new counts counts' counts'' tried is before made none_fell = record {
   index = many;
@@ -80,7 +80,7 @@ first-made alone m who number ahead many step reply old mid new counts counts' c
 
 -- all attempts were made, and none was possible
 pub none-left : (alone : Bool) (m : Machines) (who : Who) (ahead : List Step) (many : ℕ) (old new : Shown) (counts counts' : Counts) →
-    WereTried alone m who ahead many old new counts counts' → length ahead ≤ many → Between alone who.number old new → WasNone alone m who ahead old new counts counts'
+    WereTried alone m who ahead many old new counts counts' → length ahead ≤ many → OnlyOthersCame alone who.number old new → WasNone alone m who ahead old new counts counts'
 none-left alone m who ahead many old new counts counts' tried all before = record {
   others = before;
   tried = λ k step below there. tried k step (omega arith) there;
@@ -116,13 +116,13 @@ attempted-some alone alone' m m' who who' number number' step old new answer rep
 
 pub attempted-none : (alone alone' : Bool) (m m' : Machines) (who who' : Who) (number number' : ℕ) (step : Step) (old new : Shown)
     (answer : Option StepReply) → alone' ≡ alone → m' ≡ m → who' ≡ who → number' ≡ number →
-    Attempted alone' m' who' number' step old new (Ok answer) → answer ≡ None → Between alone who.number old new × (reply_in m new who step ≡ None)
+    Attempted alone' m' who' number' step old new (Ok answer) → answer ≡ None → OnlyOthersCame alone who.number old new × (reply_in m new who step ≡ None)
 attempted-none alone alone' m m' who who' number number' step old new answer same_alone same_m same_who same_number attempted is =
     subst (λ (o : Option StepReply). Attempted alone m who number step old new (Ok o)) is
     (attempted-same alone alone' m m' who who' number number' step old new (Ok answer) same_alone same_m same_who same_number attempted)
 
 pub attempted-err : (alone alone' : Bool) (m m' : Machines) (who who' : Who) (number number' : ℕ) (step : Step) (old new : Shown)
     (e : NoMemory) → alone' ≡ alone → m' ≡ m → who' ≡ who → number' ≡ number →
-    Attempted alone' m' who' number' step old new (Err e) → Between alone who.number old new
+    Attempted alone' m' who' number' step old new (Err e) → OnlyOthersCame alone who.number old new
 attempted-err alone alone' m m' who who' number number' step old new e same_alone same_m same_who same_number attempted =
     attempted-same alone alone' m m' who who' number number' step old new (Err e) same_alone same_m same_who same_number attempted

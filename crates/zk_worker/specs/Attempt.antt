@@ -11,7 +11,7 @@ use Rattle.zk_worker.specs.Single.{answer_in}
 use Rattle.zk_worker.specs.Families.{start_of, answer_at, takes_at}
 use Rattle.zk_worker.specs.Looks.{look_at}
 use Rattle.zk_worker.specs.Machines.{Machines, item_of, flags_after}
-use Rattle.zk_worker.specs.Shown.{Shown, shown_after, Between}
+use Rattle.zk_worker.specs.Shown.{Shown, shown_after, OnlyOthersCame}
 
 -- what is answered to a step where this is shown, if it is possible
 abbrev pub reply_in : Machines → Shown → Who → Step → Option StepReply
@@ -38,18 +38,18 @@ reply_in m shown who (steps.LookSignal object must) =
     look_at shown.looks shown.signals object must
 
 -- whether the ids in a step are in range at its service: that of an item which is looked at as in an operation that names it
-abbrev pub takes : Machines → Step → Bool
-takes m (steps.Work op) = m.work.in_range m.work_start op
-takes m (steps.Clock op) = m.clock.in_range m.clock_start op
-takes m (steps.Table op) = m.table.in_range m.table_start op
-takes m (steps.Sem object op) = takes_at m.sems object op
-takes m (steps.Msgq object op) = takes_at m.msgqs object op
-takes m (steps.Signal object op) = takes_at m.signals object op
-takes m (steps.Chan object op) = takes_at m.chans object op
-takes m (steps.Obs object op) = takes_at m.observers object op
-takes m (steps.LookItem object) =
+abbrev pub is_in_range : Machines → Step → Bool
+is_in_range m (steps.Work op) = m.work.in_range m.work_start op
+is_in_range m (steps.Clock op) = m.clock.in_range m.clock_start op
+is_in_range m (steps.Table op) = m.table.in_range m.table_start op
+is_in_range m (steps.Sem object op) = takes_at m.sems object op
+is_in_range m (steps.Msgq object op) = takes_at m.msgqs object op
+is_in_range m (steps.Signal object op) = takes_at m.signals object op
+is_in_range m (steps.Chan object op) = takes_at m.chans object op
+is_in_range m (steps.Obs object op) = takes_at m.observers object op
+is_in_range m (steps.LookItem object) =
     option_map_or (λ item. m.work.in_range m.work_start (work_ops.Remaining item)) (item_of m object) false
-takes m (steps.LookSignal object must) = is_some (start_of m.signals object)
+is_in_range m (steps.LookSignal object must) = is_some (start_of m.signals object)
 
 -- the same players are served
 abbrev pub SamePlayers : (Who → Type 0) → (Who → Type 0) → Type 0
@@ -88,7 +88,7 @@ ReadsAt shown step reply = Unit {0}
 pub record IsMade (alone : Bool) (m : Machines) (who : Who) (number : ℕ) (step : Step)
     (reply : StepReply) (old new : Shown) : Type 0 where
   pub found : Shown
-  pub since : Between alone who.number old found
+  pub since : OnlyOthersCame alone who.number old found
   pub replied : reply_in m found who step ≡ Some reply
   pub read_at : ReadsAt found step reply
   pub shown : new ≡ shown_after found who number step reply
@@ -99,5 +99,5 @@ abbrev pub Attempted : Bool → Machines → Who → ℕ → Step → Shown → 
 Attempted alone m who number step old new (Ok (Some reply)) =
     IsMade alone m who number step reply old new
 Attempted alone m who number step old new (Ok None) =
-    Between alone who.number old new × (reply_in m new who step ≡ None)
-Attempted alone m who number step old new (Err e) = Between alone who.number old new
+    OnlyOthersCame alone who.number old new × (reply_in m new who step ≡ None)
+Attempted alone m who number step old new (Err e) = OnlyOthersCame alone who.number old new

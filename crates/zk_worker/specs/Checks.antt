@@ -8,7 +8,7 @@ use Rattle.zk_line.specs.Needs.{needs_of}
 use Rattle.zk_model_bus.specs.declared.table.OopsWhy.{OopsWhy}
 use Rattle.zk_model_bus.specs.declared.table.TableOp.TheVariants as table_ops
 use Rattle.zk_model_bus.specs.declared.table.TableReply.TheVariants as table_replies
-use Rattle.zk_scenario.specs.Parts.{Parts}
+use Rattle.zk_scenario.specs.Content.{Content}
 use Rattle.zk_scenario.specs.Players.{calls_of}
 use Rattle.zk_worker.specs.declared.answers.Answer.{Answer}
 use Rattle.zk_worker.specs.declared.answers.Answer.TheVariants.{Oops}
@@ -36,18 +36,18 @@ abbrev pub call_check : ℕ → Call → Option Check
 call_check passed call = option_map (check_of call) (slice_get (needs_of call) passed)
 
 -- it comes before all other steps of the call
-abbrev pub role_check : Parts → ℕ → Role → ℕ → Stage → Option Check
+abbrev pub role_check : Content → ℕ → Role → ℕ → Stage → Option Check
 role_check s passed (Script owner) next Start =
     option_and_then (call_check passed) (slice_get (calls_of s.scripts owner) next)
 role_check s passed role next stage = None
 
 -- it is that of the innermost open script
-abbrev pub top_check : Parts → ℕ → List Frame → Option Check
+abbrev pub top_check : Content → ℕ → List Frame → Option Check
 top_check s passed [] = None
 top_check s passed (frame ∷ below) = role_check s passed frame.role frame.next frame.stage
 
 -- and only users are checked
-abbrev pub next_check : Parts → Mode → ℕ → List Frame → Option Check
+abbrev pub next_check : Content → Mode → ℕ → List Frame → Option Check
 next_check s User passed frames = top_check s passed frames
 next_check s mode passed frames = None
 

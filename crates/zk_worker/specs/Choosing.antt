@@ -1,9 +1,9 @@
 use Rattle.std.specs.Prelude.{Option, Some, None, List, [], ◌∷◌}
 use Rattle.zk_base.specs.declared.ids.Who.{Who}
-use Rattle.zk_scenario.specs.Parts.{Parts}
+use Rattle.zk_scenario.specs.Content.{Content}
 use Rattle.zk_worker.specs.declared.steps.Step.{Step}
 use Rattle.zk_worker.specs.declared.steps.StepReply.{StepReply}
-use Rattle.zk_worker.specs.Places.{At}
+use Rattle.zk_worker.specs.Places.{PlayerPlace}
 use Rattle.zk_worker.specs.Protocol.{attempts}
 use Rattle.zk_worker.specs.Machines.{Machines}
 use Rattle.zk_worker.specs.Shown.{Shown}
@@ -21,5 +21,5 @@ first_possible m shown who (step ∷ more) =
     or_else step (reply_in m shown who step) (first_possible m shown who more)
 
 -- the attempt that a player makes in a turn
-abbrev pub chosen : Machines → Parts → Shown → At → Option (Step × StepReply)
+abbrev pub chosen : Machines → Content → Shown → PlayerPlace → Option (Step × StepReply)
 chosen m s shown at = first_possible m shown at.who (attempts s at)

@@ -32,14 +32,14 @@ found_by None h = Some (seen_after h)
 found_by (Some looks) h = last_of looks
 
 -- what is answered to a look: nothing where it must find the signal raised and doesn't
-abbrev pub look : Bool → Seen → Option StepReply
-look must seen = if must && not seen.raised then None else Some (step_replies.Seen seen)
+abbrev pub look_reply : Bool → Seen → Option StepReply
+look_reply must seen = if must && not seen.raised then None else Some (step_replies.Seen seen)
 
 -- what is answered to a look at the signal of this object number
 abbrev pub look_at : Option (List (List Seen)) → List (List (Entry SignalOp SignalReply)) → ℕ → Bool →
     Option StepReply
 look_at looks histories object must =
-    option_and_then (λ h. option_and_then (look must) (found_by (looks_at looks object) h))
+    option_and_then (λ h. option_and_then (look_reply must) (found_by (looks_at looks object) h))
     (slice_get histories object)
 
 -- what is known of a signal: where looks are shown they, and else the value of each stamp

@@ -5,7 +5,7 @@ use Rattle.zk_base.specs.declared.ids.Entry.{Entry}
 use Rattle.zk_base.specs.Legal.{Machine, state_after}
 use Rattle.zk_line.specs.declared.types.Decl.{Decl}
 use Rattle.zk_line.specs.declared.types.Decl.TheVariants as decls
-use Rattle.zk_scenario.specs.Parts.{Parts}
+use Rattle.zk_scenario.specs.Content.{Content}
 use Rattle.zk_line.specs.Objects.{places, number_of, is_at, is_thread, is_queue, is_item}
 use Rattle.zk_model_bus.specs.declared.channel.ChanOp.{ChanOp}
 use Rattle.zk_model_bus.specs.declared.channel.ChanReply.{ChanReply}
@@ -49,7 +49,7 @@ abbrev pub is_on : List Decl → ℕ → Bool
 is_on decls object = option_map_or is_started (slice_get decls object) false
 
 -- the work service of a scenario in its first state
-abbrev pub work_start_of : Parts → State
+abbrev pub work_start_of : Content → State
 work_start_of s =
     start_of (length (places is_item s.decls)) (workers s.decls)
     (map (is_on s.decls) (places is_queue s.decls))
@@ -114,7 +114,7 @@ flags_after m h object =
     option_map (flags_of (state_after m.work m.work_start h)) (item_of m object)
 
 -- the machines of a scenario
-abbrev pub machines_of : Parts → Machines
+abbrev pub machines_of : Content → Machines
 machines_of s = record {
   work = work_machine;
   work_start = work_start_of s;

@@ -7,7 +7,7 @@ use Rattle.zk_worker.specs.declared.frames.Frame.{Frame}
 
 -- where a player stands: who it is, what it may do, how many checks it has passed in the call that comes next, the open
 -- scripts and runs with the innermost first, the answers so far, and where each of its steps is recorded
-pub record At : Type 0 where
+pub record PlayerPlace : Type 0 where
   pub who : Who
   pub mode : Mode
   pub passed : ℕ

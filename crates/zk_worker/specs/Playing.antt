@@ -1,16 +1,16 @@
 use Rattle.std.specs.Prelude.{◌≡◌, ℕ, ◌<◌, Bool, true, false, Option, Some, None, List, length, slice_get}
 use Rattle.zk_base.specs.declared.ids.Who.{Who}
 use Rattle.zk_base.specs.Causes.{Rose}
-use Rattle.zk_scenario.specs.Parts.{Parts}
+use Rattle.zk_scenario.specs.Content.{Content}
 use Rattle.zk_worker.specs.declared.steps.Step.{Step}
 use Rattle.zk_worker.specs.declared.steps.StepReply.{StepReply}
 use Rattle.zk_worker.specs.declared.playing.Stepped.{Stepped}
 use Rattle.zk_worker.specs.declared.playing.Stepped.TheVariants.{Did, NotYet, Ended, Spent}
-use Rattle.zk_worker.specs.Places.{At}
+use Rattle.zk_worker.specs.Places.{PlayerPlace}
 use Rattle.zk_worker.specs.Protocol.{attempts, after}
 use Rattle.zk_worker.specs.Follows.{is_spent_at, is_through}
 use Rattle.zk_worker.specs.Machines.{Machines}
-use Rattle.zk_worker.specs.Shown.{Shown, Between}
+use Rattle.zk_worker.specs.Shown.{Shown, OnlyOthersCame}
 use Rattle.zk_worker.specs.Attempt.{reply_in, Counts, IsMade}
 
 -- a step was tried between two moments: its service counted the attempt, and the machine says that it isn't possible
@@ -18,8 +18,8 @@ use Rattle.zk_worker.specs.Attempt.{reply_in, Counts, IsMade}
 pub record WasTried (alone : Bool) (m : Machines) (who : Who) (old new : Shown)
     (counts counts' : Counts) (step : Step) : Type 0 where
   pub found : Shown
-  pub since : Between alone who.number old found
-  pub until : Between alone who.number found new
+  pub since : OnlyOthersCame alone who.number old found
+  pub until : OnlyOthersCame alone who.number found new
   pub impossible : reply_in m found who step ≡ None
   pub rose : Rose (counts step) (counts' step)
 
@@ -41,7 +41,7 @@ pub record WasFirst (alone : Bool) (m : Machines) (who : Who) (number : ℕ) (ah
 -- each of these attempts was tried
 pub record WasNone (alone : Bool) (m : Machines) (who : Who) (ahead : List Step) (old new : Shown)
     (counts counts' : Counts) : Type 0 where
-  pub others : Between alone who.number old new
+  pub others : OnlyOthersCame alone who.number old new
   pub tried : WereTried alone m who ahead (length ahead) old new counts counts'
 
 -- what comes of these attempts, made in order up to the first that is possible
@@ -53,7 +53,7 @@ Tried alone m who number ahead old new counts counts' None =
     WasNone alone m who ahead old new counts counts'
 
 -- a player made the step that was possible first
-pub record HasStepped (alone : Bool) (m : Machines) (s : Parts) (at at' : At) (old new : Shown)
+pub record HasStepped (alone : Bool) (m : Machines) (s : Content) (at at' : PlayerPlace) (old new : Shown)
     (counts counts' : Counts) : Type 0 where
   pub step : Step
   pub reply : StepReply
@@ -62,7 +62,7 @@ pub record HasStepped (alone : Bool) (m : Machines) (s : Parts) (at at' : At) (o
   pub next : at' ≡ after s at step reply
 
 -- a player that isn't through and has steps left found none of them possible
-pub record HasWaited (alone : Bool) (m : Machines) (s : Parts) (at at' : At) (old new : Shown)
+pub record HasWaited (alone : Bool) (m : Machines) (s : Content) (at at' : PlayerPlace) (old new : Shown)
     (counts counts' : Counts) : Type 0 where
   pub unspent : is_spent_at s at ≡ false
   pub not_through : is_through at.frames ≡ false
@@ -70,18 +70,18 @@ pub record HasWaited (alone : Bool) (m : Machines) (s : Parts) (at at' : At) (ol
   pub unchanged : at' ≡ at
 
 -- a player has no further step, for this cause, and nothing changed
-pub record HasStopped (at at' : At) (old new : Shown) (cause : Bool) : Type 0 where
+pub record HasStopped (at at' : PlayerPlace) (old new : Shown) (cause : Bool) : Type 0 where
   pub because : cause ≡ true
   pub unchanged : at' ≡ at
   pub nothing : new ≡ old
 
 -- what a step of a player did, by its answer
-abbrev pub Does : Bool → Machines → Parts → At → At → Shown → Shown → Counts → Counts → Stepped →
+abbrev pub StepOutcome : Bool → Machines → Content → PlayerPlace → PlayerPlace → Shown → Shown → Counts → Counts → Stepped →
     Type 0
-Does alone m s at at' old new counts counts' Did =
+StepOutcome alone m s at at' old new counts counts' Did =
     HasStepped alone m s at at' old new counts counts'
-Does alone m s at at' old new counts counts' NotYet =
+StepOutcome alone m s at at' old new counts counts' NotYet =
     HasWaited alone m s at at' old new counts counts'
-Does alone m s at at' old new counts counts' Ended =
+StepOutcome alone m s at at' old new counts counts' Ended =
     (is_spent_at s at ≡ false) × HasStopped at at' old new (is_through at.frames)
-Does alone m s at at' old new counts counts' Spent = HasStopped at at' old new (is_spent_at s at)
+StepOutcome alone m s at at' old new counts counts' Spent = HasStopped at at' old new (is_spent_at s at)

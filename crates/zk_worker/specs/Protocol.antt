@@ -3,7 +3,7 @@ use Rattle.zk_base.specs.declared.seen.Seen.{Seen}
 use Rattle.zk_line.specs.declared.types.Decl.{Decl}
 use Rattle.zk_line.specs.declared.types.Decl.TheVariants as decls
 use Rattle.zk_line.specs.declared.types.Call.{Call}
-use Rattle.zk_scenario.specs.Parts.{Parts}
+use Rattle.zk_scenario.specs.Content.{Content}
 use Rattle.zk_line.specs.Objects.{places, is_item, number_of}
 use Rattle.zk_scenario.specs.Players.{players, prio_of, calls_of}
 use Rattle.zk_model_wait.specs.Signal.{clear_at}
@@ -33,7 +33,7 @@ use Rattle.zk_worker.specs.declared.checks.Check.{Check}
 use Rattle.zk_worker.specs.declared.checks.Mode.TheVariants.{Dead}
 use Rattle.zk_worker.specs.Calls.{plan_of, plan_attempts, plan_progress}
 use Rattle.zk_worker.specs.Checks.{next_check, check_step, oops_in, mode_after, start_mode}
-use Rattle.zk_worker.specs.Places.{At}
+use Rattle.zk_worker.specs.Places.{PlayerPlace}
 
 -- the next attempts of a worker: between two runs the Begin of its queue, in a run whose script is over the End
 abbrev pub worker_attempts : ℕ → Stage → List Step
@@ -47,13 +47,13 @@ call_attempts decls None stage = []
 call_attempts decls (Some call) stage = plan_attempts (plan_of decls call) stage
 
 -- the next attempts of an open script or run
-abbrev pub role_attempts : Parts → Role → ℕ → Stage → List Step
+abbrev pub role_attempts : Content → Role → ℕ → Stage → List Step
 role_attempts s (Script owner) next stage =
     call_attempts s.decls (slice_get (calls_of s.scripts owner) next) stage
 role_attempts s (Worker queue) next stage = worker_attempts (number_of s.decls queue) stage
 
 -- the next attempts: those of the innermost open script or run
-abbrev pub frames_attempts : Parts → List Frame → List Step
+abbrev pub frames_attempts : Content → List Frame → List Step
 frames_attempts s [] = []
 frames_attempts s (frame ∷ below) = role_attempts s frame.role frame.next frame.stage
 
@@ -63,13 +63,13 @@ checks_first (Some check) own = check_step check ∷ []
 checks_first None own = own
 
 -- the next attempts of a player in order: none where it is through or has made all its steps
-abbrev pub attempts : Parts → At → List Step
+abbrev pub attempts : Content → PlayerPlace → List Step
 attempts s at =
     if nat_lt (length at.spots) (steps_of s)
     then checks_first (next_check s at.mode at.passed at.frames) (frames_attempts s at.frames) else []
 
 -- the step is one of the player's next attempts
-abbrev pub IsAhead : Parts → At → Step → Type 0
+abbrev pub IsAhead : Content → PlayerPlace → Step → Type 0
 IsAhead s at step = (k : ℕ) × (slice_get (attempts s at) k ≡ Some step)
 
 -- a worker that took up an item enters its script
@@ -90,18 +90,18 @@ call_progress decls (Some call) stage made reply =
     plan_progress (word_of call) (plan_of decls call) stage made reply
 
 -- what the reply to a step does to an open script or run
-abbrev pub role_progress : Parts → Role → ℕ → Stage → Step → StepReply → Progress
+abbrev pub role_progress : Content → Role → ℕ → Stage → Step → StepReply → Progress
 role_progress s (Script owner) next stage made reply =
     call_progress s.decls (slice_get (calls_of s.scripts owner) next) stage made reply
 role_progress s (Worker queue) next stage made reply = worker_progress s.decls stage reply
 
 -- whether all calls of a script are answered; a worker is never through
-abbrev pub is_over : Parts → Role → ℕ → Bool
+abbrev pub is_over : Content → Role → ℕ → Bool
 is_over s (Script owner) next = nat_le (length (calls_of s.scripts owner)) next
 is_over s (Worker queue) next = false
 
 -- the open scripts and runs, without the innermost scripts that are over
-abbrev pub settled : Parts → List Frame → List Frame
+abbrev pub settled : Content → List Frame → List Frame
 settled s [] = []
 settled s (frame ∷ below) =
     if is_over s frame.role frame.next then settled s below else frame ∷ below
@@ -116,13 +116,13 @@ entered frames owner =
     if nat_lt (length frames) MOST_FRAMES then first_frame (Script owner) ∷ frames else frames
 
 -- what the reply to a step does to the innermost open script or run
-abbrev pub frames_progress : Parts → List Frame → Step → StepReply → Progress
+abbrev pub frames_progress : Content → List Frame → Step → StepReply → Progress
 frames_progress s [] made reply = Goes Start
 frames_progress s (frame ∷ below) made reply =
     role_progress s frame.role frame.next frame.stage made reply
 
 -- the open scripts and runs after a step
-abbrev pub frames_after : Parts → List Frame → Progress → List Frame
+abbrev pub frames_after : Content → List Frame → Progress → List Frame
 frames_after s [] progress = []
 frames_after s (frame ∷ below) (Goes stage) = record frame { stage = stage } ∷ below
 frames_after s (frame ∷ below) (Answers word answer) =
@@ -173,7 +173,7 @@ spot_of (steps.LookItem object) reply = spots.LookItem object (found_flags reply
 spot_of (steps.LookSignal object must) reply = spots.LookSignal object (found_seen reply)
 
 -- where a player stands after a step of a call or run, which is recorded there
-abbrev pub moved : Parts → At → Step → Progress → Spot → At
+abbrev pub moved : Content → PlayerPlace → Step → Progress → Spot → PlayerPlace
 moved s at made progress spot = record at {
   mode = mode_after at.mode made;
   passed = 0;
@@ -184,7 +184,7 @@ moved s at made progress spot = record at {
 
 -- where a player stands after a check: where it is passed the call goes on, and where it fails the call answers why, and the
 -- player has ended with all that it had open
-abbrev pub checked : At → Word → Option OopsWhy → Spot → At
+abbrev pub checked : PlayerPlace → Word → Option OopsWhy → Spot → PlayerPlace
 checked at word None spot = record at { passed = at.passed + 1; spots = at.spots ++ spot ∷ [] }
 checked at word (Some why) spot = record at {
   mode = Dead;
@@ -195,13 +195,13 @@ checked at word (Some why) spot = record at {
 }
 
 -- where a player stands after a step and its reply, by the check that came next, if one did
-abbrev pub after_by : Parts → At → Step → StepReply → Option Check → At
+abbrev pub after_by : Content → PlayerPlace → Step → StepReply → Option Check → PlayerPlace
 after_by s at made reply (Some check) = checked at check.word (oops_in reply) (spot_of made reply)
 after_by s at made reply None =
     moved s at made (frames_progress s at.frames made reply) (spot_of made reply)
 
 -- where a player stands after a step and its reply
-abbrev pub after : Parts → At → Step → StepReply → At
+abbrev pub after : Content → PlayerPlace → Step → StepReply → PlayerPlace
 after s at made reply =
     after_by s at made reply (next_check s at.mode at.passed at.frames)
 
@@ -211,7 +211,7 @@ role_at (decls.Queue name prio on) object = Worker object
 role_at decl object = Script object
 
 -- a player that has made no step
-abbrev pub starting : Parts → ℕ → ℕ → Decl → At
+abbrev pub starting : Content → ℕ → ℕ → Decl → PlayerPlace
 starting s number object decl = record {
   who = record { number = number; prio = prio_of decl };
   mode = start_mode decl;
@@ -222,7 +222,7 @@ starting s number object decl = record {
 }
 
 -- where the player of a number stands at first, if there is one
-abbrev pub start_at : Parts → ℕ → Option At
+abbrev pub start_at : Content → ℕ → Option PlayerPlace
 start_at s number =
     option_and_then (λ object. option_map (starting s number object) (slice_get s.decls object))
     (slice_get (players s.decls) number)

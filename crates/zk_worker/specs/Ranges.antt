@@ -9,12 +9,12 @@ use Rattle.zk_line.specs.Needs.{needs_of, IsMet}
 use Rattle.zk_line.specs.Objects.{places, is_at, is_met, is_user, is_queue, is_item}
 use Rattle.zk_base.specs.declared.kinds.Need.{Need}
 use Rattle.zk_model_bus.specs.declared.table.TableOp.TheVariants as table_ops
-use Rattle.zk_scenario.specs.Parts.{Parts}
+use Rattle.zk_scenario.specs.Content.{Content}
 use Rattle.zk_scenario.specs.Players.{calls_of}
 use Rattle.zk_worker.specs.declared.checks.Mode.{Mode}
 use Rattle.zk_worker.specs.declared.checks.Mode.TheVariants.{User}
 use Rattle.zk_worker.specs.Checks.{oops_in}
-use Rattle.zk_worker.specs.Places.{At}
+use Rattle.zk_worker.specs.Places.{PlayerPlace}
 use Rattle.zk_model_bus.specs.declared.channel.ChanReply.TheVariants as chan_replies
 use Rattle.zk_model_work.specs.Machine.{is_among}
 use Rattle.zk_worker.specs.declared.steps.Step.{Step}
@@ -67,7 +67,7 @@ abbrev pub FramesFit : List Decl → List Frame → Type 0
 FramesFit decls frames = All (FrameFits decls) frames
 
 -- the next call of a script has the objects that it needs
-abbrev pub HasObjects : Parts → Role → ℕ → Type 0
+abbrev pub HasObjects : Content → Role → ℕ → Type 0
 HasObjects s (Script owner) next =
     (call : Call) → slice_get (calls_of s.scripts owner) next ≡ Some call → call_fits false s.decls call ≡ true
 HasObjects s (Worker queue) next = Unit {0}
@@ -78,34 +78,34 @@ is_start Start = true
 is_start stage = false
 
 -- a call that has begun has the objects that it needs
-abbrev pub HasBegun : Parts → Frame → Type 0
+abbrev pub HasBegun : Content → Frame → Type 0
 HasBegun s frame = is_start frame.stage ≡ false → HasObjects s frame.role frame.next
 
 -- whether the next call of a script stands in a free line
-abbrev pub is_free_at : Parts → Role → ℕ → Bool
+abbrev pub is_free_at : Content → Role → ℕ → Bool
 is_free_at s (Script owner) next =
     is_at is_user s.decls owner || list_any is_user_call (take next (calls_of s.scripts owner))
 is_free_at s (Worker queue) next = false
 
 -- such a call is a user's
-abbrev pub IsUsers : Parts → Mode → Frame → Type 0
+abbrev pub IsUsers : Content → Mode → Frame → Type 0
 IsUsers s mode frame = is_free_at s frame.role frame.next ≡ true → mode ≡ User
 
 -- the objects whose checks a call has passed are what it needs
-abbrev pub ArePassedAt : Parts → ℕ → Role → ℕ → Type 0
+abbrev pub ArePassedAt : Content → ℕ → Role → ℕ → Type 0
 ArePassedAt s passed (Script owner) next =
     (call : Call) → slice_get (calls_of s.scripts owner) next ≡ Some call →
     All (IsMet s.decls) (take passed (needs_of call))
 ArePassedAt s passed (Worker queue) next = Unit {0}
 
 -- and so they are of the innermost open script's next call
-abbrev pub ArePassed : Parts → ℕ → List Frame → Type 0
+abbrev pub ArePassed : Content → ℕ → List Frame → Type 0
 ArePassed s passed [] = Unit {0}
 ArePassed s passed (frame ∷ below) = ArePassedAt s passed frame.role frame.next
 
 -- what is open fits, calls in free lines are a user's, and each call has the objects that it needs when it has begun: so all that
 -- the player attempts is in range
-pub record IsFit (s : Parts) (at : At) : Type 0 where
+pub record IsFit (s : Content) (at : PlayerPlace) : Type 0 where
   pub frames : FramesFit s.decls at.frames
   pub free : All (IsUsers s at.mode) at.frames
   pub begun : All (HasBegun s) at.frames

@@ -146,6 +146,6 @@ pub record AllGrew (number : ℕ) (old new : Shown) : Type 0 where
   pub looked : new.looked ≡ old.looked
 
 -- what came between two moments beside the steps of this player: nothing where it is alone, else entries of other players
-abbrev pub Between : Bool → ℕ → Shown → Shown → Type 0
-Between true number old new = new ≡ old
-Between false number old new = AllGrew number old new
+abbrev pub OnlyOthersCame : Bool → ℕ → Shown → Shown → Type 0
+OnlyOthersCame true number old new = new ≡ old
+OnlyOthersCame false number old new = AllGrew number old new

@@ -1,5 +1,5 @@
 use Rattle.std.specs.Prelude.{ℕ, ◌≤◌, Bool, false, List, [], ◌∷◌, length, All}
-use Rattle.zk_scenario.specs.Parts.{Parts}
+use Rattle.zk_scenario.specs.Content.{Content}
 use Rattle.zk_scenario.specs.declared.scenario.TheConstants.{MOST_STEPS}
 use Rattle.zk_worker.specs.declared.frames.TheConstants.{MOST_FRAMES}
 use Rattle.zk_worker.specs.declared.steps.Spot.{Spot}
@@ -8,7 +8,7 @@ use Rattle.zk_worker.specs.declared.frames.Frame.{Frame}
 use Rattle.zk_worker.specs.Protocol.{is_over}
 
 -- whether the innermost script is over
-abbrev pub is_top_over : Parts → List Frame → Bool
+abbrev pub is_top_over : Content → List Frame → Bool
 is_top_over s [] = false
 is_top_over s (frame ∷ below) = is_over s frame.role frame.next
 

@@ -5,7 +5,7 @@ use Rattle.zk_base.specs.declared.kinds.Need.TheVariants as needs
 use Rattle.zk_model_bus.specs.declared.table.TableOp.{TableOp}
 use Rattle.zk_model_bus.specs.declared.table.TableOp.TheVariants as table_ops
 use Rattle.zk_model_bus.specs.Table.{Setup}
-use Rattle.zk_scenario.specs.Parts.{Parts}
+use Rattle.zk_scenario.specs.Content.{Content}
 use Rattle.zk_scenario.specs.Written.{allowed}
 
 -- a thread, as the number of its object and whether it is a user
@@ -17,7 +17,7 @@ abbrev pub permission_of : List Decl → ℕ × ℕ → ℕ × ℕ
 permission_of decls pair = (number_of decls pair.0, pair.1)
 
 -- what a scenario declares of objects, threads and permissions
-abbrev pub setup_of : Parts → Setup
+abbrev pub setup_of : Content → Setup
 setup_of s = record {
   kinds = map kind_of s.decls;
   ready = map (λ decl. not (is_raw decl)) s.decls;

@@ -82,15 +82,15 @@ opening_progress word (step_replies.Obs object obs_replies.Wait place) = Goes (W
 opening_progress word reply = Answers word (answer_of reply)
 
 -- a call that has set an alarm and waits, waits until the moment of its alarm
-abbrev pub until : ℕ → Progress → Progress
-until moment (Goes (Waits place)) = Goes (WaitsUntil place moment)
-until moment progress = progress
+abbrev pub with_alarm : ℕ → Progress → Progress
+with_alarm moment (Goes (Waits place)) = Goes (WaitsUntil place moment)
+with_alarm moment progress = progress
 
 -- what the reply to a step does to a call that may wait: an alarm that has ended gives up the wait
 abbrev pub wait_progress : Word → Stage → StepReply → Progress
 wait_progress word Start (step_replies.Clock (clock_replies.At moment) place) =
     Goes (Alarmed moment)
 wait_progress word Start reply = opening_progress word reply
-wait_progress word (Alarmed moment) reply = until moment (opening_progress word reply)
+wait_progress word (Alarmed moment) reply = with_alarm moment (opening_progress word reply)
 wait_progress word (WaitsUntil place moment) (step_replies.Clock reply at) = Goes (Quits place)
 wait_progress word stage reply = Answers word (answer_of reply)

@@ -16,14 +16,14 @@ use zk_scenario::{Call, Ref, Scenario};
 use zk_words::Timeout;
 
 /// One step at the work service.
-fn one(op: WorkOp) -> Plan
+fn work_step(op: WorkOp) -> Plan
     ensures { result ≡ Plan.One (Step.Work op) }
 {
     Plan::One(Step::Work(op))
 }
 
 /// A step at the work service that may begin a wait, and the end of it.
-fn pair(opening: WorkOp, closing: Closing) -> Plan
+fn work_wait(opening: WorkOp, closing: Closing) -> Plan
     ensures { result ≡ Plan.Pair (Step.Work opening) closing }
 {
     Plan::Pair(Step::Work(opening), closing)
@@ -33,14 +33,14 @@ fn submit(scenario: &Scenario, item: Ref, queue: Option<Ref>) -> Plan
     ensures { result ≡ Plan.One (Step.Work (WorkOp.Submit
         (ref_number scenario.now.decls item) (option_map (ref_number scenario.now.decls) queue))) }
 {
-    one(WorkOp::Submit(ref_number(scenario, item), queue_number(scenario, queue)))
+    work_step(WorkOp::Submit(ref_number(scenario, item), queue_number(scenario, queue)))
 }
 
 fn schedule(scenario: &Scenario, item: Ref, queue: Ref, delay: u32) -> Plan
     ensures { result ≡ Plan.One (Step.Work (WorkOp.Schedule
         (ref_number scenario.now.decls item) (ref_number scenario.now.decls queue) delay)) }
 {
-    one(WorkOp::Schedule(
+    work_step(WorkOp::Schedule(
         ref_number(scenario, item),
         ref_number(scenario, queue),
         delay,
@@ -51,7 +51,7 @@ fn reschedule(scenario: &Scenario, item: Ref, queue: Ref, delay: u32) -> Plan
     ensures { result ≡ Plan.One (Step.Work (WorkOp.Reschedule
         (ref_number scenario.now.decls item) (ref_number scenario.now.decls queue) delay)) }
 {
-    one(WorkOp::Reschedule(
+    work_step(WorkOp::Reschedule(
         ref_number(scenario, item),
         ref_number(scenario, queue),
         delay,
@@ -61,19 +61,19 @@ fn reschedule(scenario: &Scenario, item: Ref, queue: Ref, delay: u32) -> Plan
 fn cancel_sync(item: u32) -> Plan
     ensures { result ≡ Plan.Pair (Step.Work (WorkOp.CancelStart item)) Closing.Cancel }
 {
-    pair(WorkOp::CancelStart(item), Closing::Cancel)
+    work_wait(WorkOp::CancelStart(item), Closing::Cancel)
 }
 
 fn flush(item: u32) -> Plan
     ensures { result ≡ Plan.Pair (Step.Work (WorkOp.FlushStart item)) Closing.Flush }
 {
-    pair(WorkOp::FlushStart(item), Closing::Flush)
+    work_wait(WorkOp::FlushStart(item), Closing::Flush)
 }
 
 fn drain(queue: u32, plug: bool) -> Plan
     ensures { result ≡ Plan.Pair (Step.Work (WorkOp.DrainStart queue plug)) Closing.Drain }
 {
-    pair(WorkOp::DrainStart(queue, plug), Closing::Drain)
+    work_wait(WorkOp::DrainStart(queue, plug), Closing::Drain)
 }
 
 /// Both services that have a time go on by so many ticks.
@@ -116,7 +116,7 @@ fn at_signal(signal: Ref, op: SignalOp) -> Plan
 }
 
 /// A call that gets a channel, uses it and frees it.
-fn uses(chan: Ref, usage: Using, timeout: Timeout) -> Plan
+fn channel_plan(chan: Ref, usage: Using, timeout: Timeout) -> Plan
     ensures { result ≡ Plan.Channel (ref_object chan) usage timeout }
 {
     Plan::Channel(ref_object(chan), usage, timeout)
@@ -163,16 +163,16 @@ pub fn plan_of(scenario: &Scenario, call: &Call) -> Plan
 {
     match call {
         Call::Submit(item, queue) => submit(scenario, *item, *queue),
-        Call::Cancel(item) => one(WorkOp::Cancel(ref_number(scenario, *item))),
+        Call::Cancel(item) => work_step(WorkOp::Cancel(ref_number(scenario, *item))),
         Call::CancelSync(item) => cancel_sync(ref_number(scenario, *item)),
         Call::Flush(item) => flush(ref_number(scenario, *item)),
         Call::Schedule(item, queue, delay) => schedule(scenario, *item, *queue, *delay),
         Call::Reschedule(item, queue, delay) => reschedule(scenario, *item, *queue, *delay),
-        Call::Remaining(item) => one(WorkOp::Remaining(ref_number(scenario, *item))),
+        Call::Remaining(item) => work_step(WorkOp::Remaining(ref_number(scenario, *item))),
         Call::Busy(item) => Plan::One(Step::LookItem(ref_object(*item))),
-        Call::Start(queue) => one(WorkOp::Start(ref_number(scenario, *queue))),
+        Call::Start(queue) => work_step(WorkOp::Start(ref_number(scenario, *queue))),
         Call::Drain(queue, plug) => drain(ref_number(scenario, *queue), *plug),
-        Call::Unplug(queue) => one(WorkOp::Unplug(ref_number(scenario, *queue))),
+        Call::Unplug(queue) => work_step(WorkOp::Unplug(ref_number(scenario, *queue))),
         Call::Tick(ticks) => tick(*ticks),
         Call::Take(sem, timeout) => Plan::Wait(Waiting::Take(ref_object(*sem)), *timeout),
         Call::Give(sem) => at_sem(*sem, SemOp::Give),
@@ -194,9 +194,13 @@ pub fn plan_of(scenario: &Scenario, call: &Call) -> Plan
         Call::Mask(chan, observer, on) => at_chan(*chan, ChanOp::Mask(ref_object(*observer), *on)),
         Call::Enable(observer, on) => at_observer(*observer, ObsOp::Enable(*on)),
         Call::SubWait(sub, timeout) => Plan::Wait(Waiting::SubWait(ref_object(*sub)), *timeout),
-        Call::Publish(chan, message, timeout) => uses(*chan, Using::Publish(*message), *timeout),
-        Call::Notify(chan, timeout) => uses(*chan, Using::Notify, *timeout),
-        Call::Read(chan, timeout) => uses(*chan, Using::Read, *timeout),
+        Call::Publish(chan, message, timeout) => channel_plan(
+            *chan,
+            Using::Publish(*message),
+            *timeout,
+        ),
+        Call::Notify(chan, timeout) => channel_plan(*chan, Using::Notify, *timeout),
+        Call::Read(chan, timeout) => channel_plan(*chan, Using::Read, *timeout),
         Call::Grant(thread, object) => grant(*thread, *object),
         Call::Release(object) => at_table(TableOp::Release(ref_object(*object))),
         Call::Revoke(thread, object) => revoke(*thread, *object),

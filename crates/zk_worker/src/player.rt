@@ -41,10 +41,10 @@ pub struct Player {
 
 impl Model for Player {
     ghost use Rattle.std.specs.Prelude.{reverse, vec_capacity};
-    ghost use Rattle.zk_worker.specs.Places.{At};
+    ghost use Rattle.zk_worker.specs.Places.{PlayerPlace};
     ghost use Rattle.zk_worker.specs.Stacks.{IsRoomy};
 
-    ghost Value = { At };
+    ghost Value = { PlayerPlace };
 
     ghost view = { λ p. record {
       who = p.who;

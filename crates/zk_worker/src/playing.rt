@@ -5,10 +5,10 @@ ghost use Rattle.zk_worker.specs.Protocol.{attempts, IsAhead};
 ghost use Rattle.zk_worker.specs.Follows.{IsFollowing};
 ghost use Rattle.zk_worker.specs.Ranges.{IsFit};
 ghost use Rattle.zk_worker.specs.Machines.{machines_of};
-ghost use Rattle.zk_worker.specs.Shown.{ShowsLog, AreShort, Between};
+ghost use Rattle.zk_worker.specs.Shown.{ShowsLog, AreShort, OnlyOthersCame};
 ghost use Rattle.zk_worker.specs.Right.{LooksRight};
-ghost use Rattle.zk_worker.specs.Attempt.{takes, SamePlayers};
-ghost use Rattle.zk_worker.specs.Playing.{Tried, Does};
+ghost use Rattle.zk_worker.specs.Attempt.{is_in_range, SamePlayers};
+ghost use Rattle.zk_worker.specs.Playing.{Tried, StepOutcome};
 
 use crate::steps::MOST_ATTEMPTS;
 use crate::{Player, Services, Step, StepReply};
@@ -36,14 +36,14 @@ fn try_ahead<V: Services>(
 ) -> Result<Option<(Step, StepReply)>, NoMemory>
     requires served { V.serves services.old player.now.who }
     requires range { (step : Step) → IsAhead scenario.now player.now step →
-        takes (V.machines services.old) step ≡ true }
+        is_in_range (V.machines services.old) step ≡ true }
     requires log { ShowsLog (V.shown services.old) player.now.who.number player.now.spots }
     requires short { V.alone services.old ≡ true → AreShort (V.shown services.old) }
     ensures tried { IfOk result (λ made.
         Tried (V.alone services.old) (V.machines services.old)
         player.now.who (length player.now.spots) (attempts scenario.now player.now)
         (V.shown services.old) (V.shown services.new) (V.counts services.old) (V.counts services.new) made) }
-    ensures err { OnErr result (Between (V.alone services.old) player.now.who.number
+    ensures err { OnErr result (OnlyOthersCame (V.alone services.old) player.now.who.number
         (V.shown services.old) (V.shown services.new)) }
     ensures machines { V.machines services.new ≡ V.machines services.old }
     ensures serves { SamePlayers (V.serves services.old) (V.serves services.new) }
@@ -81,10 +81,10 @@ impl Player {
 
         // What was done, by the answer.
         ensures does { IfOk result (λ stepped.
-            Does (V.alone services.old) (V.machines services.old) scenario.now self.old self.new
+            StepOutcome (V.alone services.old) (V.machines services.old) scenario.now self.old self.new
             (V.shown services.old) (V.shown services.new) (V.counts services.old) (V.counts services.new) stepped) }
         ensures unchanged { OnErr result (self.new ≡ self.old) }
-        ensures err { OnErr result (Between (V.alone services.old) self.old.who.number
+        ensures err { OnErr result (OnlyOthersCame (V.alone services.old) self.old.who.number
             (V.shown services.old) (V.shown services.new)) }
 
         // After every answer it can be called again.

@@ -4,7 +4,7 @@ ghost use Rattle.zk_base.specs.Causes.{Rose};
 ghost use Rattle.zk_scenario.specs.declared.scenario.TheConstants.{MOST_STEPS};
 ghost use Rattle.zk_worker.specs.Machines.{Machines};
 ghost use Rattle.zk_worker.specs.Shown.{Shown, IsLater, AreShort};
-ghost use Rattle.zk_worker.specs.Attempt.{Counts, takes, NoneFell, SamePlayers, Attempted, KeepsElsewhere};
+ghost use Rattle.zk_worker.specs.Attempt.{Counts, is_in_range, NoneFell, SamePlayers, Attempted, KeepsElsewhere};
 
 use crate::{Step, StepReply};
 use zk_base::{NoMemory, Who};
@@ -37,7 +37,7 @@ pub trait Services {
     /// The number is that of the step among all steps of the player, at whatever service.
     fn attempt(&mut self, who: Who, number: u32, step: &Step) -> Result<Option<StepReply>, NoMemory>
         requires served { serves self.old who }
-        requires range { takes (machines self.old) step.now ≡ true }
+        requires range { is_in_range (machines self.old) step.now ≡ true }
         requires number { number < MOST_STEPS }
         requires later { IsLater (shown self.old) who.number number }
         requires short { alone self.old ≡ true → AreShort (shown self.old) }

@@ -1,5 +1,5 @@
 ghost use Rattle.std.specs.Prelude.{◌≡◌, slice_get};
-ghost use Rattle.zk_worker.specs.Waits.{open_step, end_step, quit_step, first_step, wait_attempts, opening_progress, until, wait_progress};
+ghost use Rattle.zk_worker.specs.Waits.{open_step, end_step, quit_step, first_step, wait_attempts, opening_progress, with_alarm, wait_progress};
 
 use crate::replies::answer_of;
 use crate::{Progress, Stage, Step, StepReply, Waiting, Word};
@@ -95,8 +95,8 @@ pub fn opening_progress(word: Word, reply: &StepReply) -> Progress
 }
 
 /// A call that has set an alarm and waits, waits until the moment of its alarm.
-fn until(moment: u64, progress: Progress) -> Progress
-    ensures { result ≡ until moment progress }
+fn with_alarm(moment: u64, progress: Progress) -> Progress
+    ensures { result ≡ with_alarm moment progress }
 {
     match progress {
         Progress::Goes(Stage::Waits(place)) => Progress::Goes(Stage::WaitsUntil(place, moment)),
@@ -113,7 +113,7 @@ pub fn wait_progress(word: Word, stage: &Stage, reply: &StepReply) -> Progress
             Progress::Goes(Stage::Alarmed(*moment))
         }
         (Stage::Start, _) => opening_progress(word, reply),
-        (Stage::Alarmed(moment), _) => until(*moment, opening_progress(word, reply)),
+        (Stage::Alarmed(moment), _) => with_alarm(*moment, opening_progress(word, reply)),
         (Stage::WaitsUntil(place, _), StepReply::Clock(_, _)) => {
             Progress::Goes(Stage::Quits(*place))
         }

@@ -2,7 +2,7 @@ use Rattle.std.proofs.Common.{◌≡◌, Some, length, refl, sym, subst, arith}
 use Rattle.std.specs.List.{slice_get}
 use Rattle.std.proofs.lemmas.Option.{slice_get_read}
 use Rattle.zk_base.proofs.Lists.{All-at}
-use Rattle.zk_worker.specs.Places.{At}
+use Rattle.zk_worker.specs.Places.{PlayerPlace}
 use Rattle.zk_worker.specs.Machines.{Machines, machines_of}
 use Rattle.zk_worker.specs.Right.{LooksRight}
 use Rattle.zk_worker.specs.Ranges.{IsFit}
@@ -15,7 +15,7 @@ pub play-requires-clause-fits : goal.play-requires-clause-fits
 play-requires-clause-fits g c =
     let players = c.args.players.now in
     let s = c.args.scenario.now in
-    let P : At → Type 0 = IsFit s in
+    let P : PlayerPlace → Type 0 = IsFit s in
     let is : slice_get players.items c.args.number ≡ Some c.index_mut-player.result.now =
     slice_get_read players.items (length players.items) c.args.number c.index_mut-player.result.now refl (omega (arith, c.requires.number, players.ok.0)) c.index_mut-player.ensures.value in
     All-at P players.items c.args.number c.index_mut-player.result.now c.requires.ready.fits is

@@ -5,7 +5,7 @@ use Rattle.std.proofs.lemmas.List.Sums.{count_by-le-length}
 use Rattle.zk_scenario.specs.declared.refused.ScenarioRefused.TheVariants.{At}
 use Rattle.zk_scenario.specs.declared.refused.Why.TheVariants as why
 use Rattle.zk_scenario.specs.Grammar.{read_pieces, pieces_of, scenario_of}
-use Rattle.zk_scenario.specs.Parts.{Parts}
+use Rattle.zk_scenario.specs.Content.{Content}
 use Rattle.zk_scenario.proofs.ReadText.{IsReadable-read, text_of-read}
 use Rattle.zk_scenario.proofs.read.read_scenario.Goals as goal
 
@@ -16,7 +16,7 @@ read_pieces-requires c =
 
 pub of-requires : goal.of-requires
 of-requires c =
-    let parts : Parts = record { decls = c.into_parts-objects.result.0; written = c.into_parts-objects.result.1.items; scripts = c.into_parts-objects.result.2 } in
+    let parts : Content = record { decls = c.into_parts-objects.result.0; written = c.into_parts-objects.result.1.items; scripts = c.into_parts-objects.result.2 } in
     IsReadable-read c.args.text.now parts (search rules)
 
 pub returns-in-Ok-clause-spelled : goal.returns-in-Ok-clause-spelled

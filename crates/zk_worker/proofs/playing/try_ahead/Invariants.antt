@@ -1,7 +1,7 @@
 use Rattle.std.proofs.Common.{◌≡◌, ◌≤◌}
 use Rattle.zk_worker.specs.declared.steps.Step.{Step}
 use Rattle.zk_worker.specs.Protocol.{attempts}
-use Rattle.zk_worker.specs.Shown.{Between}
+use Rattle.zk_worker.specs.Shown.{OnlyOthersCame}
 use Rattle.zk_worker.specs.Attempt.{SamePlayers}
 use Rattle.zk_worker.specs.Playing.{WereTried}
 use Rattle.zk_worker.proofs.playing.try_ahead.Given as goal
@@ -16,7 +16,7 @@ invariant-loop-index g l =
       serves : SamePlayers (g.V.Services.serves first) (g.V.Services.serves l.services);
       alone : g.V.Services.alone l.services ≡ lone;
       home : g.V.Services.home l.services ≡ g.V.Services.home first;
-      others : Between lone l.player.who.number (g.V.Services.shown first) (g.V.Services.shown l.services);
+      others : OnlyOthersCame lone l.player.who.number (g.V.Services.shown first) (g.V.Services.shown l.services);
       counts : (step : Step) → g.V.Services.counts first step ≤ g.V.Services.counts l.services step;
       tried : WereTried lone m l.player.who (attempts l.scenario l.player) l.index (g.V.Services.shown first) (g.V.Services.shown l.services)
           (g.V.Services.counts first) (g.V.Services.counts l.services);

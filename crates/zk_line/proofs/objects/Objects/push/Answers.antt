@@ -2,7 +2,7 @@ use Rattle.std.proofs.Common.{◌≡◌, ◌∙◌, length, count_by, ap, sym, s
 use Rattle.std.specs.Str.{bytes_eq}
 use Rattle.std.proofs.lemmas.List.Sums.{count_by-le-length}
 use Rattle.zk_line.specs.ByName.{by_name}
-use Rattle.zk_line.specs.Objects.{grown, object_of, counts_with, same_kind, IsTabled, is_thread, is_queue, is_item, is_sem, is_msgq, is_signal, is_chan, is_observer, name_of}
+use Rattle.zk_line.specs.Objects.{with_object, object_of, counts_with, has_kind_of, IsTabled, is_thread, is_queue, is_item, is_sem, is_msgq, is_signal, is_chan, is_observer, name_of}
 use Rattle.zk_line.proofs.Tables.{AreGrown, IsTabled-push}
 use Rattle.zk_line.proofs.objects.Objects.push.Goals as goal
 
@@ -19,17 +19,17 @@ invariant_of-self-2 c =
     let put = λ (other : List ℕ). c.in_ok-insert.ensures.ok other
     ∙ ap (λ q. cond (bytes_eq q other) (Some c.len-object.result) (by_name at.names other)) c.name_of.ensures
     ∙ ap (λ k. cond (bytes_eq (name_of d) other) (Some k) (by_name at.names other)) object in
-    let more : AreGrown d (length ds) at.lists c.enlist.new.lists = record {
-      threads = c.enlist.ensures.threads ∙ ap (grown is_thread d c.len-object.result) c.make_room_for_one-3.ensures.unchanged ∙ ap (λ n. grown is_thread d n at.lists.threads.items) object;
-      queues = c.enlist.ensures.queues ∙ ap (grown is_queue d c.len-object.result) c.make_room_for_one-4.ensures.unchanged ∙ ap (λ n. grown is_queue d n at.lists.queues.items) object;
-      items = c.enlist.ensures.items ∙ ap (grown is_item d c.len-object.result) c.make_room_for_one-5.ensures.unchanged ∙ ap (λ n. grown is_item d n at.lists.items.items) object;
-      sems = c.enlist.ensures.sems ∙ ap (grown is_sem d c.len-object.result) c.make_room_for_one-6.ensures.unchanged ∙ ap (λ n. grown is_sem d n at.lists.sems.items) object;
-      msgqs = c.enlist.ensures.msgqs ∙ ap (grown is_msgq d c.len-object.result) c.make_room_for_one-7.ensures.unchanged ∙ ap (λ n. grown is_msgq d n at.lists.msgqs.items) object;
-      signals = c.enlist.ensures.signals ∙ ap (grown is_signal d c.len-object.result) c.make_room_for_one-8.ensures.unchanged ∙ ap (λ n. grown is_signal d n at.lists.signals.items) object;
-      chans = c.enlist.ensures.chans ∙ ap (grown is_chan d c.len-object.result) c.make_room_for_one-9.ensures.unchanged ∙ ap (λ n. grown is_chan d n at.lists.chans.items) object;
-      observers = c.enlist.ensures.observers ∙ ap (grown is_observer d c.len-object.result) c.make_room_for_one-10.ensures.unchanged ∙ ap (λ n. grown is_observer d n at.lists.observers.items) object;
+    let more : AreGrown d (length ds) at.lists c.add_to_kind.new.lists = record {
+      threads = c.add_to_kind.ensures.threads ∙ ap (with_object is_thread d c.len-object.result) c.make_room_for_one-3.ensures.unchanged ∙ ap (λ n. with_object is_thread d n at.lists.threads.items) object;
+      queues = c.add_to_kind.ensures.queues ∙ ap (with_object is_queue d c.len-object.result) c.make_room_for_one-4.ensures.unchanged ∙ ap (λ n. with_object is_queue d n at.lists.queues.items) object;
+      items = c.add_to_kind.ensures.items ∙ ap (with_object is_item d c.len-object.result) c.make_room_for_one-5.ensures.unchanged ∙ ap (λ n. with_object is_item d n at.lists.items.items) object;
+      sems = c.add_to_kind.ensures.sems ∙ ap (with_object is_sem d c.len-object.result) c.make_room_for_one-6.ensures.unchanged ∙ ap (λ n. with_object is_sem d n at.lists.sems.items) object;
+      msgqs = c.add_to_kind.ensures.msgqs ∙ ap (with_object is_msgq d c.len-object.result) c.make_room_for_one-7.ensures.unchanged ∙ ap (λ n. with_object is_msgq d n at.lists.msgqs.items) object;
+      signals = c.add_to_kind.ensures.signals ∙ ap (with_object is_signal d c.len-object.result) c.make_room_for_one-8.ensures.unchanged ∙ ap (λ n. with_object is_signal d n at.lists.signals.items) object;
+      chans = c.add_to_kind.ensures.chans ∙ ap (with_object is_chan d c.len-object.result) c.make_room_for_one-9.ensures.unchanged ∙ ap (λ n. with_object is_chan d n at.lists.chans.items) object;
+      observers = c.add_to_kind.ensures.observers ∙ ap (with_object is_observer d c.len-object.result) c.make_room_for_one-10.ensures.unchanged ∙ ap (λ n. with_object is_observer d n at.lists.observers.items) object;
     } in
-    let number : c.count-number.result ≡ count_by (same_kind d) ds = c.count-number.ensures ∙ ap (λ k. count_by (counts_with k) c.args.self.now) c.kind_of.ensures ∙ ap (count_by (same_kind d)) (sym view) in
-    let made = IsTabled-push ds d at.lists c.enlist.new.lists at.numbers.items c.count-number.result at.names c.insert.new.self c.self.invariant (omega (arith, c.requires.few, ap length view)) (ap (λ xs. object_of xs (name_of d)) view ∙ c.requires.fresh) more number put in
-    subst (λ xs. IsTabled xs c.enlist.new.lists c.push_within.new.items.items c.insert.new.self) (sym (c.push_within-2.ensures.items ∙ ap (λ l. l ++ d ∷ []) c.make_room_for_one.ensures.unchanged))
-    (subst (λ ns. IsTabled (ds ++ d ∷ []) c.enlist.new.lists ns c.insert.new.self) (sym (c.push_within.ensures.items ∙ ap (λ l. l ++ c.count-number.result ∷ []) c.make_room_for_one-2.ensures.unchanged)) made)
+    let number : c.count-number.result ≡ count_by (has_kind_of d) ds = c.count-number.ensures ∙ ap (λ k. count_by (counts_with k) c.args.self.now) c.kind_of.ensures ∙ ap (count_by (has_kind_of d)) (sym view) in
+    let made = IsTabled-push ds d at.lists c.add_to_kind.new.lists at.numbers.items c.count-number.result at.names c.insert.new.self c.self.invariant (omega (arith, c.requires.few, ap length view)) (ap (λ xs. object_of xs (name_of d)) view ∙ c.requires.fresh) more number put in
+    subst (λ xs. IsTabled xs c.add_to_kind.new.lists c.push_within.new.items.items c.insert.new.self) (sym (c.push_within-2.ensures.items ∙ ap (λ l. l ++ d ∷ []) c.make_room_for_one.ensures.unchanged))
+    (subst (λ ns. IsTabled (ds ++ d ∷ []) c.add_to_kind.new.lists ns c.insert.new.self) (sym (c.push_within.ensures.items ∙ ap (λ l. l ++ c.count-number.result ∷ []) c.make_room_for_one-2.ensures.unchanged)) made)

@@ -1,7 +1,7 @@
 use Rattle.std.proofs.Common.{Bool, List, refl, sym, ap, subst, ◌∙◌}
 use Rattle.zk_model_bus.specs.Table.{is_for, table_next}
 use Rattle.zk_objects.specs.declared.object.Object.{Object}
-use Rattle.zk_objects.specs.Kept.{Stands, objects_after}
+use Rattle.zk_objects.specs.Kept.{IsStateOf, objects_after}
 use Rattle.zk_objects.proofs.Standing.{reply-so, range-same, stands-next}
 use Rattle.zk_objects.proofs.engine.ObjectsEngineEngine.step.Goals as goal
 
@@ -20,5 +20,5 @@ returns-clause-step c = λ s stands.
     let next = stands-next s objects old.users old.dead c.mark.new.self.users c.mark.new.self.dead who op stands range marks.users marks.dead in (
       reply-so s objects old.users old.dead who op c.in_ok-reply.reply stands range alive mode marks.reply,
       refl,
-      subst (λ (os : List Object). Stands os c.mark.new.self.users c.mark.new.self.dead (table_next s who op)) (sym made) next,
+      subst (λ (os : List Object). IsStateOf os c.mark.new.self.users c.mark.new.self.dead (table_next s who op)) (sym made) next,
     )

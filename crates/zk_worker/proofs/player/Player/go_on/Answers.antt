@@ -1,7 +1,7 @@
 use Rattle.std.proofs.Common.{◌<◌, [], ◌∷◌, ◌++◌, ap, arith, rules, length, reverse, vec_capacity}
-use Rattle.zk_scenario.specs.Parts.{Parts}
+use Rattle.zk_scenario.specs.Content.{Content}
 use Rattle.zk_worker.specs.Checks.{mode_after}
-use Rattle.zk_worker.specs.Places.{At}
+use Rattle.zk_worker.specs.Places.{PlayerPlace}
 use Rattle.zk_worker.specs.Protocol.{frames_progress, frames_after, answers_after, spot_of}
 use Rattle.zk_worker.proofs.Starts.{At-same}
 use Rattle.zk_scenario.specs.declared.scenario.TheConstants.{MOST_STEPS}
@@ -22,8 +22,8 @@ invariant_of-self c =
 
 pub returns : goal.returns
 returns c =
-    let s : Parts = c.args.scenario.now in
-    let at : At = c.args.self.now in
+    let s : Content = c.args.scenario.now in
+    let at : PlayerPlace = c.args.self.now in
     let progress = frames_progress s at.frames c.args.step.now c.args.reply.now in
     let spot = spot_of c.args.step.now c.args.reply.now in
     At-same c.self.inside.who at.who c.mode_after-self-inside.result (mode_after at.mode c.args.step.now) 0

@@ -1,5 +1,5 @@
 use Rattle.std.proofs.Common.{refl, sym, subst, rules}
-use Rattle.zk_worker.specs.Places.{At}
+use Rattle.zk_worker.specs.Places.{PlayerPlace}
 use Rattle.zk_worker.specs.Follows.{IsFollowing}
 use Rattle.zk_worker.specs.Ranges.{IsFit}
 use Rattle.zk_worker.proofs.FitsStill.{after-fits}
@@ -14,12 +14,12 @@ returns-in-Some-clause-next c = search rules
 
 pub returns-in-Some-clause-fits : goal.returns-in-Some-clause-fits
 returns-in-Some-clause-fits c =
-    λ valid fits told passes. subst (λ (at : At). IsFit c.args.scenario.now at) (sym (returns-in-Some-clause-next c))
+    λ valid fits told passes. subst (λ (at : PlayerPlace). IsFit c.args.scenario.now at) (sym (returns-in-Some-clause-next c))
     (after-fits c.args.scenario.now c.args.self.now c.args.step.now c.args.reply.now valid fits c.requires.ahead told passes)
 
 pub returns-in-Some-clause-follows : goal.returns-in-Some-clause-follows
 returns-in-Some-clause-follows c =
-    λ number old new more is. subst (λ (x : At). IsFollowing c.args.scenario.now number new x) (sym (returns-in-Some-clause-next c))
+    λ number old new more is. subst (λ (x : PlayerPlace). IsFollowing c.args.scenario.now number new x) (sym (returns-in-Some-clause-next c))
     (following-more c.args.scenario.now number old new c.args.self.now c.args.step.now c.args.reply.now more c.requires.ahead is)
 
 pub returns-in-Some-clause-looks : goal.returns-in-Some-clause-looks
@@ -34,12 +34,12 @@ returns-in-None-clause-next c = search rules
 
 pub returns-in-None-clause-fits : goal.returns-in-None-clause-fits
 returns-in-None-clause-fits c =
-    λ valid fits told passes. subst (λ (at : At). IsFit c.args.scenario.now at) (sym (returns-in-None-clause-next c))
+    λ valid fits told passes. subst (λ (at : PlayerPlace). IsFit c.args.scenario.now at) (sym (returns-in-None-clause-next c))
     (after-fits c.args.scenario.now c.args.self.now c.args.step.now c.args.reply.now valid fits c.requires.ahead told passes)
 
 pub returns-in-None-clause-follows : goal.returns-in-None-clause-follows
 returns-in-None-clause-follows c =
-    λ number old new more is. subst (λ (x : At). IsFollowing c.args.scenario.now number new x) (sym (returns-in-None-clause-next c))
+    λ number old new more is. subst (λ (x : PlayerPlace). IsFollowing c.args.scenario.now number new x) (sym (returns-in-None-clause-next c))
     (following-more c.args.scenario.now number old new c.args.self.now c.args.step.now c.args.reply.now more c.requires.ahead is)
 
 pub returns-in-None-clause-looks : goal.returns-in-None-clause-looks

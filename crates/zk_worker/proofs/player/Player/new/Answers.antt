@@ -4,7 +4,7 @@ use Rattle.std.proofs.lemmas.Option.{slice_get_read}
 use Rattle.zk_line.specs.declared.types.Decl.{Decl}
 use Rattle.zk_worker.specs.declared.frames.Frame.{Frame}
 use Rattle.zk_worker.specs.declared.frames.Role.{Role}
-use Rattle.zk_worker.specs.Places.{At}
+use Rattle.zk_worker.specs.Places.{PlayerPlace}
 use Rattle.zk_worker.specs.Protocol.{settled, first_frame, role_at}
 use Rattle.zk_worker.proofs.DeclaredObjects.{players-below}
 use Rattle.zk_worker.proofs.Starts.{At-same, start_at-found, start_at-fresh}
@@ -36,7 +36,7 @@ returns-clause-start c =
     let frames = c.settle.ensures.frames ∙ ap (λ (l : List Frame). settled s l) stack in
     let made = At-same _ _ _ _ _ _ _ _ _ _ _ (sym c.who_at-who.ensures) (sym c.start_mode.ensures) (sym frames)
     (sym c.in_ok-with_capacity.ensures.items) (sym c.in_ok-with_capacity-2.ensures.items) in
-    start_at-found s c.args.number object decl (sym c.in-Some.ensures) declared ∙ ap (λ (x : At). Some x) made
+    start_at-found s c.args.number object decl (sym c.in-Some.ensures) declared ∙ ap (λ (x : PlayerPlace). Some x) made
 
 pub returns-clause-fits : goal.returns-clause-fits
 returns-clause-fits c = start_at-fits c.args.scenario.now c.args.number _ (returns-clause-start c)

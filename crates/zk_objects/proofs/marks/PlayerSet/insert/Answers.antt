@@ -1,7 +1,7 @@
 use Rattle.std.proofs.Common.{eqb, ◌||◌, refl, ap, ◌∙◌}
 use Rattle.zk_objects.specs.Bits.{Marked, is_marked}
 use Rattle.zk_objects.proofs.BitWords.{marked-low}
-use Rattle.zk_objects.proofs.marks.Marks.insert.Goals as goal
+use Rattle.zk_objects.proofs.marks.PlayerSet.insert.Goals as goal
 
 pub returns-then-player-lt-MOST_PLAYERS-clause-added : goal.returns-then-player-lt-MOST_PLAYERS-clause-added
 returns-then-player-lt-MOST_PLAYERS-clause-added c = λ other.

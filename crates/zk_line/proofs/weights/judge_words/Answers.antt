@@ -1,6 +1,6 @@
 use Rattle.std.proofs.Common.{rules}
 use Rattle.zk_line.proofs.ReadTo.{read_next}
-use Rattle.zk_line.proofs.weights.weigh.Goals as goal
+use Rattle.zk_line.proofs.weights.judge_words.Goals as goal
 
 pub loop-part-preserved : goal.loop-part-preserved
 loop-part-preserved c =

@@ -1,6 +1,6 @@
 use Rattle.std.proofs.Common.{length}
 use Rattle.zk_line.proofs.ReadTo.{IsReadTo}
-use Rattle.zk_line.proofs.weights.weigh.Given as goal
+use Rattle.zk_line.proofs.weights.judge_words.Given as goal
 
 abbrev pub invariant-loop-part : goal.invariant-loop-part
 invariant-loop-part l = IsReadTo l.free l.objects l.parts l.args l.left
