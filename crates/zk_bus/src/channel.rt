@@ -1,4 +1,5 @@
 ghost use Rattle.std.specs.Prelude.{◌≡◌, ◌≤◌, [], length, IfOk};
+ghost use Rattle.zk_base.specs.Limits.{most_few};
 ghost use Rattle.zk_model_bus.specs.Channel.{new_chan};
 ghost use Rattle.zk_bus.specs.Seen.{chan_start, chan_history};
 
@@ -22,7 +23,7 @@ impl Channel {
         valid: Valid,
         observers: &[u32],
     ) -> Result<Channel, NoMemory>
-        requires few { length observers.now ≤ 8 }
+        requires few { length observers.now ≤ most_few }
         ensures start { IfOk result (λ channel. chan_start channel ≡ new_chan initial valid observers.now) }
         ensures history { IfOk result (λ channel. chan_history channel ≡ []) }
     {

@@ -1,9 +1,10 @@
-use Rattle.std.specs.Prelude.{ℕ, ◌+◌, ◌^◌, ◌<◌, ◌≤◌, Bool, true, false, not, ◌==◌, ◌&&◌, nat_le, if◌then◌else◌, Option, Some, None, is_some, option_map, List, length, map, slice_get}
+use Rattle.std.specs.Prelude.{ℕ, ◌+◌, ◌≤◌, Bool, true, false, not, ◌==◌, ◌&&◌, if◌then◌else◌, Option, Some, None, is_some, option_map, List, length, map, slice_get}
 use Rattle.std.specs.List.{filter, list_any}
 use Rattle.std.specs.Option.{option_map_or}
 use Rattle.zk_base.specs.declared.ids.Who.{Who}
 use Rattle.zk_base.specs.declared.waits.Waiter.{Waiter}
 use Rattle.zk_base.specs.Legal.{Machine}
+use Rattle.zk_base.specs.Limits.{most_entries, most_few}
 use Rattle.zk_base.specs.Validators.{is_valid}
 use Rattle.zk_base.specs.Waits.{Waits, no_waits, open_waits, joined, ended, quitted, first_decided, decision_of, quit_answer}
 use Rattle.zk_model_bus.specs.declared.channel.ChanObserver.{ChanObserver}
@@ -53,8 +54,8 @@ owed_entries c = open_waits c.waits + length c.waits.waiting + (if is_some c.hol
 
 -- a channel with few observers, at which no more wait than have called
 pub record IsCalled (c : Channel) : Type 0 where
-  pub observed : length c.observers ≤ 8
-  pub few : c.entries < 2 ^ 32
+  pub observed : length c.observers ≤ most_few
+  pub few : c.entries ≤ most_entries
   pub called : open_waits c.waits ≤ c.entries
 
 -- the caller holds the channel

@@ -1,8 +1,9 @@
-use Rattle.std.specs.Prelude.{ℕ, ◌+◌, ◌^◌, ◌<◌, ◌≤◌, Bool, true, false, nat_lt, if◌then◌else◌, Option, Some, None, is_some, IfSome, List, [], ◌∷◌, ◌++◌, length}
+use Rattle.std.specs.Prelude.{ℕ, ◌+◌, ◌≤◌, Bool, true, false, nat_lt, if◌then◌else◌, Option, Some, None, is_some, IfSome, List, [], ◌∷◌, ◌++◌, length}
 use Rattle.circular_buffer.specs.Buffer.{Buffer}
 use Rattle.zk_base.specs.declared.ids.Who.{Who}
 use Rattle.zk_base.specs.declared.waits.Waiter.{Waiter}
 use Rattle.zk_base.specs.Legal.{Machine}
+use Rattle.zk_base.specs.Limits.{most_entries, most_held}
 use Rattle.zk_base.specs.Waits.{Waits, no_waits, open_waits, joined, ended, quitted, first_decided, decision_of, quit_answer}
 use Rattle.zk_model_bus.specs.declared.observer.ObsOp.{ObsOp}
 use Rattle.zk_model_bus.specs.declared.observer.ObsOp.TheVariants as ops
@@ -40,8 +41,8 @@ channels_of (Some ring) = ring.items
 -- an observer that lists no more than so many, and at which no more wait than have called
 pub record IsListed (o : Observer) : Type 0 where
   pub within : IfSome o.capacity (λ most. length o.channels ≤ most)
-  pub bounded : IfSome o.capacity (λ most. most ≤ 256)
-  pub few : o.entries < 2 ^ 32
+  pub bounded : IfSome o.capacity (λ most. most ≤ most_held)
+  pub few : o.entries ≤ most_entries
   pub called : open_waits o.takers ≤ o.entries
 
 -- what a visit of an enabled observer is answered: a listener runs,

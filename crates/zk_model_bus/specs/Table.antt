@@ -4,6 +4,7 @@ use Rattle.std.specs.Option.{option_map_or}
 use Rattle.zk_base.specs.declared.ids.Who.{Who}
 use Rattle.zk_base.specs.Kinds.{meets, is_any}
 use Rattle.zk_base.specs.Legal.{Machine}
+use Rattle.zk_base.specs.Limits.{most_players}
 use Rattle.zk_base.specs.declared.kinds.Kind.{Kind}
 use Rattle.zk_base.specs.declared.kinds.Kind.TheVariants as kinds
 use Rattle.zk_base.specs.declared.kinds.Need.{Need}
@@ -38,10 +39,10 @@ abbrev pub new_table : Setup → Table
 new_table setup = record { setup = setup; entries = [] }
 
 -- the declarations fit together: each thread is another object of the kind Thread, each such object is a thread, there are
--- no more than 64 of them, and permissions are of threads, on objects that there are
+-- no more of them than a scenario has players, and permissions are of threads, on objects that there are
 pub record IsSetup (setup : Setup) : Type 0 where
   pub long : length setup.ready ≡ length setup.kinds
-  pub few : length setup.threads ≤ 64
+  pub few : length setup.threads ≤ most_players
   pub threads : (player : ℕ) (thread : ℕ × Bool) → slice_get setup.threads player ≡ Some thread →
       slice_get setup.kinds thread.0 ≡ Some kinds.Thread
   pub once : (p q : ℕ) (a b : ℕ × Bool) → slice_get setup.threads p ≡ Some a → slice_get setup.threads q ≡ Some b →

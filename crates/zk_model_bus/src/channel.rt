@@ -3,7 +3,7 @@ ghost use Rattle.std.specs.List.{list_any};
 ghost use Rattle.zk_base.specs.History.{AddsNone};
 ghost use Rattle.zk_base.specs.Validators.{is_valid};
 ghost use Rattle.zk_base.specs.Waits.{open_waits};
-ghost use Rattle.zk_base.specs.Limits.{most_entries};
+ghost use Rattle.zk_base.specs.Limits.{most_entries, most_few};
 ghost use Rattle.zk_model_bus.specs.Channel.{unmasked, new_chan, holds, is_claim, has_claimed, holds_by_entering, is_observer, told_of, mask_one, masked, gain_reply, gain, held_by, handed_on, chan_reply, chan_next, chan_after, may_wait};
 
 use std::alloc::Global;
@@ -152,7 +152,7 @@ impl ChanState {
         valid: Valid,
         observers: &[u32],
     ) -> Result<ChanState, NoMemory>
-        requires { length observers.now ≤ 8 }
+        requires { length observers.now ≤ most_few }
         ensures { IfOk result (λ state. state ≡ new_chan initial valid observers.now) }
     {
         Ok(ChanState {
@@ -209,7 +209,7 @@ fn has_observer(observers: &[ChanObserver], number: u32) -> bool
 
 /// The numbers of the observers that aren't masked.
 fn told_of(observers: &[ChanObserver]) -> Few
-    requires few { length observers.now ≤ 8 }
+    requires few { length observers.now ≤ most_few }
     ensures { result ≡ told_of observers.now }
 {
     let mut told = Few::none();
@@ -260,7 +260,7 @@ impl ChanStore {
         valid: Valid,
         observers: &[u32],
     ) -> Result<ChanStore, NoMemory>
-        requires { length observers.now ≤ 8 }
+        requires { length observers.now ≤ most_few }
         ensures { IfOk result (λ store. store.chan ≡ new_chan initial valid observers.now) }
     {
         Ok(ChanStore {

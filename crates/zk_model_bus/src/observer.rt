@@ -1,7 +1,7 @@
 ghost use Rattle.std.specs.Prelude.{◌≡◌, true, false, ◌+◌, ◌-◌, ◌^◌, ◌<◌, ◌≤◌, ◌++◌, ◌∷◌, [], Some, None, length, IsOk, IfOk, OnErr};
 ghost use Rattle.circular_buffer.specs.Buffer.{buffer};
 ghost use Rattle.zk_base.specs.History.{AddsNone};
-ghost use Rattle.zk_base.specs.Limits.{most_entries};
+ghost use Rattle.zk_base.specs.Limits.{most_entries, most_held};
 ghost use Rattle.zk_model_bus.specs.Observer.{new_obs, visit_reply, visited, obs_reply, obs_next, obs_after, may_wait};
 
 use circular_buffer::HeapCircularBuffer;
@@ -108,7 +108,7 @@ impl ObsState {
 
     /// A subscriber before the first entry, whose list has this capacity.
     pub fn subscriber(alloc: Global, capacity: u32) -> Result<ObsState, NoMemory>
-        requires { capacity ≤ 256 }
+        requires { capacity ≤ most_held }
         ensures { IfOk result (λ state. state ≡ new_obs (Some capacity)) }
     {
         Ok(ObsState {
@@ -148,7 +148,7 @@ impl ObsStore {
 
     /// A subscriber before the first entry, whose list has this capacity.
     pub fn subscriber(alloc: Global, capacity: u32) -> Result<ObsStore, NoMemory>
-        requires { capacity ≤ 256 }
+        requires { capacity ≤ most_held }
         ensures { IfOk result (λ store. store.obs ≡ new_obs (Some capacity)) }
     {
         let ring = HeapCircularBuffer::with_capacity(alloc, capacity as usize)?;

@@ -1,11 +1,11 @@
--- The bits of a word, and the sets of players that they make.
-use Rattle.std.proofs.Common.{◌≡◌, ◌≢◌, ℕ, ◌+◌, ◌*◌, ◌-◌, ◌^◌, ◌<◌, ◌≤◌, Bool, true, false, not, eqb, ltb, cond, ◌&&◌, ◌||◌, List, [], ◌∷◌, ◌++◌, bit_and, bit_or, refl, sym, ap, ◌∙◌, arith}
-use Rattle.std.specs.List.{list_any}
+-- The bits of a word, and the sets of players that words make.
+use Rattle.std.proofs.Common.{◌≡◌, ◌≢◌, ℕ, ◌+◌, ◌*◌, ◌-◌, ◌/◌, ◌%◌, ◌^◌, ◌<◌, Bool, true, false, not, eqb, ltb, cond, ◌&&◌, ◌||◌, List, length, get_or, set, bit_and, bit_or, refl, sym, ap, ◌∙◌, arith}
 use Rattle.std.proofs.Math.Bool.{or-false, or-true, and-false, and-true}
-use Rattle.std.proofs.lemmas.Bool.{eqb-true, eqb-false, ne_eqb, ltb-true, ltb-false}
-use Rattle.std.proofs.lemmas.List.Folds.{list_any-append}
-use Rattle.std.proofs.lemmas.Nat.{and_or_self, and_or_apart, and_assoc, and-not, and_block, and_le_l, and_le_r, pow_apart, pow_pos, pow_below}
-use Rattle.zk_objects.specs.Bits.{Marked, has_bit, with_bit, without_bit, given, taken, is_marked}
+use Rattle.std.proofs.lemmas.Bool.{eqb-true, eqb-false, ne_eqb, lt-ltb}
+use Rattle.std.proofs.lemmas.List.{get_or-set_same, get_or-set_other}
+use Rattle.std.proofs.lemmas.Nat.{and_or_self, and_or_apart, and_assoc, and-not, and_block, and_le_l, and_le_r, pow_apart, pow_pos, pow_below, mod_below}
+use Rattle.zk_base.specs.Limits.{most_players}
+use Rattle.zk_objects.specs.Players.{word_bits, has_bit, with_bit, without_bit, has_player}
 
 tested : (x n : ℕ) → x ≡ 2 ^ n → not (eqb x 0) ≡ true
 tested x n is = ap not (ne_eqb x 0 (λ none. let some = pow_pos n in omega arith))
@@ -23,72 +23,99 @@ with-own w n = tested (bit_and (bit_or w (2 ^ n)) (2 ^ n)) n (and_or_self (2 ^ n
 with-other : (w n p : ℕ) → n ≢ p → has_bit (with_bit w n) p ≡ has_bit w p
 with-other w n p apart = ap (λ (x : ℕ). not (eqb x 0)) (and_or_apart (2 ^ p) w (2 ^ n) (pow_apart n p apart))
 
-without-so : (w n p : ℕ) → has_bit (without_bit w n) p ≡ not (eqb (bit_and w (bit_and (2 ^ 64 - 1 - 2 ^ n) (2 ^ p))) 0)
-without-so w n p = ap (λ (x : ℕ). not (eqb x 0)) (and_assoc (2 ^ p) w (2 ^ 64 - 1 - 2 ^ n))
+without-so : (w n p : ℕ) → has_bit (without_bit w n) p ≡ not (eqb (bit_and w (bit_and (2 ^ word_bits - 1 - 2 ^ n) (2 ^ p))) 0)
+without-so w n p = ap (λ (x : ℕ). not (eqb x 0)) (and_assoc (2 ^ p) w (2 ^ word_bits - 1 - 2 ^ n))
 
-without-own : (w n : ℕ) → n < 64 → has_bit (without_bit w n) n ≡ false
+without-own : (w n : ℕ) → n < word_bits → has_bit (without_bit w n) n ≡ false
 without-own w n small =
-    let rest = bit_and (2 ^ 64 - 1 - 2 ^ n) (2 ^ n) in
-    let sum = and-not 64 (2 ^ n) (2 ^ n) (pow_below n 64 small) (pow_below n 64 small) in
+    let rest = bit_and (2 ^ word_bits - 1 - 2 ^ n) (2 ^ n) in
+    let sum = and-not word_bits (2 ^ n) (2 ^ n) (pow_below n word_bits small) (pow_below n word_bits small) in
     let own = own-bit n in
     let none : rest ≡ 0 = omega (arith, sum, own) in
     let least = and_le_r w 0 in
     let zero : bit_and w 0 ≡ 0 = omega (arith, least) in
     without-so w n n ∙ ap (λ (x : ℕ). not (eqb (bit_and w x) 0)) none ∙ ap (λ (x : ℕ). not (eqb x 0)) zero
 
-without-other : (w n p : ℕ) → n < 64 → p < 64 → n ≢ p → has_bit (without_bit w n) p ≡ has_bit w p
+without-other : (w n p : ℕ) → n < word_bits → p < word_bits → n ≢ p → has_bit (without_bit w n) p ≡ has_bit w p
 without-other w n p small below apart =
-    let rest = bit_and (2 ^ 64 - 1 - 2 ^ n) (2 ^ p) in
-    let sum = and-not 64 (2 ^ n) (2 ^ p) (pow_below n 64 small) (pow_below p 64 below) in
+    let rest = bit_and (2 ^ word_bits - 1 - 2 ^ n) (2 ^ p) in
+    let sum = and-not word_bits (2 ^ n) (2 ^ p) (pow_below n word_bits small) (pow_below p word_bits below) in
     let none = pow_apart n p apart in
     let all : rest ≡ 2 ^ p = omega (arith, sum, none) in
     without-so w n p ∙ ap (λ (x : ℕ). not (eqb (bit_and w x) 0)) all
 
--- the word with one bit set says so of that player, and of the others what it said
-pub given-bit : (w n p : ℕ) → p < 64 → has_bit (given w n) p ≡ cond (eqb n p) true (has_bit w p)
-given-bit w n p below = by (ltb n 64) refl (eqb n p) refl where
-  by : (small : Bool) → ltb n 64 ≡ small → (same : Bool) → eqb n p ≡ same → has_bit (cond small (with_bit w n) w) p ≡ cond same true (has_bit w p)
-  by true is true same = ap (λ (q : ℕ). has_bit (with_bit w n) q) (sym (eqb-true n p same)) ∙ with-own w n
-  by true is false other = with-other w n p (eqb-false n p other)
-  by false is true same = let big = ltb-false n 64 is in let eq = eqb-true n p same in absurd (omega arith)
-  by false is false other = refl
-
-pub taken-bit : (w n p : ℕ) → p < 64 → has_bit (taken w n) p ≡ cond (eqb n p) false (has_bit w p)
-taken-bit w n p below = by (ltb n 64) refl (eqb n p) refl where
-  by : (small : Bool) → ltb n 64 ≡ small → (same : Bool) → eqb n p ≡ same → has_bit (cond small (without_bit w n) w) p ≡ cond same false (has_bit w p)
-  by true is true same = ap (λ (q : ℕ). has_bit (without_bit w n) q) (sym (eqb-true n p same)) ∙ without-own w n (ltb-true n 64 is)
-  by true is false other = without-other w n p (ltb-true n 64 is) below (eqb-false n p other)
-  by false is true same = let big = ltb-false n 64 is in let eq = eqb-true n p same in absurd (omega arith)
-  by false is false other = refl
-
-swapped : (a b : Bool) → cond b true a ≡ (a || b)
-swapped a true = sym (or-true a)
-swapped a false = sym (or-false a)
-
--- a player below 64 more is in the set, and the others are as they were
-pub marked-low : (m after : Marked) (player other : ℕ) → player < 64 → after.bits ≡ given m.bits player → after.above ≡ m.above →
-    is_marked after other ≡ (is_marked m other || eqb player other)
-marked-low m after player other small bits above = by (ltb other 64) refl where
-  by : (low : Bool) → ltb other 64 ≡ low →
-      cond low (has_bit after.bits other) (list_any (λ (k : ℕ). eqb k other) after.above)
-      ≡ (cond low (has_bit m.bits other) (list_any (λ (k : ℕ). eqb k other) m.above) || eqb player other)
-  by true is =
-      ap (λ (w : ℕ). has_bit w other) bits ∙ given-bit m.bits player other (ltb-true other 64 is) ∙ swapped (has_bit m.bits other) (eqb player other)
-  by false is =
-      let high = ltb-false other 64 is in
-      let apart = ne_eqb player other (λ same. omega arith) in
-      ap (λ (l : List ℕ). list_any (λ (k : ℕ). eqb k other) l) above
-      ∙ sym (or-false (list_any (λ (k : ℕ). eqb k other) m.above))
-      ∙ ap (λ (b : Bool). list_any (λ (k : ℕ). eqb k other) m.above || b) (sym apart)
-
--- no player has a bit in an empty word
-pub none-set : (player : ℕ) → has_bit 0 player ≡ false
-none-set player =
-    let least = and_le_l 0 (2 ^ player) in
-    let zero : bit_and 0 (2 ^ player) ≡ 0 = omega (arith, least) in
+-- no bit of an empty word is set
+pub none-set : (bit : ℕ) → has_bit 0 bit ≡ false
+none-set bit =
+    let least = and_le_l 0 (2 ^ bit) in
+    let zero : bit_and 0 (2 ^ bit) ≡ 0 = omega (arith, least) in
     ap (λ (x : ℕ). not (eqb x 0)) zero
 
--- a bit that is set where a test holds
-pub set-where : (w n p : ℕ) (test before : Bool) → p < 64 → has_bit w p ≡ before → has_bit (cond test (given w n) w) p ≡ (before || (eqb n p && test))
-set-where w n p true before below is = given-bit w n p below ∙ swapped (has_bit w p) (eqb n p) ∙ ap (λ (b : Bool). b || eqb n p) is ∙ ap (λ (b : Bool). before || b) (sym (and-true (eqb n p)))
-set-where w n p false before below is = is ∙ sym (or-false before) ∙ ap (λ (b : Bool). before || b) (sym (and-false (eqb n p)))
+-- the place of a player: its word, and its bit there, which no other player has
+bit-small : (player : ℕ) → player % word_bits < word_bits
+bit-small player = mod_below player word_bits (omega arith)
+
+apart-bits : (player other : ℕ) → player ≢ other → player / word_bits ≡ other / word_bits → player % word_bits ≢ other % word_bits
+apart-bits player other apart word bit = apart (omega arith)
+
+-- words where the word of a player is made another: one that has its bit put so, and the other bits as they were
+put-player : (words : List ℕ) (player other made : ℕ) (put : Bool) → player / word_bits < length words →
+    has_bit made (player % word_bits) ≡ put →
+    ((bit : ℕ) → bit < word_bits → player % word_bits ≢ bit → has_bit made bit ≡ has_bit (get_or words (player / word_bits) 0) bit) →
+    has_player (set words (player / word_bits) made) other ≡ cond (eqb player other) put (has_player words other)
+put-player words player other made put within own others = by (eqb player other) refl where
+  here : has_player (set words (player / word_bits) made) player ≡ put
+  here = ap (λ (w : ℕ). has_bit w (player % word_bits)) (get_or-set_same words (player / word_bits) made 0 within) ∙ own
+
+  there : player ≢ other → (b : Bool) → eqb (player / word_bits) (other / word_bits) ≡ b → has_player (set words (player / word_bits) made) other ≡ has_player words other
+  there apart true same =
+      let word = eqb-true (player / word_bits) (other / word_bits) same in
+      ap (λ (at : ℕ). has_bit (get_or (set words (player / word_bits) made) at 0) (other % word_bits)) (sym word)
+      ∙ ap (λ (w : ℕ). has_bit w (other % word_bits)) (get_or-set_same words (player / word_bits) made 0 within)
+      ∙ others (other % word_bits) (bit-small other) (apart-bits player other apart word)
+      ∙ ap (λ (at : ℕ). has_bit (get_or words at 0) (other % word_bits)) word
+  there apart false differ =
+      ap (λ (w : ℕ). has_bit w (other % word_bits)) (get_or-set_other words (player / word_bits) (other / word_bits) made 0
+      (λ same. eqb-false (player / word_bits) (other / word_bits) differ (sym same)))
+
+  by : (b : Bool) → eqb player other ≡ b → has_player (set words (player / word_bits) made) other ≡ cond b put (has_player words other)
+  by true same = ap (has_player (set words (player / word_bits) made)) (sym (eqb-true player other same)) ∙ here
+  by false differ = there (eqb-false player other differ) (eqb (player / word_bits) (other / word_bits)) refl
+
+-- the words with the bit of a player set, and without it
+given-player : (words : List ℕ) (player other : ℕ) → player / word_bits < length words →
+    has_player (set words (player / word_bits) (with_bit (get_or words (player / word_bits) 0) (player % word_bits))) other ≡ cond (eqb player other) true (has_player words other)
+given-player words player other within =
+    let word = get_or words (player / word_bits) 0 in
+    let bit = player % word_bits in
+    put-player words player other (with_bit word bit) true within (with-own word bit) (λ other_bit small apart. with-other word bit other_bit apart)
+
+taken-player : (words : List ℕ) (player other : ℕ) → player / word_bits < length words →
+    has_player (set words (player / word_bits) (without_bit (get_or words (player / word_bits) 0) (player % word_bits))) other ≡ cond (eqb player other) false (has_player words other)
+taken-player words player other within =
+    let word = get_or words (player / word_bits) 0 in
+    let bit = player % word_bits in
+    put-player words player other (without_bit word bit) false within (without-own word bit (bit-small player))
+    (λ other_bit small apart. without-other word bit other_bit (bit-small player) small apart)
+
+-- the set with one player more, and with one less
+pub inserted : (words : List ℕ) (player other : ℕ) → player < most_players → player / word_bits < length words →
+    (ltb other most_players && has_player (set words (player / word_bits) (with_bit (get_or words (player / word_bits) 0) (player % word_bits))) other)
+    ≡ ((ltb other most_players && has_player words other) || (eqb player other && ltb player most_players))
+inserted words player other small within =
+    ap (λ (b : Bool). ltb other most_players && b) (given-player words player other within) ∙ by (eqb player other) refl where
+      by : (b : Bool) → eqb player other ≡ b →
+          (ltb other most_players && cond b true (has_player words other)) ≡ ((ltb other most_players && has_player words other) || (b && ltb player most_players))
+      by true same =
+          let low : ltb player most_players ≡ true = lt-ltb player most_players small in
+          and-true (ltb other most_players) ∙ ap (λ (k : ℕ). ltb k most_players) (sym (eqb-true player other same)) ∙ low
+          ∙ sym (ap (λ (b : Bool). (ltb other most_players && has_player words other) || b) low ∙ or-true (ltb other most_players && has_player words other))
+      by false differ = sym (or-false (ltb other most_players && has_player words other))
+
+pub removed : (words : List ℕ) (player other : ℕ) → player / word_bits < length words →
+    (ltb other most_players && has_player (set words (player / word_bits) (without_bit (get_or words (player / word_bits) 0) (player % word_bits))) other)
+    ≡ ((ltb other most_players && has_player words other) && not (eqb player other))
+removed words player other within = ap (λ (b : Bool). ltb other most_players && b) (taken-player words player other within) ∙ by (eqb player other) where
+  by : (b : Bool) → (ltb other most_players && cond b false (has_player words other)) ≡ ((ltb other most_players && has_player words other) && not b)
+  by true = and-false (ltb other most_players) ∙ sym (and-false (ltb other most_players && has_player words other))
+  by false = sym (and-true (ltb other most_players && has_player words other))

@@ -1,14 +1,14 @@
 -- What is kept of the objects stands for the state of the table, and goes on to do so.
-use Rattle.std.proofs.Common.{◌≡◌, ℕ, zero, suc, ◌<◌, ◌≤◌, Bool, true, false, not, eqb, ltb, cond, ◌&&◌, ◌||◌, Option, Some, None, List, [], ◌∷◌, ◌++◌, length, set, slice_get, refl, sym, ap, subst, ◌∙◌, arith}
+use Rattle.std.proofs.Common.{◌≡◌, ℕ, zero, suc, ◌<◌, ◌≤◌, Bool, true, false, not, eqb, ltb, cond, ◌&&◌, ◌||◌, Option, Some, None, List, [], ◌∷◌, ◌++◌, length, slice_get, refl, sym, ap, subst, ◌∙◌, arith}
 use Rattle.std.specs.Cmp.{first_so}
 use Rattle.std.specs.List.{list_any}
 use Rattle.std.proofs.Math.Bool.{or_assoc, or-false, or-true, and-false, and-true}
 use Rattle.std.specs.Option.{option_map_or}
-use Rattle.std.proofs.lemmas.Bool.{eqb-true, eqb-false, ne_eqb, ltb-true, ltb-false}
-use Rattle.std.proofs.lemmas.List.{length-set, get_or-set_same, get_or-set_other}
+use Rattle.std.proofs.lemmas.Bool.{eqb-true, eqb-false, ltb-true, lt-ltb}
 use Rattle.std.proofs.lemmas.List.Folds.{list_any-append}
 use Rattle.std.proofs.lemmas.List.Sums.{fold-append}
-use Rattle.std.proofs.lemmas.Option.{same_Some, slice_get_within, slice_get_past, slice_get-get_or, get_or_from_slice_get}
+use Rattle.std.proofs.lemmas.Option.{same_Some, slice_get_within, slice_get_past}
+use Rattle.zk_base.specs.Limits.{most_players}
 use Rattle.zk_base.specs.declared.ids.Who.{Who}
 use Rattle.zk_base.specs.declared.kinds.Kind.{Kind}
 use Rattle.zk_base.specs.declared.kinds.Kind.TheVariants as kinds
@@ -24,9 +24,8 @@ use Rattle.zk_model_bus.specs.declared.table.TableReply.TheVariants.{Done, Alrea
 use Rattle.zk_model_bus.specs.Table.{Setup, Table, has_kind, is_thread, is_declared, said, is_allowed, publishes, is_public, initialises, begins_ready, was_initialised, is_ready, enters, begins_as_user, has_entered_user_mode, is_user, is_oops, is_dead, is_for, may, check_reply, answer, table_reply, entry_of, table_next, is_object, names_objects}
 use Rattle.zk_base.specs.Kinds.{meets, is_any}
 use Rattle.zk_objects.specs.declared.object.Object.{Object}
-use Rattle.zk_objects.specs.Bits.{Marked, has_bit, given, taken, is_marked}
-use Rattle.zk_objects.specs.Kept.{IsObject, IsStateOf, is_granted, object_reply, init_reply, answered, target_of, object_of, changed, put_in, changed_at, objects_after}
-use Rattle.zk_objects.proofs.BitWords.{given-bit, taken-bit}
+use Rattle.zk_objects.specs.Players.{Marked, has, is_marked}
+use Rattle.zk_objects.specs.Kept.{IsObject, IsStateOf, object_reply, init_reply, answered, target_of, object_of, granted_after, makes_public, makes_ready, IsChanged, AreChanged}
 
 -- One entry more.
 
@@ -46,12 +45,12 @@ ready-next t who op object =
     ap (λ (b : Bool). begins_ready t.setup object || b) (any-snoc (λ (e : TableEntry). initialises object e.op) t.entries (entry_of t who op))
     ∙ sym (or_assoc (begins_ready t.setup object) (was_initialised t object) (initialises object op))
 
-pub user-next : (t : Table) (who : Who) (op : TableOp) (player : ℕ) → is_user (table_next t who op) player ≡ (is_user t player || (eqb who.number player && enters op))
+user-next : (t : Table) (who : Who) (op : TableOp) (player : ℕ) → is_user (table_next t who op) player ≡ (is_user t player || (eqb who.number player && enters op))
 user-next t who op player =
     ap (λ (b : Bool). begins_as_user t.setup player || b) (any-snoc (λ (e : TableEntry). eqb e.player player && enters e.op) t.entries (entry_of t who op))
     ∙ sym (or_assoc (begins_as_user t.setup player) (has_entered_user_mode t player) (eqb who.number player && enters op))
 
-pub dead-next : (t : Table) (who : Who) (op : TableOp) (player : ℕ) →
+dead-next : (t : Table) (who : Who) (op : TableOp) (player : ℕ) →
     is_dead (table_next t who op) player ≡ (is_dead t player || (eqb who.number player && is_oops (answer t who.number op)))
 dead-next t who op player = any-snoc (λ (e : TableEntry). eqb e.player player && is_oops e.reply) t.entries (entry_of t who op)
 
@@ -62,13 +61,6 @@ past-none (x ∷ xs) (suc i) none = let rest = past-none xs i none in omega arit
 
 -- What is answered.
 
-granted-so : (t : Table) (objects : List Object) (users dead : Marked) (object : ℕ) (x : Object) (player : ℕ) → IsStateOf objects users dead t → IsObject t object x →
-    is_granted x player ≡ is_allowed t player object
-granted-so t objects users dead object x player stands is = by (ltb player 64) refl where
-  by : (low : Bool) → ltb player 64 ≡ low → (low && has_bit x.granted player) ≡ is_allowed t player object
-  by true small = is.granted player (ltb-true player 64 small)
-  by false big = sym (stands.beyond player object (ltb-false player 64 big))
-
 object-told : (t : Table) (objects : List Object) (users dead : Marked) (object : ℕ) (player : ℕ) (need : Need) → IsStateOf objects users dead t → (kept : Option Object) → slice_get objects object ≡ kept →
     object_reply player need kept ≡ check_reply t player (Some object) need
 object-told t objects users dead object player need stands None none =
@@ -78,7 +70,7 @@ object-told t objects users dead object player need stands None none =
 object-told t objects users dead object player need stands (Some x) has =
     let is = stands.each object x has in
     let tests : Bool → Bool → Bool → TableReply = λ k g i. cond (not k) (Oops WrongKind) (cond (not g) (Oops NotGranted) (cond (not i) (Oops NotInit) Done)) in
-    ap (λ (g : Bool). tests (meets need x.kind) (g || x.public) (is_any need || x.ready)) (granted-so t objects users dead object x player stands is)
+    ap (λ (g : Bool). tests (meets need x.kind) (g || x.public) (is_any need || x.ready)) (is.granted player)
     ∙ ap (λ (p : Bool). tests (meets need x.kind) (is_allowed t player object || p) (is_any need || x.ready)) is.public
     ∙ ap (λ (r : Bool). tests (meets need x.kind) (is_allowed t player object || is_public t object) (is_any need || r)) is.ready
     ∙ ap (λ (k : Option Kind). tests (option_map_or (meets need) k false) (is_allowed t player object || is_public t object) (is_any need || is_ready t object)) (sym is.kind)
@@ -91,7 +83,7 @@ init-told t objects users dead object stands below None none =
     absurd (omega arith)
 init-told t objects users dead object stands below (Some x) has = ap (λ (r : Bool). cond r Already Done) (stands.each object x has).ready
 
-pub answer-so : (t : Table) (objects : List Object) (users dead : Marked) (player : ℕ) (op : TableOp) → IsStateOf objects users dead t → names_objects t.setup op ≡ true →
+answer-so : (t : Table) (objects : List Object) (users dead : Marked) (player : ℕ) (op : TableOp) → IsStateOf objects users dead t → names_objects t.setup op ≡ true →
     answered objects player op ≡ answer t player op
 answer-so t objects users dead player (ops.Check None need) stands range = refl
 answer-so t objects users dead player (ops.Check (Some object) need) stands range = object-told t objects users dead object player need stands (slice_get objects object) refl
@@ -113,7 +105,7 @@ thread-kind (Some kind) is = ap Some (kind-thread kind is)
 thread-kind None is = absurd (cc)
 
 thread-so : (t : Table) (objects : List Object) (users dead : Marked) (thread player : ℕ) → IsStateOf objects users dead t → has_kind t.setup thread needs.Thread ≡ true → (kept : Option Object) → slice_get objects thread ≡ kept →
-    (option_map_or (λ (x : Object). x.player) kept 64 < 64) × (is_thread t.setup player thread ≡ eqb (option_map_or (λ (x : Object). x.player) kept 64) player)
+    (option_map_or (λ (x : Object). x.player) kept most_players < most_players) × (is_thread t.setup player thread ≡ eqb (option_map_or (λ (x : Object). x.player) kept most_players) player)
 thread-so t objects users dead thread player stands range None none =
     let is = thread-kind (slice_get t.setup.kinds thread) range in
     let within = slice_get_within t.setup.kinds thread kinds.Thread is in
@@ -148,158 +140,106 @@ missed setup player object before by ops.EnterUser miss = (refl, refl, refl)
 missed-object : (t : Table) (who : Who) (op : TableOp) (object : ℕ) (x : Object) → IsObject t object x → hits object op ≡ false → IsObject (table_next t who op) object x
 missed-object t who op object x is miss = record {
   kind = is.kind;
-  granted = λ player small. is.granted player small ∙ sym (missed t.setup player object (is_allowed t player object) who.number op miss).0 ∙ sym (allowed-next t who op player object);
+  granted = λ player. is.granted player ∙ sym (missed t.setup player object (is_allowed t player object) who.number op miss).0 ∙ sym (allowed-next t who op player object);
   public = is.public ∙ sym (or-false (is_public t object)) ∙ ap (λ (b : Bool). is_public t object || b) (sym (missed t.setup 0 object false who.number op miss).1) ∙ sym (public-next t who op object);
   ready = is.ready ∙ sym (or-false (is_ready t object)) ∙ ap (λ (b : Bool). is_ready t object || b) (sym (missed t.setup 0 object false who.number op miss).2) ∙ sym (ready-next t who op object);
   small = is.small;
   thread = is.thread;
 }
 
--- the one that it changes: its permissions, and its flags
-changed-object : (t : Table) (who : Who) (op : TableOp) (object target : ℕ) (x : Object) → IsObject t object x →
-    ((player : ℕ) → player < 64 → has_bit (changed target op x).granted player ≡ said t.setup player object (has_bit x.granted player) who.number op) →
-    (changed target op x).public ≡ (x.public || publishes object op) → (changed target op x).ready ≡ (x.ready || initialises object op) →
-    (changed target op x).kind ≡ x.kind → (changed target op x).player ≡ x.player → IsObject (table_next t who op) object (changed target op x)
-changed-object t who op object target x is granted public ready kind player = record {
-  kind = is.kind ∙ ap Some (sym kind);
-  granted = λ p small. granted p small ∙ ap (λ (b : Bool). said t.setup p object b who.number op) (is.granted p small) ∙ sym (allowed-next t who op p object);
-  public = public ∙ ap (λ (b : Bool). b || publishes object op) is.public ∙ sym (public-next t who op object);
-  ready = ready ∙ ap (λ (b : Bool). b || initialises object op) is.ready ∙ sym (ready-next t who op object);
-  small = λ thread. subst (λ (n : ℕ). n < 64) (sym player) (is.small (sym kind ∙ thread));
-  thread = λ thread p. is.thread (sym kind ∙ thread) p ∙ ap (λ (n : ℕ). eqb n p) (sym player);
+-- what an operation says of a permission on the object that it changes
+
+given-so : (before thread own small hit : Bool) → thread ≡ own → small ≡ true → hit ≡ true → (before || (own && small)) ≡ cond (thread && hit) true before
+given-so before thread true true true is low here = or-true before ∙ ap (λ (b : Bool). cond (b && true) true before) (sym is)
+given-so before thread false true true is low here = or-false before ∙ ap (λ (b : Bool). cond (b && true) true before) (sym is)
+given-so before thread own false hit is low here = absurd (cc)
+given-so before thread own small false is low here = absurd (cc)
+
+taken-so : (before thread own hit : Bool) → thread ≡ own → hit ≡ true → (before && not own) ≡ cond (thread && hit) false before
+taken-so before thread true true is here = and-false before ∙ ap (λ (b : Bool). cond (b && true) false before) (sym is)
+taken-so before thread false true is here = and-true before ∙ ap (λ (b : Bool). cond (b && true) false before) (sym is)
+taken-so before thread own false is here = absurd (cc)
+
+said-so : (t : Table) (objects : List Object) (users dead : Marked) (by : ℕ) (op : TableOp) (player object : ℕ) (before : Bool) → IsStateOf objects users dead t → names_objects t.setup op ≡ true →
+    hits object op ≡ true → granted_after (target_of objects by op) op player before ≡ said t.setup player object before by op
+said-so t objects users dead by (ops.Grant thread own) player object before stands range hit =
+    let known = first_so (has_kind t.setup thread needs.Thread) (is_object t.setup own) range in
+    let is = thread-so t objects users dead thread player stands known (slice_get objects thread) refl in
+    let target = target_of objects by (ops.Grant thread own) in
+    given-so before (is_thread t.setup player thread) (eqb target player) (ltb target most_players) (eqb own object) is.1 (lt-ltb target most_players is.0) hit
+said-so t objects users dead by (ops.Revoke thread own) player object before stands range hit =
+    let known = first_so (has_kind t.setup thread needs.Thread) (is_object t.setup own) range in
+    let is = thread-so t objects users dead thread player stands known (slice_get objects thread) refl in
+    taken-so before (is_thread t.setup player thread) (eqb (target_of objects by (ops.Revoke thread own)) player) (eqb own object) is.1 hit
+said-so t objects users dead by (ops.Release own) player object before stands range hit = taken-so before (eqb by player) (eqb by player) (eqb own object) refl hit
+said-so t objects users dead by op player object before stands range hit = refl
+
+-- and of its flags
+flags-so : (object : ℕ) (op : TableOp) → hits object op ≡ true → (makes_public op ≡ publishes object op) × (makes_ready op ≡ initialises object op)
+flags-so object (ops.Public own) hit = (sym hit, refl)
+flags-so object (ops.Init own) hit = (refl, sym hit)
+flags-so object op hit = (refl, refl)
+
+-- the object that an operation changes
+hit-object : (t : Table) (objects : List Object) (users dead : Marked) (who : Who) (op : TableOp) (object : ℕ) (x y : Object) → IsStateOf objects users dead t → names_objects t.setup op ≡ true →
+    IsObject t object x → hits object op ≡ true → IsChanged (target_of objects who.number op) op x y → IsObject (table_next t who op) object y
+hit-object t objects users dead who op object x y stands range is hit made = record {
+  kind = is.kind ∙ ap Some (sym made.kind);
+  granted = λ player.
+      made.granted player ∙ said-so t objects users dead who.number op player object (has x.granted player) stands range hit
+      ∙ ap (λ (b : Bool). said t.setup player object b who.number op) (is.granted player) ∙ sym (allowed-next t who op player object);
+  public =
+      made.public ∙ ap (λ (b : Bool). b || makes_public op) is.public ∙ ap (λ (b : Bool). is_public t object || b) (flags-so object op hit).0 ∙ sym (public-next t who op object);
+  ready = made.ready ∙ ap (λ (b : Bool). b || makes_ready op) is.ready ∙ ap (λ (b : Bool). is_ready t object || b) (flags-so object op hit).1 ∙ sym (ready-next t who op object);
+  small = λ thread. subst (λ (n : ℕ). n < most_players) (sym made.player) (is.small (sym made.kind ∙ thread));
+  thread = λ thread player. is.thread (sym made.kind ∙ thread) player ∙ ap (λ (n : ℕ). eqb n player) (sym made.player);
 }
 
-spoken : (setup : Setup) (player object target by thread own : ℕ) (w : ℕ) → eqb own object ≡ true → is_thread setup player thread ≡ eqb target player → player < 64 →
-    (has_bit (given w target) player ≡ cond (is_thread setup player thread && eqb own object) true (has_bit w player))
-    × (has_bit (taken w target) player ≡ cond (is_thread setup player thread && eqb own object) false (has_bit w player))
-spoken setup player object target by thread own w hit is small =
-    let both : (is_thread setup player thread && eqb own object) ≡ eqb target player = ap (λ (b : Bool). is_thread setup player thread && b) hit ∙ and-true (is_thread setup player thread) ∙ is in (
-      given-bit w target player small ∙ ap (λ (b : Bool). cond b true (has_bit w player)) (sym both),
-      taken-bit w target player small ∙ ap (λ (b : Bool). cond b false (has_bit w player)) (sym both),
-    )
-
-hit-object : (t : Table) (objects : List Object) (users dead : Marked) (who : Who) (op : TableOp) (object : ℕ) (x : Object) → IsStateOf objects users dead t → names_objects t.setup op ≡ true →
-    IsObject t object x → hits object op ≡ true → IsObject (table_next t who op) object (changed (target_of objects who.number op) op x)
-hit-object t objects users dead who (ops.Check named need) object x stands range is hit = absurd (cc)
-hit-object t objects users dead who ops.EnterUser object x stands range is hit = absurd (cc)
-hit-object t objects users dead who (ops.Grant thread own) object x stands range is hit =
-    let op = ops.Grant thread own in
-    let target = target_of objects who.number op in
-    let known = first_so (has_kind t.setup thread needs.Thread) (is_object t.setup own) range in
-    changed-object t who op object target x is
-    (λ player small. (spoken t.setup player object target who.number thread own x.granted hit (thread-so t objects users dead thread player stands known (slice_get objects thread) refl).1 small).0)
-    (sym (or-false x.public)) (sym (or-false x.ready)) refl refl
-hit-object t objects users dead who (ops.Revoke thread own) object x stands range is hit =
-    let op = ops.Revoke thread own in
-    let target = target_of objects who.number op in
-    let known = first_so (has_kind t.setup thread needs.Thread) (is_object t.setup own) range in
-    changed-object t who op object target x is
-    (λ player small. (spoken t.setup player object target who.number thread own x.granted hit (thread-so t objects users dead thread player stands known (slice_get objects thread) refl).1 small).1)
-    (sym (or-false x.public)) (sym (or-false x.ready)) refl refl
-hit-object t objects users dead who (ops.Release own) object x stands range is hit =
-    changed-object t who (ops.Release own) object who.number x is
-    (λ player small. taken-bit x.granted who.number player small
-    ∙ ap (λ (b : Bool). cond b false (has_bit x.granted player)) (sym (ap (λ (b : Bool). eqb who.number player && b) hit ∙ and-true (eqb who.number player))))
-    (sym (or-false x.public)) (sym (or-false x.ready)) refl refl
-hit-object t objects users dead who (ops.Public own) object x stands range is hit =
-    changed-object t who (ops.Public own) object who.number x is (λ player small. refl)
-    (sym (ap (λ (b : Bool). x.public || b) hit ∙ or-true x.public)) (sym (or-false x.ready)) refl refl
-hit-object t objects users dead who (ops.Init own) object x stands range is hit =
-    changed-object t who (ops.Init own) object who.number x is (λ player small. refl)
-    (sym (or-false x.public)) (sym (ap (λ (b : Bool). x.ready || b) hit ∙ or-true x.ready)) refl refl
-
 -- All objects after an operation.
-
-set-at : (xs : List Object) (i : ℕ) (y x : Object) → i < length xs → slice_get (set xs i y) i ≡ Some x → y ≡ x
-set-at xs i y x within has = sym (get_or-set_same xs i y y within) ∙ get_or_from_slice_get (set xs i y) i x y has
-
-set-apart : (xs : List Object) (i j : ℕ) (y x : Object) → (j ≡ i → ⊥) → slice_get (set xs i y) j ≡ Some x → slice_get xs j ≡ Some x
-set-apart xs i j y x apart has =
-    let here = slice_get_within (set xs i y) j x has in
-    let long = length-set xs i y in
-    slice_get-get_or xs j x (omega arith) ∙ ap Some (sym (get_or-set_other xs i j y x apart) ∙ get_or_from_slice_get (set xs i y) j x x has)
 
 own-hits : (op : TableOp) (own object : ℕ) (b : Bool) → object_of op ≡ Some own → eqb own object ≡ b → hits object op ≡ b
 own-hits op own object b is same = ap (λ (o : Option ℕ). option_map_or (λ (k : ℕ). eqb k object) o false) is ∙ same
 
-each-after : (t : Table) (objects : List Object) (users dead : Marked) (who : Who) (op : TableOp) → IsStateOf objects users dead t → names_objects t.setup op ≡ true →
-    (own : Option ℕ) → object_of op ≡ own → (kept : Option Object) → ((at : ℕ) → own ≡ Some at → slice_get objects at ≡ kept) →
-    (object : ℕ) (x : Object) → slice_get (changed_at objects (target_of objects who.number op) op own) object ≡ Some x → IsObject (table_next t who op) object x
-each-after t objects users dead who op stands range None none kept is object x has =
-    missed-object t who op object x (stands.each object x has) (ap (λ (o : Option ℕ). option_map_or (λ (k : ℕ). eqb k object) o false) none)
-each-after t objects users dead who op stands range (Some at) names kept is object x has =
-    by kept (is at refl) (subst (λ (k : Option Object). slice_get (put_in objects at target op k) object ≡ Some x) (is at refl) has) where
-      target : ℕ
-      target = target_of objects who.number op
+each-after : (t : Table) (objects after : List Object) (users dead : Marked) (who : Who) (op : TableOp) → IsStateOf objects users dead t → names_objects t.setup op ≡ true →
+    AreChanged (target_of objects who.number op) op objects after → (object : ℕ) (y : Object) → slice_get after object ≡ Some y → IsObject (table_next t who op) object y
+each-after t objects after users dead who op stands range made object y has = by (object_of op) refl where
+  other : (object_of op ≡ Some object → ⊥) → hits object op ≡ false → IsObject (table_next t who op) object y
+  other apart miss = missed-object t who op object y (stands.each object y (sym (made.others object apart) ∙ has)) miss
 
-      old : Object → slice_get objects at ≡ None → slice_get objects object ≡ Some x → IsObject (table_next t who op) object x
-      old y none here = split (eqb at object) refl where
-        split : (b : Bool) → eqb at object ≡ b → IsObject (table_next t who op) object x
-        split true same = absurd (let eq = ap (slice_get objects) (eqb-true at object same) in let both = sym none ∙ eq ∙ here in cc)
-        split false other = missed-object t who op object x (stands.each object x here) (own-hits op at object false names other)
+  changed : object_of op ≡ Some object → hits object op ≡ true → (kept : Option Object) → slice_get objects object ≡ kept → IsObject (table_next t who op) object y
+  changed own hit None none =
+      let past = past-none objects object none in
+      let within = slice_get_within after object y has in
+      let long = made.long in
+      absurd (omega arith)
+  changed own hit (Some x) there = hit-object t objects users dead who op object x y stands range (stands.each object x there) hit (made.own object x y own there has)
 
-      split-some : (y : Object) → slice_get objects at ≡ Some y → slice_get (set objects at (changed target op y)) object ≡ Some x → (b : Bool) → eqb at object ≡ b → IsObject (table_next t who op) object x
-      split-some y here after true same =
-          let eq = eqb-true at object same in
-          let there = subst (λ (k : ℕ). slice_get objects k ≡ Some y) eq here in
-          let made = set-at objects at (changed target op y) x (slice_get_within objects at y here) (subst (λ (k : ℕ). slice_get (set objects at (changed target op y)) k ≡ Some x) (sym eq) after) in
-          subst (IsObject (table_next t who op) object) made (hit-object t objects users dead who op object y stands range (stands.each object y there) (own-hits op at object true names same))
-      split-some y here after false other =
-          let apart : object ≡ at → ⊥ = λ same. eqb-false at object other (sym same) in
-          missed-object t who op object x (stands.each object x (set-apart objects at object (changed target op y) x apart after)) (own-hits op at object false names other)
+  split : (at : ℕ) → object_of op ≡ Some at → (b : Bool) → eqb at object ≡ b → IsObject (table_next t who op) object y
+  split at own true same = changed (own ∙ ap Some (eqb-true at object same)) (own-hits op at object true own same) (slice_get objects object) refl
+  split at own false differ = other (λ named. eqb-false at object differ (same_Some at object (sym own ∙ named))) (own-hits op at object false own differ)
 
-      by : (k : Option Object) → slice_get objects at ≡ k → slice_get (put_in objects at target op k) object ≡ Some x → IsObject (table_next t who op) object x
-      by None none after = old x none after
-      by (Some y) here after = split-some y here after (eqb at object) refl
-
-long-put : (objects : List Object) (at target : ℕ) (op : TableOp) (kept : Option Object) → length (put_in objects at target op kept) ≡ length objects
-long-put objects at target op None = refl
-long-put objects at target op (Some x) = length-set objects at (changed target op x)
-
-long-after : (objects : List Object) (target : ℕ) (op : TableOp) (own : Option ℕ) → length (changed_at objects target op own) ≡ length objects
-long-after objects target op None = refl
-long-after objects target op (Some at) = long-put objects at target op (slice_get objects at)
-
-beyond-said : (t : Table) (objects : List Object) (users dead : Marked) (by : ℕ) (op : TableOp) (player object : ℕ) → IsStateOf objects users dead t → names_objects t.setup op ≡ true → 64 ≤ player →
-    said t.setup player object false by op ≡ false
-beyond-said t objects users dead by (ops.Grant thread own) player object stands range big =
-    let known = first_so (has_kind t.setup thread needs.Thread) (is_object t.setup own) range in
-    let is = thread-so t objects users dead thread player stands known (slice_get objects thread) refl in
-    let small = is.0 in
-    let target = option_map_or (λ (x : Object). x.player) (slice_get objects thread) 64 in
-    let no : is_thread t.setup player thread ≡ false = is.1 ∙ ne_eqb target player (λ same. omega arith) in
-    ap (λ (b : Bool). cond (b && eqb own object) true false) no
-beyond-said t objects users dead by (ops.Revoke thread own) player object stands range big = kept (is_thread t.setup player thread && eqb own object) where
-  kept : (b : Bool) → cond b false false ≡ false
-  kept true = refl
-  kept false = refl
-beyond-said t objects users dead by (ops.Release own) player object stands range big = kept (eqb by player && eqb own object) where
-  kept : (b : Bool) → cond b false false ≡ false
-  kept true = refl
-  kept false = refl
-beyond-said t objects users dead by op player object stands range big = refl
+  by : (named : Option ℕ) → object_of op ≡ named → IsObject (table_next t who op) object y
+  by None none = other (λ named. absurd (let both = sym none ∙ named in cc)) (ap (λ (o : Option ℕ). option_map_or (λ (k : ℕ). eqb k object) o false) none)
+  by (Some at) own = split at own (eqb at object) refl
 
 -- what is kept stands for the next state, where it has the change of the operation
-pub stands-next : (t : Table) (objects : List Object) (users dead users' dead' : Marked) (who : Who) (op : TableOp) → IsStateOf objects users dead t → names_objects t.setup op ≡ true →
+pub stands-next : (t : Table) (objects after : List Object) (users dead users' dead' : Marked) (who : Who) (op : TableOp) → IsStateOf objects users dead t → names_objects t.setup op ≡ true →
+    AreChanged (target_of objects who.number op) op objects after →
     ((player : ℕ) → is_marked users' player ≡ (is_marked users player || (eqb who.number player && enters op))) →
     ((player : ℕ) → is_marked dead' player ≡ (is_marked dead player || (eqb who.number player && is_oops (answered objects who.number op)))) →
-    IsStateOf (objects_after objects who.number op) users' dead' (table_next t who op)
-stands-next t objects users dead users' dead' who op stands range users-so dead-so = record {
-  long = long-after objects (target_of objects who.number op) op (object_of op) ∙ stands.long;
-  each = λ object x has. each-after t objects users dead who op stands range (object_of op) refl (slice_get objects (option_map_or (λ (k : ℕ). k) (object_of op) 0))
-      (λ at is. ap (λ (o : Option ℕ). slice_get objects (option_map_or (λ (k : ℕ). k) o 0)) (sym is)) object x has;
+    IsStateOf after users' dead' (table_next t who op)
+stands-next t objects after users dead users' dead' who op stands range made users-so dead-so = record {
+  long = made.long ∙ stands.long;
+  each = each-after t objects after users dead who op stands range made;
   of_users = λ player. users-so player ∙ ap (λ (b : Bool). b || (eqb who.number player && enters op)) (stands.of_users player) ∙ sym (user-next t who op player);
   of_dead = λ player.
       dead-so player
       ∙ ap (λ (b : Bool). b || (eqb who.number player && is_oops (answered objects who.number op))) (stands.of_dead player)
       ∙ ap (λ (r : TableReply). is_dead t player || (eqb who.number player && is_oops r)) (answer-so t objects users dead who.number op stands range)
       ∙ sym (dead-next t who op player);
-  beyond = λ player object big.
-      allowed-next t who op player object ∙ ap (λ (b : Bool). said t.setup player object b who.number op) (stands.beyond player object big)
-      ∙ beyond-said t objects users dead who.number op player object stands range big;
 }
 
-pub may-so : (t : Table) (objects : List Object) (users dead : Marked) (player : ℕ) (op : TableOp) → IsStateOf objects users dead t →
+may-so : (t : Table) (objects : List Object) (users dead : Marked) (player : ℕ) (op : TableOp) → IsStateOf objects users dead t →
     (not (is_marked dead player) && is_for (is_marked users player) op) ≡ may t player op
 may-so t objects users dead player op stands =
     ap (λ (b : Bool). not b && is_for (is_marked users player) op) (stands.of_dead player) ∙ ap (λ (b : Bool). not (is_dead t player) && is_for b op) (stands.of_users player)

@@ -1,4 +1,4 @@
-use Rattle.std.specs.Prelude.{◌≡◌, ℕ, ◌<◌, ◌≤◌, Bool, true, false, not, ◌==◌, ◌&&◌, ◌||◌, nat_lt, if◌then◌else◌, Option, Some, None, List, length, slice_get, slice_set}
+use Rattle.std.specs.Prelude.{◌≡◌, ℕ, ◌<◌, Bool, true, false, not, ◌==◌, ◌&&◌, ◌||◌, nat_lt, if◌then◌else◌, Option, Some, None, List, length, slice_get}
 use Rattle.std.specs.Option.{option_map_or}
 use Rattle.zk_base.specs.declared.kinds.Kind.TheVariants as kinds
 use Rattle.zk_base.specs.declared.kinds.Need.{Need}
@@ -11,12 +11,12 @@ use Rattle.zk_model_bus.specs.declared.table.TableReply.TheVariants.{Done, Alrea
 use Rattle.zk_model_bus.specs.Table.{Table, is_thread, is_allowed, is_public, is_ready, is_user, is_dead}
 use Rattle.zk_base.specs.Kinds.{meets, is_any}
 use Rattle.zk_objects.specs.declared.object.Object.{Object}
-use Rattle.zk_objects.specs.Bits.{Marked, has_bit, given, taken, is_marked}
+use Rattle.zk_objects.specs.Players.{Marked, has, is_marked}
 
--- the word and the flags of an object say what the last words of the history say, of each player that a scenario can have
+-- the permissions and the flags of an object say what the last words of the history say, of every player
 pub record IsObject (t : Table) (object : ℕ) (x : Object) : Type 0 where
   pub kind : slice_get t.setup.kinds object ≡ Some x.kind
-  pub granted : (player : ℕ) → player < most_players → has_bit x.granted player ≡ is_allowed t player object
+  pub granted : (player : ℕ) → has x.granted player ≡ is_allowed t player object
   pub public : x.public ≡ is_public t object
   pub ready : x.ready ≡ is_ready t object
   pub small : x.kind ≡ kinds.Thread → x.player < most_players
@@ -28,18 +28,13 @@ pub record IsStateOf (objects : List Object) (users dead : Marked) (t : Table) :
   pub each : (object : ℕ) (x : Object) → slice_get objects object ≡ Some x → IsObject t object x
   pub of_users : (player : ℕ) → is_marked users player ≡ is_user t player
   pub of_dead : (player : ℕ) → is_marked dead player ≡ is_dead t player
-  pub beyond : (player object : ℕ) → most_players ≤ player → is_allowed t player object ≡ false
 
--- the player has permission on the object
-abbrev pub is_granted : Object → ℕ → Bool
-is_granted x player = nat_lt player most_players && has_bit x.granted player
-
--- the tests of a check of an object, by its word and its flags
+-- the tests of a check of an object, by its permissions and its flags
 abbrev pub object_reply : ℕ → Need → Option Object → TableReply
 object_reply player need None = Oops WrongKind
 object_reply player need (Some x) =
     if not (meets need x.kind) then Oops WrongKind
-    else if not (is_granted x player || x.public) then Oops NotGranted
+    else if not (has x.granted player || x.public) then Oops NotGranted
     else if not (is_any need || x.ready) then Oops NotInit
     else Done
 
@@ -75,26 +70,35 @@ object_of (ops.Public object) = Some object
 object_of (ops.Init object) = Some object
 object_of ops.EnterUser = None
 
+-- what an operation that changes an object leaves of a player's permission on it: a grant gives that of the target, a revoke
+-- and a release take it away, and any other leaves it as it was before
+abbrev pub granted_after : ℕ → TableOp → ℕ → Bool → Bool
+granted_after target (ops.Grant thread object) player before = before || (target == player && nat_lt target most_players)
+granted_after target (ops.Revoke thread object) player before = before && not (target == player)
+granted_after target (ops.Release object) player before = before && not (target == player)
+granted_after target op player before = before
+
+-- the operation makes the object that it changes public
+abbrev pub makes_public : TableOp → Bool
+makes_public (ops.Public object) = true
+makes_public op = false
+
+-- the operation initialises the object that it changes
+abbrev pub makes_ready : TableOp → Bool
+makes_ready (ops.Init object) = true
+makes_ready op = false
+
 -- what an operation makes of the object that it changes
-abbrev pub changed : ℕ → TableOp → Object → Object
-changed target (ops.Check object need) x = x
-changed target (ops.Grant thread object) x = record x { granted = given x.granted target }
-changed target (ops.Revoke thread object) x = record x { granted = taken x.granted target }
-changed target (ops.Release object) x = record x { granted = taken x.granted target }
-changed target (ops.Public object) x = record x { public = true }
-changed target (ops.Init object) x = record x { ready = true }
-changed target ops.EnterUser x = x
+pub record IsChanged (target : ℕ) (op : TableOp) (x y : Object) : Type 0 where
+  pub kind : y.kind ≡ x.kind
+  pub granted : (player : ℕ) → has y.granted player ≡ granted_after target op player (has x.granted player)
+  pub public : y.public ≡ (x.public || makes_public op)
+  pub ready : y.ready ≡ (x.ready || makes_ready op)
+  pub player : y.player ≡ x.player
 
--- the changed object is put in, where there is one at this number
-abbrev pub put_in : List Object → ℕ → ℕ → TableOp → Option Object → List Object
-put_in objects object target op None = objects
-put_in objects object target op (Some x) = slice_set objects object (changed target op x)
-
--- the objects where an operation changes the one of this number, or none
-abbrev pub changed_at : List Object → ℕ → TableOp → Option ℕ → List Object
-changed_at objects target op None = objects
-changed_at objects target op (Some object) = put_in objects object target op (slice_get objects object)
-
--- the objects after an operation
-abbrev pub objects_after : List Object → ℕ → TableOp → List Object
-objects_after objects player op = changed_at objects (target_of objects player op) op (object_of op)
+-- the objects after an operation: the one that it names is changed, where there is one, and the others are as they were
+pub record AreChanged (target : ℕ) (op : TableOp) (xs ys : List Object) : Type 0 where
+  pub long : length ys ≡ length xs
+  pub own : (object : ℕ) (x y : Object) → object_of op ≡ Some object → slice_get xs object ≡ Some x →
+      slice_get ys object ≡ Some y → IsChanged target op x y
+  pub others : (object : ℕ) → (object_of op ≡ Some object → ⊥) → slice_get ys object ≡ slice_get xs object

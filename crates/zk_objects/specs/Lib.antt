@@ -1,4 +1,4 @@
-pub mod Bits
 pub mod First
 pub mod Kept
+pub mod Players
 pub mod Seen

@@ -1,59 +1,37 @@
 ghost use Rattle.std.specs.Prelude.{◌≡◌, ◌<◌, ◌^◌};
-ghost use Rattle.zk_base.specs.Limits.{most_players};
-ghost use Rattle.zk_objects.specs.Bits.{has_bit, with_bit, without_bit, given, taken};
+ghost use Rattle.zk_objects.specs.Players.{word_bits, has_bit, with_bit, without_bit};
 
-use zk_base::MOST_PLAYERS;
+/// The bits of a word of players.
+pub const WORD_BITS: u32 = u64::BITS;
 
-/// The word with the bit of this player alone.
-fn bit_of(player: u32) -> u64
-    requires { player < most_players }
-    ensures { result ≡ 2 ^ player }
+/// The word with this bit alone.
+fn bit_of(bit: u32) -> u64
+    requires { bit < word_bits }
+    ensures { result ≡ 2 ^ bit }
 {
-    1 << player
+    1 << bit
 }
 
-/// The bit of this player is set.
-pub fn has_bit(bits: u64, player: u32) -> bool
-    requires { player < most_players }
-    ensures { result ≡ has_bit bits player }
+/// The bit is set.
+pub fn has_bit(word: u64, bit: u32) -> bool
+    requires { bit < word_bits }
+    ensures { result ≡ has_bit word bit }
 {
-    bits & bit_of(player) != 0
+    word & bit_of(bit) != 0
 }
 
-/// The same word with the bit of this player set.
-fn with_bit(bits: u64, player: u32) -> u64
-    requires { player < most_players }
-    ensures { result ≡ with_bit bits player }
+/// The same word with the bit set.
+pub fn with_bit(word: u64, bit: u32) -> u64
+    requires { bit < word_bits }
+    ensures { result ≡ with_bit word bit }
 {
-    bits | bit_of(player)
+    word | bit_of(bit)
 }
 
-/// The same word without the bit of this player.
-fn without_bit(bits: u64, player: u32) -> u64
-    requires { player < most_players }
-    ensures { result ≡ without_bit bits player }
+/// The same word without the bit.
+pub fn without_bit(word: u64, bit: u32) -> u64
+    requires { bit < word_bits }
+    ensures { result ≡ without_bit word bit }
 {
-    bits & !bit_of(player)
-}
-
-/// The word with the bit of this player set. One that a scenario can't have has none.
-pub fn given(bits: u64, player: u32) -> u64
-    ensures { result ≡ given bits player }
-{
-    if player < MOST_PLAYERS {
-        with_bit(bits, player)
-    } else {
-        bits
-    }
-}
-
-/// The word without the bit of this player.
-pub fn taken(bits: u64, player: u32) -> u64
-    ensures { result ≡ taken bits player }
-{
-    if player < MOST_PLAYERS {
-        without_bit(bits, player)
-    } else {
-        bits
-    }
+    word & !bit_of(bit)
 }

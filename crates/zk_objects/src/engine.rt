@@ -1,21 +1,22 @@
 ghost use Rattle.std.specs.Prelude.{◌≡◌, ℕ, ◌==◌, ◌&&◌, ◌||◌, ◌+◌, ◌≤◌, IsOk, IfOk, OnErr};
 ghost use Rattle.zk_model_bus.specs.Table.{IsSetup, new_table, enters, is_oops};
-ghost use Rattle.zk_objects.specs.Bits.{is_marked};
 ghost use Rattle.zk_objects.specs.Kept.{IsStateOf, answered};
+ghost use Rattle.zk_objects.specs.Players.{is_marked};
 
 use crate::first::{first_objects, first_users};
-use crate::marks::PlayerSet;
+use crate::marks::Marks;
 use crate::object::{Object, answer, change};
+use crate::player_set::PlayerSet;
 use std::alloc::Global;
 use zk_base::{Engine, NoMemory, Who};
 use zk_model_bus::{TableOp, TableReply, TableSetup, TableState, is_for};
 
-/// What the object table keeps: the word and the flags of each object, who is a user, and who is dead.
+/// What the object table keeps: the permissions and the flags of each object, who is a user, and who is dead.
 #[derive(Drop)]
 pub struct ObjectsEngine {
     objects: Vec<Object>,
-    users: PlayerSet,
-    dead: PlayerSet,
+    users: Marks,
+    dead: Marks,
 }
 
 impl ObjectsEngine {
@@ -26,8 +27,8 @@ impl ObjectsEngine {
     {
         Ok(ObjectsEngine {
             objects: first_objects(alloc, setup)?,
-            users: PlayerSet::new(alloc, first_users(&setup.threads)),
-            dead: PlayerSet::new(alloc, 0),
+            users: Marks::new(alloc, first_users(&setup.threads)),
+            dead: Marks::new(alloc, PlayerSet::none()),
         })
     }
 

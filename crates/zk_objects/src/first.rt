@@ -1,13 +1,13 @@
-ghost use Rattle.std.specs.Prelude.{◌≡◌, ℕ, ◌==◌, ◌&&◌, ◌<◌, ◌≤◌, Some, length, slice_get, IfOk};
+ghost use Rattle.std.specs.Prelude.{◌≡◌, ℕ, ◌==◌, ◌&&◌, ◌≤◌, nat_lt, Some, length, slice_get, IfOk};
 ghost use Rattle.std.specs.List.{list_any};
 ghost use Rattle.zk_base.specs.Limits.{most_players};
 ghost use Rattle.zk_model_bus.specs.Table.{IsSetup, new_table};
-ghost use Rattle.zk_objects.specs.Bits.{has_bit};
 ghost use Rattle.zk_objects.specs.Kept.{IsObject};
 ghost use Rattle.zk_objects.specs.First.{AreFirst, declares_user, IsFirstThread};
+ghost use Rattle.zk_objects.specs.Players.{has};
 
-use crate::bits::given;
 use crate::object::Object;
+use crate::player_set::PlayerSet;
 use std::alloc::Global;
 use zk_base::{MOST_PLAYERS, NoMemory};
 use zk_model_bus::{Kind, TableSetup};
@@ -19,15 +19,15 @@ fn begins_allowed(allowed: &[(u32, u32)], player: u32, object: usize) -> bool
     allowed.iter().any(|permission| permission.0 == player && permission.1 as usize == object)
 }
 
-/// The bits of the players that have permission on an object at first.
-fn first_granted(allowed: &[(u32, u32)], object: usize) -> u64
-    ensures { (player : ℕ) → player < most_players →
-        has_bit result player ≡ list_any (λ a. a.0 == player && a.1 == object) allowed.now }
+/// The players that have permission on an object at first.
+fn first_granted(allowed: &[(u32, u32)], object: usize) -> PlayerSet
+    ensures { (player : ℕ) → has result player
+        ≡ (nat_lt player most_players && list_any (λ a. a.0 == player && a.1 == object) allowed.now) }
 {
-    let mut granted = 0;
+    let mut granted = PlayerSet::none();
     for player in 0..MOST_PLAYERS {
         if begins_allowed(allowed, player, object) {
-            granted = given(granted, player);
+            granted.insert(player);
         }
     }
     granted
@@ -43,14 +43,14 @@ fn begins_as_user(threads: &[(u32, bool)], player: u32) -> bool
     }
 }
 
-/// The bits of the players that are users at first.
-pub fn first_users(threads: &[(u32, bool)]) -> u64
-    ensures { (player : ℕ) → player < most_players → has_bit result player ≡ declares_user threads.now player }
+/// The players that are users at first.
+pub fn first_users(threads: &[(u32, bool)]) -> PlayerSet
+    ensures { (player : ℕ) → has result player ≡ (nat_lt player most_players && declares_user threads.now player) }
 {
-    let mut users = 0;
+    let mut users = PlayerSet::none();
     for player in 0..MOST_PLAYERS {
         if begins_as_user(threads, player) {
-            users = given(users, player);
+            users.insert(player);
         }
     }
     users

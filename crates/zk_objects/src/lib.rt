@@ -1,4 +1,4 @@
-//! The object table as a service: one word of permission bits for each object.
+//! The object table as a service: for each object the set of the players that have permission on it.
 #![tactic(auto)]
 
 mod bits;
@@ -7,5 +7,6 @@ mod first;
 mod marks;
 mod object;
 mod objects;
+mod player_set;
 
 pub use objects::Objects;

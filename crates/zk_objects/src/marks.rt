@@ -1,45 +1,45 @@
-ghost use Rattle.std.specs.Prelude.{◌≡◌, ℕ, ◌==◌, ◌||◌, ◌+◌, ◌<◌, ◌≤◌, [], IsOk, IfOk, OnErr};
+ghost use Rattle.std.specs.Prelude.{◌≡◌, ℕ, ◌==◌, ◌||◌, ◌+◌, ◌≤◌, [], IsOk, IfOk, OnErr};
 ghost use Rattle.std.specs.List.{list_any};
-ghost use Rattle.zk_objects.specs.Bits.{is_marked};
+ghost use Rattle.zk_objects.specs.Players.{is_marked};
 
-use crate::bits::{given, has_bit};
+use crate::player_set::PlayerSet;
 use std::alloc::Global;
 use std::marker::Model;
 use zk_base::{MOST_PLAYERS, NoMemory};
 
-/// A set of players: a bit for each of those that a scenario can have, and a list of any above them.
+/// The players that are marked, of any number: the set of those that a scenario can have, and a list of any above them.
 #[derive(Drop)]
-pub struct PlayerSet {
-    bits: u64,
+pub struct Marks {
+    within: PlayerSet,
     above: Vec<u32>,
 }
 
-impl Model for PlayerSet {
+impl Model for Marks {
     ghost use Rattle.std.specs.Prelude.{◌-◌, vec_len, vec_capacity};
-    ghost use Rattle.zk_objects.specs.Bits.{Marked};
+    ghost use Rattle.zk_objects.specs.Players.{Marked};
 
     ghost Value = { Marked };
 
     ghost view = { λ m. record {
-      bits = m.bits;
+      within = m.within;
       above = m.above.items;
       room = vec_capacity m.above - vec_len m.above;
     } };
 }
 
-impl PlayerSet {
-    /// The players whose bits are set.
-    pub fn new(alloc: Global, bits: u64) -> PlayerSet
-        ensures bits { result.bits ≡ bits }
+impl Marks {
+    /// The players of a set.
+    pub fn new(alloc: Global, players: PlayerSet) -> Marks
+        ensures within { result.within ≡ players }
         ensures above { result.above ≡ [] }
     {
-        PlayerSet {
-            bits,
+        Marks {
+            within: players,
             above: Vec::new(alloc),
         }
     }
 
-    /// The player is one of those above the word.
+    /// The player is one of those above the set.
     fn is_above(&self, player: u32) -> bool
         ensures { result ≡ list_any (λ other. other == player) self.now.above }
     {
@@ -50,14 +50,10 @@ impl PlayerSet {
     pub fn has(&self, player: u32) -> bool
         ensures { result ≡ is_marked self.now player }
     {
-        if player < MOST_PLAYERS {
-            has_bit(self.bits, player)
-        } else {
-            self.is_above(player)
-        }
+        self.within.contains(player) || self.is_above(player)
     }
 
-    /// Takes one player more. Those that a scenario can have take no memory.
+    /// Marks one player more. Those that a scenario can have take no memory.
     pub fn insert(&mut self, player: u32) -> Result<(), NoMemory>
         ensures added { IfOk result (λ _.
             (other : ℕ) → is_marked self.new other ≡ (is_marked self.old other || player == other)) }
@@ -67,7 +63,7 @@ impl PlayerSet {
         ensures kept { OnErr result (self.old.room ≤ self.new.room) }
     {
         if player < MOST_PLAYERS {
-            self.bits = given(self.bits, player);
+            self.within.insert(player);
         } else {
             self.above.push(player)?;
         }

@@ -1,9 +1,9 @@
 ghost use Rattle.std.specs.Prelude.{◌≡◌, Some, slice_get};
 ghost use Rattle.std.specs.Option.{option_map_or};
 ghost use Rattle.zk_base.specs.Limits.{most_players};
-ghost use Rattle.zk_objects.specs.Kept.{is_granted, object_reply, checked, init_reply, answered, target_of, object_of, changed, objects_after};
+ghost use Rattle.zk_objects.specs.Kept.{object_reply, checked, init_reply, answered, target_of, object_of, IsChanged, AreChanged};
 
-use crate::bits::{given, has_bit, taken};
+use crate::player_set::PlayerSet;
 use zk_base::MOST_PLAYERS;
 use zk_model_bus::{Kind, Need, OopsWhy, TableOp, TableReply};
 
@@ -12,21 +12,14 @@ use zk_model_bus::{Kind, Need, OopsWhy, TableOp, TableReply};
 pub struct Object {
     /// What it is.
     pub kind: Kind,
-    /// The bit of each player that has permission on it.
-    pub granted: u64,
+    /// The players that have permission on it.
+    pub granted: PlayerSet,
     /// All may use it.
     pub public: bool,
     /// It is initialised.
     pub ready: bool,
     /// The number of the player, of a thread.
     pub player: u32,
-}
-
-/// The player has permission on the object.
-fn is_granted(object: &Object, player: u32) -> bool
-    ensures { result ≡ is_granted object.now player }
-{
-    player < MOST_PLAYERS && has_bit(object.granted, player)
 }
 
 /// The tests of a check of this object.
@@ -36,7 +29,7 @@ fn object_reply(player: u32, need: Need, object: &Object) -> TableReply
     if !need.is_met_by(object.kind) {
         return TableReply::Oops(OopsWhy::WrongKind);
     }
-    if !(is_granted(object, player) || object.public) {
+    if !(object.granted.contains(player) || object.public) {
         return TableReply::Oops(OopsWhy::NotGranted);
     }
     if !(need.is_any() || object.ready) {
@@ -111,34 +104,22 @@ fn object_of(op: &TableOp) -> Option<u32>
     }
 }
 
-/// What an operation makes of the object that it changes.
-fn changed(target: u32, op: &TableOp, object: Object) -> Object
-    ensures { result ≡ changed target op.now object }
+/// Makes the change of an operation in the object that it changes.
+fn change_object(object: &mut Object, target: u32, op: &TableOp)
+    ensures { IsChanged target op.now object.old object.new }
 {
     match op {
-        TableOp::Grant(_, _) => Object {
-            granted: given(object.granted, target),
-            ..object
-        },
-        TableOp::Revoke(_, _) | TableOp::Release(_) => Object {
-            granted: taken(object.granted, target),
-            ..object
-        },
-        TableOp::Public(_) => Object {
-            public: true,
-            ..object
-        },
-        TableOp::Init(_) => Object {
-            ready: true,
-            ..object
-        },
-        TableOp::Check(_, _) | TableOp::EnterUser => object,
+        TableOp::Grant(_, _) => object.granted.insert(target),
+        TableOp::Revoke(_, _) | TableOp::Release(_) => object.granted.remove(target),
+        TableOp::Public(_) => object.public = true,
+        TableOp::Init(_) => object.ready = true,
+        TableOp::Check(_, _) | TableOp::EnterUser => {}
     }
 }
 
 /// Makes the change of an operation.
 pub fn change(objects: &mut Vec<Object>, player: u32, op: &TableOp)
-    ensures { objects.new.items ≡ objects_after objects.old.items player op.now }
+    ensures { AreChanged (target_of objects.old.items player op.now) op.now objects.old.items objects.new.items }
 {
     let target = target_of(objects, player, op);
     let Some(object) = object_of(op) else {
@@ -146,6 +127,6 @@ pub fn change(objects: &mut Vec<Object>, player: u32, op: &TableOp)
     };
     let at = object as usize;
     if at < objects.len() {
-        objects[at] = changed(target, op, objects[at]);
+        change_object(&mut objects[at], target, op);
     }
 }

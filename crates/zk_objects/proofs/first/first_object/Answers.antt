@@ -1,6 +1,7 @@
-use Rattle.std.proofs.Common.{◌≡◌, ℕ, Bool, List, length, get_or, eqb, ◌&&◌, refl, ap, subst, ◌∙◌, arith}
+use Rattle.std.proofs.Common.{◌≡◌, ℕ, Bool, List, length, get_or, eqb, ltb, ◌&&◌, refl, ap, subst, ◌∙◌, arith}
 use Rattle.std.specs.List.{list_any}
 use Rattle.std.proofs.lemmas.Option.{slice_get_within, slice_get_read}
+use Rattle.zk_base.specs.Limits.{most_players}
 use Rattle.zk_model_bus.specs.Table.{Setup}
 use Rattle.zk_objects.specs.First.{IsFirstThread}
 use Rattle.zk_objects.proofs.Firsts.{first-object}
@@ -17,7 +18,8 @@ returns c =
     let allowed = c.deref.ensures.value ∙ ap (λ (s : Setup). s.allowed) view in
     let threads = c.deref-2.ensures.value ∙ ap (λ (s : Setup). s.threads) view in
     first-object setup object _ c.requires.setup c.requires.kind
-    (λ player small. c.first_granted.ensures player small ∙ ap (λ (l : List (ℕ × ℕ)). list_any (λ (a : ℕ × ℕ). eqb a.0 player && eqb a.1 object) l) allowed)
+    (λ player. c.first_granted.ensures player
+    ∙ ap (λ (l : List (ℕ × ℕ)). ltb player most_players && list_any (λ (a : ℕ × ℕ). eqb a.0 player && eqb a.1 object) l) allowed)
     refl
     (slice_get_read setup.ready (length setup.ready) object c.index.result.now refl (omega arith) ready)
     (subst (λ (l : List (ℕ × Bool)). IsFirstThread l object c.first_player.result) threads c.first_player.ensures)

@@ -1,23 +1,25 @@
-use Rattle.std.proofs.Common.{ℕ, ap, sym, ◌∙◌}
-use Rattle.zk_objects.specs.Bits.{has_bit}
+use Rattle.std.proofs.Common.{sym, ap, ◌∙◌}
+use Rattle.zk_objects.specs.declared.player_set.PlayerSet.{PlayerSet}
 use Rattle.zk_objects.specs.First.{declares_user}
-use Rattle.zk_objects.proofs.Firsts.{bits-set, bits-left, bits-all}
+use Rattle.zk_objects.specs.Players.{has}
+use Rattle.zk_objects.proofs.Firsts.{one-more, none-more, all-seen}
 use Rattle.zk_objects.proofs.first.first_users.Goals as goal
 use Rattle.zk_objects.proofs.first.first_users.Goals.{then-begins_as_user, else-begins_as_user}
 
 pub loop-player-preserved : goal.loop-player-preserved
-loop-player-preserved c = λ p below.
+loop-player-preserved c = λ p.
     let test = declares_user c.args.threads.now in
-    let before = c.loop-player.invariant p below in
+    let old = c.loop-player.users in
+    let player = c.loop-player.player in
+    let before = c.loop-player.invariant p in
     elim c.if-begins_as_user.branch [
       | then-begins_as_user w ↦
-          ap (λ (g : ℕ). has_bit g p) (w.users-is ∙ w.given-users.ensures)
-          ∙ bits-set test c.loop-player.users c.loop-player.player p below (sym c.begins_as_user.ensures ∙ w.if-begins_as_user.true) before
+          ap (λ (s : PlayerSet). has s p) w.users-is ∙ w.insert.ensures p
+          ∙ one-more test player p (has old p) c.loop-player-test.true (sym c.begins_as_user.ensures ∙ w.if-begins_as_user.true) before
       | else-begins_as_user w ↦
-          ap (λ (g : ℕ). has_bit g p) w.users-is
-          ∙ bits-left test c.loop-player.users c.loop-player.player p below (sym c.begins_as_user.ensures ∙ w.if-begins_as_user.false) before
+          ap (λ (s : PlayerSet). has s p) w.users-is ∙ none-more test player p (has old p) (sym c.begins_as_user.ensures ∙ w.if-begins_as_user.false) before
     ]
 
 pub returns : goal.returns
-returns c = λ p below.
-    bits-all (declares_user c.args.threads.now) c.loop-player.users c.loop-player.player p below c.loop-player-test.false (c.loop-player.invariant p below)
+returns c = λ p.
+    all-seen (declares_user c.args.threads.now) c.loop-player.player p (has c.loop-player.users p) c.loop-player-test.false c.loop-player.auto.player-end (c.loop-player.invariant p)

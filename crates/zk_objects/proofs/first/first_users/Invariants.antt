@@ -1,8 +1,7 @@
-use Rattle.std.proofs.Common.{◌≡◌, ℕ, ◌<◌, ltb, ◌&&◌}
-use Rattle.zk_objects.specs.Bits.{has_bit}
+use Rattle.std.proofs.Common.{◌≡◌, ℕ, ltb, ◌&&◌}
 use Rattle.zk_objects.specs.First.{declares_user}
+use Rattle.zk_objects.specs.Players.{has}
 use Rattle.zk_objects.proofs.first.first_users.Given as goal
 
 abbrev pub invariant-loop-player : goal.invariant-loop-player
-invariant-loop-player l =
-    (p : ℕ) → p < 64 → has_bit l.users p ≡ (ltb p l.player && declares_user l.threads p)
+invariant-loop-player l = (p : ℕ) → has l.users p ≡ (ltb p l.player && declares_user l.threads p)

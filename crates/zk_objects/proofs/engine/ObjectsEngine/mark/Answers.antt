@@ -1,8 +1,8 @@
 use Rattle.std.proofs.Common.{List, eqb, refl, sym, ap, ◌∙◌, arith}
 use Rattle.zk_model_bus.specs.Table.{enters, is_oops}
 use Rattle.zk_objects.specs.declared.object.Object.{Object}
-use Rattle.zk_objects.specs.Bits.{is_marked}
 use Rattle.zk_objects.specs.Kept.{answered}
+use Rattle.zk_objects.specs.Players.{is_marked}
 use Rattle.zk_objects.proofs.Standing.{enters-none, oops-none, unmarked}
 use Rattle.zk_objects.proofs.engine.ObjectsEngine.mark.Goals as goal
 

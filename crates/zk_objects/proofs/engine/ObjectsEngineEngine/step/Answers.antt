@@ -1,7 +1,7 @@
 use Rattle.std.proofs.Common.{Bool, List, refl, sym, ap, subst, ◌∙◌}
-use Rattle.zk_model_bus.specs.Table.{is_for, table_next}
+use Rattle.zk_model_bus.specs.Table.{is_for}
 use Rattle.zk_objects.specs.declared.object.Object.{Object}
-use Rattle.zk_objects.specs.Kept.{IsStateOf, objects_after}
+use Rattle.zk_objects.specs.Kept.{AreChanged, target_of}
 use Rattle.zk_objects.proofs.Standing.{reply-so, range-same, stands-next}
 use Rattle.zk_objects.proofs.engine.ObjectsEngineEngine.step.Goals as goal
 
@@ -16,9 +16,9 @@ returns-clause-step c = λ s stands.
     let alive = sym c.has.ensures ∙ c.if-has.false in
     let mode = ap (λ (user : Bool). is_for user op) (sym c.has-else-has.ensures) ∙ sym c.is_for.ensures ∙ c.if-not-is_for.false in
     let marks = c.in_ok-reply.ensures in
-    let made = c.change.ensures ∙ ap (λ (os : List Object). objects_after os who.number op) marks.objects in
-    let next = stands-next s objects old.users old.dead c.mark.new.self.users c.mark.new.self.dead who op stands range marks.users marks.dead in (
+    let made = subst (λ (os : List Object). AreChanged (target_of os who.number op) op os c.change.new.objects.items) marks.objects c.change.ensures in
+    let next = stands-next s objects c.change.new.objects.items old.users old.dead c.mark.new.self.users c.mark.new.self.dead who op stands range made marks.users marks.dead in (
       reply-so s objects old.users old.dead who op c.in_ok-reply.reply stands range alive mode marks.reply,
       refl,
-      subst (λ (os : List Object). IsStateOf os c.mark.new.self.users c.mark.new.self.dead (table_next s who op)) (sym made) next,
+      next,
     )
