@@ -1,7 +1,7 @@
 -- A call and how it is written say each other, and so do a declaration and how it is written.
-use Rattle.std.proofs.Common.{◌≡◌, ℕ, ◌<◌, Bool, true, false, cond, eqb, nat_le, nat_lt, ◌&&◌, arith, length, List, [], ◌∷◌, map, Option, Some, None, refl, sym, ap, ◌∙◌}
+use Rattle.std.proofs.Common.{◌≡◌, ℕ, ◌<◌, Bool, true, false, cond, eqb, nat_le, ◌&&◌, arith, length, List, [], ◌∷◌, map, Option, Some, None, refl, sym, ap, ◌∙◌}
 use Rattle.std.specs.Prelude.{ℤ, option_map, option_and_then, option_to_list}
-use Rattle.std.proofs.lemmas.Bool.{eqb-true, eq-eqb, cond-true, cond-false, lt-ltb, lt-leb}
+use Rattle.std.proofs.lemmas.Bool.{eqb-true, cond-true, cond-false, lt-leb}
 use Rattle.std.proofs.lemmas.List.{length-map}
 use Rattle.std.proofs.Math.Bool.{and-false}
 use Rattle.std.proofs.lemmas.Option.{cond_some, option_and_then_some, same_Some}
@@ -28,10 +28,9 @@ use Rattle.zk_line.specs.declared.types.Call.TheVariants as call
 use Rattle.zk_line.specs.declared.types.Decl.{Decl}
 use Rattle.zk_line.specs.declared.types.Decl.TheVariants as decl
 use Rattle.zk_line.specs.Calls.{saying, call_of, said_of}
-use Rattle.zk_line.specs.Decls.{decl_of, decl_args, objects_said, raw_said, permission_of, permission_said, written, written_of}
+use Rattle.zk_line.specs.Decls.{decl_of, objects_said, raw_said, permission_of, permission_said, written, written_of}
 use Rattle.zk_line.specs.Few.{is_few}
 use Rattle.zk_line.specs.Fits.{has_few_events}
-use Rattle.zk_line.specs.Objects.{kind_of}
 use Rattle.zk_line.proofs.Options.{one_part}
 use Rattle.zk_line.specs.Shapes.{as_name, as_object, as_number, as_result, as_priority, as_truth, as_bytes, as_wait, as_event, as_known, all_objects, few_objects, objects_of, channel_parts, all_events, few_events, events_of, wait_events, both, all_three, all_four, raw_of, alone, one, two, three, one_raw, three_raw, one_or_two}
 
