@@ -93,30 +93,3 @@ in_order-permitted decls written thread object held player declared new =
       take_all-length : {X : Type 0} (xs : List X) → take (length xs) xs ≡ xs
       take_all-length [] = refl
       take_all-length (x ∷ xs) = ap (λ ys. x ∷ ys) (take_all-length xs)
-
--- one of the elements passes, with one more
-pub any-push : {X : Type 0} (test : X → Bool) (xs : List X) (x : X) → list_any test (xs ++ x ∷ []) ≡ (test x || list_any test xs)
-any-push test [] x = refl
-any-push test (y ∷ xs) x = ap (λ b. test y || b) (any-push test xs x) ∙ swap (test y) (test x) (list_any test xs) where
-  swap : (a b c : Bool) → (a || (b || c)) ≡ (b || (a || c))
-  swap true true c = refl
-  swap true false c = refl
-  swap false b c = refl
-
--- a permission is said, with one line more
-is_allowed-push : (written : List Declared) (line : Declared) (thread object : ℕ) → is_allowed (written ++ line ∷ []) thread object ≡ (permits thread object line || is_allowed written thread object)
-is_allowed-push written line thread object = any-push (permits thread object) written line
-
--- an object says no permission
-pub permissions-declared : (written : List Declared) (object : ℕ) (pairs : Pairs) → ArePermissions written pairs → ArePermissions (written ++ Object object ∷ []) pairs
-permissions-declared written object pairs held player own small = held player own small ∙ sym (is_allowed-push written (Object object) player own)
-
--- one permission more
-pub permissions-permitted : (written : List Declared) (thread object : ℕ) (pairs after : Pairs) → ArePermissions written pairs
-    → ((one other : ℕ) → other < 2 ^ 32 → has_pair after one other ≡ cond (eqb thread one && eqb object other) true (has_pair pairs one other)) → ArePermissions (written ++ Allow thread object ∷ []) after
-permissions-permitted written thread object pairs after held put player own small =
-    put player own small ∙ ap (cond (eqb thread player && eqb object own) true) (held player own small) ∙ either (eqb thread player && eqb object own) (is_allowed written player own)
-    ∙ sym (is_allowed-push written (Allow thread object) player own) where
-      either : (a b : Bool) → cond a true b ≡ (a || b)
-      either true b = refl
-      either false b = refl
