@@ -4,11 +4,9 @@ use Rattle.std.specs.List.{list_any}
 use Rattle.std.proofs.lemmas.Bool.{and_parts}
 use Rattle.std.proofs.lemmas.Option.{same_Some}
 use Rattle.std.proofs.Math.Bool.{or-false}
-use Rattle.zk_line.specs.declared.types.Decl.{Decl}
 use Rattle.zk_line.specs.declared.types.Call.{Call}
 use Rattle.zk_line.specs.Calls.{is_user_call}
-use Rattle.zk_line.specs.Fits.{call_fits}
-use Rattle.zk_scenario.specs.Valid.{calls_pass, calls_fit}
+use Rattle.zk_scenario.specs.Valid.{calls_pass}
 
 and_true : (b : Bool) → (b && true) ≡ b
 and_true true = refl

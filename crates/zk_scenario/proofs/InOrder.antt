@@ -1,6 +1,5 @@
 -- The lines among the declarations, with one line more.
-use Rattle.std.proofs.Common.{◌≡◌, ℕ, zero, suc, ◌<◌, ◌≤◌, ◌^◌, Bool, true, false, not, cond, eqb, nat_lt, ◌&&◌, ◌||◌, Option, None, Some, List, [], ◌∷◌, ◌++◌, length, take, drop, slice_get, count_by, refl, sym, ap, ◌∙◌, ⊎_elim, arith, length-append}
-use Rattle.std.specs.List.{list_any}
+use Rattle.std.proofs.Common.{◌≡◌, ℕ, zero, suc, ◌<◌, ◌≤◌, Bool, true, false, not, cond, nat_lt, ◌&&◌, Option, None, Some, List, [], ◌∷◌, ◌++◌, length, take, drop, slice_get, count_by, refl, sym, ap, ◌∙◌, ⊎_elim, arith, length-append}
 use Rattle.std.specs.Option.{option_map_or}
 use Rattle.std.proofs.lemmas.Bool.{and_parts, and_from, cases_order, eq-eqb, ltb-true, lt-ltb}
 use Rattle.std.proofs.lemmas.List.{take-append-drop, take-append-le}
@@ -12,8 +11,7 @@ use Rattle.zk_line.specs.declared.types.Declared.{Declared}
 use Rattle.zk_line.specs.declared.types.Declared.TheVariants.{Object, Allow}
 use Rattle.zk_line.specs.Objects.{is_at, is_thread}
 use Rattle.zk_line.proofs.Lists.{slice_get-append_left, slice_get-push, count_by-cons, count_by-push}
-use Rattle.zk_scenario.specs.declared.pairs.Pairs.{Pairs}
-use Rattle.zk_scenario.specs.Written.{is_object, objects_in, permits, is_allowed, follows, AreInOrder, has_pair, ArePermissions}
+use Rattle.zk_scenario.specs.Written.{is_object, objects_in, is_allowed, follows, AreInOrder}
 
 -- an element that passes counts behind those before it
 pub count_by-take-lt : {X : Type 0} (p : X → Bool) (xs : List X) (k : ℕ) (x : X) → slice_get xs k ≡ Some x → p x ≡ true → count_by p (take k xs) < count_by p xs

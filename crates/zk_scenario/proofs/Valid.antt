@@ -1,25 +1,23 @@
 -- What a valid scenario gives: its size, the numbers of its objects, and that each call fits and stands where it may.
-use Rattle.std.proofs.Common.{◌≡◌, ℕ, suc, ◌+◌, ◌<◌, ◌≤◌, Bool, true, false, not, cond, eqb, ◌&&◌, ◌||◌, Option, None, Some, List, [], ◌∷◌, length, take, slice_get, count_by, refl, sym, ap, ◌∙◌, arith, length-append}
-use Rattle.std.specs.List.{list_all, list_any}
+use Rattle.std.proofs.Common.{◌≡◌, ℕ, suc, ◌+◌, ◌<◌, ◌≤◌, Bool, true, false, not, cond, eqb, ◌||◌, Option, None, Some, List, [], ◌∷◌, length, take, slice_get, count_by, refl, sym, ap, ◌∙◌, arith, length-append}
+use Rattle.std.specs.List.{list_any}
 use Rattle.std.specs.Option.{option_map_or}
-use Rattle.std.proofs.lemmas.Bool.{and_parts, and_from, eqb-true}
+use Rattle.std.proofs.lemmas.Bool.{and_parts, eqb-true}
 use Rattle.zk_base.specs.Limits.{most_players}
 use Rattle.zk_base.proofs.Lists.{list_all-at}
 use Rattle.zk_line.specs.declared.types.Decl.{Decl}
-use Rattle.zk_line.specs.declared.types.Declared.TheVariants.{Allow}
 use Rattle.zk_line.specs.declared.types.Call.{Call}
 use Rattle.zk_line.specs.declared.types.Call.TheVariants.{User}
 use Rattle.zk_line.specs.Calls.{word_of, is_user_call}
 use Rattle.zk_line.specs.declared.types.Decl.TheVariants.{Thread, Queue, Item, Sem, Msgq, Signal, Listener, Sub, Chan}
 use Rattle.zk_scenario.specs.declared.limits.TheConstants.{MOST_ITEMS, MOST_SEMS, MOST_MSGQS, MOST_SIGNALS, MOST_OBSERVERS, MOST_CHANS}
 use Rattle.zk_scenario.specs.declared.types.Script.{Script}
-use Rattle.zk_line.specs.Objects.{is_at, is_user, plays_script, is_thread, is_queue, is_item, is_sem, is_msgq, is_signal, is_listener, is_chan, is_observer, has_kind_of, places, number_of, player_count, observers_of}
+use Rattle.zk_line.specs.Objects.{is_at, is_user, plays_script, is_thread, is_queue, is_item, is_sem, is_msgq, is_signal, is_listener, is_chan, is_observer, has_kind_of, places, number_of, player_count}
 use Rattle.zk_scenario.specs.Content.{Content}
 use Rattle.zk_scenario.specs.Players.{players, calls_of}
-use Rattle.zk_line.specs.Fits.{decl_fits, observers_fit}
 use Rattle.zk_line.proofs.Lists.{count_by-cons}
-use Rattle.zk_scenario.specs.Valid.{IsValid, calls_pass, calls_fit, script_fits, is_supervisors, makes_user, forbids_call, call_stands, script_stands}
-use Rattle.zk_scenario.proofs.InOrder.{count_by-take-lt, is_at-take, permission-declared}
+use Rattle.zk_scenario.specs.Valid.{IsValid, calls_pass, calls_fit, script_fits, forbids_call, call_stands, script_stands}
+use Rattle.zk_scenario.proofs.InOrder.{count_by-take-lt}
 use Rattle.zk_scenario.proofs.FreeLines.{calls_pass-at}
 use Rattle.zk_line.proofs.Tables.{length-places}
 
