@@ -7,6 +7,7 @@ use Rattle.std.specs.Str.{bytes_eq}
 use Rattle.std.proofs.lemmas.Bool.{and_parts, and_from}
 use Rattle.std.proofs.lemmas.List.Quantifiers.{position-Some}
 use Rattle.std.proofs.lemmas.Option.{cond_some, option_and_then_some, same_Some, slice_get-get_or}
+use Rattle.zk_base.specs.Limits.{longest_message}
 use Rattle.zk_base.specs.Names.{is_name}
 use Rattle.zk_base.specs.declared.kinds.Kind.{Kind}
 use Rattle.zk_base.specs.declared.kinds.Need.{Need}
@@ -104,7 +105,7 @@ arg_fits free decls size (slot.Either choice) w a ranged named said = refl
 arg_fits free decls size slot.Hex w a ranged named said =
     let bytes = one_part arg.Bytes (msg_of w) a said in
     let long = half (length w) (length bytes.0) (msg_spelled w bytes.0 bytes.1).1 in
-    ap (fits_in free decls size slot.Hex) (sym bytes.2) ∙ ap (is_size size) (sym long) ∙ (and_parts (nat_le (length w) 128) (is_size size (length w / 2)) ranged).1
+    ap (fits_in free decls size slot.Hex) (sym bytes.2) ∙ ap (is_size size) (sym long) ∙ (and_parts (nat_le (length w) (2 * longest_message)) (is_size size (length w / 2)) ranged).1
 arg_fits free decls size slot.Wait w a ranged named said =
     let wait = one_part arg.Wait (wait_of w) a said in
     ap (fits_in free decls size slot.Wait) (sym wait.2) ∙ (wait_spelled w wait.0 wait.1).1
@@ -183,10 +184,6 @@ poll_fits free decls wait events fits =
     let all = and_parts (is_few events) (wait_fits wait && list_all (fits_in free decls None slot.Event) (map arg.Event events)) fits in
     let both = and_parts (wait_fits wait) (list_all (fits_in free decls None slot.Event) (map arg.Event events)) all.1 in
     (both.0, sym (events_fit free decls events) ∙ both.1)
-
--- and its events are 1 to 8
-pub poll_few : (free : Bool) (decls : List Decl) (wait : Timeout) (events : List PollEvent) → call_fits free decls (call.Poll wait events) ≡ true → is_few events ≡ true
-poll_few free decls wait events fits = (and_parts (is_few events) (wait_fits wait && list_all (fits_in free decls None slot.Event) (map arg.Event events)) fits).0
 
 -- a permission whose words are well named is of a thread on an object that is declared
 pub permission_fits-read : (decls : List Decl) (size : Option ℕ) (ws : List (List ℕ)) (player own : ℕ) → each_in_range size (parts_of (table.thread ∷ table.object ∷ []) Nothing ws) ≡ true

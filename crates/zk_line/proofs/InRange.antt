@@ -7,8 +7,10 @@ use Rattle.std.specs.Cmp.Lexicographic.{bytes_decides}
 use Rattle.std.specs.Option.{option_map_or}
 use Rattle.std.proofs.lemmas.Bool.{and_parts, and_from, eqb-true, not-true}
 use Rattle.std.proofs.lemmas.Option.{cond_some, option_and_then_some, same_Some}
+use Rattle.zk_base.specs.Limits.{longest_message, most_held}
 use Rattle.zk_base.specs.declared.kinds.Kind.{Kind}
 use Rattle.zk_base.specs.declared.kinds.Kind.TheVariants as kind
+use Rattle.zk_words.specs.declared.limits.TheConstants.{MOST_COUNT}
 use Rattle.zk_words.specs.declared.slot.Slot.TheVariants as slot
 use Rattle.zk_base.specs.Fews.{is_few}
 use Rattle.zk_base.specs.Messages.{is_message}
@@ -44,10 +46,10 @@ number_in-is least most word n said =
     (λ m is_m given. is_m ∙ ap Some (cond_some (is_between least most m && nat_lt m (2 ^ 32)) m n given).1)
 
 -- a number that is up to another isn't above it
-up_to-is : (first second : List ℕ) (n most : ℕ) → number_in 0 1000000 first ≡ Some n → number_in 1 1000000 second ≡ Some most → is_up_to first second ≡ true → nat_le n most ≡ true
+up_to-is : (first second : List ℕ) (n most : ℕ) → number_in 0 MOST_COUNT first ≡ Some n → number_in 1 MOST_COUNT second ≡ Some most → is_up_to first second ≡ true → nat_le n most ≡ true
 up_to-is first second n most is_n is_most up =
     let within = is_some-some (number_in 0 most first) (sym (ap (λ o. option_map_or (λ m. is_some (number_in 0 m first)) o false) is_most) ∙ up) in
-    let same = same_Some within.0 n (sym (number_in-is 0 most first within.0 within.1) ∙ number_in-is 0 1000000 first n is_n) in
+    let same = same_Some within.0 n (sym (number_in-is 0 most first within.0 within.1) ∙ number_in-is 0 MOST_COUNT first n is_n) in
     ap (λ m. nat_le m most) (sym same) ∙ (and_parts (nat_le 0 within.0) (nat_le within.0 most) (number_in_spelled 0 most first within.0 within.1).1).1
 
 -- what a line says begins with what its first word says
@@ -78,7 +80,7 @@ counts-read decls (w ∷ v ∷ u ∷ ws) name n most more said up =
     let one = args-uncons decls (placed slot.New w) (placed initial v ∷ placed limit u ∷ rest) (Name name) (Number n ∷ Number most ∷ more) said in
     let two = args-uncons decls (placed initial v) (placed limit u ∷ rest) (Number n) (Number most ∷ more) one.1 in
     let three = args-uncons decls (placed limit u) rest (Number most) more two.1 in
-    up_to-is v u n most (number-is decls 0 1000000 v n two.0) (number-is decls 1 1000000 u most three.0) up
+    up_to-is v u n most (number-is decls 0 MOST_COUNT v n two.0) (number-is decls 1 MOST_COUNT u most three.0) up
 
 -- an observer that is named says its object
 object-is : (decls : List Decl) (word : List ℕ) (n : ℕ) → arg_of decls observer word ≡ Some (Object (Known n)) → object_of decls word ≡ Some n
@@ -165,17 +167,17 @@ by_kind decls bytes ws (decl.Queue name prio on) fit made said together once = (
 by_kind decls bytes ws (decl.Item name) fit made said together once = (refl, refl)
 by_kind decls bytes ws (decl.Sem name n most raw) fit made said together once =
     let last = rest_fit false decls bytes (Maybe slot.Raw) (raw_said raw) in
-    let numbers = and_parts (is_between 0 1000000 n) (is_between 1 1000000 most && last) fit in
-    (and_from (is_between 1 1000000 most) (nat_le n most) (and_parts (is_between 1 1000000 most) last numbers.1).0 (counts-read decls ws name n most (raw_said raw) said together), refl)
+    let numbers = and_parts (is_between 0 MOST_COUNT n) (is_between 1 MOST_COUNT most && last) fit in
+    (and_from (is_between 1 MOST_COUNT most) (nat_le n most) (and_parts (is_between 1 MOST_COUNT most) last numbers.1).0 (counts-read decls ws name n most (raw_said raw) said together), refl)
 by_kind decls bytes ws (decl.Msgq name long capacity raw) fit made said together once =
     let last = rest_fit false decls bytes (Maybe slot.Raw) (raw_said raw) in
-    let numbers = and_parts (is_between 1 64 long) (is_between 1 256 capacity && last) fit in
-    (and_from (is_between 1 64 long) (is_between 1 256 capacity) numbers.0 (and_parts (is_between 1 256 capacity) last numbers.1).0, refl)
+    let numbers = and_parts (is_between 1 longest_message long) (is_between 1 most_held capacity && last) fit in
+    (and_from (is_between 1 longest_message long) (is_between 1 most_held capacity) numbers.0 (and_parts (is_between 1 most_held capacity) last numbers.1).0, refl)
 by_kind decls bytes ws (decl.Signal name raw) fit made said together once = (refl, refl)
 by_kind decls bytes ws (decl.Listener name) fit made said together once = (refl, refl)
-by_kind decls bytes ws (decl.Sub name capacity) fit made said together once = ((and_parts (is_between 1 256 capacity) true fit).0, refl)
+by_kind decls bytes ws (decl.Sub name capacity) fit made said together once = ((and_parts (is_between 1 most_held capacity) true fit).0, refl)
 by_kind decls bytes ws (decl.Chan name message valid observers) fit made said together once =
-    let long = and_parts (is_between 1 64 (length message)) (fits_in false decls bytes slot.Hex (Bytes message) && list_all (fits_in false decls bytes observer) (objects_said observers)) fit in
+    let long = and_parts (is_between 1 longest_message (length message)) (fits_in false decls bytes slot.Hex (Bytes message) && list_all (fits_in false decls bytes observer) (objects_said observers)) fit in
     let all = and_parts (fits_in false decls bytes slot.Hex (Bytes message)) (list_all (fits_in false decls bytes observer) (objects_said observers)) long.1 in
     let few = few-channel (decl_args (decl.Chan name message valid observers)) name message valid observers made in (
       and_from (is_message message && is_few observers) (all_different observers) (and_from (is_message message) (is_few observers) long.0 few) (observers-read decls ws name message valid observers said once),

@@ -1,12 +1,14 @@
 -- A call and how it is written say each other, and so do a declaration and how it is written.
-use Rattle.std.proofs.Common.{◌≡◌, ℕ, ◌<◌, Bool, true, false, cond, eqb, nat_le, nat_lt, ◌&&◌, arith, length, List, [], ◌∷◌, map, Option, Some, None, refl, sym, ap, ◌∙◌}
+use Rattle.std.proofs.Common.{◌≡◌, ℕ, ◌<◌, Bool, true, false, cond, eqb, nat_le, ◌&&◌, arith, length, List, [], ◌∷◌, map, Option, Some, None, refl, sym, ap, ◌∙◌}
 use Rattle.std.specs.Prelude.{ℤ, option_map, option_and_then, option_to_list}
-use Rattle.std.proofs.lemmas.Bool.{eqb-true, eq-eqb, cond-true, cond-false, lt-ltb, lt-leb}
+use Rattle.std.proofs.lemmas.Bool.{eqb-true, cond-true, cond-false, lt-leb}
 use Rattle.std.proofs.lemmas.List.{length-map}
 use Rattle.std.proofs.Math.Bool.{and-false}
 use Rattle.std.proofs.lemmas.Option.{cond_some, option_and_then_some, same_Some}
+use Rattle.zk_base.specs.Limits.{most_few}
 use Rattle.zk_base.specs.Fews as fews
 use Rattle.zk_base.specs.declared.validator.Valid.{Valid}
+use Rattle.zk_words.specs.declared.limits.TheConstants.{GREATEST_RESULT}
 use Rattle.zk_words.specs.declared.slot.Choice.{Choice}
 use Rattle.zk_words.specs.declared.slot.Choice.TheVariants.{Mode, State, Drain}
 use Rattle.zk_base.specs.declared.kinds.Kind.{Kind}
@@ -15,6 +17,7 @@ use Rattle.zk_words.specs.declared.timeout.Timeout.{Timeout}
 use Rattle.zk_words.specs.declared.word.Word.{Word}
 use Rattle.zk_words.specs.declared.word.Word.TheVariants as word
 use Rattle.zk_words.specs.Spelled.{same_choice}
+use Rattle.zk_line.specs.declared.events.TheConstants.{MOST_EVENTS}
 use Rattle.zk_line.specs.declared.types.Ref.{Ref}
 use Rattle.zk_line.specs.declared.types.Ref.TheVariants.{Known}
 use Rattle.zk_line.specs.declared.types.Arg.{Arg}
@@ -25,10 +28,9 @@ use Rattle.zk_line.specs.declared.types.Call.TheVariants as call
 use Rattle.zk_line.specs.declared.types.Decl.{Decl}
 use Rattle.zk_line.specs.declared.types.Decl.TheVariants as decl
 use Rattle.zk_line.specs.Calls.{saying, call_of, said_of}
-use Rattle.zk_line.specs.Decls.{decl_of, decl_args, objects_said, raw_said, permission_of, permission_said, written, written_of}
+use Rattle.zk_line.specs.Decls.{decl_of, objects_said, raw_said, permission_of, permission_said, written, written_of}
 use Rattle.zk_line.specs.Few.{is_few}
 use Rattle.zk_line.specs.Fits.{has_few_events}
-use Rattle.zk_line.specs.Objects.{kind_of}
 use Rattle.zk_line.proofs.Options.{one_part}
 use Rattle.zk_line.specs.Shapes.{as_name, as_object, as_number, as_result, as_priority, as_truth, as_bytes, as_wait, as_event, as_known, all_objects, few_objects, objects_of, channel_parts, all_events, few_events, events_of, wait_events, both, all_three, all_four, raw_of, alone, one, two, three, one_raw, three_raw, one_or_two}
 
@@ -59,7 +61,7 @@ number-is (Number n) x e = ap Number (same_Some n x e)
 number-is a x e = absurd (cc)
 
 result-is : IsPart as_result Number
-result-is (Number n) x e = ap Number (cond_some (nat_lt n 65536) n x e).1
+result-is (Number n) x e = ap Number (cond_some (nat_le n GREATEST_RESULT) n x e).1
 result-is a x e = absurd (cc)
 
 priority-is : IsPart as_priority Priority
@@ -102,14 +104,14 @@ all_events-map (event ∷ events) = ap (option_map (λ more. event ∷ more)) (a
 pub events_of-map : (events : List PollEvent) → is_few events ≡ true → events_of (map Event events) ≡ Some events
 events_of-map events few = ap (option_and_then few_events) (all_events-map events) ∙ cond-true (is_few events) (Some events) None few
 
--- more than 8 arguments are no events of a poll
-pub events_of-many : (args : List Arg) → 8 < length args → None ≡ events_of args
+-- more arguments than a poll may have are no events of one
+pub events_of-many : (args : List Arg) → MOST_EVENTS < length args → None ≡ events_of args
 events_of-many args many = by_read (all_events args) refl where
   by_read : (read : Option (List PollEvent)) → all_events args ≡ read → None ≡ option_and_then few_events read
   by_read None same = refl
   by_read (Some events) same =
       let long = ap length (all_events-is args events same) ∙ length-map events Event in
-      let past = lt-leb (length events) 8 (omega (arith, many, long)) in
+      let past = lt-leb (length events) MOST_EVENTS (omega (arith, many, long)) in
       sym (cond-false (is_few events) (Some events) None (ap (λ b. nat_le 1 (length events) && b) past ∙ and-false (nat_le 1 (length events))))
 
 wait_events-is : IsShape wait_events (λ x. Wait x.0 ∷ map Event x.1)
@@ -142,14 +144,14 @@ all_objects-said (object ∷ objects) = ap (option_map (λ more. object ∷ more
 pub objects_of-said : (objects : List ℕ) → fews.is_few objects ≡ true → objects_of (objects_said objects) ≡ Some objects
 objects_of-said objects few = ap (option_and_then few_objects) (all_objects-said objects) ∙ cond-true (fews.is_few objects) (Some objects) None few
 
--- more than 8 arguments are no observers of a channel
-pub objects_of-many : (args : List Arg) → 8 < length args → None ≡ objects_of args
+-- more arguments than a channel may have observers are none of one
+pub objects_of-many : (args : List Arg) → most_few < length args → None ≡ objects_of args
 objects_of-many args many = by_read (all_objects args) refl where
   by_read : (read : Option (List ℕ)) → all_objects args ≡ read → None ≡ option_and_then few_objects read
   by_read None same = refl
   by_read (Some objects) same =
       let long = ap length (all_objects-is args objects same) ∙ length-map objects (λ (object : ℕ). Object (Known object)) in
-      sym (cond-false (fews.is_few objects) (Some objects) None (lt-leb (length objects) 8 (omega (arith, many, long))))
+      sym (cond-false (fews.is_few objects) (Some objects) None (lt-leb (length objects) most_few (omega (arith, many, long))))
 
 -- objects that are observers of a channel are written so, and are few
 objects_of-is : (args : List Arg) (objects : List ℕ) → objects_of args ≡ Some objects → (args ≡ objects_said objects) × (fews.is_few objects ≡ true)
@@ -246,10 +248,6 @@ three_raw-is f p g q h r is js ks args x e = absurd (cc)
 pub permission-is : (args : List Arg) (x : ℕ × ℕ) → permission_of args ≡ Some x → args ≡ permission_said x.0 x.1
 permission-is = two-is as_known (λ object. Object (Known object)) as_known (λ object. Object (Known object)) known-is known-is
 
--- and what is written of it says it
-pub permission_of-said : (thread object : ℕ) → permission_of (permission_said thread object) ≡ Some (thread, object)
-permission_of-said thread object = refl
-
 -- what is made of arguments of a shape is written as they are
 by_shape : {X C D : Type 0} (shape : List Arg → Option X) (back : X → List Arg) (make : X → C) (say : C → D) (tell : List Arg → D) → IsShape shape back → ((x : X) → say (make x) ≡ tell (back x))
     → (args : List Arg) (c : C) → option_map make (shape args) ≡ Some c → say c ≡ tell args
@@ -329,59 +327,6 @@ said_of-call_of word.Public = one_object word.Public call.Public (λ x. refl)
 said_of-call_of word.Init = one_object word.Init call.Init (λ x. refl)
 said_of-call_of word.User = without word.User call.User refl
 
--- a call can be kept: the result of a signal is a number of 16 bits, and a poll has 1 to 8 events
-abbrev pub IsKept : Call → Type 0
-IsKept (call.Raise signal result) = result < 65536
-IsKept (call.Poll wait events) = is_few events ≡ true
-IsKept c = Unit {0}
-
--- what is written of a call makes that call
-pub call_of-said_of : (c : Call) → IsKept c → call_of (said_of c).word (said_of c).args ≡ Some c
-call_of-said_of (call.Submit item None) kept = refl
-call_of-said_of (call.Submit item (Some queue)) kept = refl
-call_of-said_of (call.Cancel item) kept = refl
-call_of-said_of (call.CancelSync item) kept = refl
-call_of-said_of (call.Flush item) kept = refl
-call_of-said_of (call.Schedule item queue delay) kept = refl
-call_of-said_of (call.Reschedule item queue delay) kept = refl
-call_of-said_of (call.Remaining item) kept = refl
-call_of-said_of (call.Busy item) kept = refl
-call_of-said_of (call.Start queue) kept = refl
-call_of-said_of (call.Drain queue plug) kept = refl
-call_of-said_of (call.Unplug queue) kept = refl
-call_of-said_of (call.Tick ticks) kept = refl
-call_of-said_of (call.Take sem wait) kept = refl
-call_of-said_of (call.Give sem) kept = refl
-call_of-said_of (call.Reset sem) kept = refl
-call_of-said_of (call.Count sem) kept = refl
-call_of-said_of (call.Put msgq message wait) kept = refl
-call_of-said_of (call.Get msgq wait) kept = refl
-call_of-said_of (call.Peek msgq) kept = refl
-call_of-said_of (call.PeekAt msgq index) kept = refl
-call_of-said_of (call.Purge msgq) kept = refl
-call_of-said_of (call.Used msgq) kept = refl
-call_of-said_of (call.Free msgq) kept = refl
-call_of-said_of (call.Raise signal result) kept =
-    ap (λ o. option_map (λ p. call.Raise p.0 p.1) (both (Some signal) o)) (cond-true (nat_lt result 65536) (Some result) None (lt-ltb result 65536 kept))
-call_of-said_of (call.Clear signal) kept = refl
-call_of-said_of (call.Check signal) kept = refl
-call_of-said_of (call.Poll wait events) few =
-    ap (λ (o : Option (List PollEvent)). option_map (λ (p : Timeout × List PollEvent). call.Poll p.0 p.1) (option_map (λ es. (wait, es)) o)) (events_of-map events few)
-call_of-said_of (call.Claim channel wait) kept = refl
-call_of-said_of (call.Finish channel) kept = refl
-call_of-said_of (call.Publish channel message wait) kept = refl
-call_of-said_of (call.Notify channel wait) kept = refl
-call_of-said_of (call.Read channel wait) kept = refl
-call_of-said_of (call.Mask channel observer on) kept = refl
-call_of-said_of (call.Enable observer on) kept = refl
-call_of-said_of (call.SubWait sub wait) kept = refl
-call_of-said_of (call.Grant thread object) kept = refl
-call_of-said_of (call.Release object) kept = refl
-call_of-said_of (call.Revoke thread object) kept = refl
-call_of-said_of (call.Public object) kept = refl
-call_of-said_of (call.Init object) kept = refl
-call_of-said_of call.User kept = refl
-
 -- what is made a call can be kept: the events of a poll are few
 few-poll : (args : List Arg) (wait : Timeout) (events : List PollEvent) → call_of word.Poll args ≡ Some (call.Poll wait events) → is_few events ≡ true
 few-poll args wait events said =
@@ -425,29 +370,7 @@ written_of-decl_of kind.Listener = by_shape (one as_name) _ decl.Listener writte
 written_of-decl_of kind.Sub = by_shape (two as_name as_number) _ (λ p. decl.Sub p.0 p.1) written_of (written kind.Sub) (two-is as_name Name as_number Number name-is number-is) (λ x. refl)
 written_of-decl_of kind.Chan = by_shape channel_parts _ (λ p. decl.Chan p.0 p.1 p.2 p.3) written_of (written kind.Chan) channel_parts-is (λ x. refl)
 
--- a declaration can be kept: a channel has at most 8 observers
-abbrev pub IsKeptDecl : Decl → Type 0
-IsKeptDecl (decl.Chan name message valid observers) = fews.is_few observers ≡ true
-IsKeptDecl d = Unit {0}
-
--- what is written of a declaration makes that declaration
-pub decl_of-decl_args : (d : Decl) → IsKeptDecl d → decl_of (kind_of d) (decl_args d) ≡ Some d
-decl_of-decl_args (decl.Thread name prio user) kept = refl
-decl_of-decl_args (decl.Queue name prio on) kept = refl
-decl_of-decl_args (decl.Item name) kept = refl
-decl_of-decl_args (decl.Sem name initial limit true) kept = refl
-decl_of-decl_args (decl.Sem name initial limit false) kept = refl
-decl_of-decl_args (decl.Msgq name size capacity true) kept = refl
-decl_of-decl_args (decl.Msgq name size capacity false) kept = refl
-decl_of-decl_args (decl.Signal name true) kept = refl
-decl_of-decl_args (decl.Signal name false) kept = refl
-decl_of-decl_args (decl.Listener name) kept = refl
-decl_of-decl_args (decl.Sub name capacity) kept = refl
-decl_of-decl_args (decl.Chan name message valid observers) few =
-    ap (λ b. option_map (λ (p : ChannelParts). decl.Chan p.0 p.1 p.2 p.3) (cond b (option_map (λ xs. (name, message, valid, xs)) (objects_of (objects_said observers))) None)) (eq-eqb (length message) (length message) refl)
-    ∙ ap (λ (o : Option (List ℕ)). option_map (λ (p : ChannelParts). decl.Chan p.0 p.1 p.2 p.3) (option_map (λ xs. (name, message, valid, xs)) o)) (objects_of-said observers few)
-
--- what a channel's line declares has at most 8 observers
+-- what a channel's line declares has few observers
 pub few-channel : (args : List Arg) (name message : List ℕ) (valid : Valid) (observers : List ℕ) → decl_of kind.Chan args ≡ Some (decl.Chan name message valid observers) → fews.is_few observers ≡ true
 few-channel args name message valid observers said =
     let made = one_part (λ (p : ChannelParts). decl.Chan p.0 p.1 p.2 p.3) (channel_parts args) (decl.Chan name message valid observers) said in

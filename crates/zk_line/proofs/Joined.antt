@@ -1,6 +1,7 @@
 -- A line is its first word, and the others each behind a space.
 use Rattle.std.proofs.Common.{◌≡◌, ℕ, List, [], ◌∷◌, ◌++◌, map, refl, sym, ap, ◌∙◌, append_assoc}
 use Rattle.std.proofs.lemmas.List.{append-nil, map-append}
+use Rattle.zk_words.specs.Bytes.{space}
 use Rattle.zk_words.specs.declared.word.Head.{Head}
 use Rattle.zk_words.specs.Table.{row_of}
 use Rattle.zk_words.specs.Text.{line_text}
@@ -11,11 +12,11 @@ use Rattle.zk_line.specs.Text.{said_line, behind}
 
 pub line_text-behind : (first : List ℕ) (words : List (List ℕ)) → line_text (first ∷ words) ≡ first ++ behind words
 line_text-behind first [] = sym (append-nil first)
-line_text-behind first (word ∷ words) = ap (λ t. first ++ (32 ∷ t)) (line_text-behind word words)
+line_text-behind first (word ∷ words) = ap (λ t. first ++ (space ∷ t)) (line_text-behind word words)
 
 behind-append : (first second : List (List ℕ)) → behind (first ++ second) ≡ behind first ++ behind second
 behind-append [] second = refl
-behind-append (word ∷ first) second = ap (λ t. 32 ∷ word ++ t) (behind-append first second) ∙ sym (append_assoc (32 ∷ word) (behind first) (behind second))
+behind-append (word ∷ first) second = ap (λ t. space ∷ word ++ t) (behind-append first second) ∙ sym (append_assoc (space ∷ word) (behind first) (behind second))
 
 -- a line with further arguments behind those that it has
 pub said_line-append : (decls : List Decl) (head : Head) (args more : List Arg) → said_line decls head args ++ behind (map (arg_text decls) more) ≡ said_line decls head (args ++ more)

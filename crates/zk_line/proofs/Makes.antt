@@ -1,9 +1,10 @@
 -- A line of right words makes its call or its declaration.
-use Rattle.std.proofs.Common.{◌≡◌, ℕ, ◌≤◌, ◌/◌, Bool, true, false, cond, eqb, nat_le, nat_lt, ◌&&◌, ◌||◌, List, [], ◌∷◌, map, count_by, length, codes, Option, Some, None, is_some, arith, refl, sym, ap, subst, ◌∙◌}
+use Rattle.std.proofs.Common.{◌≡◌, ℕ, ◌≤◌, ◌-◌, ◌*◌, ◌/◌, Bool, true, false, cond, eqb, nat_le, ◌&&◌, ◌||◌, List, [], ◌∷◌, map, count_by, length, codes, Option, Some, None, is_some, arith, refl, sym, ap, subst, ◌∙◌}
 use Rattle.std.specs.Prelude.{option_map, option_and_then, IsSome, bytes_eq}
 use Rattle.std.specs.List.{list_all, list_any}
 use Rattle.std.specs.Option.{option_map_or, option_flatten}
-use Rattle.std.proofs.lemmas.Bool.{and_parts, and_from, eqb-true, eq-eqb, cond-true, lt-ltb, leb-true, ltb-false, le-leb}
+use Rattle.std.proofs.lemmas.Bool.{and_parts, and_from, eqb-true, eq-eqb, cond-true, leb-true, ltb-false, le-leb}
+use Rattle.zk_base.specs.Limits.{longest_message, most_few, most_held}
 use Rattle.zk_base.specs.Names.{is_name}
 use Rattle.zk_base.specs.declared.kinds.Kind.{Kind}
 use Rattle.zk_base.specs.declared.kinds.Kind.TheVariants as kind
@@ -11,6 +12,7 @@ use Rattle.zk_base.specs.declared.kinds.Need.{Need}
 use Rattle.zk_base.specs.declared.kinds.Need.TheVariants as need
 use Rattle.zk_base.specs.Fews as fews
 use Rattle.zk_base.specs.declared.validator.Valid.{Valid}
+use Rattle.zk_words.specs.declared.limits.TheConstants.{MOST_TICKS, MOST_COUNT, GREATEST_RESULT}
 use Rattle.zk_words.specs.declared.slot.Choice.{Choice}
 use Rattle.zk_words.specs.declared.slot.Choice.TheVariants.{Mode, State, Drain}
 use Rattle.zk_words.specs.declared.slot.Slot.{Slot}
@@ -32,6 +34,7 @@ use Rattle.zk_words.specs.Validators.{validator_of}
 use Rattle.zk_words.specs.declared.word.Head.TheVariants.{Declare}
 use Rattle.zk_words.proofs.HexText.{msg_spelled}
 use Rattle.zk_words.proofs.Numerals.{number_in_spelled}
+use Rattle.zk_line.specs.declared.events.TheConstants.{MOST_EVENTS}
 use Rattle.zk_line.specs.declared.types.Decl.{Decl}
 use Rattle.zk_line.specs.declared.types.Decl.TheVariants as decl
 use Rattle.zk_line.specs.declared.types.Ref.{Ref}
@@ -113,9 +116,9 @@ number-made least most free decls bytes w right = let n = is_some-some (number_i
 
 result-made : IsMade result as_result
 result-made free decls bytes w right =
-    let n = is_some-some (number_in 0 65535 w) right.in_range in
-    let most = leb-true n.0 65535 (and_parts (nat_le 0 n.0) (nat_le n.0 65535) (number_in_spelled 0 65535 w n.0 n.1).1).1 in
-    (Number n.0, ap (option_map Number) n.1, ap is_some (cond-true (nat_lt n.0 65536) (Some n.0) None (lt-ltb n.0 65536 (omega arith))))
+    let n = is_some-some (number_in 0 GREATEST_RESULT w) right.in_range in
+    let most = leb-true n.0 GREATEST_RESULT (and_parts (nat_le 0 n.0) (nat_le n.0 GREATEST_RESULT) (number_in_spelled 0 GREATEST_RESULT w n.0 n.1).1).1 in
+    (Number n.0, ap (option_map Number) n.1, ap is_some (cond-true (nat_le n.0 GREATEST_RESULT) (Some n.0) None (le-leb n.0 GREATEST_RESULT most)))
 
 priority-made : IsMade slot.Priority as_priority
 priority-made free decls bytes w right = let p = is_some-some (option_flatten (priority_of w)) right.in_range in (Priority p.0, ap (option_map Priority) p.1, refl)
@@ -135,12 +138,12 @@ truth-made choice free decls bytes w right = by_first (bytes_eq w (choice_text c
       (Truth choice false, ap (λ b. option_map (Truth choice) (cond b (Some true) (cond (bytes_eq w (choice_text choice false)) (Some false) None))) is_first ∙ ap (λ b. option_map (Truth choice) (cond b (Some false) None)) is_second, truth_same choice false)
   by_first false false is_first is_second e = absurd (cc)
 
--- digits of the size that is asked for, and so of at most 64 bytes, spell a message
+-- digits of the size that is asked for, and so not too many, spell a message
 message-said : (free : Bool) (decls : List Decl) (bytes : Option ℕ) (w : List ℕ) → IsRight free decls bytes slot.Hex w → msg_of w ≡ Some (bytes_of w)
 message-said free decls bytes w right =
-    let short = (and_parts (nat_le (length w) 128) (is_size bytes (length w / 2)) right.in_range).0 in
-    let hex : (is_hex w && nat_le (length w) 128) ≡ true = and_from (is_hex w) (nat_le (length w) 128) right.spelled short in
-    cond-true (is_hex w && nat_le (length w) 128) (Some (bytes_of w)) None hex
+    let short = (and_parts (nat_le (length w) (2 * longest_message)) (is_size bytes (length w / 2)) right.in_range).0 in
+    let hex : (is_hex w && nat_le (length w) (2 * longest_message)) ≡ true = and_from (is_hex w) (nat_le (length w) (2 * longest_message)) right.spelled short in
+    cond-true (is_hex w && nat_le (length w) (2 * longest_message)) (Some (bytes_of w)) None hex
 
 bytes-made : IsMade slot.Hex as_bytes
 bytes-made free decls bytes w right = (Bytes (bytes_of w), ap (option_map Bytes) (message-said free decls bytes w right), refl)
@@ -283,10 +286,10 @@ count-events (w ∷ ws) = omega (arith, count_by-cons (λ part. is_event_slot pa
 poll-few : (w : List ℕ) (ws : List (List ℕ)) (es : List PollEvent) → list_any asks ws ≡ true → has_many_events (placed slot.Wait w ∷ map (placed slot.Event) ws) ≡ false → length es ≡ length ws → is_few es ≡ true
 poll-few w [] es fit few long = absurd (cc)
 poll-few w (v ∷ ws) es fit few long =
-    let counted = ltb-false 8 (count_by (λ part. is_event_slot part.slot) (placed slot.Wait w ∷ map (placed slot.Event) (v ∷ ws))) few in
+    let counted = ltb-false MOST_EVENTS (count_by (λ part. is_event_slot part.slot) (placed slot.Wait w ∷ map (placed slot.Event) (v ∷ ws))) few in
     let cons = count_by-cons (λ part. is_event_slot part.slot) (placed slot.Wait w) (map (placed slot.Event) (v ∷ ws)) in
-    let most : length es ≤ 8 = omega (arith, counted, cons, count-events (v ∷ ws), long) in
-    and_from (nat_le 1 (length es)) (nat_le (length es) 8) (le-leb 1 (length es) (omega (arith, long))) (le-leb (length es) 8 most)
+    let most : length es ≤ MOST_EVENTS = omega (arith, counted, cons, count-events (v ∷ ws), long) in
+    and_from (nat_le 1 (length es)) (nat_le (length es) MOST_EVENTS) (le-leb 1 (length es) (omega (arith, long))) (le-leb (length es) MOST_EVENTS most)
 
 -- a right poll makes its call
 poll-made : (free : Bool) (decls : List Decl) (bytes : Option ℕ) (ws : List (List ℕ)) → fits (slot.Wait ∷ []) Events ws ≡ true → AreRight free decls bytes (parts_of (slot.Wait ∷ []) Events ws)
@@ -340,7 +343,7 @@ permitting f = by_line (table.thread ∷ table.object ∷ []) Nothing (two as_ob
 
 -- the lines of an item, a queue and a delay
 delayed : IsLine (item ∷ queue ∷ delay ∷ []) Nothing (three as_object as_object as_number)
-delayed = three-line item as_object queue as_object delay as_number (object-made need.Item) (object-made need.Queue) (number-made 0 1000000)
+delayed = three-line item as_object queue as_object delay as_number (object-made need.Item) (object-made need.Queue) (number-made 0 MOST_TICKS)
 
 abbrev is_poll : Word → Bool
 is_poll word.Poll = true
@@ -359,7 +362,7 @@ makes_other word.Busy other = one_item call.Busy
 makes_other word.Start other = one_queue call.Start
 makes_other word.Drain other = by_line (queue ∷ slot.Either Drain ∷ []) Nothing (two as_object (as_truth Drain)) (λ p. call.Drain p.0 p.1) (two-line queue as_object (slot.Either Drain) (as_truth Drain) (object-made need.Queue) (truth-made Drain))
 makes_other word.Unplug other = one_queue call.Unplug
-makes_other word.Tick other = by_line (ticks ∷ []) Nothing (one as_number) call.Tick (one-line ticks as_number (number-made 1 1000000))
+makes_other word.Tick other = by_line (ticks ∷ []) Nothing (one as_number) call.Tick (one-line ticks as_number (number-made 1 MOST_TICKS))
 makes_other word.Take other = waiting need.Sem (λ p. call.Take p.0 p.1)
 makes_other word.Give other = one_sem call.Give
 makes_other word.Reset other = one_sem call.Reset
@@ -367,7 +370,7 @@ makes_other word.Count other = one_sem call.Count
 makes_other word.Put other = sending need.Msgq (λ p. call.Put p.0 p.1 p.2)
 makes_other word.Get other = waiting need.Msgq (λ p. call.Get p.0 p.1)
 makes_other word.Peek other = one_msgq call.Peek
-makes_other word.PeekAt other = by_line (msgq ∷ index ∷ []) Nothing (two as_object as_number) (λ p. call.PeekAt p.0 p.1) (two-line msgq as_object index as_number (object-made need.Msgq) (number-made 0 255))
+makes_other word.PeekAt other = by_line (msgq ∷ index ∷ []) Nothing (two as_object as_number) (λ p. call.PeekAt p.0 p.1) (two-line msgq as_object index as_number (object-made need.Msgq) (number-made 0 (most_held - 1)))
 makes_other word.Purge other = one_msgq call.Purge
 makes_other word.Used other = one_msgq call.Used
 makes_other word.Free other = one_msgq call.Free
@@ -418,7 +421,7 @@ count-observers [] = refl
 count-observers (w ∷ ws) = omega (arith, count_by-cons (λ part. is_observer_slot part.slot) (placed observer w) (map (placed observer) ws), count-observers ws)
 
 -- the size that stands before a message is the message's
-size-is : (v u : List ℕ) (n : ℕ) (message : List ℕ) → number_in 1 64 v ≡ Some n → msg_of u ≡ Some message → is_size (number_in 1 64 v) (length u / 2) ≡ true → n ≡ length message
+size-is : (v u : List ℕ) (n : ℕ) (message : List ℕ) → number_in 1 longest_message v ≡ Some n → msg_of u ≡ Some message → is_size (number_in 1 longest_message v) (length u / 2) ≡ true → n ≡ length message
 size-is v u n message is said together =
     let sized : eqb (length u / 2) n ≡ true = sym (ap (λ o. is_size o (length u / 2)) is) ∙ together in
     sym (eqb-true (length u / 2) n sized) ∙ half (length u) (length message) (msg_spelled u message said).1
@@ -446,7 +449,7 @@ chan-made decls bytes (w ∷ v ∷ u ∷ []) fit right together few = absurd (cc
 chan-made decls bytes (w ∷ v ∷ u ∷ t ∷ ws) fit right together few =
     let rest = map (placed observer) ws in
     let name : arg_of decls slot.New w ≡ Some (Name w) = cond-true (is_name w) (Some (Name w)) None (and_parts (is_name w) _ right.0.named).0 in
-    let n = is_some-some (number_in 1 64 v) right.1.0.in_range in
+    let n = is_some-some (number_in 1 longest_message v) right.1.0.in_range in
     let message = message-said false decls bytes u right.1.1.0 in
     let valid = is_some-some (validator_of t) right.1.1.1.0.spelled in
     let objects = objects-made decls bytes ws right.1.1.1.1 in
@@ -454,9 +457,9 @@ chan-made decls bytes (w ∷ v ∷ u ∷ t ∷ ws) fit right together few =
     (args-cons decls size v (placed slot.Hex u ∷ placed slot.Valid t ∷ rest) (Number n.0) (Bytes (bytes_of u) ∷ ValidArg valid.0 ∷ objects_said objects.0) (ap (option_map Number) n.1)
     (args-cons decls slot.Hex u (placed slot.Valid t ∷ rest) (Bytes (bytes_of u)) (ValidArg valid.0 ∷ objects_said objects.0) (ap (option_map Bytes) message)
     (args-cons decls slot.Valid t rest (ValidArg valid.0) (objects_said objects.0) (ap (option_map ValidArg) valid.1) objects.1))) in
-    let counted = ltb-false 8 (count_by (λ part. is_observer_slot part.slot) (chan_parts (w ∷ v ∷ u ∷ t ∷ ws))) few in
+    let counted = ltb-false most_few (count_by (λ part. is_observer_slot part.slot) (chan_parts (w ∷ v ∷ u ∷ t ∷ ws))) few in
     let all = count-all w v u t ws in
-    let short = le-leb (length objects.0) 8 (omega (arith, counted, all, objects.2)) in
+    let short = le-leb (length objects.0) most_few (omega (arith, counted, all, objects.2)) in
     ap (λ o. is_some (option_and_then (decl_of kind.Chan) o)) args ∙ chan-some w n.0 (bytes_of u) valid.0 objects.0 (size-is v u n.0 (bytes_of u) n.1 message together) short where
       count-all : (w v u t : List ℕ) (ws : List (List ℕ)) → count_by (λ part. is_observer_slot part.slot) (chan_parts (w ∷ v ∷ u ∷ t ∷ ws)) ≡ length ws
       count-all w v u t ws =
@@ -480,11 +483,11 @@ makes_other_decl : (k : Kind) → is_channel k ≡ false → Makes (kind_row k).
 makes_other_decl kind.Thread other = by_line (slot.New ∷ slot.Priority ∷ slot.Either Mode ∷ []) Nothing (three as_name as_priority (as_truth Mode)) (λ p. decl.Thread p.0 p.1 p.2) (playing Mode)
 makes_other_decl kind.Queue other = by_line (slot.New ∷ slot.Priority ∷ slot.Either State ∷ []) Nothing (three as_name as_priority (as_truth State)) (λ p. decl.Queue p.0 p.1 p.2) (playing State)
 makes_other_decl kind.Item other = by_line (slot.New ∷ []) Nothing (one as_name) decl.Item (one-line slot.New as_name name-made)
-makes_other_decl kind.Sem other = by_line (slot.New ∷ initial ∷ limit ∷ []) (Maybe slot.Raw) (three_raw as_name as_number as_number) (λ p. decl.Sem p.0 p.1 p.2 p.3) (numbered 0 1000000 1 1000000)
-makes_other_decl kind.Msgq other = by_line (slot.New ∷ size ∷ capacity ∷ []) (Maybe slot.Raw) (three_raw as_name as_number as_number) (λ p. decl.Msgq p.0 p.1 p.2 p.3) (numbered 1 64 1 256)
+makes_other_decl kind.Sem other = by_line (slot.New ∷ initial ∷ limit ∷ []) (Maybe slot.Raw) (three_raw as_name as_number as_number) (λ p. decl.Sem p.0 p.1 p.2 p.3) (numbered 0 MOST_COUNT 1 MOST_COUNT)
+makes_other_decl kind.Msgq other = by_line (slot.New ∷ size ∷ capacity ∷ []) (Maybe slot.Raw) (three_raw as_name as_number as_number) (λ p. decl.Msgq p.0 p.1 p.2 p.3) (numbered 1 longest_message 1 most_held)
 makes_other_decl kind.Signal other = by_line (slot.New ∷ []) (Maybe slot.Raw) (one_raw as_name) (λ p. decl.Signal p.0 p.1) (one_raw-line slot.New as_name name-made)
 makes_other_decl kind.Listener other = by_line (slot.New ∷ []) Nothing (one as_name) decl.Listener (one-line slot.New as_name name-made)
-makes_other_decl kind.Sub other = by_line (slot.New ∷ capacity ∷ []) Nothing (two as_name as_number) (λ p. decl.Sub p.0 p.1) (two-line slot.New as_name capacity as_number name-made (number-made 1 256))
+makes_other_decl kind.Sub other = by_line (slot.New ∷ capacity ∷ []) Nothing (two as_name as_number) (λ p. decl.Sub p.0 p.1) (two-line slot.New as_name capacity as_number name-made (number-made 1 most_held))
 makes_other_decl kind.Chan other = absurd (cc)
 
 -- a right line of a kind makes its declaration, where its numbers go together and it hasn't too many observers

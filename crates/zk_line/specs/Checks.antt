@@ -1,11 +1,13 @@
-use Rattle.std.specs.Prelude.{ℕ, Bool, true, false, not, ◌==◌, ◌/◌, nat_le, nat_lt, ◌&&◌, ◌||◌, count_by, Option, Some, None, List, [], ◌∷◌, length, is_some, option_and_then, if◌then◌else◌}
+use Rattle.std.specs.Prelude.{ℕ, Bool, true, false, not, ◌==◌, ◌*◌, ◌/◌, nat_le, nat_lt, ◌&&◌, ◌||◌, count_by, Option, Some, None, List, [], ◌∷◌, length, is_some, option_and_then, if◌then◌else◌}
 use Rattle.std.specs.List.{list_all, list_any}
 use Rattle.std.specs.Str.{bytes_eq}
 use Rattle.std.specs.Option.{option_flatten, option_map_or}
+use Rattle.zk_base.specs.Limits.{longest_message, most_few}
 use Rattle.zk_base.specs.Names.{is_name}
 use Rattle.zk_base.specs.declared.kinds.Kind.TheVariants as kind
 use Rattle.zk_base.specs.declared.kinds.Need.{Need}
 use Rattle.zk_base.specs.declared.kinds.Need.TheVariants as need
+use Rattle.zk_words.specs.declared.limits.TheConstants.{MOST_COUNT}
 use Rattle.zk_words.specs.declared.slot.Slot.{Slot}
 use Rattle.zk_words.specs.declared.slot.Slot.TheVariants.{New, Owner, Object, Rawable, Number, Priority, Hex, Wait, Event}
 use Rattle.zk_words.specs.declared.word.Head.{Head}
@@ -14,6 +16,7 @@ use Rattle.zk_words.specs.Events.{event_named, is_ignore, need_of}
 use Rattle.zk_words.specs.Numbers.{number_in, priority_of}
 use Rattle.zk_words.specs.Parts.{Placed}
 use Rattle.zk_words.specs.Timeouts.{wait_of}
+use Rattle.zk_line.specs.declared.events.TheConstants.{MOST_EVENTS}
 use Rattle.zk_line.specs.declared.types.Arg.{Arg}
 use Rattle.zk_line.specs.declared.types.Arg.TheVariants as arg
 use Rattle.zk_line.specs.declared.types.Decl.{Decl}
@@ -46,9 +49,9 @@ abbrev pub is_size : Option ℕ → ℕ → Bool
 is_size None bytes = true
 is_size (Some size) bytes = bytes == size
 
--- whether hexadecimal digits are those of 64 bytes at most, and of the size that is asked for
+-- whether hexadecimal digits are those of a message that isn't too long, and of the size that is asked for
 abbrev pub hex_in_range : Option ℕ → List ℕ → Bool
-hex_in_range size word = nat_le (length word) 128 && is_size size (length word / 2)
+hex_in_range size word = nat_le (length word) (2 * longest_message) && is_size size (length word / 2)
 
 -- whether a word is in the range of its slot, in a line whose messages have so many bytes
 abbrev pub is_in_range : Option ℕ → Slot → List ℕ → Bool
@@ -64,13 +67,13 @@ each_in_range size parts = list_all (λ part. is_in_range size part.slot part.te
 
 -- whether the count that a semaphore begins with isn't above its limit
 abbrev pub is_up_to : List ℕ → List ℕ → Bool
-is_up_to initial limit = option_map_or (λ most. is_some (number_in 0 most initial)) (number_in 1 1000000 limit) false
+is_up_to initial limit = option_map_or (λ most. is_some (number_in 0 most initial)) (number_in 1 MOST_COUNT limit) false
 
 -- whether the numbers of a line go together: those of a semaphore, and a channel's size and its message
 abbrev pub go_together : Head → List Placed → Bool
 go_together (Declare kind.Sem) (name ∷ initial ∷ limit ∷ parts) = is_up_to initial.text limit.text
 go_together (Declare kind.Chan) (name ∷ size ∷ message ∷ parts) =
-    is_size (number_in 1 64 size.text) (length message.text / 2)
+    is_size (number_in 1 longest_message size.text) (length message.text / 2)
 go_together head parts = true
 
 -- whether no number of a line is out of its range, and no message of the wrong size
@@ -116,7 +119,7 @@ are_well_named free decls parts = each_well_named free decls parts && name_once 
 
 -- whether a line names more observers than a channel may have
 abbrev pub has_many_observers : List Placed → Bool
-has_many_observers parts = nat_lt 8 (count_by (λ part. is_observer_slot part.slot) parts)
+has_many_observers parts = nat_lt most_few (count_by (λ part. is_observer_slot part.slot) parts)
 
 -- whether a slot is that of an event
 abbrev pub is_event_slot : Slot → Bool
@@ -125,4 +128,4 @@ is_event_slot slot = false
 
 -- whether a line has more events than a poll may have
 abbrev pub has_many_events : List Placed → Bool
-has_many_events parts = nat_lt 8 (count_by (λ part. is_event_slot part.slot) parts)
+has_many_events parts = nat_lt MOST_EVENTS (count_by (λ part. is_event_slot part.slot) parts)

@@ -1,9 +1,11 @@
 use Rattle.std.specs.Prelude.{◌≡◌, ℕ, Bool, true, false, not, ◌==◌, nat_le, ◌&&◌, Option, Some, List, [], ◌∷◌, length, take, slice_get, is_some, if◌then◌else◌}
 use Rattle.std.specs.List.{list_all, list_any}
+use Rattle.zk_base.specs.Limits.{longest_message, most_held}
 use Rattle.zk_base.specs.Fews as fews
 use Rattle.zk_base.specs.Messages.{is_message}
 use Rattle.zk_base.specs.declared.kinds.Need.{Need}
 use Rattle.zk_base.specs.declared.kinds.Need.TheVariants as need
+use Rattle.zk_words.specs.declared.limits.TheConstants.{MOST_COUNT}
 use Rattle.zk_words.specs.declared.slot.Slot.{Slot}
 use Rattle.zk_words.specs.declared.slot.Slot.TheVariants as slot
 use Rattle.zk_words.specs.declared.slot.Rest.{Rest}
@@ -72,7 +74,7 @@ args_fit free decls size (slot ∷ slots) rest [] = true
 args_fit free decls size (slot ∷ slots) rest (arg ∷ args) =
     fits_in free decls size slot arg && args_fit free decls size slots rest args
 
--- whether the events of a call are 1 to 8, where it is a poll
+-- whether the events of a call are those of a poll, where it is one
 abbrev pub has_few_events : Call → Bool
 has_few_events (call.Poll wait events) = is_few events
 has_few_events call = true
@@ -93,9 +95,9 @@ all_different (n ∷ ns) = not (list_any (λ m. m == n) ns) && all_different ns
 -- whether what is declared is in range: a semaphore's first count and limit, a message queue's size and room, what a
 -- subscriber has room for, the length of a channel's message; and a channel's observers are few and different
 abbrev pub decl_fits : Decl → Bool
-decl_fits (Sem name initial limit raw) = is_between 1 1000000 limit && nat_le initial limit
-decl_fits (Msgq name size capacity raw) = is_between 1 64 size && is_between 1 256 capacity
-decl_fits (Sub name capacity) = is_between 1 256 capacity
+decl_fits (Sem name initial limit raw) = is_between 1 MOST_COUNT limit && nat_le initial limit
+decl_fits (Msgq name size capacity raw) = is_between 1 longest_message size && is_between 1 most_held capacity
+decl_fits (Sub name capacity) = is_between 1 most_held capacity
 decl_fits (Chan name message valid observers) = is_message message && fews.is_few observers && all_different observers
 decl_fits decl = true
 

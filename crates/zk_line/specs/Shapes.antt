@@ -1,6 +1,7 @@
-use Rattle.std.specs.Prelude.{ℕ, ℤ, Bool, true, false, nat_lt, ◌==◌, List, [], ◌∷◌, length, Option, Some, None, option_map, option_and_then, if◌then◌else◌}
+use Rattle.std.specs.Prelude.{ℕ, ℤ, Bool, true, false, nat_le, ◌==◌, List, [], ◌∷◌, length, Option, Some, None, option_map, option_and_then, if◌then◌else◌}
 use Rattle.zk_base.specs.Fews as fews
 use Rattle.zk_base.specs.declared.validator.Valid.{Valid}
+use Rattle.zk_words.specs.declared.limits.TheConstants.{GREATEST_RESULT}
 use Rattle.zk_words.specs.declared.slot.Choice.{Choice}
 use Rattle.zk_words.specs.declared.timeout.Timeout.{Timeout}
 use Rattle.zk_words.specs.Spelled.{same_choice}
@@ -31,9 +32,9 @@ abbrev pub as_number : Arg → Option ℕ
 as_number (Number number) = Some number
 as_number arg = None
 
--- the number of 16 bits that it is
+-- the result of a signal that it is
 abbrev pub as_result : Arg → Option ℕ
-as_result (Number number) = (if nat_lt number 65536 then Some number else None)
+as_result (Number number) = (if nat_le number GREATEST_RESULT then Some number else None)
 as_result arg = None
 
 -- the priority that it is
@@ -124,7 +125,7 @@ abbrev pub all_events : List Arg → Option (List PollEvent)
 all_events [] = Some []
 all_events (arg ∷ args) = option_and_then (λ event. option_map (λ events. event ∷ events) (all_events args)) (as_event arg)
 
--- events that are those of a poll, 1 to 8
+-- events that are those of a poll, if they are few
 abbrev pub few_events : List PollEvent → Option (List PollEvent)
 few_events events = (if is_few events then Some events else None)
 
@@ -143,7 +144,7 @@ all_objects [] = Some []
 all_objects (arg ∷ args) =
     option_and_then (λ object. option_map (λ objects. object ∷ objects) (all_objects args)) (as_known arg)
 
--- objects that are those of a channel, 8 at most
+-- objects that are those of a channel, if they are few
 abbrev pub few_objects : List ℕ → Option (List ℕ)
 few_objects objects = (if fews.is_few objects then Some objects else None)
 

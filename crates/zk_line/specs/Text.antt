@@ -1,4 +1,5 @@
 use Rattle.std.specs.Prelude.{ℕ, List, [], ◌∷◌, ◌++◌, map}
+use Rattle.zk_words.specs.Bytes.{space}
 use Rattle.zk_words.specs.declared.word.Head.{Head}
 use Rattle.zk_words.specs.declared.word.Head.TheVariants as head
 use Rattle.zk_words.specs.Table.{row_of}
@@ -29,4 +30,4 @@ call_line decls call = let said = said_of call in said_line decls (head.Call sai
 -- words behind another, each behind a space
 abbrev pub behind : List (List ℕ) → List ℕ
 behind [] = []
-behind (word ∷ words) = 32 ∷ word ++ behind words
+behind (word ∷ words) = space ∷ word ++ behind words

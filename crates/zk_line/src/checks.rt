@@ -8,7 +8,7 @@ use crate::kinds::size_at;
 use crate::objects::Objects;
 use crate::types::{Arg, Ref};
 use zk_base::{LONGEST_MESSAGE, MOST_FEW};
-use zk_words::{Head, Kind, Need, Parts, Slot, number_in, priority_of, wait_of};
+use zk_words::{Head, Kind, MOST_COUNT, Need, Parts, Slot, number_in, priority_of, wait_of};
 
 /// The object that the first word behind a head names.
 pub fn first_object(objects: &Objects, parts: &Parts<'_>) -> Option<u32>
@@ -129,7 +129,7 @@ fn message_has_size(parts: &Parts<'_>) -> bool
     let mut parts = parts.again();
     match (parts.next(), parts.next(), parts.next()) {
         (Some(_), Some(size), Some(message)) => is_size(
-            number_in(1, 64, size.text).map(|size| size as usize),
+            number_in(1, LONGEST_MESSAGE as u32, size.text).map(|size| size as usize),
             message.text.len() / 2,
         ),
         _ => true,
@@ -139,7 +139,7 @@ fn message_has_size(parts: &Parts<'_>) -> bool
 fn is_up_to(initial: &[u8], limit: &[u8]) -> bool
     ensures { result ≡ is_up_to initial.now limit.now }
 {
-    match number_in(1, 1_000_000, limit) {
+    match number_in(1, MOST_COUNT, limit) {
         Some(most) => number_in(0, most, initial).is_some(),
         None => false,
     }

@@ -21,7 +21,7 @@ pub enum Event {
     Sig(Ref),
 }
 
-/// The events of a poll: 1 to 8, kept in place, so that they are copied without memory.
+/// The events of a poll: 1 to `MOST_EVENTS`, kept in place, so that they are copied without memory.
 #[derive(Clone, Copy, Debug)]
 pub struct Events {
     // The events, then `Ignore`.
@@ -50,7 +50,7 @@ impl Model for Events {
 }
 
 impl Events {
-    /// The events of a poll. There are none where they are fewer than 1 or more than 8.
+    /// The events of a poll. There are none where they are fewer than 1 or more than `MOST_EVENTS`.
     pub fn new(events: &[Event]) -> Option<Events>
         ensures { result ≡ (if is_few events.now then Some events.now else None) }
     {
@@ -65,7 +65,7 @@ impl Events {
         })
     }
 
-    /// The events in the written order: 1 to 8 of them.
+    /// The events in the written order.
     pub fn items(&self) -> &[Event]
         ensures all { result.now ≡ self.now }
         ensures few { is_few self.now ≡ true }

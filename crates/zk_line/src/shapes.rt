@@ -4,7 +4,7 @@ ghost use Rattle.zk_line.specs.Shapes.{as_name, as_object, as_number, as_result,
 use crate::events::{Event, Events, MOST_EVENTS};
 use crate::types::{Arg, Ref};
 use zk_base::{Few, MOST_FEW, Msg, Name};
-use zk_words::{Choice, Timeout, Valid, same_choice};
+use zk_words::{Choice, GREATEST_RESULT, Timeout, Valid, same_choice};
 
 /// One object.
 pub fn one_object(args: &[Arg]) -> Option<Ref>
@@ -105,13 +105,13 @@ pub fn object_number(args: &[Arg]) -> Option<(Ref, u32)>
     }
 }
 
-/// An object and a number of 16 bits.
+/// An object, and the result that a signal is raised with.
 pub fn object_result(args: &[Arg]) -> Option<(Ref, u16)>
     ensures { result ≡ two as_object as_result args.now }
 {
     match args {
         [Arg::Object(object), Arg::Number(number)] => {
-            if *number < 65_536 {
+            if *number <= GREATEST_RESULT {
                 Some((*object, *number as u16))
             } else {
                 None
@@ -143,7 +143,7 @@ pub fn object_bytes_wait(args: &[Arg]) -> Option<(Ref, Msg, Timeout)>
     }
 }
 
-/// How long is waited, and for which events, 1 to 8 of them.
+/// How long is waited, and for which events, if they are few.
 pub fn wait_events(args: &[Arg]) -> Option<(Timeout, Events)>
     ensures { result ≡ wait_events args.now }
 {
@@ -289,7 +289,7 @@ pub fn channel_parts(args: &[Arg]) -> Option<(Name, Msg, Valid, Few)>
     }
 }
 
-/// The objects that all arguments are, if they are 8 at most.
+/// The objects that all arguments are, if they are few.
 fn objects_of(args: &[Arg]) -> Option<Few>
     ensures { result ≡ objects_of args.now }
 {

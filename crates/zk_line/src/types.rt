@@ -5,23 +5,24 @@ use zk_words::{Choice, Timeout, Valid};
 /// One declaration. Objects are numbered from 0 in declared order.
 #[derive(Clone, Copy, Debug)]
 pub enum Decl {
-    /// A thread, its priority (-16 to 15, the lower number first), and whether it is a user thread.
+    /// A thread, its priority (the lower number first), and whether it is a user thread.
     Thread(Name, i8, bool),
     /// A work queue, the priority of its worker, and whether it is started at first.
     Queue(Name, i8, bool),
     /// A work item.
     Item(Name),
-    /// A semaphore, the count that it begins with (up to its limit), its limit, 1 to 1,000,000, and whether it isn't
+    /// A semaphore, the count that it begins with (up to its limit), its limit, 1 to `MOST_COUNT`, and whether it isn't
     /// initialised.
     Sem(Name, u32, u32, bool),
-    /// A message queue, the size of each message in bytes (1 to 64), how many it has room for (1 to 256), and whether it
-    /// isn't initialised.
+    /// A message queue, the size of each message in bytes (1 to `LONGEST_MESSAGE`), how many it has room for (1 to
+    /// `MOST_HELD`), and whether it isn't initialised.
     Msgq(Name, u32, u32, bool),
     /// A signal, and whether it isn't initialised.
     Signal(Name, bool),
     /// A listener. Zephyr's `ZBUS_LISTENER_DEFINE`.
     Listener(Name),
-    /// A subscriber, and of how many messages it is told that it hasn't taken (1 to 256). Zephyr's `ZBUS_SUBSCRIBER_DEFINE`.
+    /// A subscriber, and of how many messages it is told that it hasn't taken (1 to `MOST_HELD`). Zephyr's
+    /// `ZBUS_SUBSCRIBER_DEFINE`.
     Sub(Name, u32),
     /// A channel, the message that it has at first, what messages it takes, and the object numbers of its
     /// observers: subscribers and listeners that are declared before it, each once. Zephyr's `ZBUS_CHAN_DEFINE`.
@@ -82,7 +83,7 @@ pub enum Call {
     CancelSync(Ref),
     /// Zephyr's `k_work_flush`.
     Flush(Ref),
-    /// An item, a queue, and a delay of 0 to 1,000,000 ticks. Zephyr's `k_work_schedule_for_queue`.
+    /// An item, a queue, and a delay of 0 to `MOST_TICKS` ticks. Zephyr's `k_work_schedule_for_queue`.
     Schedule(Ref, Ref, u32),
     /// The same, of Zephyr's `k_work_reschedule_for_queue`.
     Reschedule(Ref, Ref, u32),
@@ -96,7 +97,7 @@ pub enum Call {
     Drain(Ref, bool),
     /// A queue. Zephyr's `k_work_queue_unplug`.
     Unplug(Ref),
-    /// The clock goes on by 1 to 1,000,000 ticks. Zephyr's `sys_clock_announce`.
+    /// The clock goes on by 1 to `MOST_TICKS` ticks. Zephyr's `sys_clock_announce`.
     Tick(u32),
     /// A semaphore. Zephyr's `k_sem_take`.
     Take(Ref, Timeout),
@@ -112,7 +113,7 @@ pub enum Call {
     Get(Ref, Timeout),
     /// A message queue. Zephyr's `k_msgq_peek`.
     Peek(Ref),
-    /// A message queue, and a place among its messages, 0 to 255, the oldest first. Zephyr's `k_msgq_peek_at`.
+    /// A message queue, and a place among its messages, from 0, the oldest first. Zephyr's `k_msgq_peek_at`.
     PeekAt(Ref, u32),
     /// A message queue. Zephyr's `k_msgq_purge`.
     Purge(Ref),

@@ -36,6 +36,7 @@ use Rattle.zk_line.proofs.Inverse.{said_of-call_of}
 use Rattle.zk_line.proofs.Lists.{slice_get-append_left, slice_get-push, position-push}
 use Rattle.zk_line.proofs.Makes.{is_some-some}
 use Rattle.zk_line.proofs.Options.{one_part}
+use Rattle.zk_scenario.specs.declared.limits.TheConstants.{MOST_CALLS}
 use Rattle.zk_scenario.specs.declared.types.Script.{Script}
 use Rattle.zk_scenario.specs.declared.refused.Why.{Why}
 use Rattle.zk_scenario.specs.declared.refused.Why.TheVariants as why
@@ -124,7 +125,7 @@ room-valid : (p : Content) → IsValid p → HasRoom p.decls
 room-valid p valid = record { players = valid.players; queues = valid.queues; items = valid.items; sems = valid.sems; msgqs = valid.msgqs; signals = valid.signals; chans = valid.chans; observers = valid.observers }
 
 -- a scenario is valid, by what there is room for and what is said of its scripts
-IsValid-made : (p : Content) → HasRoom p.decls → call_count p.scripts ≤ 4096 → AreNames p.decls → list_all decl_fits p.decls ≡ true → AreObserved p.decls → AreInOrder p.decls p.written → list_all (script_fits p.decls) p.scripts ≡ true → list_all (script_stands p.decls) p.scripts ≡ true → OneEach p.scripts → IsValid p
+IsValid-made : (p : Content) → HasRoom p.decls → call_count p.scripts ≤ MOST_CALLS → AreNames p.decls → list_all decl_fits p.decls ≡ true → AreObserved p.decls → AreInOrder p.decls p.written → list_all (script_fits p.decls) p.scripts ≡ true → list_all (script_stands p.decls) p.scripts ≡ true → OneEach p.scripts → IsValid p
 IsValid-made p room calls named in_range observed in_order fit stand one_each =
     record { players = room.players; queues = room.queues; items = room.items; sems = room.sems; msgqs = room.msgqs; signals = room.signals; chans = room.chans; observers = room.observers; calls = calls; named = named; in_range = in_range; observed = observed; in_order = in_order; fit = fit; stand = stand; one_each = one_each }
 
@@ -183,7 +184,7 @@ valid-begun r owner valid none thread fresh =
     (one_each-push r.scripts s (subst OneEach same valid.one_each) fresh)
 
 valid-called : (decls : List Decl) (written : List Declared) (ss : List Script) (s : Script) (c : Call) → IsValid (record { decls = decls; written = written; scripts = ss ++ s ∷ [] }) → call_fits (is_free decls s) decls c ≡ true → call_stands decls s.owner (is_free decls s) c ≡ true
-    → call_count (ss ++ s ∷ []) < 4096
+    → call_count (ss ++ s ∷ []) < MOST_CALLS
     → IsValid (record { decls = decls; written = written; scripts = ss ++ with_call c s ∷ [] })
 valid-called decls written ss s c valid fits stands few =
     let both = and_parts (list_all (script_fits decls) ss) (script_fits decls s) (sym (fit-push decls ss s) ∙ valid.fit) in
@@ -211,14 +212,14 @@ abbrev barred_in : List Decl → Option Script → Word → Bool
 barred_in decls o w =
     forbids_call (option_map_or (is_free decls) o false) (option_map_or (λ script. is_at is_listener decls script.owner) o false) (option_map_or (λ script. is_at is_item decls script.owner) o false) w
 
-called_fits : (r : Reading) (c : Call) → IsValid (parts_of r) → is_some r.current ≡ true → call_fits (next_is_free r) r.decls c ≡ true → is_barred r (word_of c) ≡ false → nat_le 4096 (call_count (all_scripts r)) ≡ false → IsValid (parts_of (called r c))
+called_fits : (r : Reading) (c : Call) → IsValid (parts_of r) → is_some r.current ≡ true → call_fits (next_is_free r) r.decls c ≡ true → is_barred r (word_of c) ≡ false → nat_le MOST_CALLS (call_count (all_scripts r)) ≡ false → IsValid (parts_of (called r c))
 called_fits r c valid inside fits unbarred few =
     let s = is_some-some r.current inside in
     subst (λ o. IsValid (record { decls = r.decls; written = r.written; scripts = r.scripts ++ option_to_list (option_map (with_call c) o) })) (sym s.1)
     (valid-called r.decls r.written r.scripts s.0 c (subst (λ o. IsValid (record { decls = r.decls; written = r.written; scripts = r.scripts ++ option_to_list o })) s.1 valid)
     (subst (λ o. call_fits (option_map_or (is_free r.decls) o false) r.decls c ≡ true) s.1 fits)
     (ap not (subst (λ o. barred_in r.decls o (word_of c) ≡ false) s.1 unbarred))
-    (subst (λ o. call_count (r.scripts ++ option_to_list o) < 4096) s.1 (leb-false 4096 (call_count (all_scripts r)) few)))
+    (subst (λ o. call_count (r.scripts ++ option_to_list o) < MOST_CALLS) s.1 (leb-false MOST_CALLS (call_count (all_scripts r)) few)))
 
 -- a declaration to which no reason applies keeps what was read valid
 pub IsValid-declared : (r : Reading) (k : Kind) (parts : List Placed) (d : Decl) → IsForm (head.Declare k) parts → Passes r (head.Declare k) parts → option_and_then (decl_of k) (args_of r.decls parts) ≡ Some d → IsValid (parts_of r)
@@ -292,7 +293,7 @@ IsValid-called r w parts c form p made valid =
     let ranged = (and_parts (each_in_range (message_size r.decls parts) parts) (go_together (head.Call w) parts) p.in_range).0 in
     let fitting = call_fits-read (next_is_free r) r.decls w form.words c (sym (ap (λ ps. each_in_range (message_size r.decls ps) ps) form.placed) ∙ ranged) (sym (ap (each_well_named (next_is_free r) r.decls) form.placed) ∙ (and_parts (each_well_named (next_is_free r) r.decls parts) (name_once parts) p.well_named).0) (sym (ap (λ ps. option_and_then (call_of w) (args_of r.decls ps)) form.placed) ∙ made) in
     let same : word_of c ≡ w = option_and_then_some {P = word_of c ≡ w} (call_of w) (args_of r.decls parts) c made (λ args is_args given. ap (λ said. said.word) (said_of-call_of w args c given)) in
-    called_fits r c valid (call_inside r w parts p) fitting (ap (is_barred r) same ∙ call_unbarred r w parts p) (or_none (nat_le 4096 (call_count (all_scripts r))) (has_many_events parts) p.within).0
+    called_fits r c valid (call_inside r w parts p) fitting (ap (is_barred r) same ∙ call_unbarred r w parts p) (or_none (nat_le MOST_CALLS (call_count (all_scripts r))) (has_many_events parts) p.within).0
 
 -- a line to which no reason applies keeps what was read valid
 pub IsValid-after : (r s : Reading) (h : Head) (parts : List Placed) → IsForm h parts → verdict r h parts ≡ None → after r h parts ≡ Some s → IsValid (parts_of r) → IsValid (parts_of s)

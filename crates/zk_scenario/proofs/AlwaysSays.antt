@@ -16,6 +16,7 @@ use Rattle.zk_line.specs.Checks.{first_object, message_size, each_in_range, go_t
 use Rattle.zk_line.specs.Decls.{decl_of, permission_of}
 use Rattle.zk_line.specs.Objects.{object_of, is_at, names, plays_script}
 use Rattle.zk_line.proofs.Makes.{AreRight, are_right, makes_call, makes_decl, makes_permission}
+use Rattle.zk_scenario.specs.declared.limits.TheConstants.{MOST_CALLS}
 use Rattle.zk_scenario.specs.Free.{next_is_free, is_free_line}
 use Rattle.zk_scenario.specs.Reading.{Reading, all_scripts, declared, permitted, called}
 use Rattle.zk_scenario.specs.Valid.{call_count}
@@ -64,7 +65,7 @@ after-some r head.Script parts form e =
 after-some r head.End parts form e = refl
 after-some r (head.Call w) parts form e =
     let p = Passes-verdict r (head.Call w) parts e in
-    let few = (or_none (nat_le 4096 (call_count (all_scripts r))) (has_many_events parts) p.within).1 in
+    let few = (or_none (nat_le MOST_CALLS (call_count (all_scripts r))) (has_many_events parts) p.within).1 in
     let right = right_words r (head.Call w) parts form p in
     some-map (called r) (option_and_then (call_of w) (args_of r.decls parts))
     (subst (λ ps. IsSome (option_and_then (call_of w) (args_of r.decls ps))) (sym form.placed) (makes_call w (next_is_free r) r.decls (message_size r.decls parts) form.words form.fitting right (sym (ap has_many_events form.placed) ∙ few)))

@@ -4,11 +4,9 @@ use Rattle.std.specs.List.{list_any}
 use Rattle.std.proofs.lemmas.Bool.{and_parts}
 use Rattle.std.proofs.lemmas.Option.{same_Some}
 use Rattle.std.proofs.Math.Bool.{or-false}
-use Rattle.zk_line.specs.declared.types.Decl.{Decl}
 use Rattle.zk_line.specs.declared.types.Call.{Call}
 use Rattle.zk_line.specs.Calls.{is_user_call}
-use Rattle.zk_line.specs.Fits.{call_fits}
-use Rattle.zk_scenario.specs.Valid.{calls_pass, calls_fit}
+use Rattle.zk_scenario.specs.Valid.{calls_pass}
 
 and_true : (b : Bool) → (b && true) ≡ b
 and_true true = refl
@@ -41,8 +39,3 @@ calls_pass-at test free (x ∷ calls) zero c pass e =
 calls_pass-at test free (x ∷ calls) (suc k) c pass e =
     let both = and_parts (test free x) (calls_pass test (free || is_user_call x) calls) pass in
     ap (λ f. test f c) (sym (or_both free (is_user_call x) (list_any is_user_call (take k calls)))) ∙ calls_pass-at test (free || is_user_call x) calls k c both.1 e
-
--- calls that fit, each where it stands
-pub call_fits-at : (free : Bool) (decls : List Decl) (calls : List Call) (k : ℕ) (c : Call) → calls_fit free decls calls ≡ true → slice_get calls k ≡ Some c
-    → call_fits (free || list_any is_user_call (take k calls)) decls c ≡ true
-call_fits-at free decls calls k c fits e = calls_pass-at (λ f call. call_fits f decls call) free calls k c fits e

@@ -1,6 +1,5 @@
 -- The lines among the declarations, with one line more.
-use Rattle.std.proofs.Common.{◌≡◌, ℕ, zero, suc, ◌<◌, ◌≤◌, ◌^◌, Bool, true, false, not, cond, eqb, nat_lt, ◌&&◌, ◌||◌, Option, None, Some, List, [], ◌∷◌, ◌++◌, length, take, drop, slice_get, count_by, refl, sym, ap, ◌∙◌, ⊎_elim, arith, length-append}
-use Rattle.std.specs.List.{list_any}
+use Rattle.std.proofs.Common.{◌≡◌, ℕ, zero, suc, ◌<◌, ◌≤◌, Bool, true, false, not, cond, nat_lt, ◌&&◌, Option, None, Some, List, [], ◌∷◌, ◌++◌, length, take, drop, slice_get, count_by, refl, sym, ap, ◌∙◌, ⊎_elim, arith, length-append}
 use Rattle.std.specs.Option.{option_map_or}
 use Rattle.std.proofs.lemmas.Bool.{and_parts, and_from, cases_order, eq-eqb, ltb-true, lt-ltb}
 use Rattle.std.proofs.lemmas.List.{take-append-drop, take-append-le}
@@ -12,8 +11,7 @@ use Rattle.zk_line.specs.declared.types.Declared.{Declared}
 use Rattle.zk_line.specs.declared.types.Declared.TheVariants.{Object, Allow}
 use Rattle.zk_line.specs.Objects.{is_at, is_thread}
 use Rattle.zk_line.proofs.Lists.{slice_get-append_left, slice_get-push, count_by-cons, count_by-push}
-use Rattle.zk_scenario.specs.declared.pairs.Pairs.{Pairs}
-use Rattle.zk_scenario.specs.Written.{is_object, objects_in, permits, is_allowed, follows, AreInOrder, has_pair, ArePermissions}
+use Rattle.zk_scenario.specs.Written.{is_object, objects_in, is_allowed, follows, AreInOrder}
 
 -- an element that passes counts behind those before it
 pub count_by-take-lt : {X : Type 0} (p : X → Bool) (xs : List X) (k : ℕ) (x : X) → slice_get xs k ≡ Some x → p x ≡ true → count_by p (take k xs) < count_by p xs
@@ -93,30 +91,3 @@ in_order-permitted decls written thread object held player declared new =
       take_all-length : {X : Type 0} (xs : List X) → take (length xs) xs ≡ xs
       take_all-length [] = refl
       take_all-length (x ∷ xs) = ap (λ ys. x ∷ ys) (take_all-length xs)
-
--- one of the elements passes, with one more
-pub any-push : {X : Type 0} (test : X → Bool) (xs : List X) (x : X) → list_any test (xs ++ x ∷ []) ≡ (test x || list_any test xs)
-any-push test [] x = refl
-any-push test (y ∷ xs) x = ap (λ b. test y || b) (any-push test xs x) ∙ swap (test y) (test x) (list_any test xs) where
-  swap : (a b c : Bool) → (a || (b || c)) ≡ (b || (a || c))
-  swap true true c = refl
-  swap true false c = refl
-  swap false b c = refl
-
--- a permission is said, with one line more
-is_allowed-push : (written : List Declared) (line : Declared) (thread object : ℕ) → is_allowed (written ++ line ∷ []) thread object ≡ (permits thread object line || is_allowed written thread object)
-is_allowed-push written line thread object = any-push (permits thread object) written line
-
--- an object says no permission
-pub permissions-declared : (written : List Declared) (object : ℕ) (pairs : Pairs) → ArePermissions written pairs → ArePermissions (written ++ Object object ∷ []) pairs
-permissions-declared written object pairs held player own small = held player own small ∙ sym (is_allowed-push written (Object object) player own)
-
--- one permission more
-pub permissions-permitted : (written : List Declared) (thread object : ℕ) (pairs after : Pairs) → ArePermissions written pairs
-    → ((one other : ℕ) → other < 2 ^ 32 → has_pair after one other ≡ cond (eqb thread one && eqb object other) true (has_pair pairs one other)) → ArePermissions (written ++ Allow thread object ∷ []) after
-permissions-permitted written thread object pairs after held put player own small =
-    put player own small ∙ ap (cond (eqb thread player && eqb object own) true) (held player own small) ∙ either (eqb thread player && eqb object own) (is_allowed written player own)
-    ∙ sym (is_allowed-push written (Allow thread object) player own) where
-      either : (a b : Bool) → cond a true b ≡ (a || b)
-      either true b = refl
-      either false b = refl

@@ -1,6 +1,7 @@
 -- What is read is valid.
 use Rattle.std.proofs.Common.{◌≡◌, ℕ, ◌+◌, Bool, true, false, cond, nat_lt, Option, None, Some, Result, Ok, Err, List, [], ◌∷◌, length, is_some, codes, refl, sym, ap, subst, ◌∙◌, arith}
 use Rattle.std.specs.Str.{bytes_eq}
+use Rattle.zk_scenario.specs.declared.limits.TheConstants.{LONGEST_SCENARIO}
 use Rattle.zk_scenario.specs.declared.types.Script.{Script}
 use Rattle.zk_words.specs.declared.word.Head.{Head}
 use Rattle.zk_words.specs.declared.line.Line.{Line}
@@ -68,7 +69,7 @@ valid-pieces p (first ∷ more) e = by_header (bytes_eq first (codes "zk 1")) e 
 
 -- what is read is valid
 pub IsValid-read : (text : List ℕ) (p : Content) → scenario_of text ≡ Ok p → IsValid p
-IsValid-read text p e = by_length (nat_lt 1048576 (length text)) e where
+IsValid-read text p e = by_length (nat_lt LONGEST_SCENARIO (length text)) e where
   by_length : (b : Bool) → cond b (Err (At 0 why.Length)) (read_pieces (pieces_of text)) ≡ Ok p → IsValid p
   by_length true here = absurd (cc)
   by_length false here = valid-pieces p (pieces_of text) here

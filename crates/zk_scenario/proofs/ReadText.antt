@@ -11,6 +11,7 @@ use Rattle.std.proofs.lemmas.Grind.{flat_map-append}
 use Rattle.std.proofs.lemmas.List.Splits.{join_with_byte-slice_split}
 use Rattle.std.proofs.lemmas.Option.{same_Some}
 use Rattle.zk_base.proofs.Lists.{none_from_is_some}
+use Rattle.zk_words.specs.Bytes.{line_feed}
 use Rattle.zk_words.specs.declared.slot.Slot.TheVariants as slot
 use Rattle.zk_words.specs.declared.slot.Rest.TheVariants.{Nothing}
 use Rattle.zk_words.specs.declared.word.Head.{Head}
@@ -34,6 +35,7 @@ use Rattle.zk_line.specs.Text.{decl_line, allow_line, call_line}
 use Rattle.zk_line.proofs.Makes.{is_some-some}
 use Rattle.zk_line.proofs.Options.{one_part}
 use Rattle.zk_line.proofs.Spelled.{name_at-object_of, decl_is_line, allow_is_line, call_is_line}
+use Rattle.zk_scenario.specs.declared.limits.TheConstants.{LONGEST_SCENARIO}
 use Rattle.zk_scenario.specs.declared.types.Script.{Script}
 use Rattle.zk_scenario.specs.declared.refused.Why.{Why}
 use Rattle.zk_scenario.specs.declared.refused.Why.TheVariants as why
@@ -188,18 +190,18 @@ read-pieces p (first ∷ more) e = by_header (bytes_eq first (codes "zk 1")) ref
   by_header false same here = absurd (cc)
 
 -- lines with their feeds, as pieces that were cut at the feeds
-join-lines : (lines : List (List ℕ)) → join_with_byte 10 (lines ++ [] ∷ []) ≡ lines_text lines
+join-lines : (lines : List (List ℕ)) → join_with_byte line_feed (lines ++ [] ∷ []) ≡ lines_text lines
 join-lines [] = refl
-join-lines (l ∷ []) = sym (append-nil (l ++ 10 ∷ []))
-join-lines (l ∷ m ∷ lines) = ap (λ t. l ++ (10 ∷ t)) (join-lines (m ∷ lines)) ∙ sym (append_assoc l (10 ∷ []) (lines_text (m ∷ lines)))
+join-lines (l ∷ []) = sym (append-nil (l ++ line_feed ∷ []))
+join-lines (l ∷ m ∷ lines) = ap (λ t. l ++ (line_feed ∷ t)) (join-lines (m ∷ lines)) ∙ sym (append_assoc l (line_feed ∷ []) (lines_text (m ∷ lines)))
 
 -- what is read is spelled so
 pub text_of-read : (text : List ℕ) (p : Content) → scenario_of text ≡ Ok p → text ≡ text_of p
-text_of-read text p e = by_length (nat_lt 1048576 (length text)) e where
+text_of-read text p e = by_length (nat_lt LONGEST_SCENARIO (length text)) e where
   by_length : (b : Bool) → cond b (Err (At 0 why.Length)) (read_pieces (pieces_of text)) ≡ Ok p → text ≡ text_of p
   by_length true here = absurd (cc)
   by_length false here =
-      sym (join_with_byte-slice_split 10 text) ∙ ap (join_with_byte 10) (read-pieces p (pieces_of text) here) ∙ join-lines (lines_of p)
+      sym (join_with_byte-slice_split line_feed text) ∙ ap (join_with_byte line_feed) (read-pieces p (pieces_of text) here) ∙ join-lines (lines_of p)
 
 -- what was read is a scenario whose text is read as it
 pub IsReadable-read : (text : List ℕ) (p : Content) → scenario_of text ≡ Ok p → IsReadable p

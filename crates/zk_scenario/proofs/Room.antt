@@ -1,6 +1,7 @@
 -- How many declarations there may be, with one more where its kind isn't full.
 use Rattle.std.proofs.Common.{◌≡◌, ◌<◌, ◌≤◌, ℕ, Bool, true, false, cond, nat_le, ◌&&◌, ◌||◌, List, [], ◌∷◌, ◌++◌, count_by, refl, sym, ap, ◌∙◌, arith, inl, inr}
 use Rattle.std.proofs.lemmas.Bool.{leb-false, or_cases}
+use Rattle.zk_base.specs.Limits.{most_players}
 use Rattle.zk_base.specs.declared.kinds.Kind.{Kind}
 use Rattle.zk_base.specs.declared.kinds.Kind.TheVariants as kind
 use Rattle.zk_base.specs.Kinds.{same_kind}
@@ -8,18 +9,19 @@ use Rattle.zk_words.specs.Kinds.{makes_player}
 use Rattle.zk_line.specs.declared.types.Decl.{Decl}
 use Rattle.zk_line.specs.Objects.{kind_of, counts_with, is_thread, is_queue, is_item, is_sem, is_msgq, is_signal, is_chan, is_observer, player_count}
 use Rattle.zk_line.proofs.Lists.{count_by-push}
+use Rattle.zk_scenario.specs.declared.limits.TheConstants.{MOST_QUEUES, MOST_ITEMS, MOST_SEMS, MOST_MSGQS, MOST_SIGNALS, MOST_OBSERVERS, MOST_CHANS}
 use Rattle.zk_scenario.specs.Verdict.{most, is_full}
 
 -- there are no more declarations of a kind than there may be
 pub record HasRoom (decls : List Decl) : Type 0 where
-  pub players : player_count decls ≤ 64
-  pub queues : count_by is_queue decls ≤ 8
-  pub items : count_by is_item decls ≤ 256
-  pub sems : count_by is_sem decls ≤ 32
-  pub msgqs : count_by is_msgq decls ≤ 16
-  pub signals : count_by is_signal decls ≤ 32
-  pub chans : count_by is_chan decls ≤ 16
-  pub observers : count_by is_observer decls ≤ 32
+  pub players : player_count decls ≤ most_players
+  pub queues : count_by is_queue decls ≤ MOST_QUEUES
+  pub items : count_by is_item decls ≤ MOST_ITEMS
+  pub sems : count_by is_sem decls ≤ MOST_SEMS
+  pub msgqs : count_by is_msgq decls ≤ MOST_MSGQS
+  pub signals : count_by is_signal decls ≤ MOST_SIGNALS
+  pub chans : count_by is_chan decls ≤ MOST_CHANS
+  pub observers : count_by is_observer decls ≤ MOST_OBSERVERS
 
 pub or_none : (a b : Bool) → (a || b) ≡ false → (a ≡ false) × (b ≡ false)
 or_none true b e = absurd (cc)
@@ -58,20 +60,20 @@ module _ (decls : List Decl) (d : Decl) (free : is_full decls (kind_of d) ≡ fa
   -- there are fewer of its kind than there may be
   below : (k : Kind) → same_kind (kind_of d) k ≡ true → count_by (counts_with k) decls < most k
   below k same =
-      let full = or_none (nat_le (most k) (count_by (counts_with k) decls)) (makes_player k && nat_le 64 (player_count decls)) (ap (is_full decls) (sym (same_kind-is (kind_of d) k same)) ∙ free) in
+      let full = or_none (nat_le (most k) (count_by (counts_with k) decls)) (makes_player k && nat_le most_players (player_count decls)) (ap (is_full decls) (sym (same_kind-is (kind_of d) k same)) ∙ free) in
       leb-false (most k) (count_by (counts_with k) decls) full.0
 
-  observers_below : is_observer d ≡ true → count_by is_observer decls < 32
+  observers_below : is_observer d ≡ true → count_by is_observer decls < MOST_OBSERVERS
   observers_below passes = elim (or_cases (same_kind (kind_of d) kind.Sub) (same_kind (kind_of d) kind.Listener) passes) [ inl sub ↦ below kind.Sub sub | inr listener ↦ below kind.Listener listener ]
 
-  players_below : makes_player (kind_of d) ≡ true → player_count decls < 64
+  players_below : makes_player (kind_of d) ≡ true → player_count decls < most_players
   players_below makes =
-      let full = or_none (nat_le (most (kind_of d)) (count_by (counts_with (kind_of d)) decls)) (makes_player (kind_of d) && nat_le 64 (player_count decls)) free in
-      leb-false 64 (player_count decls) (sym (ap (λ b. b && nat_le 64 (player_count decls)) makes) ∙ full.1)
+      let full = or_none (nat_le (most (kind_of d)) (count_by (counts_with (kind_of d)) decls)) (makes_player (kind_of d) && nat_le most_players (player_count decls)) free in
+      leb-false most_players (player_count decls) (sym (ap (λ b. b && nat_le most_players (player_count decls)) makes) ∙ full.1)
 
-  players-push : player_count decls ≤ 64 → player_count (decls ++ d ∷ []) ≤ 64
+  players-push : player_count decls ≤ most_players → player_count (decls ++ d ∷ []) ≤ most_players
   players-push within = by_tests (is_thread d) (is_queue d) refl refl (sym (plays (kind_of d))) (plays_one (kind_of d)) where
-    by_tests : (thread queue : Bool) → is_thread d ≡ thread → is_queue d ≡ queue → (thread || queue) ≡ makes_player (kind_of d) → (thread && queue) ≡ false → player_count (decls ++ d ∷ []) ≤ 64
+    by_tests : (thread queue : Bool) → is_thread d ≡ thread → is_queue d ≡ queue → (thread || queue) ≡ makes_player (kind_of d) → (thread && queue) ≡ false → player_count (decls ++ d ∷ []) ≤ most_players
     by_tests true true one other makes both = absurd (cc)
     by_tests true false one other makes both =
         omega (arith, players_below (sym makes), count_by-push is_thread decls d, count_by-push is_queue decls d, ap {B = ℕ} (λ b. cond b 1 0) one, ap {B = ℕ} (λ b. cond b 1 0) other)
@@ -83,11 +85,11 @@ module _ (decls : List Decl) (d : Decl) (free : is_full decls (kind_of d) ≡ fa
   pub room-push : HasRoom decls → HasRoom (decls ++ d ∷ [])
   room-push room = record {
     players = players-push room.players;
-    queues = within-push is_queue 8 decls d room.queues (below kind.Queue);
-    items = within-push is_item 256 decls d room.items (below kind.Item);
-    sems = within-push is_sem 32 decls d room.sems (below kind.Sem);
-    msgqs = within-push is_msgq 16 decls d room.msgqs (below kind.Msgq);
-    signals = within-push is_signal 32 decls d room.signals (below kind.Signal);
-    chans = within-push is_chan 16 decls d room.chans (below kind.Chan);
-    observers = within-push is_observer 32 decls d room.observers observers_below;
+    queues = within-push is_queue MOST_QUEUES decls d room.queues (below kind.Queue);
+    items = within-push is_item MOST_ITEMS decls d room.items (below kind.Item);
+    sems = within-push is_sem MOST_SEMS decls d room.sems (below kind.Sem);
+    msgqs = within-push is_msgq MOST_MSGQS decls d room.msgqs (below kind.Msgq);
+    signals = within-push is_signal MOST_SIGNALS decls d room.signals (below kind.Signal);
+    chans = within-push is_chan MOST_CHANS decls d room.chans (below kind.Chan);
+    observers = within-push is_observer MOST_OBSERVERS decls d room.observers observers_below;
   }

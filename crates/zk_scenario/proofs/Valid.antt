@@ -1,23 +1,23 @@
 -- What a valid scenario gives: its size, the numbers of its objects, and that each call fits and stands where it may.
-use Rattle.std.proofs.Common.{◌≡◌, ℕ, suc, ◌+◌, ◌<◌, ◌≤◌, Bool, true, false, not, cond, eqb, ◌&&◌, ◌||◌, Option, None, Some, List, [], ◌∷◌, length, take, slice_get, count_by, refl, sym, ap, ◌∙◌, arith, length-append}
-use Rattle.std.specs.List.{list_all, list_any}
+use Rattle.std.proofs.Common.{◌≡◌, ℕ, suc, ◌+◌, ◌<◌, ◌≤◌, Bool, true, false, not, cond, eqb, ◌||◌, Option, None, Some, List, [], ◌∷◌, length, take, slice_get, count_by, refl, sym, ap, ◌∙◌, arith, length-append}
+use Rattle.std.specs.List.{list_any}
 use Rattle.std.specs.Option.{option_map_or}
-use Rattle.std.proofs.lemmas.Bool.{and_parts, and_from, eqb-true}
+use Rattle.std.proofs.lemmas.Bool.{and_parts, eqb-true}
+use Rattle.zk_base.specs.Limits.{most_players}
 use Rattle.zk_base.proofs.Lists.{list_all-at}
 use Rattle.zk_line.specs.declared.types.Decl.{Decl}
-use Rattle.zk_line.specs.declared.types.Declared.TheVariants.{Allow}
 use Rattle.zk_line.specs.declared.types.Call.{Call}
 use Rattle.zk_line.specs.declared.types.Call.TheVariants.{User}
 use Rattle.zk_line.specs.Calls.{word_of, is_user_call}
 use Rattle.zk_line.specs.declared.types.Decl.TheVariants.{Thread, Queue, Item, Sem, Msgq, Signal, Listener, Sub, Chan}
+use Rattle.zk_scenario.specs.declared.limits.TheConstants.{MOST_ITEMS, MOST_SEMS, MOST_MSGQS, MOST_SIGNALS, MOST_OBSERVERS, MOST_CHANS}
 use Rattle.zk_scenario.specs.declared.types.Script.{Script}
-use Rattle.zk_line.specs.Objects.{is_at, is_user, plays_script, is_thread, is_queue, is_item, is_sem, is_msgq, is_signal, is_listener, is_chan, is_observer, has_kind_of, places, number_of, player_count, observers_of}
+use Rattle.zk_line.specs.Objects.{is_at, is_user, plays_script, is_thread, is_queue, is_item, is_sem, is_msgq, is_signal, is_listener, is_chan, is_observer, has_kind_of, places, number_of, player_count}
 use Rattle.zk_scenario.specs.Content.{Content}
 use Rattle.zk_scenario.specs.Players.{players, calls_of}
-use Rattle.zk_line.specs.Fits.{decl_fits, observers_fit}
 use Rattle.zk_line.proofs.Lists.{count_by-cons}
-use Rattle.zk_scenario.specs.Valid.{IsValid, calls_pass, calls_fit, script_fits, is_supervisors, makes_user, forbids_call, call_stands, script_stands}
-use Rattle.zk_scenario.proofs.InOrder.{count_by-take-lt, is_at-take, permission-declared}
+use Rattle.zk_scenario.specs.Valid.{IsValid, calls_pass, calls_fit, script_fits, forbids_call, call_stands, script_stands}
+use Rattle.zk_scenario.proofs.InOrder.{count_by-take-lt}
 use Rattle.zk_scenario.proofs.FreeLines.{calls_pass-at}
 use Rattle.zk_line.proofs.Tables.{length-places}
 
@@ -47,8 +47,12 @@ length-kinds (Sub name capacity ∷ ds) =
 length-kinds (Chan name message valid own ∷ ds) =
     let d = Chan name message valid own in omega (arith, length-kinds ds, count_by-cons is_thread d ds, count_by-cons is_queue d ds, count_by-cons is_item d ds, count_by-cons is_sem d ds, count_by-cons is_msgq d ds, count_by-cons is_signal d ds, count_by-cons is_chan d ds, count_by-cons is_observer d ds)
 
--- a valid scenario has at most 448 declarations
-pub length-decls : (p : Content) → IsValid p → length p.decls ≤ 448
+-- the most declarations of a valid scenario
+abbrev pub most_decls : ℕ
+most_decls = most_players + MOST_ITEMS + MOST_SEMS + MOST_MSGQS + MOST_SIGNALS + MOST_CHANS + MOST_OBSERVERS
+
+-- a valid scenario has no more
+pub length-decls : (p : Content) → IsValid p → length p.decls ≤ most_decls
 length-decls p valid = omega (arith, length-kinds p.decls, valid.players, valid.items, valid.sems, valid.msgqs, valid.signals, valid.chans, valid.observers)
 
 below : (test : Decl → Bool) (decls : List Decl) (object : ℕ) → ((d : Decl) → test d ≡ true → has_kind_of d ≡ test) → is_at test decls object ≡ true → number_of decls object < count_by test decls
@@ -77,60 +81,6 @@ number_of-thread decls object at = below is_thread decls object kind at where
   kind : (d : Decl) → is_thread d ≡ true → has_kind_of d ≡ is_thread
   kind (Thread name prio user) e = refl
   kind d e = absurd (cc)
-
--- the number of a semaphore is below the count of the semaphores
-pub number_of-sem : (decls : List Decl) (object : ℕ) → is_at is_sem decls object ≡ true → number_of decls object < count_by is_sem decls
-number_of-sem decls object at = below is_sem decls object kind at where
-  kind : (d : Decl) → is_sem d ≡ true → has_kind_of d ≡ is_sem
-  kind (Sem name initial limit raw) e = refl
-  kind d e = absurd (cc)
-
--- the number of a message queue is below the count of the message queues
-pub number_of-msgq : (decls : List Decl) (object : ℕ) → is_at is_msgq decls object ≡ true → number_of decls object < count_by is_msgq decls
-number_of-msgq decls object at = below is_msgq decls object kind at where
-  kind : (d : Decl) → is_msgq d ≡ true → has_kind_of d ≡ is_msgq
-  kind (Msgq name size capacity raw) e = refl
-  kind d e = absurd (cc)
-
--- the number of a signal is below the count of the signals
-pub number_of-signal : (decls : List Decl) (object : ℕ) → is_at is_signal decls object ≡ true → number_of decls object < count_by is_signal decls
-number_of-signal decls object at = below is_signal decls object kind at where
-  kind : (d : Decl) → is_signal d ≡ true → has_kind_of d ≡ is_signal
-  kind (Signal name raw) e = refl
-  kind d e = absurd (cc)
-
--- the number of a channel is below the count of the channels
-pub number_of-chan : (decls : List Decl) (object : ℕ) → is_at is_chan decls object ≡ true → number_of decls object < count_by is_chan decls
-number_of-chan decls object at = below is_chan decls object kind at where
-  kind : (d : Decl) → is_chan d ≡ true → has_kind_of d ≡ is_chan
-  kind (Chan name message valid own) e = refl
-  kind d e = absurd (cc)
-
--- the number of a subscriber or a listener is below the count of both
-pub number_of-observer : (decls : List Decl) (object : ℕ) → is_at is_observer decls object ≡ true → number_of decls object < count_by is_observer decls
-number_of-observer decls object at = below is_observer decls object kind at where
-  kind : (d : Decl) → is_observer d ≡ true → has_kind_of d ≡ is_observer
-  kind (Listener name) e = refl
-  kind (Sub name capacity) e = refl
-  kind d e = absurd (cc)
-
-all_at-take : (test : Decl → Bool) (decls : List Decl) (n : ℕ) (objects : List ℕ) → list_all (is_at test (take n decls)) objects ≡ true → list_all (is_at test decls) objects ≡ true
-all_at-take test decls n [] all = refl
-all_at-take test decls n (object ∷ objects) all =
-    let both = and_parts (is_at test (take n decls) object) (list_all (is_at test (take n decls)) objects) all in
-    and_from (is_at test decls object) (list_all (is_at test decls) objects) (is_at-take test decls n object both.0) (all_at-take test decls n objects both.1)
-
--- the observers of a channel are subscribers and listeners that are declared
-pub observers-valid : (p : Content) (object : ℕ) (d : Decl) → IsValid p → slice_get p.decls object ≡ Some d → observers_fit p.decls d ≡ true
-observers-valid p object d valid e = all_at-take is_observer p.decls object (observers_of d) (valid.observed object d e)
-
--- each permission is of a thread on an object that are declared
-pub permission-valid : (p : Content) (n thread object : ℕ) → IsValid p → slice_get p.written n ≡ Some (Allow thread object) → (is_at is_thread p.decls thread ≡ true) × (object < length p.decls)
-permission-valid p n thread object valid e = permission-declared p.decls p.written n thread object valid.in_order e
-
--- each declaration is in range
-pub decl_fits-valid : (p : Content) (object : ℕ) (d : Decl) → IsValid p → slice_get p.decls object ≡ Some d → decl_fits d ≡ true
-decl_fits-valid p object d valid e = list_all-at decl_fits p.decls object d valid.in_range e
 
 -- what holds of no calls, and of those of each script of an object, holds of the object's calls
 own_calls : (ss : List Script) (owner : ℕ) (P : List Call → Type 0) → P []
@@ -162,19 +112,6 @@ pub call_stands-at : (p : Content) (owner next : ℕ) (call : Call) → IsValid 
 call_stands-at p owner next call valid e =
     calls_pass-at (call_stands p.decls owner) (is_at is_user p.decls owner) (calls_of p.scripts owner) next call (calls_stand-calls_of p owner valid) e
 
--- a call that isn't barred is no supervisor's, where its line is free or its script a listener's
-unbarred : (supervisors free listener rest : Bool) → not (supervisors && (free || listener) || rest) ≡ true → (free || listener) ≡ true → supervisors ≡ false
-unbarred true free listener rest e here = absurd (cc)
-unbarred false free listener rest e here = refl
-
--- a call in a free line of a script is none of the supervisors' calls
-pub stands-next : (p : Content) (owner next : ℕ) (call : Call) → IsValid p → slice_get (calls_of p.scripts owner) next ≡ Some call
-    → (is_at is_user p.decls owner || list_any is_user_call (take next (calls_of p.scripts owner))) ≡ true → is_supervisors (word_of call) ≡ false
-stands-next p owner next call valid e free =
-    let loose = is_at is_user p.decls owner || list_any is_user_call (take next (calls_of p.scripts owner)) in
-    unbarred (is_supervisors (word_of call)) loose (is_at is_listener p.decls owner) (makes_user (word_of call) && is_at is_item p.decls owner)
-    (call_stands-at p owner next call valid e) (ap (λ b. b || is_at is_listener p.decls owner) free)
-
 -- each script is played by a thread, an item or a listener
 pub plays_script-owner : (p : Content) (n : ℕ) (script : Script) → IsValid p → slice_get p.scripts n ≡ Some script → is_at plays_script p.decls script.owner ≡ true
 plays_script-owner p n script valid e =
@@ -197,16 +134,6 @@ user_owner p owner next call valid e makes = (plays, barred.0, barred.1) where
 
   barred : (is_at is_item p.decls owner ≡ false) × (is_at is_listener p.decls owner ≡ false)
   barred = by_call call (is_at is_user p.decls owner || list_any is_user_call (take next (calls_of p.scripts owner))) (is_at is_listener p.decls owner) (is_at is_item p.decls owner) makes (call_stands-at p owner next call valid e)
-
--- whoever has the call in its script that makes its caller a user is no item
-pub user-no_item : (p : Content) (owner next : ℕ) (call : Call) → IsValid p → slice_get (calls_of p.scripts owner) next ≡ Some call → is_user_call call ≡ true
-    → is_at is_item p.decls owner ≡ false
-user-no_item p owner next call valid e makes = (user_owner p owner next call valid e makes).1
-
--- nor a listener
-pub user-no_listener : (p : Content) (owner next : ℕ) (call : Call) → IsValid p → slice_get (calls_of p.scripts owner) next ≡ Some call → is_user_call call ≡ true
-    → is_at is_listener p.decls owner ≡ false
-user-no_listener p owner next call valid e makes = (user_owner p owner next call valid e makes).2
 
 -- it is a thread
 pub user-owner : (p : Content) (owner next : ℕ) (call : Call) → IsValid p → slice_get (calls_of p.scripts owner) next ≡ Some call → is_user_call call ≡ true

@@ -1,7 +1,9 @@
 use Rattle.std.specs.Prelude.{◌≡◌, ℕ, ◌+◌, nat_lt, Bool, true, false, Option, None, Some, Result, Ok, Err, List, [], ◌∷◌, length, is_some, codes, if◌then◌else◌}
 use Rattle.std.specs.Str.{bytes_eq}
+use Rattle.zk_words.specs.Bytes.{line_feed}
 use Rattle.zk_words.specs.declared.line.Line.{Line}
 use Rattle.zk_words.specs.declared.line.Line.TheVariants as line
+use Rattle.zk_scenario.specs.declared.limits.TheConstants.{LONGEST_SCENARIO}
 use Rattle.zk_scenario.specs.declared.refused.Why.{Why}
 use Rattle.zk_scenario.specs.declared.refused.Why.TheVariants as why
 use Rattle.zk_scenario.specs.declared.refused.ScenarioRefused.{ScenarioRefused}
@@ -13,7 +15,7 @@ use Rattle.zk_scenario.specs.Reading.{Reading, start}
 use Rattle.zk_scenario.specs.Spelling.{text_of}
 use Rattle.zk_scenario.specs.Verdict.{verdict, after}
 
--- what the lines said with one line more, where no reason applies to it; then it always says something
+-- what the lines said with one line more, where no reason applies to it; then it always says something (`AlwaysSays`)
 abbrev pub told : Option Why → Option Reading → Result Reading Why
 told (Some reason) next = Err reason
 told None (Some r) = Ok r
@@ -73,11 +75,11 @@ read_pieces (first ∷ more) = (if bytes_eq first (codes "zk 1") then behind_hea
 
 -- the pieces between the line feeds of a text: its lines, and what stands behind the last feed
 abbrev pub pieces_of : List ℕ → List (List ℕ)
-pieces_of text = pieces_between 10 text
+pieces_of text = pieces_between line_feed text
 
 -- the scenario of a text, or the first failing line and the first reason that applies there
 abbrev pub scenario_of : List ℕ → Result Content ScenarioRefused
-scenario_of text = (if nat_lt 1048576 (length text) then Err (At 0 why.Length) else read_pieces (pieces_of text))
+scenario_of text = (if nat_lt LONGEST_SCENARIO (length text) then Err (At 0 why.Length) else read_pieces (pieces_of text))
 
 -- an answer that is what the grammar says, or want of memory
 abbrev pub Answers : Result Content ScenarioRefused → Result Content ScenarioRefused → Type 0

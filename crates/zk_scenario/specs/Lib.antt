@@ -5,6 +5,7 @@ pub mod Content
 pub mod Players
 pub mod Reading
 pub mod Reasons
+pub mod Says
 pub mod Scripts
 pub mod Spelling
 pub mod Steps

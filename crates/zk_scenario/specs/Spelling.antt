@@ -1,6 +1,7 @@
 use Rattle.std.specs.Prelude.{ℕ, List, [], ◌∷◌, ◌++◌, take, slice_get, map, codes}
 use Rattle.std.specs.List.{flat_map}
 use Rattle.std.specs.Option.{option_map_or}
+use Rattle.zk_words.specs.Bytes.{line_feed}
 use Rattle.zk_words.specs.declared.word.Head.TheVariants as head
 use Rattle.zk_line.specs.declared.types.Decl.{Decl}
 use Rattle.zk_line.specs.declared.types.Declared.{Declared}
@@ -46,7 +47,7 @@ lines_of p = codes "zk 1" ∷ body_lines p.decls p.written p.scripts
 
 -- a line and its line feed
 abbrev pub fed : List ℕ → List ℕ
-fed line = line ++ 10 ∷ []
+fed line = line ++ line_feed ∷ []
 
 -- lines, each with its line feed
 abbrev pub lines_text : List (List ℕ) → List ℕ

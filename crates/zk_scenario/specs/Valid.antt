@@ -1,5 +1,6 @@
 use Rattle.std.specs.Prelude.{◌≡◌, ℕ, ◌≤◌, Bool, true, false, not, ◌&&◌, ◌||◌, Some, List, [], ◌∷◌, length, slice_get, count_by}
 use Rattle.std.specs.List.{list_all, sum_by}
+use Rattle.zk_base.specs.Limits.{most_players}
 use Rattle.zk_words.specs.declared.word.Word.{Word}
 use Rattle.zk_words.specs.declared.word.Word.TheVariants as word
 use Rattle.zk_line.specs.declared.types.Decl.{Decl}
@@ -7,6 +8,7 @@ use Rattle.zk_line.specs.declared.types.Call.{Call}
 use Rattle.zk_line.specs.Calls.{word_of, is_user_call}
 use Rattle.zk_line.specs.Fits.{call_fits, decl_fits, AreObserved}
 use Rattle.zk_line.specs.Objects.{AreNames, is_at, is_user, plays_script, is_queue, is_item, is_sem, is_msgq, is_signal, is_listener, is_chan, is_observer, player_count}
+use Rattle.zk_scenario.specs.declared.limits.TheConstants.{MOST_QUEUES, MOST_ITEMS, MOST_SEMS, MOST_MSGQS, MOST_SIGNALS, MOST_OBSERVERS, MOST_CHANS, MOST_CALLS}
 use Rattle.zk_scenario.specs.declared.types.Script.{Script}
 use Rattle.zk_scenario.specs.Content.{Content}
 use Rattle.zk_scenario.specs.Scripts.{script_of}
@@ -67,15 +69,15 @@ OneEach scripts = (n : ℕ) (script : Script) → slice_get scripts n ≡ Some s
 -- channel are declared before it, the lines of objects and permissions are in order, each script fits, its calls stand
 -- where they may, and each object has at most one
 pub record IsValid (p : Content) : Type 0 where
-  pub players : player_count p.decls ≤ 64
-  pub queues : count_by is_queue p.decls ≤ 8
-  pub items : count_by is_item p.decls ≤ 256
-  pub sems : count_by is_sem p.decls ≤ 32
-  pub msgqs : count_by is_msgq p.decls ≤ 16
-  pub signals : count_by is_signal p.decls ≤ 32
-  pub chans : count_by is_chan p.decls ≤ 16
-  pub observers : count_by is_observer p.decls ≤ 32
-  pub calls : call_count p.scripts ≤ 4096
+  pub players : player_count p.decls ≤ most_players
+  pub queues : count_by is_queue p.decls ≤ MOST_QUEUES
+  pub items : count_by is_item p.decls ≤ MOST_ITEMS
+  pub sems : count_by is_sem p.decls ≤ MOST_SEMS
+  pub msgqs : count_by is_msgq p.decls ≤ MOST_MSGQS
+  pub signals : count_by is_signal p.decls ≤ MOST_SIGNALS
+  pub chans : count_by is_chan p.decls ≤ MOST_CHANS
+  pub observers : count_by is_observer p.decls ≤ MOST_OBSERVERS
+  pub calls : call_count p.scripts ≤ MOST_CALLS
   pub named : AreNames p.decls
   pub in_range : list_all decl_fits p.decls ≡ true
   pub observed : AreObserved p.decls

@@ -1,5 +1,6 @@
 use Rattle.std.specs.Prelude.{◌≡◌, ℕ, Bool, false, not, nat_le, nat_lt, ◌&&◌, ◌||◌, Option, None, Some, Result, Ok, Err, List, [], length, count_by, is_some, option_map, option_and_then, if◌then◌else◌}
 use Rattle.std.specs.Option.{option_map_or}
+use Rattle.zk_base.specs.Limits.{most_players}
 use Rattle.zk_base.specs.declared.kinds.Kind.{Kind}
 use Rattle.zk_base.specs.declared.kinds.Kind.TheVariants as kind
 use Rattle.zk_words.specs.declared.word.Head.{Head}
@@ -14,6 +15,7 @@ use Rattle.zk_line.specs.Calls.{call_of}
 use Rattle.zk_line.specs.Checks.{first_object, are_in_range, are_well_named, has_many_events, has_many_observers}
 use Rattle.zk_line.specs.Decls.{decl_of, permission_of}
 use Rattle.zk_line.specs.Objects.{counts_with, is_at, is_item, is_listener, player_count}
+use Rattle.zk_scenario.specs.declared.limits.TheConstants.{MOST_QUEUES, MOST_ITEMS, MOST_SEMS, MOST_MSGQS, MOST_SIGNALS, MOST_OBSERVERS, MOST_CHANS, MOST_CALLS}
 use Rattle.zk_scenario.specs.declared.refused.Why.{Why}
 use Rattle.zk_scenario.specs.declared.refused.Why.TheVariants as why
 use Rattle.zk_scenario.specs.Free.{next_is_free, is_free_line}
@@ -49,20 +51,21 @@ is_misplaced r (Call word) parts = not (is_some r.current) || is_barred r word
 
 -- how many objects of a kind there may be; subscribers and listeners count together
 abbrev pub most : Kind → ℕ
-most kind.Thread = 64
-most kind.Queue = 8
-most kind.Item = 256
-most kind.Sem = 32
-most kind.Msgq = 16
-most kind.Signal = 32
-most kind.Listener = 32
-most kind.Sub = 32
-most kind.Chan = 16
+most kind.Thread = most_players
+most kind.Queue = MOST_QUEUES
+most kind.Item = MOST_ITEMS
+most kind.Sem = MOST_SEMS
+most kind.Msgq = MOST_MSGQS
+most kind.Signal = MOST_SIGNALS
+most kind.Listener = MOST_OBSERVERS
+most kind.Sub = MOST_OBSERVERS
+most kind.Chan = MOST_CHANS
 
 -- whether there may be no further object of a kind
 abbrev pub is_full : List Decl → Kind → Bool
 is_full decls kind =
-    nat_le (most kind) (count_by (counts_with kind) decls) || makes_player kind && nat_le 64 (player_count decls)
+    nat_le (most kind) (count_by (counts_with kind) decls)
+    || makes_player kind && nat_le most_players (player_count decls)
 
 -- whether the line passes a limit
 abbrev pub is_past_limit : Reading → Head → List Placed → Bool
@@ -70,7 +73,7 @@ is_past_limit r (Declare kind) parts = is_full r.decls kind || has_many_observer
 is_past_limit r Allow parts = false
 is_past_limit r Script parts = false
 is_past_limit r End parts = false
-is_past_limit r (Call word) parts = nat_le 4096 (call_count (all_scripts r)) || has_many_events parts
+is_past_limit r (Call word) parts = nat_le MOST_CALLS (call_count (all_scripts r)) || has_many_events parts
 
 -- whether a line says a permission that was said before
 abbrev pub is_said_before : Reading → Head → List Arg → Bool

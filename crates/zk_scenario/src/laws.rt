@@ -1,4 +1,5 @@
 ghost use Rattle.std.specs.Prelude.{◌≡◌};
+ghost use Rattle.zk_scenario.specs.Says.{AlwaysSays};
 ghost use Rattle.zk_scenario.specs.Spelling.{text_of};
 
 use crate::Scenario;
@@ -10,3 +11,8 @@ pub fn tells_them_apart(first: &Scenario, second: &Scenario)
     first.decls();
     second.decls();
 }
+
+/// A line to which no reason applies says something, so no line is refused but for a reason that applies to it.
+pub fn always_says()
+    ensures { AlwaysSays }
+{}

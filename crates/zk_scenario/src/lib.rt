@@ -2,6 +2,7 @@
 #![tactic(auto)]
 
 mod laws;
+mod limits;
 mod pairs;
 mod read;
 mod reader;
@@ -11,8 +12,12 @@ mod scripts;
 mod text;
 mod types;
 
-pub use laws::tells_them_apart;
-pub use read::{LONGEST_SCENARIO, read_scenario};
+pub use laws::{always_says, tells_them_apart};
+pub use limits::{
+    LONGEST_SCENARIO, MOST_CALLS, MOST_CHANS, MOST_ITEMS, MOST_MSGQS, MOST_OBSERVERS, MOST_QUEUES,
+    MOST_SEMS, MOST_SIGNALS,
+};
+pub use read::read_scenario;
 pub use refused::{ScenarioRefused, Why};
 pub use scenario::{MOST_STEPS, Scenario};
 pub use text::print_scenario;

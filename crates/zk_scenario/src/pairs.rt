@@ -40,8 +40,11 @@ impl Pairs {
     }
 }
 
+// What one is worth in the upper half of a key.
+const UPPER: u64 = 1 << 32;
+
 fn key_of(first: u32, second: u32) -> u64
     ensures { result ≡ first * 2 ^ 32 + second }
 {
-    u64::from(first) * 4_294_967_296 + u64::from(second)
+    u64::from(first) * UPPER + u64::from(second)
 }

@@ -3,15 +3,13 @@ ghost use Rattle.zk_scenario.specs.Grammar.{read_pieces, read_lines, at_end, sce
 ghost use Rattle.zk_scenario.specs.Reading.{start};
 ghost use Rattle.zk_scenario.specs.Spelling.{text_of};
 
+use crate::limits::LONGEST_SCENARIO;
 use crate::reader::Reader;
 use crate::refused::{ScenarioRefused, Why};
 use crate::scenario::Scenario;
 use std::alloc::Global;
 use zk_line::Args;
 use zk_words::Lines;
-
-/// The longest text of a scenario, in bytes.
-pub const LONGEST_SCENARIO: usize = 1_048_576;
 
 /// Reads a scenario from its text.
 ///

@@ -9,23 +9,23 @@ ghost use Rattle.zk_scenario.specs.Reading.{start, declared, permitted, called, 
 ghost use Rattle.zk_scenario.specs.Valid.{IsValid, is_supervisors, makes_user};
 ghost use Rattle.zk_scenario.specs.Verdict.{has_begun, has_script, is_within, is_barred, is_misplaced, most, is_full, is_past_limit, is_said_before, verdict, Judges, opened, after};
 
+use crate::limits::{
+    MOST_CALLS, MOST_CHANS, MOST_ITEMS, MOST_MSGQS, MOST_OBSERVERS, MOST_QUEUES, MOST_SEMS,
+    MOST_SIGNALS,
+};
 use crate::pairs::Pairs;
 use crate::refused::Why;
 use crate::scripts::Scripts;
 use crate::types::Script;
 use std::alloc::Global;
 use std::marker::Model;
-use zk_base::{Listed, NoMemory, make_room_for_one, push_within};
+use zk_base::{Listed, MOST_PLAYERS, NoMemory, make_room_for_one, push_within};
 use zk_line::{
     Arg, Args, Call, Decl, Declared, Objects, Ref, Wrong, call_of, decl_of, first_object,
     has_many_events, has_many_observers, is_item_at, is_listener_at, is_user_at, is_user_call,
     judge_words, permission_of,
 };
 use zk_words::{Head, Kind, Line, Parts, Word, line_of, makes_player};
-
-const MOST_PLAYERS: usize = 64;
-
-const MOST_CALLS: u32 = 4096;
 
 /// What the lines read so far said.
 #[derive(Drop)]
@@ -159,7 +159,7 @@ impl Reader {
         ensures { result ≡ is_full self.now.decls kind }
     {
         most(kind) <= self.objects.count(kind)
-            || makes_player(kind) && MOST_PLAYERS <= self.objects.player_count()
+            || makes_player(kind) && MOST_PLAYERS as usize <= self.objects.player_count()
     }
 
     /// Whether the line passes a limit.
@@ -442,15 +442,15 @@ fn most(kind: Kind) -> usize
     ensures { result ≡ most kind }
 {
     match kind {
-        Kind::Thread => 64,
-        Kind::Queue => 8,
-        Kind::Item => 256,
-        Kind::Sem => 32,
-        Kind::Msgq => 16,
-        Kind::Signal => 32,
-        Kind::Listener => 32,
-        Kind::Sub => 32,
-        Kind::Chan => 16,
+        Kind::Thread => MOST_PLAYERS as usize,
+        Kind::Queue => MOST_QUEUES,
+        Kind::Item => MOST_ITEMS,
+        Kind::Sem => MOST_SEMS,
+        Kind::Msgq => MOST_MSGQS,
+        Kind::Signal => MOST_SIGNALS,
+        Kind::Listener => MOST_OBSERVERS,
+        Kind::Sub => MOST_OBSERVERS,
+        Kind::Chan => MOST_CHANS,
     }
 }
 

@@ -8,6 +8,7 @@ use Rattle.std.proofs.lemmas.List.Splits.{join_with_byte-slice_split}
 use Rattle.zk_base.proofs.Lists.{find-passes}
 use Rattle.zk_words.specs.declared.word.Head.{Head}
 use Rattle.zk_words.specs.declared.line.Line.TheVariants.{Misspelled, Formed}
+use Rattle.zk_words.specs.Bytes.{space}
 use Rattle.zk_words.specs.Lines.{head_of, are_behind, line_after, line_of_words, line_of, form_words, IsForm}
 use Rattle.zk_words.specs.Parts.{Placed, parts_of, fits}
 use Rattle.zk_words.specs.Spelled.{part_is_spelled}
@@ -54,7 +55,7 @@ words_spelled (first ∷ words) head parts said = after_spelled first words (hea
 -- a line of a form is the form's text
 pub line_spelled : (line : List ℕ) (head : Head) (parts : List Placed) → line_of line ≡ Formed head parts → line ≡ line_text (form_words head parts)
 line_spelled line head parts said =
-    sym (join_with_byte-slice_split 32 line) ∙ ap line_text (words_spelled (words_of line) head parts said).0
+    sym (join_with_byte-slice_split space line) ∙ ap line_text (words_spelled (words_of line) head parts said).0
 
 -- and its words fill the slots of its row, each spelled as its slot asks
 pub line_is_form : (line : List ℕ) (head : Head) (parts : List Placed) → line_of line ≡ Formed head parts → IsForm head parts

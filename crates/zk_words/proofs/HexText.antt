@@ -3,26 +3,28 @@ use Rattle.std.proofs.Common.{◌≡◌, ℕ, ◌+◌, ◌-◌, ◌*◌, ◌/◌
 use Rattle.std.specs.List.{list_all}
 use Rattle.std.proofs.lemmas.Bool.{and_parts, or_cases, eqb-true, leb-true, le-ltb, cond-true, cond-false, lt-ltb}
 use Rattle.std.proofs.lemmas.Option.{cond_some}
+use Rattle.zk_base.specs.Limits.{longest_message}
+use Rattle.zk_words.specs.Bytes.{digit_0, digit_9, letter_a, letter_f}
 use Rattle.zk_words.specs.Hex.{is_digit, digit_value, digit_of, is_hex, bytes_of, msg_of, byte_text, hex_text}
 use Rattle.zk_words.specs.Numbers.{is_between}
 
 -- a digit is the one that is worth as much as it, and is worth less than 16
 digit-is : (b : ℕ) → is_digit b ≡ true → (digit_of (digit_value b) ≡ b) × (digit_value b < 16)
-digit-is b is = elim (or_cases (is_between 48 57 b) (is_between 97 102 b) is) [
+digit-is b is = elim (or_cases (is_between digit_0 digit_9 b) (is_between letter_a letter_f b) is) [
   | inl figure ↦
-      let both = and_parts (nat_le 48 b) (nat_le b 57) figure in
-      let least = leb-true 48 b both.0 in
-      let most = leb-true b 57 both.1 in
-      let value : digit_value b ≡ b - 48 = cond-true (nat_lt b 97) (b - 48) (b - 87) (lt-ltb b 97 (omega arith)) in (
-        ap digit_of value ∙ cond-true (nat_lt (b - 48) 10) (b - 48 + 48) (b - 48 + 87) (lt-ltb (b - 48) 10 (omega arith)) ∙ omega arith,
+      let both = and_parts (nat_le digit_0 b) (nat_le b digit_9) figure in
+      let least = leb-true digit_0 b both.0 in
+      let most = leb-true b digit_9 both.1 in
+      let value : digit_value b ≡ b - digit_0 = cond-true (nat_lt b letter_a) (b - digit_0) (b - letter_a + 10) (lt-ltb b letter_a (omega arith)) in (
+        ap digit_of value ∙ cond-true (nat_lt (b - digit_0) 10) (b - digit_0 + digit_0) (b - digit_0 - 10 + letter_a) (lt-ltb (b - digit_0) 10 (omega arith)) ∙ omega arith,
         omega (arith, value),
       )
   | inr letter ↦
-      let both = and_parts (nat_le 97 b) (nat_le b 102) letter in
-      let least = leb-true 97 b both.0 in
-      let most = leb-true b 102 both.1 in
-      let value : digit_value b ≡ b - 87 = cond-false (nat_lt b 97) (b - 48) (b - 87) (le-ltb b 97 (omega arith)) in (
-        ap digit_of value ∙ cond-false (nat_lt (b - 87) 10) (b - 87 + 48) (b - 87 + 87) (le-ltb (b - 87) 10 (omega arith)) ∙ omega arith,
+      let both = and_parts (nat_le letter_a b) (nat_le b letter_f) letter in
+      let least = leb-true letter_a b both.0 in
+      let most = leb-true b letter_f both.1 in
+      let value : digit_value b ≡ b - letter_a + 10 = cond-false (nat_lt b letter_a) (b - digit_0) (b - letter_a + 10) (le-ltb b letter_a (omega arith)) in (
+        ap digit_of value ∙ cond-false (nat_lt (b - letter_a + 10) 10) (b - letter_a + 10 + digit_0) (b - letter_a + 10 - 10 + letter_a) (le-ltb (b - letter_a + 10) 10 (omega arith)) ∙ omega arith,
         omega (arith, value),
       )
 ]
@@ -61,8 +63,8 @@ SpellsMessage word message = (word ≡ hex_text message) × (length word ≡ 2 *
 -- a word that spells a message is the message's text
 pub msg_spelled : (word message : List ℕ) → msg_of word ≡ Some message → SpellsMessage word message
 msg_spelled word message said =
-    let found = cond_some (is_hex word && nat_le (length word) 128) (bytes_of word) message said in
-    let hex = and_parts (is_hex word) (nat_le (length word) 128) found.0 in
+    let found = cond_some (is_hex word && nat_le (length word) (2 * longest_message)) (bytes_of word) message said in
+    let hex = and_parts (is_hex word) (nat_le (length word) (2 * longest_message)) found.0 in
     let some = and_parts (list_all is_digit word && eqb (length word % 2) 0) (nat_lt 0 (length word)) hex.0 in
     let pairs = and_parts (list_all is_digit word) (eqb (length word % 2) 0) some.0 in
     let spelled = pairs-spelled word pairs.0 (eqb-true (length word % 2) 0 pairs.1) in

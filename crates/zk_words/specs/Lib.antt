@@ -1,3 +1,4 @@
+pub mod Bytes
 pub mod Events
 pub mod Hex
 pub mod Kinds

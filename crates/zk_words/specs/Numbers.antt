@@ -1,12 +1,14 @@
-use Rattle.std.specs.Prelude.{ℕ, ◌^◌, ◌-◌, min, ℤ, pos, negsuc, neg_ℤ, ◌≤ℤ◌, Bool, false, not, ◌==◌, nat_le, nat_lt, ◌&&◌, ◌||◌, List, [], ◌∷◌, length, Option, Some, None, option_map, option_and_then, if◌then◌else◌}
+use Rattle.std.specs.Prelude.{ℕ, ◌^◌, ◌-◌, min, ℤ, pos, neg_ℤ, ◌≤ℤ◌, Bool, false, not, ◌==◌, nat_le, nat_lt, ◌&&◌, ◌||◌, List, [], ◌∷◌, length, Option, Some, None, option_map, option_and_then, if◌then◌else◌}
 use Rattle.std.specs.Char.{is_ascii_digit}
 use Rattle.std.specs.List.{list_all}
 use Rattle.std.specs.Str.Parse.{digits_value}
+use Rattle.zk_words.specs.declared.limits.TheConstants.{GREATEST_PRIORITY, LEAST_PRIORITY}
+use Rattle.zk_words.specs.Bytes.{digit_0, minus}
 
 -- one decimal digit or more, where a zero stands first only alone
 abbrev pub is_number : List ℕ → Bool
 is_number [] = false
-is_number (b ∷ bs) = list_all is_ascii_digit (b ∷ bs) && (not (b == 48) || length bs == 0)
+is_number (b ∷ bs) = list_all is_ascii_digit (b ∷ bs) && (not (b == digit_0) || length bs == 0)
 
 -- the number that a word spells, of any size
 abbrev pub number_of : List ℕ → Option ℕ
@@ -35,19 +37,19 @@ number_in least most word =
 
 -- the priority n, nothing where it is out of its range
 abbrev pub priority_above : ℕ → Option ℤ
-priority_above n = if nat_le n 15 then Some (pos n) else None
+priority_above n = if nat_le n GREATEST_PRIORITY then Some (pos n) else None
 
 -- the priority -n, likewise; `-0` is no spelling
 abbrev pub priority_below : ℕ → Option (Option ℤ)
-priority_below n = if n == 0 then None else Some (if nat_le n 16 then Some (neg_ℤ (pos n)) else None)
+priority_below n = if n == 0 then None else Some (if nat_le n LEAST_PRIORITY then Some (neg_ℤ (pos n)) else None)
 
--- what a word says as a priority: no spelling of one, one out of its range, or one from -16 to 15
+-- what a word says as a priority: no spelling of one, one out of its range, or one in it
 abbrev pub priority_of : List ℕ → Option (Option ℤ)
 priority_of [] = None
 priority_of (b ∷ bs) =
-    if b == 45 then option_and_then priority_below (number_of bs) else option_map priority_above (number_of (b ∷ bs))
+    if b == minus then option_and_then priority_below (number_of bs) else option_map priority_above (number_of (b ∷ bs))
 
--- a priority from -16 to 15
+-- a priority in its range
 abbrev pub IsPriority : Option ℤ → Type 0
 IsPriority None = ⊥
-IsPriority (Some prio) = (negsuc 15 ≤ℤ prio) × (prio ≤ℤ pos 15)
+IsPriority (Some prio) = (neg_ℤ (pos LEAST_PRIORITY) ≤ℤ prio) × (prio ≤ℤ pos GREATEST_PRIORITY)

@@ -1,7 +1,9 @@
-use Rattle.std.specs.Prelude.{ℕ, List, [], ◌∷◌, codes}
+use Rattle.std.specs.Prelude.{ℕ, ◌-◌, List, [], ◌∷◌, codes}
+use Rattle.zk_base.specs.Limits.{longest_message, most_held}
 use Rattle.zk_base.specs.declared.kinds.Kind.{Kind}
 use Rattle.zk_base.specs.declared.kinds.Kind.TheVariants as kind
 use Rattle.zk_base.specs.declared.kinds.Need.TheVariants as need
+use Rattle.zk_words.specs.declared.limits.TheConstants.{MOST_TICKS, MOST_COUNT, GREATEST_RESULT}
 use Rattle.zk_words.specs.declared.word.Word.{Word}
 use Rattle.zk_words.specs.declared.word.Word.TheVariants as word
 use Rattle.zk_words.specs.declared.word.Head.{Head}
@@ -54,35 +56,35 @@ observer = Object need.Obs
 
 -- a delay in ticks
 abbrev pub delay : Slot
-delay = Number 0 1000000
+delay = Number 0 MOST_TICKS
 
 -- the ticks by which the clock goes on at once
 abbrev pub ticks : Slot
-ticks = Number 1 1000000
+ticks = Number 1 MOST_TICKS
 
 -- a place in a message queue, the oldest message's first
 abbrev pub index : Slot
-index = Number 0 255
+index = Number 0 (most_held - 1)
 
 -- the count that a semaphore begins with
 abbrev pub initial : Slot
-initial = Number 0 1000000
+initial = Number 0 MOST_COUNT
 
 -- the most that a semaphore counts to
 abbrev pub limit : Slot
-limit = Number 1 1000000
+limit = Number 1 MOST_COUNT
 
 -- how many bytes each message of a message queue or a channel has
 abbrev pub size : Slot
-size = Number 1 64
+size = Number 1 longest_message
 
 -- how many messages a message queue has room for, or of how many a subscriber is told
 abbrev pub capacity : Slot
-capacity = Number 1 256
+capacity = Number 1 most_held
 
 -- the result that a signal is raised with
 abbrev pub result : Slot
-result = Number 0 65535
+result = Number 0 GREATEST_RESULT
 
 -- a line of just these slots
 abbrev pub exactly : List ℕ → List Slot → Form

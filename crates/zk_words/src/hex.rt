@@ -25,7 +25,7 @@ pub fn is_digit(byte: u8) -> bool
     b'0' <= byte && byte <= b'9' || b'a' <= byte && byte <= b'f'
 }
 
-/// The message that a word spells. There is none of more than 64 bytes.
+/// The message that a word spells. There is none longer than the longest.
 pub fn msg_of(word: &[u8]) -> Option<Msg>
     requires { is_hex word.now ≡ true }
     ensures { result ≡ msg_of word.now }

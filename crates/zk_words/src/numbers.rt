@@ -2,7 +2,10 @@ ghost use Rattle.std.specs.Prelude.{◌≡◌, ℕ, ◌^◌, ◌+◌, ◌*◌, �
 ghost use Rattle.std.specs.Char.{is_ascii_digit};
 ghost use Rattle.std.specs.List.{list_all};
 ghost use Rattle.std.specs.Str.Parse.{digits_value};
+ghost use Rattle.zk_words.specs.Bytes.{digit_0};
 ghost use Rattle.zk_words.specs.Numbers.{is_number, number_of, exact_number_of, saturated, fitting, number_in, priority_of, priority_above, priority_below};
+
+use crate::limits::{GREATEST_PRIORITY, LEAST_PRIORITY};
 
 /// The number that a word spells in decimal digits, without a sign or a leading zero. One past 64
 /// bits is given as the greatest of them, so that a caller tells a number out of its range from a
@@ -68,7 +71,7 @@ fn exact_value_of(digits: &[u8]) -> Option<u64>
 
 fn with_exact_digit(n: Option<u64>, digit: u8) -> Option<u64>
     requires { is_ascii_digit digit ≡ true }
-    ensures { (m : ℕ) → n ≡ fitting m → result ≡ fitting (m * 10 + (digit - 48)) }
+    ensures { (m : ℕ) → n ≡ fitting m → result ≡ fitting (m * 10 + (digit - digit_0)) }
 {
     let tens = n?.checked_mul(10)?;
     tens.checked_add(u64::from(digit - b'0'))
@@ -76,7 +79,7 @@ fn with_exact_digit(n: Option<u64>, digit: u8) -> Option<u64>
 
 fn with_digit(n: u64, digit: u8) -> u64
     requires { is_ascii_digit digit ≡ true }
-    ensures { result ≡ saturated (n * 10 + (digit - 48)) }
+    ensures { result ≡ saturated (n * 10 + (digit - digit_0)) }
 {
     n.saturating_mul(10).saturating_add(u64::from(digit - b'0'))
 }
@@ -94,7 +97,7 @@ pub fn number_in(least: u32, most: u32, word: &[u8]) -> Option<u32>
 }
 
 /// What a word says as a priority: nothing where it is no spelling of one, and nothing inside where
-/// it is out of the range from -16 to 15.
+/// it is out of its range, from minus `LEAST_PRIORITY` to `GREATEST_PRIORITY`.
 pub fn priority_of(word: &[u8]) -> Option<Option<i8>>
     ensures { result ≡ priority_of word.now }
 {
@@ -119,7 +122,11 @@ fn negative(digits: &[u8]) -> Option<Option<i8>>
 fn priority_above(n: u64) -> Option<i8>
     ensures { result ≡ priority_above n }
 {
-    if n <= 15 { Some(n as i8) } else { None }
+    if n <= GREATEST_PRIORITY {
+        Some(n as i8)
+    } else {
+        None
+    }
 }
 
 fn priority_below(n: u64) -> Option<Option<i8>>
@@ -128,5 +135,9 @@ fn priority_below(n: u64) -> Option<Option<i8>>
     if n == 0 {
         return None;
     }
-    Some(if n <= 16 { Some(-(n as i8)) } else { None })
+    Some(if n <= LEAST_PRIORITY {
+        Some(-(n as i8))
+    } else {
+        None
+    })
 }

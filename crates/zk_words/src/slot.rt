@@ -24,7 +24,7 @@ pub enum Slot {
     Rawable,
     /// A number from the first to the second.
     Number(u32, u32),
-    /// A priority, from -16 to 15.
+    /// A priority, from minus `LEAST_PRIORITY` to `GREATEST_PRIORITY`.
     Priority,
     /// One of two words.
     Either(Choice),

@@ -3,10 +3,11 @@ ghost use Rattle.std.specs.Str.{bytes_eq};
 ghost use Rattle.zk_words.specs.Lines.{head_of};
 ghost use Rattle.zk_words.specs.Table.{exactly, perhaps, and_many, polling, row_of, call_row, kind_row};
 
+use crate::limits::{GREATEST_RESULT, MOST_COUNT, MOST_TICKS};
 use crate::slot::{Choice, Rest, Slot};
 use crate::word::{Head, Word};
 use std::marker::Model;
-use zk_base::{Kind, Need};
+use zk_base::{Kind, LONGEST_MESSAGE, MOST_HELD, Need};
 
 /// A form of a line: its first word, the slots behind that, and what may stand behind those.
 #[derive(Debug, Drop)]
@@ -44,21 +45,21 @@ const SUBSCRIBER: Slot = Slot::Object(Need::Sub);
 
 const OBSERVER: Slot = Slot::Object(Need::Obs);
 
-const DELAY: Slot = Slot::Number(0, 1_000_000);
+const DELAY: Slot = Slot::Number(0, MOST_TICKS);
 
-const TICKS: Slot = Slot::Number(1, 1_000_000);
+const TICKS: Slot = Slot::Number(1, MOST_TICKS);
 
-const INDEX: Slot = Slot::Number(0, 255);
+const INDEX: Slot = Slot::Number(0, MOST_HELD - 1);
 
-const INITIAL: Slot = Slot::Number(0, 1_000_000);
+const INITIAL: Slot = Slot::Number(0, MOST_COUNT);
 
-const LIMIT: Slot = Slot::Number(1, 1_000_000);
+const LIMIT: Slot = Slot::Number(1, MOST_COUNT);
 
-const SIZE: Slot = Slot::Number(1, 64);
+const SIZE: Slot = Slot::Number(1, LONGEST_MESSAGE as u32);
 
-const CAPACITY: Slot = Slot::Number(1, 256);
+const CAPACITY: Slot = Slot::Number(1, MOST_HELD);
 
-const RESULT: Slot = Slot::Number(0, 65_535);
+const RESULT: Slot = Slot::Number(0, GREATEST_RESULT);
 
 /// The form of a line.
 pub fn row_of(head: Head) -> Row

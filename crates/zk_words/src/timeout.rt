@@ -1,6 +1,7 @@
 ghost use Rattle.std.specs.Prelude.{◌≡◌};
 ghost use Rattle.zk_words.specs.Timeouts.{is_wait, wait_of};
 
+use crate::limits::MOST_TICKS;
 use crate::numbers::{is_number, number_in};
 
 /// How long a call waits.
@@ -10,7 +11,7 @@ pub enum Timeout {
     No,
     /// Until it is served. Zephyr's `K_FOREVER`.
     Forever,
-    /// So many ticks at most, 1 to 1,000,000. Zephyr's `K_TICKS`.
+    /// So many ticks at most, from 1 to `MOST_TICKS`. Zephyr's `K_TICKS`.
     Ticks(u32),
 }
 
@@ -30,6 +31,6 @@ pub fn wait_of(word: &[u8]) -> Option<Timeout>
     } else if word == b"forever".as_slice() {
         Some(Timeout::Forever)
     } else {
-        number_in(1, 1_000_000, word).map(Timeout::Ticks)
+        number_in(1, MOST_TICKS, word).map(Timeout::Ticks)
     }
 }
