@@ -173,11 +173,6 @@ between-both false number old mid new first then_ = record {
   looked = then_.looked ∙ first.looked;
 }
 
--- histories that have room have it still where nothing came between
-pub short-still : (alone : Bool) (number : ℕ) (old new : Shown) → (alone ≡ true → AreShort old) → OnlyOthersCame alone number old new → alone ≡ true → AreShort new
-short-still true number old new short nothing is = subst (λ (s : Shown). AreShort s) (sym nothing) (short is)
-short-still false number old new short others is = absurd (cc)
-
 -- what is shown stays shown
 shown-longer : (number : ℕ) (old new : Shown) (spot : Spot) (b : ℕ × ℕ) → AllGrew number old new → shown_at old spot ≡ Some b → shown_at new spot ≡ Some b
 shown-longer number old new (spots.Work place) b grew is = entry-longer number step_of old.work new.work place b grew.work is
@@ -255,13 +250,6 @@ pub log-later : (number : ℕ) (log : List Spot) (shown : Shown) → ShowsLog sh
 log-later number log shown shows = record {
   entries = λ step spot is. slice_get_within log step spot (shows.no_other step spot is);
   looked = shows.looked;
-}
-
--- what is above all that is shown was above all that was shown before
-pub later-before : (number next : ℕ) (old new : Shown) → AllGrew number old new → IsLater new number next → IsLater old number next
-later-before number next old new grew later = record {
-  entries = λ step spot is. later.entries step spot (shown-longer number old new spot (number, step) grew is);
-  looked = subst (λ (o : Option ℕ). LookedBelow o next) grew.looked later.looked;
 }
 
 -- no step is shown where none was made

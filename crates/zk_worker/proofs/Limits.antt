@@ -125,37 +125,6 @@ IsRoomy-moved s frames frames' answers answers' spots spots' spot number progres
     (subst (λ (n : List Answered). IsRoomy 0 (frames_after s frames progress) n spots' a' b' c') (sym answers_are)
     (subst (λ (p : List Spot). IsRoomy 0 (frames_after s frames progress) (answers_after answers number progress) p a' b' c') (sym spots_are) here))
 
--- and by a check: one that is passed is counted, and one that fails leaves nothing open
-pub IsRoomy-passed : (frames : List Frame) (answers : List Answered) (spots : List Spot) (spot : Spot) (passed a b c c' : ℕ) →
-    IsRoomy passed frames answers spots a b c → length spots < MOST_STEPS → c ≤ c' → IsRoomy (passed + 1) frames answers (spots ++ spot ∷ []) a b c'
-IsRoomy-passed frames answers spots spot passed a b c c' was short for_c =
-    let long : length (spots ++ spot ∷ []) ≡ length spots + 1 = omega (arith, length-append spots (spot ∷ [])) in record {
-      few_frames = was.few_frames;
-      few_answers = omega (arith, long, was.few_answers);
-      few_spots = omega (arith, long);
-      nexts = All-weaker (λ (f : Frame). f.next ≤ length spots) (λ (f : Frame). f.next ≤ length (spots ++ spot ∷ [])) (λ f le. omega (arith, le, long)) frames was.nexts;
-      few_passed = omega (arith, long, was.few_passed);
-      for_frames = was.for_frames;
-      for_answers = was.for_answers;
-      for_spots = omega (arith, was.for_spots);
-    }
-
-pub IsRoomy-ended : (frames : List Frame) (answers : List Answered) (answered : Answered) (spots : List Spot) (spot : Spot) (passed a b c a' b' c' : ℕ) →
-    IsRoomy passed frames answers spots a b c → length spots < MOST_STEPS → a ≤ a' → b ≤ b' → c ≤ c' →
-    IsRoomy 0 [] (answers ++ answered ∷ []) (spots ++ spot ∷ []) a' b' c'
-IsRoomy-ended frames answers answered spots spot passed a b c a' b' c' was short for_a for_b for_c =
-    let long : length (spots ++ spot ∷ []) ≡ length spots + 1 = omega (arith, length-append spots (spot ∷ [])) in
-    let more : length (answers ++ answered ∷ []) ≡ length answers + 1 = omega (arith, length-append answers (answered ∷ [])) in record {
-      few_frames = omega arith;
-      few_answers = omega (arith, long, more, was.few_answers);
-      few_spots = omega (arith, long);
-      nexts = All-nil (λ (f : Frame). f.next ≤ length (spots ++ spot ∷ []));
-      few_passed = omega arith;
-      for_frames = omega (arith, was.for_frames);
-      for_answers = omega (arith, was.for_answers);
-      for_spots = omega (arith, was.for_spots);
-    }
-
 -- a call that may wait has at most two attempts at a time: the end of its wait, and that of its alarm
 wait_attempts-few : (waiting : Waiting) (timeout : Timeout) (stage : Stage) → length (wait_attempts waiting timeout stage) ≤ 2
 wait_attempts-few waiting timeout Start = omega arith

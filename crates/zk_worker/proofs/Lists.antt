@@ -84,36 +84,6 @@ module _ {A : Type 0} where
   known-there f (x ∷ xs) zero b is = (x, refl, cc)
   known-there f (x ∷ xs) (suc p) b is = known-there f xs p b is
 
-  -- what is known of a place of a list with one element more was known before, or is known of this element
-  pub known-end : {B : Type 0} (f : A → B) (xs : List A) (x : A) (p : ℕ) (b : B) → option_map f (slice_get (xs ++ x ∷ []) p) ≡ Some b →
-      (option_map f (slice_get xs p) ≡ Some b) ⊎ ((p ≡ length xs) × (f x ≡ b))
-  known-end f [] x zero b is = inr (refl, cc)
-  known-end f [] x (suc p) b is = absurd (cc)
-  known-end f (y ∷ xs) x zero b is = inl is
-  known-end f (y ∷ xs) x (suc p) b is = further p (known-end f xs x p b is)
-    where
-      further : (p : ℕ) → (option_map f (slice_get xs p) ≡ Some b) ⊎ ((p ≡ length xs) × (f x ≡ b)) → (option_map f (slice_get xs p) ≡ Some b) ⊎ ((suc p ≡ suc (length xs)) × (f x ≡ b))
-      further p (inl there) = inl there
-      further p (inr both) = inr (ap suc both.0, both.1)
-
-  -- what is written at a place is there
-  pub there-set : (xs : List A) (p : ℕ) (x v : A) → slice_get xs p ≡ Some x → slice_get (set xs p v) p ≡ Some v
-  there-set [] p x v is = absurd (cc)
-  there-set (y ∷ ys) zero x v is = refl
-  there-set (y ∷ ys) (suc p) x v is = there-set ys p x v is
-
-  -- and at every other place what was there
-  pub set-elsewhere : (xs : List A) (p q : ℕ) (x v : A) → slice_get xs q ≡ Some x → (q ≡ p) ⊎ (slice_get (set xs p v) q ≡ Some x)
-  set-elsewhere [] p q x v is = absurd (cc)
-  set-elsewhere (y ∷ ys) zero zero x v is = inl refl
-  set-elsewhere (y ∷ ys) zero (suc q) x v is = inr is
-  set-elsewhere (y ∷ ys) (suc p) zero x v is = inr is
-  set-elsewhere (y ∷ ys) (suc p) (suc q) x v is = further p q (set-elsewhere ys p q x v is)
-    where
-      further : (p q : ℕ) → (q ≡ p) ⊎ (slice_get (set ys p v) q ≡ Some x) → (suc q ≡ suc p) ⊎ (slice_get (set ys p v) q ≡ Some x)
-      further p q (inl same) = inl (ap suc same)
-      further p q (inr there) = inr there
-
   -- what is at a place after a write: what was written, or what was there at another place
   pub slice_get-set : (xs : List A) (p q : ℕ) (v x : A) → slice_get (set xs p v) q ≡ Some x → ((q ≡ p) × (x ≡ v)) ⊎ ((q ≢ p) × (slice_get xs q ≡ Some x))
   slice_get-set [] p q v x is = absurd (cc)

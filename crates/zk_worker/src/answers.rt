@@ -4,7 +4,7 @@ use zk_model_bus::OopsWhy;
 use zk_words::Word;
 
 /// What a call of a script is answered.
-#[derive(Clone, Copy, Debug)]
+#[derive(Clone, Copy, Debug, PartialEq, Eq)]
 pub enum Answer {
     /// A number. Of a submission 0 where the item was queued already, 1 where it was admitted, and 2 where it was admitted
     /// while it runs. Of a delayed submission the same, and 1 where the item is delayed. Of a drain 0 where it didn't have to
@@ -31,7 +31,7 @@ pub enum Answer {
 }
 
 /// A call that has its answer.
-#[derive(Clone, Copy, Debug)]
+#[derive(Clone, Copy, Debug, PartialEq, Eq)]
 pub struct Answered {
     /// The number of the call's last step among all steps of the player, from 0.
     pub step: u32,

@@ -68,7 +68,7 @@ pub enum Closing {
 }
 
 /// How far an event of a poll is.
-#[derive(Clone, Copy, Debug)]
+#[derive(Clone, Copy, Debug, PartialEq, Eq)]
 pub enum Mark {
     /// It isn't asked yet.
     Unasked,
@@ -81,7 +81,7 @@ pub enum Mark {
 }
 
 /// The alarm of a poll.
-#[derive(Clone, Copy, Debug)]
+#[derive(Clone, Copy, Debug, PartialEq, Eq)]
 pub enum Alarm {
     /// There is none.
     Unset,
@@ -92,7 +92,7 @@ pub enum Alarm {
 }
 
 /// How far a call or a run has come.
-#[derive(Clone, Copy, Debug)]
+#[derive(Clone, Copy, Debug, PartialEq, Eq)]
 pub enum Stage {
     /// Nothing of it was done.
     Start,
@@ -119,7 +119,7 @@ pub enum Stage {
 }
 
 /// What is played.
-#[derive(Clone, Copy, Debug)]
+#[derive(Clone, Copy, Debug, PartialEq, Eq)]
 pub enum Role {
     /// The script of this object.
     Script(u32),
@@ -128,7 +128,7 @@ pub enum Role {
 }
 
 /// A script or a run that is open, and how far it has come.
-#[derive(Clone, Copy, Debug)]
+#[derive(Clone, Copy, Debug, PartialEq, Eq)]
 pub struct Frame {
     /// What is played.
     pub role: Role,

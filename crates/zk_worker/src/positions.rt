@@ -58,3 +58,24 @@ impl Positions {
         &self.numbers[..self.count]
     }
 }
+
+impl PartialEq for Positions {
+    ghost use Rattle.std.specs.Prelude.{◌==◌};
+    ghost use Rattle.std.specs.Cmp.{partial_equiv_from_equiv, nat_eq_equiv};
+    ghost use Rattle.std.specs.Cmp.Lexicographic.{pointwise, lists_equiv};
+
+    ghost eq = { pointwise ◌==◌ };
+
+    ghost laws = { partial_equiv_from_equiv (lists_equiv nat_eq_equiv) };
+
+    fn eq(&self, other: &Positions) -> bool {
+        self.numbers() == other.numbers()
+    }
+}
+
+impl Eq for Positions {
+    ghost use Rattle.std.specs.Cmp.{nat_eq_equiv};
+    ghost use Rattle.std.specs.Cmp.Lexicographic.{lists_equiv};
+
+    ghost laws = { lists_equiv nat_eq_equiv };
+}

@@ -9,7 +9,7 @@ use zk_model_work::{WorkOp, WorkReply};
 pub const MOST_ATTEMPTS: u32 = 9;
 
 /// One step of a player: what it asks of which service.
-#[derive(Clone, Copy, Debug)]
+#[derive(Clone, Copy, Debug, PartialEq, Eq)]
 pub enum Step {
     /// An operation of the work service.
     Work(WorkOp),
@@ -35,7 +35,7 @@ pub enum Step {
 }
 
 /// What a step was answered.
-#[derive(Debug, Drop)]
+#[derive(Debug, Drop, PartialEq)]
 pub enum StepReply {
     /// The work service's reply, and the place of the entry in its history, from 0.
     Work(WorkReply, u64),
@@ -60,7 +60,7 @@ pub enum StepReply {
 }
 
 /// Where a step stands in what was recorded.
-#[derive(Clone, Copy, Debug)]
+#[derive(Clone, Copy, Debug, PartialEq, Eq)]
 pub enum Spot {
     /// The place of the entry in the history of the work service.
     Work(u64),
