@@ -10,3 +10,4 @@ pub mod Unserved
 pub mod Legality
 pub mod Lawful
 pub mod DeadPlayers
+pub mod InVain

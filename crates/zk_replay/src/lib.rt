@@ -1,6 +1,7 @@
 //! The round robin run of a scenario, on one thread.
 #![tactic(auto)]
 
+mod last_turn;
 mod laws;
 mod run;
 mod turns;

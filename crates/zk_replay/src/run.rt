@@ -52,7 +52,7 @@ pub fn replay(alloc: Global, scenario: &Scenario) -> Result<Trace, NoMemory>
 {
     let mut services = first_services(alloc, scenario)?;
     let mut players = first_players(alloc, scenario)?;
-    play_rounds(&mut services, scenario, &mut players)?;
+    play_rounds(alloc, &mut services, scenario, &mut players)?;
     let ending = ending_of(scenario, &players);
     let trace = gather(alloc, scenario, ending, services, players)?;
     Ok(trace)

@@ -9,9 +9,13 @@ ghost use Rattle.zk_worker.specs.Choosing.{chosen};
 ghost use Rattle.zk_replay.specs.RoundRobin.{World, turn, round, rounds, is_spent};
 ghost use Rattle.zk_replay.specs.Ready.{IsReady};
 ghost use Rattle.zk_replay.specs.Turning.{made_step, world, IsAlone, IsTurn, Turned, Rounded};
+ghost use Rattle.zk_replay.specs.LastTurns.{IsKept, AreKept};
 
+use crate::last_turn::{LastTurn, is_in_vain, keep, no_turns};
+use std::alloc::Global;
 use zk_base::NoMemory;
 use zk_scenario::Scenario;
+use zk_services::Counted;
 use zk_worker::{Player, Services, Stepped};
 
 /// What a turn did.
@@ -68,48 +72,98 @@ fn play<V: Services>(
     Ok(Turn { moved, spent })
 }
 
+/// A turn of a player that has steps left. Where its last one was in vain, and no service that it asked has an entry more, it
+/// isn't asked again.
+fn play_or_pass<V: Counted>(
+    services: &mut V,
+    scenario: &Scenario,
+    player: &mut Player,
+    kept: &mut LastTurn,
+) -> Result<Turn, NoMemory>
+    requires valid { IsValid scenario.now }
+    requires alone { IsAlone scenario.now (V.alone services.old) (V.machines services.old) (V.serves services.old) }
+    requires fits { IsFit scenario.now player.old }
+    requires log { ShowsLog (V.shown services.old) player.old.who.number player.old.spots }
+    requires looks { LooksRight (V.machines services.old) (V.shown services.old) player.old.spots }
+    requires short { AreShort (V.shown services.old) }
+    requires unspent { is_spent_at scenario.now player.old ≡ false }
+    requires kept { IsKept (V.machines services.old) scenario.now (V.shown services.old) player.old kept.old }
+    ensures turn { IfOk result (λ turn.
+        IsTurn (V.machines services.old) scenario.now player.old player.new
+        (V.shown services.old) (V.shown services.new) turn.moved) }
+    ensures spent { IfOk result (λ turn. turn.spent ≡ is_spent_at scenario.now player.new) }
+    ensures kept { IfOk result (λ turn.
+        IsKept (V.machines services.old) scenario.now (V.shown services.new) player.new kept.new) }
+    ensures alone { IsAlone scenario.now (V.alone services.new) (V.machines services.new) (V.serves services.new) }
+{
+    if is_in_vain(services, kept) {
+        return Ok(Turn {
+            moved: false,
+            spent: false,
+        });
+    }
+    let turn = play(services, scenario, player)?;
+    keep(services, scenario, player, turn.moved, kept)?;
+    Ok(turn)
+}
+
 /// A turn of the player of this number.
-fn take_turn<V: Services>(
+fn take_turn<V: Counted>(
     services: &mut V,
     scenario: &Scenario,
     players: &mut Vec<Player>,
+    waiting: &mut Vec<LastTurn>,
     number: usize,
 ) -> Result<Turn, NoMemory>
     requires valid { IsValid scenario.now }
     requires alone { IsAlone scenario.now (V.alone services.old) (V.machines services.old) (V.serves services.old) }
     requires ready { IsReady scenario.now (world (V.shown services.old) players.old.items) }
     requires unspent { is_spent scenario.now (world (V.shown services.old) players.old.items) ≡ false }
+    requires kept { AreKept (machines_of scenario.now) scenario.now
+        (world (V.shown services.old) players.old.items) waiting.old.items }
+    requires places { vec_len waiting.old ≡ vec_len players.old }
     requires number { number < vec_len players.old }
     ensures turned { IfOk result (λ turn.
         Turned (machines_of scenario.now) scenario.now
         (world (V.shown services.old) players.old.items)
         (world (V.shown services.new) players.new.items) number turn) }
+    ensures kept { IfOk result (λ turn. AreKept (machines_of scenario.now) scenario.now
+        (world (V.shown services.new) players.new.items) waiting.new.items) }
     ensures alone { IsAlone scenario.now (V.alone services.new) (V.machines services.new) (V.serves services.new) }
     ensures players { vec_len players.new ≡ vec_len players.old }
+    ensures places { vec_len waiting.new ≡ vec_len waiting.old }
 {
     let player = &mut players[number];
-    play(services, scenario, player)
+    let kept = &mut waiting[number];
+    play_or_pass(services, scenario, player, kept)
 }
 
 /// A turn of each player in order, but not beyond one that is spent by its turn.
-fn play_round<V: Services>(
+fn play_round<V: Counted>(
     services: &mut V,
     scenario: &Scenario,
     players: &mut Vec<Player>,
+    waiting: &mut Vec<LastTurn>,
 ) -> Result<RoundEnd, NoMemory>
     requires valid { IsValid scenario.now }
     requires alone { IsAlone scenario.now (V.alone services.old) (V.machines services.old) (V.serves services.old) }
     requires ready { IsReady scenario.now (world (V.shown services.old) players.old.items) }
     requires unspent { is_spent scenario.now (world (V.shown services.old) players.old.items) ≡ false }
+    requires kept { AreKept (machines_of scenario.now) scenario.now
+        (world (V.shown services.old) players.old.items) waiting.old.items }
+    requires places { vec_len waiting.old ≡ vec_len players.old }
     ensures rounded { IfOk result (λ course.
         Rounded (machines_of scenario.now) scenario.now
         (world (V.shown services.old) players.old.items)
         (world (V.shown services.new) players.new.items) course) }
+    ensures kept { IfOk result (λ course. AreKept (machines_of scenario.now) scenario.now
+        (world (V.shown services.new) players.new.items) waiting.new.items) }
+    ensures places { vec_len waiting.new ≡ vec_len players.new }
     ensures alone { IsAlone scenario.now (V.alone services.new) (V.machines services.new) (V.serves services.new) }
 {
     let mut moved = false;
     for number in 0..players.len() {
-        let turn = take_turn(services, scenario, players, number)?;
+        let turn = take_turn(services, scenario, players, waiting, number)?;
         if turn.spent {
             return Ok(RoundEnd::Spent);
         }
@@ -123,7 +177,8 @@ fn play_round<V: Services>(
 }
 
 /// Rounds until one has no step, or until a player is spent.
-pub fn play_rounds<V: Services>(
+pub fn play_rounds<V: Counted>(
+    alloc: Global,
     services: &mut V,
     scenario: &Scenario,
     players: &mut Vec<Player>,
@@ -141,8 +196,9 @@ pub fn play_rounds<V: Services>(
         ≡ world (V.shown services.new) players.new.items) }
     ensures alone { IsAlone scenario.now (V.alone services.new) (V.machines services.new) (V.serves services.new) }
 {
+    let mut waiting = no_turns(alloc, players.len())?;
     loop {
-        match play_round(services, scenario, players)? {
+        match play_round(services, scenario, players, &mut waiting)? {
             RoundEnd::Goes => {}
             RoundEnd::Still => return Ok(()),
             RoundEnd::Spent => return Ok(()),

@@ -2,6 +2,7 @@
 //! what they recorded and what the players did.
 #![tactic(auto)]
 
+mod counted;
 mod first;
 mod gathering;
 mod looks;
@@ -9,6 +10,7 @@ mod objects;
 mod plain;
 mod table;
 
+pub use counted::{Counted, ServiceId, service_of};
 pub use first::{first_players, first_services};
 pub use gathering::gather;
 pub use objects::{act_at, histories_of};

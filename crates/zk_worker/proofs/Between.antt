@@ -115,7 +115,7 @@ module _ {A : Type 0} where
   pub longer-none : (xs : List A) → Longer xs xs
   longer-none xs = ([], sym (append-nil xs))
 
-  longer-both : (old mid new : List A) → Longer old mid → Longer mid new → Longer old new
+  pub longer-both : (old mid new : List A) → Longer old mid → Longer mid new → Longer old new
   longer-both old mid new first then_ =
       (first.0 ++ then_.0, then_.1 ∙ ap (λ (xs : List A). xs ++ then_.0) first.1 ∙ append_assoc old first.0 then_.0)
 
@@ -123,7 +123,7 @@ module _ {A : Type 0} where
   longer-none_each [] = tt
   longer-none_each (xs ∷ xss) = (longer-none xs, longer-none_each xss)
 
-  longer-both_each : (old mid new : List (List A)) → AllZip Longer old mid → AllZip Longer mid new → AllZip Longer old new
+  pub longer-both_each : (old mid new : List (List A)) → AllZip Longer old mid → AllZip Longer mid new → AllZip Longer old new
   longer-both_each [] [] new first then_ = then_
   longer-both_each [] (m ∷ ms) new first then_ = absurd first
   longer-both_each (o ∷ os) [] new first then_ = absurd first

@@ -1,4 +1,4 @@
-use Rattle.std.proofs.Common.{◌+◌, ◌-◌, ◌∙◌, suc, arith}
+use Rattle.std.proofs.Common.{◌+◌, ◌-◌, ◌∙◌, suc, sym, arith}
 use Rattle.zk_worker.specs.Machines.{machines_of}
 use Rattle.zk_replay.specs.Turning.{world}
 use Rattle.zk_replay.proofs.Rounds.{within-left, within-spent, within-next}
@@ -30,6 +30,8 @@ loop-number-preserved g c =
     record {
       alone = c.take_turn.ensures.alone;
       count = c.take_turn.ensures.players ∙ c.loop-number.invariant.count;
+      places = c.take_turn.ensures.places ∙ c.loop-number.invariant.places ∙ sym c.take_turn.ensures.players;
+      kept = c.in_ok-turn.ensures.kept;
       within = within-next m s old now new c.loop-number.moved n p c.in_ok-turn.turn
           (within-left m s old now c.loop-number.moved (c.len-number-end.result - p) (suc n) p (omega arith) c.loop-number.invariant.within)
           c.in_ok-turn.ensures.turned

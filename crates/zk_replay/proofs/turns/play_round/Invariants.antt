@@ -1,6 +1,7 @@
 use Rattle.std.proofs.Common.{◌≡◌, ◌-◌, vec_len}
 use Rattle.zk_worker.specs.Machines.{machines_of}
 use Rattle.zk_replay.specs.Turning.{world, IsAlone, WithinRound}
+use Rattle.zk_replay.specs.LastTurns.{AreKept}
 use Rattle.zk_replay.proofs.turns.play_round.Given as goal
 
 abbrev pub invariant-loop-number : goal.invariant-loop-number
@@ -8,6 +9,8 @@ invariant-loop-number g l =
     record {
       alone : IsAlone l.scenario (g.V.Services.alone l.services) (g.V.Services.machines l.services) (g.V.Services.serves l.services);
       count : vec_len l.players ≡ l.number-end;
+      places : vec_len l.waiting ≡ vec_len l.players;
+      kept : AreKept (machines_of l.scenario) l.scenario (world (g.V.Services.shown l.services) l.players.items) l.waiting.items;
       within : WithinRound (machines_of l.scenario) l.scenario (world (g.V.Services.shown l.initial.services) l.initial.players.items)
           (world (g.V.Services.shown l.services) l.players.items) l.moved (l.number-end - l.number) l.number;
     }
