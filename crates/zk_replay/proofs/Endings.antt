@@ -12,7 +12,7 @@ use Rattle.zk_model_work.specs.declared.ops.WorkOp.TheVariants as ops
 use Rattle.zk_model_work.specs.declared.ops.WorkReply.{WorkReply}
 use Rattle.zk_model_work.specs.declared.parts.Admission.{Admission}
 use Rattle.zk_model_work.specs.declared.parts.Life.{Life}
-use Rattle.zk_model_work.specs.declared.parts.Life.TheVariants.{LastTurn, Running, Ended, Dropped}
+use Rattle.zk_model_work.specs.declared.parts.Life.TheVariants.{Waiting, Running, Ended, Dropped}
 use Rattle.zk_model_work.specs.Questions.{is_waiting, is_running, is_open, waits_for, runs_on}
 use Rattle.zk_model_work.specs.State.{State}
 use Rattle.zk_model_work.specs.Machine.{work_machine, work_reply, work_next}
@@ -166,7 +166,7 @@ there-is (x ∷ xs) zero within = (x, refl)
 there-is (x ∷ xs) (suc p) within = there-is xs p (omega arith)
 
 not-open : (life : Life) → is_waiting life ≡ false → is_running life ≡ false → is_open life ≡ false
-not-open LastTurn waits runs = absurd (cc)
+not-open Waiting waits runs = absurd (cc)
 not-open Running waits runs = absurd (cc)
 not-open Ended waits runs = refl
 not-open Dropped waits runs = refl
