@@ -147,13 +147,16 @@ fn own_cells<R: Threads + Wait + Sync + Clock + Print + AllocGlobal>(rt: &R) -> 
     print(rt, "turns, four threads, own cells", start, 4 * TIMES)
 }
 
-#[tactic(auto, using(crate::proofs::Crossing::counted_send))]
 fn two_with_lock<R: Threads + Wait + Sync>(rt: &R, lock: &Mutex<Option<Counted>>) {
     thread::join(
         rt,
         || submit_often(rt, lock, TIMES),
         || submit_often(rt, lock, TIMES),
     );
+}
+
+fn four_with_lock<R: Threads + Wait + Sync>(rt: &R, lock: &Mutex<Option<Counted>>) {
+    thread::join(rt, || two_with_lock(rt, lock), || two_with_lock(rt, lock));
 }
 
 /// The work service under a lock, without entries.
@@ -164,7 +167,6 @@ fn locked(alloc: Global) -> Option<Mutex<Option<Counted>>> {
     }
 }
 
-#[tactic(auto, using(crate::proofs::Crossing::counted_send))]
 fn locks<R: Threads + Wait + Sync + Clock + Print + AllocGlobal>(rt: &R) -> io::Result<()> {
     let (Some(one), Some(two), Some(four)) = (
         locked(rt.alloc()),
@@ -180,7 +182,7 @@ fn locks<R: Threads + Wait + Sync + Clock + Print + AllocGlobal>(rt: &R) -> io::
     two_with_lock(rt, &two);
     print(rt, "a lock, two threads", start, 2 * TIMES)?;
     let start = Instant::now(rt)?;
-    thread::join(rt, || two_with_lock(rt, &four), || two_with_lock(rt, &four));
+    four_with_lock(rt, &four);
     print(rt, "a lock, four threads", start, 4 * TIMES)
 }
 

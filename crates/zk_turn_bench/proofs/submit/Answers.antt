@@ -1,7 +1,7 @@
-use Rattle.std.proofs.Common.{Some, sym, ap, ◌∙◌}
+use Rattle.std.proofs.Common.{Some, ap, ◌∙◌}
 use Rattle.zk_model_work.specs.declared.ops.WorkOp.TheVariants.{Submit}
 use Rattle.zk_model_work.specs.Machine.{work_machine}
-use Rattle.zk_turn_bench.proofs.Counting.{IsCounted, IsCounted-next}
+use Rattle.zk_turn_bench.proofs.Counting.{IsCounted-next}
 use Rattle.zk_turn_bench.proofs.submit.Goals as goal
 
 pub invariant_of-result-2 : goal.invariant_of-result-2
