@@ -147,6 +147,7 @@ fn own_cells<R: Threads + Wait + Sync + Clock + Print + AllocGlobal>(rt: &R) -> 
     print(rt, "turns, four threads, own cells", start, 4 * TIMES)
 }
 
+#[tactic(auto, using(crate::proofs::Crossing::counted_send))]
 fn two_with_lock<R: Threads + Wait + Sync>(rt: &R, lock: &Mutex<Option<Counted>>) {
     thread::join(
         rt,
@@ -163,6 +164,7 @@ fn locked(alloc: Global) -> Option<Mutex<Option<Counted>>> {
     }
 }
 
+#[tactic(auto, using(crate::proofs::Crossing::counted_send))]
 fn locks<R: Threads + Wait + Sync + Clock + Print + AllocGlobal>(rt: &R) -> io::Result<()> {
     let (Some(one), Some(two), Some(four)) = (
         locked(rt.alloc()),

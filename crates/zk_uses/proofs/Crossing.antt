@@ -1,4 +1,4 @@
--- What threads take with them: a cell that they share, and whoever calls the work service there.
+-- What threads take with them: a cell that they share, and whoever calls the service there.
 use mir.Syntax.{Sym}
 use mathlib.Core.List.{List, [], ◌∷◌}
 use denote.RattleType.{RattleType}
@@ -9,18 +9,14 @@ use denote.Struct.Tuple.{type_at, TupleAt}
 use denote.Param.Send.{shr_send, IsSend, IsSync, recorded_send, recorded_sync, struct_send, struct_sync, sendable}
 use denote.Struct.Declared.{shape}
 use Rattle.std.proofs.Crossing as heap
-use Rattle.std.proofs.Crossing.{crosses}
 use Rattle.std.specs.contracts.option.Option as option
 use Rattle.atomic_table.proofs.shared.Seat.TheSendSync as seat
 use Rattle.atomic_table.proofs.shared.Shared.TheSendSync as shared
 use Rattle.atomic_table.proofs.send_lease.SendLease.TheSendSync as lease
 use Rattle.zk_base.specs.declared.service.Service.{Ghosts}
-use Rattle.zk_model_work.specs.contracts.ops.WorkReply as reply
 use Rattle.zk_turn.specs.contracts.cell.Cell as cell
 use Rattle.zk_turn.specs.contracts.pass.Pass as pass
 use Rattle.zk_uses.specs.contracts.often.Caller as caller
-use Rattle.zk_work.specs.contracts.engine.WorkEngine as engine
-use Rattle.zk_work.specs.contracts.work.Work as work
 
 -- a reference to what may be shared
 pub ref_send : (ℓ : NamedLft) (T : RattleType) (one : One T.mir) → IsSync T → IsSend (Field.shr_ref_field ℓ T one).row
@@ -54,13 +50,3 @@ pub cell_sync : (S O R T : RattleType) (g : Ghosts S.Denot O.Denot R.Denot T.Den
 cell_sync S O R T g s =
     recorded_sync _ _ _ (cell.the_type S O R T g).to_one
     (struct_sync (shape (cell.the_type S O R T g)) (search (sendable, option_send, shared.the_sync, lease.the_sync, heap.sync, heap.send, heap.frees) depth 24, tt))
-
--- in parts, since one search for all of it breaks off
-reply_send : IsSend reply.the_row
-reply_send = search (sendable, crosses) depth 60 fits 20000
-
-engine_send : IsSend engine.the_row
-engine_send = search (sendable, crosses) depth 40 fits 20000
-
-pub work_send : IsSend work.the_row
-work_send = search (reply_send, engine_send, sendable, crosses) depth 40 fits 20000

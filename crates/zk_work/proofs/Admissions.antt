@@ -30,7 +30,7 @@ use Rattle.zk_queue.proofs.Numbers.{IsAbove-drop}
 use Rattle.zk_work.specs.EngineState.{EngineState, IsSound, IsWhole, StandsFor, is_there}
 use Rattle.zk_work.specs.Tickets.{tickets}
 use Rattle.zk_work.specs.Engine.{admitted, cancelled, settled, drained}
-use Rattle.zk_work.proofs.Tickets.{ticket, first_stands, StandsFor, tickets-push, tickets-map, tickets-map_none, tickets-one, count-push, count-map, count-some}
+use Rattle.zk_work.proofs.Tickets.{ticket, first_stands, IsTicketOf, tickets-push, tickets-map, tickets-map_none, tickets-one, count-push, count-map, count-some}
 use Rattle.zk_work.proofs.Changes.{is_nil, length-nil, idle-tickets, without-drop, without-begin, runs-begin, runs-begin_other, runs_on-drop, runs_on-end, runs_on-end_other, running-drop, running-begin, running-end, waits_for-end, item-drop, queue-drop, item-end, queue-end}
 use Rattle.zk_work.proofs.LastQueues.{last-push, last-map, last-set_life}
 use Rattle.zk_work.proofs.Cancelling.{remarked, cancelling-push, cancelling-begin, cancelling-end_other, cancelling-none, cancelling-cancel, cancelling-cancel_none, cancelling-cancel_other}
@@ -424,7 +424,7 @@ begin-stands k s queue t st queue_in few idle lowest =
       ys : List Admission
       ys = set_life s.admissions t.number Running
 
-      stands : StandsFor 0 (waits_for queue) xs t
+      stands : IsTicketOf 0 (waits_for queue) xs t
       stands = first_stands 0 (waits_for queue) xs t (ap first (sym (st.admissions.lines queue)) ∙ lowest)
 
       a : Admission
@@ -555,7 +555,7 @@ end-stands k s queue t st queue_in few run =
           ap option_to_list (get_or-set_other k.active.runs queue q None None differ.1) ∙ st.admissions.runs q
           ∙ sym (tickets-map 0 (runs_on q) (end_one queue) xs (λ a. runs_on-end_other queue q a differ.1) (item-end queue))
 
-      stands : StandsFor 0 (runs_on queue) xs t
+      stands : IsTicketOf 0 (runs_on queue) xs t
       stands = first_stands 0 (runs_on queue) xs t (ap first one_run)
 
       -- an admission of the item that ran doesn't run any more

@@ -1,3 +1,4 @@
+pub mod Crossing
 mod Admissions
 mod Announcing
 mod Arms

@@ -19,7 +19,7 @@ use Rattle.zk_queue.specs.Line.{is_of, has_number, number_in, number_among}
 use Rattle.zk_queue.specs.Open as active
 use Rattle.zk_queue.specs.Open.{Open, line, run, is_run_of, runs_number}
 use Rattle.zk_work.specs.Tickets.{tickets_from, tickets}
-use Rattle.zk_work.proofs.Tickets.{ticket, StandsFor, stands-behind, first_stands, count-some, none_behind, less_behind}
+use Rattle.zk_work.proofs.Tickets.{ticket, IsTicketOf, stands-behind, first_stands, count-some, none_behind, less_behind}
 use Rattle.zk_work.proofs.Items.{queued, runs_now, run_of}
 
 -- two words that agree
@@ -31,14 +31,14 @@ agree false false there back = refl
 
 -- the ticket that a search finds
 find_stands : (q : Ticket → Bool) (n : ℕ) (p : Admission → Bool) (xs : List Admission) (t : Ticket) →
-    find q (tickets_from n p xs) ≡ Some t → StandsFor n p xs t × (q t ≡ true)
+    find q (tickets_from n p xs) ≡ Some t → IsTicketOf n p xs t × (q t ≡ true)
 find_stands q n p [] t is = absurd (cc)
 find_stands q n p (x ∷ xs) t is = by (p x) refl is (λ there. find_stands q (n + 1) p xs t there) where
   rest : Option Ticket
   rest = find q (tickets_from (n + 1) p xs)
 
   here : (c : Bool) → q (ticket x n) ≡ c → p x ≡ true → cond c (Some (ticket x n)) rest ≡ Some t →
-      (rest ≡ Some t → StandsFor (n + 1) p xs t × (q t ≡ true)) → StandsFor n p (x ∷ xs) t × (q t ≡ true)
+      (rest ≡ Some t → IsTicketOf (n + 1) p xs t × (q t ≡ true)) → IsTicketOf n p (x ∷ xs) t × (q t ≡ true)
   here true of passes is further =
       let same = same_Some (ticket x n) t is in (
         record {
@@ -54,8 +54,8 @@ find_stands q n p (x ∷ xs) t is = by (p x) refl is (λ there. find_stands q (n
   here false of passes is further = let f = further is in (stands-behind n p x xs t f.0, f.1)
 
   by : (b : Bool) → p x ≡ b → find q (cond b (ticket x n ∷ tickets_from (n + 1) p xs) (tickets_from (n + 1) p xs))
-      ≡ Some t → (rest ≡ Some t → StandsFor (n + 1) p xs t × (q t ≡ true)) →
-      StandsFor n p (x ∷ xs) t × (q t ≡ true)
+      ≡ Some t → (rest ≡ Some t → IsTicketOf (n + 1) p xs t × (q t ≡ true)) →
+      IsTicketOf n p (x ∷ xs) t × (q t ≡ true)
   by true passes is further = here (q (ticket x n)) refl passes is further
   by false passes is further = let f = further is in (stands-behind n p x xs t f.0, f.1)
 
@@ -148,12 +148,12 @@ among_at item (l ∷ lines) m is = by (number_in item l) refl is (among_at item 
 module _ (o : Open) (xs : List Admission) (lines : (queue : ℕ) → line o queue ≡ tickets (waits_for queue) xs)
     (runs : (queue : ℕ) → option_to_list (run o queue) ≡ tickets (runs_on queue) xs) where
   -- the ticket of a run
-  run-stands : (queue : ℕ) (t : Ticket) → run o queue ≡ Some t → StandsFor 0 (runs_on queue) xs t
+  run-stands : (queue : ℕ) (t : Ticket) → run o queue ≡ Some t → IsTicketOf 0 (runs_on queue) xs t
   run-stands queue t is = first_stands 0 (runs_on queue) xs t (ap first (sym (runs queue) ∙ ap option_to_list is))
 
   open-there : (number : ℕ) → active.is_open o number ≡ true → passes_at (λ a. is_open a.life) xs number ≡ true
   open-there number is = by (list_any (runs_number number) o.runs) refl is where
-    stands-at : (p : Admission → Bool) (t : Ticket) → StandsFor 0 p xs t →
+    stands-at : (p : Admission → Bool) (t : Ticket) → IsTicketOf 0 p xs t →
         ((a : Admission) → p a ≡ true → is_open a.life ≡ true) → eqb t.number number ≡ true →
         passes_at (λ a. is_open a.life) xs number ≡ true
     stands-at p t s opens same =

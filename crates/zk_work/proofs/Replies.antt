@@ -17,7 +17,7 @@ use Rattle.zk_model_work.proofs.Lines.{first_of_places}
 use Rattle.zk_model_work.proofs.Lives.{open-running}
 use Rattle.zk_model_work.proofs.Overlaps.{position-none, found_queue}
 use Rattle.zk_queue.specs.declared.ticket.Ticket.{Ticket}
-use Rattle.zk_queue.specs.declared.marks.Marks.{Marks}
+use Rattle.zk_queue.specs.declared.marks.ItemMarks.{ItemMarks}
 use Rattle.zk_queue.specs.Open as active
 use Rattle.zk_work.specs.EngineState.{EngineState, last_of, IsSound, StandsFor}
 use Rattle.zk_work.specs.Tickets.{tickets}
@@ -33,7 +33,7 @@ module _ (k : EngineState) (s : State) (st : StandsFor k s) where
   runs_item item = runs_now k.active s.admissions item st.admissions.runs
 
   pub cancels : (item : ℕ) → (active.marks_of k.active item).cancelling ≡ is_cancelling s.admissions s.marks item
-  cancels item = ap (λ (m : Marks). m.cancelling) (st.admissions.marks item)
+  cancels item = ap (λ (m : ItemMarks). m.cancelling) (st.admissions.marks item)
 
 find-none : (p : Admission → Bool) (xs : List Admission) →
     ((m : ℕ) (a : Admission) → slice_get xs m ≡ Some a → p a ≡ false) → find p xs ≡ None

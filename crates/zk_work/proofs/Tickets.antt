@@ -37,7 +37,7 @@ pub position-first : (p : Admission → Bool) (xs : List Admission) →
 position-first p xs = first_of_places p xs ∙ ap first (sym (numbers 0 p xs)) ∙ first-map (λ (t : Ticket). t.number) (tickets p xs)
 
 -- what the first ticket stands for
-pub record StandsFor (n : ℕ) (p : Admission → Bool) (xs : List Admission) (t : Ticket) : Type 0 where
+pub record IsTicketOf (n : ℕ) (p : Admission → Bool) (xs : List Admission) (t : Ticket) : Type 0 where
   pub place : ℕ
   pub admission : Admission
   pub there : slice_get xs place ≡ Some admission
@@ -47,7 +47,7 @@ pub record StandsFor (n : ℕ) (p : Admission → Bool) (xs : List Admission) (t
 
 -- what stands behind the first stands there with it
 pub stands-behind : (n : ℕ) (p : Admission → Bool) (x : Admission) (xs : List Admission) (t : Ticket) →
-    StandsFor (n + 1) p xs t → StandsFor n p (x ∷ xs) t
+    IsTicketOf (n + 1) p xs t → IsTicketOf n p (x ∷ xs) t
 stands-behind n p x xs t s =
     let number = s.number in
     record {
@@ -60,11 +60,11 @@ stands-behind n p x xs t s =
     }
 
 pub first_stands : (n : ℕ) (p : Admission → Bool) (xs : List Admission) (t : Ticket) →
-    first (tickets_from n p xs) ≡ Some t → StandsFor n p xs t
+    first (tickets_from n p xs) ≡ Some t → IsTicketOf n p xs t
 first_stands n p [] t is = absurd (cc)
 first_stands n p (x ∷ xs) t is = by (p x) refl is (λ there. first_stands (n + 1) p xs t there) where
   by : (b : Bool) → p x ≡ b → first (cond b (ticket x n ∷ tickets_from (n + 1) p xs) (tickets_from (n + 1) p xs)) ≡ Some t →
-      (first (tickets_from (n + 1) p xs) ≡ Some t → StandsFor (n + 1) p xs t) → StandsFor n p (x ∷ xs) t
+      (first (tickets_from (n + 1) p xs) ≡ Some t → IsTicketOf (n + 1) p xs t) → IsTicketOf n p (x ∷ xs) t
   by true passes is further = record {
     place = 0;
     admission = x;

@@ -8,7 +8,8 @@ use denote.Ref.{NamedLft}
 use denote.Struct.Field as Field
 use mir.Syntax.{Dict, named}
 use Rattle.atomic_table.proofs.shared.Seat.TheSendSync as seat
-use Rattle.zk_uses.proofs.Crossing.{work_send, cell_sync, caller_send, ref_send, closure_of_four}
+use Rattle.zk_work.proofs.Crossing.{work_send}
+use Rattle.zk_uses.proofs.Crossing.{cell_sync, caller_send, ref_send, closure_of_four}
 use Rattle.zk_uses.proofs.work_shared.submitted_by_two.Lts as lts
 use Rattle.zk_uses.proofs.work_shared.submitted_by_two.Goals as goal
 
