@@ -60,14 +60,14 @@ abbrev pub admission_word : ℕ → List ℕ
 admission_word number = codes "a" ++ decimal number
 
 -- a letter where its flag is set
-abbrev pub flag_letter : ℕ → ℕ → ℕ → List ℕ
-flag_letter flags flag letter = (if bit_and flags flag == 0 then [] else letter ∷ [])
+abbrev pub flag_letter : ℕ → ℕ → List ℕ → List ℕ
+flag_letter flags flag letter = (if bit_and flags flag == 0 then [] else letter)
 
 -- the letters of the busy flags: running, cancelling, queued, delayed, flushing
 abbrev pub flag_letters : ℕ → List ℕ
 flag_letters flags =
-    flag_letter flags 1 114 ++ flag_letter flags 2 99 ++ flag_letter flags 4 113
-    ++ flag_letter flags 8 100 ++ flag_letter flags 16 102
+    flag_letter flags 1 (codes "r") ++ flag_letter flags 2 (codes "c") ++ flag_letter flags 4 (codes "q")
+    ++ flag_letter flags 8 (codes "d") ++ flag_letter flags 16 (codes "f")
 
 -- the busy flags in the order rcqdf, and a dash for none
 abbrev pub flags_word : ℕ → List ℕ

@@ -1,5 +1,6 @@
 use Rattle.std.specs.Prelude.{ℕ, List, [], ◌∷◌, ◌++◌, map, codes}
 use Rattle.std.specs.List.{join_with_byte}
+use Rattle.zk_words.specs.Bytes.{colon}
 use Rattle.zk_line.specs.declared.types.Decl.{Decl}
 use Rattle.zk_model_work.specs.declared.ops.WorkOp.{WorkOp}
 use Rattle.zk_model_work.specs.declared.ops.WorkOp.TheVariants as ops
@@ -74,7 +75,7 @@ submitted_parts (submissions.Refused errno) = Refusal errno ∷ []
 -- a delay that ended: its item, and what became of the submission, with colons between
 abbrev pub expiry_word : List Decl → Expiry → List ℕ
 expiry_word decls e =
-    join_with_byte 58 (map (part_word decls) (Item e.item ∷ submitted_parts e.submitted))
+    join_with_byte colon (map (part_word decls) (Item e.item ∷ submitted_parts e.submitted))
 
 -- the parts of a reply
 abbrev pub reply_parts : WorkReply → List Part

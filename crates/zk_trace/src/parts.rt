@@ -1,5 +1,6 @@
 ghost use Rattle.std.specs.Prelude.{◌≡◌, [], ◌∷◌, ◌++◌, map, OnOk, OnErr};
 ghost use Rattle.std.specs.List.{cons_option};
+ghost use Rattle.zk_words.specs.Bytes.{space};
 ghost use Rattle.zk_trace.specs.Fronts.{StaysInFront};
 ghost use Rattle.zk_trace.specs.Names.{target_name};
 ghost use Rattle.zk_trace.specs.Parts.{fixed_word, part_word, answer_part, each_behind};
@@ -282,7 +283,7 @@ pub fn put_said(
     parts: &PartList<'_>,
 ) -> Result<(), NoMemory>
     ensures text { OnOk result (out.new.items ≡
-        out.old.items ++ each_behind 32 (verb.now ∷ map (part_word scenario.now.decls) parts.now)) }
+        out.old.items ++ each_behind space (verb.now ∷ map (part_word scenario.now.decls) parts.now)) }
     ensures kept { OnErr result (StaysInFront out.old.items out.new.items) }
 {
     out.push(b' ')?;

@@ -1,4 +1,5 @@
 ghost use Rattle.std.specs.Prelude.{◌≡◌, ℕ, List, ◌++◌, OnOk, OnErr};
+ghost use Rattle.zk_words.specs.Bytes.{space};
 ghost use Rattle.zk_line.specs.declared.types.Decl.{Decl};
 ghost use Rattle.zk_trace.specs.Fronts.{StaysInFront};
 ghost use Rattle.zk_trace.specs.Parts.{each_behind};
@@ -13,6 +14,6 @@ pub trait Spelled {
 
     /// Appends its words, each behind a space.
     fn put_words(&self, out: &mut Vec<u8>, scenario: &Scenario) -> Result<(), NoMemory>
-        ensures text { OnOk result (out.new.items ≡ out.old.items ++ each_behind 32 (words scenario.now.decls self.now)) }
+        ensures text { OnOk result (out.new.items ≡ out.old.items ++ each_behind space (words scenario.now.decls self.now)) }
         ensures kept { OnErr result (StaysInFront out.old.items out.new.items) };
 }

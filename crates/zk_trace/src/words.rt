@@ -98,21 +98,21 @@ fn put_letters(out: &mut Vec<u8>, flags: u8) -> Result<(), NoMemory>
     ensures text { OnOk result (out.new.items ≡ out.old.items ++ flag_letters flags) }
     ensures kept { OnErr result (StaysInFront out.old.items out.new.items) }
 {
-    put_letter(out, flags, 1, b'r')?;
-    put_letter(out, flags, 2, b'c')?;
-    put_letter(out, flags, 4, b'q')?;
-    put_letter(out, flags, 8, b'd')?;
-    put_letter(out, flags, 16, b'f')
+    put_letter(out, flags, 1, b"r")?;
+    put_letter(out, flags, 2, b"c")?;
+    put_letter(out, flags, 4, b"q")?;
+    put_letter(out, flags, 8, b"d")?;
+    put_letter(out, flags, 16, b"f")
 }
 
-fn put_letter(out: &mut Vec<u8>, flags: u8, flag: u8, letter: u8) -> Result<(), NoMemory>
-    ensures text { OnOk result (out.new.items ≡ out.old.items ++ flag_letter flags flag letter) }
+fn put_letter(out: &mut Vec<u8>, flags: u8, flag: u8, letter: &[u8]) -> Result<(), NoMemory>
+    ensures text { OnOk result (out.new.items ≡ out.old.items ++ flag_letter flags flag letter.now) }
     ensures kept { OnErr result (StaysInFront out.old.items out.new.items) }
 {
     if flags & flag == 0 {
         return Ok(());
     }
-    put(out, &[letter])
+    put(out, letter)
 }
 
 /// An answer that is true or false.

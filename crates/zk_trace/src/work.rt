@@ -1,4 +1,5 @@
 ghost use Rattle.std.specs.Prelude.{◌≡◌, ◌∷◌, ◌++◌, map, drop, OnOk, OnErr};
+ghost use Rattle.zk_words.specs.Bytes.{space};
 ghost use Rattle.zk_trace.specs.Fronts.{StaysInFront};
 ghost use Rattle.zk_trace.specs.Parts.{each_behind};
 ghost use Rattle.zk_trace.specs.Work.{verb_word, said_of, op_words, admitted, submitted_parts, reply_parts, expiries_of, expiry_word, reply_words};
@@ -183,7 +184,7 @@ impl Spelled for WorkReply {
 
 fn put_expiries(out: &mut Vec<u8>, scenario: &Scenario, expiries: &[Expiry]) -> Result<(), NoMemory>
     ensures text { OnOk result (out.new.items ≡
-        out.old.items ++ each_behind 32 (map (expiry_word scenario.now.decls) expiries.now)) }
+        out.old.items ++ each_behind space (map (expiry_word scenario.now.decls) expiries.now)) }
     ensures kept { OnErr result (StaysInFront out.old.items out.new.items) }
 {
     for expiry in expiries {
@@ -193,7 +194,7 @@ fn put_expiries(out: &mut Vec<u8>, scenario: &Scenario, expiries: &[Expiry]) -> 
 }
 
 fn put_expiry(out: &mut Vec<u8>, scenario: &Scenario, expiry: Expiry) -> Result<(), NoMemory>
-    ensures text { OnOk result (out.new.items ≡ out.old.items ++ 32 ∷ expiry_word scenario.now.decls expiry) }
+    ensures text { OnOk result (out.new.items ≡ out.old.items ++ space ∷ expiry_word scenario.now.decls expiry) }
     ensures kept { OnErr result (StaysInFront out.old.items out.new.items) }
 {
     put_part(out, scenario, b' ', &Part::Item(expiry.item))?;
