@@ -30,7 +30,7 @@ use Rattle.zk_worker.specs.Follows.{Stands}
 use Rattle.zk_worker.specs.Single.{step_of, OthersGrew}
 use Rattle.zk_worker.specs.Families.{entry_at, EachGrew}
 use Rattle.zk_worker.specs.Looks.{Longer, LooksGrew, LookedBelow}
-use Rattle.zk_worker.specs.Shown.{Shown, nothing_shown, shown_at, ShowsLog, IsLater, AreShort, AllGrew, OnlyOthersCame}
+use Rattle.zk_worker.specs.Shown.{Shown, nothing_shown, shown_at, ShowsLog, IsLater, AllGrew, OnlyOthersCame}
 use Rattle.zk_worker.proofs.Lists.{known-longer, known-back, known-there}
 use Rattle.zk_worker.proofs.Families.{of-object, none-there}
 

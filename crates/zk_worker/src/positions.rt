@@ -15,19 +15,20 @@ impl Model for Positions {
     ghost use Rattle.std.specs.Prelude.{ℕ, List, take, length};
     ghost use Rattle.zk_base.specs.Padded.{padded, IsPadded};
     ghost use Rattle.zk_base.specs.Padding.{padded-take, length-padded};
+    ghost use Rattle.zk_line.specs.declared.events.TheConstants.{MOST_EVENTS};
     ghost use Rattle.zk_worker.specs.Positions.{are_few};
 
     ghost Value = { List ℕ };
 
     ghost view = { λ p. take p.count p.numbers };
 
-    ghost invariant = { λ p. IsPadded 8 are_few p.numbers p.count };
+    ghost invariant = { λ p. IsPadded MOST_EVENTS are_few p.numbers p.count };
 
-    ghost inverse = { λ v. record { numbers = padded 8 v; count = length v } };
+    ghost inverse = { λ v. record { numbers = padded MOST_EVENTS v; count = length v } };
 
     ghost inverse_ok = { λ p held. λ i. record {
-      numbers = padded-take 8 are_few p.numbers p.count held i;
-      count = length-padded 8 are_few p.numbers p.count held i;
+      numbers = padded-take MOST_EVENTS are_few p.numbers p.count held i;
+      count = length-padded MOST_EVENTS are_few p.numbers p.count held i;
     } };
 }
 
