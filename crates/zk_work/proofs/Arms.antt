@@ -15,9 +15,6 @@ use Rattle.zk_time.specs.declared.timeout.Timeout.{Timeout}
 use Rattle.zk_time.specs.Timeouts.{is_of, is_due, due_first, due_rest, Differ}
 use Rattle.zk_work.specs.EngineState.{timeout_of, live_of, timeouts_of}
 
-deadline_of : Timeout → ℕ
-deadline_of t = t.deadline
-
 -- one arm more
 live-snoc : (arms : List Arm) (a : Arm) → is_live a.fate ≡ true → live_of (arms ++ a ∷ []) ≡ live_of arms ++ timeout_of a ∷ []
 live-snoc [] a live = ap (λ b. map timeout_of (cond b (a ∷ []) [])) live

@@ -18,7 +18,7 @@ use Rattle.zk_model_work.specs.declared.parts.Closing.TheVariants as closings
 use Rattle.zk_model_work.specs.declared.parts.Wait.{Wait}
 use Rattle.zk_model_work.specs.declared.parts.Item.{Item}
 use Rattle.zk_model_work.specs.Questions.{is_waiting, is_running, is_open, is_ended, waits_as, runs_as, is_open_as, waiting, running, armed, is_flushing, flushes, passes_at, item_of as machine_item}
-use Rattle.zk_model_work.specs.Answers.{flushed, wait_for, is_unanswered, closes, flags, is_awaited_over}
+use Rattle.zk_model_work.specs.Answers.{flushed, wait_for, is_unanswered, closes, flags}
 use Rattle.zk_model_work.specs.Machine.{flags_of, has_come, may_close, answer_where, answer_one, answered_waits}
 use Rattle.zk_model_work.specs.State.{State}
 use Rattle.zk_model_work.proofs.Overlaps.{position-none}
@@ -215,12 +215,6 @@ module _ (k : EngineState) (s : State) (st : StandsFor k s) where
       ap (λ (qs : List Queue). has_come s.admissions qs closings.Drain (Drain queue count)) st.queues
 
   module _ (closing : Closing) (who : Who) (place : ℕ) where
-    mine : Wait → Bool
-    mine w = closes (engine.has_come k.active k.queues closing) who place w
-
-    its : Wait → Bool
-    its w = closes (has_come s.admissions s.queues closing) who place w
-
     closes-same : (w : Wait) → is_there s.admissions w.awaited w.answered ≡ true →
         closes (engine.has_come k.active k.queues closing) who place w ≡ closes (has_come s.admissions s.queues closing)
         who place w

@@ -257,9 +257,6 @@ runs_on-end_other queue other a differ = kept-cond (runs_on other) (runs_on queu
 
 -- how many run
 
-runs_now : Admission → Bool
-runs_now a = is_running a.life
-
 -- one more, where what waited is taken up
 pub running-begin : (xs : List Admission) (m : ℕ) (a : Admission) → slice_get xs m ≡ Some a → is_waiting a.life ≡ true →
     count_by (λ (a : Admission). is_running a.life) (set_life xs m Running)

@@ -123,13 +123,6 @@ queued o xs item lines = by (waiting xs item) refl where
       (ap (λ (l : List Ticket). is_some (number_in item l)) (lines it.admission.queue)
       ∙ in-some item 0 xs it.place it.admission it.there it.passes)
 
--- what a queue runs, by its only ticket
-pub one_run : (o : Option Ticket) (t : Ticket) → option_to_list o ≡ t ∷ [] → o ≡ Some t
-one_run None t is = absurd (cc)
-one_run (Some u) t is = ap Some (same u t is) where
-  same : (u t : Ticket) → u ∷ [] ≡ t ∷ [] → u ≡ t
-  same u t is = cc
-
 -- a queue that runs an admission has its ticket
 pub run_of : (o : Option Ticket) (queue : ℕ) (xs : List Admission) (m : ℕ) (a : Admission) →
     option_to_list o ≡ tickets (runs_on queue) xs → slice_get xs m ≡ Some a → runs_on queue a ≡ true → o ≡ Some (ticket a m)
