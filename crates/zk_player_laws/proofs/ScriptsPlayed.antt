@@ -179,9 +179,6 @@ unused-opens : (decls : List Decl) (owner : ℕ) (step : Step) (reply : StepRepl
 unused-opens decls owner (steps.Obs observer (obs_ops.Visit chan)) reply none = absurd (cc)
 unused-opens decls owner step reply none = refl
 
-chan-opens : (decls : List Decl) (owner : ℕ) (step : Step) (reply : StepReply) → (chan : ℕ) → (op : _) → step ≡ steps.Chan chan op → opened_by decls (Script owner) (step, reply) ≡ None
-chan-opens decls owner step reply chan op same = ap (λ (x : Step). opened_by decls (Script owner) (x, reply)) same
-
 visit-opens : (decls : List Decl) (owner : ℕ) (word : Word) (chan : ℕ) (left : List ℕ) (full : Bool) (reply : StepReply) → is_reply_to (visit_step chan left) reply ≡ true →
     opened_by decls (Script owner) (visit_step chan left, reply) ≡ entered_by (visit_progress word left full reply)
 visit-opens decls owner word chan [] full (step_replies.Chan at reply place) fit = refl
@@ -316,11 +313,13 @@ own-never-fails false why own is = cc
 
 check-played : (s : Content) (at : PlayerPlace) (m : StepMade) (is : IsCheck s at m.0) (why : Option OopsWhy) → oops_in m.1 ≡ why → IsPlayedTo s at m (checked at is.check.word why (spot_of m.0 m.1))
 check-played s at m is None none = record {
+  who = refl;
   passes = λ checks passed. (refl, refl);
   ends = λ failed. absurd (none-fails (is_check m.0) (oops_in m.1) none failed);
   plays = λ isnt. absurd (let checks = ap is_check is.is_step in cc);
 }
 check-played s at m is (Some why) some = record {
+  who = refl;
   passes = λ checks passed. absurd (let never = sym some ∙ passed in cc);
   ends = λ failed. refl;
   plays = λ isnt. absurd (let checks = ap is_check is.is_step in cc);
@@ -329,6 +328,7 @@ check-played s at m is (Some why) some = record {
 own-played : (s : Content) (at : PlayerPlace) (m : StepMade) → IsFit m → HasRoomFor at.frames (frames_progress s at.frames m.0 m.1) → IsOwn s at m.0 →
     IsPlayedTo s at m (moved s at m.0 (frames_progress s at.frames m.0 m.1) (spot_of m.0 m.1))
 own-played s at m fit room is = record {
+  who = refl;
   passes = λ checks passed. absurd (let own = own-no-check s at.frames is.index m.0 is.ahead in cc);
   ends = λ failed. absurd (own-never-fails (is_check m.0) (oops_in m.1) (own-no-check s at.frames is.index m.0 is.ahead) failed);
   plays = λ isnt. by at.frames refl is.ahead room;

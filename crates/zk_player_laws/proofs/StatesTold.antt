@@ -19,7 +19,7 @@ use Rattle.zk_worker.specs.Checks.{oops_in}
 use Rattle.zk_worker.specs.Follows.{StepMade, IsPlayed, is_between, is_done, is_dead, is_spent_at}
 use Rattle.zk_worker.specs.Places.{PlayerPlace}
 use Rattle.zk_worker.specs.Protocol.{after, spot_of}
-use Rattle.zk_player_laws.specs.StateLaws.{IsAtRest, IsStateOf, EachStateTells}
+use Rattle.zk_player_laws.specs.StateLaws.{IsAtRest, IsStateOf, EachStateTells, EachLogIsWhole}
 use Rattle.zk_worker.proofs.CheckedSteps.{after-spots}
 use Rattle.zk_worker.proofs.Limits.{ahead_short}
 use Rattle.zk_worker.proofs.Starts.{start_at-fresh}
@@ -119,3 +119,8 @@ each_state_tells s number shown at is = by (is_spent_at s at) (is_dead at.mode) 
     by false false true unspent lives rest = (left unspent, alive-passes s number is.made at ended lives, rests at.frames rest)
     by false false false unspent lives open_ =
         (left unspent, alive-passes s number is.made at ended lives, λ rest. both_ways (is_done at.frames) open_ (rested at.frames rest))
+
+-- What is logged.
+
+pub each_log_is_whole : EachLogIsWhole
+each_log_is_whole s at = (refl, refl)

@@ -84,9 +84,10 @@ pub record IsPlayedOn (s : Content) (frame : Frame) (below : List Frame) (made :
   pub goes : GoesOn frame now earlier answers
   pub left : AreLeft s (with_script (opened_by s.decls frame.role made) (now ∷ below)) after
 
--- a passed check changes nothing that is open, and answers nothing; behind one that fails nothing is open; and each other step is
--- of the innermost open script or run
+-- a player stays who it is; a passed check changes nothing that is open, and answers nothing; behind one that fails nothing is
+-- open; and each other step is of the innermost open script or run
 pub record IsPlayedTo (s : Content) (at : PlayerPlace) (made : StepMade) (next : PlayerPlace) : Type 0 where
+  pub who : next.who ≡ at.who
   pub passes : is_check made.0 ≡ true → oops_in made.1 ≡ None → (next.frames ≡ at.frames) × (next.answers ≡ at.answers)
   pub ends : fails made ≡ true → next.frames ≡ []
   pub plays : is_check made.0 ≡ false → (frame : Frame) × (below : List Frame) × (at.frames ≡ frame ∷ below)

@@ -25,6 +25,10 @@ IsStateOf s made end Oops = (length made < steps_of s) × (list_any fails made �
 IsStateOf s made end Done = (length made < steps_of s) × (list_any fails made ≡ false) × IsAtRest end.frames
 IsStateOf s made end Standing = (length made < steps_of s) × (list_any fails made ≡ false) × (IsAtRest end.frames → ⊥)
 
+-- the log of a player has the steps that it has made and the answers that it has got, all of them, in their order
+abbrev pub EachLogIsWhole : Type 0
+EachLogIsWhole = (s : Content) (at : PlayerPlace) → ((log_of s at).steps ≡ at.spots) × ((log_of s at).answers ≡ at.answers)
+
 -- of each player that follows a scenario, whatever is shown: its log tells its state
 abbrev pub EachStateTells : Type 0
 EachStateTells = (s : Content) (number : ℕ) (shown : Shown) (at : PlayerPlace) (is : IsFollowing s number shown at) →
