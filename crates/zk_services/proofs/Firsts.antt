@@ -3,6 +3,8 @@ use Rattle.std.proofs.Common.{◌≡◌, ◌≢◌, ℕ, zero, suc, ◌+◌, ◌
 use Rattle.std.specs.List.{range_with_len}
 use Rattle.std.proofs.lemmas.List.{map-append}
 use Rattle.std.proofs.lemmas.List.FromFn.{length-range_with_len, get_or-range_with_len}
+use Rattle.zk_base.specs.Limits.{most_players}
+use Rattle.zk_scenario.specs.declared.limits.TheConstants.{MOST_QUEUES, MOST_ITEMS}
 use Rattle.zk_scenario.specs.Content.{Content}
 use Rattle.zk_scenario.specs.Valid.{IsValid}
 use Rattle.zk_line.specs.declared.types.Decl.{Decl}
@@ -29,13 +31,13 @@ use Rattle.zk_services.specs.Objects.{starts_of, histories_of}
 use Rattle.zk_worker.specs.Shown.{nothing_shown}
 
 -- there are few threads and queues
-pub few-threads : (s : Content) → IsValid s → length (places is_thread s.decls) ≤ 64
+pub few-threads : (s : Content) → IsValid s → length (places is_thread s.decls) ≤ most_players
 few-threads s valid = omega (arith, valid.players, length-places is_thread s.decls)
 
-pub few-queues : (s : Content) → IsValid s → length (places is_queue s.decls) ≤ 8
+pub few-queues : (s : Content) → IsValid s → length (places is_queue s.decls) ≤ MOST_QUEUES
 few-queues s valid = omega (arith, valid.queues, length-places is_queue s.decls)
 
-pub few-items : (s : Content) → IsValid s → length (places is_item s.decls) ≤ 256
+pub few-items : (s : Content) → IsValid s → length (places is_item s.decls) ≤ MOST_ITEMS
 few-items s valid = omega (arith, valid.items, length-places is_item s.decls)
 
 -- one number more of a row
@@ -56,7 +58,7 @@ range_differs a n = λ i j d less within same.
     omega arith
 
 -- there are few workers
-pub few-workers : (s : Content) → IsValid s → length (workers s.decls) ≤ 8
+pub few-workers : (s : Content) → IsValid s → length (workers s.decls) ≤ MOST_QUEUES
 few-workers s valid =
     omega (arith, few-queues s valid, length-range_with_len (length (places is_thread s.decls)) (length (places is_queue s.decls)))
 

@@ -12,13 +12,6 @@ use Rattle.zk_trace.specs.declared.looks.SignalLook.{SignalLook}
 use Rattle.zk_trace.specs.Looked.{signal_look_at, looks_from}
 use Rattle.zk_services.specs.Looks.{by_number, with_look, named_look, with_found}
 
--- so many looks, where each object has the same
-pub by_number-same : (f g : ℕ → List SignalLook) (n : ℕ) → ((at : ℕ) → f at ≡ g at) → by_number f n ≡ by_number g n
-by_number-same f g n same =
-    ext_get_or [] (by_number f n) (by_number g n) (length-map-range_with_len f 0 n ∙ sym (length-map-range_with_len g 0 n))
-    (λ i below. let within : i < n = omega (arith, length-map-range_with_len f 0 n) in
-    get_or-map-range_with_len f 0 n i i [] within (omega arith) ∙ same i ∙ sym (get_or-map-range_with_len g 0 n i i [] within (omega arith)))
-
 -- a look more at the object of a number below n
 pub by_number-set : (f : ℕ → List SignalLook) (n object : ℕ) (look : SignalLook) → object < n →
     set (by_number f n) object (f object ++ look ∷ []) ≡ by_number (with_look f object look) n

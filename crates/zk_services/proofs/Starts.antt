@@ -10,12 +10,6 @@ use Rattle.zk_worker.proofs.Starts.{start_at-some, start_at-fresh, IsFresh}
 use Rattle.zk_worker.proofs.Lists.{at-end}
 use Rattle.zk_services.specs.Starts.{starts}
 
--- one player more
-pub starts_more : (s : Content) (n : ℕ) (at : PlayerPlace) → start_at s n ≡ Some at → starts s n ++ at ∷ [] ≡ starts s (n + 1)
-starts_more s n at is =
-    let next : suc n ≡ n + 1 = omega arith in
-    ap (λ (o : Option PlayerPlace). starts s n ++ option_to_list o) (sym is) ∙ ap (starts s) next
-
 -- what holds of each player that starts holds of all
 pub starts-all : (P : PlayerPlace → Type 0) (s : Content) → ((n : ℕ) (at : PlayerPlace) → start_at s n ≡ Some at → P at) → (n : ℕ) → All P (starts s n)
 starts-all P s each zero = All-nil P

@@ -1,5 +1,6 @@
 use Rattle.std.specs.Prelude.{ℕ, ◌≤◌, ◌==◌, if◌then◌else◌, Option, Some, None, List, [], ◌∷◌, ◌++◌, length, map, All}
 use Rattle.std.specs.List.{range_with_len}
+use Rattle.zk_base.specs.Limits.{most_players}
 use Rattle.zk_worker.specs.declared.log.Log.{Log}
 use Rattle.zk_worker.specs.declared.steps.Spot.{Spot}
 use Rattle.zk_worker.specs.declared.steps.Spot.TheVariants as spots
@@ -8,7 +9,7 @@ use Rattle.zk_trace.specs.declared.looks.SignalLook.{SignalLook}
 
 -- there are no more logs than players, and no log has more steps than a player may make
 pub record AreShort (logs : List Log) : Type 0 where
-  pub few : length logs ≤ 64
+  pub few : length logs ≤ most_players
   pub short : All (λ log. length log.steps ≤ MOST_STEPS) logs
 
 -- the looks at each of so many objects, by object number

@@ -1,4 +1,5 @@
-ghost use Rattle.std.specs.Prelude.{◌≡◌, ℕ, ◌-◌, ◌^◌, ◌<◌, true, Some, List, length, slice_get, option_map, IfOk, OnErr};
+ghost use Rattle.std.specs.Prelude.{◌≡◌, ℕ, ◌<◌, true, Some, List, length, slice_get, option_map, IfOk, OnErr};
+ghost use Rattle.zk_base.specs.Limits.{most_entries};
 ghost use Rattle.zk_base.specs.declared.ids.Entry.{Entry};
 ghost use Rattle.zk_base.specs.History.{extended, IsAbove};
 ghost use Rattle.zk_worker.specs.declared.steps.StepReply.{StepReply};
@@ -17,7 +18,7 @@ fn act_one<S: Service>(
 ) -> Result<Option<(S::Reply, u64)>, NoMemory>
     requires taken { is_taken S.machine S.start slot.old op ≡ true }
     requires later { IsAbove (history_of S.history slot.old) who.number step }
-    requires short { length (history_of S.history slot.old) < 2 ^ 32 - 1 }
+    requires short { length (history_of S.history slot.old) < most_entries }
     ensures made { IfOk result (λ made.
         made ≡ made_of S.machine S.start S.history slot.old who op) }
     ensures entry { IfOk result (λ made. history_of S.history slot.new
@@ -48,7 +49,7 @@ pub fn act_at<S: Service>(
     requires later { (h : List (Entry S.Op S.Reply)) →
         slice_get (histories_of S.history objects.old.items) object ≡ Some h → IsAbove h who.number step }
     requires short { (h : List (Entry S.Op S.Reply)) →
-        slice_get (histories_of S.history objects.old.items) object ≡ Some h → length h < 2 ^ 32 - 1 }
+        slice_get (histories_of S.history objects.old.items) object ≡ Some h → length h < most_entries }
 
     // The machine's answer, whatever step's reply it is told as, and one entry just where there is one.
     ensures made { IfOk result (λ made. (step_reply : ℕ → S.Reply → ℕ → StepReply) →

@@ -1,3 +1,4 @@
+use Rattle.zk_base.specs.Limits.{most_entries}
 use Rattle.zk_base.proofs.Lists.{All-at}
 use Rattle.std.proofs.Common.{◌≡◌, ℕ, refl, ◌<◌, ◌-◌, ◌^◌, List, length, rules}
 use Rattle.std.specs.Option.{option_map}
@@ -41,7 +42,7 @@ act_at-requires-clause-later c = λ h there.
 
 pub act_at-requires-clause-short : goal.act_at-requires-clause-short
 act_at-requires-clause-short c = λ h there.
-    let P : List (Entry SemOp SemReply) → Type 0 = λ h. length h < 2 ^ 32 - 1 in
+    let P : List (Entry SemOp SemReply) → Type 0 = λ h. length h < most_entries in
     All-at P (plain_shown c.args.self.now).sems c.in-Sem.object h (c.requires.short refl).sems there
 
 pub act_at-requires-in-Msgq-clause-later : goal.act_at-requires-in-Msgq-clause-later
@@ -50,7 +51,7 @@ act_at-requires-in-Msgq-clause-later c = λ h there.
 
 pub act_at-requires-in-Msgq-clause-short : goal.act_at-requires-in-Msgq-clause-short
 act_at-requires-in-Msgq-clause-short c = λ h there.
-    let P : List (Entry MsgqOp MsgqReply) → Type 0 = λ h. length h < 2 ^ 32 - 1 in
+    let P : List (Entry MsgqOp MsgqReply) → Type 0 = λ h. length h < most_entries in
     All-at P (plain_shown c.args.self.now).msgqs c.in-Msgq.object h (c.requires.short refl).msgqs there
 
 pub act_at-requires-in-Signal-clause-later : goal.act_at-requires-in-Signal-clause-later
@@ -59,7 +60,7 @@ act_at-requires-in-Signal-clause-later c = λ h there.
 
 pub act_at-requires-in-Signal-clause-short : goal.act_at-requires-in-Signal-clause-short
 act_at-requires-in-Signal-clause-short c = λ h there.
-    let P : List (Entry SignalOp SignalReply) → Type 0 = λ h. length h < 2 ^ 32 - 1 in
+    let P : List (Entry SignalOp SignalReply) → Type 0 = λ h. length h < most_entries in
     All-at P (plain_shown c.args.self.now).signals c.in-Signal.object h (c.requires.short refl).signals there
 
 pub act_at-requires-in-Chan-clause-later : goal.act_at-requires-in-Chan-clause-later
@@ -68,7 +69,7 @@ act_at-requires-in-Chan-clause-later c = λ h there.
 
 pub act_at-requires-in-Chan-clause-short : goal.act_at-requires-in-Chan-clause-short
 act_at-requires-in-Chan-clause-short c = λ h there.
-    let P : List (Entry ChanOp ChanReply) → Type 0 = λ h. length h < 2 ^ 32 - 1 in
+    let P : List (Entry ChanOp ChanReply) → Type 0 = λ h. length h < most_entries in
     All-at P (plain_shown c.args.self.now).chans c.in-Chan.object h (c.requires.short refl).chans there
 
 pub act_at-requires-in-Obs-clause-later : goal.act_at-requires-in-Obs-clause-later
@@ -77,7 +78,7 @@ act_at-requires-in-Obs-clause-later c = λ h there.
 
 pub act_at-requires-in-Obs-clause-short : goal.act_at-requires-in-Obs-clause-short
 act_at-requires-in-Obs-clause-short c = λ h there.
-    let P : List (Entry ObsOp ObsReply) → Type 0 = λ h. length h < 2 ^ 32 - 1 in
+    let P : List (Entry ObsOp ObsReply) → Type 0 = λ h. length h < most_entries in
     All-at P (plain_shown c.args.self.now).observers c.in-Obs.object h (c.requires.short refl).observers there
 
 pub returns-in-LookItem-clause-attempted : goal.returns-in-LookItem-clause-attempted
