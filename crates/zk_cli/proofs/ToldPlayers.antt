@@ -1,5 +1,5 @@
 -- The logs of a lawful trace tell the answers and the states of their players.
-use Rattle.std.proofs.Common.{◌≡◌, List, ap, subst}
+use Rattle.std.proofs.Common.{◌≡◌, List, sym, ap, subst}
 use Rattle.std.specs.List.{AllZip}
 use Rattle.zk_scenario.specs.Content.{Content}
 use Rattle.zk_worker.specs.declared.log.Log.{Log}
@@ -27,6 +27,8 @@ players-told s t lawful number log is =
       end = follows.end;
       led = follows.led.played;
       logged = follows.logged;
+      steps = sym steps;
+      answers = sym (ap (λ (l : Log). l.answers) follows.logged);
       unanswered = once.0;
       answered = once.1;
       state = subst (IsStateOf s follows.led.made follows.end) (ap (λ (l : Log). l.state) follows.logged) (each_state_tells s number (trace_shown t) follows.end follows.led);

@@ -12,7 +12,8 @@ use Rattle.zk_trace.specs.declared.trace.Trace.{Trace}
 use Rattle.zk_trace.specs.Shown.{trace_shown}
 
 -- the steps that a log's spots stand for lead the player from its start, where it has no answers, to the place that is logged; each
--- adds one answer at most, which is its own and its call's; and the log tells the player's state there
+-- adds one answer at most, which is its own and its call's; and the log has all steps and answers of that place, and tells the
+-- player's state there
 pub record TellsItsPlayer (s : Content) (number : ℕ) (shown : Shown) (log : Log) : Type 0 where
   pub start : PlayerPlace
   pub starts : start_at s number ≡ Some start
@@ -21,6 +22,8 @@ pub record TellsItsPlayer (s : Content) (number : ℕ) (shown : Shown) (log : Lo
   pub end : PlayerPlace
   pub led : IsPlayed s start made end
   pub logged : log_of s end ≡ log
+  pub steps : log.steps ≡ end.spots
+  pub answers : log.answers ≡ end.answers
   pub unanswered : start.answers ≡ []
   pub answered : AreAnsweredOnce s [] start made
   pub state : IsStateOf s made end log.state

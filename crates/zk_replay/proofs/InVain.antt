@@ -1,7 +1,7 @@
 -- A player that had no possible attempt has none, as long as no service that it asked has an entry more.
-use Rattle.std.proofs.Common.{◌≡◌, ◌≢◌, ◌⊎◌, inl, inr, ℕ, zero, suc, ◌+◌, ◌≤◌, Bool, ◌&&◌, eqb, true, false, Option, Some, None, Result, Ok, Err, IfOk, is_some, List, [], ◌∷◌, ◌++◌, length, map, set, take, All, refl, sym, ap, subst, ◌∙◌, arith, length-append}
+use Rattle.std.proofs.Common.{◌≡◌, ◌≢◌, ◌⊎◌, inl, inr, ℕ, zero, suc, ◌+◌, ◌≤◌, Bool, ◌&&◌, eqb, true, false, Option, Some, None, Result, Ok, Err, IfOk, is_some, List, [], ◌∷◌, ◌++◌, length, map, set, take, drop, All, refl, sym, ap, subst, ◌∙◌, arith, length-append}
 use Rattle.std.proofs.lemmas.Bool.{and_parts, eqb-true}
-use Rattle.std.proofs.lemmas.List.{append-nil}
+use Rattle.std.proofs.lemmas.List.{append-nil, take-append-le}
 use Rattle.std.specs.List.{slice_get, AllZip}
 use Rattle.std.specs.Option.{option_map, option_and_then}
 use Rattle.zk_base.proofs.Lists.{All-at}
@@ -48,7 +48,7 @@ use Rattle.zk_replay.specs.declared.last_turn.Asked.{Asked}
 use Rattle.zk_replay.specs.declared.last_turn.LastTurn.{LastTurn}
 use Rattle.zk_replay.specs.RoundRobin.{World}
 use Rattle.zk_replay.specs.Turning.{world, shown_with, at_after, IsTurn}
-use Rattle.zk_replay.specs.LastTurns.{asked_at, are_unchanged, IsEarlier, WaitsSince, IsKept, AreKept}
+use Rattle.zk_replay.specs.LastTurns.{asked_at, are_unchanged, counted_again, HaveAsked, IsEarlier, WaitsSince, IsKept, AreKept}
 
 module _ {A : Type 0} where
   -- what has only grown and is as long as it was is the same
@@ -208,6 +208,20 @@ kept-turn m s at at' old new false kept turn moves asks = λ waits.
       asks = asks refl;
     }
 
+-- the services that are asked are the same where a player stays
+pub asked-still : (m : Machines) (s : Content) (shown : Shown) (at at' : PlayerPlace) (old new : Shown) (moved : Bool) (kept : LastTurn) → IsKept m s shown at kept → IsTurn m s at at' old new moved →
+    moved ≡ false → kept.waits ≡ true → HaveAsked kept.asked.items (attempts s at')
+asked-still m s shown at at' old new moved kept was turn still waits =
+    let since = was waits in
+    let none = none_or (chosen m s old at) (sym still ∙ turn.moves) in
+    let here : at' ≡ at = turn.place ∙ ap (at_after s at) none in
+    (since.earlier, since.asks ∙ ap (λ (x : PlayerPlace). map (asked_at since.earlier) (attempts s x)) (sym here))
+
+-- counted anew they are as if asked now
+pub counted-asked : (earlier shown : Shown) (ahead : List Step) → map (counted_again shown) (map (asked_at earlier) ahead) ≡ map (asked_at shown) ahead
+counted-asked earlier shown [] = refl
+counted-asked earlier shown (x ∷ xs) = ap (λ (l : List Asked). asked_at shown x ∷ l) (counted-asked earlier shown xs)
+
 kept-later : (m : Machines) (s : Content) (old new : Shown) (at : PlayerPlace) (kept : LastTurn) → IsEarlier old new → IsKept m s old at kept → IsKept m s new at kept
 kept-later m s old new at kept grew was = λ waits.
     let since = was waits in
@@ -276,3 +290,12 @@ module _ {A B : Type 0} (f : A → B) where
 
   pub asked-more : (xs : List A) (n : ℕ) (x : A) → slice_get xs n ≡ Some x → map f (take (n + 1) xs) ≡ map f (take n xs) ++ f x ∷ []
   asked-more xs n x is = let next : n + 1 ≡ suc n = omega arith in ap (λ (k : ℕ). map f (take k xs)) next ∙ more xs n x is
+
+-- so many of what was written back are what was written
+pub written-back : {A : Type 0} (new old : List A) (n : ℕ) → length new ≡ n → take n (new ++ drop (length new) old) ≡ new
+written-back new old n long = take-append-le n new (drop (length new) old) (omega arith) ∙ all new n (omega arith) where
+  all : {A : Type 0} (xs : List A) (n : ℕ) → length xs ≤ n → take n xs ≡ xs
+  all [] zero few = refl
+  all [] (suc n) few = refl
+  all (x ∷ xs) zero few = absurd (omega arith)
+  all {A} (x ∷ xs) (suc n) few = ap (λ (l : List A). x ∷ l) (all xs n (omega arith))

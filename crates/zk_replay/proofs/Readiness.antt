@@ -5,6 +5,7 @@ use Rattle.std.proofs.lemmas.Bool.Decides.{nat_tests}
 use Rattle.std.proofs.lemmas.List.{length-set, length-map}
 use Rattle.std.proofs.lemmas.List.Sums.{sum_by-le}
 use Rattle.std.proofs.lemmas.List.Elements.{All-set, All-map, All-weaker}
+use Rattle.zk_base.specs.Limits.{most_entries}
 use Rattle.zk_base.proofs.Lists.{All-at}
 use Rattle.zk_base.specs.declared.ids.Who.{Who}
 use Rattle.zk_scenario.specs.Content.{Content}
@@ -51,11 +52,11 @@ short-shown s w ready =
       work = omega (arith, ready.few, ready.counted, most);
       clock = omega (arith, ready.few, ready.counted, most);
       table = omega (arith, ready.few, ready.counted, most);
-      sems = each-short w.shown.sems (2 ^ 32 - 1) (omega (arith, ready.few, ready.counted, most));
-      msgqs = each-short w.shown.msgqs (2 ^ 32 - 1) (omega (arith, ready.few, ready.counted, most));
-      signals = each-short w.shown.signals (2 ^ 32 - 1) (omega (arith, ready.few, ready.counted, most));
-      chans = each-short w.shown.chans (2 ^ 32 - 1) (omega (arith, ready.few, ready.counted, most));
-      observers = each-short w.shown.observers (2 ^ 32 - 1) (omega (arith, ready.few, ready.counted, most));
+      sems = each-short w.shown.sems most_entries (omega (arith, ready.few, ready.counted, most));
+      msgqs = each-short w.shown.msgqs most_entries (omega (arith, ready.few, ready.counted, most));
+      signals = each-short w.shown.signals most_entries (omega (arith, ready.few, ready.counted, most));
+      chans = each-short w.shown.chans most_entries (omega (arith, ready.few, ready.counted, most));
+      observers = each-short w.shown.observers most_entries (omega (arith, ready.few, ready.counted, most));
     }
 
 unspent-short : (s : Content) (at : PlayerPlace) → is_spent_at s at ≡ false → length at.spots < steps_of s

@@ -75,10 +75,6 @@ module _ (m : Machines) (s : Content) where
       let here : turn m s w p ≡ w = ap (λ b. cond b w (turn_of m s w p (slice_get w.players p))) spent in
       ap (λ (v : World). turns m s v n (p + 1)) here ∙ turns-spent w n (p + 1) spent
 
-  -- a round before its first turn
-  pub within-first : (w : World) → IsReady s w → is_spent s w ≡ false → WithinRound m s w w false (length w.players) 0
-  within-first w ready unspent = record { rest = refl; ready = ready; unspent = unspent; less = λ moves. absurd (cc); still = λ rests. refl }
-
   rest-next : (old now new : World) (n p : ℕ) → new ≡ turn m s now p → turns m s now (suc n) p ≡ round m s old → turns m s new n (p + 1) ≡ round m s old
   rest-next old now new n p next rest = ap (λ (w : World). turns m s w n (p + 1)) next ∙ rest
 
@@ -113,15 +109,6 @@ module _ (m : Machines) (s : Content) where
         ready = turned.ready;
         goes = over;
       }
-
-  -- a round behind its last turn
-  pub within-last : (old now : World) (moved : Bool) (p : ℕ) → WithinRound m s old now moved 0 p → Rounded m s old now (cond moved Goes Still)
-  within-last old now true p within = record { next = within.rest; ready = within.ready; goes = (within.unspent, within.less refl) }
-  within-last old now false p within = record { next = within.rest; ready = within.ready; goes = (within.unspent, within.still refl) }
-
-  -- a round without a step is the last one
-  pub over-still : (old new : World) → Rounded m s old new Still → round m s new ≡ new
-  over-still old new rounded = ap (round m s) rounded.goes.1 ∙ sym rounded.next
 
   -- a spent run has no further round
   pub over-spent : (old new : World) → Rounded m s old new Spent → round m s new ≡ new

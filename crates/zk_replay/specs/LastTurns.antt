@@ -21,6 +21,14 @@ asked_at shown step = record { service = service_of step; entries = entries_at s
 abbrev pub are_unchanged : Shown → List Asked → Bool
 are_unchanged shown asked = list_all (λ a. entries_at shown a.service == a.entries) asked
 
+-- a service with how many entries are shown of it
+abbrev pub counted_again : Shown → Asked → Asked
+counted_again shown asked = record { service = asked.service; entries = entries_at shown asked.service }
+
+-- these are the services of these attempts, with how many entries they had at some moment
+abbrev pub HaveAsked : List Asked → List Step → Type 0
+HaveAsked asked ahead = (earlier : Shown) × (asked ≡ map (asked_at earlier) ahead)
+
 -- what was shown earlier: each history has only grown since
 pub record IsEarlier (old new : Shown) : Type 0 where
   pub work : Longer old.work new.work

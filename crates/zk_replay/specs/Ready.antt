@@ -1,5 +1,6 @@
 use Rattle.std.specs.Prelude.{◌≡◌, ℕ, ◌-◌, ◌≤◌, Some, None, List, length, slice_get, All}
 use Rattle.std.specs.List.{sum_by}
+use Rattle.zk_base.specs.Limits.{most_players}
 use Rattle.zk_scenario.specs.Content.{Content}
 use Rattle.zk_scenario.specs.Steps.{steps_of}
 use Rattle.zk_scenario.specs.Valid.{IsValid}
@@ -22,7 +23,7 @@ all_left s players = sum_by (left s) players
 -- what holds of every world that a run comes to
 pub record IsReady (s : Content) (w : World) : Type 0 where
   pub valid : IsValid s
-  pub few : length w.players ≤ 64
+  pub few : length w.players ≤ most_players
   pub numbers : (p : ℕ) (at : PlayerPlace) → slice_get w.players p ≡ Some at → at.who.number ≡ p
   pub shows : (p : ℕ) (at : PlayerPlace) → slice_get w.players p ≡ Some at →
       ShowsLog w.shown at.who.number at.spots

@@ -1,6 +1,6 @@
 ghost use Rattle.std.specs.Prelude.{◌≡◌, ◌&&◌, true, false, map, vec_len, IfOk, All};
 ghost use Rattle.zk_worker.specs.Protocol.{attempts};
-ghost use Rattle.zk_replay.specs.LastTurns.{asked_at, are_unchanged};
+ghost use Rattle.zk_replay.specs.LastTurns.{asked_at, are_unchanged, counted_again, HaveAsked};
 
 use std::alloc::Global;
 use zk_base::NoMemory;
@@ -80,7 +80,25 @@ fn ask<V: Counted>(
     Ok(())
 }
 
-/// Keeps of a player's turn whether it was in vain, and whom it asked then.
+/// A service that was asked, with how many entries it has now.
+fn counted_again<V: Counted>(services: &V, asked: Asked) -> Asked
+    ensures { result ≡ counted_again (V.shown services.now) asked }
+{
+    let entries = services.entries(asked.service);
+    Asked { entries, ..asked }
+}
+
+/// Counts anew how many entries each of these services has.
+fn count_again<V: Counted>(services: &V, asked: &mut [Asked])
+    ensures { asked.new ≡ map (counted_again (V.shown services.now)) asked.old }
+{
+    for asked in asked.iter_mut() {
+        *asked = counted_again(services, *asked);
+    }
+}
+
+/// Keeps of a player's turn whether it was in vain, and whom it asked then. Where the one before was in vain too, it asked the
+/// same services.
 pub fn keep<V: Counted>(
     services: &V,
     scenario: &Scenario,
@@ -88,13 +106,19 @@ pub fn keep<V: Counted>(
     moved: bool,
     kept: &mut LastTurn,
 ) -> Result<(), NoMemory>
+    requires again { moved ≡ false → kept.old.waits ≡ true → HaveAsked kept.old.asked.items (attempts scenario.now player.now) }
     ensures moved { IfOk result (λ _. moved ≡ true → kept.new.waits ≡ false) }
     ensures asked { IfOk result (λ _. moved ≡ false → kept.new.asked.items
         ≡ map (asked_at (V.shown services.now)) (attempts scenario.now player.now)) }
 {
-    kept.waits = !moved;
     if moved {
+        kept.waits = false;
         return Ok(());
     }
+    if kept.waits {
+        count_again(services, &mut kept.asked);
+        return Ok(());
+    }
+    kept.waits = true;
     ask(services, scenario, player, &mut kept.asked)
 }
