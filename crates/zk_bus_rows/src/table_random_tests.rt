@@ -7,12 +7,12 @@ use crate::draws::draw;
 use std::alloc::Global;
 use std::process::Abort;
 use std::test::Fail;
-use zk_base::{NoMemory, Service, Who};
+use zk_base::{MOST_PLAYERS, NoMemory, Service, Who};
 use zk_model_bus::{Kind, Need, TableOp, TableSetup, TableStore, table_next};
 use zk_objects::Objects;
 
-/// The threads of the two players, and two players that are no thread.
-const PLAYERS: u32 = 4;
+/// The players of the two threads, and two players that are no thread: the last that a scenario can have, and one above it.
+const PLAYERS: [u32; 4] = [0, 1, MOST_PLAYERS - 1, MOST_PLAYERS];
 
 /// The object table beside its plain machine.
 #[derive(Drop)]
@@ -92,7 +92,7 @@ impl Beside {
     }
 
     fn step<R: Abort>(&mut self, rt: &R, seed: &mut u32) -> Result<(), NoMemory> {
-        let number = draw(seed, PLAYERS);
+        let number = PLAYERS[draw(seed, 4) as usize];
         let object = draw(seed, 5);
         let op = drawn(seed, object);
         self.attempt(rt, Who { number, prio: 0 }, op)

@@ -7,7 +7,7 @@ ghost use Rattle.zk_bus_rows.specs.Tables.{one_user, IsTried};
 use std::alloc::Global;
 use std::process::Abort;
 use std::test::Fail;
-use zk_base::{NoMemory, Service, Who};
+use zk_base::{MOST_PLAYERS, NoMemory, Service, Who};
 use zk_model_bus::TableOp::{Check, EnterUser, Grant, Init, Public, Release, Revoke};
 use zk_model_bus::{Kind, Need, TableOp, TableSetup};
 use zk_objects::Objects;
@@ -71,12 +71,12 @@ const REVOKED: [Row; 9] = [
 /// A player above those of a scenario is kept too: it enters, is checked, and ends.
 const FAR: [Row; 6] = [
     Row {
-        player: 70,
+        player: MOST_PLAYERS,
         op: EnterUser,
         wanted: "Some(Done)",
     },
     Row {
-        player: 70,
+        player: MOST_PLAYERS,
         op: EnterUser,
         wanted: "None",
     },
@@ -86,17 +86,17 @@ const FAR: [Row; 6] = [
         wanted: "Some(Done)",
     },
     Row {
-        player: 70,
+        player: MOST_PLAYERS,
         op: Check(Some(2), Need::Any),
         wanted: "Some(Done)",
     },
     Row {
-        player: 70,
+        player: MOST_PLAYERS,
         op: Check(Some(2), Need::Sem),
         wanted: "Some(Oops(NotInit))",
     },
     Row {
-        player: 70,
+        player: MOST_PLAYERS,
         op: Check(None, Need::Sem),
         wanted: "None",
     },
