@@ -14,7 +14,7 @@ use Rattle.zk_worker.specs.Follows.{is_spent_at}
 use Rattle.zk_worker.proofs.Lists.{set-there, none-passes, any-set}
 use Rattle.zk_replay.specs.declared.turns.Turn.{Turn}
 use Rattle.zk_replay.specs.declared.turns.RoundEnd.{RoundEnd}
-use Rattle.zk_replay.specs.declared.turns.RoundEnd.TheVariants.{Still, Goes, Spent}
+use Rattle.zk_replay.specs.declared.turns.RoundEnd.TheVariants.{Spent}
 use Rattle.zk_worker.specs.Choosing.{chosen}
 use Rattle.zk_replay.specs.RoundRobin.{World, stepped, turn, turn_of, turns, round, rounds, is_spent}
 use Rattle.zk_replay.specs.Ready.{IsReady, all_left}

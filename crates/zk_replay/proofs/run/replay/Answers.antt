@@ -1,4 +1,4 @@
-use Rattle.std.proofs.Common.{List, length, ◌≡◌, false, refl, ap, sym, subst, ◌∙◌}
+use Rattle.std.proofs.Common.{◌≡◌, false, refl, ap, sym, subst, ◌∙◌}
 use Rattle.zk_services.specs.Alone.{plain_shown}
 use Rattle.zk_replay.specs.Ending.{ending_by}
 use Rattle.zk_replay.specs.RoundRobin.{World, is_spent}

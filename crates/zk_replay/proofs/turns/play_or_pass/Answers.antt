@@ -1,4 +1,4 @@
-use Rattle.std.proofs.Common.{◌≡◌, true, sym, ◌∙◌}
+use Rattle.std.proofs.Common.{true, sym, ◌∙◌}
 use Rattle.zk_replay.proofs.InVain.{passed, asked-still, kept-turn}
 use Rattle.zk_replay.proofs.turns.play_or_pass.Goals as goal
 

@@ -6,7 +6,6 @@ use Rattle.zk_worker.specs.Places.{PlayerPlace}
 use Rattle.zk_worker.specs.Machines.{Machines, machines_of}
 use Rattle.zk_worker.specs.Right.{LooksRight}
 use Rattle.zk_worker.specs.Ranges.{IsFit}
-use Rattle.zk_replay.specs.declared.last_turn.LastTurn.{LastTurn}
 use Rattle.zk_replay.specs.Turning.{world}
 use Rattle.zk_replay.specs.LastTurns.{IsKept}
 use Rattle.zk_replay.proofs.InVain.{kept-if}
