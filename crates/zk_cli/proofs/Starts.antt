@@ -13,6 +13,7 @@ use Rattle.zk_words.specs.Numbers.{is_between}
 use Rattle.zk_line.specs.declared.types.Decl.{Decl}
 use Rattle.zk_line.specs.declared.types.Decl.TheVariants.{Thread, Queue, Item, Sem, Msgq, Signal, Listener, Sub, Chan}
 use Rattle.zk_line.specs.Fits.{decl_fits}
+use Rattle.zk_words.specs.declared.limits.TheConstants.{MOST_COUNT}
 use Rattle.zk_worker.specs.Machines.{sem_start, msgq_start, signal_start, chan_start, observer_start}
 
 -- a semaphore that starts at a count within its limit
@@ -48,7 +49,7 @@ sem-starts (Queue name prio on ∷ ds) zero start fit is = absurd (cc)
 sem-starts (Item name ∷ ds) zero start fit is = absurd (cc)
 sem-starts (Sem name initial limit raw ∷ ds) zero start fit is =
     let here = and_parts (decl_fits (Sem name initial limit raw)) (list_all decl_fits ds) fit in
-    let counts = and_parts (is_between 1 1000000 limit) (nat_le initial limit) here.0 in
+    let counts = and_parts (is_between 1 MOST_COUNT limit) (nat_le initial limit) here.0 in
     record { initial = initial; limit = limit; within = leb-true initial limit counts.1; is_new = cc }
 sem-starts (Msgq name size most raw ∷ ds) zero start fit is = absurd (cc)
 sem-starts (Signal name raw ∷ ds) zero start fit is = absurd (cc)

@@ -24,7 +24,6 @@ use Rattle.zk_worker.specs.declared.steps.Step.{Step}
 use Rattle.zk_worker.specs.declared.steps.Step.TheVariants as steps
 use Rattle.zk_worker.specs.declared.steps.StepReply.{StepReply}
 use Rattle.zk_worker.specs.declared.steps.StepReply.TheVariants as step_replies
-use Rattle.zk_worker.specs.declared.frames.Plan.{Plan}
 use Rattle.zk_worker.specs.declared.frames.Plan.TheVariants as plans
 use Rattle.zk_worker.specs.declared.frames.Using.{Using}
 use Rattle.zk_worker.specs.declared.frames.Using.TheVariants.{Publish, Notify, Read}
@@ -63,10 +62,6 @@ uses-nothing_freed Notify = λ same. cc
 uses-nothing_freed Read = λ same. cc
 
 module _ (s : Content) (chans : ChanHistories) (who : Who) (n : ℕ) (below : List ℕ) (chan : ℕ) (using_ : Using) (timeout : Timeout) (word : Word) where
-  -- the plan of the call
-  abbrev plan : Plan
-  plan = plans.Channel chan using_ timeout
-
   -- what is kept before a step at a stage
   abbrev Before : Stage → Type 0
   Before stage = IsKept s chans who.number below (plan_got (plans.Channel chan using_ timeout) stage) (plan_waits (plans.Channel chan using_ timeout) stage)

@@ -55,9 +55,6 @@ use Rattle.zk_player_laws.proofs.OtherCalls.{is_channel, EntersNone, plan-plain,
 
 -- A script that is over holds nothing, and none below the innermost waits.
 
-le-of : (a b : ℕ) → nat_lt b a ≡ false → a ≤ b
-le-of a b is = grind (arith, nat_tests)
-
 over-none : {A : Type 0} (known : Plan → Stage → Option A) (s : Content) (role : Role) (next : ℕ) (stage : Stage) → is_over s role next ≡ true → of_call known s role next stage ≡ None
 over-none known s (Script owner) next stage over =
     ap (option_and_then (λ (call : Call). known (plan_of s.decls call) stage))

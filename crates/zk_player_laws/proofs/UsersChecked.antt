@@ -92,9 +92,6 @@ pub record Holds (s : Content) (number : ℕ) (made : List StepMade) (at : Playe
 
 -- Lists.
 
-zip-nil : {A B : Type 0} (P : A → B → Type 0) (ys : List B) → AllZip P [] (take 0 ys)
-zip-nil P ys = tt
-
 zip-next : {A B : Type 0} (P : A → B → Type 0) (xs : List A) (x : A) (ys : List B) (y : B) (n : ℕ) → length xs ≡ n → AllZip P xs (take n ys) → slice_get ys n ≡ Some y → P x y →
     AllZip P (xs ++ x ∷ []) (take (n + 1) ys)
 zip-next P [] x [] y n long all there holds = absurd (cc)
