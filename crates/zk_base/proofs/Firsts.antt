@@ -1,5 +1,5 @@
 -- A list without its first element that passes, and how many pass.
-use Rattle.std.proofs.Common.{◌≡◌, ℕ, suc, ◌+◌, ◌<◌, ◌≤◌, All, Bool, true, false, not, cond, ltb, ◌||◌, Some, None, List, [], ◌∷◌, length, slice_get, is_some, refl, ap, sym, subst, ◌∙◌, arith}
+use Rattle.std.proofs.Common.{◌≡◌, ℕ, suc, ◌+◌, ◌<◌, ◌≤◌, All, Bool, true, false, not, cond, ltb, ◌||◌, Option, Some, None, option_map, List, [], ◌∷◌, length, slice_get, is_some, refl, ap, sym, subst, ◌∙◌, arith}
 use Rattle.std.specs.List.{Contains, find, position, position_or_len, remove, insert, list_any, count_by}
 use Rattle.std.proofs.lemmas.Bool.Decides.{nat_tests}
 use Rattle.std.proofs.lemmas.Grind.{common_steps}
@@ -81,6 +81,14 @@ module _ {A : Type 0} (p : A → Bool) where
   pub any-find : (xs : List A) → list_any p xs ≡ is_some (find p xs)
   any-find [] = refl
   any-find (x ∷ xs) = any-find-at x xs (p x) (any-find xs)
+
+  is_some-map : {B : Type 0} (f : A → B) (o : Option A) → is_some o ≡ is_some (option_map f o)
+  is_some-map f None = refl
+  is_some-map f (Some x) = refl
+
+  -- there is something of the first that passes just where one passes
+  pub any-find_of : {B : Type 0} (f : A → B) (xs : List A) → list_any p xs ≡ is_some (option_map f (find p xs))
+  any-find_of f xs = any-find xs ∙ is_some-map f (find p xs)
 
   insert-before-at : (x y : A) (ys : List A) (b : Bool) (n : ℕ) (rest : List A) → insert ys n x ≡ rest →
       insert (y ∷ ys) (cond (not b) (1 + n) 0) x ≡ cond b (x ∷ y ∷ ys) (y ∷ rest)

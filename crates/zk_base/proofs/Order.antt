@@ -293,13 +293,6 @@ filter-upto_none {A} key bound x xs up above =
     (All-weaker (λ y. bound < key y) (λ y. leb (key y) bound ≡ false) (λ y h. lt-leb (key y) bound h) (x ∷ xs)
     (above_all key bound x xs up above))
 
-pub filter-past_all : {A : Type 0} (key : A → ℕ) (bound : ℕ) (x : A) (xs : List A) → Ascends key (x ∷ xs) →
-    bound < key x → filter (λ a. not (leb (key a) bound)) (x ∷ xs) ≡ x ∷ xs
-filter-past_all {A} key bound x xs up above =
-    filter_all (λ (a : A). not (leb (key a) bound)) (x ∷ xs)
-    (All-weaker (λ y. bound < key y) (λ y. not (leb (key y) bound) ≡ true) (λ y h. ap not (lt-leb (key y) bound h))
-    (x ∷ xs) (above_all key bound x xs up above))
-
 -- The place where one is put in: in front of the first one whose key is above its own.
 
 pub put_by-insert : {A : Type 0} (key : A → ℕ) (x : A) (xs : List A) →

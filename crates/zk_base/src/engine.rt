@@ -1,4 +1,4 @@
-ghost use Rattle.std.specs.Prelude.{◌≡◌, ℕ, ◌+◌, ◌<◌, ◌≤◌, Bool, true, false, List, IsOk, IfOk};
+ghost use Rattle.std.specs.Prelude.{◌≡◌, ℕ, ◌+◌, ◌<◌, ◌≤◌, Bool, true, false, List, None, IsOk, IfOk};
 ghost use Rattle.zk_base.specs.declared.ids.Who.{Who};
 ghost use Rattle.zk_base.specs.History.{AddsNone};
 ghost use Rattle.zk_base.specs.Legal.{Machine};
@@ -67,6 +67,11 @@ pub trait Engine: Drop {
     /// Whether this operation gives an owed entry now.
     fn is_closing(&self, who: Who, op: &Self::Op) -> bool
         ensures { (s : Self.State) → stands_for self.now s → result ≡ closes s who op.now };
+
+    /// Whether it is plain that this operation isn't possible now. It may say no where it isn't.
+    fn is_futile(&self, who: Who, op: &Self::Op) -> bool
+        ensures { (s : Self.State) → stands_for self.now s → result ≡ true →
+            machine.reply_of s who op.now ≡ None };
 
     /// How many entries are owed now.
     fn owed(&self) -> u64

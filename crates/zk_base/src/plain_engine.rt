@@ -63,6 +63,10 @@ impl<S: Store> Engine for PlainEngine<S> {
         self.store.is_closing(who, op)
     }
 
+    fn is_futile(&self, who: Who, op: &S::Op) -> bool {
+        self.store.is_futile(who, op)
+    }
+
     fn owed(&self) -> u64 {
         self.store.owed()
     }

@@ -125,6 +125,10 @@ impl<C: Engine> Service for Recorded<C> {
         }
     }
 
+    fn is_futile(&self, who: Who, op: &C::Op) -> bool {
+        self.engine.is_futile(who, op)
+    }
+
     fn reserve(&mut self) -> Result<(), NoMemory> {
         let owed = self.engine.owed();
         self.past.reserve(owed as usize + 3)?;

@@ -1,4 +1,4 @@
-ghost use Rattle.std.specs.Prelude.{◌≡◌, ℕ, ◌+◌, ◌<◌, ◌≤◌, Bool, true, false, List, length, Option, IsOk, IfOk, OnErr};
+ghost use Rattle.std.specs.Prelude.{◌≡◌, ℕ, ◌+◌, ◌<◌, ◌≤◌, Bool, true, false, List, length, Option, None, IsOk, IfOk, OnErr};
 ghost use Rattle.zk_base.specs.declared.ids.Who.{Who};
 ghost use Rattle.zk_base.specs.declared.ids.Entry.{Entry};
 ghost use Rattle.zk_base.specs.History.{extended, AddsNone, IsAbove};
@@ -73,6 +73,12 @@ pub trait Service: Drop {
         // The room falls only with an entry, and by at most 3.
         ensures room { room self.old ≤ room self.new + 3 }
         ensures kept { AddsNone result → room self.old ≤ room self.new };
+
+    /// Whether it is plain that the machine doesn't let this operation stand now, so that asking would be in vain. It
+    /// may say no where it would be.
+    fn is_futile(&self, who: Who, op: &Self::Op) -> bool
+        ensures { result ≡ true →
+            machine.reply_of (state_after machine (start self.now) (history self.now)) who op.now ≡ None };
 
     /// Makes room for three entries, beside the owed ones.
     fn reserve(&mut self) -> Result<(), NoMemory>

@@ -1,4 +1,4 @@
-ghost use Rattle.std.specs.Prelude.{◌≡◌, ℕ, ◌+◌, ◌<◌, ◌≤◌, Bool, true, IsOk, IfOk, OnErr};
+ghost use Rattle.std.specs.Prelude.{◌≡◌, ℕ, ◌+◌, ◌<◌, ◌≤◌, Bool, true, None, IsOk, IfOk, OnErr};
 ghost use Rattle.zk_base.specs.declared.ids.Who.{Who};
 ghost use Rattle.zk_base.specs.History.{AddsNone};
 ghost use Rattle.zk_base.specs.Legal.{Machine, after_reply};
@@ -52,6 +52,10 @@ pub trait Store: Drop {
     /// Whether this operation gives an owed entry now.
     fn is_closing(&self, who: Who, op: &Self::Op) -> bool
         ensures { result ≡ closes (state self.now) who op.now };
+
+    /// Whether it is plain that this operation isn't possible now. It may say no where it isn't.
+    fn is_futile(&self, who: Who, op: &Self::Op) -> bool
+        ensures { result ≡ true → machine.reply_of (state self.now) who op.now ≡ None };
 
     /// How many entries are owed now.
     fn owed(&self) -> u64

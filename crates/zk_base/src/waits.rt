@@ -1,5 +1,5 @@
-ghost use Rattle.std.specs.Prelude.{◌≡◌, ◌+◌, ◌≤◌, ◌<◌, ◌++◌, Bool, false, length, map, position, vec_len, vec_capacity, IsOk, IfOk, IfSome, IfNone, OnOk, OnErr, slice_get};
-ghost use Rattle.std.specs.List.{find, position_or_len};
+ghost use Rattle.std.specs.Prelude.{◌≡◌, ◌+◌, ◌≤◌, ◌<◌, ◌++◌, Bool, false, is_some, length, map, position, vec_len, vec_capacity, IsOk, IfOk, IfSome, IfNone, OnOk, OnErr, slice_get};
+ghost use Rattle.std.specs.List.{find, list_any, position_or_len};
 ghost use Rattle.zk_base.specs.Lists.{without_first, put_before};
 ghost use Rattle.zk_base.specs.Waits.{no_waits, is_served_after, is_waiter, is_decision, decide, decision_of, goes_on, open_waits, joined, left, first_decided, all_decided, ended, quitted, quit_answer};
 
@@ -149,6 +149,13 @@ impl<M: Drop + Copy, A: Drop + Copy> WaitList<M, A> {
         self.waiting.clear();
     }
 
+    /// Whether a wait is decided.
+    pub fn is_decided(&self, player: u32, place: u64) -> bool
+        ensures { result ≡ is_some (decision_of self.now.waits player place) }
+    {
+        has_decision(&self.decided, player, place)
+    }
+
     /// Ends a wait that is decided, and gives its answer. Nothing comes where it isn't, and then nothing changes.
     pub fn end(&mut self, player: u32, place: u64) -> Option<A>
         ensures answer { result ≡ decision_of self.old.waits player place }
@@ -254,6 +261,15 @@ fn decision_at<A>(decided: &[Decision<A>], player: u32, place: u64) -> Option<us
     decided
         .iter()
         .position(|decision| is_decision(player, place, decision))
+}
+
+/// Whether this wait has a decision.
+fn has_decision<A>(decided: &[Decision<A>], player: u32, place: u64) -> bool
+    ensures { result ≡ list_any (is_decision player place) decided.now }
+{
+    decided
+        .iter()
+        .any(|decision| is_decision(player, place, decision))
 }
 
 fn is_served_after<M>(waiter: &Waiter<M>, other: &Waiter<M>) -> bool

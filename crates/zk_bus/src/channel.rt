@@ -72,6 +72,10 @@ impl Service for Channel {
         self.inner.act(who, step, op)
     }
 
+    fn is_futile(&self, who: Who, op: &ChanOp) -> bool {
+        self.inner.is_futile(who, op)
+    }
+
     fn reserve(&mut self) -> Result<(), NoMemory> {
         self.inner.reserve()
     }

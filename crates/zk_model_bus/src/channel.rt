@@ -540,6 +540,13 @@ impl Store for ChanStore {
         }
     }
 
+    fn is_futile(&self, who: Who, op: &ChanOp) -> bool {
+        match op {
+            ChanOp::ClaimEnd(place) => !self.waits.is_decided(who.number, *place),
+            _ => false,
+        }
+    }
+
     fn owed(&self) -> u64 {
         self.waits.open() + self.waits.waiting() + u64::from(self.holder.is_some())
     }

@@ -309,6 +309,13 @@ impl Store for ObsStore {
         matches!(op, ObsOp::TakeEnd(_) | ObsOp::TakeQuit(_))
     }
 
+    fn is_futile(&self, who: Who, op: &ObsOp) -> bool {
+        match op {
+            ObsOp::TakeEnd(place) => !self.takers.is_decided(who.number, *place),
+            _ => false,
+        }
+    }
+
     fn owed(&self) -> u64 {
         self.takers.open()
     }

@@ -265,6 +265,13 @@ impl Store for ClockStore {
         matches!(op, ClockOp::AlarmEnd(_))
     }
 
+    fn is_futile(&self, _who: Who, op: &ClockOp) -> bool {
+        match op {
+            ClockOp::AlarmEnd(moment) => self.time < *moment,
+            _ => false,
+        }
+    }
+
     fn owed(&self) -> u64 {
         self.alarms.len() as u64
     }

@@ -455,6 +455,15 @@ impl Store for MsgqStore {
         )
     }
 
+    fn is_futile(&self, who: Who, op: &MsgqOp) -> bool {
+        match op {
+            MsgqOp::PutEnd(place) => !self.puts.is_decided(who.number, *place),
+            MsgqOp::GetEnd(place) => !self.gets.is_decided(who.number, *place),
+            MsgqOp::PollEnd(place) => !self.pollers.is_decided(who.number, *place),
+            _ => false,
+        }
+    }
+
     fn owed(&self) -> u64 {
         self.puts.open() + self.gets.open() + self.pollers.open()
     }

@@ -355,6 +355,14 @@ impl Store for SemStore {
         )
     }
 
+    fn is_futile(&self, who: Who, op: &SemOp) -> bool {
+        match op {
+            SemOp::TakeEnd(place) => !self.takers.is_decided(who.number, *place),
+            SemOp::PollEnd(place) => !self.pollers.is_decided(who.number, *place),
+            _ => false,
+        }
+    }
+
     fn owed(&self) -> u64 {
         self.takers.open() + self.pollers.open()
     }

@@ -94,6 +94,10 @@ impl Service for Msgq {
         self.inner.act(who, step, op)
     }
 
+    fn is_futile(&self, who: Who, op: &MsgqOp) -> bool {
+        self.inner.is_futile(who, op)
+    }
+
     fn reserve(&mut self) -> Result<(), NoMemory> {
         self.inner.reserve()
     }

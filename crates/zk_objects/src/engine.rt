@@ -109,6 +109,10 @@ impl Engine for ObjectsEngine {
         false
     }
 
+    fn is_futile(&self, _who: Who, _op: &TableOp) -> bool {
+        false
+    }
+
     fn owed(&self) -> u64 {
         0
     }

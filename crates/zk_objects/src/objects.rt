@@ -65,6 +65,10 @@ impl Service for Objects {
         self.inner.act(who, step, op)
     }
 
+    fn is_futile(&self, who: Who, op: &TableOp) -> bool {
+        self.inner.is_futile(who, op)
+    }
+
     fn reserve(&mut self) -> Result<(), NoMemory> {
         self.inner.reserve()
     }

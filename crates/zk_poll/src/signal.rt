@@ -104,6 +104,10 @@ impl Service for Signal {
         self.inner.act(who, step, op)
     }
 
+    fn is_futile(&self, who: Who, op: &SignalOp) -> bool {
+        self.inner.is_futile(who, op)
+    }
+
     fn reserve(&mut self) -> Result<(), NoMemory> {
         self.inner.reserve()
     }

@@ -102,6 +102,10 @@ impl Engine for SignalEngine {
         false
     }
 
+    fn is_futile(&self, _who: Who, _op: &SignalOp) -> bool {
+        false
+    }
+
     fn owed(&self) -> u64 {
         0
     }

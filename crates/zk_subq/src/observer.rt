@@ -80,6 +80,10 @@ impl Service for Observer {
         self.inner.act(who, step, op)
     }
 
+    fn is_futile(&self, who: Who, op: &ObsOp) -> bool {
+        self.inner.is_futile(who, op)
+    }
+
     fn reserve(&mut self) -> Result<(), NoMemory> {
         self.inner.reserve()
     }

@@ -64,6 +64,10 @@ impl Service for Clock {
         self.inner.act(who, step, op)
     }
 
+    fn is_futile(&self, who: Who, op: &ClockOp) -> bool {
+        self.inner.is_futile(who, op)
+    }
+
     fn reserve(&mut self) -> Result<(), NoMemory> {
         self.inner.reserve()
     }

@@ -58,6 +58,10 @@ impl Engine for Tally {
         false
     }
 
+    fn is_futile(&self, _who: Who, _op: &u8) -> bool {
+        false
+    }
+
     fn owed(&self) -> u64 {
         0
     }

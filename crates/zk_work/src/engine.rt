@@ -762,6 +762,10 @@ impl Engine for WorkEngine {
         )
     }
 
+    fn is_futile(&self, _who: Who, _op: &WorkOp) -> bool {
+        false
+    }
+
     fn owed(&self) -> u64 {
         self.running + self.waits.len() as u64
     }

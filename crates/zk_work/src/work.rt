@@ -76,6 +76,10 @@ impl Service for Work {
         self.inner.act(who, step, op)
     }
 
+    fn is_futile(&self, who: Who, op: &WorkOp) -> bool {
+        self.inner.is_futile(who, op)
+    }
+
     fn reserve(&mut self) -> Result<(), NoMemory> {
         self.inner.reserve()
     }
