@@ -1,0 +1,90 @@
+-- Where a line of a block stands among the lines of all; and that a place has one line.
+use Rattle.std.proofs.Common.{◌≡◌, ℕ, zero, suc, ◌+◌, Some, List, [], ◌∷◌, ◌++◌, map, length, length-append, append_assoc, flat_map, slice_get, arith, refl, sym, ap, ◌∙◌}
+use Rattle.std.proofs.lemmas.List.{map-append, length-map}
+use Rattle.std.proofs.lemmas.Option.{none-some, same_Some}
+use Rattle.zk_blocks.specs.Each.{each_lines}
+use Rattle.zk_blocks.specs.Numbers.{lines_of_first, StandsAt}
+
+module _ {L : Type 0} where
+  -- the line that is at a place is the one that stands there
+  pub stands_get : (lines : List L) (place : ℕ) (line : L) → slice_get lines place ≡ Some line → StandsAt lines place line
+  stands_get [] place line is = absurd (none-some line is)
+  stands_get (l ∷ lines) zero line is = record { before = []; more = lines; whole = ap (λ x. x ∷ lines) (same_Some l line is); at = refl }
+  stands_get (l ∷ lines) (suc place) line is =
+      let there = stands_get lines place line is in
+      record { before = l ∷ there.before; more = there.more; whole = ap (λ ls. l ∷ ls) there.whole; at = ap suc there.at }
+
+  get_behind : (before more : List L) (line : L) → slice_get (before ++ line ∷ more) (length before) ≡ Some line
+  get_behind [] more line = refl
+  get_behind (b ∷ before) more line = get_behind before more line
+
+  pub get_stands : (lines : List L) (place : ℕ) (line : L) → StandsAt lines place line → slice_get lines place ≡ Some line
+  get_stands lines place line stands =
+      ap (λ n. slice_get lines n) (sym stands.at) ∙ ap (λ ls. slice_get ls (length stands.before)) stands.whole ∙ get_behind stands.before stands.more line
+
+  -- a place has one line
+  pub one_place : (lines : List L) (place : ℕ) (a b : L) → StandsAt lines place a → StandsAt lines place b → a ≡ b
+  one_place lines place a b here there = same_Some a b (sym (get_stands lines place a here) ∙ get_stands lines place b there)
+
+  -- a line also stands where others follow
+  pub followed : (lines more : List L) (place : ℕ) (line : L) → StandsAt lines place line → StandsAt (lines ++ more) place line
+  followed lines more place line stands = record {
+    before = stands.before;
+    more = stands.more ++ more;
+    whole = ap (λ ls. ls ++ more) stands.whole ∙ append_assoc stands.before (line ∷ stands.more) more;
+    at = stands.at;
+  }
+
+  -- and behind others, so much farther on
+  pub behind : (others lines : List L) (place : ℕ) (line : L) → StandsAt lines place line → StandsAt (others ++ lines) (length others + place) line
+  behind others lines place line stands = record {
+    before = others ++ stands.before;
+    more = stands.more;
+    whole = ap (λ ls. others ++ ls) stands.whole ∙ sym (append_assoc others stands.before (line ∷ stands.more));
+    at = omega (arith, stands.at, length-append others stands.before);
+  }
+
+  module _ {X : Type 0} where
+    -- how many lines the first blocks have is how long they are
+    pub lines_of_first-length : (lines_of : X → List L) (xs : List X) → lines_of_first lines_of xs ≡ length (flat_map lines_of xs)
+    lines_of_first-length lines_of [] = refl
+    lines_of_first-length lines_of (x ∷ xs) = omega (arith, lines_of_first-length lines_of xs, length-append (lines_of x) (flat_map lines_of xs))
+
+    -- a line of the block behind the first ones stands that many lines farther on
+    pub line_there : (lines_of : X → List L) (front : List X) (x : X) (more : List X) (place : ℕ) (line : L) → StandsAt (lines_of x) place line →
+        StandsAt (flat_map lines_of (front ++ x ∷ more)) (lines_of_first lines_of front + place) line
+    line_there lines_of [] x more place line stands =
+        let there = followed (lines_of x) (flat_map lines_of more) place line stands in
+        record { before = there.before; more = there.more; whole = there.whole; at = omega (arith, there.at) }
+    line_there lines_of (f ∷ front) x more place line stands =
+        let there = behind (lines_of f) (flat_map lines_of (front ++ x ∷ more)) (lines_of_first lines_of front + place) line (line_there lines_of front x more place line stands) in
+        record { before = there.before; more = there.more; whole = there.whole; at = omega (arith, there.at) }
+
+    -- the row behind the first ones stands behind as many lines
+    pub row_there : (text : X → L) (front : List X) (x : X) (more : List X) → StandsAt (map text (front ++ x ∷ more)) (length front) (text x)
+    row_there text front x more = record {
+      before = map text front;
+      more = map text more;
+      whole = map-append text front (x ∷ more);
+      at = length-map front text;
+    }
+
+  module _ {D A : Type 0} (lines_of : D → A → List L) where
+    -- the lines of things for each of some are those of the first ones, and then those of the others
+    pub each_lines-append : (ds more : List D) (each others : List A) → length ds ≡ length each →
+        each_lines lines_of (ds ++ more) (each ++ others) ≡ each_lines lines_of ds each ++ each_lines lines_of more others
+    each_lines-append [] more [] others same = refl
+    each_lines-append [] more (a ∷ each) others same = absurd (omega (arith, same))
+    each_lines-append (d ∷ ds) more [] others same = absurd (omega (arith, same))
+    each_lines-append (d ∷ ds) more (a ∷ each) others same =
+        ap (λ ls. lines_of d a ++ ls) (each_lines-append ds more each others (omega (arith, same)))
+        ∙ sym (append_assoc (lines_of d a) (each_lines lines_of ds each) (each_lines lines_of more others))
+
+    -- a line of the thing behind the first ones stands as many lines farther on as these have
+    pub each_there : (ds : List D) (d : D) (more : List D) (each : List A) (a : A) (others : List A) (place : ℕ) (line : L) → length ds ≡ length each →
+        StandsAt (lines_of d a) place line →
+        StandsAt (each_lines lines_of (ds ++ d ∷ more) (each ++ a ∷ others)) (length (each_lines lines_of ds each) + place) line
+    each_there ds d more each a others place line same stands =
+        let there = behind (each_lines lines_of ds each) (lines_of d a ++ each_lines lines_of more others) place line
+        (followed (lines_of d a) (each_lines lines_of more others) place line stands) in
+        record { before = there.before; more = there.more; whole = each_lines-append ds (d ∷ more) each (a ∷ others) same ∙ there.whole; at = there.at }
