@@ -1,5 +1,6 @@
 -- One thing for each of some is read exactly.
-use Rattle.std.proofs.Common.{◌≡◌, ◌⊎◌, List, [], ◌∷◌, refl, inl, inr}
+use Rattle.std.proofs.Common.{ℕ, zero, suc, Some, length, slice_get, arith, subst₂, ◌≡◌, ◌⊎◌, List, [], ◌∷◌, refl, inl, inr}
+use Rattle.std.proofs.lemmas.Option.{same_Some, none-some}
 use Rattle.zk_blocks.specs.Blocks.{Reading, IsBlock, FitsThen, then_lines}
 use Rattle.zk_blocks.specs.Each.{put_first, each_of, each_lines, EachFits, EachOpens}
 use Rattle.zk_blocks.proofs.Blocks.{looser, nothing}
@@ -33,3 +34,28 @@ module _ {L D A : Type 0} {read : D → List L → Reading L A} {lines_of : D �
   each_alike Opens Behind block ds =
       looser (each (λ ds line. Opens line ⊎ Behind line) (λ ds. Unit {0}) (λ d more good. tt) (λ d more good. looser (block d) (λ line is. inl is) (λ line is. is)) ds tt)
       (λ line is. is) (λ line is. inr is)
+
+module _ {D A : Type 0} (Fits : D → A → Type 0) where
+  -- there are as many as those that they are for
+  pub each_fits-length : (ds : List D) (each : List A) → EachFits Fits ds each → length ds ≡ length each
+  each_fits-length [] [] fits = refl
+  each_fits-length [] (a ∷ more) fits = absurd fits
+  each_fits-length (d ∷ ds) [] fits = absurd fits
+  each_fits-length (d ∷ ds) (a ∷ more) fits = omega (arith, each_fits-length ds more fits.1)
+
+  -- the one at each place fits
+  pub each_fits_at : (ds : List D) (each : List A) → EachFits Fits ds each → (place : ℕ) (d : D) (a : A) →
+      slice_get ds place ≡ Some d → slice_get each place ≡ Some a → Fits d a
+  each_fits_at [] each fits place d a is_d is_a = absurd (none-some d is_d)
+  each_fits_at (e ∷ ds) [] fits place d a is_d is_a = absurd fits
+  each_fits_at (e ∷ ds) (b ∷ more) fits zero d a is_d is_a = subst₂ Fits (same_Some e d is_d) (same_Some b a is_a) fits.0
+  each_fits_at (e ∷ ds) (b ∷ more) fits (suc place) d a is_d is_a = each_fits_at ds more fits.1 place d a is_d is_a
+
+  -- each fits where there are as many, and the one at each place does
+  pub each_fits_from : (ds : List D) (each : List A) → length ds ≡ length each →
+      ((place : ℕ) (d : D) (a : A) → slice_get ds place ≡ Some d → slice_get each place ≡ Some a → Fits d a) → EachFits Fits ds each
+  each_fits_from [] [] same fits = tt
+  each_fits_from [] (a ∷ more) same fits = absurd (omega (arith, same))
+  each_fits_from (d ∷ ds) [] same fits = absurd (omega (arith, same))
+  each_fits_from (d ∷ ds) (a ∷ more) same fits =
+      (fits zero d a refl refl, each_fits_from ds more (omega (arith, same)) (λ place d a is_d is_a. fits (suc place) d a is_d is_a))

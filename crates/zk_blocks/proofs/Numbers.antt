@@ -1,8 +1,10 @@
 -- Where a line of a block stands among the lines of all; and that a place has one line.
-use Rattle.std.proofs.Common.{◌≡◌, ℕ, zero, suc, ◌+◌, Some, List, [], ◌∷◌, ◌++◌, map, length, length-append, append_assoc, flat_map, slice_get, arith, refl, sym, ap, ◌∙◌}
+use Rattle.std.proofs.Common.{Bool, true, subst, ◌≡◌, ℕ, zero, suc, ◌+◌, Some, List, [], ◌∷◌, ◌++◌, map, length, length-append, append_assoc, flat_map, slice_get, arith, refl, sym, ap, ◌∙◌}
+use Rattle.std.proofs.lemmas.Bool.{cond-true}
 use Rattle.std.proofs.lemmas.List.{map-append, length-map}
 use Rattle.std.proofs.lemmas.Option.{none-some, same_Some}
 use Rattle.zk_blocks.specs.Each.{each_lines}
+use Rattle.zk_blocks.specs.Sections.{headed_lines, titled_lines, two_lines}
 use Rattle.zk_blocks.specs.Numbers.{lines_of_first, StandsAt}
 
 module _ {L : Type 0} where
@@ -60,14 +62,36 @@ module _ {L : Type 0} where
         let there = behind (lines_of f) (flat_map lines_of (front ++ x ∷ more)) (lines_of_first lines_of front + place) line (line_there lines_of front x more place line stands) in
         record { before = there.before; more = there.more; whole = there.whole; at = omega (arith, there.at) }
 
-    -- the row behind the first ones stands behind as many lines
-    pub row_there : (text : X → L) (front : List X) (x : X) (more : List X) → StandsAt (map text (front ++ x ∷ more)) (length front) (text x)
-    row_there text front x more = record {
-      before = map text front;
-      more = map text more;
-      whole = map-append text front (x ∷ more);
-      at = length-map front text;
+    -- a row stands in its place
+    pub row_there : (text : X → L) (xs : List X) (place : ℕ) (x : X) → StandsAt xs place x → StandsAt (map text xs) place (text x)
+    row_there text xs place x stands = record {
+      before = map text stands.before;
+      more = map text stands.more;
+      whole = ap (map text) stands.whole ∙ map-append text stands.before (x ∷ stands.more);
+      at = length-map stands.before text ∙ stands.at;
     }
+
+    -- what stands behind a head is one line farther on
+    pub headed_there : (head : L) (stands : X → Bool) (lines_of : X → List L) (x : X) (place : ℕ) (line : L) → stands x ≡ true →
+        StandsAt (lines_of x) place line → StandsAt (headed_lines head stands lines_of x) (1 + place) line
+    headed_there head stands lines_of x place line is there =
+        subst (λ ls. StandsAt ls (1 + place) line) (sym (cond-true (stands x) (head ∷ lines_of x) [] is)) (behind (head ∷ []) (lines_of x) place line there)
+
+    -- a row under a title stands one line farther on
+    pub titled_there : {S : Type 0} (title : S → L) (text : X → L) (s : S) (xs : List X) (place : ℕ) (x : X) → StandsAt xs place x →
+        StandsAt (titled_lines title text (s, xs)) (1 + place) (text x)
+    titled_there title text s xs place x there = behind (title s ∷ []) (map text xs) place (text x) (row_there text xs place x there)
+
+  module _ {E K : Type 0} (first : E → L) (second : K → L) where
+    -- of rows of two kinds a first one stands in its place
+    pub first_there : (es : List E) (ks : List K) (place : ℕ) (e : E) → StandsAt es place e → StandsAt (two_lines first second (es, ks)) place (first e)
+    first_there es ks place e there = followed (map first es) (map second ks) place (first e) (row_there first es place e there)
+
+    -- and a second one behind all first ones
+    pub second_there : (es : List E) (ks : List K) (place : ℕ) (k : K) → StandsAt ks place k → StandsAt (two_lines first second (es, ks)) (length es + place) (second k)
+    second_there es ks place k there =
+        subst (λ n. StandsAt (two_lines first second (es, ks)) (n + place) (second k)) (length-map es first)
+        (behind (map first es) (map second ks) place (second k) (row_there second ks place k there))
 
   module _ {D A : Type 0} (lines_of : D → A → List L) where
     -- the lines of things for each of some are those of the first ones, and then those of the others

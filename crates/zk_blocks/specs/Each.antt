@@ -14,6 +14,7 @@ abbrev pub each_of : {L D A : Type 0} → (D → List L → Reading L A) → Lis
 each_of read [] lines = (Some [], lines)
 each_of read (d ∷ ds) lines = made_of put_first (then_of (read d) (each_of read ds) lines)
 
+-- their lines
 abbrev pub each_lines : {L D A : Type 0} → (D → A → List L) → List D → List A → List L
 each_lines lines_of [] each = []
 each_lines lines_of (d ∷ ds) [] = []
