@@ -67,7 +67,7 @@ module _ (feed : ℕ) where
   IsCut cut = AreUnfed feed cut.0 × IsUnfed feed cut.1
 
   -- no feed is in them
-  pub cut_unfed : (text : List ℕ) → IsCut (cut_of feed text)
+  pub cut_unfed : (text : List ℕ) → AreUnfed feed (cut_of feed text).0 × IsUnfed feed (cut_of feed text).1
   cut_unfed [] = (tt, tt)
   cut_unfed (b ∷ bs) = elim (cases_Bool (eqb b feed)) [
     | inl is ↦ let there = cut_unfed bs in subst IsCut (sym (cut-feed b bs is)) ((tt, there.0), there.1)

@@ -1,5 +1,5 @@
 -- One thing for each of some is read exactly.
-use Rattle.std.proofs.Common.{ℕ, zero, suc, Some, length, slice_get, arith, subst₂, ◌≡◌, ◌⊎◌, List, [], ◌∷◌, refl, inl, inr}
+use Rattle.std.proofs.Common.{◌≡◌, ◌⊎◌, ℕ, zero, suc, Some, List, [], ◌∷◌, length, slice_get, arith, refl, subst₂, inl, inr}
 use Rattle.std.proofs.lemmas.Option.{same_Some, none-some}
 use Rattle.zk_blocks.specs.Blocks.{Reading, IsBlock, FitsThen, then_lines}
 use Rattle.zk_blocks.specs.Each.{put_first, each_of, each_lines, EachFits, EachOpens}

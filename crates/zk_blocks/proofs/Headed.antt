@@ -8,6 +8,10 @@ use Rattle.zk_blocks.specs.Sections.{behind_of, headed_of, headed_lines, FitsHea
 use Rattle.zk_blocks.proofs.Blocks.{pair, never_longer}
 use Rattle.zk_blocks.proofs.Made.{kept}
 
+-- what fits does so also behind a head, where nothing else than nothing fits if nothing may stand
+pub fits_headed : {A : Type 0} {none : A} {Fits : A → Type 0} (may : Bool) → (may ≡ false → (a : A) → Fits a → a ≡ none) → (a : A) → Fits a → FitsHeaded may none Fits a
+fits_headed may only a fits = (fits, λ not. only not a fits)
+
 module _ {L A : Type 0} {lines_of : A → List L} {Fits : A → Type 0} {read : List L → Reading L A} {Inner Behind : L → Type 0}
     {none : A} {stands : A → Bool} {is_head : L → Bool} {head : L}
     (inner : IsBlock lines_of Fits read Inner Behind) (empty : IsNothing none stands Fits)
@@ -119,9 +123,9 @@ module _ {L A : Type 0} {lines_of : A → List L} {Fits : A → Type 0} {read : 
     | inr not_it ↦ absurd (omega (arith, ap (λ r. length r.1) (sym (stays may b (before ++ line ∷ more) not_it) ∙ is), length-append (b ∷ before) (line ∷ more)))
   ]
 
-  -- what is behind a head, or absent, is read exactly, where its head isn't behind it. Where nothing may stand it is absent, and its
-  -- head is left
-  pub headed : (may : Bool) → IsBlock text (FitsSo may) (reading may) (IsHeadOr head Behind) Behind
+  -- a head and what stands behind it are read exactly, or that both are absent, where the head can't be among the lines behind. Where
+  -- nothing may stand both are absent, and a head is left
+  pub headed : (may : Bool) → IsBlock (headed_lines head stands lines_of) (FitsHeaded may none Fits) (headed_of may is_head none stands read) (IsHeadOr head Behind) Behind
   headed may = record {
     again = again may;
     spelled = spelled may;

@@ -70,7 +70,7 @@ module _ {L A B : Type 0} {lines_a : A → List L} {FitsA : A → Type 0} {read_
           joined a (Some b, left) is = pair (ap (λ r. r.0) is) refl
 
   -- one thing behind another is read exactly, where what opens the second may stand behind the first
-  pub both : IsBlock lines_both FitsBoth read_both Opens Behind
+  pub both : IsBlock (then_lines lines_a lines_b) (FitsThen FitsA FitsB) (then_of read_a read_b) Opens Behind
   both = record {
     again = λ x more fits behind.
         ap read_both (append_assoc (lines_a x.0) (lines_b x.1) more)

@@ -1,5 +1,5 @@
 -- Where a line of a block stands among the lines of all; and that a place has one line.
-use Rattle.std.proofs.Common.{Bool, true, subst, ◌≡◌, ℕ, zero, suc, ◌+◌, Some, List, [], ◌∷◌, ◌++◌, map, length, length-append, append_assoc, flat_map, slice_get, arith, refl, sym, ap, ◌∙◌}
+use Rattle.std.proofs.Common.{◌≡◌, ℕ, zero, suc, ◌+◌, Bool, true, Some, List, [], ◌∷◌, ◌++◌, map, flat_map, slice_get, length, length-append, append_assoc, arith, refl, sym, ap, subst, ◌∙◌}
 use Rattle.std.proofs.lemmas.Bool.{cond-true}
 use Rattle.std.proofs.lemmas.List.{map-append, length-map}
 use Rattle.std.proofs.lemmas.Option.{none-some, same_Some}
@@ -8,7 +8,7 @@ use Rattle.zk_blocks.specs.Sections.{headed_lines, titled_lines, two_lines}
 use Rattle.zk_blocks.specs.Numbers.{lines_of_first, StandsAt}
 
 module _ {L : Type 0} where
-  -- the line that is at a place is the one that stands there
+  -- what is at a place stands there
   pub stands_get : (lines : List L) (place : ℕ) (line : L) → slice_get lines place ≡ Some line → StandsAt lines place line
   stands_get [] place line is = absurd (none-some line is)
   stands_get (l ∷ lines) zero line is = record { before = []; more = lines; whole = ap (λ x. x ∷ lines) (same_Some l line is); at = refl }
@@ -20,6 +20,7 @@ module _ {L : Type 0} where
   get_behind [] more line = refl
   get_behind (b ∷ before) more line = get_behind before more line
 
+  -- and what stands there is there
   pub get_stands : (lines : List L) (place : ℕ) (line : L) → StandsAt lines place line → slice_get lines place ≡ Some line
   get_stands lines place line stands =
       ap (λ n. slice_get lines n) (sym stands.at) ∙ ap (λ ls. slice_get ls (length stands.before)) stands.whole ∙ get_behind stands.before stands.more line

@@ -5,12 +5,12 @@ use Rattle.zk_blocks.specs.Exact.{IsExact}
 use Rattle.zk_blocks.specs.Heads.{IsHeadOr}
 use Rattle.zk_blocks.specs.Rows.{all_rows, AllFit, IsRow}
 use Rattle.zk_blocks.specs.Sections.{IsNothing, has_row, plain_section_of, plain_section_lines, FitsPlainSection, two_rows, two_lines, FitTwo, neither, has_rows, section_of, section_lines, FitsSection, titled_of, titled_lines, FitsTitled}
-use Rattle.zk_blocks.proofs.Blocks.{one_line}
+use Rattle.zk_blocks.proofs.Blocks.{pair, one_line}
 use Rattle.zk_blocks.proofs.Joined.{both}
-use Rattle.zk_blocks.proofs.Rows.{rows}
+use Rattle.zk_blocks.proofs.Rows.{no_rows, rows}
 use Rattle.zk_blocks.proofs.Headed.{headed}
 
--- no row is nothing
+-- no row at all is nothing
 pub no_row : {X : Type 0} (Fits : Option X → X → Type 0) → IsNothing [] has_row (AllFit Fits None)
 no_row {X = X} Fits = record { fits = tt; absent = refl; only = only } where
   only : (xs : List X) → has_row xs ≡ false → xs ≡ []
@@ -24,6 +24,11 @@ no_row_of_two {E = E} {K = K} First Second = record { fits = (tt, tt); absent = 
   only ([], []) is = refl
   only ([], (k ∷ ks)) is = absurd (true≢false is)
   only ((e ∷ es), ks) is = absurd (true≢false is)
+
+-- where no row of either kind can stand first there is none
+pub no_rows_of_two : {E K : Type 0} (First : Option E → E → Type 0) (Second : Option K → K → Type 0) → ((e : E) → First None e → ⊥) → ((k : K) → Second None k → ⊥) →
+    (both : List E × List K) → FitTwo First Second both → both ≡ neither
+no_rows_of_two First Second no_first no_second both fits = pair (no_rows First no_first both.0 fits.0) (no_rows Second no_second both.1 fits.1)
 
 module _ {L X : Type 0} {text : X → L} {Fits : Option X → X → Type 0} {says : Option X → L → Option X} (row : IsRow text Fits says)
     {Behind : L → Type 0} (over : (line : L) → Behind line → (last : Option X) → says last line ≡ None) where

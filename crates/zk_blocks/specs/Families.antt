@@ -37,13 +37,14 @@ module _ {N L D X : Type 0} (of_kind : D → Bool) (name_of : D → N) where
   plain_family_lines head_of text ds each = family_lines of_kind name_of head_of has_row (λ d. map (text d)) ds each
 
 -- their rows fit
-abbrev pub FitsPlainFamily : {D X : Type 0} → (D → Bool) → Bool → (D → Option X → X → Type 0) → List D → List (List X) → Type 0
+abbrev pub FitsPlainFamily : {D X : Type 0} → (D → Bool) → Bool → (D → Option X → X → Type 0) →
+    List D → List (List X) → Type 0
 FitsPlainFamily of_kind may Fits ds each = FitsFamily of_kind may [] (λ d. AllFit (Fits d) None) ds each
 
 module _ {N L D E K : Type 0} (of_kind : D → Bool) (name_of : D → N) where
   -- for each of a kind a section of rows of two kinds
-  abbrev pub section_family_of : Bool → (N → L → Bool) → (D → Option E → L → Option E) → (D → Option K → L → Option K) →
-      List D → List L → Reading L (List (List E × List K))
+  abbrev pub section_family_of : Bool → (N → L → Bool) →
+      (D → Option E → L → Option E) → (D → Option K → L → Option K) → List D → List L → Reading L (List (List E × List K))
   section_family_of may is_head first second ds lines =
       family_of of_kind name_of may is_head neither has_rows (λ d. two_rows (first d) (second d)) ds lines
 
@@ -53,6 +54,6 @@ module _ {N L D E K : Type 0} (of_kind : D → Bool) (name_of : D → N) where
       family_lines of_kind name_of head_of has_rows (λ d. two_lines (first d) (second d)) ds each
 
 -- their rows fit
-abbrev pub FitsSectionFamily : {D E K : Type 0} → (D → Bool) → Bool → (D → Option E → E → Type 0) → (D → Option K → K → Type 0) →
-    List D → List (List E × List K) → Type 0
+abbrev pub FitsSectionFamily : {D E K : Type 0} → (D → Bool) → Bool →
+    (D → Option E → E → Type 0) → (D → Option K → K → Type 0) → List D → List (List E × List K) → Type 0
 FitsSectionFamily of_kind may First Second ds each = FitsFamily of_kind may neither (λ d. FitTwo (First d) (Second d)) ds each

@@ -8,7 +8,8 @@ behind_of true stands read head lines = kept_of stands (read lines)
 behind_of false stands read head lines = (None, head ∷ lines)
 
 -- a head and what stands behind it; without a head it is nothing
-abbrev pub headed_of : {L A : Type 0} → Bool → (L → Bool) → A → (A → Bool) → (List L → Reading L A) → List L → Reading L A
+abbrev pub headed_of : {L A : Type 0} → Bool → (L → Bool) → A → (A → Bool) → (List L → Reading L A) →
+    List L → Reading L A
 headed_of may is_head none stands read [] = (Some none, [])
 headed_of may is_head none stands read (line ∷ lines) =
     if is_head line then behind_of may stands read line lines else (Some none, line ∷ lines)
@@ -67,8 +68,8 @@ has_rows ([], seconds) = has_row seconds
 has_rows ((first ∷ firsts), seconds) = true
 
 -- a section of rows of two kinds
-abbrev pub section_of : {L E K : Type 0} → Bool → (L → Bool) → (Option E → L → Option E) → (Option K → L → Option K) →
-    List L → Reading L (List E × List K)
+abbrev pub section_of : {L E K : Type 0} → Bool → (L → Bool) →
+    (Option E → L → Option E) → (Option K → L → Option K) → List L → Reading L (List E × List K)
 section_of may is_head first second lines = headed_of may is_head neither has_rows (two_rows first second) lines
 
 -- its lines
@@ -76,7 +77,8 @@ abbrev pub section_lines : {L E K : Type 0} → L → (E → L) → (K → L) �
 section_lines head first second both = headed_lines head has_rows (two_lines first second) both
 
 -- its rows fit, and there are none where none may be
-abbrev pub FitsSection : {E K : Type 0} → Bool → (Option E → E → Type 0) → (Option K → K → Type 0) → List E × List K → Type 0
+abbrev pub FitsSection : {E K : Type 0} → Bool → (Option E → E → Type 0) → (Option K → K → Type 0) →
+    List E × List K → Type 0
 FitsSection may First Second both = FitsHeaded may neither (FitTwo First Second) both
 
 -- a title, and the rows under it, of which there may be none
