@@ -279,10 +279,11 @@ first-due time ts n d ascends within =
 -- where none passes, all fail
 filter-others : {A : Type 0} (p : A → Bool) (xs : List A) → filter p xs ≡ [] → filter (λ a. not (p a)) xs ≡ xs
 filter-others p [] none = refl
-filter-others {A} p (x ∷ xs) none = by (p x) refl none where
-  by : (b : Bool) → p x ≡ b → cond b (x ∷ filter p xs) (filter p xs) ≡ [] → cond (not b) (x ∷ filter (λ a. not (p a)) xs) (filter (λ a. not (p a)) xs) ≡ x ∷ xs
-  by true is none = absurd (cc)
-  by false is none = ap (λ (l : List A). x ∷ l) (filter-others p xs none)
+filter-others {A} p (x ∷ xs) none = by (p x) none (filter-others p xs) where
+  by : (b : Bool) → cond b (x ∷ filter p xs) (filter p xs) ≡ [] → (filter p xs ≡ [] → filter (λ a. not (p a)) xs ≡ xs) →
+      cond (not b) (x ∷ filter (λ a. not (p a)) xs) (filter (λ a. not (p a)) xs) ≡ x ∷ xs
+  by true none rest = absurd (cc)
+  by false none rest = ap (λ (l : List A). x ∷ l) (rest none)
 
 -- behind them stand those that aren't
 pub rest-due : (time : ℕ) (ts : List Timeout) → Ascends (λ t. t.deadline) ts →
