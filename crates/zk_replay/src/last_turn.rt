@@ -55,8 +55,8 @@ fn is_futile<V: Counted>(services: &V, who: Who, asked: &Asked) -> bool
 fn are_futile<V: Counted>(services: &V, who: Who, asked: &[Asked]) -> bool
     ensures { result ≡ true → AreFutile (V.machines services.now) (V.shown services.now) who asked.now }
 {
-    for asked in asked {
-        if !is_futile(services, who, asked) {
+    for step in asked {
+        if !is_futile(services, who, step) {
             return false;
         }
     }
