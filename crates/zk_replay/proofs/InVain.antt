@@ -1,7 +1,7 @@
 -- A player that had no possible attempt has none, as long as what it asked for is in vain still.
 use Rattle.std.proofs.Common.{◌≡◌, ◌≢◌, ◌⊎◌, inl, inr, ℕ, zero, suc, ◌+◌, ◌≤◌, Bool, true, false, Option, Some, None, Result, Ok, Err, IfOk, is_some, List, [], ◌∷◌, ◌++◌, length, map, set, take, drop, All, refl, sym, ap, subst, ◌∙◌, arith, length-append}
 use Rattle.std.proofs.lemmas.List.{append-nil, take-append-le}
-use Rattle.std.proofs.lemmas.List.Elements.{All-head, All-tail}
+use Rattle.std.proofs.lemmas.List.Elements.{All-nil, All-cons, All-head, All-tail}
 use Rattle.std.specs.List.{slice_get, AllZip}
 use Rattle.std.specs.Option.{option_map, option_and_then}
 use Rattle.zk_base.proofs.Lists.{All-at}
@@ -94,7 +94,7 @@ one-still : (m : Machines) (old new : Shown) (who : Who) → IsEarlier old new �
 one-still m old new who grew step none (inl same) = reply-same m old new who grew step same ∙ none
 one-still m old new who grew step none (inr futile) = futile
 
-none_first : {S R : Type 0} (step : S) (o : Option R) (rest : Option (S × R)) → or_else step o rest ≡ None → (o ≡ None) × (rest ≡ None)
+none_first : (step : Step) (o : Option StepReply) (rest : Option (Step × StepReply)) → or_else step o rest ≡ None → (o ≡ None) × (rest ≡ None)
 none_first step None rest none = (refl, none)
 none_first step (Some r) rest none = absurd (cc)
 
@@ -292,6 +292,15 @@ module _ {A B : Type 0} (f : A → B) where
 
   pub asked-more : (xs : List A) (n : ℕ) (x : A) → slice_get xs n ≡ Some x → map f (take (n + 1) xs) ≡ map f (take n xs) ++ f x ∷ []
   asked-more xs n x is = let next : n + 1 ≡ suc n = omega arith in ap (λ (k : ℕ). map f (take k xs)) next ∙ more xs n x is
+
+-- one more of a list passes
+all-more : {A : Type 0} (P : A → Type 0) (xs : List A) (n : ℕ) (x : A) → slice_get xs n ≡ Some x → All P (take n xs) → P x → All P (take (suc n) xs)
+all-more P [] n x is all it = absurd (cc)
+all-more P (y ∷ ys) zero x is all it = let same : y ≡ x = cc in subst (λ z. All P (z ∷ [])) (sym same) (All-cons P x [] it (All-nil P))
+all-more P (y ∷ ys) (suc n) x is all it = All-cons P y (take (suc n) ys) (All-head P y (take n ys) all) (all-more P ys n x is (All-tail P y (take n ys) all) it)
+
+pub all-one_more : {A : Type 0} (P : A → Type 0) (xs : List A) (n : ℕ) (x : A) → slice_get xs n ≡ Some x → All P (take n xs) → P x → All P (take (n + 1) xs)
+all-one_more P xs n x is all it = let next : n + 1 ≡ suc n = omega arith in subst (λ (k : ℕ). All P (take k xs)) (sym next) (all-more P xs n x is all it)
 
 -- so many of what was written back are what was written
 pub written-back : {A : Type 0} (new old : List A) (n : ℕ) → length new ≡ n → take n (new ++ drop (length new) old) ≡ new
