@@ -45,12 +45,6 @@ begun o = option_map_or (λ a. begun_by a.life) o 0
 abbrev handed : ℕ → WorkReply → ℕ
 handed number reply = cond (hands_out number reply) 1 0
 
-begun_by-open : (life : Life) → is_open life ≡ true → begun_by life ≡ cond (is_running life) 1 0
-begun_by-open Waiting o = refl
-begun_by-open Running o = refl
-begun_by-open Ended o = absurd (cc)
-begun_by-open Dropped o = absurd (cc)
-
 begun_by-most : (life : Life) → begun_by life ≤ 1
 begun_by-most Waiting = omega arith
 begun_by-most Running = omega arith

@@ -1,5 +1,5 @@
 -- What becomes of an arm.
-use Rattle.std.proofs.Common.{◌≡◌, ℕ, suc, ◌+◌, ◌<◌, ◌≤◌, ◌⊎◌, inl, inr, Bool, true, false, ◌&&◌, cond, eqb, leb, Option, Some, None, is_some, option_map, List, [], ◌∷◌, ◌++◌, length, map, slice_get, refl, sym, ap, subst, ◌∙◌, arith}
+use Rattle.std.proofs.Common.{◌≡◌, ℕ, suc, ◌+◌, ◌<◌, ◌⊎◌, inl, inr, Bool, true, false, ◌&&◌, cond, eqb, leb, Option, Some, None, is_some, option_map, List, [], ◌∷◌, ◌++◌, length, map, slice_get, refl, sym, ap, subst, ◌∙◌, arith}
 use Rattle.std.specs.Cmp.{second_so}
 use Rattle.std.proofs.lemmas.Bool.{eq-eqb, false≢true}
 use Rattle.std.proofs.lemmas.Bool.Decides.{nat_tests}
@@ -72,9 +72,6 @@ keep-disarm xs time item keep =
 -- what is live after an announce is still ahead
 ahead_of : (time deadline : ℕ) → leb deadline time ≡ false → time < deadline
 ahead_of time deadline is = grind (arith, nat_tests)
-
-not_ahead : (time deadline : ℕ) → leb deadline time ≡ true → deadline ≤ time
-not_ahead time deadline is = grind (arith, nat_tests)
 
 unexpired : (time : ℕ) (a : Arm) → is_live (expire_one time a).fate ≡ true → (expire_one time a ≡ a) × (time < a.deadline)
 unexpired time a = by (is_due time a) refl where

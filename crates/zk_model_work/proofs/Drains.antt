@@ -442,10 +442,6 @@ plugged_rests start h fresh queue q at plugged still =
 
 -- where a draining is counted
 
-counted-same : (qs : List Queue) (ys : List Admission) (queue : ℕ) → drained_of qs queue < drained_of qs queue →
-    is_empty_and_idle ys queue ≡ true
-counted-same qs ys queue more = absurd (omega arith)
-
 counted-settle : (qs : List Queue) (ys : List Admission) (queue : ℕ) →
     drained_of qs queue < drained_of (settle ys qs) queue → is_empty_and_idle ys queue ≡ true
 counted-settle qs ys queue more =

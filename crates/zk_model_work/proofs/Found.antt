@@ -28,7 +28,7 @@ use Rattle.zk_model_work.specs.Answers.{flushed, cancel_start_reply, flush_start
 use Rattle.zk_model_work.specs.Histories.{WorkHistory, IsFreshHistory, OfEach, IsNewest, NoneIsOpen}
 use Rattle.zk_model_work.specs.Laws.{CancelStartTellsTheRun, FlushWaitsForNewest}
 use Rattle.zk_model_work.proofs.Lives.{open-waiting, open-running}
-use Rattle.zk_model_work.proofs.Overlaps.{position-none, runs-open, waiting-running, Ordered, Ordered-next, Ordered-history}
+use Rattle.zk_model_work.proofs.Overlaps.{position-none, waiting-running, Ordered, Ordered-next, Ordered-history}
 use Rattle.zk_model_work.proofs.Entries.{at_each, at_each_in}
 use Rattle.zk_model_work.proofs.Replies.{position-at}
 
@@ -119,14 +119,6 @@ pub cancel_start_tells_the_run : OfEach CancelStartTellsTheRun
 cancel_start_tells_the_run = at_each _ (λ s e is item op.
     sym (same_Some (cancel_start_reply (flags_of s item) (is_some (running s.admissions item))) e.reply
     (ap (work_reply s e.who) (sym op) ∙ is)) ∙ cancel-start-said s item)
-
--- what a flush finds
-item-open : (xs : List Admission) (item n : ℕ) (a : Admission) → slice_get xs n ≡ Some a → a.item ≡ item →
-    is_open a.life ≡ true → (is_waiting a.life ≡ true) ⊎ (is_running a.life ≡ true)
-item-open xs item n a at same opens = by (is_waiting a.life) refl where
-  by : (b : Bool) → is_waiting a.life ≡ b → (is_waiting a.life ≡ true) ⊎ (is_running a.life ≡ true)
-  by true is = inl is
-  by false is = inr (runs-open a.life opens is)
 
 none-open : (xs : List Admission) (item : ℕ) → running xs item ≡ None → waiting xs item ≡ None → (n : ℕ) (a : Admission) →
     slice_get xs n ≡ Some a → a.item ≡ item → is_open a.life ≡ false

@@ -24,7 +24,7 @@ use Rattle.zk_model_work.specs.declared.ops.WorkReply.TheVariants as replies
 use Rattle.zk_model_work.specs.Lists.{first}
 use Rattle.zk_model_work.specs.Questions.{is_live, is_waiting, is_running, waits_for, runs_on, arms_item, line, run, running, live_arm, deadline_of, is_empty_and_idle}
 use Rattle.zk_model_work.specs.State.{State}
-use Rattle.zk_model_work.specs.Machine.{submission_in, arm, disarm, disarm_one, is_pending_in, delayed, schedule, flushed_of, may_close, flags_of, taken_up, may_begin, may_end, schedule_reply_in, delay_reply_in, work_reply, work_next, work_machine}
+use Rattle.zk_model_work.specs.Machine.{submission_in, arm, disarm, disarm_one, is_pending_in, schedule, flushed_of, may_close, flags_of, taken_up, may_begin, may_end, schedule_reply_in, delay_reply_in, work_reply, work_next, work_machine}
 use Rattle.zk_model_work.specs.Answers.{is_worker, is_started, is_plugged, flush_start_reply, remaining}
 use Rattle.zk_model_work.specs.Histories.{OfEach, is_worked_by, is_armed, asked_arm, fits, is_awaited}
 use Rattle.zk_model_work.specs.Laws.{ByItsWorker, EndFindsARun, RemainingTells, AnswersFit, ArmedAsAsked, MayBegin, MayEnd, MayAlways}

@@ -172,10 +172,6 @@ workers-next st who (ops.Announce ticks) = refl
 workers-next st who (ops.Begin queue) = refl
 workers-next st who (ops.End queue) = settle-workers (is_empty_and_idle (end_run st.admissions queue)) 0 st.queues
 
--- the worker of a queue, by its number as a player
-pub IsWorkerOf : State → ℕ → ℕ → Type 0
-IsWorkerOf st queue worker = slice_get (map (λ (q : Queue). q.worker) st.queues) queue ≡ Some worker
-
 -- who may begin or end a run of a queue is its worker
 pub worker-is : (st : State) (queue player worker : ℕ) →
     slice_get (map (λ (q : Queue). q.worker) st.queues) queue ≡ Some worker → is_worker st.queues queue player ≡ true →

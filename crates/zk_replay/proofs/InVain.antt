@@ -1,7 +1,7 @@
--- A player that had no possible attempt has none, as long as no service that it asked has an entry more.
-use Rattle.std.proofs.Common.{◌≡◌, ◌≢◌, ◌⊎◌, inl, inr, ℕ, zero, suc, ◌+◌, ◌≤◌, Bool, ◌&&◌, eqb, true, false, Option, Some, None, Result, Ok, Err, IfOk, is_some, List, [], ◌∷◌, ◌++◌, length, map, set, take, drop, All, refl, sym, ap, subst, ◌∙◌, arith, length-append}
-use Rattle.std.proofs.lemmas.Bool.{and_parts, eqb-true}
+-- A player that had no possible attempt has none, as long as what it asked for is in vain still.
+use Rattle.std.proofs.Common.{◌≡◌, ◌≢◌, ◌⊎◌, inl, inr, ℕ, zero, suc, ◌+◌, ◌≤◌, Bool, true, false, Option, Some, None, Result, Ok, Err, IfOk, is_some, List, [], ◌∷◌, ◌++◌, length, map, set, take, drop, All, refl, sym, ap, subst, ◌∙◌, arith, length-append}
 use Rattle.std.proofs.lemmas.List.{append-nil, take-append-le}
+use Rattle.std.proofs.lemmas.List.Elements.{All-nil, All-cons, All-head, All-tail}
 use Rattle.std.specs.List.{slice_get, AllZip}
 use Rattle.std.specs.Option.{option_map, option_and_then}
 use Rattle.zk_base.proofs.Lists.{All-at}
@@ -40,7 +40,7 @@ use Rattle.zk_replay.specs.declared.last_turn.Asked.{Asked}
 use Rattle.zk_replay.specs.declared.last_turn.LastTurn.{LastTurn}
 use Rattle.zk_replay.specs.RoundRobin.{World}
 use Rattle.zk_replay.specs.Turning.{world, shown_with, at_after, IsTurn}
-use Rattle.zk_replay.specs.LastTurns.{asked_at, are_unchanged, counted_again, HaveAsked, IsEarlier, WaitsSince, IsKept, AreKept}
+use Rattle.zk_replay.specs.LastTurns.{asked_at, IsFutile, AreFutile, counted_again, HaveAsked, IsEarlier, WaitsSince, IsKept, AreKept}
 
 module _ {A : Type 0} where
   -- what has only grown and is as long as it was is the same
@@ -88,19 +88,30 @@ reply-same m old new who grew (steps.LookSignal object must) same =
     ∙ ap (λ (o : Option (List (Entry SignalOp SignalReply))). option_and_then (λ h. option_and_then (look_reply must) (found_by (looks_at old.looks object) h)) o)
     (same-at old.signals new.signals object grew.signals same)
 
-first-same : (m : Machines) (old new : Shown) (who : Who) → IsEarlier old new → (ahead : List Step) → are_unchanged new (map (asked_at old) ahead) ≡ true →
-    first_possible m new who ahead ≡ first_possible m old who ahead
-first-same m old new who grew [] same = refl
-first-same m old new who grew (x ∷ xs) same =
-    let both = and_parts (eqb (entries_at new (service_of x)) (entries_at old (service_of x))) (are_unchanged new (map (asked_at old) xs)) same in
+-- a step that was in vain, and is in vain still, isn't possible
+one-still : (m : Machines) (old new : Shown) (who : Who) → IsEarlier old new → (step : Step) → reply_in m old who step ≡ None → IsFutile m new who (asked_at old step) →
+    reply_in m new who step ≡ None
+one-still m old new who grew step none (inl same) = reply-same m old new who grew step same ∙ none
+one-still m old new who grew step none (inr futile) = futile
+
+none_first : (step : Step) (o : Option StepReply) (rest : Option (Step × StepReply)) → or_else step o rest ≡ None → (o ≡ None) × (rest ≡ None)
+none_first step None rest none = (refl, none)
+none_first step (Some r) rest none = absurd (cc)
+
+first-still : (m : Machines) (old new : Shown) (who : Who) → IsEarlier old new → (ahead : List Step) → first_possible m old who ahead ≡ None → AreFutile m new who (map (asked_at old) ahead) →
+    first_possible m new who ahead ≡ None
+first-still m old new who grew [] none futile = refl
+first-still m old new who grew (x ∷ xs) none futile =
+    let P : Asked → Type 0 = IsFutile m new who in
+    let both = none_first x (reply_in m old who x) (first_possible m old who xs) none in
     ap (λ (o : Option StepReply). or_else x o (first_possible m new who xs))
-    (reply-same m old new who grew x (eqb-true (entries_at new (service_of x)) (entries_at old (service_of x)) both.0))
-    ∙ ap (or_else x (reply_in m old who x)) (first-same m old new who grew xs both.1)
+    (one-still m old new who grew x both.0 (All-head P (asked_at old x) (map (asked_at old) xs) futile))
+    ∙ first-still m old new who grew xs both.1 (All-tail P (asked_at old x) (map (asked_at old) xs) futile)
 
 -- it has no possible attempt still
-still-none : (m : Machines) (s : Content) (shown : Shown) (at : PlayerPlace) (asked : List Asked) → WaitsSince m s shown at asked → are_unchanged shown asked ≡ true → chosen m s shown at ≡ None
-still-none m s shown at asked since same =
-    first-same m since.earlier shown at.who since.since (attempts s at) (subst (λ (l : List Asked). are_unchanged shown l ≡ true) since.asks same) ∙ since.none
+still-none : (m : Machines) (s : Content) (shown : Shown) (at : PlayerPlace) (asked : List Asked) → WaitsSince m s shown at asked → AreFutile m shown at.who asked → chosen m s shown at ≡ None
+still-none m s shown at asked since futile =
+    first-still m since.earlier shown at.who since.since (attempts s at) since.none (subst (λ (l : List Asked). AreFutile m shown at.who l) since.asks futile)
 
 earlier-here : (shown : Shown) → IsEarlier shown shown
 earlier-here shown = record {
@@ -174,11 +185,10 @@ none_or None is = refl
 none_or (Some x) is = absurd (cc)
 
 -- a player that is passed over had no possible attempt
-pub passed : (m : Machines) (s : Content) (shown : Shown) (at : PlayerPlace) (kept : LastTurn) → IsKept m s shown at kept → (kept.waits && are_unchanged shown kept.asked.items) ≡ true →
+pub passed : (m : Machines) (s : Content) (shown : Shown) (at : PlayerPlace) (kept : LastTurn) → IsKept m s shown at kept → (kept.waits ≡ true) × AreFutile m shown at.who kept.asked.items →
     IsTurn m s at at shown shown false
 passed m s shown at kept was vain =
-    let both = and_parts kept.waits (are_unchanged shown kept.asked.items) vain in
-    let none = still-none m s shown at kept.asked.items (was both.0) both.1 in
+    let none = still-none m s shown at kept.asked.items (was vain.0) vain.1 in
     record {
       place = ap (at_after s at) (sym none);
       shows = ap (shown_with shown at.who (length at.spots)) (sym none);
@@ -282,6 +292,15 @@ module _ {A B : Type 0} (f : A → B) where
 
   pub asked-more : (xs : List A) (n : ℕ) (x : A) → slice_get xs n ≡ Some x → map f (take (n + 1) xs) ≡ map f (take n xs) ++ f x ∷ []
   asked-more xs n x is = let next : n + 1 ≡ suc n = omega arith in ap (λ (k : ℕ). map f (take k xs)) next ∙ more xs n x is
+
+-- one more of a list passes
+all-more : {A : Type 0} (P : A → Type 0) (xs : List A) (n : ℕ) (x : A) → slice_get xs n ≡ Some x → All P (take n xs) → P x → All P (take (suc n) xs)
+all-more P [] n x is all it = absurd (cc)
+all-more P (y ∷ ys) zero x is all it = let same : y ≡ x = cc in subst (λ z. All P (z ∷ [])) (sym same) (All-cons P x [] it (All-nil P))
+all-more P (y ∷ ys) (suc n) x is all it = All-cons P y (take (suc n) ys) (All-head P y (take n ys) all) (all-more P ys n x is (All-tail P y (take n ys) all) it)
+
+pub all-one_more : {A : Type 0} (P : A → Type 0) (xs : List A) (n : ℕ) (x : A) → slice_get xs n ≡ Some x → All P (take n xs) → P x → All P (take (n + 1) xs)
+all-one_more P xs n x is all it = let next : n + 1 ≡ suc n = omega arith in subst (λ (k : ℕ). All P (take k xs)) (sym next) (all-more P xs n x is all it)
 
 -- so many of what was written back are what was written
 pub written-back : {A : Type 0} (new old : List A) (n : ℕ) → length new ≡ n → take n (new ++ drop (length new) old) ≡ new

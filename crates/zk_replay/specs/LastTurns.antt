@@ -1,8 +1,10 @@
-use Rattle.std.specs.Prelude.{◌≡◌, ◌==◌, ℕ, Bool, true, Some, None, List, map, slice_get}
-use Rattle.std.specs.List.{list_all, AllZip}
+use Rattle.std.specs.Prelude.{◌≡◌, ◌⊎◌, ℕ, true, Some, None, List, map, slice_get, All}
+use Rattle.std.specs.List.{AllZip}
+use Rattle.zk_base.specs.declared.ids.Who.{Who}
 use Rattle.zk_scenario.specs.Content.{Content}
 use Rattle.zk_services.specs.Counted.{service_of, entries_at}
 use Rattle.zk_worker.specs.declared.steps.Step.{Step}
+use Rattle.zk_worker.specs.Attempt.{reply_in}
 use Rattle.zk_worker.specs.Choosing.{chosen}
 use Rattle.zk_worker.specs.Looks.{Longer}
 use Rattle.zk_worker.specs.Machines.{Machines}
@@ -13,19 +15,23 @@ use Rattle.zk_replay.specs.declared.last_turn.Asked.{Asked}
 use Rattle.zk_replay.specs.declared.last_turn.LastTurn.{LastTurn}
 use Rattle.zk_replay.specs.RoundRobin.{World}
 
--- the service that a step asks, and how many entries are shown of it
+-- a step, with how many entries are shown of the service that it asks
 abbrev pub asked_at : Shown → Step → Asked
-asked_at shown step = record { service = service_of step; entries = entries_at shown (service_of step) }
+asked_at shown step = record { step = step; entries = entries_at shown (service_of step) }
 
--- whether each of these services has as many entries still
-abbrev pub are_unchanged : Shown → List Asked → Bool
-are_unchanged shown asked = list_all (λ a. entries_at shown a.service == a.entries) asked
+-- a step that was asked for in vain is in vain still: its service has as many entries as it had, or it isn't possible now
+abbrev pub IsFutile : Machines → Shown → Who → Asked → Type 0
+IsFutile m shown who a = (entries_at shown (service_of a.step) ≡ a.entries) ⊎ (reply_in m shown who a.step ≡ None)
 
--- a service with how many entries are shown of it
+-- all of these steps are in vain still
+abbrev pub AreFutile : Machines → Shown → Who → List Asked → Type 0
+AreFutile m shown who asked = All (IsFutile m shown who) asked
+
+-- a step with how many entries are shown now of the service that it asks
 abbrev pub counted_again : Shown → Asked → Asked
-counted_again shown asked = record { service = asked.service; entries = entries_at shown asked.service }
+counted_again shown asked = record { step = asked.step; entries = entries_at shown (service_of asked.step) }
 
--- these are the services of these attempts, with how many entries they had at some moment
+-- these are these attempts, with how many entries their services had at some moment
 abbrev pub HaveAsked : List Asked → List Step → Type 0
 HaveAsked asked ahead = (earlier : Shown) × (asked ≡ map (asked_at earlier) ahead)
 
@@ -41,7 +47,7 @@ pub record IsEarlier (old new : Shown) : Type 0 where
   pub observers : AllZip Longer old.observers new.observers
   pub looks : new.looks ≡ old.looks
 
--- a player asked these services when it had no possible attempt, and still stands there
+-- a player asked for these steps when it had no possible attempt, and still stands there
 pub record WaitsSince (m : Machines) (s : Content) (shown : Shown) (at : PlayerPlace) (asked : List Asked)
     : Type 0 where
   pub earlier : Shown

@@ -1,29 +1,30 @@
-ghost use Rattle.std.specs.Prelude.{◌≡◌, ◌&&◌, true, false, map, vec_len, IfOk, All};
+ghost use Rattle.std.specs.Prelude.{◌≡◌, true, false, map, vec_len, IfOk, All};
+ghost use Rattle.zk_base.specs.declared.ids.Who.{Who};
 ghost use Rattle.zk_worker.specs.Protocol.{attempts};
-ghost use Rattle.zk_replay.specs.LastTurns.{asked_at, are_unchanged, counted_again, HaveAsked};
+ghost use Rattle.zk_replay.specs.LastTurns.{asked_at, counted_again, HaveAsked, IsFutile, AreFutile};
 
 use std::alloc::Global;
-use zk_base::NoMemory;
+use zk_base::{NoMemory, Who};
 use zk_scenario::Scenario;
-use zk_services::{Counted, ServiceId, service_of};
-use zk_worker::{MOST_ATTEMPTS, Player};
+use zk_services::{Counted, service_of};
+use zk_worker::{MOST_ATTEMPTS, Player, Step};
 
-/// A service that a player asked in vain, and how many entries it had then.
+/// A step that a player asked for in vain, and how many entries its service had then.
 #[derive(Clone, Copy, Debug)]
 pub struct Asked {
-    /// The service.
-    pub service: ServiceId,
-    /// How many entries it had.
+    /// The step.
+    pub step: Step,
+    /// How many entries the service had that it asks.
     pub entries: u64,
 }
 
 /// What is kept of a player's last turn. Where it was in vain the next one is too, as long as each service that it asked has
-/// as many entries as it had.
+/// as many entries as it had, or says that asking again is in vain.
 #[derive(Debug, Drop)]
 pub struct LastTurn {
     /// Whether its last turn was in vain.
     pub waits: bool,
-    /// The services that it asked then.
+    /// The steps that it asked for then.
     pub asked: Vec<Asked>,
 }
 
@@ -42,23 +43,35 @@ pub fn no_turns(alloc: Global, players: usize) -> Result<Vec<LastTurn>, NoMemory
     Ok(all)
 }
 
-/// Whether each of these services has as many entries still.
-fn are_unchanged<V: Counted>(services: &V, asked: &[Asked]) -> bool
-    ensures { result ≡ are_unchanged (V.shown services.now) asked.now }
+/// Whether a step that was asked for in vain is in vain still: its service has as many entries as it had, or says so.
+fn is_futile<V: Counted>(services: &V, who: Who, asked: &Asked) -> bool
+    ensures { result ≡ true → IsFutile (V.machines services.now) (V.shown services.now) who asked.now }
 {
-    asked
-        .iter()
-        .all(|asked| services.entries(asked.service) == asked.entries)
+    services.entries(service_of(&asked.step)) == asked.entries
+        || services.is_futile(who, &asked.step)
+}
+
+/// Whether all of these steps are in vain still.
+fn are_futile<V: Counted>(services: &V, who: Who, asked: &[Asked]) -> bool
+    ensures { result ≡ true → AreFutile (V.machines services.now) (V.shown services.now) who asked.now }
+{
+    for step in asked {
+        if !is_futile(services, who, step) {
+            return false;
+        }
+    }
+    true
 }
 
 /// Whether a player's next turn is in vain by what is kept of its last one.
-pub fn is_in_vain<V: Counted>(services: &V, kept: &LastTurn) -> bool
-    ensures { result ≡ (kept.now.waits && are_unchanged (V.shown services.now) kept.now.asked.items) }
+pub fn is_in_vain<V: Counted>(services: &V, who: Who, kept: &LastTurn) -> bool
+    ensures { result ≡ true → (kept.now.waits ≡ true)
+        × AreFutile (V.machines services.now) (V.shown services.now) who kept.now.asked.items }
 {
-    kept.waits && are_unchanged(services, &kept.asked)
+    kept.waits && are_futile(services, who, &kept.asked)
 }
 
-/// Puts the services that a player asks next, with how many entries they have, behind none.
+/// Puts the steps that a player asks for next, with how many entries their services have, behind none.
 fn ask<V: Counted>(
     services: &V,
     scenario: &Scenario,
@@ -73,22 +86,21 @@ fn ask<V: Counted>(
         let Some(step) = player.ahead(scenario, index) else {
             return Ok(());
         };
-        let service = service_of(&step);
-        let entries = services.entries(service);
-        asked.push(Asked { service, entries })?;
+        let entries = services.entries(service_of(&step));
+        asked.push(Asked { step, entries })?;
     }
     Ok(())
 }
 
-/// A service that was asked, with how many entries it has now.
+/// A step that was asked for, with how many entries its service has now.
 fn counted_again<V: Counted>(services: &V, asked: Asked) -> Asked
     ensures { result ≡ counted_again (V.shown services.now) asked }
 {
-    let entries = services.entries(asked.service);
+    let entries = services.entries(service_of(&asked.step));
     Asked { entries, ..asked }
 }
 
-/// Counts anew how many entries each of these services has.
+/// Counts anew how many entries the services of these steps have.
 fn count_again<V: Counted>(services: &V, asked: &mut [Asked])
     ensures { asked.new ≡ map (counted_again (V.shown services.now)) asked.old }
 {
@@ -97,8 +109,8 @@ fn count_again<V: Counted>(services: &V, asked: &mut [Asked])
     }
 }
 
-/// Keeps of a player's turn whether it was in vain, and whom it asked then. Where the one before was in vain too, it asked the
-/// same services.
+/// Keeps of a player's turn whether it was in vain, and what it asked for then. Where the one before was in vain too, it asked
+/// for the same.
 pub fn keep<V: Counted>(
     services: &V,
     scenario: &Scenario,

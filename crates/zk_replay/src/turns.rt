@@ -72,7 +72,7 @@ fn play<V: Services>(
     Ok(Turn { moved, spent })
 }
 
-/// A turn of a player that has steps left. Where its last one was in vain, and no service that it asked has an entry more, it
+/// A turn of a player that has steps left. Where its last one was in vain, and what it asked for then is in vain still, it
 /// isn't asked again.
 fn play_or_pass<V: Counted>(
     services: &mut V,
@@ -96,7 +96,7 @@ fn play_or_pass<V: Counted>(
         IsKept (V.machines services.old) scenario.now (V.shown services.new) player.new kept.new) }
     ensures alone { IsAlone scenario.now (V.alone services.new) (V.machines services.new) (V.serves services.new) }
 {
-    if is_in_vain(services, kept) {
+    if is_in_vain(services, player.who(), kept) {
         return Ok(Turn {
             moved: false,
             spent: false,

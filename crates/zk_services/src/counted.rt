@@ -1,9 +1,12 @@
-ghost use Rattle.std.specs.Prelude.{◌≡◌};
+ghost use Rattle.std.specs.Prelude.{◌≡◌, ℕ, true, None};
+ghost use Rattle.zk_worker.specs.declared.steps.StepReply.{StepReply};
+ghost use Rattle.zk_worker.specs.Attempt.{reply_in};
+ghost use Rattle.zk_worker.specs.Families.{answer_at};
 ghost use Rattle.zk_services.specs.Counted.{service_of, count_at, entries_at};
-ghost use Rattle.zk_services.specs.Objects.{histories_of};
+ghost use Rattle.zk_services.specs.Objects.{starts_of, histories_of};
 
 use crate::plain::Plain;
-use zk_base::Service;
+use zk_base::{Service, Who};
 use zk_worker::{Services, Step};
 
 /// One of the services of a scenario; an object's is named by the object's number.
@@ -50,6 +53,11 @@ pub trait Counted: Services {
     /// How many entries a service has; where there is no such object, 0.
     fn entries(&self, service: ServiceId) -> u64
         ensures { result ≡ entries_at (Self.shown self.now) service };
+
+    /// Whether it is plain that this step isn't possible now, so that an attempt would be in vain. It may say no where it
+    /// would be.
+    fn is_futile(&self, who: Who, step: &Step) -> bool
+        ensures { result ≡ true → reply_in (Self.machines self.now) (Self.shown self.now) who step.now ≡ None };
 }
 
 /// How many entries an object of a kind has, by object number; one of another kind has none.
@@ -59,6 +67,18 @@ fn entries_of<S: Service>(objects: &Vec<Option<S>>, object: u32) -> u64
     match objects.get(object as usize) {
         Some(Some(service)) => service.history().len() as u64,
         _ => 0,
+    }
+}
+
+/// Whether it is plain that one of the objects of a kind, which stand by object number, doesn't let this operation stand now.
+fn is_futile_at<S: Service>(objects: &Vec<Option<S>>, object: u32, who: Who, op: &S::Op) -> bool
+    ensures { result ≡ true → (step_reply : ℕ → S.Reply → ℕ → StepReply) →
+        answer_at (record { machine = S.machine; starts = starts_of S.start objects.now.items })
+        (histories_of S.history objects.now.items) step_reply who object op.now ≡ None }
+{
+    match objects.get(object as usize) {
+        Some(Some(service)) => service.is_futile(who, op),
+        _ => false,
     }
 }
 
@@ -73,6 +93,17 @@ impl Counted for Plain {
             ServiceId::Signal(object) => entries_of(&self.signals, object),
             ServiceId::Chan(object) => entries_of(&self.chans, object),
             ServiceId::Obs(object) => entries_of(&self.observers, object),
+        }
+    }
+
+    fn is_futile(&self, who: Who, step: &Step) -> bool {
+        match step {
+            Step::Clock(op) => self.clock.is_futile(who, op),
+            Step::Sem(object, op) => is_futile_at(&self.sems, *object, who, op),
+            Step::Msgq(object, op) => is_futile_at(&self.msgqs, *object, who, op),
+            Step::Chan(object, op) => is_futile_at(&self.chans, *object, who, op),
+            Step::Obs(object, op) => is_futile_at(&self.observers, *object, who, op),
+            _ => false,
         }
     }
 }

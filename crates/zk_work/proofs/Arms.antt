@@ -276,6 +276,15 @@ first-due time ts n d ascends within =
           ∙ ap (λ b. cond b (drop (suc n) ts) (get_or ts n d ∷ drop (suc n) ts)) it.1,
     )
 
+-- where none passes, all fail
+filter-others : {A : Type 0} (p : A → Bool) (xs : List A) → filter p xs ≡ [] → filter (λ a. not (p a)) xs ≡ xs
+filter-others p [] none = refl
+filter-others {A} p (x ∷ xs) none = by (p x) none (filter-others p xs) where
+  by : (b : Bool) → cond b (x ∷ filter p xs) (filter p xs) ≡ [] → (filter p xs ≡ [] → filter (λ a. not (p a)) xs ≡ xs) →
+      cond (not b) (x ∷ filter (λ a. not (p a)) xs) (filter (λ a. not (p a)) xs) ≡ x ∷ xs
+  by true none rest = absurd (cc)
+  by false none rest = ap (λ (l : List A). x ∷ l) (rest none)
+
 -- behind them stand those that aren't
 pub rest-due : (time : ℕ) (ts : List Timeout) → Ascends (λ t. t.deadline) ts →
     drop (length (filter (is_due time) ts)) ts ≡ filter (λ t. not (is_due time t)) ts
@@ -294,6 +303,5 @@ rest-due time (t ∷ ts) ascends = by (is_due time t) refl (rest-due time ts asc
   by false is rest =
       let none : filter (is_due time) (t ∷ ts) ≡ [] =
       filter-upto_none (λ (t : Timeout). t.deadline) time t ts ascends (above t.deadline time is) in
-      let all = Rattle.zk_base.proofs.Order.filter-past_all (λ (t : Timeout). t.deadline) time t ts ascends
-      (above t.deadline time is) in
+      let all = filter-others (is_due time) (t ∷ ts) none in
       ap (λ (l : List Timeout). drop (length l) (t ∷ ts)) none ∙ sym all

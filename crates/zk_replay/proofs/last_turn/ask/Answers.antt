@@ -1,6 +1,6 @@
-use Rattle.std.proofs.Common.{◌≡◌, ◌≤◌, ◌+◌, List, ◌∷◌, [], ◌++◌, Some, length, sym, ap, ◌∙◌, arith}
+use Rattle.std.proofs.Common.{◌≡◌, ◌≤◌, List, ◌∷◌, [], ◌++◌, Some, length, sym, ap, ◌∙◌, arith}
 use Rattle.std.specs.List.{slice_get}
-use Rattle.zk_services.specs.Counted.{service_of, entries_at}
+use Rattle.zk_services.specs.Counted.{entries_at}
 use Rattle.zk_worker.specs.Protocol.{attempts}
 use Rattle.zk_worker.proofs.Limits.{attempts-few}
 use Rattle.zk_replay.specs.declared.last_turn.Asked.{Asked}
@@ -14,9 +14,8 @@ loop-index-preserved g c =
     let ahead = attempts c.args.scenario.now c.args.player.now in
     let step = c.in-Some.step in
     let there : slice_get ahead c.loop-index.index ≡ Some step = sym c.in-Some.ensures in
-    let found : record { service = c.service_of-service.result; entries = c.entries-entries.result } ≡ asked_at shown step =
-    ap (λ (s : _). record { service = s; entries = c.entries-entries.result }) c.service_of-service.ensures ∙
-    ap (λ (n : _). record { service = service_of step; entries = n }) (c.entries-entries.ensures ∙ ap (entries_at shown) c.service_of-service.ensures) in
+    let found : record { step = step; entries = c.entries-entries.result } ≡ asked_at shown step =
+    ap (λ (n : _). record { step = step; entries = n }) (c.entries-entries.ensures ∙ ap (entries_at shown) c.service_of.ensures) in
     c.in_ok-push.ensures.items
     ∙ ap (λ (a : Asked). c.loop-index.asked.items ++ a ∷ []) found
     ∙ ap (λ (l : List Asked). l ++ asked_at shown step ∷ []) c.loop-index.invariant
