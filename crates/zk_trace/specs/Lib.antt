@@ -20,3 +20,6 @@ pub mod Log
 pub mod Look
 pub mod Ending
 pub mod Lawful
+pub mod Exact
+pub mod Choices
+pub mod Fields

@@ -55,9 +55,13 @@ why_word NotInit = codes "notinit"
 abbrev pub oops_word : OopsWhy → List ℕ
 oops_word why = codes "oops " ++ why_word why
 
+-- what stands before the number of an admission
+abbrev pub admission_front : List ℕ
+admission_front = codes "a"
+
 -- the number of an admission
 abbrev pub admission_word : ℕ → List ℕ
-admission_word number = codes "a" ++ decimal number
+admission_word number = admission_front ++ decimal number
 
 -- a letter where its flag is set
 abbrev pub flag_letter : ℕ → ℕ → List ℕ → List ℕ
@@ -91,9 +95,13 @@ position_text position = codes " " ++ decimal position
 abbrev pub positions_text : List ℕ → List ℕ
 positions_text positions = flat_map position_text positions
 
+-- the word before the positions of a poll's ready events
+abbrev pub ready_front : List ℕ
+ready_front = codes "ready"
+
 -- the ready events of a poll, by their positions
 abbrev pub ready_word : List ℕ → List ℕ
-ready_word positions = codes "ready" ++ positions_text positions
+ready_word positions = ready_front ++ positions_text positions
 
 -- the word of a call, as it stands in the table
 abbrev pub call_word : Word → List ℕ

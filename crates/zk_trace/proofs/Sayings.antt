@@ -1,0 +1,161 @@
+-- What is made of words that are read exactly is read exactly: operations by their verbs, and replies by those of a verb.
+use Rattle.std.proofs.Common.{◌≡◌, ◌⊎◌, ℕ, Bool, true, ◌&&◌, not, eqb, Option, Some, is_none, List, [], ◌∷◌, refl, sym, ap, subst, inl, inr, ◌∙◌}
+use Rattle.std.specs.Prelude.{option_map, option_and_then, bytes_eq}
+use Rattle.std.specs.List.{AllByRecursion, list_all}
+use Rattle.std.proofs.lemmas.Bool.{and_parts}
+use Rattle.std.proofs.lemmas.Option.{same_Some, none-some, option_and_then_some}
+use Rattle.std.proofs.lemmas.Slice.Eq.{bytes_eq-Decides}
+use Rattle.zk_base.proofs.Lists.{find-passes}
+use Rattle.zk_words.specs.Bytes.{line_feed}
+use Rattle.zk_line.proofs.Options.{one_part}
+use Rattle.zk_trace.specs.Choices.{one_of, IsIn, IsNoText, all_differ}
+use Rattle.zk_trace.specs.Exact.{IsPlain, IsUnfed, IsExact, IsExactRow, AreExact}
+use Rattle.zk_trace.specs.Fields.{named, bare, one, two, three, said_by}
+use Rattle.zk_trace.proofs.Choices.{differ_is, written, else_again, either, apart}
+use Rattle.zk_trace.proofs.PlainWords.{lacks_is}
+
+-- Of so many words. The first lemma of each pair reads what is made again, the second says what was read.
+
+pub bare-says : {D : Type 0} (made : D) (P : List (List ℕ) → D → Type 0) → P [] made → (words : List (List ℕ)) (d : D) → bare made words ≡ Some d → P words d
+bare-says made P holds [] d said = subst (P []) (same_Some made d said) holds
+bare-says made P holds (word ∷ words) d said = absurd (none-some d said)
+
+-- words that are read as this, and are words
+abbrev pub AreRead : {D : Type 0} → (List (List ℕ) → Option D) → List (List ℕ) → D → Type 0
+AreRead of words d = (of words ≡ Some d) × AllByRecursion IsPlain words
+
+module _ {A D : Type 0} {text : A → List ℕ} {Fits : A → Type 0} {of : List ℕ → Option A} (exact : IsExact text Fits of) (make : A → D) where
+  pub one-there : (a : A) → Fits a → AreRead (one make of) (text a ∷ []) (make a)
+  one-there a fits = (ap (option_map make) (exact.again a fits), (exact.plain a fits, tt))
+
+  pub one-says : (P : List (List ℕ) → D → Type 0) → ((a : A) → Fits a → P (text a ∷ []) (make a)) → (words : List (List ℕ)) (d : D) → one make of words ≡ Some d → P words d
+  one-says P holds [] d said = absurd (none-some d said)
+  one-says P holds (word ∷ []) d said =
+      let a = one_part make (of word) d said in
+      let found = exact.spelled word a.0 a.1 in
+      subst (P (word ∷ [])) a.2 (subst (λ w. P (w ∷ []) (make a.0)) (sym found.0) (holds a.0 found.1))
+  one-says P holds (word ∷ second ∷ words) d said = absurd (none-some d said)
+
+module _ {A B D : Type 0} {text : A → List ℕ} {Fits : A → Type 0} {of : List ℕ → Option A} (exact : IsExact text Fits of)
+    {text₂ : B → List ℕ} {Fits₂ : B → Type 0} {of₂ : List ℕ → Option B} (exact₂ : IsExact text₂ Fits₂ of₂) (make : A → B → D) where
+  pub two-there : (a : A) (b : B) → Fits a → Fits₂ b → AreRead (two make of of₂) (text a ∷ text₂ b ∷ []) (make a b)
+  two-there a b fits fits₂ = (
+    ap (option_and_then (λ x. option_map (make x) (of₂ (text₂ b)))) (exact.again a fits) ∙ ap (option_map (make a)) (exact₂.again b fits₂),
+    (exact.plain a fits, (exact₂.plain b fits₂, tt)),
+  )
+
+  pub two-says : (P : List (List ℕ) → D → Type 0) → ((a : A) (b : B) → Fits a → Fits₂ b → P (text a ∷ text₂ b ∷ []) (make a b))
+      → (words : List (List ℕ)) (d : D) → two make of of₂ words ≡ Some d → P words d
+  two-says P holds [] d said = absurd (none-some d said)
+  two-says P holds (word ∷ []) d said = absurd (none-some d said)
+  two-says P holds (word ∷ second ∷ []) d said = option_and_then_some (λ x. option_map (make x) (of₂ second)) (of word) d said
+      (λ a is more.
+      let b = one_part (make a) (of₂ second) d more in
+      let found = exact.spelled word a is in
+      let found₂ = exact₂.spelled second b.0 b.1 in
+      subst (P (word ∷ second ∷ [])) b.2
+      (subst (λ w. P (w ∷ second ∷ []) (make a b.0)) (sym found.0)
+      (subst (λ w. P (text a ∷ w ∷ []) (make a b.0)) (sym found₂.0) (holds a b.0 found.1 found₂.1))))
+  two-says P holds (word ∷ second ∷ third ∷ words) d said = absurd (none-some d said)
+
+module _ {A B C D : Type 0} {text : A → List ℕ} {Fits : A → Type 0} {of : List ℕ → Option A} (exact : IsExact text Fits of)
+    {text₂ : B → List ℕ} {Fits₂ : B → Type 0} {of₂ : List ℕ → Option B} (exact₂ : IsExact text₂ Fits₂ of₂)
+    {text₃ : C → List ℕ} {Fits₃ : C → Type 0} {of₃ : List ℕ → Option C} (exact₃ : IsExact text₃ Fits₃ of₃) (make : A → B → C → D) where
+  pub three-there : (a : A) (b : B) (c : C) → Fits a → Fits₂ b → Fits₃ c
+      → AreRead (three make of of₂ of₃) (text a ∷ text₂ b ∷ text₃ c ∷ []) (make a b c)
+  three-there a b c fits fits₂ fits₃ = (
+    ap (option_and_then (λ x. option_and_then (λ y. option_map (make x y) (of₃ (text₃ c))) (of₂ (text₂ b)))) (exact.again a fits)
+        ∙ ap (option_and_then (λ y. option_map (make a y) (of₃ (text₃ c)))) (exact₂.again b fits₂)
+        ∙ ap (option_map (make a b)) (exact₃.again c fits₃),
+    (exact.plain a fits, (exact₂.plain b fits₂, (exact₃.plain c fits₃, tt))),
+  )
+
+  pub three-says : (P : List (List ℕ) → D → Type 0) → ((a : A) (b : B) (c : C) → Fits a → Fits₂ b → Fits₃ c → P (text a ∷ text₂ b ∷ text₃ c ∷ []) (make a b c))
+      → (words : List (List ℕ)) (d : D) → three make of of₂ of₃ words ≡ Some d → P words d
+  three-says P holds [] d said = absurd (none-some d said)
+  three-says P holds (word ∷ []) d said = absurd (none-some d said)
+  three-says P holds (word ∷ second ∷ []) d said = absurd (none-some d said)
+  three-says P holds (word ∷ second ∷ third ∷ []) d said = option_and_then_some (λ x. option_and_then (λ y. option_map (make x y) (of₃ third)) (of₂ second)) (of word) d said
+      (λ a is more. option_and_then_some (λ y. option_map (make a y) (of₃ third)) (of₂ second) d more
+      (λ b is₂ most.
+      let c = one_part (make a b) (of₃ third) d most in
+      let found = exact.spelled word a is in
+      let found₂ = exact₂.spelled second b is₂ in
+      let found₃ = exact₃.spelled third c.0 c.1 in
+      subst (P (word ∷ second ∷ third ∷ [])) c.2
+      (subst (λ w. P (w ∷ second ∷ third ∷ []) (make a b c.0)) (sym found.0)
+      (subst (λ w. P (text a ∷ w ∷ third ∷ []) (make a b c.0)) (sym found₂.0)
+      (subst (λ w. P (text a ∷ text₂ b ∷ w ∷ []) (make a b c.0)) (sym found₃.0) (holds a b c.0 found.1 found₂.1 found₃.1))))))
+  three-says P holds (word ∷ second ∷ third ∷ fourth ∷ words) d said = absurd (none-some d said)
+
+-- Operations.
+
+-- the words behind a verb say an operation of that verb, and fit
+abbrev pub SaysOp : {V O : Type 0} → (O → V) → (O → List (List ℕ)) → (O → Type 0) → V → List (List ℕ) → O → Type 0
+SaysOp verb_of args Fits verb words op = (verb_of op ≡ verb) × (words ≡ args op) × Fits op
+
+module _ {V O : Type 0} (verb_word : V → List ℕ) (all : List V) (verb_of : O → V) (args : O → List (List ℕ)) (Fits : O → Type 0) (op_behind : V → List (List ℕ) → Option O) where
+  -- operations are read exactly, where the words behind each verb are
+  pub ops_exact : ((v : V) → (named verb_word all (verb_word v) ≡ Some v) × IsPlain (verb_word v))
+      → ((op : O) → Fits op → AreRead (op_behind (verb_of op)) (args op) op)
+      → ((v : V) (words : List (List ℕ)) (op : O) → op_behind v words ≡ Some op → SaysOp verb_of args Fits v words op)
+      → AreExact (λ op. verb_word (verb_of op) ∷ args op) Fits (said_by verb_word all op_behind)
+  ops_exact verbs there says = record {
+    again = λ op fits. ap (option_and_then (λ v. op_behind v (args op))) (verbs (verb_of op)).0 ∙ (there op fits).0;
+    spelled = spelled;
+    plain = λ op fits. ((verbs (verb_of op)).1, (there op fits).1);
+  } where
+    spelled : (words : List (List ℕ)) (op : O) → said_by verb_word all op_behind words ≡ Some op → (words ≡ verb_word (verb_of op) ∷ args op) × Fits op
+    spelled [] op said = absurd (none-some op said)
+    spelled (word ∷ words) op said = option_and_then_some (λ v. op_behind v words) (named verb_word all word) op said
+        (λ v found more.
+        let is = (bytes_eq-Decides word (verb_word v)).0 (find-passes (λ x. bytes_eq word (verb_word x)) all v found) in
+        let told = says v words op more in
+        (ap (λ w. w ∷ words) (is ∙ ap verb_word (sym told.0)) ∙ ap (λ ws. verb_word (verb_of op) ∷ ws) told.1, told.2))
+
+-- Replies.
+
+-- the replies that are the same in each line are written otherwise, each without a line feed
+abbrev pub is_table : {R : Type 0} → (R → List ℕ) → List R → Bool
+is_table text rs = all_differ bytes_eq text rs && list_all (λ r. list_all (λ b. not (eqb b line_feed)) (text r)) rs
+
+unfed-in : {R : Type 0} (text : R → List ℕ) (rs : List R) (r : R) → list_all (λ r. list_all (λ b. not (eqb b line_feed)) (text r)) rs ≡ true → IsIn r rs → IsUnfed (text r)
+unfed-in text [] r unfed found = absurd found
+unfed-in text (x ∷ rs) r unfed (inl is) =
+    let parts = and_parts (list_all (λ b. not (eqb b line_feed)) (text x)) (list_all (λ r. list_all (λ b. not (eqb b line_feed)) (text r)) rs) unfed in
+    subst (λ y. IsUnfed (text y)) (sym is) (lacks_is line_feed (text x) parts.0)
+unfed-in text (x ∷ rs) r unfed (inr more) =
+    let parts = and_parts (list_all (λ b. not (eqb b line_feed)) (text x)) (list_all (λ r. list_all (λ b. not (eqb b line_feed)) (text r)) rs) unfed in
+    unfed-in text rs r parts.1 more
+
+-- replies that are the same in each line, and others that are read exactly and are written as none of those, are read exactly
+pub replies_exact : {R : Type 0} (text : R → List ℕ) (FitsOpen : R → Type 0) (open_of : List ℕ → Option R) (fixed : List R)
+    → is_table text fixed ≡ true → IsExactRow text FitsOpen open_of → ((r : R) → FitsOpen r → IsNoText text (text r) fixed)
+    → IsExactRow text (λ r. IsIn r fixed ⊎ FitsOpen r) (one_of bytes_eq text open_of fixed)
+replies_exact {R} text FitsOpen open_of fixed table exact other = record { again = again; spelled = spelled; unfed = unfed } where
+  same_is : (a b : List ℕ) → bytes_eq a b ≡ true → a ≡ b
+  same_is a b is = (bytes_eq-Decides a b).0 is
+
+  is_same : (a : List ℕ) → bytes_eq a a ≡ true
+  is_same a = (bytes_eq-Decides a a).1 refl
+
+  tabled : (all_differ bytes_eq text fixed ≡ true) × (list_all (λ r. list_all (λ b. not (eqb b line_feed)) (text r)) fixed ≡ true)
+  tabled = and_parts (all_differ bytes_eq text fixed) (list_all (λ r. list_all (λ b. not (eqb b line_feed)) (text r)) fixed) table
+
+  again : (r : R) → IsIn r fixed ⊎ FitsOpen r → one_of bytes_eq text open_of fixed (text r) ≡ Some r
+  again r (inl found) =
+      written {FitsElse = FitsOpen} same_is is_same exact.again exact.spelled fixed
+      (differ_is text (λ a b is. (bytes_eq-Decides a b).1 is) fixed tabled.0) r found
+  again r (inr fits) = else_again {FitsElse = FitsOpen} same_is is_same exact.again exact.spelled fixed r fits (other r fits)
+
+  spelled : (row : List ℕ) (r : R) → one_of bytes_eq text open_of fixed row ≡ Some r → (row ≡ text r) × (IsIn r fixed ⊎ FitsOpen r)
+  spelled row r said = either {FitsElse = FitsOpen} same_is is_same exact.again exact.spelled fixed row r said
+
+  unfed : (r : R) → IsIn r fixed ⊎ FitsOpen r → IsUnfed (text r)
+  unfed r (inl found) = unfed-in text fixed r tabled.1 found
+  unfed r (inr fits) = exact.unfed r fits
+
+-- the others are written as none of those, where those are read as none of the others
+pub apart_by_reading : {R : Type 0} (text : R → List ℕ) (FitsOpen : R → Type 0) (open_of : List ℕ → Option R) (fixed : List R)
+    → IsExactRow text FitsOpen open_of → list_all (λ r. is_none (open_of (text r))) fixed ≡ true → (r : R) → FitsOpen r → IsNoText text (text r) fixed
+apart_by_reading text FitsOpen open_of fixed exact unread r fits = apart text open_of fixed (text r) r (exact.again r fits) unread
