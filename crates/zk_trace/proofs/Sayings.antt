@@ -9,7 +9,8 @@ use Rattle.zk_base.proofs.Lists.{find-passes}
 use Rattle.zk_words.specs.Bytes.{line_feed}
 use Rattle.zk_line.proofs.Options.{one_part}
 use Rattle.zk_trace.specs.Choices.{one_of, IsIn, IsNoText, all_differ}
-use Rattle.zk_trace.specs.Exact.{IsPlain, IsUnfed, IsExact, IsExactRow, AreExact}
+use Rattle.zk_words.specs.Text.{line_text}
+use Rattle.zk_trace.specs.Exact.{IsPlain, IsUnfed, IsExact, IsExactRow, AreExact, IsSpelled}
 use Rattle.zk_trace.specs.Fields.{named, bare, one, two, three, said_by}
 use Rattle.zk_trace.proofs.Choices.{differ_is, written, else_again, either, apart}
 use Rattle.zk_trace.proofs.PlainWords.{lacks_is}
@@ -159,3 +160,30 @@ replies_exact {R} text FitsOpen open_of fixed table exact other = record { again
 pub apart_by_reading : {R : Type 0} (text : R → List ℕ) (FitsOpen : R → Type 0) (open_of : List ℕ → Option R) (fixed : List R)
     → IsExactRow text FitsOpen open_of → list_all (λ r. is_none (open_of (text r))) fixed ≡ true → (r : R) → FitsOpen r → IsNoText text (text r) fixed
 apart_by_reading text FitsOpen open_of fixed exact unread r fits = apart text open_of fixed (text r) r (exact.again r fits) unread
+
+-- A service.
+
+-- the operations and the replies of a service are read exactly, where those of each verb are
+pub service_spelled : {V O R : Type 0} (verb_word : V → List ℕ) (all : List V) (verb_of : O → V) (args : O → List (List ℕ)) (FitsOp : O → Type 0) (op_behind : V → List (List ℕ) → Option O)
+    (reply_words : R → List (List ℕ)) (fixed : V → List R) (FitsOpen : V → R → Type 0) (open_of : V → List ℕ → Option R)
+    → ((v : V) → (named verb_word all (verb_word v) ≡ Some v) × IsPlain (verb_word v))
+    → ((op : O) → FitsOp op → AreRead (op_behind (verb_of op)) (args op) op)
+    → ((v : V) (words : List (List ℕ)) (op : O) → op_behind v words ≡ Some op → SaysOp verb_of args FitsOp v words op)
+    → ((v : V) → is_table (λ r. line_text (reply_words r)) (fixed v) ≡ true)
+    → ((v : V) → IsExactRow (λ r. line_text (reply_words r)) (FitsOpen v) (open_of v))
+    → ((v : V) (r : R) → FitsOpen v r → IsNoText (λ r. line_text (reply_words r)) (line_text (reply_words r)) (fixed v))
+    → IsSpelled (λ op. verb_word (verb_of op) ∷ args op) reply_words FitsOp (λ op r. IsIn r (fixed (verb_of op)) ⊎ FitsOpen (verb_of op) r)
+    (said_by verb_word all op_behind) (λ op row. one_of bytes_eq (λ r. line_text (reply_words r)) (open_of (verb_of op)) (fixed (verb_of op)) row)
+service_spelled {V} {O} {R} verb_word all verb_of args FitsOp op_behind reply_words fixed FitsOpen open_of verbs there says table exact other = record {
+  op_again = ops.again;
+  op_spelled = ops.spelled;
+  op_plain = ops.plain;
+  reply_again = λ op. (replies (verb_of op)).again;
+  reply_spelled = λ op. (replies (verb_of op)).spelled;
+  reply_unfed = λ op. (replies (verb_of op)).unfed;
+} where
+  ops : AreExact (λ op. verb_word (verb_of op) ∷ args op) FitsOp (said_by verb_word all op_behind)
+  ops = ops_exact verb_word all verb_of args FitsOp op_behind verbs there says
+
+  replies : (v : V) → IsExactRow (λ r. line_text (reply_words r)) (λ r. IsIn r (fixed v) ⊎ FitsOpen v r) (one_of bytes_eq (λ r. line_text (reply_words r)) (open_of v) (fixed v))
+  replies v = replies_exact (λ r. line_text (reply_words r)) (FitsOpen v) (open_of v) (fixed v) (table v) (exact v) (other v)

@@ -23,3 +23,4 @@ pub mod Lawful
 pub mod Exact
 pub mod Choices
 pub mod Fields
+pub mod SemRead
