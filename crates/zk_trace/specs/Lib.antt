@@ -25,3 +25,4 @@ pub mod Choices
 pub mod Fields
 pub mod SemRead
 pub mod ClockRead
+pub mod WorkRead
