@@ -31,3 +31,5 @@ pub mod Fields
 pub mod SemRead
 pub mod ClockRead
 pub mod WorkRead
+pub mod Halves
+pub mod EntryRead
