@@ -1,8 +1,8 @@
 -- What is in front of a byte and behind it is told apart again.
-use Rattle.std.proofs.Common.{◌≡◌, ℕ, ◌+◌, ◌<◌, ◌≤◌, suc, zero, not, Bool, true, false, eqb, ltb, cond, List, [], ◌∷◌, ◌++◌, length, take, drop, Option, Some, None, refl, sym, ap, subst, inl, inr, ◌∙◌, arith}
+use Rattle.std.proofs.Common.{◌≡◌, ℕ, ◌+◌, ◌<◌, ◌≤◌, suc, zero, not, Bool, true, false, eqb, eq-eqb, ltb, cond, List, [], ◌∷◌, ◌++◌, length, take, drop, Option, Some, None, refl, sym, ap, subst, inl, inr, ◌∙◌, arith}
 use Rattle.std.specs.Prelude.{option_map}
 use Rattle.std.specs.List.{position, position_or_len}
-use Rattle.std.proofs.lemmas.Bool.{cases_Bool, cond-true, cond-false, eqb-true, ltb-true, ltb-false}
+use Rattle.std.proofs.lemmas.Bool.{cases_Bool, cond-true, cond-false, eqb-true, ne_eqb, ltb-true, ltb-false}
 use Rattle.std.proofs.lemmas.Option.{same_Some, cond_some, none-some}
 use Rattle.zk_line.proofs.Options.{one_part}
 use Rattle.zk_words.specs.Bytes.{space}
@@ -40,6 +40,23 @@ pub before-again : (front : List ℕ) → before_space (front ++ space ∷ []) �
 before-again [] = refl
 before-again (b ∷ []) = refl
 before-again (b ∷ c ∷ front) = ap (option_map (λ (l : List ℕ). b ∷ l)) (before-again (c ∷ front))
+
+before-last : (front : List ℕ) (b : ℕ) → before_space (front ++ b ∷ []) ≡ cond (eqb b space) (Some front) None
+before-last [] b = refl
+before-last (a ∷ []) b = mapped a (eqb b space) where
+  mapped : (a : ℕ) (t : Bool) → option_map (λ (l : List ℕ). a ∷ l) (cond t (Some []) None) ≡ cond t (Some (a ∷ [])) None
+  mapped a true = refl
+  mapped a false = refl
+before-last (a ∷ c ∷ front) b = ap (option_map (λ (l : List ℕ). a ∷ l)) (before-last (c ∷ front) b) ∙ mapped (eqb b space) where
+  mapped : (t : Bool) → option_map (λ (l : List ℕ). a ∷ l) (cond t (Some (c ∷ front)) None) ≡ cond t (Some (a ∷ c ∷ front)) None
+  mapped true = refl
+  mapped false = refl
+
+pub before-there : (text front : List ℕ) (b : ℕ) → text ≡ front ++ b ∷ [] → b ≡ space → before_space text ≡ Some front
+before-there text front b is same = ap before_space is ∙ before-last front b ∙ cond-true (eqb b space) (Some front) None (eq-eqb b space same)
+
+pub before-nowhere : (text front : List ℕ) (b : ℕ) → text ≡ front ++ b ∷ [] → (b ≡ space → ⊥) → before_space text ≡ None
+before-nowhere text front b is other = ap before_space is ∙ before-last front b ∙ cond-false (eqb b space) (Some front) None (ne_eqb b space other)
 
 pub before-spelled : (text front : List ℕ) → before_space text ≡ Some front → text ≡ front ++ space ∷ []
 before-spelled [] front said = absurd (none-some front said)

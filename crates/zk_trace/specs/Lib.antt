@@ -33,3 +33,4 @@ pub mod ClockRead
 pub mod WorkRead
 pub mod Halves
 pub mod EntryRead
+pub mod Feeds
