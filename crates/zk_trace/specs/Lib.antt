@@ -34,3 +34,4 @@ pub mod WorkRead
 pub mod Halves
 pub mod EntryRead
 pub mod Feeds
+pub mod SectionRead
