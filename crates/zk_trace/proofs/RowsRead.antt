@@ -1,7 +1,10 @@
 -- Rows that are read one after another.
-use Rattle.std.proofs.Common.{◌≡◌, ℕ, ◌-◌, Option, Some, None, List, [], ◌∷◌, ◌++◌, append_assoc, length, length-append, slice_get, arith, refl, sym, ap, ◌∙◌}
+use Rattle.std.proofs.Common.{◌≡◌, ℕ, ◌+◌, ◌-◌, ◌<◌, suc, Option, Some, None, List, [], ◌∷◌, ◌++◌, append_assoc, length, length-append, slice_get, drop, get_or, drop-cons, add-one, arith, refl, sym, ap, ◌∙◌}
+use Rattle.zk_blocks.specs.Blocks.{Reading, made_of}
+use Rattle.zk_blocks.specs.Each.{each_of, put_front}
 use Rattle.zk_blocks.specs.Rows.{rows_of, put_rows}
 use Rattle.zk_blocks.proofs.Blocks.{pair}
+use Rattle.zk_blocks.proofs.Loops.{each_on}
 use Rattle.zk_blocks.proofs.Numbers.{get_stands}
 
 -- the last of some
@@ -22,3 +25,14 @@ one_more says xs x old now new before more =
     before ∙ ap (put_rows xs) more
     ∙ pair (sym (append_assoc xs (x ∷ []) rest.0)) refl
     ∙ ap (λ last. put_rows (xs ++ x ∷ []) (rows_of says last new)) (sym (last-more xs x))
+
+-- one more of those for each of some
+pub each_more : {L D A : Type 0} (read : D → List L → Reading L A) (ds : List D) (place : ℕ) (d : D) (front : List A) (a : A) (old now new : List L) →
+    place < length ds → d ≡ get_or ds place d →
+    each_of read ds old ≡ made_of (put_front front) (each_of read (drop place ds) now) → read d now ≡ (Some a, new) →
+    each_of read ds old ≡ made_of (put_front (front ++ a ∷ [])) (each_of read (drop (place + 1) ds) new)
+each_more read ds place d front a old now new within there before more =
+    before
+    ∙ ap (λ rest. made_of (put_front front) (each_of read rest now)) (drop-cons ds place d within ∙ ap (λ x. x ∷ drop (suc place) ds) (sym there))
+    ∙ each_on read front d (drop (suc place) ds) now new a more
+    ∙ ap (λ n. made_of (put_front (front ++ a ∷ [])) (each_of read (drop n ds) new)) (sym (add-one place))

@@ -1,16 +1,20 @@
 ghost use Rattle.std.specs.Prelude.{◌≡◌, ◌<◌, ℕ, List, Option, Some, None, [], ◌∷◌, length, MatchOption, IfOk, IfSome};
 ghost use Rattle.std.specs.Option.{option_copied};
-ghost use Rattle.zk_blocks.specs.Blocks.{Gives};
+ghost use Rattle.zk_blocks.specs.Blocks.{Gives, given_of};
+ghost use Rattle.zk_blocks.specs.Families.{plain_family_of};
 ghost use Rattle.zk_blocks.specs.Rows.{rows_of};
 ghost use Rattle.zk_blocks.specs.Sections.{plain_section_of, section_of};
 ghost use Rattle.zk_line.specs.declared.types.Decl.{Decl};
+ghost use Rattle.zk_line.specs.Objects.{is_met, name_of};
 ghost use Rattle.zk_trace.specs.SectionRead.{is_head, may_stand};
 
 use crate::feed::Feed;
 use crate::lined::Lined;
 use std::alloc::Global;
 use zk_base::{Listed, NoMemory};
-use zk_scenario::Scenario;
+use zk_line::{kind_of, name_of};
+use zk_model_bus::Need;
+use zk_scenario::{Decl, Scenario};
 
 /// What is a line of a section and is read from it.
 pub trait Row: Lined + Drop {
@@ -128,4 +132,43 @@ pub fn read_looked<E: Row, K: Row>(
         return Ok(None);
     }
     Ok(Some((Listed::from_vec(entries), Listed::from_vec(looks))))
+}
+
+/// The section of what is declared, where it meets the need; else none is looked for.
+fn read_given<E: Row>(
+    alloc: Global,
+    scenario: &Scenario,
+    need: Need,
+    decl: &Decl,
+    feed: &mut Feed<'_>,
+) -> Result<Option<Listed<E>>, NoMemory>
+    ensures { let decls = scenario.now.decls in IfOk result (λ read.
+        Gives (λ x. x) read feed.new (given_of (is_met need decl.now) []
+        (plain_section_of (may_stand decls) (is_head (name_of decl.now)) (E.says decls)) feed.old)) }
+{
+    if !need.is_met_by(kind_of(decl)) {
+        return Ok(Some(Listed::new(alloc)));
+    }
+    read_section(alloc, scenario, name_of(decl), feed)
+}
+
+/// The sections of all that meets a need, in declared order.
+pub fn read_family<E: Row>(
+    alloc: Global,
+    scenario: &Scenario,
+    need: Need,
+    feed: &mut Feed<'_>,
+) -> Result<Option<Listed<Listed<E>>>, NoMemory>
+    ensures { let decls = scenario.now.decls in IfOk result (λ read.
+        Gives (λ x. x) read feed.new (plain_family_of (is_met need) name_of (may_stand decls) is_head (λ d. E.says decls) decls feed.old)) }
+{
+    let mut all = Vec::new(alloc);
+    let decls = scenario.decls();
+    for decl in decls {
+        match read_given::<E>(alloc, scenario, need, decl, feed)? {
+            Some(rows) => all.push(rows)?,
+            None => return Ok(None),
+        }
+    }
+    Ok(Some(Listed::from_vec(all)))
 }
