@@ -1,9 +1,9 @@
 ghost use Rattle.std.specs.Prelude.{◌≡◌, ◌<◌, ℕ, List, Option, Some, None, [], ◌∷◌, length, MatchOption, IfOk, IfSome};
 ghost use Rattle.std.specs.Option.{option_copied};
 ghost use Rattle.zk_blocks.specs.Blocks.{Gives, given_of};
-ghost use Rattle.zk_blocks.specs.Families.{plain_family_of};
+ghost use Rattle.zk_blocks.specs.Families.{plain_family_of, section_family_of};
 ghost use Rattle.zk_blocks.specs.Rows.{rows_of};
-ghost use Rattle.zk_blocks.specs.Sections.{plain_section_of, section_of};
+ghost use Rattle.zk_blocks.specs.Sections.{plain_section_of, section_of, neither};
 ghost use Rattle.zk_line.specs.declared.types.Decl.{Decl};
 ghost use Rattle.zk_line.specs.Objects.{is_met, name_of};
 ghost use Rattle.zk_trace.specs.SectionRead.{is_head, may_stand};
@@ -114,7 +114,7 @@ pub fn read_looked<E: Row, K: Row>(
     feed: &mut Feed<'_>,
 ) -> Result<Option<(Listed<E>, Listed<K>)>, NoMemory>
     ensures { let decls = scenario.now.decls in IfOk result (λ read.
-        Gives (λ x. (x.0, x.1)) read feed.new (section_of (may_stand decls) (is_head name.now) (E.says decls) (K.says decls) feed.old)) }
+        Gives (λ x. x) read feed.new (section_of (may_stand decls) (is_head name.now) (E.says decls) (K.says decls) feed.old)) }
 {
     let Some((line, rest)) = feed.next() else {
         return Ok(Some((Listed::new(alloc), Listed::new(alloc))));
@@ -166,6 +166,46 @@ pub fn read_family<E: Row>(
     let decls = scenario.decls();
     for decl in decls {
         match read_given::<E>(alloc, scenario, need, decl, feed)? {
+            Some(rows) => all.push(rows)?,
+            None => return Ok(None),
+        }
+    }
+    Ok(Some(Listed::from_vec(all)))
+}
+
+/// The section of what is declared with rows of two kinds, where it meets the need; else none is looked for.
+fn read_given_looked<E: Row, K: Row>(
+    alloc: Global,
+    scenario: &Scenario,
+    need: Need,
+    decl: &Decl,
+    feed: &mut Feed<'_>,
+) -> Result<Option<(Listed<E>, Listed<K>)>, NoMemory>
+    ensures { let decls = scenario.now.decls in IfOk result (λ read.
+        Gives (λ x. x) read feed.new (given_of (is_met need decl.now) neither
+        (section_of (may_stand decls) (is_head (name_of decl.now)) (E.says decls) (K.says decls)) feed.old)) }
+{
+    if !need.is_met_by(kind_of(decl)) {
+        return Ok(Some((Listed::new(alloc), Listed::new(alloc))));
+    }
+    read_looked(alloc, scenario, name_of(decl), feed)
+}
+
+/// The sections of all that meets a need with rows of two kinds, in declared order.
+pub fn read_looked_family<E: Row, K: Row>(
+    alloc: Global,
+    scenario: &Scenario,
+    need: Need,
+    feed: &mut Feed<'_>,
+) -> Result<Option<Listed<(Listed<E>, Listed<K>)>>, NoMemory>
+    ensures { let decls = scenario.now.decls in IfOk result (λ read.
+        Gives (λ x. x) read feed.new (section_family_of (is_met need) name_of (may_stand decls) is_head
+        (λ d. E.says decls) (λ d. K.says decls) decls feed.old)) }
+{
+    let mut all = Vec::new(alloc);
+    let decls = scenario.decls();
+    for decl in decls {
+        match read_given_looked::<E, K>(alloc, scenario, need, decl, feed)? {
             Some(rows) => all.push(rows)?,
             None => return Ok(None),
         }
