@@ -29,3 +29,5 @@ pub mod Exact
 pub mod Choices
 pub mod Fields
 pub mod SemRead
+pub mod ClockRead
+pub mod WorkRead
