@@ -14,6 +14,8 @@ pub mod MsgqRead
 pub mod ChanRead
 pub mod ObsRead
 pub mod TableRead
+pub mod Sides
+pub mod SpotRead
 pub mod Looks
 pub mod Looked
 pub mod Text
