@@ -33,7 +33,6 @@ pub mod Fields
 pub mod SemRead
 pub mod ClockRead
 pub mod WorkRead
-pub mod Halves
 pub mod EntryRead
 pub mod Feeds
 pub mod SectionRead
