@@ -36,3 +36,4 @@ pub mod WorkRead
 pub mod EntryRead
 pub mod Feeds
 pub mod SectionRead
+pub mod Stood

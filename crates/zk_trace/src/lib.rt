@@ -17,6 +17,7 @@ mod sections;
 mod sem;
 mod signal;
 mod spelled;
+mod stood;
 mod table;
 mod trace;
 mod words;
