@@ -69,9 +69,13 @@ stood t =
 abbrev pub is_of : ℕ → Stood → Bool
 is_of player line = line.player == player
 
--- where the steps of a player stand: its lines by step, and those of one step in the order of the text
+-- where lines stand, by step, and at equal steps in their order
+abbrev pub sorted_spots : List Stood → List Spot
+sorted_spots lines = map (λ line. line.spot) (by_key (λ line. line.step) lines)
+
+-- where the steps of a player stand
 abbrev pub steps_of : List Stood → ℕ → List Spot
-steps_of lines player = map (λ line. line.spot) (by_key (λ line. line.step) (filter (is_of player) lines))
+steps_of lines player = sorted_spots (filter (is_of player) lines)
 
 -- lists of lines, one for each player, with a line more at the end of its player's, where there is one
 abbrev pub put_line : ℕ → Stood → List (List Stood) → List (List Stood)

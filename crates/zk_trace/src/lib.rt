@@ -6,6 +6,7 @@ mod clock;
 mod cut;
 mod feed;
 mod lined;
+mod logs_read;
 mod looks;
 mod msgq;
 mod names;
