@@ -2,20 +2,29 @@
 #![tactic(auto)]
 
 mod chan;
+mod choosing;
 mod clock;
+mod clock_read;
 mod cut;
+mod expiries;
 mod feed;
+mod flags;
 mod lined;
 mod logs_read;
+mod look_ups;
 mod looks;
 mod msgq;
 mod names;
+mod numerals;
 mod obs;
 mod parts;
 mod print;
+mod row_words;
 mod rows_read;
 mod sections;
 mod sem;
+mod sem_read;
+mod set_words;
 mod signal;
 mod spelled;
 mod stood;
@@ -23,6 +32,7 @@ mod table;
 mod trace;
 mod words;
 mod work;
+mod work_read;
 
 pub use looks::{ItemLook, ItemLooks, SignalLook, SignalLooks};
 pub use print::{print_trace, put_trace};
