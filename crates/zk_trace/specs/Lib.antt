@@ -33,3 +33,5 @@ pub mod Fields
 pub mod SemRead
 pub mod ClockRead
 pub mod WorkRead
+pub mod Letters
+pub mod Static

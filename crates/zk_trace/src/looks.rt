@@ -2,9 +2,9 @@ ghost use Rattle.std.specs.Prelude.{◌≡◌, ◌++◌, decimal, OnOk, OnErr};
 ghost use Rattle.zk_trace.specs.Fronts.{StaysInFront};
 ghost use Rattle.zk_trace.specs.Looks.{look_word, busy_word, check_word, look_head, item_look_line, signal_look_line, raised_word, seen_word, stamp_front, stamp_word};
 
+use crate::flags::put_flags;
 use crate::lined::{Lined, put_spot};
 use crate::names::name_at;
-use crate::words::put_flags;
 use zk_base::{Listed, NoMemory, Seen, put, put_decimal};
 use zk_scenario::Scenario;
 
