@@ -20,6 +20,8 @@ pub mod ObsRead
 pub mod TableRead
 pub mod Sides
 pub mod SpotRead
+pub mod LookRead
+pub mod AnswerRead
 pub mod Looks
 pub mod Looked
 pub mod Text

@@ -1,22 +1,28 @@
 //! The trace of a run, and its text.
 #![tactic(auto)]
 
+mod answer_read;
 mod chan;
+mod chan_read;
 mod choosing;
 mod clock;
 mod clock_read;
-mod cut;
 mod expiries;
 mod feed;
 mod flags;
+mod halves;
 mod lined;
 mod logs_read;
+mod look_read;
 mod look_ups;
 mod looks;
+mod messages;
 mod msgq;
+mod msgq_read;
 mod names;
 mod numerals;
 mod obs;
+mod obs_read;
 mod parts;
 mod print;
 mod row_words;
@@ -26,9 +32,12 @@ mod sem;
 mod sem_read;
 mod set_words;
 mod signal;
+mod signal_read;
 mod spelled;
+mod spot_read;
 mod stood;
 mod table;
+mod table_read;
 mod trace;
 mod words;
 mod work;

@@ -70,7 +70,7 @@ pub fn checked_of(scenario: &Scenario, word: &[u8]) -> Option<Option<u32>>
 }
 
 /// The object of a name, where it meets the need.
-fn object_named(scenario: &Scenario, need: Need, word: &[u8]) -> Option<u32>
+pub fn object_named(scenario: &Scenario, need: Need, word: &[u8]) -> Option<u32>
     ensures { result ≡ object_named (is_met need) scenario.now.decls word.now }
 {
     let object = scenario.find(word)?;
