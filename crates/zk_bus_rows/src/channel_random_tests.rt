@@ -58,14 +58,17 @@ impl Beside {
         })
     }
 
-    /// One attempt, which both answer alike.
+    /// One attempt, which both answer alike. An end in vain is known as such before.
     fn attempt<R: Abort>(&mut self, rt: &R, who: Who, op: ChanOp) -> Result<(), NoMemory> {
         let step = self.next;
         if step >= 1000 {
             return Ok(());
         }
         self.next = step + 1;
+        let ends = matches!(op, ChanOp::ClaimEnd(_));
+        let futile = self.channel.is_futile(who, &op);
         let told = self.channel.act(who, step, op)?;
+        assert_eq!(rt; futile, ends && told.is_none(), "at {step}");
         let wanted = chan_next(&mut self.plain, who, &op)?;
         assert_eq!(rt; told, wanted, "at {step}");
         Ok(())

@@ -37,3 +37,7 @@ pub mod ClockRead
 pub mod WorkRead
 pub mod Letters
 pub mod Static
+pub mod EntryRead
+pub mod Feeds
+pub mod SectionRead
+pub mod Stood

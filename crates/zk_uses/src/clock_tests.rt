@@ -15,7 +15,7 @@ use zk_time::Clock;
 /// One attempt: the player, the operation, and what is answered.
 type Row = (u32, ClockOp, &'static str);
 
-/// One attempt, at a step above all earlier ones.
+/// One attempt, at a step above all earlier ones. None that is known to be in vain is possible.
 fn attempt<R: Abort>(
     rt: &R,
     alloc: Global,
@@ -28,7 +28,10 @@ fn attempt<R: Abort>(
     ensures { IfOk result (λ _. IsBelow (step + 1) (clock_history clock.new)) }
 {
     let (number, op, wanted) = *row;
-    let reply = clock.act(Who { number, prio: 0 }, step, op)?;
+    let who = Who { number, prio: 0 };
+    let futile = clock.is_futile(who, &op);
+    let reply = clock.act(who, step, op)?;
+    assert_eq!(rt; futile && reply.is_some(), false, "at {step}");
     let text = format!(in alloc; "{reply:?}")?;
     assert_eq!(rt; text.as_str(), wanted, "at {step}");
     Ok(())

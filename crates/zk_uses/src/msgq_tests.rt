@@ -63,7 +63,7 @@ impl Beside {
         })
     }
 
-    /// One attempt, which both answer alike.
+    /// One attempt, which both answer alike. An end in vain is known as such before.
     fn attempt<R: Abort>(
         &mut self,
         rt: &R,
@@ -76,7 +76,13 @@ impl Beside {
             return Ok(());
         }
         self.next = step + 1;
+        let ends = matches!(
+            op,
+            MsgqOp::PutEnd(_) | MsgqOp::GetEnd(_) | MsgqOp::PollEnd(_)
+        );
+        let futile = self.msgq.is_futile(who, &op);
         let told = self.msgq.act(who, step, op)?;
+        assert_eq!(rt; futile, ends && told.is_none(), "at {step}");
         let wanted = msgq_next(&mut self.plain, who, &op)?;
         let text = format!(in alloc; "{told:?}")?;
         let plain = format!(in alloc; "{wanted:?}")?;

@@ -161,7 +161,7 @@ fn drawn(seed: &mut u32, entries: u64) -> SemOp {
 }
 
 impl Beside {
-    /// One attempt, which both answer alike.
+    /// One attempt, which both answer alike. An end in vain is known as such before.
     fn attempt<R: Abort>(&mut self, rt: &R, who: Who, op: SemOp) -> Result<(), NoMemory> {
         let step = self.next;
         if step >= 1000 {
@@ -169,8 +169,11 @@ impl Beside {
         }
         let place = self.sem.history().len() as u64;
         self.next = step + 1;
+        let ends = matches!(op, SemOp::TakeEnd(_) | SemOp::PollEnd(_));
+        let futile = self.sem.is_futile(who, &op);
         let told = self.sem.act(who, step, op)?;
         let wanted = self.plain.act(place, who, op)?;
+        assert_eq!(rt; futile, ends && told.is_none(), "at {place}");
         assert_eq!(rt; told, wanted, "at {place}");
         Ok(())
     }

@@ -15,7 +15,7 @@ loop-index-preserved g c =
     let step = c.in-Some.step in
     let there : slice_get ahead c.loop-index.index ≡ Some step = sym c.in-Some.ensures in
     let found : record { step = step; entries = c.entries-entries.result } ≡ asked_at shown step =
-        ap (λ (n : _). record { step = step; entries = n }) (c.entries-entries.ensures ∙ ap (entries_at shown) c.service_of.ensures) in
+    ap (λ (n : _). record { step = step; entries = n }) (c.entries-entries.ensures ∙ ap (entries_at shown) c.service_of.ensures) in
     c.in_ok-push.ensures.items
     ∙ ap (λ (a : Asked). c.loop-index.asked.items ++ a ∷ []) found
     ∙ ap (λ (l : List Asked). l ++ asked_at shown step ∷ []) c.loop-index.invariant

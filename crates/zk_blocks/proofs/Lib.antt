@@ -1,0 +1,14 @@
+pub mod Blocks
+pub mod Made
+pub mod Joined
+pub mod Rows
+pub mod Headed
+pub mod Sections
+pub mod Each
+pub mod Loops
+pub mod Apart
+pub mod Families
+pub mod Choices
+pub mod Cut
+pub mod Texts
+pub mod Numbers

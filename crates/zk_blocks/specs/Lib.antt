@@ -1,0 +1,11 @@
+pub mod Exact
+pub mod Blocks
+pub mod Rows
+pub mod Sections
+pub mod Each
+pub mod Apart
+pub mod Heads
+pub mod Families
+pub mod Choices
+pub mod Cut
+pub mod Numbers
