@@ -1,3 +1,7 @@
+pub mod EntryRead
+pub mod Feeds
+pub mod SectionRead
+pub mod Stood
 pub mod Names
 pub mod Words
 pub mod Parts
@@ -37,7 +41,3 @@ pub mod ClockRead
 pub mod WorkRead
 pub mod Letters
 pub mod Static
-pub mod EntryRead
-pub mod Feeds
-pub mod SectionRead
-pub mod Stood
