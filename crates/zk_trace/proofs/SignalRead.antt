@@ -1,5 +1,5 @@
 -- The operations and the replies of a signal are read exactly.
-use Rattle.std.proofs.Common.{◌≡◌, ℕ, ◌^◌, ◌<◌, Some, List, [], map, refl}
+use Rattle.std.proofs.Common.{◌≡◌, ℕ, ◌^◌, ◌<◌, Some, List, map, refl}
 use Rattle.zk_line.specs.declared.types.Decl.{Decl}
 use Rattle.zk_line.specs.Objects.{AreNames}
 use Rattle.zk_model_wait.specs.declared.signal.SignalOp.{SignalOp}

@@ -1,5 +1,5 @@
 -- The operations and the replies of the object table are read exactly.
-use Rattle.std.proofs.Common.{◌≡◌, ℕ, true, Some, List, [], map, is_none, refl}
+use Rattle.std.proofs.Common.{◌≡◌, ℕ, true, Some, List, map, is_none, refl}
 use Rattle.std.specs.List.{list_all}
 use Rattle.zk_line.specs.declared.types.Decl.{Decl}
 use Rattle.zk_line.specs.Objects.{AreNames}
