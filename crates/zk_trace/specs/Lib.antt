@@ -2,6 +2,9 @@ pub mod EntryRead
 pub mod Feeds
 pub mod SectionRead
 pub mod Stood
+pub mod EntryKinds
+pub mod Form
+pub mod WholeRead
 pub mod Names
 pub mod Words
 pub mod Parts

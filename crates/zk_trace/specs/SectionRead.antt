@@ -14,8 +14,8 @@ abbrev pub is_head : List ℕ → List ℕ → Bool
 is_head name line = bytes_eq line (head_row name)
 
 -- whether a section may stand: a scenario without players has none
-abbrev pub may_stand : List Decl → Bool
-may_stand decls = has_row (players decls)
+abbrev pub has_player : List Decl → Bool
+has_player decls = has_row (players decls)
 
 -- a line that begins the section of a player
 abbrev pub IsPlayerRow : List ℕ → Type 0

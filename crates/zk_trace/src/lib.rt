@@ -7,7 +7,6 @@ mod chan_read;
 mod choosing;
 mod clock;
 mod clock_read;
-mod cut;
 mod expiries;
 mod feed;
 mod flags;
