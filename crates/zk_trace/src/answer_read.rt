@@ -7,13 +7,13 @@ ghost use Rattle.zk_trace.specs.Words.{errno_word, call_word};
 
 use crate::choosing::first_of;
 use crate::flags::flags_of;
+use crate::halves::sides_of;
 use crate::look_read::{can_be, raised_of};
 use crate::look_ups::chan_of;
 use crate::messages::message_of;
 use crate::numerals::{narrow_of, short_of, wide_of};
 use crate::row_words::{oops_of, ready_of, two_words};
 use crate::set_words::truth_of;
-use crate::two_sides::sides_of;
 use crate::words::{call_word, errno_word};
 use zk_base::Errno;
 use zk_scenario::Scenario;

@@ -4,12 +4,12 @@ ghost use Rattle.zk_trace.specs.Fields.{wide_of, narrow_of, object_named};
 ghost use Rattle.zk_trace.specs.LookRead.{same_word, raised_of, stamp_of, can_be, may_stand, item_front_of, item_answer_of, item_look_of, item_may_stand, says_item_look, signal_front_of, seen_at, can_be_seen, signal_answer_of, signal_look_of, signal_may_stand, says_signal_look};
 
 use crate::flags::flags_of;
+use crate::halves::sides_of;
 use crate::look_ups::object_named;
 use crate::looks::{BUSY, CHECK, ItemLook, LOOK, STAMP, SignalLook, raised_word};
 use crate::numerals::{narrow_of, short_of, wide_of};
 use crate::row_words::{behind, three_words, two_words};
 use crate::spot_read::step_of;
-use crate::two_sides::sides_of;
 use zk_base::Seen;
 use zk_model_bus::Need;
 use zk_scenario::Scenario;
