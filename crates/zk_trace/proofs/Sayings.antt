@@ -1,19 +1,22 @@
 -- What is made of words that are read exactly is read exactly: operations by their verbs, and replies by those of a verb.
-use Rattle.std.proofs.Common.{◌≡◌, ◌⊎◌, ℕ, Bool, true, ◌&&◌, not, eqb, Option, Some, is_none, List, [], ◌∷◌, refl, sym, ap, subst, inl, inr, ◌∙◌}
+use Rattle.std.proofs.Common.{◌≡◌, ◌⊎◌, ℕ, Bool, true, ◌&&◌, not, eqb, Option, Some, None, is_none, List, [], ◌∷◌, refl, sym, ap, subst, inl, inr, ◌∙◌}
 use Rattle.std.specs.Prelude.{option_map, option_and_then, bytes_eq}
 use Rattle.std.specs.List.{AllByRecursion, list_all}
 use Rattle.std.proofs.lemmas.Bool.{and_parts}
 use Rattle.std.proofs.lemmas.Option.{same_Some, none-some, option_and_then_some}
+use Rattle.std.proofs.lemmas.List.Splits.{join_with_byte-slice_split}
 use Rattle.std.proofs.lemmas.Slice.Eq.{bytes_eq-Decides}
 use Rattle.zk_base.proofs.Lists.{find-passes}
-use Rattle.zk_words.specs.Bytes.{line_feed}
+use Rattle.zk_words.specs.Bytes.{space, line_feed}
+use Rattle.zk_words.specs.Pieces.{words_of}
 use Rattle.zk_line.proofs.Options.{one_part}
 use Rattle.zk_trace.specs.Choices.{one_of, IsIn, IsNoText, all_differ}
 use Rattle.zk_words.specs.Text.{line_text}
-use Rattle.zk_trace.specs.Exact.{IsPlain, IsUnfed, IsExact, IsExactRow, AreExact, IsSpelled}
-use Rattle.zk_trace.specs.Fields.{named, bare, one, two, three, said_by}
+use Rattle.zk_trace.specs.Exact.{IsPlain, Lacks, IsUnfed, IsExact, IsExactRow, AreExact, IsSpelled}
+use Rattle.zk_trace.specs.Fields.{named, bare, one, two, three, behind, said_behind, said_by}
 use Rattle.zk_trace.proofs.Choices.{differ_is, written, else_again, either, apart}
-use Rattle.zk_trace.proofs.PlainWords.{lacks_is}
+use Rattle.zk_trace.proofs.PlainWords.{lacks_is, each_lacks, pieces-join, unfed-line}
+use Rattle.zk_trace.proofs.Fields.{behind-again, behind-spelled}
 
 -- Of so many words. The first lemma of each pair reads what is made again, the second says what was read.
 
@@ -88,6 +91,60 @@ module _ {A B C D : Type 0} {text : A → List ℕ} {Fits : A → Type 0} {of : 
       (subst (λ w. P (text a ∷ w ∷ third ∷ []) (make a b c.0)) (sym found₂.0)
       (subst (λ w. P (text a ∷ text₂ b ∷ w ∷ []) (make a b c.0)) (sym found₃.0) (holds a b c.0 found.1 found₂.1 found₃.1))))))
   three-says P holds (word ∷ second ∷ third ∷ fourth ∷ words) d said = absurd (none-some d said)
+
+-- Behind a word that is the same in each line.
+
+module _ {D : Type 0} (first : List ℕ) (of : List (List ℕ) → Option D) where
+  pub behind-there : IsPlain first → (words : List (List ℕ)) (d : D) → AreRead of words d → AreRead (said_behind first of) (first ∷ words) d
+  behind-there plain words d there = (ap (option_and_then of) (behind-again first words) ∙ there.0, (plain, there.1))
+
+  pub behind-says : (P : List (List ℕ) → D → Type 0) → ((words : List (List ℕ)) (d : D) → of words ≡ Some d → P (first ∷ words) d)
+      → (words : List (List ℕ)) (d : D) → said_behind first of words ≡ Some d → P words d
+  behind-says P holds words d said = option_and_then_some of (behind first words) d said
+      (λ rest is more. subst (λ ws. P ws d) (sym (behind-spelled first words rest is)) (holds rest d more))
+
+-- In a row.
+
+-- the words of a row that isn't empty
+pub words-row : (words : List (List ℕ)) → (words ≡ [] → ⊥) → AllByRecursion (Lacks space) words → words_of (line_text words) ≡ words
+words-row [] some lacks = absurd (some refl)
+words-row (word ∷ words) some lacks = pieces-join space word words lacks
+
+module _ {R : Type 0} (words : R → List (List ℕ)) (Fits : R → Type 0) (of : List (List ℕ) → Option R) (empty : of [] ≡ None) where
+  -- what some words say, as a row
+  pub row_exact : ((r : R) → Fits r → of (words r) ≡ Some r) → ((ws : List (List ℕ)) (r : R) → of ws ≡ Some r → (ws ≡ words r) × Fits r)
+      → ((r : R) → Fits r → AllByRecursion (Lacks space) (words r)) → ((r : R) → Fits r → IsUnfed (line_text (words r)))
+      → IsExactRow (λ r. line_text (words r)) Fits (λ row. of (words_of row))
+  row_exact again spelled spaceless unfed = record {
+    again = λ r fits. ap of (words-row (words r) (λ none. none-some r (sym empty ∙ ap of (sym none) ∙ again r fits)) (spaceless r fits)) ∙ again r fits;
+    spelled = λ row r said.
+        let found = spelled (words_of row) r said in
+        (sym (join_with_byte-slice_split space row) ∙ ap line_text found.0, found.1);
+    unfed = unfed;
+  }
+
+  -- what some words say that can stand in an operation too
+  pub plain_row_exact : ((r : R) → Fits r → AreRead of (words r) r) → ((ws : List (List ℕ)) (r : R) → of ws ≡ Some r → (ws ≡ words r) × Fits r)
+      → IsExactRow (λ r. line_text (words r)) Fits (λ row. of (words_of row))
+  plain_row_exact there spelled =
+      row_exact (λ r fits. (there r fits).0) spelled (λ r fits. each_lacks space refl (words r) (there r fits).1) (λ r fits. unfed-line (words r) (there r fits).1)
+
+-- what is made of one word behind another that is the same in each line, as a row
+pub one_behind : {A R : Type 0} {text : A → List ℕ} {Fits : A → Type 0} {of : List ℕ → Option A} (first : List ℕ) (words : R → List (List ℕ)) (FitsMade : R → Type 0) (make : A → R)
+    → IsPlain first → ((a : A) → words (make a) ≡ first ∷ text a ∷ []) → ((a : A) → Fits a → FitsMade (make a)) → ((r : R) → FitsMade r → (a : A) × (make a ≡ r) × Fits a)
+    → IsExact text Fits of → IsExactRow (λ r. line_text (words r)) FitsMade (λ row. said_behind first (one make of) (words_of row))
+one_behind {A} {R} {text} {Fits} {of} first words FitsMade make plain same fitting back exact = plain_row_exact words FitsMade (said_behind first (one make of)) refl there says where
+  there : (r : R) → FitsMade r → AreRead (said_behind first (one make of)) (words r) r
+  there r fits =
+      let a = back r fits in
+      subst (λ x. AreRead (said_behind first (one make of)) (words x) x) a.1
+      (subst (λ ws. AreRead (said_behind first (one make of)) ws (make a.0)) (sym (same a.0))
+      (behind-there first (one make of) plain (text a.0 ∷ []) (make a.0) (one-there exact make a.0 a.2)))
+
+  says : (ws : List (List ℕ)) (r : R) → said_behind first (one make of) ws ≡ Some r → (ws ≡ words r) × FitsMade r
+  says =
+      behind-says first (one make of) (λ ws r. (ws ≡ words r) × FitsMade r)
+      (one-says exact make (λ ws r. (first ∷ ws ≡ words r) × FitsMade r) (λ a fits. (sym (same a), fitting a fits)))
 
 -- Operations.
 

@@ -155,6 +155,10 @@ abbrev pub behind : List ℕ → List (List ℕ) → Option (List (List ℕ))
 behind first [] = None
 behind first (word ∷ words) = if bytes_eq word first then Some words else None
 
+-- what the words behind this one say
+abbrev pub said_behind : {A : Type 0} → List ℕ → (List (List ℕ) → Option A) → List (List ℕ) → Option A
+said_behind first of words = option_and_then of (behind first words)
+
 -- the events of a poll that are ready, behind their word
 abbrev pub ready_of : List ℕ → Option (List ℕ)
 ready_of row =

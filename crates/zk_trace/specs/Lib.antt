@@ -24,3 +24,4 @@ pub mod Exact
 pub mod Choices
 pub mod Fields
 pub mod SemRead
+pub mod ClockRead
