@@ -9,6 +9,11 @@ pub mod Msgq
 pub mod Signal
 pub mod Chan
 pub mod Obs
+pub mod SignalRead
+pub mod MsgqRead
+pub mod ChanRead
+pub mod ObsRead
+pub mod TableRead
 pub mod Looks
 pub mod Looked
 pub mod Text
