@@ -14,3 +14,8 @@ module _ {S O R : Type 0} (m : Machine S O R) (Keeps : S → Type 0) (Fits : O �
     says s e.who e.op e.reply kept fits.0 replays.0,
     answers-along (m.next s e.who e.op) es (keeps s e.who e.op kept fits.0) replays.1 fits.1,
   )
+
+-- where nothing is asked of the operations
+pub of-any : {O R : Type 0} (h : List (Entry O R)) → AllByRecursion (λ (e : Entry O R). Unit {0}) h
+of-any [] = tt
+of-any (e ∷ es) = (tt, of-any es)

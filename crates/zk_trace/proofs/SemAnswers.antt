@@ -18,7 +18,7 @@ use Rattle.zk_trace.specs.Sem.{said_of, reply_parts}
 use Rattle.zk_trace.specs.SemRead.{AnswersTo}
 use Rattle.zk_trace.specs.Sized.{AreSized}
 use Rattle.zk_trace.proofs.DecidedWaits.{DecidedBy, none-decided, first_decided-by, all_decided-by, ended-by, quitted-by, decision-by, quit-by}
-use Rattle.zk_trace.proofs.Kept.{answers-along}
+use Rattle.zk_trace.proofs.Kept.{answers-along, of-any}
 
 module _ (decls : List Decl) where
   -- it is of its operation, if its numbers are within their types
@@ -97,8 +97,4 @@ module _ (decls : List Decl) where
       AllByRecursion (λ e. AreSized (reply_parts e.reply) → AnswersTo decls (said_of e.op).0 e.reply) h
   sem-answers initial limit h replays =
       answers-along sem_machine Keeps (λ op. Unit {0}) Says says keeps (new_sem initial limit) h
-      (record { takers = none-decided Taken; pollers = none-decided Told }) replays (nothing h)
-    where
-      nothing : (h : List (Entry SemOp SemReply)) → AllByRecursion (λ (e : Entry SemOp SemReply). Unit {0}) h
-      nothing [] = tt
-      nothing (e ∷ es) = (tt, nothing es)
+      (record { takers = none-decided Taken; pollers = none-decided Told }) replays (of-any h)
