@@ -31,3 +31,7 @@ pub mod Fields
 pub mod Sized
 pub mod SemRead
 pub mod ClockRead
+pub mod WorkRead
+pub mod Halves
+pub mod EntryRead
+pub mod Feeds

@@ -3,6 +3,8 @@
 
 mod chan;
 mod clock;
+mod cut;
+mod feed;
 mod lined;
 mod looks;
 mod msgq;

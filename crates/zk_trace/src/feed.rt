@@ -1,0 +1,54 @@
+ghost use Rattle.std.specs.Prelude.{◌≡◌, ◌∷◌, [], length, MatchOption};
+ghost use Rattle.zk_trace.specs.Feeds.{lines_in};
+
+use crate::cut::{count_of, halves_of};
+use std::marker::Model;
+
+/// The lines of a text that are still to be read: those that have their line feed.
+#[derive(Debug, Drop)]
+pub struct Feed<'a> {
+    // What stands behind the last feed that was passed.
+    rest: &'a [u8],
+}
+
+impl<'a> Model for Feed<'a> {
+    ghost use Rattle.std.specs.Prelude.{ℕ, List};
+    ghost use Rattle.zk_trace.specs.Feeds.{lines_in};
+
+    ghost Value = { List (List ℕ) };
+
+    ghost view = { λ f. lines_in f.rest.now };
+}
+
+impl<'a> Feed<'a> {
+    /// The lines of a text.
+    pub fn of(text: &'a [u8]) -> Feed<'a>
+        ensures { result ≡ lines_in text.now }
+    {
+        Feed { rest: text }
+    }
+
+    /// The next line, and what stands behind its feed. It isn't passed.
+    pub fn next(&self) -> Option<(&'a [u8], &'a [u8])>
+        ensures { MatchOption result (self.now ≡ []) (λ cut. self.now ≡ cut.0.now ∷ lines_in cut.1.now) }
+    {
+        match halves_of(b'\n', self.rest) {
+            Some(cut) => Some(cut),
+            None => None,
+        }
+    }
+
+    /// Goes on with this text.
+    pub fn go_on(&mut self, rest: &'a [u8])
+        ensures { self.new ≡ lines_in rest.now }
+    {
+        self.rest = rest;
+    }
+
+    /// How many lines there are still.
+    pub fn left(&self) -> usize
+        ensures { result ≡ length self.now }
+    {
+        count_of(b'\n', self.rest)
+    }
+}
