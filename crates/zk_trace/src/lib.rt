@@ -15,6 +15,7 @@ mod print;
 mod sections;
 mod sem;
 mod signal;
+mod sizes;
 mod spelled;
 mod table;
 mod trace;
@@ -23,4 +24,5 @@ mod work;
 
 pub use looks::{ItemLook, ItemLooks, SignalLook, SignalLooks};
 pub use print::{print_trace, put_trace};
+pub use sizes::trace_sizes;
 pub use trace::{Ending, Histories, History, Logs, Trace};
