@@ -116,21 +116,30 @@ module _ (decls : List Decl) where
   full-keeps q who message true fits kept =
       let w : Waiter (List ℕ) = record { place = q.entries; who = who; payload = message } in
       record {
-        messages = kept.messages; held = All-put_before Holds (is_served_after w) w q.puts.waiting fits kept.held;
-        puts = kept.puts; gets = kept.gets; pollers = kept.pollers;
+        messages = kept.messages;
+        held = All-put_before Holds (is_served_after w) w q.puts.waiting fits kept.held;
+        puts = kept.puts;
+        gets = kept.gets;
+        pollers = kept.pollers;
       }
   full-keeps q who message false fits kept = kept
 
   appended-keeps : (q : Msgq) (message : List ℕ) → IsMessage message → Keeps q → Keeps (appended q message)
   appended-keeps q message fits kept = record {
-    messages = All-push IsMessage q.messages message kept.messages fits; held = kept.held;
-    puts = kept.puts; gets = kept.gets; pollers = first_decided-by Told Noted q.pollers (inl refl) kept.pollers;
+    messages = All-push IsMessage q.messages message kept.messages fits;
+    held = kept.held;
+    puts = kept.puts;
+    gets = kept.gets;
+    pollers = first_decided-by Told Noted q.pollers (inl refl) kept.pollers;
   }
 
   put-keeps : (waiting : List (Waiter Unit)) (q : Msgq) (who : Who) (message : List ℕ) (waits : Bool) → IsMessage message → Keeps q → Keeps (put_to waiting q who message waits)
   put-keeps (w ∷ ws) q who message waits fits kept = record {
-    messages = kept.messages; held = kept.held;
-    puts = kept.puts; gets = first_decided-by IsBytes (Bytes message) q.gets fits kept.gets; pollers = kept.pollers;
+    messages = kept.messages;
+    held = kept.held;
+    puts = kept.puts;
+    gets = first_decided-by IsBytes (Bytes message) q.gets fits kept.gets;
+    pollers = kept.pollers;
   }
   put-keeps [] q who message waits fits kept = by (nat_lt (length q.messages) q.most) where
     by : (b : Bool) → Keeps (cond b (appended q message) (put_at_full q who message waits))
@@ -144,8 +153,11 @@ module _ (decls : List Decl) where
   moved-keeps : (waiting : List (Waiter (List ℕ))) (q : Msgq) → All Holds waiting → Keeps q → Keeps (moved_in waiting q)
   moved-keeps [] q all kept = kept
   moved-keeps (w ∷ ws) q all kept = record {
-    messages = All-push IsMessage q.messages w.payload kept.messages (All-head Holds w ws all); held = first-held Done q.puts.waiting q.puts.decided kept.held;
-    puts = first_decided-by Put Done q.puts (inl refl) kept.puts; gets = kept.gets; pollers = kept.pollers;
+    messages = All-push IsMessage q.messages w.payload kept.messages (All-head Holds w ws all);
+    held = first-held Done q.puts.waiting q.puts.decided kept.held;
+    puts = first_decided-by Put Done q.puts (inl refl) kept.puts;
+    gets = kept.gets;
+    pollers = kept.pollers;
   }
 
   get-keeps : (messages : List (List ℕ)) (q : Msgq) (who : Who) (waits : Bool) → All IsMessage messages → Keeps q → Keeps (get_from messages q who waits)
@@ -165,8 +177,11 @@ module _ (decls : List Decl) where
   changed-keeps q who (ops.PutEnd place) kept fits =
       record { messages = kept.messages; held = kept.held; puts = ended-by Put q.puts who.number place kept.puts; gets = kept.gets; pollers = kept.pollers }
   changed-keeps q who (ops.PutQuit place) kept fits = record {
-    messages = kept.messages; held = All-without Holds (is_waiter who.number place) q.puts.waiting kept.held;
-    puts = quitted-by Put q.puts who.number place kept.puts; gets = kept.gets; pollers = kept.pollers;
+    messages = kept.messages;
+    held = All-without Holds (is_waiter who.number place) q.puts.waiting kept.held;
+    puts = quitted-by Put q.puts who.number place kept.puts;
+    gets = kept.gets;
+    pollers = kept.pollers;
   }
   changed-keeps q who (ops.Get waits) kept fits = get-keeps q.messages q who waits kept.messages kept
   changed-keeps q who (ops.GetEnd place) kept fits =
@@ -174,8 +189,11 @@ module _ (decls : List Decl) where
   changed-keeps q who (ops.GetQuit place) kept fits =
       record { messages = kept.messages; held = kept.held; puts = kept.puts; gets = quitted-by IsBytes q.gets who.number place kept.gets; pollers = kept.pollers }
   changed-keeps q who ops.Purge kept fits = record {
-    messages = All-nil IsMessage; held = All-nil Holds;
-    puts = all_decided-by Put NoMsg q.puts (inr (inl refl)) kept.puts; gets = kept.gets; pollers = kept.pollers;
+    messages = All-nil IsMessage;
+    held = All-nil Holds;
+    puts = all_decided-by Put NoMsg q.puts (inr (inl refl)) kept.puts;
+    gets = kept.gets;
+    pollers = kept.pollers;
   }
   changed-keeps q who (ops.PollArm waits) kept fits = still q kept (arm_at q.messages q who waits) (arm-keeps q.messages q who waits kept)
   changed-keeps q who (ops.PollEnd place) kept fits = still q kept (ended q.pollers who.number place) (ended-by Told q.pollers who.number place kept.pollers)

@@ -27,11 +27,11 @@ module _ (decls : List Decl) where
   check-says t player None need = inr tt
   check-says t player (Some object) need =
       by (not (has_kind t.setup object need)) (not (is_allowed t player object || is_public t object)) (not (is_any need || is_ready t object)) where
-    by : (a b c : Bool) → AnswersTo decls verbs.Check (cond a (Oops WrongKind) (cond b (Oops NotGranted) (cond c (Oops NotInit) Done)))
-    by true b c = inr tt
-    by false true c = inr tt
-    by false false true = inr tt
-    by false false false = inl (inl refl)
+        by : (a b c : Bool) → AnswersTo decls verbs.Check (cond a (Oops WrongKind) (cond b (Oops NotGranted) (cond c (Oops NotInit) Done)))
+        by true b c = inr tt
+        by false true c = inr tt
+        by false false true = inr tt
+        by false false false = inl (inl refl)
 
   init-says : (ready : Bool) → AnswersTo decls verbs.Init (cond ready Already Done)
   init-says true = inl (inr (inl refl))
