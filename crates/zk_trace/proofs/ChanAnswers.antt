@@ -10,7 +10,6 @@ use Rattle.zk_base.specs.declared.validator.Valid.{Valid}
 use Rattle.zk_base.specs.Legal.{Replays}
 use Rattle.zk_base.specs.Limits.{most_few}
 use Rattle.zk_base.specs.Validators.{is_valid}
-use Rattle.zk_base.specs.Waits.{Waits, ended, quitted, first_decided}
 use Rattle.zk_line.specs.declared.types.Decl.{Decl}
 use Rattle.zk_line.specs.Objects as objects
 use Rattle.zk_model_bus.specs.declared.channel.ChanObserver.{ChanObserver}

@@ -1,8 +1,8 @@
 -- The replies of a message queue are of their operations.
-use Rattle.std.proofs.Common.{◌≡◌, ℕ, ◌-◌, Bool, true, false, ◌⊎◌, inl, inr, cond, nat_lt, Option, Some, None, List, [], ◌∷◌, ◌++◌, length, All, refl, sym, subst}
+use Rattle.std.proofs.Common.{◌≡◌, ℕ, ◌-◌, Bool, true, false, ◌⊎◌, inl, inr, cond, nat_lt, Option, Some, None, List, [], ◌∷◌, length, All, refl, sym, subst}
 use Rattle.std.specs.List.{AllByRecursion, slice_get}
 use Rattle.std.specs.Option.{option_map_or}
-use Rattle.std.proofs.lemmas.List.Elements.{All-nil, All-cons, All-head, All-tail, All-push}
+use Rattle.std.proofs.lemmas.List.Elements.{All-nil, All-head, All-tail, All-push}
 use Rattle.std.proofs.lemmas.Option.{same_Some}
 use Rattle.zk_base.proofs.Lists.{All-at}
 use Rattle.zk_base.proofs.WaitsHold.{All-put_before, All-without}
@@ -18,7 +18,6 @@ use Rattle.zk_model_wait.specs.declared.msgq.MsgqOp.TheVariants as ops
 use Rattle.zk_model_wait.specs.declared.msgq.MsgqReply.{MsgqReply}
 use Rattle.zk_model_wait.specs.declared.msgq.MsgqReply.TheVariants.{Done, NoMsg, Again, Bytes, Number, Noted, Plain}
 use Rattle.zk_model_wait.specs.Msgq.{Msgq, new_msgq, else_reply, put_reply, get_reply, peek_reply, poll_reply, msgq_reply, put_at_full, appended, put_to, moved_in, get_from, arm_at, msgq_changed, msgq_next, msgq_machine}
-use Rattle.zk_trace.specs.declared.msgq.Verb.{Verb}
 use Rattle.zk_trace.specs.declared.msgq.Verb.TheVariants as verbs
 use Rattle.zk_trace.specs.Choices.{IsIn}
 use Rattle.zk_trace.specs.Fields.{IsMessage}

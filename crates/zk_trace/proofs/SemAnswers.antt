@@ -1,5 +1,5 @@
 -- The replies of a semaphore are of their operations.
-use Rattle.std.proofs.Common.{◌≡◌, ℕ, zero, suc, Bool, true, false, ◌⊎◌, inl, inr, cond, nat_lt, Some, List, [], ◌∷◌, refl, sym, subst}
+use Rattle.std.proofs.Common.{◌≡◌, ℕ, zero, suc, Bool, true, false, inl, inr, Some, List, [], ◌∷◌, refl, sym, subst}
 use Rattle.std.specs.List.{AllByRecursion}
 use Rattle.std.proofs.lemmas.Option.{same_Some}
 use Rattle.zk_base.specs.declared.ids.Who.{Who}
@@ -12,7 +12,6 @@ use Rattle.zk_model_wait.specs.declared.sem.SemOp.TheVariants as ops
 use Rattle.zk_model_wait.specs.declared.sem.SemReply.{SemReply}
 use Rattle.zk_model_wait.specs.declared.sem.SemReply.TheVariants.{Got, Again, Done, Number, Noted, Plain}
 use Rattle.zk_model_wait.specs.Sem.{Sem, new_sem, take_reply, poll_reply, sem_reply, take_at, arm_at, give_to, sem_changed, sem_next, sem_machine}
-use Rattle.zk_trace.specs.declared.sem.Verb.TheVariants as verbs
 use Rattle.zk_trace.specs.Choices.{IsIn}
 use Rattle.zk_trace.specs.Sem.{said_of, reply_parts}
 use Rattle.zk_trace.specs.SemRead.{AnswersTo}

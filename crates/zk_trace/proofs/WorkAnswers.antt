@@ -1,10 +1,9 @@
 -- The replies of the work service are of their operations, and name items and queues that are declared.
-use Rattle.std.proofs.Common.{◌≡◌, ℕ, zero, suc, ◌+◌, ◌<◌, ◌≤◌, Bool, true, false, not, ◌&&◌, cond, eqb, ◌⊎◌, inl, inr, Option, Some, None, is_some, option_map, List, [], ◌∷◌, length, find, All, refl, sym, ap, subst, ◌∙◌, arith}
+use Rattle.std.proofs.Common.{◌≡◌, ℕ, zero, suc, ◌+◌, ◌<◌, ◌≤◌, Bool, true, false, not, ◌&&◌, cond, eqb, ◌⊎◌, inl, inr, Option, Some, None, is_some, option_map, List, [], ◌∷◌, length, find, All, refl, sym, ap, subst, arith}
 use Rattle.std.specs.List.{AllByRecursion, slice_get}
 use Rattle.std.specs.Option.{option_map_or, option_and_then, option_or}
 use Rattle.std.proofs.lemmas.List.Elements.{All-head, All-tail}
-use Rattle.std.proofs.lemmas.Option.{same_Some, none-some, cond_some, slice_get_within, option_and_then_some}
-use Rattle.zk_base.specs.declared.errors.Errno.{Errno}
+use Rattle.std.proofs.lemmas.Option.{same_Some, none-some, cond_some, slice_get_within}
 use Rattle.zk_base.specs.declared.errors.Errno.TheVariants.{Busy, Inval, NoDev}
 use Rattle.zk_base.specs.declared.ids.Who.{Who}
 use Rattle.zk_base.specs.declared.ids.Entry.{Entry}
@@ -25,17 +24,17 @@ use Rattle.zk_model_work.specs.declared.parts.Arm.{Arm}
 use Rattle.zk_model_work.specs.declared.parts.Closing.TheVariants as closings
 use Rattle.zk_model_work.specs.declared.parts.Item.{Item}
 use Rattle.zk_model_work.specs.declared.parts.Queue.{Queue}
-use Rattle.zk_model_work.specs.Answers.{is_chained, target, admission, refusal, submission_to, submission_at, submission, flush_start_reply, cancel_start_reply, start_reply, is_started, unplug_reply, is_plugged, drain_reply, remaining}
+use Rattle.zk_model_work.specs.Answers.{is_chained, target, admission, submission_to, submission_at, submission, flush_start_reply, cancel_start_reply, start_reply, is_started, unplug_reply, is_plugged, drain_reply, remaining}
 use Rattle.zk_model_work.specs.Lists.{first}
 use Rattle.zk_model_work.specs.Machine.{submit, submission_in, cancel, flags_of, flushed_of, expiries, is_pending_in, delay_reply_in, schedule_reply_in, announce_reply, may_close, may_begin, may_end, taken_up, work_reply, work_machine}
-use Rattle.zk_model_work.specs.Questions.{runs_as, running, running_queue, last_queue, line, due, deadline_of, is_empty_and_idle, weight, busy_flags, item_of}
+use Rattle.zk_model_work.specs.Questions.{runs_as, running, last_queue, line, due, deadline_of, is_empty_and_idle, weight, busy_flags, item_of}
 use Rattle.zk_model_work.specs.State.{State}
 use Rattle.zk_trace.specs.declared.work.Verb.TheVariants as verbs
 use Rattle.zk_trace.specs.Choices.{IsIn}
 use Rattle.zk_trace.specs.Fields.{IsItem, IsQueue}
 use Rattle.zk_trace.specs.Sized.{AreSized, IsSizedExpiry, IsSizedWork}
-use Rattle.zk_trace.specs.Work.{said_of, submitted_parts, reply_parts}
-use Rattle.zk_trace.specs.WorkRead.{FitsOp, FitsAdmitted, fixed_submissions, IsSubmission, IsExpiry, AnswersTo}
+use Rattle.zk_trace.specs.Work.{said_of, submitted_parts}
+use Rattle.zk_trace.specs.WorkRead.{FitsOp, FitsAdmitted, fixed_submissions, IsExpiry, AnswersTo}
 use Rattle.zk_trace.proofs.Kept.{answers-along}
 use Rattle.zk_trace.proofs.WorkStates.{Admits, Arms, Keeps, submitted-all, due-all, keeps}
 

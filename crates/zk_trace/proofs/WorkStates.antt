@@ -1,5 +1,5 @@
 -- The items and queues of the admissions and arms of the work service are declared.
-use Rattle.std.proofs.Common.{◌≡◌, ℕ, zero, suc, ◌+◌, ◌<◌, Bool, true, false, cond, eqb, Option, Some, None, option_map, option_to_list, List, [], ◌∷◌, length, map, find, All, refl, ap, subst, ◌∙◌}
+use Rattle.std.proofs.Common.{◌≡◌, ℕ, zero, suc, ◌+◌, ◌<◌, Bool, true, false, cond, eqb, Option, Some, None, option_to_list, List, [], ◌∷◌, length, map, find, All, refl, subst, ◌∙◌}
 use Rattle.std.specs.List.{filter}
 use Rattle.std.specs.Option.{option_map_or}
 use Rattle.std.proofs.lemmas.List.Elements.{All-nil, All-cons, All-head, All-tail, All-push, All-filter}
@@ -21,7 +21,7 @@ use Rattle.zk_model_work.specs.declared.parts.Life.TheVariants.{Waiting, Running
 use Rattle.zk_model_work.specs.declared.parts.Queue.{Queue}
 use Rattle.zk_model_work.specs.Answers.{admitted_to, submission}
 use Rattle.zk_model_work.specs.Lists.{first}
-use Rattle.zk_model_work.specs.Machine.{submit, submission_in, submit_arms, with_life, set_life, begin, end_one, end_run, drop_one, drop_waiting, disarm_one, disarm, arm, expire_one, expire, settle, cancel, end, cancel_start, flush_start, delayed, is_pending_in, schedule, reschedule, announce, drain, drain_start, changed, work_next}
+use Rattle.zk_model_work.specs.Machine.{submit, submission_in, submit_arms, with_life, set_life, begin, end_one, end_run, drop_one, drop_waiting, disarm_one, disarm, arm, expire_one, expire, cancel, flush_start, delayed, is_pending_in, schedule, announce, changed, work_next}
 use Rattle.zk_model_work.specs.Questions.{runs_on, waits_as, arms_item, line, is_due, due, live_arm, is_empty_and_idle, item_of}
 use Rattle.zk_model_work.specs.State.{State}
 use Rattle.zk_model_work.proofs.Counts.{length-settle_from, length-change, length-drain}
