@@ -11,3 +11,4 @@ pub mod Legality
 pub mod Lawful
 pub mod DeadPlayers
 pub mod InVain
+pub mod AheadSays
