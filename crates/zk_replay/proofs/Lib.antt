@@ -12,3 +12,4 @@ pub mod Lawful
 pub mod DeadPlayers
 pub mod InVain
 pub mod AheadSays
+pub mod EntriesFit
