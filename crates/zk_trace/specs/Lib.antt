@@ -14,6 +14,8 @@ pub mod MsgqRead
 pub mod ChanRead
 pub mod ObsRead
 pub mod TableRead
+pub mod Sides
+pub mod SpotRead
 pub mod Looks
 pub mod Looked
 pub mod Text
@@ -32,6 +34,6 @@ pub mod Sized
 pub mod SemRead
 pub mod ClockRead
 pub mod WorkRead
-pub mod Halves
 pub mod EntryRead
 pub mod Feeds
+pub mod SectionRead

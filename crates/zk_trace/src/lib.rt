@@ -12,6 +12,7 @@ mod names;
 mod obs;
 mod parts;
 mod print;
+mod rows_read;
 mod sections;
 mod sem;
 mod signal;

@@ -1,6 +1,6 @@
 ghost use Rattle.std.specs.Prelude.{◌≡◌, ◌++◌, decimal, OnOk, OnErr};
 ghost use Rattle.zk_trace.specs.Fronts.{StaysInFront};
-ghost use Rattle.zk_trace.specs.Looks.{look_head, item_look_line, signal_look_line, seen_word, stamp_word};
+ghost use Rattle.zk_trace.specs.Looks.{look_word, busy_word, check_word, look_head, item_look_line, signal_look_line, raised_word, seen_word, stamp_front, stamp_word};
 
 use crate::lined::{Lined, put_spot};
 use crate::names::name_at;
@@ -45,10 +45,13 @@ impl Lined for ItemLook {
 
     fn put_line(&self, out: &mut Vec<u8>, scenario: &Scenario) -> Result<(), NoMemory> {
         put_look_head(out, scenario, self.player, self.step)?;
-        put(out, b" busy ")?;
+        out.push(b' ')?;
+        put(out, busy_word())?;
+        out.push(b' ')?;
         put(out, name_at(scenario.decls(), self.item as usize))?;
         put(out, b" = ")?;
         put_flags(out, self.flags)?;
+        out.push(b' ')?;
         put_stamp(out, self.at)?;
         put(out, b"\n")
     }
@@ -59,14 +62,38 @@ impl Lined for SignalLook {
 
     fn put_line(&self, out: &mut Vec<u8>, scenario: &Scenario) -> Result<(), NoMemory> {
         put_look_head(out, scenario, self.player, self.step)?;
-        put(out, b" check = ")?;
+        out.push(b' ')?;
+        put(out, check_word())?;
+        put(out, b" = ")?;
         put_seen(out, self.seen.raised, self.seen.result)?;
+        out.push(b' ')?;
         put_stamp(out, u64::from(self.seen.stamp))?;
         put(out, b"\n")
     }
 }
 
-/// The word `look` and whose step it is.
+/// The word of a look.
+pub fn look_word() -> &'static [u8]
+    ensures { result.now ≡ look_word }
+{
+    b"look"
+}
+
+/// What a player looks at: whether an item is busy.
+pub fn busy_word() -> &'static [u8]
+    ensures { result.now ≡ busy_word }
+{
+    b"busy"
+}
+
+/// What a player looks at: a signal.
+pub fn check_word() -> &'static [u8]
+    ensures { result.now ≡ check_word }
+{
+    b"check"
+}
+
+/// The word of a look and whose step it is.
 fn put_look_head(
     out: &mut Vec<u8>,
     scenario: &Scenario,
@@ -76,8 +103,16 @@ fn put_look_head(
     ensures text { OnOk result (out.new.items ≡ out.old.items ++ look_head scenario.now.decls player step) }
     ensures kept { OnErr result (StaysInFront out.old.items out.new.items) }
 {
-    put(out, b"look ")?;
+    put(out, look_word())?;
+    out.push(b' ')?;
     put_spot(out, scenario, player, step)
+}
+
+/// Whether a signal was raised.
+pub fn raised_word(raised: bool) -> &'static [u8]
+    ensures { result.now ≡ raised_word raised }
+{
+    if raised { b"raised" } else { b"clear" }
 }
 
 /// What a signal was: raised or clear, and the result.
@@ -85,8 +120,16 @@ pub fn put_seen(out: &mut Vec<u8>, raised: bool, value: u16) -> Result<(), NoMem
     ensures text { OnOk result (out.new.items ≡ out.old.items ++ seen_word raised value) }
     ensures kept { OnErr result (StaysInFront out.old.items out.new.items) }
 {
-    put(out, if raised { b"raised " } else { b"clear " })?;
+    put(out, raised_word(raised))?;
+    out.push(b' ')?;
     put_decimal(out, u64::from(value))
+}
+
+/// What stands before the number of entries or writes.
+pub fn stamp_front() -> &'static [u8]
+    ensures { result.now ≡ stamp_front }
+{
+    b"@"
 }
 
 /// After how many entries or writes it was so.
@@ -94,6 +137,6 @@ fn put_stamp(out: &mut Vec<u8>, stamp: u64) -> Result<(), NoMemory>
     ensures text { OnOk result (out.new.items ≡ out.old.items ++ stamp_word stamp) }
     ensures kept { OnErr result (StaysInFront out.old.items out.new.items) }
 {
-    put(out, b" @")?;
+    put(out, stamp_front())?;
     put_decimal(out, stamp)
 }

@@ -1,6 +1,6 @@
 use Rattle.std.proofs.Common.{◌+◌, ◌-◌, suc, List, ℕ, Some, length, take, drop, arith, ap, sym, ◌∙◌, add-one, length-drop}
 use Rattle.std.proofs.lemmas.List.{take_all}
-use Rattle.zk_trace.proofs.Halves.{halves-there, halves-nowhere}
+use Rattle.zk_trace.proofs.Cuts.{halves-there, halves-nowhere}
 use Rattle.zk_trace.proofs.cut.halves_of.Goals as goal
 
 pub returns-in-Some : goal.returns-in-Some

@@ -1,0 +1,38 @@
+-- Rows that are read one after another.
+use Rattle.std.proofs.Common.{◌≡◌, ℕ, ◌+◌, ◌-◌, ◌<◌, suc, Option, Some, None, List, [], ◌∷◌, ◌++◌, append_assoc, length, length-append, slice_get, drop, get_or, drop-cons, add-one, arith, refl, sym, ap, ◌∙◌}
+use Rattle.zk_blocks.specs.Blocks.{Reading, made_of}
+use Rattle.zk_blocks.specs.Each.{each_of, put_front}
+use Rattle.zk_blocks.specs.Rows.{rows_of, put_rows}
+use Rattle.zk_blocks.proofs.Blocks.{pair}
+use Rattle.zk_blocks.proofs.Loops.{each_on}
+use Rattle.zk_blocks.proofs.Numbers.{get_stands}
+
+-- the last of some
+abbrev pub last_of : {X : Type 0} → List X → Option X
+last_of xs = slice_get xs (length xs - 1)
+
+last-more : {X : Type 0} (xs : List X) (x : X) → last_of (xs ++ x ∷ []) ≡ Some x
+last-more xs x =
+    get_stands (xs ++ x ∷ []) (length (xs ++ x ∷ []) - 1) x (record { before = xs; more = []; whole = refl; at = omega (arith, length-append xs (x ∷ [])) })
+
+-- one more row behind those that were read
+pub one_more : {L X : Type 0} (says : Option X → L → Option X) (xs : List X) (x : X) (old now new : List L) →
+    rows_of says None old ≡ put_rows xs (rows_of says (last_of xs) now) →
+    rows_of says (last_of xs) now ≡ (x ∷ (rows_of says (Some x) new).0, (rows_of says (Some x) new).1) →
+    rows_of says None old ≡ put_rows (xs ++ x ∷ []) (rows_of says (last_of (xs ++ x ∷ [])) new)
+one_more says xs x old now new before more =
+    let rest = rows_of says (Some x) new in
+    before ∙ ap (put_rows xs) more
+    ∙ pair (sym (append_assoc xs (x ∷ []) rest.0)) refl
+    ∙ ap (λ last. put_rows (xs ++ x ∷ []) (rows_of says last new)) (sym (last-more xs x))
+
+-- one more of those for each of some
+pub each_more : {L D A : Type 0} (read : D → List L → Reading L A) (ds : List D) (place : ℕ) (d : D) (front : List A) (a : A) (old now new : List L) →
+    place < length ds → d ≡ get_or ds place d →
+    each_of read ds old ≡ made_of (put_front front) (each_of read (drop place ds) now) → read d now ≡ (Some a, new) →
+    each_of read ds old ≡ made_of (put_front (front ++ a ∷ [])) (each_of read (drop (place + 1) ds) new)
+each_more read ds place d front a old now new within there before more =
+    before
+    ∙ ap (λ rest. made_of (put_front front) (each_of read rest now)) (drop-cons ds place d within ∙ ap (λ x. x ∷ drop (suc place) ds) (sym there))
+    ∙ each_on read front d (drop (suc place) ds) now new a more
+    ∙ ap (λ n. made_of (put_front (front ++ a ∷ [])) (each_of read (drop n ds) new)) (sym (add-one place))

@@ -1,0 +1,214 @@
+ghost use Rattle.std.specs.Prelude.{◌≡◌, ◌<◌, ℕ, List, Option, Some, None, [], ◌∷◌, length, MatchOption, IfOk, IfSome};
+ghost use Rattle.std.specs.Option.{option_copied};
+ghost use Rattle.zk_blocks.specs.Blocks.{Gives, given_of};
+ghost use Rattle.zk_blocks.specs.Families.{plain_family_of, section_family_of};
+ghost use Rattle.zk_blocks.specs.Rows.{rows_of};
+ghost use Rattle.zk_blocks.specs.Sections.{plain_section_of, section_of, neither};
+ghost use Rattle.zk_line.specs.declared.types.Decl.{Decl};
+ghost use Rattle.zk_line.specs.Objects.{is_met, name_of};
+ghost use Rattle.zk_trace.specs.SectionRead.{is_head, may_stand};
+
+use crate::feed::Feed;
+use crate::lined::Lined;
+use std::alloc::Global;
+use zk_base::{Listed, NoMemory};
+use zk_line::{kind_of, name_of};
+use zk_model_bus::Need;
+use zk_scenario::{Decl, Scenario};
+
+/// What is a line of a section and is read from it.
+pub trait Row: Lined + Drop {
+    /// What a line says, behind the row before it.
+    ghost says: { List Decl → Option Self → List ℕ → Option Self };
+
+    /// Reads a line.
+    fn of_line(
+        alloc: Global,
+        scenario: &Scenario,
+        last: Option<&Self>,
+        line: &[u8],
+    ) -> Result<Option<Self>, NoMemory>
+        ensures { IfOk result (λ row. row ≡ says scenario.now.decls (option_copied last.entry) line.now) };
+}
+
+/// The rows at the front of some lines.
+pub fn read_rows<X: Row>(
+    alloc: Global,
+    scenario: &Scenario,
+    feed: &mut Feed<'_>,
+) -> Result<Vec<X>, NoMemory>
+    ensures { IfOk result (λ rows. rows_of (X.says scenario.now.decls) None feed.old ≡ (rows.items, feed.new)) }
+{
+    let mut rows = Vec::new(alloc);
+    while let Some(row) = read_row::<X>(alloc, scenario, rows.last(), feed)? {
+        rows.push(row)?;
+    }
+    Ok(rows)
+}
+
+/// The next row; nothing where the next line is none.
+fn read_row<X: Row>(
+    alloc: Global,
+    scenario: &Scenario,
+    last: Option<&X>,
+    feed: &mut Feed<'_>,
+) -> Result<Option<X>, NoMemory>
+    ensures shorter { IfOk result (λ row. IfSome row (λ one. length feed.new < length feed.old)) }
+    ensures front { IfOk result (λ row. MatchOption row
+        ((rows_of (X.says scenario.now.decls) (option_copied last.entry) feed.old ≡ ([], feed.old)) × (feed.new ≡ feed.old))
+        (λ one. rows_of (X.says scenario.now.decls) (option_copied last.entry) feed.old
+            ≡ (one ∷ (rows_of (X.says scenario.now.decls) (Some one) feed.new).0, (rows_of (X.says scenario.now.decls) (Some one) feed.new).1))) }
+{
+    let Some((line, rest)) = feed.next() else {
+        return Ok(None);
+    };
+    let row = X::of_line(alloc, scenario, last, line)?;
+    if row.is_some() {
+        feed.go_on(rest);
+    }
+    Ok(row)
+}
+
+/// Whether a line is the head of this section.
+fn is_head(name: &[u8], line: &[u8]) -> bool
+    ensures { result ≡ is_head name.now line.now }
+{
+    match line.strip_prefix(b"service ") {
+        Some(rest) => rest == name,
+        None => false,
+    }
+}
+
+/// A section of rows; none where there is no head, and nothing where the lines don't go on so.
+pub fn read_section<E: Row>(
+    alloc: Global,
+    scenario: &Scenario,
+    name: &[u8],
+    feed: &mut Feed<'_>,
+) -> Result<Option<Listed<E>>, NoMemory>
+    ensures { let decls = scenario.now.decls in IfOk result (λ read.
+        Gives (λ x. x) read feed.new (plain_section_of (may_stand decls) (is_head name.now) (E.says decls) feed.old)) }
+{
+    let Some((line, rest)) = feed.next() else {
+        return Ok(Some(Listed::new(alloc)));
+    };
+    if !is_head(name, line) {
+        return Ok(Some(Listed::new(alloc)));
+    }
+    if scenario.players() == 0 {
+        return Ok(None);
+    }
+    feed.go_on(rest);
+    let rows = read_rows::<E>(alloc, scenario, feed)?;
+    if rows.is_empty() {
+        return Ok(None);
+    }
+    Ok(Some(Listed::from_vec(rows)))
+}
+
+/// A section of rows of two kinds; neither where there is no head, and nothing where the lines don't go on so.
+pub fn read_looked<E: Row, K: Row>(
+    alloc: Global,
+    scenario: &Scenario,
+    name: &[u8],
+    feed: &mut Feed<'_>,
+) -> Result<Option<(Listed<E>, Listed<K>)>, NoMemory>
+    ensures { let decls = scenario.now.decls in IfOk result (λ read.
+        Gives (λ x. x) read feed.new (section_of (may_stand decls) (is_head name.now) (E.says decls) (K.says decls) feed.old)) }
+{
+    let Some((line, rest)) = feed.next() else {
+        return Ok(Some((Listed::new(alloc), Listed::new(alloc))));
+    };
+    if !is_head(name, line) {
+        return Ok(Some((Listed::new(alloc), Listed::new(alloc))));
+    }
+    if scenario.players() == 0 {
+        return Ok(None);
+    }
+    feed.go_on(rest);
+    let entries = read_rows::<E>(alloc, scenario, feed)?;
+    let looks = read_rows::<K>(alloc, scenario, feed)?;
+    if entries.is_empty() && looks.is_empty() {
+        return Ok(None);
+    }
+    Ok(Some((Listed::from_vec(entries), Listed::from_vec(looks))))
+}
+
+/// The section of what is declared, where it meets the need; else none is looked for.
+fn read_given<E: Row>(
+    alloc: Global,
+    scenario: &Scenario,
+    need: Need,
+    decl: &Decl,
+    feed: &mut Feed<'_>,
+) -> Result<Option<Listed<E>>, NoMemory>
+    ensures { let decls = scenario.now.decls in IfOk result (λ read.
+        Gives (λ x. x) read feed.new (given_of (is_met need decl.now) []
+        (plain_section_of (may_stand decls) (is_head (name_of decl.now)) (E.says decls)) feed.old)) }
+{
+    if !need.is_met_by(kind_of(decl)) {
+        return Ok(Some(Listed::new(alloc)));
+    }
+    read_section(alloc, scenario, name_of(decl), feed)
+}
+
+/// The sections of all that meets a need, in declared order.
+pub fn read_family<E: Row>(
+    alloc: Global,
+    scenario: &Scenario,
+    need: Need,
+    feed: &mut Feed<'_>,
+) -> Result<Option<Listed<Listed<E>>>, NoMemory>
+    ensures { let decls = scenario.now.decls in IfOk result (λ read.
+        Gives (λ x. x) read feed.new (plain_family_of (is_met need) name_of (may_stand decls) is_head (λ d. E.says decls) decls feed.old)) }
+{
+    let mut all = Vec::new(alloc);
+    let decls = scenario.decls();
+    for decl in decls {
+        match read_given::<E>(alloc, scenario, need, decl, feed)? {
+            Some(rows) => all.push(rows)?,
+            None => return Ok(None),
+        }
+    }
+    Ok(Some(Listed::from_vec(all)))
+}
+
+/// The section of what is declared with rows of two kinds, where it meets the need; else none is looked for.
+fn read_given_looked<E: Row, K: Row>(
+    alloc: Global,
+    scenario: &Scenario,
+    need: Need,
+    decl: &Decl,
+    feed: &mut Feed<'_>,
+) -> Result<Option<(Listed<E>, Listed<K>)>, NoMemory>
+    ensures { let decls = scenario.now.decls in IfOk result (λ read.
+        Gives (λ x. x) read feed.new (given_of (is_met need decl.now) neither
+        (section_of (may_stand decls) (is_head (name_of decl.now)) (E.says decls) (K.says decls)) feed.old)) }
+{
+    if !need.is_met_by(kind_of(decl)) {
+        return Ok(Some((Listed::new(alloc), Listed::new(alloc))));
+    }
+    read_looked(alloc, scenario, name_of(decl), feed)
+}
+
+/// The sections of all that meets a need with rows of two kinds, in declared order.
+pub fn read_looked_family<E: Row, K: Row>(
+    alloc: Global,
+    scenario: &Scenario,
+    need: Need,
+    feed: &mut Feed<'_>,
+) -> Result<Option<Listed<(Listed<E>, Listed<K>)>>, NoMemory>
+    ensures { let decls = scenario.now.decls in IfOk result (λ read.
+        Gives (λ x. x) read feed.new (section_family_of (is_met need) name_of (may_stand decls) is_head
+        (λ d. E.says decls) (λ d. K.says decls) decls feed.old)) }
+{
+    let mut all = Vec::new(alloc);
+    let decls = scenario.decls();
+    for decl in decls {
+        match read_given_looked::<E, K>(alloc, scenario, need, decl, feed)? {
+            Some(rows) => all.push(rows)?,
+            None => return Ok(None),
+        }
+    }
+    Ok(Some(Listed::from_vec(all)))
+}
