@@ -13,3 +13,4 @@ pub mod DeadPlayers
 pub mod InVain
 pub mod AheadSays
 pub mod EntriesFit
+pub mod OpsFit
