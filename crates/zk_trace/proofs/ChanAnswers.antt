@@ -9,6 +9,7 @@ use Rattle.zk_base.specs.declared.ids.Entry.{Entry}
 use Rattle.zk_base.specs.declared.validator.Valid.{Valid}
 use Rattle.zk_base.specs.Legal.{Replays}
 use Rattle.zk_base.specs.Limits.{most_few}
+use Rattle.zk_base.specs.Messages.{is_message}
 use Rattle.zk_base.specs.Validators.{is_valid}
 use Rattle.zk_line.specs.declared.types.Decl.{Decl}
 use Rattle.zk_line.specs.Objects as objects
@@ -25,7 +26,7 @@ use Rattle.zk_trace.specs.declared.chan.Verb.TheVariants as verbs
 use Rattle.zk_trace.specs.Chan.{said_of, reply_parts}
 use Rattle.zk_trace.specs.ChanRead.{FitsOp, AnswersTo}
 use Rattle.zk_trace.specs.Choices.{IsIn}
-use Rattle.zk_trace.specs.Fields.{IsMessage, IsOf, AreObservers}
+use Rattle.zk_trace.specs.Fields.{IsOf, AreObservers}
 use Rattle.zk_trace.specs.Sized.{AreSized}
 use Rattle.zk_trace.proofs.DecidedWaits.{DecidedBy, none-decided, first_decided-by, ended-by, quitted-by, decision-by, quit-by}
 use Rattle.zk_trace.proofs.Kept.{answers-along}
@@ -43,7 +44,7 @@ module _ (decls : List Decl) where
   IsDeclared o = IsOf objects.is_observer decls o.number
 
   record Keeps (c : Channel) : Type 0 where
-    message : IsMessage c.message
+    message : is_message c.message ≡ true
     observers : All IsDeclared c.observers
     waits : DecidedBy Gained c.waits
 
@@ -100,7 +101,7 @@ module _ (decls : List Decl) where
   says c who (ops.Set message) r kept fits is =
       subst (Says (ops.Set message)) (cond_some (holds c who) (Observers (told_of c.observers)) r is).1 (λ sized. inr (told-says c kept sized.0))
   says c who ops.List r kept fits is = subst (Says ops.List) (cond_some (holds c who) (Observers (told_of c.observers)) r is).1 (λ sized. inr (told-says c kept sized.0))
-  says c who ops.Get r kept fits is = subst (Says ops.Get) (cond_some (holds c who) (Bytes c.message) r is).1 (λ sized. inr kept.message)
+  says c who ops.Get r kept fits is = subst (Says ops.Get) (cond_some (holds c who) (Bytes c.message) r is).1 (λ sized. inr (record { size = kept.message; bytes = sized.0 }))
   says c who ops.Free r kept fits is = λ sized. inl (inl (sym (cond_some (holds_by_entering c who) Done r is).1))
   says c who ops.Finish r kept fits is = subst (Says ops.Finish) (same_Some (cond (has_claimed c who) Done Inval) r is) (λ sized. inl (either-done (has_claimed c who)))
   says c who (ops.Mask observer on) r kept fits is =
@@ -140,7 +141,7 @@ module _ (decls : List Decl) where
   changed-keeps c who (ops.ClaimQuit place) kept fits =
       record { message = kept.message; observers = kept.observers; waits = quitted-by Gained c.waits who.number place kept.waits }
   changed-keeps c who (ops.Set message) kept fits =
-      where-keeps (holds c who) (record c { message = message }) c (record { message = fits; observers = kept.observers; waits = kept.waits }) kept
+      where-keeps (holds c who) (record c { message = message }) c (record { message = fits.size; observers = kept.observers; waits = kept.waits }) kept
   changed-keeps c who ops.List kept fits = kept
   changed-keeps c who ops.Get kept fits = kept
   changed-keeps c who ops.Free kept fits = where-keeps (holds_by_entering c who) (handed_on c) c (handed-keeps c kept) kept
@@ -159,7 +160,7 @@ module _ (decls : List Decl) where
       All-cons IsDeclared (unmasked n) (map unmasked ns) (All-head (IsOf objects.is_observer decls) n ns all) (unmasked-each ns (All-tail (IsOf objects.is_observer decls) n ns all))
 
   -- each reply of a history is of its operation, where the operations fit, and so does what the channel begins with
-  pub chan-answers : (message : List ℕ) (valid : Valid) (observers : List ℕ) (h : List (Entry ChanOp ChanReply)) → IsMessage message → All (IsOf objects.is_observer decls) observers →
+  pub chan-answers : (message : List ℕ) (valid : Valid) (observers : List ℕ) (h : List (Entry ChanOp ChanReply)) → is_message message ≡ true → All (IsOf objects.is_observer decls) observers →
       Replays chan_machine (new_chan message valid observers) h → AllByRecursion (λ e. FitsOp decls e.op) h →
       AllByRecursion (λ e. AreSized (reply_parts e.reply) → AnswersTo decls (said_of e.op).0 e.reply) h
   chan-answers message valid observers h is each replays fit =
