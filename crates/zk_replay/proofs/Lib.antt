@@ -14,3 +14,4 @@ pub mod InVain
 pub mod AheadSays
 pub mod EntriesFit
 pub mod OpsFit
+pub mod RunHistories
