@@ -1,5 +1,5 @@
 -- The operations and the replies of a channel are read exactly.
-use Rattle.std.proofs.Common.{◌≡◌, ℕ, true, Some, List, map, is_none, refl}
+use Rattle.std.proofs.Common.{◌≡◌, ℕ, true, Some, List, [], map, is_none, refl}
 use Rattle.std.specs.List.{list_all}
 use Rattle.zk_line.specs.declared.types.Decl.{Decl}
 use Rattle.zk_line.specs.Objects.{AreNames}
@@ -83,3 +83,8 @@ module _ (decls : List Decl) (are : AreNames decls) where
   chan_spelled =
       service_spelled verb_word all_verbs (λ op. (said_of op).0) args (FitsOp decls) (op_behind decls) (reply_words decls) fixed_replies (FitsOpen decls) (open_reply decls) verbs_are there says
       table others (λ v. apart_by_reading (reply_row decls) (FitsOpen decls v) (open_reply decls v) (fixed_replies v) (others v) (unread v))
+
+-- each reply has a word
+pub chan_some : (decls : List Decl) (r : ChanReply) → reply_words decls r ≡ [] → ⊥
+chan_some decls replies.Got none = absurd (cc)
+chan_some decls r none = absurd (cc)

@@ -1,5 +1,5 @@
 -- Every kind of word of a trace is read exactly, and so are rows of several words.
-use Rattle.std.proofs.Common.{◌≡◌, ℕ, ◌+◌, ◌-◌, ◌*◌, ◌/◌, ◌%◌, ◌^◌, ◌<◌, ◌≤◌, zero, suc, Bool, true, false, ◌&&◌, not, cond, eqb, Option, Some, None, List, [], ◌∷◌, ◌++◌, length, map, refl, sym, ap, subst, inl, inr, ◌∙◌, arith}
+use Rattle.std.proofs.Common.{◌≡◌, ℕ, ◌+◌, ◌-◌, ◌*◌, ◌/◌, ◌%◌, ◌^◌, ◌<◌, ◌≤◌, zero, suc, Bool, true, false, ◌&&◌, cond, eqb, Option, Some, None, List, [], ◌∷◌, ◌++◌, length, map, refl, sym, ap, subst, inl, inr, ◌∙◌, arith}
 use Rattle.std.specs.Prelude.{option_map, option_and_then, bytes_eq, nat_le, nat_lt}
 use Rattle.std.specs.Fmt.{decimal}
 use Rattle.std.specs.List.{AllByRecursion, find, flat_map, list_all, range_with_len}
@@ -29,14 +29,14 @@ use Rattle.zk_line.specs.declared.types.Decl.{Decl}
 use Rattle.zk_line.specs.Objects.{AreNames, name_at, number_of, object_of, is_at, is_thread, is_queue, is_chan, is_observer}
 use Rattle.zk_line.proofs.Options.{one_part}
 use Rattle.zk_trace.specs.Exact.{is_plain, IsPlain, IsUnfed, IsExact, IsExactRow}
-use Rattle.zk_trace.specs.Fields.{named, both, all_errnos, all_needs, all_whys, errno_of, need_of, oops_of, truth_of, waits_of, plug_of, state_of, flags_of, each_of, up_to, target_of, checked_of, thread_of, chan_of, observer_of, observers_of, behind, position_of, ready_of, queue_of, IsTarget, IsChecked, IsOf, IsMessage, AreObservers, ArePositions}
+use Rattle.zk_trace.specs.Fields.{named, both, all_errnos, all_needs, all_whys, errno_of, need_of, why_of, oops_of, truth_of, waits_of, plug_of, state_of, flags_of, each_of, up_to, target_of, checked_of, thread_of, chan_of, observer_of, observers_of, behind, position_of, ready_of, queue_of, IsTarget, IsChecked, IsOf, IsMessage, AreObservers, ArePositions}
 use Rattle.zk_trace.specs.Names.{target_name, checked_name, name_behind, names_word}
 use Rattle.zk_trace.specs.Parts.{each_behind}
-use Rattle.zk_trace.specs.Words.{errno_word, need_word, oops_word, flags_word, truth_word, wait_word, position_text, ready_front, ready_word}
+use Rattle.zk_trace.specs.Words.{errno_word, need_word, why_word, oops_front, oops_word, flags_word, truth_word, wait_word, position_text, ready_front, ready_word}
 use Rattle.zk_trace.proofs.Lines.{join-first}
 use Rattle.zk_trace.proofs.NameWords.{unnamed, object_exact, object_named_exact, queue_exact}
-use Rattle.zk_trace.proofs.NumberWords.{position_exact}
-use Rattle.zk_trace.proofs.PlainWords.{IsOfWords, plain_by, lacks_is, lacks_plain, words-line, unfed-line}
+use Rattle.zk_trace.proofs.NumberWords.{fronted-again, fronted-spelled, position_exact}
+use Rattle.zk_trace.proofs.PlainWords.{IsOfWords, plain_by, lacks_is, lacks_plain, lacks-append, words-line, unfed-line}
 
 -- a word is a row of one
 pub as_row : {A : Type 0} {text : A → List ℕ} {Fits : A → Type 0} {of : List ℕ → Option A} → IsExact text Fits of → IsExactRow text Fits of
@@ -123,20 +123,26 @@ need_exact = named_exact need_word all_needs each where
   each needs.Obs = (refl, refl)
   each needs.Any = (refl, refl)
 
--- why a check fails: two words
-pub oops_exact : IsExactRow oops_word (λ why. Unit {0}) oops_of
-oops_exact = record { again = λ why fits. again why; spelled = named-spelled oops_word (λ why. Unit {0}) all_whys (any_fits all_whys); unfed = λ why fits. lacks_is line_feed (oops_word why) (unfed why) } where
-  again : (why : OopsWhy) → oops_of (oops_word why) ≡ Some why
-  again whys.NoObject = refl
-  again whys.WrongKind = refl
-  again whys.NotGranted = refl
-  again whys.NotInit = refl
+-- why a check fails
+pub why_exact : IsExact why_word (λ why. Unit {0}) why_of
+why_exact = named_exact why_word all_whys each where
+  each : (why : OopsWhy) → (why_of (why_word why) ≡ Some why) × IsPlain (why_word why)
+  each whys.NoObject = (refl, refl)
+  each whys.WrongKind = (refl, refl)
+  each whys.NotGranted = (refl, refl)
+  each whys.NotInit = (refl, refl)
 
-  unfed : (why : OopsWhy) → list_all (λ b. not (eqb b line_feed)) (oops_word why) ≡ true
-  unfed whys.NoObject = refl
-  unfed whys.WrongKind = refl
-  unfed whys.NotGranted = refl
-  unfed whys.NotInit = refl
+-- that it fails, and why: two words
+pub oops_exact : IsExactRow oops_word (λ why. Unit {0}) oops_of
+oops_exact = record {
+  again = λ why fits. fronted-again oops_front why_of (why_word why) ∙ why_exact.again why fits;
+  spelled = spelled;
+  unfed = λ why fits. lacks-append line_feed oops_front (why_word why) (lacks_is line_feed oops_front refl) (lacks_plain line_feed refl (why_word why) (why_exact.plain why fits));
+} where
+  spelled : (row : List ℕ) (why : OopsWhy) → oops_of row ≡ Some why → (row ≡ oops_word why) × Unit {0}
+  spelled row why said =
+      let found = fronted-spelled oops_front why_of row why said in
+      (found.1 ∙ ap (λ l. oops_front ++ l) (why_exact.spelled found.0 why found.2).0, tt)
 
 -- one of two words
 either_exact : (text : Bool → List ℕ) → (named text both (text true) ≡ Some true) × IsPlain (text true) → (named text both (text false) ≡ Some false) × IsPlain (text false)

@@ -8,14 +8,15 @@ use Rattle.std.specs.Str.Parse.{digits_value}
 use Rattle.std.proofs.lemmas.Bool.{cond-true, and_parts, and_from, or_left, ne_eqb, leb-true, ltb-true, lt-ltb, le-leb}
 use Rattle.std.proofs.lemmas.Fmt.{decimal_digit, digits_decimal, digits_value-decimal, first_decimal, decimal_nonempty}
 use Rattle.std.proofs.lemmas.List.{take-append-drop}
-use Rattle.std.proofs.lemmas.Option.{cond_some, option_and_then_some}
+use Rattle.std.proofs.lemmas.Option.{none-some, cond_some, option_and_then_some}
 use Rattle.std.proofs.lemmas.Slice.Eq.{bytes_eq-Decides}
+use Rattle.std.proofs.Math.Seq.{take-append_seam, drop-append_seam}
 use Rattle.zk_words.specs.Bytes.{digit_0}
 use Rattle.zk_words.specs.Events.{begins}
 use Rattle.zk_words.specs.Numbers.{is_number, number_of, fitting, is_between, number_in}
 use Rattle.zk_words.proofs.Numerals.{numerals, number_spelled, number_in_spelled}
 use Rattle.zk_trace.specs.Exact.{IsPlain, IsExact}
-use Rattle.zk_trace.specs.Fields.{wide_of, narrow_of, short_of, position_of, admission_of}
+use Rattle.zk_trace.specs.Fields.{fronted, wide_of, narrow_of, short_of, position_of, admission_of}
 use Rattle.zk_trace.specs.Words.{admission_front, admission_word}
 use Rattle.zk_trace.proofs.PlainWords.{digits_of_words, plain_by}
 
@@ -79,26 +80,41 @@ short_exact = bounded_exact (2 ^ 16) (omega arith) (omega arith)
 pub position_exact : IsExact decimal (λ n. n < 2 ^ 8) position_of
 position_exact = bounded_exact (2 ^ 8) (omega arith) (omega arith)
 
+-- Behind a front.
+
 -- what begins with a front is the front, and what stands behind it
 begins_spelled : (front word : List ℕ) → begins front word ≡ true → word ≡ front ++ drop (length front) word
 begins_spelled front word is =
     sym (take-append-drop (length front) word) ∙ ap (λ l. l ++ drop (length front) word) ((bytes_eq-Decides (take (length front) word) front).0 is)
 
+chosen : {A : Type 0} (b : Bool) (o : Option A) (a : A) → cond b o None ≡ Some a → (b ≡ true) × (o ≡ Some a)
+chosen true o a is = (refl, is)
+chosen false o a is = absurd (none-some a is)
+
+module _ {A : Type 0} (front : List ℕ) (of : List ℕ → Option A) where
+  pub fronted-again : (word : List ℕ) → fronted front of (front ++ word) ≡ of word
+  fronted-again word =
+      cond-true (begins front (front ++ word)) (of (drop (length front) (front ++ word))) None ((bytes_eq-Decides (take (length front) (front ++ word)) front).1 (take-append_seam front word))
+      ∙ ap of (drop-append_seam front word)
+
+  pub fronted-spelled : (word : List ℕ) (a : A) → fronted front of word ≡ Some a → (rest : List ℕ) × (word ≡ front ++ rest) × (of rest ≡ Some a)
+  fronted-spelled word a said =
+      let found = chosen (begins front word) (of (drop (length front) word)) a said in
+      (drop (length front) word, begins_spelled front word found.0, found.1)
+
 -- the number of an admission
 pub admission_exact : IsExact admission_word (λ n. n < 2 ^ 64) admission_of
-admission_exact = record { again = wide_exact.again; spelled = spelled; plain = λ n small. plain n (wide_exact.plain n small) } where
-  plain : (n : ℕ) → IsPlain (decimal n) → IsPlain (admission_word n)
-  plain n is = by (decimal n) is where
-    by : (word : List ℕ) → IsPlain word → IsPlain (admission_front ++ word)
-    by [] is = absurd is
-    by (b ∷ bs) is = is
-
-  chosen : (b : Bool) (o : Option ℕ) (n : ℕ) → cond b o None ≡ Some n → (b ≡ true) × (o ≡ Some n)
-  chosen true o n is = (refl, is)
-  chosen false o n is = absurd (cc)
+admission_exact = record {
+  again = λ n small. fronted-again admission_front wide_of (decimal n) ∙ wide_exact.again n small;
+  spelled = spelled;
+  plain = λ n small. plain (decimal n) (wide_exact.plain n small);
+} where
+  plain : (word : List ℕ) → IsPlain word → IsPlain (admission_front ++ word)
+  plain [] is = absurd is
+  plain (b ∷ bs) is = is
 
   spelled : (word : List ℕ) (n : ℕ) → admission_of word ≡ Some n → (word ≡ admission_word n) × (n < 2 ^ 64)
   spelled word n said =
-      let found = chosen (begins admission_front word) (wide_of (drop (length admission_front) word)) n said in
-      let exactly = wide_exact.spelled (drop (length admission_front) word) n found.1 in
-      (begins_spelled admission_front word found.0 ∙ ap (λ l. admission_front ++ l) exactly.0, exactly.1)
+      let found = fronted-spelled admission_front wide_of word n said in
+      let exactly = wide_exact.spelled found.0 n found.2 in
+      (found.1 ∙ ap (λ l. admission_front ++ l) exactly.0, exactly.1)

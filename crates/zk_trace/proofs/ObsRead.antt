@@ -86,3 +86,8 @@ module _ (decls : List Decl) (are : AreNames decls) where
   obs_spelled =
       service_spelled verb_word all_verbs (λ op. (said_of op).0) args (FitsOp decls) (op_behind decls) (reply_words decls) fixed_replies (FitsOpen decls) (open_reply decls) verbs_are there says
       table others (λ v. apart_by_reading (reply_row decls) (FitsOpen decls v) (open_reply decls v) (fixed_replies v) (others v) (unread v))
+
+-- each reply has a word
+pub obs_some : (decls : List Decl) (r : ObsReply) → reply_words decls r ≡ [] → ⊥
+obs_some decls replies.Off none = absurd (cc)
+obs_some decls r none = absurd (cc)

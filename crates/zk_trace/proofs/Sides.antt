@@ -1,7 +1,8 @@
 -- A row is cut at its first sign, and what is made of both sides is read exactly.
-use Rattle.std.proofs.Common.{◌≡◌, ℕ, ◌-◌, true, eqb, Option, Some, None, List, [], ◌∷◌, ◌++◌, length, take, drop, refl, sym, ap, subst, inl, inr, ◌∙◌, arith}
+use Rattle.std.proofs.Common.{◌≡◌, ℕ, ◌+◌, ◌-◌, ◌<◌, ◌≤◌, zero, suc, Bool, true, false, not, cond, eqb, ltb, Option, Some, None, List, [], ◌∷◌, ◌++◌, length, take, drop, refl, sym, ap, subst, inl, inr, ◌∙◌, arith}
 use Rattle.std.specs.Prelude.{option_map, option_and_then, bytes_eq, codes}
-use Rattle.std.proofs.lemmas.Bool.{cases_Bool, cond-true, cond-false, eqb-true}
+use Rattle.std.specs.List.{position, position_or_len}
+use Rattle.std.proofs.lemmas.Bool.{cases_Bool, cond-true, cond-false, eqb-true, ltb-true, ltb-false}
 use Rattle.std.proofs.lemmas.List.{append_assoc, length-append, take-append-drop}
 use Rattle.std.proofs.lemmas.List.Splits.{join_with_byte-slice_split}
 use Rattle.std.proofs.lemmas.Option.{same_Some, cond_some, none-some, option_and_then_some}
@@ -12,7 +13,7 @@ use Rattle.zk_words.specs.Pieces.{words_of}
 use Rattle.zk_words.specs.Text.{line_text}
 use Rattle.zk_line.proofs.Options.{one_part}
 use Rattle.zk_trace.specs.Exact.{equals, Lacks, IsUnfed, IsExactRow, AreExact}
-use Rattle.zk_trace.specs.Sides.{sign, sides_row, longer, halves, before_space, behind_space, pair, trimmed, sides_of, said_beside, said_by_sides}
+use Rattle.zk_trace.specs.Sides.{sign, sides_row, longer, halves, before_space, behind_space, pair, kept, trimmed, sides_of, said_beside, said_by_sides}
 use Rattle.zk_trace.proofs.PlainWords.{each_lacks, lacks-append, lacks-join, unfed-line}
 use Rattle.zk_trace.proofs.Sayings.{words-row}
 
@@ -39,6 +40,50 @@ halves-spelled byte (b ∷ bs) front rest said = elim (cases_Bool (eqb b byte)) 
       ap (λ x. x ∷ bs) (eqb-true b byte same) ∙ ap (λ p. p.0 ++ byte ∷ p.1) is
   | inr other ↦ longer_by byte b bs front rest (halves-spelled byte bs) (sym (cond-false (eqb b byte) (Some ([], bs)) (option_map (longer b) (halves byte bs)) other) ∙ said)
 ]
+
+-- By places.
+
+here : (byte b : ℕ) (bs : List ℕ) → eqb b byte ≡ true → position_or_len (λ x. eqb x byte) (b ∷ bs) ≡ 0
+here byte b bs same = ap (λ (t : Bool). cond (not t) (1 + position_or_len (λ x. eqb x byte) bs) 0) same
+
+later : (byte b : ℕ) (bs : List ℕ) → eqb b byte ≡ false → position_or_len (λ x. eqb x byte) (b ∷ bs) ≡ 1 + position_or_len (λ x. eqb x byte) bs
+later byte b bs other = ap (λ (t : Bool). cond (not t) (1 + position_or_len (λ x. eqb x byte) bs) 0) other
+
+at_place : (byte : ℕ) (bs : List ℕ) (k : ℕ) → position_or_len (λ x. eqb x byte) bs ≡ k → k < length bs → halves byte bs ≡ Some (take k bs, drop (suc k) bs)
+at_place byte [] k is within = absurd (omega arith)
+at_place byte (b ∷ bs) zero is within = elim (cases_Bool (eqb b byte)) [
+  | inl same ↦ cond-true (eqb b byte) (Some ([], bs)) (option_map (longer b) (halves byte bs)) same
+  | inr other ↦ absurd (omega (arith, later byte b bs other))
+]
+at_place byte (b ∷ bs) (suc k) is within = elim (cases_Bool (eqb b byte)) [
+  | inl same ↦ absurd (omega (arith, here byte b bs same))
+  | inr other ↦ cond-false (eqb b byte) (Some ([], bs)) (option_map (longer b) (halves byte bs)) other
+      ∙ ap (option_map (longer b)) (at_place byte bs k (omega (arith, later byte b bs other)) (omega arith))
+]
+
+nowhere : (byte : ℕ) (bs : List ℕ) → length bs ≤ position_or_len (λ x. eqb x byte) bs → halves byte bs ≡ None
+nowhere byte [] is = refl
+nowhere byte (b ∷ bs) is = elim (cases_Bool (eqb b byte)) [
+  | inl same ↦ absurd (omega (arith, here byte b bs same))
+  | inr other ↦ cond-false (eqb b byte) (Some ([], bs)) (option_map (longer b) (halves byte bs)) other
+      ∙ ap (option_map (longer b)) (nowhere byte bs (omega (arith, later byte b bs other)))
+]
+
+-- where the byte is nowhere there is no cut
+pub halves-nowhere : (byte : ℕ) (bs : List ℕ) → position (λ x. eqb x byte) bs ≡ None → halves byte bs ≡ None
+halves-nowhere byte bs none = elim (cases_Bool (ltb (position_or_len (λ x. eqb x byte) bs) (length bs))) [
+  | inl within ↦ absurd (none-some (position_or_len (λ x. eqb x byte) bs) (sym none ∙ cond-true (ltb (position_or_len (λ x. eqb x byte) bs) (length bs)) (Some (position_or_len (λ x. eqb x byte) bs)) None within))
+  | inr past ↦ let beyond = ltb-false (position_or_len (λ x. eqb x byte) bs) (length bs) past in nowhere byte bs beyond
+]
+
+-- and else it is at the first place of the byte
+pub halves-at : (byte : ℕ) (bs : List ℕ) (at : ℕ) → position (λ x. eqb x byte) bs ≡ Some at → halves byte bs ≡ Some (take at bs, drop (suc at) bs)
+halves-at byte bs at found =
+    let place = cond_some (ltb (position_or_len (λ x. eqb x byte) bs) (length bs)) (position_or_len (λ x. eqb x byte) bs) at found in
+    let within = ltb-true (position_or_len (λ x. eqb x byte) bs) (length bs) place.0 in
+    at_place byte bs at place.1 (omega arith)
+
+-- By both sides.
 
 -- a space at the end of a text
 before-again : (front : List ℕ) → before_space (front ++ codes " ") ≡ Some front
@@ -78,6 +123,15 @@ sides-spelled row front rest said = option_and_then_some trimmed (halves equals 
     ∙ ap (λ l. (f ++ codes " ") ++ equals ∷ l) (behind-spelled h.1 r.0 r.1)
     ∙ ap (λ p. (p.0 ++ codes " ") ++ equals ∷ space ∷ p.1) r.2
     ∙ append_assoc front (codes " ") (equals ∷ space ∷ rest) ∙ sym (append_assoc front sign rest)))
+
+-- the words of a line with a sign among them
+pub sides-line : (word : List ℕ) (words : List (List ℕ)) (first : List ℕ) (rest : List (List ℕ))
+    → line_text (word ∷ words ++ codes "=" ∷ first ∷ rest) ≡ sides_row (word ∷ words) (line_text (first ∷ rest))
+sides-line word [] first rest = sym (append_assoc word sign (line_text (first ∷ rest)))
+sides-line word (next ∷ words) first rest =
+    ap (λ l. word ++ space ∷ l) (sides-line next words first rest)
+    ∙ sym (append_assoc word (space ∷ line_text (next ∷ words) ++ sign) (line_text (first ∷ rest)))
+    ∙ ap (λ l. l ++ line_text (first ∷ rest)) (sym (append_assoc word (space ∷ line_text (next ∷ words)) sign))
 
 -- what is made of both sides of a row is read exactly, where both sides are
 module _ {A B C : Type 0} {words_of_front : A → List (List ℕ)} {FitsFront : A → Type 0} {front_of : List (List ℕ) → Option A}
@@ -133,3 +187,17 @@ module _ {A B C : Type 0} {words_of_front : A → List (List ℕ)} {FitsFront : 
 
     unfed : (c : C) → Fits c → IsUnfed (row c)
     unfed c fits = let s = back c fits in subst (λ x. IsUnfed (row x)) s.2 (made-unfed s.0 s.1 s.3 s.4)
+
+-- what passes a test is read exactly
+pub kept_exact : {A : Type 0} {text : A → List ℕ} {Fits : A → Type 0} {of : List ℕ → Option A} (test : A → Bool) → IsExactRow text Fits of
+    → IsExactRow text (λ a. (test a ≡ true) × Fits a) (λ row. option_and_then (kept test) (of row))
+kept_exact {A} {text} {Fits} {of} test exact = record { again = again; spelled = spelled; unfed = λ a fits. exact.unfed a fits.1 } where
+  again : (a : A) → (test a ≡ true) × Fits a → option_and_then (kept test) (of (text a)) ≡ Some a
+  again a fits = ap (option_and_then (kept test)) (exact.again a fits.1) ∙ cond-true (test a) (Some a) None fits.0
+
+  spelled : (row : List ℕ) (a : A) → option_and_then (kept test) (of row) ≡ Some a → (row ≡ text a) × ((test a ≡ true) × Fits a)
+  spelled row a said = option_and_then_some (kept test) (of row) a said
+      (λ b is passes.
+      let found = cond_some (test b) b a passes in
+      let read = exact.spelled row b is in
+      subst (λ x. (row ≡ text x) × ((test x ≡ true) × Fits x)) found.1 (read.0, (found.0, read.1)))

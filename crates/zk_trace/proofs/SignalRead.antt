@@ -1,5 +1,5 @@
 -- The operations and the replies of a signal are read exactly.
-use Rattle.std.proofs.Common.{◌≡◌, ℕ, ◌^◌, ◌<◌, Some, List, map, refl}
+use Rattle.std.proofs.Common.{◌≡◌, ℕ, ◌^◌, ◌<◌, Some, List, [], map, refl}
 use Rattle.zk_line.specs.declared.types.Decl.{Decl}
 use Rattle.zk_line.specs.Objects.{AreNames}
 use Rattle.zk_model_wait.specs.declared.signal.SignalOp.{SignalOp}
@@ -47,3 +47,7 @@ module _ (decls : List Decl) (are : AreNames decls) where
   signal_spelled =
       service_spelled verb_word all_verbs (λ op. (said_of op).0) args (FitsOp decls) (op_behind decls) (reply_words decls) fixed_replies (FitsOpen decls) (open_reply decls) verbs_are there says
       (λ v. refl) others (λ v r fits. tt)
+
+-- each reply has a word
+pub signal_some : (decls : List Decl) (r : SignalReply) → reply_words decls r ≡ [] → ⊥
+signal_some decls (replies.Stamp stamp) none = absurd (cc)

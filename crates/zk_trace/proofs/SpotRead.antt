@@ -13,7 +13,7 @@ use Rattle.zk_base.specs.Limits.{longest_name}
 use Rattle.zk_base.specs.Names.{is_name, is_spelled, is_reserved, is_lower, is_name_byte}
 use Rattle.zk_line.specs.declared.types.Decl.{Decl}
 use Rattle.zk_line.specs.declared.types.Decl.TheVariants.{Thread, Queue, Item, Sem, Msgq, Signal, Listener, Sub, Chan}
-use Rattle.zk_line.specs.Objects.{AreNames, places, is_thread, is_queue, is_at, has_kind_of, number_of, object_of, name_at}
+use Rattle.zk_line.specs.Objects.{AreNames, places, is_thread, is_queue, is_at, has_kind_of, number_of, object_of, name_of, name_at}
 use Rattle.zk_line.proofs.Lists.{slice_get-append_left}
 use Rattle.zk_line.proofs.Options.{one_part}
 use Rattle.zk_scenario.specs.Players.{players, prio_of, who_of}
@@ -178,6 +178,12 @@ module _ (decls : List Decl) (are : AreNames decls) where
   -- a player, by its name
   pub player_exact : IsExact (player_name decls) (λ p. p < length (players decls)) (player_of decls)
   player_exact = record { again = player-again; spelled = player-spelled; plain = player-plain }
+
+-- the worker of a queue stands among those of all queues
+pub worker_among : (decls : List Decl) → AreNames decls → (object : ℕ) → is_at is_queue decls object ≡ true → number_of decls object < length (places is_queue decls)
+worker_among decls are object is =
+    let o = declared is_queue decls object is in
+    ((queue_exact decls are).spelled (name_of o.d) (number_of decls object) (naming is_queue decls (name_of o.d) object (are.distinct object o.d o.there) is)).1
 
 -- Steps.
 

@@ -18,7 +18,7 @@ use Rattle.zk_line.specs.declared.events.TheConstants.{MOST_EVENTS}
 use Rattle.zk_line.specs.declared.types.Decl.{Decl}
 use Rattle.zk_line.specs.Objects.{places, number_of, object_of, is_at, is_thread, is_queue, is_item, is_chan, is_observer}
 use Rattle.zk_trace.specs.Names.{target_name, checked_name, names_word}
-use Rattle.zk_trace.specs.Words.{errno_word, need_word, oops_word, admission_front, flags_word, truth_word, wait_word, ready_front}
+use Rattle.zk_trace.specs.Words.{errno_word, need_word, why_word, oops_front, admission_front, flags_word, truth_word, wait_word, ready_front}
 
 -- a number of 64 bits
 abbrev pub wide_of : List ℕ → Option ℕ
@@ -36,10 +36,13 @@ short_of word = number_in 0 (2 ^ 16 - 1) word
 abbrev pub position_of : List ℕ → Option ℕ
 position_of word = number_in 0 (2 ^ 8 - 1) word
 
+-- what stands behind a front says
+abbrev pub fronted : {A : Type 0} → List ℕ → (List ℕ → Option A) → List ℕ → Option A
+fronted front of word = if begins front word then of (drop (length front) word) else None
+
 -- the number of an admission
 abbrev pub admission_of : List ℕ → Option ℕ
-admission_of word =
-    if begins admission_front word then wide_of (drop (length admission_front) word) else None
+admission_of word = fronted admission_front wide_of word
 
 -- the object of a name, where its declaration passes a test
 abbrev pub object_named : (Decl → Bool) → List Decl → List ℕ → Option ℕ
@@ -111,9 +114,13 @@ errno_of word = named errno_word all_errnos word
 abbrev pub need_of : List ℕ → Option Need
 need_of word = named need_word all_needs word
 
--- why a check fails, behind its word
+-- why a check fails
+abbrev pub why_of : List ℕ → Option OopsWhy
+why_of word = named why_word all_whys word
+
+-- that it fails, and why
 abbrev pub oops_of : List ℕ → Option OopsWhy
-oops_of row = named oops_word all_whys row
+oops_of row = fronted oops_front why_of row
 
 -- a truth value
 abbrev pub truth_of : List ℕ → Option Bool

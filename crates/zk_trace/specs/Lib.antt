@@ -16,6 +16,8 @@ pub mod ObsRead
 pub mod TableRead
 pub mod Sides
 pub mod SpotRead
+pub mod LookRead
+pub mod AnswerRead
 pub mod Looks
 pub mod Looked
 pub mod Text
@@ -37,3 +39,5 @@ pub mod WorkRead
 pub mod EntryRead
 pub mod Feeds
 pub mod SectionRead
+pub mod Letters
+pub mod Static

@@ -1,4 +1,4 @@
-use Rattle.std.specs.Prelude.{ℕ, ◌-◌, ◌==◌, Option, Some, None, List, [], ◌∷◌, ◌++◌, length, take, drop, option_map, option_and_then, codes, if◌then◌else◌}
+use Rattle.std.specs.Prelude.{ℕ, ◌-◌, ◌==◌, Bool, Option, Some, None, List, [], ◌∷◌, ◌++◌, length, take, drop, option_map, option_and_then, codes, if◌then◌else◌}
 use Rattle.std.specs.Str.{bytes_eq}
 use Rattle.zk_words.specs.Pieces.{words_of}
 use Rattle.zk_words.specs.Text.{line_text}
@@ -14,7 +14,7 @@ sides_row words answer = line_text words ++ sign ++ answer
 
 -- one byte more before the cut
 abbrev pub longer : ℕ → List ℕ × List ℕ → List ℕ × List ℕ
-longer b halves = (b ∷ halves.0, halves.1)
+longer b cut = (b ∷ cut.0, cut.1)
 
 -- what stands before the first of a byte, and behind it
 abbrev pub halves : ℕ → List ℕ → Option (List ℕ × List ℕ)
@@ -30,14 +30,17 @@ before_space text =
 abbrev pub behind_space : List ℕ → Option (List ℕ)
 behind_space text = if bytes_eq (take 1 text) (codes " ") then Some (drop 1 text) else None
 
--- two texts
+-- two things
 abbrev pub pair : {A B : Type 0} → A → B → A × B
 pair a b = (a, b)
 
+-- what passes a test
+abbrev pub kept : {A : Type 0} → (A → Bool) → A → Option A
+kept test a = if test a then Some a else None
+
 -- both sides of an equals sign, without the spaces beside it
 abbrev pub trimmed : List ℕ × List ℕ → Option (List ℕ × List ℕ)
-trimmed halves =
-    option_and_then (λ front. option_map (pair front) (behind_space halves.1)) (before_space halves.0)
+trimmed cut = option_and_then (λ front. option_map (pair front) (behind_space cut.1)) (before_space cut.0)
 
 -- what stands before the first sign of a row, and behind it
 abbrev pub sides_of : List ℕ → Option (List ℕ × List ℕ)

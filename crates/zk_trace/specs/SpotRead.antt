@@ -28,8 +28,8 @@ player_of decls name = option_and_then (player_at decls) (object_of decls name)
 
 -- a player and the number of one of its steps, by its name, a point and the number
 abbrev pub named_step : List Decl → List ℕ × List ℕ → Option (ℕ × ℕ)
-named_step decls halves =
-    option_and_then (λ player. option_map (pair player) (narrow_of halves.1)) (player_of decls halves.0)
+named_step decls cut =
+    option_and_then (λ player. option_map (pair player) (narrow_of cut.1)) (player_of decls cut.0)
 
 abbrev pub step_of : List Decl → List ℕ → Option (ℕ × ℕ)
 step_of decls word = option_and_then (named_step decls) (halves point word)

@@ -51,9 +51,13 @@ abbrev pub fixed_replies : Verb → List TableReply
 fixed_replies verbs.Init = replies.Done ∷ replies.Already ∷ []
 fixed_replies verb = replies.Done ∷ []
 
--- the others, by what stands behind the sign: a check can fail
+-- a check that failed
+abbrev pub oops_reply : List ℕ → Option TableReply
+oops_reply row = option_map replies.Oops (oops_of row)
+
+-- the others, by what stands behind the sign
 abbrev pub open_reply : List Decl → Verb → List ℕ → Option TableReply
-open_reply decls verbs.Check row = option_map replies.Oops (oops_of row)
+open_reply decls verbs.Check row = oops_reply row
 open_reply decls verb row = None
 
 -- which those are

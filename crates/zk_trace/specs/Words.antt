@@ -51,9 +51,13 @@ why_word WrongKind = codes "wrongkind"
 why_word NotGranted = codes "notgranted"
 why_word NotInit = codes "notinit"
 
+-- what stands before the reason of a check that fails
+abbrev pub oops_front : List ℕ
+oops_front = codes "oops "
+
 -- a check that fails, and why
 abbrev pub oops_word : OopsWhy → List ℕ
-oops_word why = codes "oops " ++ why_word why
+oops_word why = oops_front ++ why_word why
 
 -- what stands before the number of an admission
 abbrev pub admission_front : List ℕ

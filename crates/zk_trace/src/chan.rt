@@ -37,7 +37,7 @@ pub enum Verb {
 }
 
 /// The word of a verb.
-fn verb_word(verb: Verb) -> &'static [u8]
+pub fn verb_word(verb: Verb) -> &'static [u8]
     ensures { result.now ≡ verb_word verb }
 {
     match verb {
@@ -56,7 +56,7 @@ fn verb_word(verb: Verb) -> &'static [u8]
 }
 
 /// An operation as it is written: its verb, and what stands behind that.
-fn said_of(op: &ChanOp) -> (Verb, PartList<'_>)
+pub fn said_of(op: &ChanOp) -> (Verb, PartList<'_>)
     ensures { result ≡ said_of op.now }
 {
     match op {
@@ -81,7 +81,7 @@ fn said_of(op: &ChanOp) -> (Verb, PartList<'_>)
 }
 
 /// The parts of a reply.
-fn reply_parts(reply: &ChanReply) -> PartList<'_>
+pub fn reply_parts(reply: &ChanReply) -> PartList<'_>
     ensures { result ≡ reply_parts reply.now }
 {
     match reply {

@@ -21,7 +21,7 @@ pub enum Verb {
 }
 
 /// The word of a verb.
-fn verb_word(verb: Verb) -> &'static [u8]
+pub fn verb_word(verb: Verb) -> &'static [u8]
     ensures { result.now ≡ verb_word verb }
 {
     match verb {
@@ -32,7 +32,7 @@ fn verb_word(verb: Verb) -> &'static [u8]
 }
 
 /// An operation as it is written: its verb, and what stands behind that.
-fn said_of(op: ClockOp) -> (Verb, PartList<'static>)
+pub fn said_of(op: ClockOp) -> (Verb, PartList<'static>)
     ensures { result ≡ said_of op }
 {
     match op {
@@ -43,7 +43,7 @@ fn said_of(op: ClockOp) -> (Verb, PartList<'static>)
 }
 
 /// The parts of a reply.
-fn reply_parts(reply: ClockReply) -> PartList<'static>
+pub fn reply_parts(reply: ClockReply) -> PartList<'static>
     ensures { result ≡ reply_parts reply }
 {
     match reply {

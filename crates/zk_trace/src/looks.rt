@@ -1,12 +1,24 @@
 ghost use Rattle.std.specs.Prelude.{◌≡◌, ◌++◌, decimal, OnOk, OnErr};
 ghost use Rattle.zk_trace.specs.Fronts.{StaysInFront};
-ghost use Rattle.zk_trace.specs.Looks.{look_word, busy_word, check_word, look_head, item_look_line, signal_look_line, raised_word, seen_word, stamp_front, stamp_word};
+ghost use Rattle.zk_trace.specs.Looks.{look_head, item_look_line, signal_look_line, raised_word, seen_word, stamp_word};
 
+use crate::flags::put_flags;
 use crate::lined::{Lined, put_spot};
 use crate::names::name_at;
-use crate::words::put_flags;
 use zk_base::{Listed, NoMemory, Seen, put, put_decimal};
 use zk_scenario::Scenario;
+
+/// The word of a look.
+pub const LOOK: &[u8] = b"look";
+
+/// What a player looks at: whether an item is busy.
+pub const BUSY: &[u8] = b"busy";
+
+/// What a player looks at: a signal.
+pub const CHECK: &[u8] = b"check";
+
+/// What stands before the number of entries or writes.
+pub const STAMP: &[u8] = b"@";
 
 /// What a player found when it looked at the busy flags of an item.
 #[derive(Clone, Copy, Debug, PartialEq, Eq)]
@@ -46,7 +58,7 @@ impl Lined for ItemLook {
     fn put_line(&self, out: &mut Vec<u8>, scenario: &Scenario) -> Result<(), NoMemory> {
         put_look_head(out, scenario, self.player, self.step)?;
         out.push(b' ')?;
-        put(out, busy_word())?;
+        put(out, BUSY)?;
         out.push(b' ')?;
         put(out, name_at(scenario.decls(), self.item as usize))?;
         put(out, b" = ")?;
@@ -63,34 +75,13 @@ impl Lined for SignalLook {
     fn put_line(&self, out: &mut Vec<u8>, scenario: &Scenario) -> Result<(), NoMemory> {
         put_look_head(out, scenario, self.player, self.step)?;
         out.push(b' ')?;
-        put(out, check_word())?;
+        put(out, CHECK)?;
         put(out, b" = ")?;
         put_seen(out, self.seen.raised, self.seen.result)?;
         out.push(b' ')?;
         put_stamp(out, u64::from(self.seen.stamp))?;
         put(out, b"\n")
     }
-}
-
-/// The word of a look.
-pub fn look_word() -> &'static [u8]
-    ensures { result.now ≡ look_word }
-{
-    b"look"
-}
-
-/// What a player looks at: whether an item is busy.
-pub fn busy_word() -> &'static [u8]
-    ensures { result.now ≡ busy_word }
-{
-    b"busy"
-}
-
-/// What a player looks at: a signal.
-pub fn check_word() -> &'static [u8]
-    ensures { result.now ≡ check_word }
-{
-    b"check"
 }
 
 /// The word of a look and whose step it is.
@@ -103,7 +94,7 @@ fn put_look_head(
     ensures text { OnOk result (out.new.items ≡ out.old.items ++ look_head scenario.now.decls player step) }
     ensures kept { OnErr result (StaysInFront out.old.items out.new.items) }
 {
-    put(out, look_word())?;
+    put(out, LOOK)?;
     out.push(b' ')?;
     put_spot(out, scenario, player, step)
 }
@@ -125,18 +116,11 @@ pub fn put_seen(out: &mut Vec<u8>, raised: bool, value: u16) -> Result<(), NoMem
     put_decimal(out, u64::from(value))
 }
 
-/// What stands before the number of entries or writes.
-pub fn stamp_front() -> &'static [u8]
-    ensures { result.now ≡ stamp_front }
-{
-    b"@"
-}
-
 /// After how many entries or writes it was so.
 fn put_stamp(out: &mut Vec<u8>, stamp: u64) -> Result<(), NoMemory>
     ensures text { OnOk result (out.new.items ≡ out.old.items ++ stamp_word stamp) }
     ensures kept { OnErr result (StaysInFront out.old.items out.new.items) }
 {
-    put(out, stamp_front())?;
+    put(out, STAMP)?;
     put_decimal(out, stamp)
 }

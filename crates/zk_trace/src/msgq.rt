@@ -43,7 +43,7 @@ pub enum Verb {
 }
 
 /// The word of a verb.
-fn verb_word(verb: Verb) -> &'static [u8]
+pub fn verb_word(verb: Verb) -> &'static [u8]
     ensures { result.now ≡ verb_word verb }
 {
     match verb {
@@ -65,7 +65,7 @@ fn verb_word(verb: Verb) -> &'static [u8]
 }
 
 /// An operation as it is written: its verb, and what stands behind that.
-fn said_of(op: &MsgqOp) -> (Verb, PartList<'_>)
+pub fn said_of(op: &MsgqOp) -> (Verb, PartList<'_>)
     ensures { result ≡ said_of op.now }
 {
     match op {
@@ -90,7 +90,7 @@ fn said_of(op: &MsgqOp) -> (Verb, PartList<'_>)
 }
 
 /// The parts of a reply.
-fn reply_parts(reply: &MsgqReply) -> PartList<'_>
+pub fn reply_parts(reply: &MsgqReply) -> PartList<'_>
     ensures { result ≡ reply_parts reply.now }
 {
     match reply {

@@ -9,6 +9,9 @@ use zk_base::{NoMemory, put};
 use zk_line::name_of;
 use zk_scenario::{Decl, Scenario};
 
+/// What stands for no name.
+pub const NO_NAME: &[u8] = b"-";
+
 /// The name of an item, by its number among the items.
 pub fn item_name(scenario: &Scenario, item: u32) -> &[u8]
     ensures { result.now ≡ item_name scenario.now.decls item }
@@ -28,7 +31,7 @@ pub fn target_name(scenario: &Scenario, queue: Option<u32>) -> &[u8]
     ensures { result.now ≡ target_name scenario.now.decls queue }
 {
     match queue {
-        None => b"-",
+        None => NO_NAME,
         Some(queue) => queue_name(scenario, queue),
     }
 }
@@ -91,7 +94,7 @@ pub fn put_names(out: &mut Vec<u8>, scenario: &Scenario, objects: &[u32]) -> Res
     ensures kept { OnErr result (StaysInFront out.old.items out.new.items) }
 {
     match objects {
-        [] => put(out, b"-"),
+        [] => put(out, NO_NAME),
         [object, more @ ..] => put_some_names(out, scenario, *object, more),
     }
 }

@@ -25,7 +25,7 @@ pub enum Verb {
 }
 
 /// The word of a verb.
-fn verb_word(verb: Verb) -> &'static [u8]
+pub fn verb_word(verb: Verb) -> &'static [u8]
     ensures { result.now ≡ verb_word verb }
 {
     match verb {
@@ -38,7 +38,7 @@ fn verb_word(verb: Verb) -> &'static [u8]
 }
 
 /// An operation as it is written: its verb, and what stands behind that.
-fn said_of(op: ObsOp) -> (Verb, PartList<'static>)
+pub fn said_of(op: ObsOp) -> (Verb, PartList<'static>)
     ensures { result ≡ said_of op }
 {
     match op {
@@ -51,7 +51,7 @@ fn said_of(op: ObsOp) -> (Verb, PartList<'static>)
 }
 
 /// The parts of a reply.
-fn reply_parts(reply: ObsReply) -> PartList<'static>
+pub fn reply_parts(reply: ObsReply) -> PartList<'static>
     ensures { result ≡ reply_parts reply }
 {
     match reply {

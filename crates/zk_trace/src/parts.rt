@@ -6,12 +6,14 @@ ghost use Rattle.zk_trace.specs.Names.{target_name};
 ghost use Rattle.zk_trace.specs.Parts.{fixed_word, part_word, answer_part, each_behind};
 ghost use Rattle.zk_trace.specs.Sized.{IsSizedPart, AreSized};
 ghost use Rattle.zk_base.specs.Limits.{most_few};
+ghost use Rattle.zk_trace.specs.Static.{static_word, static_row};
 
+use crate::flags::put_flags;
 use crate::looks::put_seen;
 use crate::names::{checked_name, item_name, name_at, put_names, queue_name, target_name};
 use crate::sizes::{Sizes, narrow, octets, short, wide};
 use crate::words::{
-    errno_word, need_word, put_admission, put_flags, put_oops, put_ready, truth_word, wait_word,
+    errno_word, need_word, put_admission, put_oops, put_ready, truth_word, wait_word,
 };
 use std::marker::Model;
 use zk_base::{Errno, Few, Msg, NoMemory, put, put_decimal};
@@ -113,7 +115,7 @@ pub enum FixedWord {
 }
 
 /// The text of a fixed word.
-fn fixed_word(fixed: FixedWord) -> &'static [u8]
+pub fn fixed_word(fixed: FixedWord) -> &'static [u8]
     ensures { result.now ≡ fixed_word fixed }
 {
     match fixed {
@@ -276,6 +278,30 @@ impl<'a> PartList<'a> {
             second: Some(second),
             third: Some(third),
         }
+    }
+}
+
+/// The text of a part that is the same in each line, and no byte for another.
+fn static_word(part: &Part<'_>) -> &'static [u8]
+    ensures { result.now ≡ static_word part.now }
+{
+    match part {
+        Part::Truth(truth) => truth_word(*truth),
+        Part::Refusal(errno) => errno_word(*errno),
+        Part::Fixed(fixed) => fixed_word(*fixed),
+        _ => &[],
+    }
+}
+
+/// The text of one part that is the same in each line, and no byte for other parts.
+pub fn static_row(parts: &PartList<'_>) -> &'static [u8]
+    ensures { result.now ≡ static_row parts.now }
+{
+    match (&parts.first, &parts.second, &parts.third) {
+        (Some(part), None, None) => static_word(part),
+        (None, Some(part), None) => static_word(part),
+        (None, None, Some(part)) => static_word(part),
+        _ => &[],
     }
 }
 

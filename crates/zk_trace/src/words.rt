@@ -1,13 +1,21 @@
-ghost use Rattle.std.specs.Prelude.{◌≡◌, ◌++◌, ◌==◌, ◌<◌, decimal, OnOk, OnErr};
-ghost use Rattle.std.specs.Int.RustNames.{bit_and};
+ghost use Rattle.std.specs.Prelude.{◌≡◌, ◌++◌, OnOk, OnErr};
 ghost use Rattle.zk_trace.specs.Fronts.{StaysInFront};
-ghost use Rattle.zk_trace.specs.Words.{ending_word, errno_word, need_word, why_word, oops_word, admission_word, flag_letter, flag_letters, flags_word, truth_word, wait_word, position_text, positions_text, ready_word, call_word, state_word};
+ghost use Rattle.zk_trace.specs.Words.{ending_word, errno_word, need_word, why_word, oops_word, admission_word, truth_word, wait_word, position_text, positions_text, ready_word, call_word, state_word};
 
 use crate::Ending;
 use zk_base::{Errno, NoMemory, put, put_decimal};
 use zk_model_bus::{Need, OopsWhy};
 use zk_words::{Head, Word, row_of};
 use zk_worker::PlayerState;
+
+/// What stands before the number of an admission.
+pub const ADMISSION: &[u8] = b"a";
+
+/// The word before the positions of a poll's ready events.
+pub const READY: &[u8] = b"ready";
+
+/// The word before the reason of a check that fails, and a space.
+pub const OOPS: &[u8] = b"oops ";
 
 /// How a run ended.
 pub fn ending_word(ending: Ending) -> &'static [u8]
@@ -54,7 +62,7 @@ pub fn need_word(need: Need) -> &'static [u8]
 }
 
 /// Why a check fails.
-fn why_word(why: OopsWhy) -> &'static [u8]
+pub fn why_word(why: OopsWhy) -> &'static [u8]
     ensures { result.now ≡ why_word why }
 {
     match why {
@@ -70,7 +78,7 @@ pub fn put_oops(out: &mut Vec<u8>, why: OopsWhy) -> Result<(), NoMemory>
     ensures text { OnOk result (out.new.items ≡ out.old.items ++ oops_word why) }
     ensures kept { OnErr result (StaysInFront out.old.items out.new.items) }
 {
-    put(out, b"oops ")?;
+    put(out, OOPS)?;
     put(out, why_word(why))
 }
 
@@ -79,40 +87,8 @@ pub fn put_admission(out: &mut Vec<u8>, number: u64) -> Result<(), NoMemory>
     ensures text { OnOk result (out.new.items ≡ out.old.items ++ admission_word number) }
     ensures kept { OnErr result (StaysInFront out.old.items out.new.items) }
 {
-    put(out, b"a")?;
+    put(out, ADMISSION)?;
     put_decimal(out, number)
-}
-
-/// Appends the letters of the busy flags, or a dash.
-pub fn put_flags(out: &mut Vec<u8>, flags: u8) -> Result<(), NoMemory>
-    ensures text { OnOk result (out.new.items ≡ out.old.items ++ flags_word flags) }
-    ensures kept { OnErr result (StaysInFront out.old.items out.new.items) }
-{
-    if flags == 0 {
-        return put(out, b"-");
-    }
-    put_letters(out, flags)
-}
-
-fn put_letters(out: &mut Vec<u8>, flags: u8) -> Result<(), NoMemory>
-    ensures text { OnOk result (out.new.items ≡ out.old.items ++ flag_letters flags) }
-    ensures kept { OnErr result (StaysInFront out.old.items out.new.items) }
-{
-    put_letter(out, flags, 1, b"r")?;
-    put_letter(out, flags, 2, b"c")?;
-    put_letter(out, flags, 4, b"q")?;
-    put_letter(out, flags, 8, b"d")?;
-    put_letter(out, flags, 16, b"f")
-}
-
-fn put_letter(out: &mut Vec<u8>, flags: u8, flag: u8, letter: &[u8]) -> Result<(), NoMemory>
-    ensures text { OnOk result (out.new.items ≡ out.old.items ++ flag_letter flags flag letter.now) }
-    ensures kept { OnErr result (StaysInFront out.old.items out.new.items) }
-{
-    if flags & flag == 0 {
-        return Ok(());
-    }
-    put(out, letter)
 }
 
 /// An answer that is true or false.
@@ -134,7 +110,7 @@ pub fn put_ready(out: &mut Vec<u8>, positions: &[u8]) -> Result<(), NoMemory>
     ensures text { OnOk result (out.new.items ≡ out.old.items ++ ready_word positions.now) }
     ensures kept { OnErr result (StaysInFront out.old.items out.new.items) }
 {
-    put(out, b"ready")?;
+    put(out, READY)?;
     put_positions(out, positions)
 }
 

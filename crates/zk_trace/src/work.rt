@@ -51,7 +51,7 @@ pub enum Verb {
 }
 
 /// The word of a verb.
-fn verb_word(verb: Verb) -> &'static [u8]
+pub fn verb_word(verb: Verb) -> &'static [u8]
     ensures { result.now ≡ verb_word verb }
 {
     match verb {
@@ -75,7 +75,7 @@ fn verb_word(verb: Verb) -> &'static [u8]
 }
 
 /// An operation as it is written: its verb, and what stands behind that.
-fn said_of(op: WorkOp) -> (Verb, PartList<'static>)
+pub fn said_of(op: WorkOp) -> (Verb, PartList<'static>)
     ensures { result ≡ said_of op }
 {
     match op {
@@ -111,7 +111,7 @@ fn said_of(op: WorkOp) -> (Verb, PartList<'static>)
 }
 
 /// The parts of what became of a submission.
-fn submitted_parts(submitted: Submitted) -> PartList<'static>
+pub fn submitted_parts(submitted: Submitted) -> PartList<'static>
     ensures { result ≡ submitted_parts submitted }
 {
     match submitted {
@@ -133,7 +133,7 @@ fn admitted(answer: FixedWord, admission: u64, queue: u32) -> PartList<'static>
 }
 
 /// The parts of a reply.
-fn reply_parts(reply: &WorkReply) -> PartList<'static>
+pub fn reply_parts(reply: &WorkReply) -> PartList<'static>
     ensures { result ≡ reply_parts reply.now }
 {
     match reply {

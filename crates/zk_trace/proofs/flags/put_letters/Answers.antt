@@ -2,7 +2,7 @@ use Rattle.std.proofs.Common.{codes}
 use Rattle.std.proofs.lemmas.Result.{on_err_weaker}
 use Rattle.zk_trace.specs.Words.{flag_letter}
 use Rattle.zk_trace.proofs.Fronts.{front_before}
-use Rattle.zk_trace.proofs.words.put_letters.Goals as goal
+use Rattle.zk_trace.proofs.flags.put_letters.Goals as goal
 
 pub returns-clause-kept : goal.returns-clause-kept
 returns-clause-kept c =
