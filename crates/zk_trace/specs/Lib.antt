@@ -1,3 +1,7 @@
+pub mod EntryRead
+pub mod Feeds
+pub mod SectionRead
+pub mod Stood
 pub mod Names
 pub mod Words
 pub mod Parts
@@ -36,8 +40,5 @@ pub mod Sized
 pub mod SemRead
 pub mod ClockRead
 pub mod WorkRead
-pub mod EntryRead
-pub mod Feeds
-pub mod SectionRead
 pub mod Letters
 pub mod Static

@@ -121,7 +121,7 @@ fn put_looked_object<O: Spelled, R: Spelled, L: Lined>(
 }
 
 /// The looks at an object.
-fn looks_at<L>(looks: &[Listed<L>], object: usize) -> &[L]
+pub fn looks_at<L>(looks: &[Listed<L>], object: usize) -> &[L]
     ensures { result.now ≡ looks_at looks.now object }
 {
     match looks.get(object) {
