@@ -11,3 +11,7 @@ pub mod Legality
 pub mod Lawful
 pub mod DeadPlayers
 pub mod InVain
+pub mod AheadSays
+pub mod EntriesFit
+pub mod OpsFit
+pub mod RunHistories

@@ -39,6 +39,7 @@ pub mod Lawful
 pub mod Exact
 pub mod Choices
 pub mod Fields
+pub mod Sized
 pub mod SemRead
 pub mod ClockRead
 pub mod WorkRead

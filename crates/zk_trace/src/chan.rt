@@ -1,7 +1,9 @@
 ghost use Rattle.std.specs.Prelude.{◌≡◌};
 ghost use Rattle.zk_trace.specs.Chan.{verb_word, said_of, op_words, reply_parts, reply_words};
+ghost use Rattle.zk_trace.specs.Sized.{AreSized};
 
 use crate::parts::{FixedWord, Lent, Named, Part, PartList, put_parts, put_said};
+use crate::sizes::Sizes;
 use crate::spelled::Spelled;
 use zk_base::{Errno, NoMemory};
 use zk_model_bus::{ChanOp, ChanReply};
@@ -109,5 +111,22 @@ impl Spelled for ChanReply {
 
     fn put_words(&self, out: &mut Vec<u8>, scenario: &Scenario) -> Result<(), NoMemory> {
         put_parts(out, scenario, b' ', &reply_parts(self))
+    }
+}
+
+impl Sizes for ChanOp {
+    ghost sized = { λ op. AreSized (said_of op).1 };
+
+    fn sizes(&self) {
+        let (_, parts) = said_of(self);
+        parts.sizes();
+    }
+}
+
+impl Sizes for ChanReply {
+    ghost sized = { λ reply. AreSized (reply_parts reply) };
+
+    fn sizes(&self) {
+        reply_parts(self).sizes();
     }
 }

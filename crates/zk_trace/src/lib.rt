@@ -33,6 +33,7 @@ mod sem_read;
 mod set_words;
 mod signal;
 mod signal_read;
+mod sizes;
 mod spelled;
 mod spot_read;
 mod stood;
@@ -45,4 +46,5 @@ mod work_read;
 
 pub use looks::{ItemLook, ItemLooks, SignalLook, SignalLooks};
 pub use print::{print_trace, put_trace};
+pub use sizes::trace_sizes;
 pub use trace::{Ending, Histories, History, Logs, Trace};

@@ -1,14 +1,17 @@
-ghost use Rattle.std.specs.Prelude.{◌≡◌, [], ◌∷◌, ◌++◌, map, OnOk, OnErr};
+ghost use Rattle.std.specs.Prelude.{◌≡◌, [], ◌∷◌, ◌++◌, map, OnOk, OnErr, length, ◌≤◌};
 ghost use Rattle.std.specs.List.{cons_option};
 ghost use Rattle.zk_words.specs.Bytes.{space};
 ghost use Rattle.zk_trace.specs.Fronts.{StaysInFront};
 ghost use Rattle.zk_trace.specs.Names.{target_name};
 ghost use Rattle.zk_trace.specs.Parts.{fixed_word, part_word, answer_part, each_behind};
+ghost use Rattle.zk_trace.specs.Sized.{IsSizedPart, AreSized};
+ghost use Rattle.zk_base.specs.Limits.{most_few};
 ghost use Rattle.zk_trace.specs.Static.{static_word, static_row};
 
 use crate::flags::put_flags;
 use crate::looks::put_seen;
 use crate::names::{checked_name, item_name, name_at, put_names, queue_name, target_name};
+use crate::sizes::{Sizes, narrow, octets, short, wide};
 use crate::words::{
     errno_word, need_word, put_admission, put_oops, put_ready, truth_word, wait_word,
 };
@@ -207,7 +210,8 @@ impl<'a> Named<'a> {
     }
 
     fn numbers(&self) -> &[u32]
-        ensures { result.now ≡ self.now }
+        ensures same { result.now ≡ self.now }
+        ensures few { length result.now ≤ most_few }
     {
         self.objects.numbers()
     }
@@ -391,5 +395,50 @@ fn put_word(out: &mut Vec<u8>, scenario: &Scenario, part: &Part<'_>) -> Result<(
         Part::Refusal(errno) => put(out, errno_word(*errno)),
         Part::Oops(why) => put_oops(out, *why),
         Part::Fixed(fixed) => put(out, fixed_word(*fixed)),
+    }
+}
+
+impl<'a> Sizes for Part<'a> {
+    ghost sized = { IsSizedPart };
+
+    fn sizes(&self) {
+        match self {
+            Part::Narrow(number) => narrow(*number),
+            Part::Wide(number) => wide(*number),
+            Part::Place(place) => wide(*place),
+            Part::Admission(number) => wide(*number),
+            Part::Bytes(message) => octets(message.bytes()),
+            Part::Objects(objects) => objects.sizes(),
+            Part::Seen(_, value) => short(*value),
+            Part::Ready(positions) => octets(positions.numbers()),
+            _ => {}
+        }
+    }
+}
+
+impl<'a> Sizes for Named<'a> {
+    ghost sized = { λ objects. length objects ≤ most_few };
+
+    fn sizes(&self) {
+        let _numbers = self.numbers();
+    }
+}
+
+impl<'a> Sizes for PartList<'a> {
+    ghost sized = { AreSized };
+
+    fn sizes(&self) {
+        any_sizes(&self.first);
+        any_sizes(&self.second);
+        any_sizes(&self.third);
+    }
+}
+
+/// The numbers of a part, where there is one.
+fn any_sizes(part: &Option<Part<'_>>)
+    ensures { AreSized (cons_option part.now []) }
+{
+    if let Some(part) = part {
+        part.sizes();
     }
 }

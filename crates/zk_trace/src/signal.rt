@@ -1,7 +1,9 @@
 ghost use Rattle.std.specs.Prelude.{◌≡◌};
 ghost use Rattle.zk_trace.specs.Signal.{verb_word, said_of, op_words, reply_parts, reply_words};
+ghost use Rattle.zk_trace.specs.Sized.{AreSized, IsSizedWrite};
 
 use crate::parts::{Part, PartList, put_parts, put_said};
+use crate::sizes::{Sizes, short};
 use crate::spelled::Spelled;
 use zk_base::NoMemory;
 use zk_model_wait::{SignalOp, SignalReply};
@@ -59,5 +61,23 @@ impl Spelled for SignalReply {
 
     fn put_words(&self, out: &mut Vec<u8>, scenario: &Scenario) -> Result<(), NoMemory> {
         put_parts(out, scenario, b' ', &reply_parts(*self))
+    }
+}
+
+impl Sizes for SignalOp {
+    ghost sized = { IsSizedWrite };
+
+    fn sizes(&self) {
+        if let SignalOp::Raise(value) = *self {
+            short(value);
+        }
+    }
+}
+
+impl Sizes for SignalReply {
+    ghost sized = { λ reply. AreSized (reply_parts reply) };
+
+    fn sizes(&self) {
+        reply_parts(*self).sizes();
     }
 }

@@ -3,8 +3,11 @@ ghost use Rattle.zk_words.specs.Bytes.{space};
 ghost use Rattle.zk_trace.specs.Fronts.{StaysInFront};
 ghost use Rattle.zk_trace.specs.Parts.{each_behind};
 ghost use Rattle.zk_trace.specs.Work.{verb_word, said_of, op_words, admitted, submitted_parts, reply_parts, expiries_of, expiry_word, reply_words};
+ghost use Rattle.zk_trace.specs.Sized.{AreSized, IsSizedExpiry, IsSizedWork};
+ghost use Rattle.std.specs.List.{AllByRecursion};
 
 use crate::parts::{FixedWord, Part, PartList, put_part, put_parts, put_said};
+use crate::sizes::{Sizes, all_sizes};
 use crate::spelled::Spelled;
 use zk_base::NoMemory;
 use zk_model_work::{Expiry, Submitted, WorkOp, WorkReply};
@@ -202,4 +205,36 @@ fn put_expiry(out: &mut Vec<u8>, scenario: &Scenario, expiry: Expiry) -> Result<
 {
     put_part(out, scenario, b' ', &Part::Item(expiry.item))?;
     put_parts(out, scenario, COLON, &submitted_parts(expiry.submitted))
+}
+
+impl Sizes for WorkOp {
+    ghost sized = { λ op. AreSized (said_of op).1 };
+
+    fn sizes(&self) {
+        let (_, parts) = said_of(*self);
+        parts.sizes();
+    }
+}
+
+impl Sizes for WorkReply {
+    ghost sized = { IsSizedWork };
+
+    fn sizes(&self) {
+        reply_parts(self).sizes();
+        expiry_sizes(expiries_of(self));
+    }
+}
+
+impl Sizes for Expiry {
+    ghost sized = { IsSizedExpiry };
+
+    fn sizes(&self) {
+        submitted_parts(self.submitted).sizes();
+    }
+}
+
+fn expiry_sizes(expiries: &[Expiry])
+    ensures { AllByRecursion IsSizedExpiry expiries.now }
+{
+    all_sizes(expiries);
 }
