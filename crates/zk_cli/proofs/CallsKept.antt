@@ -11,16 +11,18 @@ use Rattle.zk_worker.specs.Follows.{Stands}
 use Rattle.zk_player_laws.proofs.CallLogs.{each_call_is_made}
 use Rattle.zk_trace.specs.declared.trace.Trace.{Trace}
 use Rattle.zk_trace.specs.Lawful.{IsLawful}
+use Rattle.zk_trace.proofs.LegalHistories.{histories-legal}
 use Rattle.zk_trace.specs.Shown.{trace_shown}
 use Rattle.zk_cli.specs.CallsMade.{EachMakesItsCalls}
 
 -- each log of a lawful trace has made its calls
 pub calls-kept : (s : Content) (t : Trace) → IsLawful s t → EachMakesItsCalls s t
 calls-kept s t lawful number log is =
+    let legal = histories-legal s t lawful.place.rises lawful.history in
     let follows = lawful.log.follow number log is in
     let answers : follows.end.answers ≡ log.answers = ap (λ (l : Log). l.answers) follows.logged in
     let steps : follows.end.spots ≡ log.steps = ap (λ (l : Log). l.steps) follows.logged in
-    let all = each_call_is_made s number (trace_shown t) follows.end follows.led lawful.history.clock in
+    let all = each_call_is_made s number (trace_shown t) follows.end follows.led legal.clock in
     record {
       start = follows.led.start;
       starts = follows.led.starts;

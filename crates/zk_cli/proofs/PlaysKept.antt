@@ -10,6 +10,7 @@ use Rattle.zk_worker.specs.Shown.{ShowsLog}
 use Rattle.zk_player_laws.proofs.ScriptsPlayed.{each_script_is_played}
 use Rattle.zk_trace.specs.declared.trace.Trace.{Trace}
 use Rattle.zk_trace.specs.Lawful.{IsLawful}
+use Rattle.zk_trace.proofs.LegalHistories.{histories-legal}
 use Rattle.zk_trace.specs.Shown.{trace_shown}
 use Rattle.zk_cli.specs.Plays.{EachPlaysItsScripts}
 use Rattle.zk_cli.proofs.PollsKept.{shows-log}
@@ -18,10 +19,11 @@ use Rattle.zk_cli.proofs.ScriptsKept.{chans-legal}
 -- each log of a lawful trace has played its scripts
 pub plays-kept : (s : Content) (t : Trace) → IsValid s → IsLawful s t → EachPlaysItsScripts s t
 plays-kept s t valid lawful number log is =
+    let legal = histories-legal s t lawful.place.rises lawful.history in
     let follows = lawful.log.follow number log is in
     let steps : follows.end.spots ≡ log.steps = ap (λ (l : Log). l.steps) follows.logged in
     let shows = subst (ShowsLog (trace_shown t) number) (sym steps) (shows-log s t number log lawful.place is) in
-    let all = each_script_is_played s number (trace_shown t) follows.end follows.led valid shows lawful.history.clock (chans-legal s t lawful.history) in
+    let all = each_script_is_played s number (trace_shown t) follows.end follows.led valid shows legal.clock (chans-legal s t legal) in
     record {
       start = follows.led.start;
       starts = follows.led.starts;

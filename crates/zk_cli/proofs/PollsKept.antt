@@ -24,7 +24,7 @@ use Rattle.zk_worker.specs.Shown.{ShowsLog}
 use Rattle.zk_player_laws.proofs.OpenPolls.{each_open_poll_goes_on}
 use Rattle.zk_player_laws.proofs.PollServed.{each_poll_keeps_its_laws}
 use Rattle.zk_trace.specs.declared.trace.Trace.{Trace}
-use Rattle.zk_trace.specs.History.{IsLegalAt, AreLegal}
+use Rattle.zk_trace.proofs.LegalHistories.{IsLegalAt, LegalHistories, histories-legal}
 use Rattle.zk_trace.specs.Lawful.{IsLawful}
 use Rattle.zk_trace.specs.Place.{IsPlaced}
 use Rattle.zk_trace.specs.Shown.{trace_shown}
@@ -69,7 +69,7 @@ module _ (s : Content) (fit : list_all decl_fits s.decls ≡ true) where
       (from.most, subst (λ (x : Msgq). IsLegal msgq_machine x h) from.is_new legal)
 
   -- a trace with legal histories shows them
-  shows-legal : (t : Trace) → AreLegal s t → ShowsLegal (trace_shown t)
+  shows-legal : (t : Trace) → LegalHistories s t → ShowsLegal (trace_shown t)
   shows-legal t legal = record {
     clock = legal.clock;
     sems = λ object h there.
@@ -86,7 +86,7 @@ polls-kept s t valid lawful number log is =
     let follows = lawful.log.follow number log is in
     let steps : follows.end.spots ≡ log.steps = ap (λ (l : Log). l.steps) follows.logged in
     let shows = subst (ShowsLog (trace_shown t) number) (sym steps) (shows-log s t number log lawful.place is) in
-    let legal = shows-legal s valid.in_range t lawful.history in
+    let legal = shows-legal s valid.in_range t (histories-legal s t lawful.place.rises lawful.history) in
     let all = each_poll_keeps_its_laws s number (trace_shown t) follows.end follows.led valid shows legal in
     record {
       start = follows.led.start;

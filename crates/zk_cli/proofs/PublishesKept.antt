@@ -12,6 +12,7 @@ use Rattle.zk_player_laws.specs.VisitLaws.{UsesOrIsRefused, AreAnswered}
 use Rattle.zk_player_laws.proofs.Visits.{each_publish_visits}
 use Rattle.zk_trace.specs.declared.trace.Trace.{Trace}
 use Rattle.zk_trace.specs.Lawful.{IsLawful}
+use Rattle.zk_trace.proofs.LegalHistories.{histories-legal}
 use Rattle.zk_trace.specs.Shown.{trace_shown}
 use Rattle.zk_cli.specs.Publishes.{EachVisitsAsTold}
 use Rattle.zk_cli.proofs.PollsKept.{shows-log}
@@ -20,11 +21,12 @@ use Rattle.zk_cli.proofs.ScriptsKept.{chans-legal}
 -- each log of a lawful trace has visited as it was told
 pub publishes-kept : (s : Content) (t : Trace) → IsValid s → IsLawful s t → EachVisitsAsTold s t
 publishes-kept s t valid lawful number log is =
+    let legal = histories-legal s t lawful.place.rises lawful.history in
     let follows = lawful.log.follow number log is in
     let answers : follows.end.answers ≡ log.answers = ap (λ (l : Log). l.answers) follows.logged in
     let steps : follows.end.spots ≡ log.steps = ap (λ (l : Log). l.steps) follows.logged in
     let shows = subst (ShowsLog (trace_shown t) number) (sym steps) (shows-log s t number log lawful.place is) in
-    let all = each_publish_visits s number (trace_shown t) follows.end follows.led valid shows lawful.history.clock (chans-legal s t lawful.history) in
+    let all = each_publish_visits s number (trace_shown t) follows.end follows.led valid shows legal.clock (chans-legal s t legal) in
     record {
       made = follows.led.made;
       stands = subst (λ (x : List Spot). AllZip (Stands (trace_shown t)) x follows.led.made) steps follows.led.stands;

@@ -15,14 +15,14 @@ use Rattle.zk_worker.specs.Shown.{ShowsLog}
 use Rattle.zk_player_laws.specs.StackLogs.{ShowsLegalChans}
 use Rattle.zk_player_laws.proofs.LogsPlayed.{each_log_enters_its_scripts}
 use Rattle.zk_trace.specs.declared.trace.Trace.{Trace}
-use Rattle.zk_trace.specs.History.{IsLegalAt, AreLegal}
+use Rattle.zk_trace.proofs.LegalHistories.{IsLegalAt, LegalHistories, histories-legal}
 use Rattle.zk_trace.specs.Lawful.{IsLawful}
 use Rattle.zk_trace.specs.Shown.{trace_shown}
 use Rattle.zk_cli.specs.Scripts.{EachEntersItsScripts}
 use Rattle.zk_cli.proofs.PollsKept.{shows-log, object-legal}
 
 -- a trace with legal histories of channels shows them
-pub chans-legal : (s : Content) (t : Trace) → AreLegal s t → ShowsLegalChans s (trace_shown t)
+pub chans-legal : (s : Content) (t : Trace) → LegalHistories s t → ShowsLegalChans s (trace_shown t)
 chans-legal s t legal object h there =
     let at = object-legal chan_machine (machines_of s).chans.starts t.chans object h legal.chans there in
     by_start at.0 at.1 at.2
@@ -35,6 +35,7 @@ chans-legal s t legal object h there =
 -- each log of a lawful trace has entered its scripts
 pub scripts-kept : (s : Content) (t : Trace) → IsValid s → IsLawful s t → EachEntersItsScripts s t
 scripts-kept s t valid lawful number log is =
+    let legal = histories-legal s t lawful.place.rises lawful.history in
     let follows = lawful.log.follow number log is in
     let steps : follows.end.spots ≡ log.steps = ap (λ (l : Log). l.steps) follows.logged in
     let shows = subst (ShowsLog (trace_shown t) number) (sym steps) (shows-log s t number log lawful.place is) in
@@ -43,5 +44,5 @@ scripts-kept s t valid lawful number log is =
       made = follows.led.made;
       starts = follows.led.starts;
       stands = subst (λ (x : List Spot). AllZip (Stands (trace_shown t)) x follows.led.made) steps follows.led.stands;
-      room = each_log_enters_its_scripts s number (trace_shown t) follows.end follows.led valid shows lawful.history.clock (chans-legal s t lawful.history);
+      room = each_log_enters_its_scripts s number (trace_shown t) follows.end follows.led valid shows legal.clock (chans-legal s t legal);
     }

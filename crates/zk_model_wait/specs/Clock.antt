@@ -1,4 +1,5 @@
-use Rattle.std.specs.Prelude.{ℕ, ◌+◌, ◌-◌, ◌*◌, ◌^◌, ◌<◌, ◌≤◌, Bool, true, false, nat_le, ◌==◌, ◌&&◌, if◌then◌else◌, Option, Some, None, is_some, List, [], ◌∷◌, ◌++◌, length}
+use Rattle.zk_base.specs.Limits.{most_entries}
+use Rattle.std.specs.Prelude.{ℕ, ◌+◌, ◌-◌, ◌*◌, ◌^◌, ◌≤◌, Bool, true, false, nat_le, ◌==◌, ◌&&◌, if◌then◌else◌, Option, Some, None, is_some, List, [], ◌∷◌, ◌++◌, length}
 use Rattle.std.specs.List.{list_any}
 use Rattle.zk_base.specs.declared.ids.Who.{Who}
 use Rattle.zk_base.specs.Legal.{Machine}
@@ -27,7 +28,7 @@ new_clock = record { time = 0; entries = 0; alarms = [] }
 
 -- there are fewer than 2^32 entries, and each of them added fewer than 2^32 ticks
 pub record IsTimely (time entries : ℕ) : Type 0 where
-  pub few : entries < 2 ^ 32
+  pub few : entries ≤ most_entries
   pub short : time ≤ entries * (2 ^ 32 - 1)
 
 -- it is an alarm of this player and moment

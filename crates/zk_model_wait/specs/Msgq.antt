@@ -1,4 +1,5 @@
-use Rattle.std.specs.Prelude.{ℕ, ◌+◌, ◌-◌, ◌^◌, ◌<◌, ◌≤◌, Bool, true, false, nat_lt, if◌then◌else◌, Option, Some, is_some, List, [], ◌∷◌, ◌++◌, length, slice_get}
+use Rattle.zk_base.specs.Limits.{most_entries}
+use Rattle.std.specs.Prelude.{ℕ, ◌+◌, ◌-◌, ◌≤◌, Bool, true, false, nat_lt, if◌then◌else◌, Option, Some, is_some, List, [], ◌∷◌, ◌++◌, length, slice_get}
 use Rattle.std.specs.Option.{option_map_or}
 use Rattle.zk_base.specs.declared.ids.Who.{Who}
 use Rattle.zk_base.specs.declared.waits.Waiter.{Waiter}
@@ -44,7 +45,7 @@ open_calls q = open_waits q.puts + open_waits q.gets + open_waits q.pollers
 pub record IsWithin (q : Msgq) : Type 0 where
   pub within : length q.messages ≤ q.most
   pub most : q.most ≤ 256
-  pub few : q.entries < 2 ^ 32
+  pub few : q.entries ≤ most_entries
   pub called : open_calls q ≤ q.entries
 
 -- what a call that finds nothing to do at once is answered, by whether it waits

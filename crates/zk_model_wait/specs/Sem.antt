@@ -1,4 +1,5 @@
-use Rattle.std.specs.Prelude.{ℕ, zero, suc, ◌+◌, ◌^◌, ◌<◌, ◌≤◌, Bool, true, false, nat_lt, if◌then◌else◌, Option, Some, is_some, List, [], ◌∷◌}
+use Rattle.zk_base.specs.Limits.{most_entries}
+use Rattle.std.specs.Prelude.{ℕ, zero, suc, ◌+◌, ◌≤◌, Bool, true, false, nat_lt, if◌then◌else◌, Option, Some, is_some, List, [], ◌∷◌}
 use Rattle.zk_base.specs.declared.ids.Who.{Who}
 use Rattle.zk_base.specs.declared.waits.Waiter.{Waiter}
 use Rattle.zk_base.specs.Legal.{Machine}
@@ -33,7 +34,7 @@ open_takes s = open_waits s.takers + open_waits s.pollers
 -- a semaphore that counts no further than its limit, and at which no more wait or poll than have called
 pub record IsCounted (s : Sem) : Type 0 where
   pub within : s.count ≤ s.limit
-  pub few : s.entries < 2 ^ 32
+  pub few : s.entries ≤ most_entries
   pub called : open_takes s ≤ s.entries
 
 -- what a take answers at this count, by whether it waits

@@ -1,5 +1,6 @@
 -- How often a queue has drained stays below the number of entries, and the queues that a state begins with.
-use Rattle.std.proofs.Common.{◌≡◌, ℕ, zero, suc, ◌+◌, ◌-◌, ◌^◌, ◌<◌, ◌≤◌, Bool, true, false, not, ◌&&◌, cond, List, [], ◌∷◌, ◌++◌, length, get_or, take, drop, All, refl, sym, ap, subst, ◌∙◌, arith}
+use Rattle.zk_base.specs.Limits.{most_entries}
+use Rattle.std.proofs.Common.{◌≡◌, ℕ, zero, suc, ◌+◌, ◌^◌, ◌<◌, ◌≤◌, Bool, true, false, not, ◌&&◌, cond, List, [], ◌∷◌, ◌++◌, length, get_or, take, drop, All, refl, sym, ap, subst, ◌∙◌, arith}
 use Rattle.std.proofs.Math.Seq.{take-append_seam}
 use Rattle.std.proofs.lemmas.List.Elements.{All-nil, All-cons, All-head, All-tail}
 use Rattle.zk_model_work.specs.declared.parts.Queue.{Queue}
@@ -36,7 +37,7 @@ whole len old new same long = ap (λ n. take n (new ++ drop (length new) old)) (
     ∙ take-append_seam new (drop (length new) old)
 
 -- an entry that leaves the queues
-pub IsCounted-more : (entries : ℕ) (qs : List Queue) → IsCounted entries qs → entries < 2 ^ 32 - 1 → IsCounted (entries + 1) qs
+pub IsCounted-more : (entries : ℕ) (qs : List Queue) → IsCounted entries qs → entries < most_entries → IsCounted (entries + 1) qs
 IsCounted-more entries qs was few =
     let was_few = was.few in
     record {
@@ -46,7 +47,7 @@ IsCounted-more entries qs was few =
     }
 
 -- an entry that settles them
-pub IsCounted-settled : (entries : ℕ) (idle : ℕ → Bool) (qs : List Queue) → IsCounted entries qs → entries < 2 ^ 32 - 1 →
+pub IsCounted-settled : (entries : ℕ) (idle : ℕ → Bool) (qs : List Queue) → IsCounted entries qs → entries < most_entries →
     IsCounted (entries + 1) (settle_from idle 0 qs)
 IsCounted-settled entries idle qs was few =
     let was_few = was.few in
@@ -59,7 +60,7 @@ IsCounted-settled entries idle qs was few =
 
 -- and writes them in their places
 pub IsCounted-settle : (entries len : ℕ) (idle : ℕ → Bool) (old new : List Queue) → IsCounted entries old →
-    entries < 2 ^ 32 - 1 → len ≡ length old → new ≡ settle_from idle 0 old →
+    entries < most_entries → len ≡ length old → new ≡ settle_from idle 0 old →
     IsCounted (entries + 1) (take len (new ++ drop (length new) old))
 IsCounted-settle entries len idle old new was few same said =
     let long : length new ≡ length old = ap length said ∙ length-settle_from idle 0 old in
@@ -100,7 +101,7 @@ IsCounted-change c entries number qs was =
 
 -- an entry that changes a queue
 pub IsCounted-changed : (c : Change) (entries number : ℕ) (qs : List Queue) → IsCounted entries qs →
-    entries < 2 ^ 32 - 1 → IsCounted (entries + 1) (change c qs number)
+    entries < most_entries → IsCounted (entries + 1) (change c qs number)
 IsCounted-changed c entries number qs was few =
     IsCounted-more entries (change c qs number) (IsCounted-change c entries number qs was) few
 
@@ -125,7 +126,7 @@ IsCounted-drain idle plug entries number qs was =
     (change-where-counted plug changes.Plug entries number qs was)
 
 -- and writes it in its place
-pub IsCounted-written : (entries len : ℕ) (old new : List Queue) → IsCounted entries new → entries < 2 ^ 32 - 1 →
+pub IsCounted-written : (entries len : ℕ) (old new : List Queue) → IsCounted entries new → entries < most_entries →
     len ≡ length old → length new ≡ length old →
     IsCounted (entries + 1) (take len (new ++ drop (length new) old))
 IsCounted-written entries len old new now few same long =

@@ -1,3 +1,4 @@
+use Rattle.zk_base.specs.Limits.{most_entries}
 use Rattle.std.specs.Prelude.{ℕ, ◌-◌, ◌*◌, ◌^◌, ◌<◌, ◌≤◌, Bool, false, List, [], ◌∷◌, length, All}
 use Rattle.zk_model_work.specs.declared.parts.Admission.{Admission}
 use Rattle.zk_model_work.specs.declared.parts.Arm.{Arm}
@@ -35,7 +36,7 @@ start_of items workers started =
 -- no queue has drained more often than there are entries, and there are fewer than 2^32 queues
 pub record IsCounted (entries : ℕ) (queues : List Queue) : Type 0 where
   pub drained : All (λ q. q.drained ≤ entries) queues
-  pub entries_fit : entries < 2 ^ 32
+  pub entries_fit : entries ≤ most_entries
   pub few : length queues < 2 ^ 32
 
 -- an announce adds fewer than 2^32 ticks, so the time is bounded by the number of entries

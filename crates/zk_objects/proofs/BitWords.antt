@@ -3,7 +3,7 @@ use Rattle.std.proofs.Common.{◌≡◌, ◌≢◌, ℕ, ◌+◌, ◌*◌, ◌-�
 use Rattle.std.proofs.Math.Bool.{or-false, or-true, and-false, and-true}
 use Rattle.std.proofs.lemmas.Bool.{eqb-true, eqb-false, ne_eqb, lt-ltb}
 use Rattle.std.proofs.lemmas.List.{get_or-set_same, get_or-set_other}
-use Rattle.std.proofs.lemmas.Nat.{and_or_self, and_or_apart, and_assoc, and-not, and_block, and_le_l, and_le_r, pow_apart, pow_pos, pow_below, mod_below}
+use Rattle.std.proofs.lemmas.Nat.{and_or_self, and_or_apart, and_assoc, and-not, and_block, and_le_r, pow_apart, pow_pos, pow_below, mod_below}
 use Rattle.zk_base.specs.Limits.{most_players}
 use Rattle.zk_objects.specs.Players.{word_bits, has_bit, with_bit, without_bit, has_player}
 
@@ -43,13 +43,6 @@ without-other w n p small below apart =
     let none = pow_apart n p apart in
     let all : rest ≡ 2 ^ p = omega (arith, sum, none) in
     without-so w n p ∙ ap (λ (x : ℕ). not (eqb (bit_and w x) 0)) all
-
--- no bit of an empty word is set
-pub none-set : (bit : ℕ) → has_bit 0 bit ≡ false
-none-set bit =
-    let least = and_le_l 0 (2 ^ bit) in
-    let zero : bit_and 0 (2 ^ bit) ≡ 0 = omega (arith, least) in
-    ap (λ (x : ℕ). not (eqb x 0)) zero
 
 -- the place of a player: its word, and its bit there, which no other player has
 bit-small : (player : ℕ) → player % word_bits < word_bits

@@ -4,7 +4,6 @@ use Rattle.std.proofs.lemmas.List.{append-nil, take-append-le}
 use Rattle.std.proofs.lemmas.List.Elements.{All-nil, All-cons, All-head, All-tail}
 use Rattle.std.specs.List.{slice_get, AllZip}
 use Rattle.std.specs.Option.{option_map, option_and_then}
-use Rattle.zk_base.proofs.Lists.{All-at}
 use Rattle.zk_base.specs.declared.errors.NoMemory.{NoMemory}
 use Rattle.zk_base.specs.declared.ids.Who.{Who}
 use Rattle.zk_base.specs.declared.ids.Entry.{Entry}
@@ -38,7 +37,6 @@ use Rattle.zk_worker.proofs.Lists.{slice_get-set}
 use Rattle.zk_replay.specs.declared.turns.Turn.{Turn}
 use Rattle.zk_replay.specs.declared.last_turn.Asked.{Asked}
 use Rattle.zk_replay.specs.declared.last_turn.LastTurn.{LastTurn}
-use Rattle.zk_replay.specs.RoundRobin.{World}
 use Rattle.zk_replay.specs.Turning.{world, shown_with, at_after, IsTurn}
 use Rattle.zk_replay.specs.LastTurns.{asked_at, IsFutile, AreFutile, counted_again, HaveAsked, IsEarlier, WaitsSince, IsKept, AreKept}
 
@@ -252,13 +250,6 @@ kept-turned m s old new players players' waiting waiting' p at at' kept' moved w
     subst (λ (ps : List PlayerPlace). AreKept m s (world new ps) waiting') (sym written)
     (subst (λ (ws : List LastTurn). AreKept m s (world new (set players p at')) ws) (sym noted)
     (kept-each m s old new players waiting p at' kept' were (earlier-turn old new at.who (length at.spots) (chosen m s old at) turn.shows) here))
-
--- nothing is kept of players that had no turn
-pub kept-none : (m : Machines) (s : Content) (w : World) (waiting : List LastTurn) → All (λ (kept : LastTurn). kept.waits ≡ false) waiting → AreKept m s w waiting
-kept-none m s w waiting none = λ p at kept is of_it waits.
-    let P : LastTurn → Type 0 = λ kept. kept.waits ≡ false in
-    let no = All-at P waiting p kept none of_it in
-    absurd (cc)
 
 -- the same of a turn in the code, which may have had no memory
 pub kept-if : (m m' : Machines) (s : Content) (result : Result Turn NoMemory) (old new : Shown) (players players' : List PlayerPlace) (waiting waiting' : List LastTurn) (p : ℕ) (at at' : PlayerPlace)

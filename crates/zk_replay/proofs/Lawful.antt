@@ -34,7 +34,7 @@ use Rattle.zk_trace.specs.declared.trace.Ending.TheVariants.{Ended, Stuck, Spent
 use Rattle.zk_trace.specs.declared.trace.Trace.{Trace}
 use Rattle.zk_trace.specs.Shown.{trace_shown}
 use Rattle.zk_trace.specs.Place.{IsPlaced}
-use Rattle.zk_trace.specs.History.{AreLegal}
+use Rattle.zk_trace.proofs.LegalHistories.{LegalHistories, legal-stand, legal-rise}
 use Rattle.zk_trace.specs.Ending.{is_spent_state, is_done_state, none_waits, lawful_ending}
 use Rattle.zk_trace.specs.Lawful.{IsLawful}
 use Rattle.zk_worker.specs.Choosing.{chosen}
@@ -177,6 +177,12 @@ module _ (s : Content) (w : World) (valid : IsValid s) (run : IsRun (machines_of
         logged = found.2;
       }
 
+  -- its histories are those of the services
+  legal : LegalHistories s (trace_of s w)
+  legal =
+      let shown = run-legal s w valid run in
+      record { work = shown Work; clock = shown Clock; table = shown Table; sems = shown Sems; msgqs = shown Msgqs; signals = shown Signals; chans = shown Chans; observers = shown Observers }
+
   placed : IsPlaced s (trace_of s w)
   placed = record {
     short = λ number log is.
@@ -197,6 +203,7 @@ module _ (s : Content) (w : World) (valid : IsValid s) (run : IsRun (machines_of
         ap (option_and_then (λ (log : Log). slice_get log.steps step)) (slice_get-map (log_of s) w.players number ∙ ap (option_map (log_of s)) found.1) ∙ recorded;
     item_looks = refl;
     signal_looks = refl;
+    rises = legal-rise s (trace_of s w) legal;
   }
 
   -- the looks of each player are right
@@ -206,16 +213,10 @@ module _ (s : Content) (w : World) (valid : IsValid s) (run : IsRun (machines_of
       subst (λ (l : Log). LooksRight (machines_of s) (trace_shown (trace_of s w)) l.steps) found.2
       (subst (λ (x : Shown). LooksRight (machines_of s) x found.0.spots) (sym shown-same) (known.0.looks number found.0 found.1))
 
-  -- its histories are those of the services
-  legal : AreLegal s (trace_of s w)
-  legal =
-      let shown = run-legal s w valid run in
-      record { work = shown Work; clock = shown Clock; table = shown Table; sems = shown Sems; msgqs = shown Msgqs; signals = shown Signals; chans = shown Chans; observers = shown Observers }
-
   lawful-run : IsLawful s (trace_of s w)
   lawful-run = record {
     place = placed;
-    history = legal;
+    history = legal-stand s (trace_of s w) legal;
     log = record { logged = length-map w.players (log_of s) ∙ run-players s w run; follow = follows };
     look = right;
     ending = record {

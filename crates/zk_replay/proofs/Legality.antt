@@ -33,7 +33,7 @@ use Rattle.zk_worker.proofs.Ranges.{ahead-takes}
 use Rattle.zk_worker.proofs.ShownSteps.{made-of}
 use Rattle.zk_worker.proofs.Lists.{none-passes}
 use Rattle.zk_worker.specs.Follows.{is_spent_at}
-use Rattle.zk_trace.specs.History.{IsLegalAt, EachLegal}
+use Rattle.zk_trace.proofs.LegalHistories.{IsLegalAt, EachLegal}
 use Rattle.zk_replay.specs.RoundRobin.{World, IsRun, first}
 use Rattle.zk_replay.specs.Ready.{IsReady}
 use Rattle.zk_replay.proofs.StillRounds.{first_possible-is, rounds-keep}

@@ -3,6 +3,7 @@
 #![tactic(auto)]
 
 mod play;
+mod reading;
 mod rows;
 mod spelled;
 

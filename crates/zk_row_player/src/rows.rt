@@ -1,4 +1,5 @@
 use crate::play::{Played, play};
+use crate::reading::{is_read_again, put_readings};
 use crate::spelled::{put_spelled, put_times};
 use std::alloc::Global;
 use zk_base::{NoMemory, Status, put, put_decimal};
@@ -11,6 +12,9 @@ use zk_base::{NoMemory, Status, put, put_decimal};
 ///     + PIECE        is the text with this piece behind it read? The text stays as it is
 ///     ! WORDS        plays the text by these words: the status, and what is printed behind the text
 ///     $ PIECE        plays the text: the status, and whether the output ends with this piece
+///     ? CHANGE       plays the text, and reads the trace changed in this way
+///
+/// Each trace that is played is read and printed again; where it isn't the same, `misread` is printed.
 pub fn answered(alloc: Global, lines: &str) -> Result<Vec<u8>, NoMemory> {
     let mut out = Vec::new(alloc);
     let mut text = Vec::new(alloc);
@@ -35,6 +39,7 @@ fn put_row(
         [b'+', piece @ ..] => put_reading(alloc, out, text, piece),
         [b'!', ..] => put_play(alloc, out, text, line),
         [b'$', piece @ ..] => put_end(alloc, out, text, piece),
+        [b'?', ..] => put_change(alloc, out, text, line),
         _ => put_line(text, line.as_bytes()),
     }
 }
@@ -77,7 +82,8 @@ fn put_play(alloc: Global, out: &mut Vec<u8>, text: &[u8], line: &str) -> Result
     match sink.held().strip_prefix(text) {
         Some(behind) => {
             put(out, b", behind the text:\n")?;
-            put(out, behind)
+            put(out, behind)?;
+            put_misread(alloc, out, text, behind)
         }
         None => {
             put(out, b":\n")?;
@@ -97,7 +103,37 @@ fn put_end(alloc: Global, out: &mut Vec<u8>, text: &[u8], piece: &[u8]) -> Resul
     } else {
         put(out, b", doesn't end with")?;
     }
-    put_line(out, piece)
+    put_line(out, piece)?;
+    let behind = sink.held().strip_prefix(text).unwrap_or(b"");
+    put_misread(alloc, out, text, behind)
+}
+
+/// Says so where a trace isn't read and printed again as it stands.
+fn put_misread(
+    alloc: Global,
+    out: &mut Vec<u8>,
+    text: &[u8],
+    behind: &[u8],
+) -> Result<(), NoMemory> {
+    if !behind.starts_with(b"zt 1\n") || is_read_again(alloc, text, behind)? {
+        return Ok(());
+    }
+    put(out, b"misread\n")
+}
+
+/// What comes of the trace of the text, changed in this way.
+fn put_change(
+    alloc: Global,
+    out: &mut Vec<u8>,
+    text: &[u8],
+    line: &str,
+) -> Result<(), NoMemory> {
+    let change = line.strip_prefix('?').unwrap_or("").trim_start();
+    let Played { status: _, sink } = play(alloc, " replay", text)?;
+    match sink.held().strip_prefix(text) {
+        Some(behind) => put_readings(alloc, out, text, behind, change),
+        None => put(out, b"no trace\n"),
+    }
 }
 
 fn behind_space(piece: &[u8]) -> &[u8] {

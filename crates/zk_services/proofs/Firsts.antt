@@ -9,7 +9,6 @@ use Rattle.zk_scenario.specs.Content.{Content}
 use Rattle.zk_scenario.specs.Valid.{IsValid}
 use Rattle.zk_line.specs.declared.types.Decl.{Decl}
 use Rattle.zk_line.specs.Objects.{places, is_thread, is_queue, is_item}
-use Rattle.zk_scenario.specs.Players.{players}
 use Rattle.zk_line.proofs.Tables.{length-places}
 use Rattle.zk_worker.specs.Families.{no_entries}
 use Rattle.zk_worker.specs.Machines as machines

@@ -1,4 +1,5 @@
-use Rattle.std.specs.Prelude.{◌≡◌, ℕ, ◌≤◌, false, Some, length, slice_get, option_and_then}
+use Rattle.std.specs.Prelude.{◌≡◌, ℕ, ◌≤◌, false, Some, length, slice_get, option_and_then, All}
+use Rattle.zk_base.specs.History.{Rises}
 use Rattle.zk_scenario.specs.Content.{Content}
 use Rattle.zk_scenario.specs.Steps.{steps_of}
 use Rattle.zk_worker.specs.declared.steps.Spot.{Spot}
@@ -8,7 +9,18 @@ use Rattle.zk_trace.specs.declared.trace.Trace.{Trace}
 use Rattle.zk_trace.specs.Looked.{item_looks_of, signal_looks_of}
 use Rattle.zk_trace.specs.Shown.{trace_shown}
 
--- each step of each player stands in exactly one entry or look
+-- in each history each player's entries rise in step
+pub record EachRises (t : Trace) : Type 0 where
+  pub work : Rises t.work
+  pub clock : Rises t.clock
+  pub table : Rises t.table
+  pub sems : All Rises t.sems
+  pub msgqs : All Rises t.msgqs
+  pub signals : All Rises t.signals
+  pub chans : All Rises t.chans
+  pub observers : All Rises t.observers
+
+-- each step of each player stands in exactly one entry or look, and in each history they rise
 pub record IsPlaced (s : Content) (t : Trace) : Type 0 where
   -- no player makes more steps than it may
   pub short : (number : ℕ) (log : Log) → slice_get t.logs number ≡ Some log →
@@ -23,3 +35,5 @@ pub record IsPlaced (s : Content) (t : Trace) : Type 0 where
   -- the looks are those of the logs
   pub item_looks : t.item_looks ≡ item_looks_of t.logs
   pub signal_looks : t.signal_looks ≡ signal_looks_of (length t.signals) t.logs
+  -- and in each history each player's entries rise in step
+  pub rises : EachRises t

@@ -1,5 +1,6 @@
 -- From the steps of a seat to turns and passes: what a seat knows from step to step, and what that says of the turn and
 -- of the pass.
+use Rattle.zk_base.specs.Limits.{most_entries}
 use Rattle.std.proofs.Common.{◌≡◌, ℕ, ◌+◌, ◌*◌, ◌-◌, ◌<◌, ◌≤◌, ◌^◌, max, Bool, true, false, ◌||◌, Some, None, Option, List, [], ◌∷◌, ◌++◌, length, refl, sym, ap, subst, ◌∙◌, arith, eq-eqb}
 use Rattle.std.proofs.lemmas.List.{length-append}
 use Rattle.atomic_table.specs.declared.shared.Seat.{Seat}
@@ -279,7 +280,7 @@ module _ {S O R T : Type 0} where
   -- a turn in which no entry was added has room in the history
   pub short_now : (legal : T → List (Entry O R) → Type 0) (start : S → T) (history_of : S →
       List (Entry O R)) (h : Held S O R T) → IsHeld legal start history_of h → h.added ≡ false →
-      length (history_of h.service) < 2 ^ 32 - 1
+      length (history_of h.service) < most_entries
   short_now legal start history_of h held fresh =
       let same = subst (λ b. HasAdded b h.seat.me.0.players h.seat.me.0.seen (history_of h.service)) fresh held.added in
       let long = ap (λ (l : List (Entry O R)). length l) same in

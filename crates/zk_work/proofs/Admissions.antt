@@ -1,4 +1,5 @@
 -- What a submission, a cancel, a begin and an end make of the open admissions, and so what the engine stands for then.
+use Rattle.zk_base.specs.Limits.{most_entries}
 use Rattle.zk_base.specs.declared.ids.Who.{Who}
 use Rattle.std.proofs.Common.{◌≡◌, ℕ, zero, suc, ◌+◌, ◌-◌, ◌^◌, ◌<◌, ◌≤◌, ◌⊎◌, inl, inr, ◌≢◌, Bool, true, false, not, ◌&&◌, cond, eqb, ◌==◌, Option, Some, None, is_some, option_map, option_to_list, List, [], ◌∷◌, ◌++◌, length, length-append, map, get_or, set, slice_get, count_by, All, refl, sym, ap, subst, ◌∙◌, arith}
 use Rattle.std.specs.Cmp.{first_so, second_so}
@@ -207,7 +208,7 @@ drain_wait-new false s who queue w is =
     (sym (ap (λ (v : Wait). v.answered) same), subst (λ (v : Wait). is_there s.admissions v.awaited v.answered ≡ true) same refl)
 
 -- the start of a drain
-pub drain-stands : (k : EngineState) (s : State) (who : Who) (queue : ℕ) (plug : Bool) → StandsFor k s → s.entries < 2 ^ 32 - 1 →
+pub drain-stands : (k : EngineState) (s : State) (who : Who) (queue : ℕ) (plug : Bool) → StandsFor k s → s.entries < most_entries →
     StandsFor (record (drained k who queue plug) { entries = k.entries + 1 })
     (record (drain_start s who queue plug) { entries = s.entries + 1 })
 drain-stands k s who queue plug st few =
@@ -240,7 +241,7 @@ same-cancelled f o item same = kept-cond f (active.is_running o item) (active.ma
     (active.drop_item o item) same
 
 -- a cancel, but for the arms
-pub cancel-stands : (k : EngineState) (s : State) (item : ℕ) → StandsFor k s → item < s.items → s.entries < 2 ^ 32 - 1 →
+pub cancel-stands : (k : EngineState) (s : State) (item : ℕ) → StandsFor k s → item < s.items → s.entries < most_entries →
     StandsFor (record (settled k (cancelled k.active item)) { entries = k.entries + 1 })
     (record (cancel s item) { arms = s.arms; entries = s.entries + 1 })
 cancel-stands k s item st item_in few =
@@ -355,7 +356,7 @@ length-taken (x ∷ xs) (suc n) = ap suc (length-taken xs n)
 
 -- a begin of the lowest of a line, where nothing runs
 pub begin-stands : (k : EngineState) (s : State) (queue : ℕ) (t : Ticket) → StandsFor k s → queue < length s.queues →
-    s.entries < 2 ^ 32 - 1 → active.run k.active queue ≡ None → first (active.line k.active queue) ≡ Some t →
+    s.entries < most_entries → active.run k.active queue ≡ None → first (active.line k.active queue) ≡ Some t →
     StandsFor (record k { active = active.begun k.active queue t; running = k.running + 1; entries = k.entries + 1 })
     (record s { admissions = set_life s.admissions t.number Running; entries = s.entries + 1 })
 begin-stands k s queue t st queue_in few idle lowest =
@@ -464,7 +465,7 @@ begin-stands k s queue t st queue_in few idle lowest =
 
 -- an end of what a queue runs
 pub end-stands : (k : EngineState) (s : State) (queue : ℕ) (t : Ticket) → StandsFor k s → queue < length s.queues →
-    s.entries < 2 ^ 32 - 1 → active.run k.active queue ≡ Some t →
+    s.entries < most_entries → active.run k.active queue ≡ Some t →
     StandsFor (record (settled k (active.mark (active.end k.active queue) t.item 0)) {
       running = k.running - 1;
       entries = k.entries + 1;

@@ -1,5 +1,6 @@
 -- What an announce makes of the engine: all that is due expires, one after another.
-use Rattle.std.proofs.Common.{◌≡◌, ℕ, zero, suc, ◌+◌, ◌-◌, ◌^◌, ◌<◌, ◌≤◌, true, not, Option, Some, None, is_some, option_map, option_to_list, List, [], ◌∷◌, ◌++◌, length, map, take, drop, get_or, refl, sym, ap, subst, ◌∙◌, arith}
+use Rattle.zk_base.specs.Limits.{most_entries}
+use Rattle.std.proofs.Common.{◌≡◌, ℕ, zero, suc, ◌+◌, ◌^◌, ◌<◌, ◌≤◌, true, not, Option, Some, None, is_some, option_map, option_to_list, List, [], ◌∷◌, ◌++◌, length, map, take, drop, get_or, refl, sym, ap, subst, ◌∙◌, arith}
 use Rattle.std.specs.Option.{option_map_or}
 use Rattle.std.specs.List.{filter}
 use Rattle.std.proofs.Math.ListN.{get_or-map}
@@ -170,7 +171,7 @@ module _ (k : EngineState) (s : State) (st : StandsFor k s) (time : ℕ) where
       stands.whole.fewer left)
 
 -- and so many ticks later, at an entry that is counted
-pub announced-stands : (k : EngineState) (s : State) (ticks : ℕ) → StandsFor k s → s.entries < 2 ^ 32 - 1 →
+pub announced-stands : (k : EngineState) (s : State) (ticks : ℕ) → StandsFor k s → s.entries < most_entries →
     ticks < 2 ^ 32 → StandsFor (record (engine.announced k ticks) { entries = k.entries + 1 })
     (record (announce s ticks) { entries = s.entries + 1 })
 announced-stands k s ticks st few short =

@@ -1,5 +1,6 @@
 -- What is asked of the waits: whether an item is being flushed, and whether a wait is over.
-use Rattle.std.proofs.Common.{◌≡◌, ℕ, ◌+◌, ◌-◌, ◌^◌, ◌<◌, Bool, true, false, not, ◌&&◌, ◌||◌, cond, eqb, ◌==◌, Option, Some, None, is_some, option_map, List, [], ◌∷◌, map, slice_get, refl, sym, ap, ◌∙◌}
+use Rattle.zk_base.specs.Limits.{most_entries}
+use Rattle.std.proofs.Common.{◌≡◌, ℕ, ◌+◌, ◌<◌, Bool, true, false, not, ◌&&◌, ◌||◌, cond, eqb, ◌==◌, Option, Some, None, is_some, option_map, List, [], ◌∷◌, map, slice_get, refl, sym, ap, ◌∙◌}
 use Rattle.std.specs.Cmp.{first_so, second_so}
 use Rattle.std.specs.List.{position, list_any}
 use Rattle.std.specs.Option.{option_map_or, option_or}
@@ -314,7 +315,7 @@ module _ (k : EngineState) (s : State) (st : StandsFor k s) where
           by false ends is = is
 
     -- the end of a wait
-    pub closed-stands : s.entries < 2 ^ 32 - 1 →
+    pub closed-stands : s.entries < most_entries →
         StandsFor (record (engine.closed k closing who place) { entries = k.entries + 1 })
         (record s { waits = answered_waits s closing who place; entries = s.entries + 1 })
     closed-stands few =

@@ -1,5 +1,6 @@
 -- What an entry changes beside the open admissions: the time, the entries, the queues, what is armed, and the waits.
-use Rattle.std.proofs.Common.{◌≡◌, ℕ, ◌+◌, ◌-◌, ◌^◌, ◌<◌, ◌≤◌, Bool, true, false, not, cond, Option, Some, None, List, [], ◌∷◌, ◌++◌, length, refl, sym, ap, ◌∙◌, arith}
+use Rattle.zk_base.specs.Limits.{most_entries}
+use Rattle.std.proofs.Common.{◌≡◌, ℕ, ◌+◌, ◌<◌, ◌≤◌, Bool, true, false, not, cond, Option, Some, None, List, [], ◌∷◌, ◌++◌, length, refl, sym, ap, ◌∙◌, arith}
 use Rattle.std.specs.Option.{option_map_or}
 use Rattle.std.proofs.lemmas.List.{append-nil}
 use Rattle.std.proofs.lemmas.List.Elements.{All-append, All-cons, All-nil, filter-append}
@@ -78,14 +79,14 @@ queues-stand f k s st counted same =
     }
 
 -- an entry that changes nothing else
-pub counted-stands : (k : EngineState) (s : State) → StandsFor k s → s.entries < 2 ^ 32 - 1 →
+pub counted-stands : (k : EngineState) (s : State) → StandsFor k s → s.entries < most_entries →
     StandsFor (record k { entries = k.entries + 1 }) (record s { entries = s.entries + 1 })
 counted-stands k s st few =
     let entries = st.entries in
     queues-stand (λ qs. qs) k s st (IsCounted-more k.entries k.queues st.whole.counted (omega arith)) refl
 
 -- a change of a queue
-pub change-stands : (c : Change) (k : EngineState) (s : State) (queue : ℕ) → StandsFor k s → s.entries < 2 ^ 32 - 1 →
+pub change-stands : (c : Change) (k : EngineState) (s : State) (queue : ℕ) → StandsFor k s → s.entries < most_entries →
     StandsFor (record k { queues = change c k.queues queue; entries = k.entries + 1 })
     (record s { queues = change c s.queues queue; entries = s.entries + 1 })
 change-stands c k s queue st few =
@@ -94,7 +95,7 @@ change-stands c k s queue st few =
     (IsCounted-changed c k.entries queue k.queues st.whole.counted (omega arith)) (length-change c k.queues queue)
 
 -- the queues after the start of a drain
-pub drains-stand : (idle plug : Bool) (k : EngineState) (s : State) (queue : ℕ) → StandsFor k s → s.entries < 2 ^ 32 - 1 →
+pub drains-stand : (idle plug : Bool) (k : EngineState) (s : State) (queue : ℕ) → StandsFor k s → s.entries < most_entries →
     StandsFor (record k { queues = drain idle plug k.queues queue; entries = k.entries + 1 })
     (record s { queues = drain idle plug s.queues queue; entries = s.entries + 1 })
 drains-stand idle plug k s queue st few =

@@ -1,5 +1,6 @@
 -- What delays, and what an operation does to an item that has one, make of the engine.
-use Rattle.std.proofs.Common.{◌≡◌, ℕ, ◌+◌, ◌-◌, ◌^◌, ◌<◌, ◌≤◌, Bool, true, false, not, ◌&&◌, ◌||◌, cond, eqb, Option, Some, None, is_some, option_map, option_to_list, List, [], ◌∷◌, ◌++◌, length, map, refl, sym, ap, subst, ◌∙◌, arith}
+use Rattle.zk_base.specs.Limits.{most_entries}
+use Rattle.std.proofs.Common.{◌≡◌, ℕ, ◌+◌, ◌^◌, ◌<◌, ◌≤◌, Bool, true, false, not, ◌&&◌, ◌||◌, cond, eqb, Option, Some, None, is_some, option_map, option_to_list, List, [], ◌∷◌, ◌++◌, length, map, refl, sym, ap, subst, ◌∙◌, arith}
 use Rattle.std.specs.Option.{option_map_or}
 use Rattle.std.specs.List.{filter, list_any, find}
 use Rattle.std.proofs.lemmas.List.Sums.{length-filter, count_by-le-length}
@@ -83,7 +84,7 @@ armed-stands k s item queue delay st item_in free fits room =
     ∙ sym (timeouts-arm s.arms item queue (s.time + delay)))
 
 -- the time and the delay together
-pub deadline-fits : (time entries delay : ℕ) → IsTimed time entries → entries < 2 ^ 32 - 1 → delay < 2 ^ 32 →
+pub deadline-fits : (time entries delay : ℕ) → IsTimed time entries → entries < most_entries → delay < 2 ^ 32 →
     time + delay < 2 ^ 64
 deadline-fits time entries delay timed few short = let bound = timed.bound in omega arith
 
@@ -227,7 +228,7 @@ hurried-stands k s who item st item_in room =
 
 -- the start of a flush, behind an entry that is counted
 pub flush_start-stands : (k : EngineState) (s : State) (who : Who) (item : ℕ) → StandsFor k s → item < s.items →
-    s.entries < 2 ^ 32 - 1 →
+    s.entries < most_entries →
     StandsFor (record (engine.flush_started k who item) { entries = k.entries + 1 })
     (record (flush_start s who item) { entries = s.entries + 1 })
 flush_start-stands k s who item st item_in few =
@@ -280,7 +281,7 @@ flush_start-stands k s who item st item_in few =
             (answer_of (disarmed k item) (Some who.number) item (Some queue)) (λ queue. refl)
 
 -- a cancel
-pub cancelled-stands : (k : EngineState) (s : State) (item : ℕ) → StandsFor k s → item < s.items → s.entries < 2 ^ 32 - 1 →
+pub cancelled-stands : (k : EngineState) (s : State) (item : ℕ) → StandsFor k s → item < s.items → s.entries < most_entries →
     StandsFor (record (settled (disarmed k item) (cancelled k.active item)) { entries = k.entries + 1 })
     (record (cancel s item) { entries = s.entries + 1 })
 cancelled-stands k s item st item_in few = cancel-stands (disarmed k item) (record s { arms = disarm s.arms item }) item
@@ -288,7 +289,7 @@ cancelled-stands k s item st item_in few = cancel-stands (disarmed k item) (reco
 
 -- the start of a sync cancel
 pub cancel_start-stands : (k : EngineState) (s : State) (who : Who) (item : ℕ) → StandsFor k s → item < s.items →
-    s.entries < 2 ^ 32 - 1 →
+    s.entries < most_entries →
     StandsFor (record (engine.cancel_started k who item) { entries = k.entries + 1 })
     (record (cancel_start s who item) { entries = s.entries + 1 })
 cancel_start-stands k s who item st item_in few =

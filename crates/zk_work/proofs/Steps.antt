@@ -1,4 +1,5 @@
 -- Each operation of the engine is a step of the machine.
+use Rattle.zk_base.specs.Limits.{most_entries}
 use Rattle.std.proofs.Common.{◌≡◌, ℕ, ◌+◌, ◌-◌, ◌^◌, ◌<◌, Bool, true, false, ◌||◌, cond, eqb, ltb, Option, Some, None, is_some, option_map, List, length, refl, sym, ap, subst, ◌∙◌, arith}
 use Rattle.std.specs.Cmp.{first_so}
 use Rattle.std.specs.Option.{option_map_or}
@@ -52,7 +53,7 @@ free-item k item free = by (is_armed k.timeouts item) free where
 
 -- an item that isn't armed is given a delay
 scheduled : (k : EngineState) (s : State) (who : Who) (item queue delay : ℕ) → StandsFor k s → item < s.items →
-    s.entries < 2 ^ 32 - 1 → delay < 2 ^ 32 → is_armed k.timeouts item ≡ false →
+    s.entries < most_entries → delay < 2 ^ 32 → is_armed k.timeouts item ≡ false →
     StandsFor (record (delayed k who item queue delay) { entries = k.entries + 1 })
     (record (machine.delayed s who item queue delay) { entries = s.entries + 1 })
 scheduled k s who item queue delay st item_in few short free =
@@ -107,7 +108,7 @@ active-hurried k who item = by (queue_of k.timeouts item) where
 
 -- the reply
 pub reply-same : (k : EngineState) (s : State) (who : Who) (op : WorkOp) → StandsFor k s →
-    is_among s.items (length s.queues) op ≡ true → s.entries < 2 ^ 32 - 1 → reply_of k who op ≡ work_reply s who op
+    is_among s.items (length s.queues) op ≡ true → s.entries < most_entries → reply_of k who op ≡ work_reply s who op
 reply-same k s who (Submit item named) st range few =
     ap (λ (a : Submitted). Some (Sub a)) (answer-same k s st (Some who.number) item named)
 reply-same k s who (Cancel item) st range few =
@@ -150,7 +151,7 @@ reply-same k s who (End queue) st range few = end-same k s st who queue
 
 -- the state
 pub next-stands : (k : EngineState) (s : State) (who : Who) (op : WorkOp) (reply : WorkReply) → StandsFor k s →
-    is_among s.items (length s.queues) op ≡ true → s.entries < 2 ^ 32 - 1 → IsTimely op → reply_of k who op ≡ Some reply →
+    is_among s.items (length s.queues) op ≡ true → s.entries < most_entries → IsTimely op → reply_of k who op ≡ Some reply →
     StandsFor (entered k who op) (work_next s who op)
 next-stands k s who (Submit item named) reply st range few timely is =
     let fewer = st.whole.fewer in
@@ -236,12 +237,12 @@ next-stands k s who (End queue) reply st range few timely is =
 
 -- what is asked where an operation is tried
 abbrev pub Ready : EngineState → WorkOp → Type 0
-Ready k op = (s : State) × StandsFor k s × (is_among s.items (length s.queues) op ≡ true) × (s.entries < 2 ^ 32 - 1)
+Ready k op = (s : State) × StandsFor k s × (is_among s.items (length s.queues) op ≡ true) × (s.entries < most_entries)
 
 among : (k : EngineState) (s : State) (op : WorkOp) → Ready k op → StandsFor k s → is_among s.items (length s.queues) op ≡ true
 among k s op ready st = sym (ranges-same k s op st) ∙ ranges-same k ready.0 op ready.1 ∙ ready.2
 
-short : (k : EngineState) (s : State) (op : WorkOp) → Ready k op → StandsFor k s → s.entries < 2 ^ 32 - 1
+short : (k : EngineState) (s : State) (op : WorkOp) → Ready k op → StandsFor k s → s.entries < most_entries
 short k s op ready st =
     let one = st.entries in
     let other = ready.1.entries in

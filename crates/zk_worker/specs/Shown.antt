@@ -1,4 +1,5 @@
-use Rattle.std.specs.Prelude.{◌≡◌, ℕ, ◌+◌, ◌-◌, ◌^◌, ◌<◌, Bool, true, false, Option, Some, None, List, [], ◌∷◌, ◌++◌, length, slice_get, option_map, All}
+use Rattle.zk_base.specs.Limits.{most_entries}
+use Rattle.std.specs.Prelude.{◌≡◌, ℕ, ◌+◌, ◌<◌, Bool, true, false, Option, Some, None, List, [], ◌∷◌, ◌++◌, length, slice_get, option_map, All}
 use Rattle.std.specs.List.{sum_by}
 use Rattle.zk_base.specs.declared.ids.Who.{Who}
 use Rattle.zk_base.specs.declared.ids.Entry.{Entry}
@@ -123,14 +124,14 @@ pub record IsLater (shown : Shown) (number next : ℕ) : Type 0 where
 
 -- each history has room for an entry
 pub record AreShort (shown : Shown) : Type 0 where
-  pub work : length shown.work < 2 ^ 32 - 1
-  pub clock : length shown.clock < 2 ^ 32 - 1
-  pub table : length shown.table < 2 ^ 32 - 1
-  pub sems : All (λ h. length h < 2 ^ 32 - 1) shown.sems
-  pub msgqs : All (λ h. length h < 2 ^ 32 - 1) shown.msgqs
-  pub signals : All (λ h. length h < 2 ^ 32 - 1) shown.signals
-  pub chans : All (λ h. length h < 2 ^ 32 - 1) shown.chans
-  pub observers : All (λ h. length h < 2 ^ 32 - 1) shown.observers
+  pub work : length shown.work < most_entries
+  pub clock : length shown.clock < most_entries
+  pub table : length shown.table < most_entries
+  pub sems : All (λ h. length h < most_entries) shown.sems
+  pub msgqs : All (λ h. length h < most_entries) shown.msgqs
+  pub signals : All (λ h. length h < most_entries) shown.signals
+  pub chans : All (λ h. length h < most_entries) shown.chans
+  pub observers : All (λ h. length h < most_entries) shown.observers
 
 -- each history grew by entries of other players than the one of this number, and looks at signals at most were added
 pub record AllGrew (number : ℕ) (old new : Shown) : Type 0 where

@@ -17,6 +17,7 @@ use Rattle.zk_model_work.specs.Machine.{work_machine}
 use Rattle.zk_worker.specs.Machines.{work_start_of, machines_of}
 use Rattle.zk_worker.specs.TableSetup.{setup_of}
 use Rattle.zk_trace.specs.Text.{trace_text}
+use Rattle.zk_trace.proofs.LegalHistories.{histories-legal}
 use Rattle.zk_replay.proofs.Legality.{legal-one}
 use Rattle.zk_model_work.proofs.Drains.{undrained-fresh}
 use Rattle.zk_cli.specs.Answer.{IsOutput}
@@ -37,6 +38,8 @@ returns c =
     let trace = c.in_ok-trace.trace in
     let run = c.in_ok-trace.ensures.replay in
     let start = work_start_of c.args.scenario.now in
+    let lawful = c.in_ok-trace.ensures.lawful in
+    let legal = histories-legal c.args.scenario.now trace lawful.place.rises lawful.history in
     subst (λ (s : Status). IsOutput s c.args.text.items c.put_trace.new.out.items) (sym c.status_of.ensures) (output-run trace.ending c.args.text.items c.put_trace.new.out.items (record {
       scenario = c.args.scenario.now;
       trace = trace;
@@ -45,7 +48,7 @@ returns c =
       run = run;
       lawful = c.in_ok-trace.ensures.lawful;
       laws = λ front rest parts. c.keeps_laws.ensures start front (record {
-        work = record { fresh = refl; legal = IsLegal-front work_machine start front rest (subst (IsLegal work_machine start) parts c.in_ok-trace.ensures.lawful.history.work) };
+        work = record { fresh = refl; legal = IsLegal-front work_machine start front rest (subst (IsLegal work_machine start) parts legal.work) };
         first = refl;
         arms = refl;
         marks = refl;
@@ -53,43 +56,43 @@ returns c =
         undrained = undrained-fresh _ _;
       });
       clock_laws = λ front rest parts.
-          c.keeps_clock_laws.ensures front (IsLegal-front clock_machine new_clock front rest (subst (IsLegal clock_machine new_clock) parts c.in_ok-trace.ensures.lawful.history.clock));
+          c.keeps_clock_laws.ensures front (IsLegal-front clock_machine new_clock front rest (subst (IsLegal clock_machine new_clock) parts legal.clock));
       table_laws = λ front rest parts.
           c.keeps_table_laws.ensures (setup_of c.args.scenario.now) front
           (IsLegal-front table_machine (new_table (setup_of c.args.scenario.now)) front rest
-          (subst (IsLegal table_machine (new_table (setup_of c.args.scenario.now))) parts c.in_ok-trace.ensures.lawful.history.table));
+          (subst (IsLegal table_machine (new_table (setup_of c.args.scenario.now))) parts legal.table));
       sem_laws = λ object start h starts there front rest parts.
           let from = sem-starts c.args.scenario.now.decls object start c.replay.ensures.valid.in_range starts in
           let began = starts ∙ ap Some from.is_new in
-          let legal = legal-one sem_machine (machines_of c.args.scenario.now).sems.starts trace.sems object (new_sem from.initial from.limit) h c.in_ok-trace.ensures.lawful.history.sems began there in
+          let of_one = legal-one sem_machine (machines_of c.args.scenario.now).sems.starts trace.sems object (new_sem from.initial from.limit) h legal.sems began there in
           subst (λ (s : Sem). KeepsSemLaws s front) (sym from.is_new)
           (c.keeps_sem_laws.ensures from.initial from.limit from.within front
-          (IsLegal-front sem_machine (new_sem from.initial from.limit) front rest (subst (IsLegal sem_machine (new_sem from.initial from.limit)) parts legal)));
+          (IsLegal-front sem_machine (new_sem from.initial from.limit) front rest (subst (IsLegal sem_machine (new_sem from.initial from.limit)) parts of_one)));
       msgq_laws = λ object start h starts there front rest parts.
           let from = msgq-starts c.args.scenario.now.decls object start starts in
           let began = starts ∙ ap Some from.is_new in
-          let legal = legal-one msgq_machine (machines_of c.args.scenario.now).msgqs.starts trace.msgqs object (new_msgq from.most) h c.in_ok-trace.ensures.lawful.history.msgqs began there in
+          let of_one = legal-one msgq_machine (machines_of c.args.scenario.now).msgqs.starts trace.msgqs object (new_msgq from.most) h legal.msgqs began there in
           subst (λ (q : Msgq). KeepsMsgqLaws q front) (sym from.is_new)
           (c.keeps_msgq_laws.ensures from.most front
-          (IsLegal-front msgq_machine (new_msgq from.most) front rest (subst (IsLegal msgq_machine (new_msgq from.most)) parts legal)));
+          (IsLegal-front msgq_machine (new_msgq from.most) front rest (subst (IsLegal msgq_machine (new_msgq from.most)) parts of_one)));
       signal_laws = λ object start h starts there front rest parts.
           let began = starts ∙ ap Some (signal-starts c.args.scenario.now.decls object start starts) in
-          let legal = legal-one signal_machine (machines_of c.args.scenario.now).signals.starts trace.signals object new_signal h c.in_ok-trace.ensures.lawful.history.signals began there in
-          c.keeps_signal_laws.ensures front (IsLegal-front signal_machine new_signal front rest (subst (IsLegal signal_machine new_signal) parts legal));
+          let of_one = legal-one signal_machine (machines_of c.args.scenario.now).signals.starts trace.signals object new_signal h legal.signals began there in
+          c.keeps_signal_laws.ensures front (IsLegal-front signal_machine new_signal front rest (subst (IsLegal signal_machine new_signal) parts of_one));
       channel_laws = λ object start h starts there front rest parts.
           let from = chan-starts c.args.scenario.now.decls object start starts in
           let first = new_chan from.message from.valid from.observers in
-          let legal = legal-one chan_machine (machines_of c.args.scenario.now).chans.starts trace.chans object first h c.in_ok-trace.ensures.lawful.history.chans (starts ∙ ap Some from.is_new) there in
+          let of_one = legal-one chan_machine (machines_of c.args.scenario.now).chans.starts trace.chans object first h legal.chans (starts ∙ ap Some from.is_new) there in
           subst (λ (s : Channel). KeepsChannelLaws s front) (sym from.is_new)
           (c.keeps_channel_laws.ensures from.message from.valid from.observers front
-          (IsLegal-front chan_machine first front rest (subst (IsLegal chan_machine first) parts legal)));
+          (IsLegal-front chan_machine first front rest (subst (IsLegal chan_machine first) parts of_one)));
       observer_laws = λ object start h starts there front rest parts.
           let from = observer-starts c.args.scenario.now.decls object start starts in
           let first = new_obs from.capacity in
-          let legal = legal-one obs_machine (machines_of c.args.scenario.now).observers.starts trace.observers object first h c.in_ok-trace.ensures.lawful.history.observers (starts ∙ ap Some from.is_new) there in
+          let of_one = legal-one obs_machine (machines_of c.args.scenario.now).observers.starts trace.observers object first h legal.observers (starts ∙ ap Some from.is_new) there in
           subst (λ (s : Observer). KeepsObserverLaws s front) (sym from.is_new)
           (c.keeps_observer_laws.ensures from.capacity front
-          (IsLegal-front obs_machine first front rest (subst (IsLegal obs_machine first) parts legal)));
+          (IsLegal-front obs_machine first front rest (subst (IsLegal obs_machine first) parts of_one)));
       polls = polls-kept c.args.scenario.now trace c.replay.ensures.valid c.in_ok-trace.ensures.lawful;
       scripts = scripts-kept c.args.scenario.now trace c.replay.ensures.valid c.in_ok-trace.ensures.lawful;
       publishes = publishes-kept c.args.scenario.now trace c.replay.ensures.valid c.in_ok-trace.ensures.lawful;

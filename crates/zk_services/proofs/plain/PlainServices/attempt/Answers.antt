@@ -1,6 +1,6 @@
 use Rattle.zk_base.specs.Limits.{most_entries}
 use Rattle.zk_base.proofs.Lists.{All-at}
-use Rattle.std.proofs.Common.{◌≡◌, ℕ, refl, ◌<◌, ◌-◌, List, length, rules}
+use Rattle.std.proofs.Common.{◌≡◌, ℕ, refl, ◌<◌, List, length, rules}
 use Rattle.std.specs.Option.{option_map}
 use Rattle.zk_base.specs.declared.ids.Entry.{Entry}
 use Rattle.zk_model_wait.specs.declared.sem.SemOp.{SemOp}
