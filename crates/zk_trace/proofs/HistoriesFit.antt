@@ -50,7 +50,7 @@ use Rattle.zk_worker.specs.Machines.{workers, is_on, work_start_of, sem_start, m
 use Rattle.zk_worker.proofs.Ranges.{same-lengths}
 use Rattle.zk_trace.specs.EntryRead.{FitsEntry}
 use Rattle.zk_trace.specs.Fields.{IsOf}
-use Rattle.zk_trace.specs.History.{IsLegalAt}
+use Rattle.zk_trace.proofs.LegalHistories.{IsLegalAt}
 use Rattle.zk_trace.specs.Sized.{AreSized, IsSizedWork}
 use Rattle.zk_trace.specs.Work as work
 use Rattle.zk_trace.specs.WorkRead as work_read
