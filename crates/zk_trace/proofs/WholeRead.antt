@@ -96,6 +96,36 @@ state_exact name lacks = record { again = again; spelled = spelled } where
       ∙ ap (λ x. line_text (x ∷ w.1 ∷ w.2 ∷ [])) word ∙ ap (λ x. line_text (codes "player" ∷ x ∷ w.2 ∷ [])) named
       ∙ ap (λ x. line_text (codes "player" ∷ name ∷ x ∷ [])) state.0, tt))
 
+-- What fits.
+
+module _ (decls : List Decl) where
+  abbrev pub may : Bool
+  may = has_player decls
+
+  abbrev pub FitSingles : Singles → Type 0
+  FitSingles singles =
+      FitsThen (FitsSection may (λ last. IsWork decls) (FitsItemLook decls))
+      (FitsThen (FitsPlainSection may (λ last. IsClock decls)) (FitsPlainSection may (λ last. IsTable decls))) singles
+
+  abbrev pub FitFamilies : Families → Type 0
+  FitFamilies families =
+      FitsThen (FitsPlainFamily is_sem may (λ d last. IsSem decls) decls)
+      (FitsThen (FitsPlainFamily is_msgq may (λ d last. IsMsgq decls) decls)
+      (FitsThen (FitsSectionFamily is_signal may (λ d last. IsSignal decls) (λ d. FitsSignalLook decls) decls)
+      (FitsThen (FitsPlainFamily is_chan may (λ d last. IsChan decls) decls) (FitsPlainFamily is_observer may (λ d last. IsObs decls) decls)))) families
+
+  abbrev pub FitPlayer : PlayerState × List Answered → Type 0
+  FitPlayer player = FitsTitled (λ s. Unit {0}) (λ last. IsAnswered decls) player
+
+  abbrev pub FitPlayers : Players → Type 0
+  FitPlayers all = EachFits (λ player. FitPlayer) (player_numbers decls) all
+
+  abbrev pub FitSections : Sections → Type 0
+  FitSections sections = FitsThen FitSingles (FitsThen FitFamilies FitPlayers) sections
+
+  abbrev pub FitWhole : Whole → Type 0
+  FitWhole whole = FitsThen (λ (u : Unit {0}). Unit {0}) (FitsThen (λ (e : Ending). Unit {0}) FitSections) whole
+
 module _ (decls : List Decl) (are : AreNames decls) where
   -- no name of a player has a space
   name-lacks : (player : ℕ) → Lacks space (player_name decls player)
@@ -110,29 +140,14 @@ module _ (decls : List Decl) (are : AreNames decls) where
 
   -- The sections.
 
-  abbrev may : Bool
-  may = has_player decls
-
-  abbrev FitSingles : Singles → Type 0
-  FitSingles singles =
-      FitsThen (FitsSection may (λ last. IsWork decls) (FitsItemLook decls))
-      (FitsThen (FitsPlainSection may (λ last. IsClock decls)) (FitsPlainSection may (λ last. IsTable decls))) singles
-
-  singles : IsBlock (singles_lines decls) FitSingles (read_singles decls)
+  singles : IsBlock (singles_lines decls) (FitSingles decls) (read_singles decls)
       (IsLater head_row IsPlayers (codes "work" ∷ codes "clock" ∷ codes "table" ∷ sem_names decls)) (IsLater head_row IsPlayers (sem_names decls))
   singles =
       let apart = sections_apart decls are in
       both (section_before heads (work_rows decls are) (item_look_rows decls are) (λ look fits last. work_apart decls are look) (over_work decls are) (over_item_look decls are)
-      may (codes "work") (codes "clock" ∷ codes "table" ∷ sem_names decls) apart.0)
-      (both (plain_section_before heads (clock_rows decls are) (over_clock decls are) may (codes "clock") (codes "table" ∷ sem_names decls) apart.1.0)
-      (plain_section_before heads (table_rows decls are) (over_table decls are) may (codes "table") (sem_names decls) apart.1.1.0))
-
-  abbrev FitFamilies : Families → Type 0
-  FitFamilies families =
-      FitsThen (FitsPlainFamily is_sem may (λ d last. IsSem decls) decls)
-      (FitsThen (FitsPlainFamily is_msgq may (λ d last. IsMsgq decls) decls)
-      (FitsThen (FitsSectionFamily is_signal may (λ d last. IsSignal decls) (λ d. FitsSignalLook decls) decls)
-      (FitsThen (FitsPlainFamily is_chan may (λ d last. IsChan decls) decls) (FitsPlainFamily is_observer may (λ d last. IsObs decls) decls)))) families
+      (has_player decls) (codes "work") (codes "clock" ∷ codes "table" ∷ sem_names decls) apart.0)
+      (both (plain_section_before heads (clock_rows decls are) (over_clock decls are) (has_player decls) (codes "clock") (codes "table" ∷ sem_names decls) apart.1.0)
+      (plain_section_before heads (table_rows decls are) (over_table decls are) (has_player decls) (codes "table") (sem_names decls) apart.1.1.0))
 
   sems_apart : AreApart (sem_names decls)
   sems_apart = (sections_apart decls are).1.1.1
@@ -149,22 +164,16 @@ module _ (decls : List Decl) (are : AreNames decls) where
   observers_apart : AreApart (observer_names decls)
   observers_apart = later_apart is_chan name_of (observer_names decls) decls chans_apart
 
-  families : IsBlock (families_lines decls) FitFamilies (read_families decls) (IsLater head_row IsPlayers (sem_names decls)) IsPlayers
+  families : IsBlock (families_lines decls) (FitFamilies decls) (read_families decls) (IsLater head_row IsPlayers (sem_names decls)) IsPlayers
   families =
-      both (plain_family heads is_sem name_of (λ d. sem_rows decls are) (λ d. over_sem decls are) may (msgq_names decls) decls sems_apart)
-      (both (plain_family heads is_msgq name_of (λ d. msgq_rows decls are) (λ d. over_msgq decls are) may (signal_names decls) decls msgqs_apart)
+      both (plain_family heads is_sem name_of (λ d. sem_rows decls are) (λ d. over_sem decls are) (has_player decls) (msgq_names decls) decls sems_apart)
+      (both (plain_family heads is_msgq name_of (λ d. msgq_rows decls are) (λ d. over_msgq decls are) (has_player decls) (signal_names decls) decls msgqs_apart)
       (both (section_family heads is_signal name_of (λ d. signal_rows decls are) (λ d. signal_look_rows decls are) (λ d look fits last. signal_apart decls are look)
-      (λ d. over_signal decls are) (λ d. over_signal_look decls are) may (chan_names decls) decls signals_apart)
-      (both (plain_family heads is_chan name_of (λ d. chan_rows decls are) (λ d. over_chan decls are) may (observer_names decls) decls chans_apart)
-      (plain_family heads is_observer name_of (λ d. obs_rows decls are) (λ d. over_obs decls are) may [] decls observers_apart))))
+      (λ d. over_signal decls are) (λ d. over_signal_look decls are) (has_player decls) (chan_names decls) decls signals_apart)
+      (both (plain_family heads is_chan name_of (λ d. chan_rows decls are) (λ d. over_chan decls are) (has_player decls) (observer_names decls) decls chans_apart)
+      (plain_family heads is_observer name_of (λ d. obs_rows decls are) (λ d. over_obs decls are) (has_player decls) [] decls observers_apart))))
 
-  abbrev FitPlayer : PlayerState × List Answered → Type 0
-  FitPlayer player = FitsTitled (λ s. Unit {0}) (λ last. IsAnswered decls) player
-
-  abbrev FitPlayers : Players → Type 0
-  FitPlayers all = EachFits (λ player. FitPlayer) (player_numbers decls) all
-
-  all_players : IsBlock (players_lines decls) FitPlayers (read_players decls) IsPlayers (λ line. ⊥)
+  all_players : IsBlock (players_lines decls) (FitPlayers decls) (read_players decls) IsPlayers (λ line. ⊥)
   all_players =
       each_alike IsPlayerRow (λ line. ⊥)
       (λ player.
@@ -172,18 +181,12 @@ module _ (decls : List Decl) (are : AreNames decls) where
       titled (answer_rows decls are) (over_answer decls are) (state_exact name (name-lacks player)) IsPlayerRow (λ s fits. (name ++ space ∷ state_word s, refl)))
       (player_numbers decls)
 
-  abbrev FitSections : Sections → Type 0
-  FitSections sections = FitsThen FitSingles (FitsThen FitFamilies FitPlayers) sections
-
-  sections : IsBlock (sections_lines decls) FitSections (read_sections decls)
+  sections : IsBlock (sections_lines decls) (FitSections decls) (read_sections decls)
       (IsLater head_row IsPlayers (codes "work" ∷ codes "clock" ∷ codes "table" ∷ sem_names decls)) (λ line. ⊥)
   sections = both singles (both families all_players)
 
-  abbrev pub FitWhole : Whole → Type 0
-  FitWhole whole = FitsThen (λ (u : Unit {0}). Unit {0}) (FitsThen (λ (e : Ending). Unit {0}) FitSections) whole
-
   -- all that stands in the text of a trace
-  pub whole : IsBlock (whole_lines decls) FitWhole (read_whole decls) (λ line. Unit {0}) (λ line. ⊥)
+  pub whole : IsBlock (whole_lines decls) (FitWhole decls) (read_whole decls) (λ line. Unit {0}) (λ line. ⊥)
   whole =
       both (one_line first_exact (λ line. Unit {0}) (λ line. Unit {0}) (λ u fits. tt))
       (both (one_line ending_exact (λ line. Unit {0}) (IsLater head_row IsPlayers (codes "work" ∷ codes "clock" ∷ codes "table" ∷ sem_names decls)) (λ e fits. tt)) sections)

@@ -192,6 +192,22 @@ trace_of whole =
     let families = whole.1.1.1.0 in
     trace_with whole.1.0 singles families (logs_of (lines_stood singles families) 0 whole.1.1.1.1)
 
+-- And what stands in the text of a trace.
+
+-- pairs of what stands at one place of two lists
+abbrev pub pairs_of : {A B : Type 0} → List A → List B → List (A × B)
+pairs_of [] bs = []
+pairs_of (a ∷ more) [] = []
+pairs_of (a ∷ more) (b ∷ bs) = (a, b) ∷ pairs_of more bs
+
+abbrev pub whole_of : Trace → Whole
+whole_of t = (tt, (t.ending, (((t.work, t.item_looks), (t.clock, t.table)),
+    ((t.sems, (t.msgqs, (pairs_of t.signals t.signal_looks, (t.chans, t.observers)))), map (λ log. (log.state, log.answers)) t.logs))))
+
+-- the lines of a trace, without their feeds
+abbrev pub trace_lines : List Decl → Trace → List (List ℕ)
+trace_lines decls t = whole_lines decls (whole_of t)
+
 -- a trace, as it is read from lines
 abbrev pub read_trace : List Decl → List (List ℕ) → Reading (List ℕ) Trace
 read_trace decls lines = made_of trace_of (read_whole decls lines)
