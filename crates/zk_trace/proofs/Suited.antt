@@ -1,81 +1,22 @@
 -- When a reply suits its step, an answer its word, and a stage its call.
-use Rattle.std.proofs.Common.{◌≡◌, ◌⊎◌, inl, inr, ℕ, zero, suc, ◌+◌, ◌^◌, ◌<◌, ◌≤◌, Bool, true, false, cond, nat_le, Option, Some, None, List, [], ◌∷◌, length, refl, sym, ap, subst, ◌∙◌, arith}
-use Rattle.std.specs.List.{AllByRecursion, slice_get, slice_set, list_any}
-use Rattle.std.specs.Option.{option_map}
-use Rattle.std.proofs.lemmas.Bool.{le-leb}
-use Rattle.std.proofs.lemmas.List.{length-set}
-use Rattle.std.proofs.lemmas.Option.{same_Some}
-use Rattle.zk_base.proofs.Lists.{slice_get-one}
+use Rattle.std.proofs.Common.{◌≡◌, inl, inr, ◌<◌, true, List, [], ◌∷◌, length, sym, subst}
+use Rattle.std.specs.List.{AllByRecursion}
 use Rattle.zk_base.specs.Messages.{is_message}
-use Rattle.zk_base.specs.declared.errors.Errno.TheVariants.{Busy, Again, Inval, NoDev, NoMsg, Already, Fault}
-use Rattle.zk_line.specs.Calls.{word_of}
-use Rattle.zk_line.specs.declared.events.Event.{Event}
 use Rattle.zk_line.specs.declared.events.TheConstants.{MOST_EVENTS}
-use Rattle.zk_line.specs.declared.types.Call.{Call}
-use Rattle.zk_line.specs.declared.types.Call.TheVariants as calls
 use Rattle.zk_line.specs.declared.types.Decl.{Decl}
-use Rattle.zk_words.specs.declared.timeout.Timeout.{Timeout}
-use Rattle.zk_words.specs.declared.timeout.Timeout.TheVariants.{No, Forever, Ticks}
 use Rattle.zk_words.specs.declared.word.Word.{Word}
-use Rattle.zk_words.specs.declared.word.Word.TheVariants as words
-use Rattle.zk_model_bus.specs.declared.channel.ChanOp.{ChanOp}
-use Rattle.zk_model_bus.specs.declared.channel.ChanOp.TheVariants as chan_ops
-use Rattle.zk_model_bus.specs.declared.channel.ChanReply.{ChanReply}
-use Rattle.zk_model_bus.specs.declared.channel.ChanReply.TheVariants as chan_replies
-use Rattle.zk_model_bus.specs.declared.observer.ObsOp.{ObsOp}
-use Rattle.zk_model_bus.specs.declared.observer.ObsOp.TheVariants as obs_ops
-use Rattle.zk_model_bus.specs.declared.observer.ObsReply.{ObsReply}
-use Rattle.zk_model_bus.specs.declared.observer.ObsReply.TheVariants as obs_replies
-use Rattle.zk_model_bus.specs.declared.table.TableOp.{TableOp}
-use Rattle.zk_model_bus.specs.declared.table.TableOp.TheVariants as table_ops
-use Rattle.zk_model_bus.specs.declared.table.TableReply.{TableReply}
-use Rattle.zk_model_bus.specs.declared.table.TableReply.TheVariants as table_replies
-use Rattle.zk_model_wait.specs.declared.clock.ClockOp.TheVariants as clock_ops
-use Rattle.zk_model_wait.specs.declared.clock.ClockReply.{ClockReply}
-use Rattle.zk_model_wait.specs.declared.clock.ClockReply.TheVariants as clock_replies
-use Rattle.zk_model_wait.specs.declared.msgq.MsgqOp.{MsgqOp}
-use Rattle.zk_model_wait.specs.declared.msgq.MsgqOp.TheVariants as msgq_ops
-use Rattle.zk_model_wait.specs.declared.msgq.MsgqReply.{MsgqReply}
-use Rattle.zk_model_wait.specs.declared.msgq.MsgqReply.TheVariants as msgq_replies
-use Rattle.zk_model_wait.specs.declared.sem.SemOp.{SemOp}
-use Rattle.zk_model_wait.specs.declared.sem.SemOp.TheVariants as sem_ops
-use Rattle.zk_model_wait.specs.declared.sem.SemReply.{SemReply}
-use Rattle.zk_model_wait.specs.declared.sem.SemReply.TheVariants as sem_replies
-use Rattle.zk_model_wait.specs.declared.signal.SignalOp.{SignalOp}
-use Rattle.zk_model_wait.specs.declared.signal.SignalOp.TheVariants as signal_ops
-use Rattle.zk_model_wait.specs.declared.signal.SignalReply.{SignalReply}
-use Rattle.zk_model_work.specs.declared.ops.Submitted.TheVariants as submissions
-use Rattle.zk_model_work.specs.declared.ops.WorkOp.{WorkOp}
-use Rattle.zk_model_work.specs.declared.ops.WorkOp.TheVariants as ops
-use Rattle.zk_model_work.specs.declared.ops.WorkReply.{WorkReply}
-use Rattle.zk_model_work.specs.declared.ops.WorkReply.TheVariants as replies
 use Rattle.zk_worker.specs.declared.answers.Answer.{Answer}
-use Rattle.zk_worker.specs.declared.answers.Answer.TheVariants as answers
-use Rattle.zk_worker.specs.declared.frames.Alarm.{Alarm}
-use Rattle.zk_worker.specs.declared.frames.Alarm.TheVariants.{Unset, Due}
-use Rattle.zk_worker.specs.declared.frames.Closing.{Closing}
-use Rattle.zk_worker.specs.declared.frames.Closing.TheVariants as closings
-use Rattle.zk_worker.specs.declared.frames.Mark.{Mark}
 use Rattle.zk_worker.specs.declared.frames.Plan.{Plan}
-use Rattle.zk_worker.specs.declared.frames.Plan.TheVariants.{One, Pair, Twice, Wait, Poll, Channel}
+use Rattle.zk_worker.specs.declared.frames.Plan.TheVariants.{Channel}
 use Rattle.zk_worker.specs.declared.frames.Progress.{Progress}
 use Rattle.zk_worker.specs.declared.frames.Progress.TheVariants.{Goes, Answers, Enters}
 use Rattle.zk_worker.specs.declared.frames.Stage.{Stage}
 use Rattle.zk_worker.specs.declared.frames.Stage.TheVariants as stages
-use Rattle.zk_worker.specs.declared.frames.Using.{Using}
-use Rattle.zk_worker.specs.declared.frames.Using.TheVariants.{Publish, Notify, Read}
-use Rattle.zk_worker.specs.declared.frames.Waiting.{Waiting}
-use Rattle.zk_worker.specs.declared.frames.Waiting.TheVariants.{Take, Put, Get, Claim, SubWait, Offer, Enter}
+use Rattle.zk_worker.specs.declared.frames.Using.TheVariants.{Read}
 use Rattle.zk_worker.specs.declared.steps.Step.{Step}
 use Rattle.zk_worker.specs.declared.steps.Step.TheVariants as steps
 use Rattle.zk_worker.specs.declared.steps.StepReply.{StepReply}
 use Rattle.zk_worker.specs.declared.steps.StepReply.TheVariants as step_replies
-use Rattle.zk_worker.specs.Calls.{plan_of, closing_step, plan_attempts, plan_progress}
-use Rattle.zk_worker.specs.Polls.{fresh, is_ready, is_answered, ready_from, poll_answer, poll_goes, poll_progress, event_of, marked, mark_of, alarm_after}
-use Rattle.zk_worker.specs.Publishes.{rest_of, asks_for, use_step, visit_step, channel_attempts, visits_answer, holds_progress, visit_progress, asking_progress, channel_progress}
-use Rattle.zk_worker.specs.Refs.{ref_object, ref_number}
-use Rattle.zk_worker.specs.Replies.{work_answer, sem_answer, msgq_answer, chan_answer, obs_answer, table_answer, answer_of}
-use Rattle.zk_worker.specs.Waits.{open_step, end_step, quit_step, first_step, wait_attempts, opening_progress, with_alarm, wait_progress}
 use Rattle.zk_trace.specs.AnswerRead.{FitsAnswer}
 use Rattle.zk_trace.specs.Choices.{IsIn}
 use Rattle.zk_trace.specs.LookRead.{can_be_seen}
@@ -97,12 +38,6 @@ use Rattle.zk_trace.specs.Chan as chan
 use Rattle.zk_trace.specs.ChanRead as chan_read
 use Rattle.zk_trace.specs.Obs as obs
 use Rattle.zk_trace.specs.ObsRead as obs_read
-use Rattle.zk_trace.specs.declared.chan.Verb.TheVariants as chan_verbs
-use Rattle.zk_trace.specs.declared.msgq.Verb.TheVariants as msgq_verbs
-use Rattle.zk_trace.specs.declared.obs.Verb.TheVariants as obs_verbs
-use Rattle.zk_trace.specs.declared.sem.Verb.TheVariants as sem_verbs
-use Rattle.zk_trace.specs.declared.table.Verb.TheVariants as table_verbs
-use Rattle.zk_trace.specs.declared.work.Verb.TheVariants as work_verbs
 
 -- what holds of each of some holds of one of them
 pub in-each : {R : Type 0} (P : R → Type 0) (rs : List R) → AllByRecursion P rs → (r : R) → IsIn r rs → P r
