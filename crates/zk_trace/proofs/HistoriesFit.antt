@@ -1,8 +1,7 @@
 -- The entries of a history that its machine lets stand are in form, where what was asked is.
-use Rattle.std.proofs.Common.{◌≡◌, ℕ, zero, suc, ◌^◌, ◌<◌, Bool, true, false, ◌&&◌, cond, Option, Some, None, List, [], ◌∷◌, length, map, take, All, refl, sym, ap, subst, ◌∙◌}
+use Rattle.std.proofs.Common.{◌≡◌, ℕ, zero, suc, ◌^◌, ◌<◌, Bool, true, false, ◌&&◌, Option, Some, None, List, [], ◌∷◌, length, map, take, All, refl, sym, subst, ◌∙◌}
 use Rattle.std.specs.List.{AllByRecursion, AllZip, slice_get, list_all}
 use Rattle.std.proofs.lemmas.Bool.{and_parts}
-use Rattle.std.proofs.lemmas.List.{length-map}
 use Rattle.std.proofs.lemmas.List.Elements.{All-nil, All-cons}
 use Rattle.std.proofs.lemmas.List.FromFn.{length-range_with_len}
 use Rattle.std.proofs.lemmas.Option.{same_Some, none-some}
@@ -44,7 +43,6 @@ use Rattle.zk_model_wait.specs.declared.signal.SignalReply.{SignalReply}
 use Rattle.zk_model_work.specs.declared.ops.WorkOp.{WorkOp}
 use Rattle.zk_model_work.specs.declared.ops.WorkReply.{WorkReply}
 use Rattle.zk_model_work.specs.Machine.{work_machine}
-use Rattle.zk_model_work.specs.State.{fresh_queues}
 use Rattle.zk_model_work.proofs.Counts.{length-fresh_queues}
 use Rattle.zk_worker.specs.Machines.{workers, is_on, work_start_of, sem_start, msgq_start, signal_start, chan_start, observer_start}
 use Rattle.zk_worker.proofs.Ranges.{same-lengths}

@@ -1,5 +1,5 @@
 -- The looks of logs are in form: by player and then by step, each of a known player at what is declared.
-use Rattle.std.proofs.Common.{◌≡◌, ℕ, zero, suc, ◌+◌, ◌==◌, ◌^◌, ◌<◌, Bool, true, false, ◌&&◌, ◌||◌, cond, nat_lt, nat_le, Option, Some, None, is_some, List, [], ◌∷◌, ◌++◌, length, map, All, refl, sym, ap, subst, ◌∙◌, arith}
+use Rattle.std.proofs.Common.{◌≡◌, ℕ, zero, suc, ◌+◌, ◌==◌, ◌<◌, Bool, true, false, cond, Option, Some, None, is_some, List, [], ◌∷◌, ◌++◌, length, map, All, refl, sym, ap, subst, ◌∙◌, arith}
 use Rattle.std.specs.List.{AllByRecursion, cons_option, range_with_len, slice_get}
 use Rattle.std.specs.Option.{option_map, option_map_or}
 use Rattle.std.proofs.lemmas.Bool.Decides.{nat_tests}
@@ -23,7 +23,7 @@ use Rattle.zk_trace.specs.declared.looks.ItemLook.{ItemLook}
 use Rattle.zk_trace.specs.declared.looks.SignalLook.{SignalLook}
 use Rattle.zk_trace.specs.Fields.{IsOf}
 use Rattle.zk_trace.specs.Looked.{item_look_at, signal_look_at, looks_from, all_looks, item_looks_of, signal_looks_of}
-use Rattle.zk_trace.specs.LookRead.{may_stand, item_step, IsItemLook, FitsItemLook, can_be_seen, signal_step, IsSignalLook, FitsSignalLook}
+use Rattle.zk_trace.specs.LookRead.{may_stand, item_step, FitsItemLook, can_be_seen, signal_step, FitsSignalLook}
 use Rattle.zk_trace.specs.Sized.{IsSizedItemLook, IsSizedSignalLook}
 
 -- what may stand at a step may stand at the next one, and at the first of the next player
