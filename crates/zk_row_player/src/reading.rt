@@ -1,3 +1,4 @@
+use crate::spelled::put_spelled;
 use std::alloc::Global;
 use zk_base::{NoMemory, put, put_decimal};
 use zk_scenario::{Scenario, read_scenario};
@@ -62,7 +63,7 @@ pub fn is_read_again(alloc: Global, text: &[u8], behind: &[u8]) -> Result<bool, 
 ///
 ///     cuts     without its last line, its last two lines, and so on: the line that each is refused at
 ///     bytes    with another byte in place of each: how many are refused, and how many read
-///     N LINE   with this line in place of the line of this number
+///     N LINE   with this line in place of the line of this number, or with these, where `\n` stands between them
 pub fn put_readings(
     alloc: Global,
     out: &mut Vec<u8>,
@@ -192,7 +193,9 @@ fn put_changed(
 ) -> Result<(), NoMemory> {
     let (number, line) = change.split_once(' ').unwrap_or((change, ""));
     let number = number.parse::<u32>().unwrap_or(0);
-    let changed = with_line(alloc, behind, first, number, line.as_bytes())?;
+    let mut spelled = Vec::new(alloc);
+    put_spelled(&mut spelled, line.as_bytes(), 0)?;
+    let changed = with_line(alloc, behind, first, number, &spelled)?;
     put_came(out, read_again(alloc, scenario, &changed, first)?)?;
     put(out, b": ")?;
     put(out, change.as_bytes())
