@@ -58,12 +58,10 @@ fixed_replies verbs.Enter = replies.Got ∷ replies.Busy ∷ replies.Wait ∷ []
 fixed_replies verbs.Claim = replies.Got ∷ replies.Busy ∷ replies.Wait ∷ []
 fixed_replies verbs.ClaimEnd = replies.Got ∷ []
 fixed_replies verbs.ClaimQuit = replies.Got ∷ replies.Again ∷ []
-fixed_replies verbs.Set = []
-fixed_replies verbs.List = []
-fixed_replies verbs.Get = []
 fixed_replies verbs.Free = replies.Done ∷ []
 fixed_replies verbs.Finish = replies.Done ∷ replies.Inval ∷ []
 fixed_replies verbs.Mask = replies.Done ∷ replies.Inval ∷ []
+fixed_replies verb = []
 
 -- the others, by what stands behind the sign
 abbrev pub open_reply : List Decl → Verb → List ℕ → Option ChanReply

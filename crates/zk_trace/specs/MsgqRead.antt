@@ -62,16 +62,14 @@ fixed_replies verbs.Put = replies.Done ∷ replies.NoMsg ∷ replies.Wait ∷ []
 fixed_replies verbs.PutEnd = replies.Done ∷ replies.NoMsg ∷ []
 fixed_replies verbs.PutQuit = replies.Done ∷ replies.NoMsg ∷ replies.Again ∷ []
 fixed_replies verbs.Get = replies.NoMsg ∷ replies.Wait ∷ []
-fixed_replies verbs.GetEnd = []
 fixed_replies verbs.GetQuit = replies.Again ∷ []
 fixed_replies verbs.Peek = replies.NoMsg ∷ []
 fixed_replies verbs.PeekAt = replies.NoMsg ∷ []
 fixed_replies verbs.Purge = replies.Done ∷ []
-fixed_replies verbs.Used = []
-fixed_replies verbs.Free = []
 fixed_replies verbs.PollArm = replies.Ready ∷ replies.NotReady ∷ replies.Armed ∷ []
 fixed_replies verbs.PollEnd = replies.Noted ∷ []
 fixed_replies verbs.PollQuit = replies.Noted ∷ replies.Plain ∷ []
+fixed_replies verb = []
 
 -- a message, or how many
 abbrev pub bytes_reply : List ℕ → Option MsgqReply

@@ -44,9 +44,9 @@ FitsOp decls op = Unit {0}
 abbrev pub fixed_replies : Verb → List ObsReply
 fixed_replies verbs.Visit = replies.Off ∷ replies.Run ∷ replies.Pushed ∷ replies.Full ∷ []
 fixed_replies verbs.Take = replies.NoMsg ∷ replies.Wait ∷ []
-fixed_replies verbs.TakeEnd = []
 fixed_replies verbs.TakeQuit = replies.Again ∷ []
 fixed_replies verbs.Enable = replies.Done ∷ []
+fixed_replies verb = []
 
 -- a channel, by its name
 abbrev pub channel_reply : List Decl → List ℕ → Option ObsReply

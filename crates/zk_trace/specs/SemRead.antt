@@ -53,10 +53,10 @@ fixed_replies verbs.TakeEnd = replies.Got ∷ replies.Again ∷ []
 fixed_replies verbs.TakeQuit = replies.Got ∷ replies.Again ∷ []
 fixed_replies verbs.Give = replies.Done ∷ []
 fixed_replies verbs.Reset = replies.Done ∷ []
-fixed_replies verbs.Count = []
 fixed_replies verbs.PollArm = replies.Ready ∷ replies.NotReady ∷ replies.Armed ∷ []
 fixed_replies verbs.PollEnd = replies.Noted ∷ []
 fixed_replies verbs.PollQuit = replies.Noted ∷ replies.Plain ∷ []
+fixed_replies verb = []
 
 -- the others, by what stands behind the sign
 abbrev pub open_reply : List Decl → Verb → List ℕ → Option SemReply

@@ -143,7 +143,6 @@ abbrev pub fixed_replies : Verb → List WorkReply
 fixed_replies verbs.Submit =
     replies.Sub submissions.Already ∷ replies.Sub (submissions.Refused Busy)
     ∷ replies.Sub (submissions.Refused Inval) ∷ replies.Sub (submissions.Refused NoDev) ∷ []
-fixed_replies verbs.Cancel = []
 fixed_replies verbs.CancelStart = replies.Wait ∷ replies.Truth true ∷ replies.Truth false ∷ []
 fixed_replies verbs.CancelDone = replies.Truth true ∷ replies.Truth false ∷ []
 fixed_replies verbs.FlushStart = replies.Truth true ∷ replies.Truth false ∷ []
@@ -154,14 +153,11 @@ fixed_replies verbs.Schedule =
 fixed_replies verbs.Reschedule =
     replies.Sub submissions.Already ∷ replies.Armed
     ∷ replies.Sub (submissions.Refused Busy) ∷ replies.Sub (submissions.Refused NoDev) ∷ []
-fixed_replies verbs.Remaining = []
 fixed_replies verbs.Start = replies.Done ∷ replies.Already ∷ []
 fixed_replies verbs.DrainStart = replies.Wait ∷ []
-fixed_replies verbs.DrainDone = []
 fixed_replies verbs.Unplug = replies.Done ∷ replies.Already ∷ []
-fixed_replies verbs.Announce = []
-fixed_replies verbs.Begin = []
 fixed_replies verbs.End = replies.Done ∷ []
+fixed_replies verb = []
 
 -- a submission that was admitted, by what stands behind the sign
 abbrev pub sub_of : List Decl → List ℕ → Option WorkReply
