@@ -67,7 +67,7 @@ observers_are (Sub name capacity) is = refl
 observers_are d is = absurd (false≢true is)
 
 -- what holds of the one at each place holds of all
-all_at : {X : Type 0} (P : X → Type 0) (xs : List X) → ((place : ℕ) (x : X) → slice_get xs place ≡ Some x → P x) → AllByRecursion P xs
+pub all_at : {X : Type 0} (P : X → Type 0) (xs : List X) → ((place : ℕ) (x : X) → slice_get xs place ≡ Some x → P x) → AllByRecursion P xs
 all_at P [] each = tt
 all_at P (x ∷ xs) each = (each zero x refl, all_at P xs (λ place y there. each (suc place) y there))
 

@@ -33,7 +33,7 @@ use Rattle.zk_trace.specs.declared.trace.Ending.{Ending}
 use Rattle.zk_trace.specs.declared.trace.Ending.TheVariants.{Ended, Stuck, Spent}
 use Rattle.zk_trace.specs.AnswerRead.{IsAnswered}
 use Rattle.zk_trace.specs.EntryKinds.{IsWork, IsClock, IsTable, IsSem, IsMsgq, IsSignal, IsChan, IsObs}
-use Rattle.zk_trace.specs.Exact.{Lacks, IsPlain}
+use Rattle.zk_trace.specs.Exact.{is_plain, Lacks, IsPlain}
 use Rattle.zk_trace.specs.Fields.{three_words}
 use Rattle.zk_trace.specs.Form.{player_numbers}
 use Rattle.zk_trace.specs.LookRead.{FitsItemLook, FitsSignalLook}
@@ -54,7 +54,7 @@ first_exact = record {
   spelled = λ row u said. ((bytes_eq-Decides row first_row).0 (cond_some (bytes_eq row first_row) tt u said).0, tt);
 }
 
-endings_are : (e : Ending) → (ending_of (ending_word e) ≡ Some e) × IsPlain (ending_word e)
+pub endings_are : (e : Ending) → (ending_of (ending_word e) ≡ Some e) × IsPlain (ending_word e)
 endings_are Ended = (refl, refl)
 endings_are e = (refl, refl)
 
@@ -63,7 +63,7 @@ ending_exact = let exact = named_exact ending_word all_endings endings_are in re
 
 -- The heads of players.
 
-states_are : (s : PlayerState) → (state_of (state_word s) ≡ Some s) × IsPlain (state_word s)
+pub states_are : (s : PlayerState) → (state_of (state_word s) ≡ Some s) × IsPlain (state_word s)
 states_are states.Spent = (refl, refl)
 states_are s = (refl, refl)
 
@@ -127,14 +127,14 @@ module _ (decls : List Decl) where
   FitWhole whole = FitsThen (λ (u : Unit {0}). Unit {0}) (FitsThen (λ (e : Ending). Unit {0}) FitSections) whole
 
 module _ (decls : List Decl) (are : AreNames decls) where
-  -- no name of a player has a space
-  name-lacks : (player : ℕ) → Lacks space (player_name decls player)
-  name-lacks player = by_object (slice_get (players decls) player) where
-    by_decl : (object : ℕ) (o : Option Decl) → slice_get decls object ≡ o → Lacks space (option_map_or name_of o [])
+  -- a byte that no word has isn't in the name of a player
+  pub name-lacks : (c : ℕ) → is_plain c ≡ false → (player : ℕ) → Lacks c (player_name decls player)
+  name-lacks c fails player = by_object (slice_get (players decls) player) where
+    by_decl : (object : ℕ) (o : Option Decl) → slice_get decls object ≡ o → Lacks c (option_map_or name_of o [])
     by_decl object None there = tt
-    by_decl object (Some d) there = lacks_plain space refl (name_of d) (plain-name (name_of d) (are.formed object d there))
+    by_decl object (Some d) there = lacks_plain c fails (name_of d) (plain-name (name_of d) (are.formed object d there))
 
-    by_object : (o : Option ℕ) → Lacks space (object_name decls o)
+    by_object : (o : Option ℕ) → Lacks c (object_name decls o)
     by_object None = tt
     by_object (Some object) = by_decl object (slice_get decls object) refl
 
@@ -178,7 +178,7 @@ module _ (decls : List Decl) (are : AreNames decls) where
       each_alike IsPlayerRow (λ line. ⊥)
       (λ player.
       let name = player_name decls player in
-      titled (answer_rows decls are) (over_answer decls are) (state_exact name (name-lacks player)) IsPlayerRow (λ s fits. (name ++ space ∷ state_word s, refl)))
+      titled (answer_rows decls are) (over_answer decls are) (state_exact name (name-lacks space refl player)) IsPlayerRow (λ s fits. (name ++ space ∷ state_word s, refl)))
       (player_numbers decls)
 
   sections : IsBlock (sections_lines decls) (FitSections decls) (read_sections decls)
