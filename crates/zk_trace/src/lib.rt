@@ -7,6 +7,7 @@ mod chan_read;
 mod choosing;
 mod clock;
 mod clock_read;
+mod entry_read;
 mod expiries;
 mod feed;
 mod flags;
