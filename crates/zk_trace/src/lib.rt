@@ -2,6 +2,7 @@
 #![tactic(auto)]
 
 mod answer_read;
+mod asked;
 mod chan;
 mod chan_read;
 mod choosing;
@@ -12,6 +13,7 @@ mod expiries;
 mod feed;
 mod flags;
 mod halves;
+mod line_rows;
 mod lined;
 mod logs_read;
 mod look_read;
