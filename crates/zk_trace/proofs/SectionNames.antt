@@ -13,7 +13,8 @@ use Rattle.zk_blocks.specs.Heads.{AreHeads}
 use Rattle.zk_line.specs.Objects.{AreNames, name_of, object_of, is_sem, is_msgq, is_signal, is_chan, is_observer}
 use Rattle.zk_line.specs.declared.types.Decl.{Decl}
 use Rattle.zk_line.specs.declared.types.Decl.TheVariants.{Thread, Queue, Item, Sem, Msgq, Signal, Listener, Sub, Chan}
-use Rattle.zk_trace.specs.SectionRead.{head_row, is_head, IsPlayerRow}
+use Rattle.zk_trace.specs.SectionRead.{is_head, IsPlayerRow}
+use Rattle.zk_trace.specs.Text.{head_row}
 
 -- the names of the sections in their order, from each family on
 abbrev pub observer_names : List Decl → List (List ℕ)

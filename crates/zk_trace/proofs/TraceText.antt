@@ -42,10 +42,9 @@ use Rattle.zk_trace.specs.Form.{IsLog, IsInForm}
 use Rattle.zk_trace.specs.LookRead.{item_look_row, signal_look_row, FitsSignalLook}
 use Rattle.zk_trace.specs.Looks.{item_look_line, signal_look_line}
 use Rattle.zk_trace.specs.Names.{player_name}
-use Rattle.zk_trace.specs.SectionRead.{head_row}
 use Rattle.zk_trace.specs.Stood.{stood}
-use Rattle.zk_trace.specs.Text.{line, trace_text, section_head, entry_line, service_section, object_section, object_sections, looks_at, looked_lines, looked_section, looked_object, looked_sections, answer_line, player_head, player_section, player_sections}
-use Rattle.zk_trace.specs.WholeRead.{first_row, pairs_of, player_lines, players_lines, trace_lines}
+use Rattle.zk_trace.specs.Text.{head_row, first_row, line, trace_text, section_head, entry_line, service_section, object_section, object_sections, looks_at, looked_lines, looked_section, looked_object, looked_sections, answer_line, player_head, player_section, player_sections}
+use Rattle.zk_trace.specs.WholeRead.{pairs_of, player_lines, players_lines, trace_lines}
 use Rattle.zk_trace.specs.Words.{ending_word}
 use Rattle.zk_trace.specs.Work as work
 use Rattle.zk_trace.specs.Clock as clock
@@ -229,7 +228,7 @@ spread first ending work clock table sems msgqs signals chans observers all = si
 pub text-lines : (s : Content) (t : Trace) → IsInForm s t → trace_text s t ≡ fed_lines line_feed (trace_lines s.decls t)
 text-lines s t form =
     let decls = s.decls in
-    let first : List ℕ = line (codes "zt" ∷ codes "1" ∷ []) in
+    let first : List ℕ = first_row ++ codes "\n" in
     let ending : List ℕ = line (ending_word t.ending ∷ []) in
     let work_lines : List (List ℕ) = section_lines (head_row (codes "work")) (work_row decls) (item_look_row decls) (t.work, t.item_looks) in
     let clock_lines : List (List ℕ) = plain_section_lines (head_row (codes "clock")) (clock_row decls) t.clock in

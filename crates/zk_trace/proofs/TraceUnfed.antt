@@ -40,9 +40,9 @@ use Rattle.zk_trace.specs.Exact.{IsUnfed}
 use Rattle.zk_trace.specs.Form.{AreOfKind, IsLog, IsInForm}
 use Rattle.zk_trace.specs.LookRead.{item_look_row, FitsItemLook, signal_look_row, FitsSignalLook}
 use Rattle.zk_trace.specs.Names.{player_name}
-use Rattle.zk_trace.specs.SectionRead.{head_row}
 use Rattle.zk_trace.specs.Stood.{stood}
-use Rattle.zk_trace.specs.WholeRead.{first_row, pairs_of, player_lines, players_lines, trace_lines}
+use Rattle.zk_trace.specs.Text.{head_row, player_word, first_row}
+use Rattle.zk_trace.specs.WholeRead.{pairs_of, player_lines, players_lines, trace_lines}
 use Rattle.zk_trace.specs.Words.{ending_word, state_word}
 use Rattle.zk_trace.proofs.AnswerRead.{answered_exact}
 use Rattle.zk_trace.proofs.EntryRead.{entry_exact}
@@ -107,8 +107,8 @@ module _ (decls : List Decl) (are : AreNames decls) where
   unfed-players lines zero player logs fits = tt
   unfed-players lines (suc count) player [] fits = tt
   unfed-players lines (suc count) player (log ∷ logs) fits =
-      (lacks-join line_feed space refl (codes "player" ∷ player_name decls player ∷ state_word log.state ∷ [])
-      (lacks_is line_feed (codes "player") refl, (name-lacks decls are line_feed refl player, (lacks_plain line_feed refl (state_word log.state) (states_are log.state).1, tt))),
+      (lacks-join line_feed space refl (player_word ∷ player_name decls player ∷ state_word log.state ∷ [])
+      (lacks_is line_feed (player_word) refl, (name-lacks decls are line_feed refl player, (lacks_plain line_feed refl (state_word log.state) (states_are log.state).1, tt))),
       unfed-both (map (answered_row decls) log.answers) (each_lines (player_lines decls) (range_with_len (player + 1) count) (map (λ log. (log.state, log.answers)) logs))
       (unfed-rows (answered_row decls) (IsAnswered decls) (answered_exact decls are).unfed log.answers fits.0.answers)
       (unfed-players lines count (player + 1) logs fits.1))

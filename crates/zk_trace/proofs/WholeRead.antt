@@ -38,8 +38,9 @@ use Rattle.zk_trace.specs.Fields.{three_words}
 use Rattle.zk_trace.specs.Form.{player_numbers}
 use Rattle.zk_trace.specs.LookRead.{FitsItemLook, FitsSignalLook}
 use Rattle.zk_trace.specs.Names.{object_name, player_name}
-use Rattle.zk_trace.specs.SectionRead.{head_row, has_player, IsPlayerRow}
-use Rattle.zk_trace.specs.WholeRead.{Singles, read_singles, singles_lines, Families, read_families, families_lines, player_row, all_states, state_of, state_by, player_state_of, Players, read_player, player_lines, read_players, players_lines, first_row, first_of, all_endings, ending_of, Sections, read_sections, sections_lines, Whole, read_whole, whole_lines}
+use Rattle.zk_trace.specs.SectionRead.{has_player, IsPlayerRow}
+use Rattle.zk_trace.specs.Text.{head_row, player_word, player_row, first_row}
+use Rattle.zk_trace.specs.WholeRead.{Singles, read_singles, singles_lines, Families, read_families, families_lines, all_states, state_of, state_by, player_state_of, Players, read_player, player_lines, read_players, players_lines, first_of, all_endings, ending_of, Sections, read_sections, sections_lines, Whole, read_whole, whole_lines}
 use Rattle.zk_trace.specs.Words.{ending_word, state_word}
 use Rattle.zk_trace.proofs.Fields.{named_exact}
 use Rattle.zk_trace.proofs.PlainWords.{plain-name, lacks_plain, pieces-join}
@@ -73,7 +74,7 @@ state_exact name lacks = record { again = again; spelled = spelled } where
   again : (s : PlayerState) → Unit {0} → player_state_of name (player_row name s) ≡ Some s
   again s fits =
       ap (λ ws. option_and_then (state_by name) (three_words ws))
-      (pieces-join space (codes "player") (name ∷ state_word s ∷ []) ((refl, (refl, (refl, (refl, (refl, (refl, tt)))))), (lacks, (lacks_plain space refl (state_word s) (states_are s).1, tt))))
+      (pieces-join space (player_word) (name ∷ state_word s ∷ []) ((refl, (refl, (refl, (refl, (refl, (refl, tt)))))), (lacks, (lacks_plain space refl (state_word s) (states_are s).1, tt))))
       ∙ cond-true (bytes_eq name name) (state_of (state_word s)) None ((bytes_eq-Decides name name).1 refl)
       ∙ (states_are s).0
 
@@ -87,14 +88,14 @@ state_exact name lacks = record { again = again; spelled = spelled } where
   spelled : (row : List ℕ) (s : PlayerState) → player_state_of name row ≡ Some s → (row ≡ player_row name s) × Unit {0}
   spelled row s said = option_and_then_some (state_by name) (three_words (words_of row)) s said
       (λ w is more.
-      let kept = cond_chosen (bytes_eq w.0 (codes "player") && bytes_eq w.1 name) (state_of w.2) s more in
-      let parts = and_parts (bytes_eq w.0 (codes "player")) (bytes_eq w.1 name) kept.0 in
+      let kept = cond_chosen (bytes_eq w.0 (player_word) && bytes_eq w.1 name) (state_of w.2) s more in
+      let parts = and_parts (bytes_eq w.0 (player_word)) (bytes_eq w.1 name) kept.0 in
       let state = (named_exact state_word all_states states_are).spelled w.2 s kept.1 in
-      let word : w.0 ≡ codes "player" = (bytes_eq-Decides w.0 (codes "player")).0 parts.0 in
+      let word : w.0 ≡ player_word = (bytes_eq-Decides w.0 (player_word)).0 parts.0 in
       let named : w.1 ≡ name = (bytes_eq-Decides w.1 name).0 parts.1 in
       (sym (join_with_byte-slice_split space row) ∙ ap line_text (three (words_of row) w is)
-      ∙ ap (λ x. line_text (x ∷ w.1 ∷ w.2 ∷ [])) word ∙ ap (λ x. line_text (codes "player" ∷ x ∷ w.2 ∷ [])) named
-      ∙ ap (λ x. line_text (codes "player" ∷ name ∷ x ∷ [])) state.0, tt))
+      ∙ ap (λ x. line_text (x ∷ w.1 ∷ w.2 ∷ [])) word ∙ ap (λ x. line_text (player_word ∷ x ∷ w.2 ∷ [])) named
+      ∙ ap (λ x. line_text (player_word ∷ name ∷ x ∷ [])) state.0, tt))
 
 -- What fits.
 

@@ -24,7 +24,6 @@ use Rattle.zk_blocks.specs.Sections.{plain_section_of, plain_section_lines, sect
 use Rattle.zk_line.specs.Objects.{is_sem, is_msgq, is_signal, is_chan, is_observer, name_of}
 use Rattle.zk_line.specs.declared.types.Decl.{Decl}
 use Rattle.zk_words.specs.Pieces.{words_of}
-use Rattle.zk_words.specs.Text.{line_text}
 use Rattle.zk_worker.specs.declared.answers.Answered.{Answered}
 use Rattle.zk_worker.specs.declared.log.Log.{Log}
 use Rattle.zk_worker.specs.declared.log.PlayerState.{PlayerState}
@@ -41,8 +40,9 @@ use Rattle.zk_trace.specs.Fields.{named, three_words}
 use Rattle.zk_trace.specs.Form.{player_numbers}
 use Rattle.zk_trace.specs.LookRead.{item_look_row, says_item_look, signal_look_row, says_signal_look}
 use Rattle.zk_trace.specs.Names.{player_name}
-use Rattle.zk_trace.specs.SectionRead.{head_row, is_head, has_player}
+use Rattle.zk_trace.specs.SectionRead.{is_head, has_player}
 use Rattle.zk_trace.specs.Stood.{stood, steps_of}
+use Rattle.zk_trace.specs.Text.{head_row, player_word, player_row, first_row}
 use Rattle.zk_trace.specs.Words.{ending_word, state_word}
 
 -- The services of which there is one: work with its looks, the clock and the object table.
@@ -89,10 +89,7 @@ families_lines decls families =
 
 -- The players: of each how it stands, and its answers.
 
--- how a player of this name stands, as a head
-abbrev pub player_row : List ℕ → PlayerState → List ℕ
-player_row name state = line_text (codes "player" ∷ name ∷ state_word state ∷ [])
-
+-- how a player of a name stands, by its head
 abbrev pub all_states : List PlayerState
 all_states = states.Spent ∷ states.Oops ∷ states.Done ∷ states.Standing ∷ []
 
@@ -100,7 +97,7 @@ abbrev pub state_of : List ℕ → Option PlayerState
 state_of word = named state_word all_states word
 
 abbrev pub state_by : List ℕ → List ℕ × List ℕ × List ℕ → Option PlayerState
-state_by name w = if bytes_eq w.0 (codes "player") && bytes_eq w.1 name then state_of w.2 else None
+state_by name w = if bytes_eq w.0 player_word && bytes_eq w.1 name then state_of w.2 else None
 
 abbrev pub player_state_of : List ℕ → List ℕ → Option PlayerState
 player_state_of name row = option_and_then (state_by name) (three_words (words_of row))
@@ -123,9 +120,6 @@ players_lines decls all = each_lines (player_lines decls) (player_numbers decls)
 -- The whole.
 
 -- the first line
-abbrev pub first_row : List ℕ
-first_row = line_text (codes "zt" ∷ codes "1" ∷ [])
-
 abbrev pub first_of : List ℕ → Option (Unit {0})
 first_of row = if bytes_eq row first_row then Some tt else None
 

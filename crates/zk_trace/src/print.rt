@@ -10,6 +10,9 @@ use std::alloc::Global;
 use zk_base::{NoMemory, put};
 use zk_scenario::{Scenario, print_scenario};
 
+/// The first line of the trace part.
+pub const FIRST: &[u8] = b"zt 1";
+
 /// Appends the trace part of the output: the head, the ending, the sections of the services and of the players.
 pub fn put_trace(out: &mut Vec<u8>, scenario: &Scenario, trace: &Trace) -> Result<(), NoMemory>
     ensures text { OnOk result (out.new.items ≡ out.old.items ++ trace_text scenario.now trace.now) }
@@ -27,7 +30,8 @@ fn put_all(out: &mut Vec<u8>, scenario: &Scenario, trace: &Trace) -> Result<(), 
     ensures text { OnOk result (out.new.items ≡ out.old.items ++ trace_text scenario.now trace.now) }
     ensures kept { OnErr result (StaysInFront out.old.items out.new.items) }
 {
-    put(out, b"zt 1\n")?;
+    put(out, FIRST)?;
+    put(out, b"\n")?;
     put(out, ending_word(trace.ending))?;
     put(out, b"\n")?;
     put_services(out, scenario, trace)?;
