@@ -14,7 +14,7 @@ use Rattle.zk_line.specs.Objects.{AreNames, name_of, object_of, is_sem, is_msgq,
 use Rattle.zk_line.specs.declared.types.Decl.{Decl}
 use Rattle.zk_line.specs.declared.types.Decl.TheVariants.{Thread, Queue, Item, Sem, Msgq, Signal, Listener, Sub, Chan}
 use Rattle.zk_trace.specs.SectionRead.{is_head, IsPlayerRow}
-use Rattle.zk_trace.specs.Text.{head_row}
+use Rattle.zk_trace.specs.Text.{work_name, clock_name, table_name, head_row}
 
 -- the names of the sections in their order, from each family on
 abbrev pub observer_names : List Decl → List (List ℕ)
@@ -180,14 +180,14 @@ module _ (decls : List Decl) (are : AreNames decls) where
 
   -- the names of all sections, in their order
   abbrev pub section_names : List (List ℕ)
-  section_names = codes "work" ∷ codes "clock" ∷ codes "table" ∷ sem_names decls
+  section_names = work_name ∷ clock_name ∷ table_name ∷ sem_names decls
 
   -- they differ
   pub sections_apart : AreApart section_names
   sections_apart = (
-    (differ (codes "work") (codes "clock") refl refl, (differ (codes "work") (codes "table") refl refl, none_sem (codes "work") (reserved_no (codes "work") refl))),
-    ((differ (codes "clock") (codes "table") refl refl, none_sem (codes "clock") (reserved_no (codes "clock") refl)),
-    (none_sem (codes "table") (reserved_no (codes "table") refl), sems_apart)),
+    (differ work_name clock_name refl refl, (differ work_name table_name refl refl, none_sem work_name (reserved_no work_name refl))),
+    ((differ clock_name table_name refl refl, none_sem clock_name (reserved_no clock_name refl)),
+    (none_sem table_name (reserved_no table_name refl), sems_apart)),
   )
 
 -- each name has a head of its own, which is no player's

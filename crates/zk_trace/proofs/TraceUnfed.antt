@@ -41,7 +41,7 @@ use Rattle.zk_trace.specs.Form.{AreOfKind, IsLog, IsInForm}
 use Rattle.zk_trace.specs.LookRead.{item_look_row, FitsItemLook, signal_look_row, FitsSignalLook}
 use Rattle.zk_trace.specs.Names.{player_name}
 use Rattle.zk_trace.specs.Stood.{stood}
-use Rattle.zk_trace.specs.Text.{head_row, player_word, first_row}
+use Rattle.zk_trace.specs.Text.{work_name, clock_name, table_name, head_row, player_word, first_row}
 use Rattle.zk_trace.specs.WholeRead.{pairs_of, player_lines, players_lines, trace_lines}
 use Rattle.zk_trace.specs.Words.{ending_word, state_word}
 use Rattle.zk_trace.proofs.AnswerRead.{answered_exact}
@@ -129,9 +129,9 @@ trace-unfed s are t form =
     let obs_rows = λ (h : List (Entry ObsOp ObsReply)). unfed-rows (obs_row decls) (IsObs decls) (entry_exact decls are (obs_spelled decls are)).unfed h in
     let item_looks = λ (looks : List ItemLook). unfed-looks (item_look_row decls) (FitsItemLook decls) (λ last. (item_looks_exact decls are last).unfed) None looks in
     let signal_looks = λ (looks : List SignalLook). unfed-looks (signal_look_row decls) (FitsSignalLook decls) (λ last. (signal_looks_exact decls are last).unfed) None looks in
-    let work_lines : List (List ℕ) = section_lines (head_row (codes "work")) (work_row decls) (item_look_row decls) (t.work, t.item_looks) in
-    let clock_lines : List (List ℕ) = plain_section_lines (head_row (codes "clock")) (clock_row decls) t.clock in
-    let table_lines : List (List ℕ) = plain_section_lines (head_row (codes "table")) (table_row decls) t.table in
+    let work_lines : List (List ℕ) = section_lines (head_row work_name) (work_row decls) (item_look_row decls) (t.work, t.item_looks) in
+    let clock_lines : List (List ℕ) = plain_section_lines (head_row clock_name) (clock_row decls) t.clock in
+    let table_lines : List (List ℕ) = plain_section_lines (head_row table_name) (table_row decls) t.table in
     let sem_lines : List (List ℕ) = plain_family_lines is_sem name_of head_row (λ d. sem_row decls) decls t.sems in
     let msgq_lines : List (List ℕ) = plain_family_lines is_msgq name_of head_row (λ d. msgq_row decls) decls t.msgqs in
     let signal_lines : List (List ℕ) = section_family_lines is_signal name_of head_row (λ d. signal_row decls) (λ d. signal_look_row decls) decls (pairs_of t.signals t.signal_looks) in
@@ -142,10 +142,10 @@ trace-unfed s are t form =
     let from_signals : List (List ℕ) = signal_lines ++ from_chans in
     let from_msgqs : List (List ℕ) = msgq_lines ++ from_signals in
     let families : List (List ℕ) = sem_lines ++ from_msgqs in
-    let work = unfed-headed (codes "work") has_rows (two_lines (work_row decls) (item_look_row decls)) (t.work, t.item_looks) (lacks_is line_feed (codes "work") refl)
+    let work = unfed-headed work_name has_rows (two_lines (work_row decls) (item_look_row decls)) (t.work, t.item_looks) (lacks_is line_feed work_name refl)
     (unfed-both (map (work_row decls) t.work) (map (item_look_row decls) t.item_looks) (work_rows t.work form.work) (item_looks t.item_looks form.item_looks)) in
-    let clock = unfed-headed (codes "clock") has_row (map (clock_row decls)) t.clock (lacks_is line_feed (codes "clock") refl) (clock_rows t.clock form.clock) in
-    let table = unfed-headed (codes "table") has_row (map (table_row decls)) t.table (lacks_is line_feed (codes "table") refl) (table_rows t.table form.table) in
+    let clock = unfed-headed clock_name has_row (map (clock_row decls)) t.clock (lacks_is line_feed clock_name refl) (clock_rows t.clock form.clock) in
+    let table = unfed-headed table_name has_row (map (table_row decls)) t.table (lacks_is line_feed table_name refl) (table_rows t.table form.table) in
     let sems = unfed-family is_sem [] has_row (AllByRecursion (IsSem decls)) (map (sem_row decls)) sem_rows decls t.sems named form.sems in
     let msgqs = unfed-family is_msgq [] has_row (AllByRecursion (IsMsgq decls)) (map (msgq_row decls)) msgq_rows decls t.msgqs named form.msgqs in
     let signals = unfed-family is_signal neither has_rows (λ p. AllByRecursion (IsSignal decls) p.0 × AllFit (FitsSignalLook decls) None p.1) (two_lines (signal_row decls) (signal_look_row decls))

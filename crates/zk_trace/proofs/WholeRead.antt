@@ -39,7 +39,7 @@ use Rattle.zk_trace.specs.Form.{player_numbers}
 use Rattle.zk_trace.specs.LookRead.{FitsItemLook, FitsSignalLook}
 use Rattle.zk_trace.specs.Names.{object_name, player_name}
 use Rattle.zk_trace.specs.SectionRead.{has_player, IsPlayerRow}
-use Rattle.zk_trace.specs.Text.{head_row, player_word, player_row, first_row}
+use Rattle.zk_trace.specs.Text.{work_name, clock_name, table_name, head_row, player_word, player_row, first_row}
 use Rattle.zk_trace.specs.WholeRead.{Singles, read_singles, singles_lines, Families, read_families, families_lines, all_states, state_of, state_by, player_state_of, Players, read_player, player_lines, read_players, players_lines, first_of, all_endings, ending_of, Sections, read_sections, sections_lines, Whole, read_whole, whole_lines}
 use Rattle.zk_trace.specs.Words.{ending_word, state_word}
 use Rattle.zk_trace.proofs.Fields.{named_exact}
@@ -142,13 +142,13 @@ module _ (decls : List Decl) (are : AreNames decls) where
   -- The sections.
 
   singles : IsBlock (singles_lines decls) (FitSingles decls) (read_singles decls)
-      (IsLater head_row IsPlayers (codes "work" ∷ codes "clock" ∷ codes "table" ∷ sem_names decls)) (IsLater head_row IsPlayers (sem_names decls))
+      (IsLater head_row IsPlayers (work_name ∷ clock_name ∷ table_name ∷ sem_names decls)) (IsLater head_row IsPlayers (sem_names decls))
   singles =
       let apart = sections_apart decls are in
       both (section_before heads (work_rows decls are) (item_look_rows decls are) (λ look fits last. work_apart decls are look) (over_work decls are) (over_item_look decls are)
-      (has_player decls) (codes "work") (codes "clock" ∷ codes "table" ∷ sem_names decls) apart.0)
-      (both (plain_section_before heads (clock_rows decls are) (over_clock decls are) (has_player decls) (codes "clock") (codes "table" ∷ sem_names decls) apart.1.0)
-      (plain_section_before heads (table_rows decls are) (over_table decls are) (has_player decls) (codes "table") (sem_names decls) apart.1.1.0))
+      (has_player decls) work_name (clock_name ∷ table_name ∷ sem_names decls) apart.0)
+      (both (plain_section_before heads (clock_rows decls are) (over_clock decls are) (has_player decls) clock_name (table_name ∷ sem_names decls) apart.1.0)
+      (plain_section_before heads (table_rows decls are) (over_table decls are) (has_player decls) table_name (sem_names decls) apart.1.1.0))
 
   sems_apart : AreApart (sem_names decls)
   sems_apart = (sections_apart decls are).1.1.1
@@ -183,11 +183,11 @@ module _ (decls : List Decl) (are : AreNames decls) where
       (player_numbers decls)
 
   sections : IsBlock (sections_lines decls) (FitSections decls) (read_sections decls)
-      (IsLater head_row IsPlayers (codes "work" ∷ codes "clock" ∷ codes "table" ∷ sem_names decls)) (λ line. ⊥)
+      (IsLater head_row IsPlayers (work_name ∷ clock_name ∷ table_name ∷ sem_names decls)) (λ line. ⊥)
   sections = both singles (both families all_players)
 
   -- all that stands in the text of a trace
   pub whole : IsBlock (whole_lines decls) (FitWhole decls) (read_whole decls) (λ line. Unit {0}) (λ line. ⊥)
   whole =
       both (one_line first_exact (λ line. Unit {0}) (λ line. Unit {0}) (λ u fits. tt))
-      (both (one_line ending_exact (λ line. Unit {0}) (IsLater head_row IsPlayers (codes "work" ∷ codes "clock" ∷ codes "table" ∷ sem_names decls)) (λ e fits. tt)) sections)
+      (both (one_line ending_exact (λ line. Unit {0}) (IsLater head_row IsPlayers (work_name ∷ clock_name ∷ table_name ∷ sem_names decls)) (λ e fits. tt)) sections)

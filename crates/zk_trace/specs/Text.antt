@@ -111,12 +111,22 @@ player_sections decls player [] = []
 player_sections decls player (log ∷ logs) =
     player_section decls player log ++ player_sections decls (player + 1) logs
 
+-- the names of the services of which there is one
+abbrev pub work_name : List ℕ
+work_name = codes "work"
+
+abbrev pub clock_name : List ℕ
+clock_name = codes "clock"
+
+abbrev pub table_name : List ℕ
+table_name = codes "table"
+
 -- the sections of the services of which there is one: of the work service, the clock and the object table
 abbrev pub single_sections : Content → Trace → List ℕ
 single_sections s t =
-    looked_section work.op_words work.reply_words item_look_line s.decls (codes "work") t.work t.item_looks
-    ++ service_section clock.op_words clock.reply_words s.decls (codes "clock") t.clock
-    ++ service_section table.op_words table.reply_words s.decls (codes "table") t.table
+    looked_section work.op_words work.reply_words item_look_line s.decls work_name t.work t.item_looks
+    ++ service_section clock.op_words clock.reply_words s.decls clock_name t.clock
+    ++ service_section table.op_words table.reply_words s.decls table_name t.table
 
 -- the sections of the services: of those of which there is one, of the semaphores, the message queues, the signals, the
 -- channels and the observers

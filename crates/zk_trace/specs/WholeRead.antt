@@ -42,7 +42,7 @@ use Rattle.zk_trace.specs.LookRead.{item_look_row, says_item_look, signal_look_r
 use Rattle.zk_trace.specs.Names.{player_name}
 use Rattle.zk_trace.specs.SectionRead.{is_head, has_player}
 use Rattle.zk_trace.specs.Stood.{stood, steps_of}
-use Rattle.zk_trace.specs.Text.{head_row, player_word, player_row, first_row}
+use Rattle.zk_trace.specs.Text.{work_name, clock_name, table_name, head_row, player_word, player_row, first_row}
 use Rattle.zk_trace.specs.Words.{ending_word, state_word}
 
 -- The services of which there is one: work with its looks, the clock and the object table.
@@ -53,15 +53,15 @@ Singles =
 
 abbrev pub read_singles : List Decl → List (List ℕ) → Reading (List ℕ) Singles
 read_singles decls lines =
-    then_of (section_of (has_player decls) (is_head (codes "work")) (λ last. work_of decls) (says_item_look decls))
-    (then_of (plain_section_of (has_player decls) (is_head (codes "clock")) (λ last. clock_of decls))
-    (plain_section_of (has_player decls) (is_head (codes "table")) (λ last. table_of decls))) lines
+    then_of (section_of (has_player decls) (is_head work_name) (λ last. work_of decls) (says_item_look decls))
+    (then_of (plain_section_of (has_player decls) (is_head clock_name) (λ last. clock_of decls))
+    (plain_section_of (has_player decls) (is_head table_name) (λ last. table_of decls))) lines
 
 abbrev pub singles_lines : List Decl → Singles → List (List ℕ)
 singles_lines decls singles =
-    then_lines (section_lines (head_row (codes "work")) (work_row decls) (item_look_row decls))
-    (then_lines (plain_section_lines (head_row (codes "clock")) (clock_row decls))
-    (plain_section_lines (head_row (codes "table")) (table_row decls))) singles
+    then_lines (section_lines (head_row work_name) (work_row decls) (item_look_row decls))
+    (then_lines (plain_section_lines (head_row clock_name) (clock_row decls))
+    (plain_section_lines (head_row table_name) (table_row decls))) singles
 
 -- Those of which there are many: semaphores, message queues, signals with their looks, channels and observers.
 

@@ -55,6 +55,15 @@ fn put_services(out: &mut Vec<u8>, scenario: &Scenario, trace: &Trace) -> Result
     put_objects(out, scenario, trace.observers.items())
 }
 
+/// The name of the work service.
+pub const WORK: &[u8] = b"work";
+
+/// The name of the clock.
+pub const CLOCK: &[u8] = b"clock";
+
+/// The name of the object table.
+pub const TABLE: &[u8] = b"table";
+
 /// The sections of the services of which there is one.
 fn put_single_services(
     out: &mut Vec<u8>,
@@ -67,12 +76,12 @@ fn put_single_services(
     put_looked(
         out,
         scenario,
-        b"work",
+        WORK,
         trace.work.items(),
         trace.item_looks.items(),
     )?;
-    put_service(out, scenario, b"clock", trace.clock.items())?;
-    put_service(out, scenario, b"table", trace.table.items())
+    put_service(out, scenario, CLOCK, trace.clock.items())?;
+    put_service(out, scenario, TABLE, trace.table.items())
 }
 
 /// The scenario's text and then the trace part.
