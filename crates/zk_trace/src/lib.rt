@@ -27,6 +27,7 @@ mod numerals;
 mod obs;
 mod obs_read;
 mod parts;
+mod players_read;
 mod print;
 mod row_words;
 mod rows_read;
