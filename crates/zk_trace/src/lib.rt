@@ -43,6 +43,7 @@ mod stood;
 mod table;
 mod table_read;
 mod trace;
+mod whole_read;
 mod words;
 mod work;
 mod work_read;
