@@ -11,5 +11,5 @@ singles_of s = ((s.work, s.item_looks), (s.clock, s.table))
 abbrev pub families_of : families_read.Families → Families
 families_of f = (f.sems, (f.msgqs, (f.signals, (f.chans, f.observers))))
 
-abbrev pub whole_of : whole_read.Whole → Whole
-whole_of w = (tt, (w.ending, (singles_of w.singles, (families_of w.families, w.players))))
+abbrev pub parts_of : whole_read.Whole → Whole
+parts_of w = (tt, (w.ending, (singles_of w.singles, (families_of w.families, w.players))))

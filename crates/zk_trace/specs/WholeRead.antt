@@ -71,11 +71,15 @@ Families =
     × (List (List (Entry SignalOp SignalReply) × List SignalLook)
     × (List (List (Entry ChanOp ChanReply)) × List (List (Entry ObsOp ObsReply)))))
 
+abbrev pub read_signals : List Decl → List (List ℕ) → Reading (List ℕ) (List (List (Entry SignalOp SignalReply) × List SignalLook))
+read_signals decls lines =
+    section_family_of is_signal name_of (has_player decls) is_head (λ d last. signal_of decls) (λ d. says_signal_look decls) decls lines
+
 abbrev pub read_families : List Decl → List (List ℕ) → Reading (List ℕ) Families
 read_families decls lines =
     then_of (plain_family_of is_sem name_of (has_player decls) is_head (λ d last. sem_of decls) decls)
     (then_of (plain_family_of is_msgq name_of (has_player decls) is_head (λ d last. msgq_of decls) decls)
-    (then_of (section_family_of is_signal name_of (has_player decls) is_head (λ d last. signal_of decls) (λ d. says_signal_look decls) decls)
+    (then_of (read_signals decls)
     (then_of (plain_family_of is_chan name_of (has_player decls) is_head (λ d last. chan_of decls) decls)
     (plain_family_of is_observer name_of (has_player decls) is_head (λ d last. obs_of decls) decls)))) lines
 

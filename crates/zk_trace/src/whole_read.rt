@@ -1,7 +1,7 @@
 ghost use Rattle.std.specs.Prelude.{◌≡◌, IfOk};
-ghost use Rattle.zk_blocks.specs.Blocks.{Gives};
-ghost use Rattle.zk_trace.specs.WholeParts.{singles_of};
-ghost use Rattle.zk_trace.specs.WholeRead.{read_singles};
+ghost use Rattle.zk_blocks.specs.Blocks.{Gives, line_of};
+ghost use Rattle.zk_trace.specs.WholeParts.{singles_of, families_of, parts_of};
+ghost use Rattle.zk_trace.specs.WholeRead.{first_of, ending_of, read_singles, read_signals, read_families, read_whole};
 
 use crate::entry_read::Asked;
 use crate::feed::Feed;
@@ -93,5 +93,120 @@ fn read_singles(
         item_looks,
         clock,
         table,
+    }))
+}
+
+fn read_families(
+    alloc: Global,
+    scenario: &Scenario,
+    feed: &mut Feed<'_>,
+) -> Result<Option<Families>, NoMemory>
+    ensures { IfOk result (λ read. Gives families_of read feed.new (read_families scenario.now.decls feed.old)) }
+{
+    let Some(sems) = read_family::<Entry<SemOp, SemReply>>(alloc, scenario, Need::Sem, feed)?
+    else {
+        return Ok(None);
+    };
+    let Some(msgqs) = read_family::<Entry<MsgqOp, MsgqReply>>(alloc, scenario, Need::Msgq, feed)?
+    else {
+        return Ok(None);
+    };
+    let Some(signals) = read_signals(alloc, scenario, feed)? else {
+        return Ok(None);
+    };
+    let Some(chans) = read_family::<Entry<ChanOp, ChanReply>>(alloc, scenario, Need::Chan, feed)?
+    else {
+        return Ok(None);
+    };
+    let Some(observers) = read_family::<Entry<ObsOp, ObsReply>>(alloc, scenario, Need::Obs, feed)?
+    else {
+        return Ok(None);
+    };
+    Ok(Some(Families {
+        sems,
+        msgqs,
+        signals,
+        chans,
+        observers,
+    }))
+}
+
+fn read_signals(
+    alloc: Global,
+    scenario: &Scenario,
+    feed: &mut Feed<'_>,
+) -> Result<Option<Listed<SignalLines>>, NoMemory>
+    ensures { IfOk result (λ read. Gives (λ x. x) read feed.new (read_signals scenario.now.decls feed.old)) }
+{
+    read_looked_family::<Entry<SignalOp, SignalReply>, SignalLook>(
+        alloc,
+        scenario,
+        Need::Signal,
+        feed,
+    )
+}
+
+/// The first line.
+fn read_first(feed: &mut Feed<'_>) -> Option<()>
+    ensures { Gives (λ u. u) result feed.new (line_of first_of feed.old) }
+{
+    let (line, rest) = feed.next()?;
+    if line != FIRST {
+        return None;
+    }
+    feed.go_on(rest);
+    Some(())
+}
+
+/// How runs can end.
+const ENDINGS: [Ending; 3] = [Ending::Ended, Ending::Stuck, Ending::Spent];
+
+fn ending_of(row: &[u8]) -> Option<Ending>
+    ensures { result ≡ ending_of row.now }
+{
+    ENDINGS
+        .iter()
+        .copied()
+        .find(|ending| row == ending_word(*ending))
+}
+
+/// The line of the ending.
+fn read_ending(feed: &mut Feed<'_>) -> Option<Ending>
+    ensures { Gives (λ ending. ending) result feed.new (line_of ending_of feed.old) }
+{
+    let (line, rest) = feed.next()?;
+    let ending = ending_of(line)?;
+    feed.go_on(rest);
+    Some(ending)
+}
+
+/// All that stands in the text of a trace; nothing where the lines don't go on so.
+pub fn read_whole(
+    alloc: Global,
+    scenario: &Scenario,
+    feed: &mut Feed<'_>,
+) -> Result<Option<Whole>, NoMemory>
+    ensures { IfOk result (λ read. Gives parts_of read feed.new (read_whole scenario.now.decls feed.old)) }
+{
+    let Some(()) = read_first(feed) else {
+        return Ok(None);
+    };
+    let Some(ending) = read_ending(feed) else {
+        return Ok(None);
+    };
+    let Some(singles) = read_singles(alloc, scenario, feed)? else {
+        return Ok(None);
+    };
+    let Some(families) = read_families(alloc, scenario, feed)? else {
+        return Ok(None);
+    };
+    let Some(players) = read_players(alloc, scenario, feed)? else {
+        return Ok(None);
+    };
+    Ok(Some(Whole {
+        ending,
+        singles,
+        families,
+        players,
     }))
 }
