@@ -79,8 +79,8 @@ module _ {E K : Type 0} where
     pair_back true both fits = fits
     pair_back false both fits = (ap (λ p. p.0) fits, ap (λ p. p.1) fits)
 
-    -- two lists for each fit where their pairs do
-    pairs_there : (ds : List D) (all : List (List E)) (others : List (List K)) → EachFits (λ d. FitsGiven (of_kind d) [] F) ds all → EachFits (λ d. FitsGiven (of_kind d) [] G) ds others →
+    -- where two lists for each fit, their pairs do
+    pub pairs_there : (ds : List D) (all : List (List E)) (others : List (List K)) → EachFits (λ d. FitsGiven (of_kind d) [] F) ds all → EachFits (λ d. FitsGiven (of_kind d) [] G) ds others →
         EachFits FitsPair ds (pairs_of all others)
     pairs_there [] [] others first second = tt
     pairs_there [] (es ∷ all) others first second = absurd first

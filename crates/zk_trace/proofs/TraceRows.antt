@@ -22,6 +22,7 @@ use Rattle.zk_model_wait.specs.declared.signal.SignalOp.{SignalOp}
 use Rattle.zk_model_wait.specs.declared.signal.SignalReply.{SignalReply}
 use Rattle.zk_model_work.specs.declared.ops.WorkOp.{WorkOp}
 use Rattle.zk_model_work.specs.declared.ops.WorkReply.{WorkReply}
+use Rattle.zk_words.specs.Bytes.{space}
 use Rattle.zk_worker.specs.declared.answers.Answered.{Answered}
 use Rattle.zk_trace.specs.declared.looks.ItemLook.{ItemLook}
 use Rattle.zk_trace.specs.declared.looks.SignalLook.{SignalLook}
@@ -30,7 +31,8 @@ use Rattle.zk_trace.specs.EntryKinds.{work_row, work_of, IsWork, clock_row, cloc
 use Rattle.zk_trace.specs.EntryRead.{entry_row, entry_of, FitsEntry}
 use Rattle.zk_trace.specs.Exact.{IsExactRow, IsSpelled}
 use Rattle.zk_trace.specs.LookRead.{item_look_row, says_item_look, FitsItemLook, signal_look_row, says_signal_look, FitsSignalLook}
-use Rattle.zk_trace.specs.SectionRead.{head_row, IsPlayerRow}
+use Rattle.zk_trace.specs.SectionRead.{IsPlayerRow}
+use Rattle.zk_trace.specs.Text.{head_row, player_word}
 use Rattle.zk_trace.proofs.AnswerRead.{answered_exact, answered_apart}
 use Rattle.zk_trace.proofs.ChanRead.{chan_spelled}
 use Rattle.zk_trace.proofs.ClockRead.{clock_spelled}
@@ -54,7 +56,7 @@ row_of exact = record { again = λ last. (exact last).again; spelled = λ last. 
 
 -- what says nothing of the heads of services and of players is over where they stand
 over_heads : {X : Type 0} (says : Option X → List ℕ → Option X) → ((name : List ℕ) (last : Option X) → says last (head_row name) ≡ None) →
-    ((rest : List ℕ) (last : Option X) → says last (codes "player " ++ rest) ≡ None) → (line : List ℕ) → EndsRows head_row IsPlayers line → (last : Option X) → says last line ≡ None
+    ((rest : List ℕ) (last : Option X) → says last (player_word ++ space ∷ rest) ≡ None) → (line : List ℕ) → EndsRows head_row IsPlayers line → (last : Option X) → says last line ≡ None
 over_heads {X = X} says no_service no_player = rows_end says no_service no_players where
   no_players : (line : List ℕ) → IsPlayers line → (last : Option X) → says last line ≡ None
   no_players line (inl (rest, is)) last = ap (says last) is ∙ no_player rest last
@@ -69,7 +71,7 @@ module _ (decls : List Decl) (are : AreNames decls) where
     over_entry =
         over_heads (λ last. entry_of decls op_of reply_of)
         (λ name last. no_entry decls are service (head_row name) refl)
-        (λ rest last. no_entry decls are service (codes "player " ++ rest) refl)
+        (λ rest last. no_entry decls are service (player_word ++ space ∷ rest) refl)
 
   pub work_rows : IsRow (work_row decls) (λ last. IsWork decls) (λ last. work_of decls)
   work_rows = row_of (λ last. entry_exact decls are (work_spelled decls are))
@@ -127,7 +129,7 @@ module _ (decls : List Decl) (are : AreNames decls) where
   pub over_item_look : (line : List ℕ) → EndsRows head_row IsPlayers line → (last : Option ItemLook) → says_item_look decls last line ≡ None
   over_item_look =
       over_heads (says_item_look decls)
-      (λ name last. item_look_apart decls are last (head_row name) refl) (λ rest last. item_look_apart decls are last (codes "player " ++ rest) refl)
+      (λ name last. item_look_apart decls are last (head_row name) refl) (λ rest last. item_look_apart decls are last (player_word ++ space ∷ rest) refl)
 
   pub signal_look_rows : IsRow (signal_look_row decls) (FitsSignalLook decls) (says_signal_look decls)
   signal_look_rows = row_of (signal_looks_exact decls are)
@@ -135,7 +137,7 @@ module _ (decls : List Decl) (are : AreNames decls) where
   pub over_signal_look : (line : List ℕ) → EndsRows head_row IsPlayers line → (last : Option SignalLook) → says_signal_look decls last line ≡ None
   over_signal_look =
       over_heads (says_signal_look decls)
-      (λ name last. signal_look_apart decls are last (head_row name) refl) (λ rest last. signal_look_apart decls are last (codes "player " ++ rest) refl)
+      (λ name last. signal_look_apart decls are last (head_row name) refl) (λ rest last. signal_look_apart decls are last (player_word ++ space ∷ rest) refl)
 
   -- no look is an entry
   pub work_apart : (look : ItemLook) → work_of decls (item_look_row decls look) ≡ None
@@ -150,5 +152,5 @@ module _ (decls : List Decl) (are : AreNames decls) where
   answer_rows = row_of (λ last. answered_exact decls are)
 
   pub over_answer : (line : List ℕ) → IsPlayers line → (last : Option Answered) → answered_of decls line ≡ None
-  over_answer line (inl (rest, is)) last = ap (answered_of decls) is ∙ answered_apart decls are (codes "player " ++ rest) refl
+  over_answer line (inl (rest, is)) last = ap (answered_of decls) is ∙ answered_apart decls are (player_word ++ space ∷ rest) refl
   over_answer line (inr none) last = absurd none

@@ -42,10 +42,9 @@ use Rattle.zk_trace.specs.Form.{IsLog, IsInForm}
 use Rattle.zk_trace.specs.LookRead.{item_look_row, signal_look_row, FitsSignalLook}
 use Rattle.zk_trace.specs.Looks.{item_look_line, signal_look_line}
 use Rattle.zk_trace.specs.Names.{player_name}
-use Rattle.zk_trace.specs.SectionRead.{head_row}
 use Rattle.zk_trace.specs.Stood.{stood}
-use Rattle.zk_trace.specs.Text.{line, trace_text, section_head, entry_line, service_section, object_section, object_sections, looks_at, looked_lines, looked_section, looked_object, looked_sections, answer_line, player_head, player_section, player_sections}
-use Rattle.zk_trace.specs.WholeRead.{first_row, pairs_of, player_lines, players_lines, trace_lines}
+use Rattle.zk_trace.specs.Text.{work_name, clock_name, table_name, head_row, first_row, line, trace_text, section_head, entry_line, service_section, object_section, object_sections, looks_at, looked_lines, looked_section, looked_object, looked_sections, answer_line, player_head, player_section, player_sections}
+use Rattle.zk_trace.specs.WholeRead.{pairs_of, player_lines, players_lines, trace_lines}
 use Rattle.zk_trace.specs.Words.{ending_word}
 use Rattle.zk_trace.specs.Work as work
 use Rattle.zk_trace.specs.Clock as clock
@@ -229,11 +228,11 @@ spread first ending work clock table sems msgqs signals chans observers all = si
 pub text-lines : (s : Content) (t : Trace) → IsInForm s t → trace_text s t ≡ fed_lines line_feed (trace_lines s.decls t)
 text-lines s t form =
     let decls = s.decls in
-    let first : List ℕ = line (codes "zt" ∷ codes "1" ∷ []) in
+    let first : List ℕ = first_row ++ codes "\n" in
     let ending : List ℕ = line (ending_word t.ending ∷ []) in
-    let work_lines : List (List ℕ) = section_lines (head_row (codes "work")) (work_row decls) (item_look_row decls) (t.work, t.item_looks) in
-    let clock_lines : List (List ℕ) = plain_section_lines (head_row (codes "clock")) (clock_row decls) t.clock in
-    let table_lines : List (List ℕ) = plain_section_lines (head_row (codes "table")) (table_row decls) t.table in
+    let work_lines : List (List ℕ) = section_lines (head_row work_name) (work_row decls) (item_look_row decls) (t.work, t.item_looks) in
+    let clock_lines : List (List ℕ) = plain_section_lines (head_row clock_name) (clock_row decls) t.clock in
+    let table_lines : List (List ℕ) = plain_section_lines (head_row table_name) (table_row decls) t.table in
     let sem_lines : List (List ℕ) = plain_family_lines is_sem name_of head_row (λ d. sem_row decls) decls t.sems in
     let msgq_lines : List (List ℕ) = plain_family_lines is_msgq name_of head_row (λ d. msgq_row decls) decls t.msgqs in
     let signal_lines : List (List ℕ) = section_family_lines is_signal name_of head_row (λ d. signal_row decls) (λ d. signal_look_row decls) decls (pairs_of t.signals t.signal_looks) in
@@ -242,9 +241,9 @@ text-lines s t form =
     let all_lines : List (List ℕ) = players_lines decls (map (λ log. (log.state, log.answers)) t.logs) in
     let here : (k : ℕ) → slice_get decls (0 + k) ≡ slice_get decls k = λ k. ap (slice_get decls) (omega arith) in
     let seen : (k : ℕ) → slice_get t.signal_looks (0 + k) ≡ slice_get t.signal_looks k = λ k. ap (slice_get t.signal_looks) (omega arith) in
-    let work_is = looked-text work.op_words work.reply_words item_look_line decls (work_worded decls) (item_look_row decls) (item_look_line-fed decls) (codes "work") t.work t.item_looks in
-    let clock_is = service-text clock.op_words clock.reply_words decls (clock_worded decls) (codes "clock") t.clock in
-    let table_is = service-text table.op_words table.reply_words decls (table_worded decls) (codes "table") t.table in
+    let work_is = looked-text work.op_words work.reply_words item_look_line decls (work_worded decls) (item_look_row decls) (item_look_line-fed decls) work_name t.work t.item_looks in
+    let clock_is = service-text clock.op_words clock.reply_words decls (clock_worded decls) clock_name t.clock in
+    let table_is = service-text table.op_words table.reply_words decls (table_worded decls) table_name t.table in
     let sems_are = objects-text sem.op_words sem.reply_words decls (sem_worded decls) is_sem (AllByRecursion (IsSem decls)) 0 decls t.sems here form.sems in
     let msgqs_are = objects-text msgq.op_words msgq.reply_words decls (msgq_worded decls) is_msgq (AllByRecursion (IsMsgq decls)) 0 decls t.msgqs here form.msgqs in
     let signals_are = looked_objects-text signal.op_words signal.reply_words signal_look_line decls (signal_worded decls) (signal_look_row decls) (signal_look_line-fed decls)

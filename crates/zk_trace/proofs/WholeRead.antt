@@ -33,13 +33,14 @@ use Rattle.zk_trace.specs.declared.trace.Ending.{Ending}
 use Rattle.zk_trace.specs.declared.trace.Ending.TheVariants.{Ended, Stuck, Spent}
 use Rattle.zk_trace.specs.AnswerRead.{IsAnswered}
 use Rattle.zk_trace.specs.EntryKinds.{IsWork, IsClock, IsTable, IsSem, IsMsgq, IsSignal, IsChan, IsObs}
-use Rattle.zk_trace.specs.Exact.{Lacks, IsPlain}
+use Rattle.zk_trace.specs.Exact.{is_plain, Lacks, IsPlain}
 use Rattle.zk_trace.specs.Fields.{three_words}
 use Rattle.zk_trace.specs.Form.{player_numbers}
 use Rattle.zk_trace.specs.LookRead.{FitsItemLook, FitsSignalLook}
 use Rattle.zk_trace.specs.Names.{object_name, player_name}
-use Rattle.zk_trace.specs.SectionRead.{head_row, has_player, IsPlayerRow}
-use Rattle.zk_trace.specs.WholeRead.{Singles, read_singles, singles_lines, Families, read_families, families_lines, player_row, all_states, state_of, state_by, player_state_of, Players, read_player, player_lines, read_players, players_lines, first_row, first_of, all_endings, ending_of, Sections, read_sections, sections_lines, Whole, read_whole, whole_lines}
+use Rattle.zk_trace.specs.SectionRead.{has_player, IsPlayerRow}
+use Rattle.zk_trace.specs.Text.{work_name, clock_name, table_name, head_row, player_word, player_row, first_row}
+use Rattle.zk_trace.specs.WholeRead.{Singles, read_singles, singles_lines, Families, read_families, families_lines, all_states, state_of, state_by, player_state_of, Players, read_player, player_lines, read_players, players_lines, first_of, all_endings, ending_of, Sections, read_sections, sections_lines, Whole, read_whole, whole_lines}
 use Rattle.zk_trace.specs.Words.{ending_word, state_word}
 use Rattle.zk_trace.proofs.Fields.{named_exact}
 use Rattle.zk_trace.proofs.PlainWords.{plain-name, lacks_plain, pieces-join}
@@ -54,7 +55,7 @@ first_exact = record {
   spelled = λ row u said. ((bytes_eq-Decides row first_row).0 (cond_some (bytes_eq row first_row) tt u said).0, tt);
 }
 
-endings_are : (e : Ending) → (ending_of (ending_word e) ≡ Some e) × IsPlain (ending_word e)
+pub endings_are : (e : Ending) → (ending_of (ending_word e) ≡ Some e) × IsPlain (ending_word e)
 endings_are Ended = (refl, refl)
 endings_are e = (refl, refl)
 
@@ -63,7 +64,7 @@ ending_exact = let exact = named_exact ending_word all_endings endings_are in re
 
 -- The heads of players.
 
-states_are : (s : PlayerState) → (state_of (state_word s) ≡ Some s) × IsPlain (state_word s)
+pub states_are : (s : PlayerState) → (state_of (state_word s) ≡ Some s) × IsPlain (state_word s)
 states_are states.Spent = (refl, refl)
 states_are s = (refl, refl)
 
@@ -73,7 +74,7 @@ state_exact name lacks = record { again = again; spelled = spelled } where
   again : (s : PlayerState) → Unit {0} → player_state_of name (player_row name s) ≡ Some s
   again s fits =
       ap (λ ws. option_and_then (state_by name) (three_words ws))
-      (pieces-join space (codes "player") (name ∷ state_word s ∷ []) ((refl, (refl, (refl, (refl, (refl, (refl, tt)))))), (lacks, (lacks_plain space refl (state_word s) (states_are s).1, tt))))
+      (pieces-join space (player_word) (name ∷ state_word s ∷ []) ((refl, (refl, (refl, (refl, (refl, (refl, tt)))))), (lacks, (lacks_plain space refl (state_word s) (states_are s).1, tt))))
       ∙ cond-true (bytes_eq name name) (state_of (state_word s)) None ((bytes_eq-Decides name name).1 refl)
       ∙ (states_are s).0
 
@@ -87,14 +88,14 @@ state_exact name lacks = record { again = again; spelled = spelled } where
   spelled : (row : List ℕ) (s : PlayerState) → player_state_of name row ≡ Some s → (row ≡ player_row name s) × Unit {0}
   spelled row s said = option_and_then_some (state_by name) (three_words (words_of row)) s said
       (λ w is more.
-      let kept = cond_chosen (bytes_eq w.0 (codes "player") && bytes_eq w.1 name) (state_of w.2) s more in
-      let parts = and_parts (bytes_eq w.0 (codes "player")) (bytes_eq w.1 name) kept.0 in
+      let kept = cond_chosen (bytes_eq w.0 (player_word) && bytes_eq w.1 name) (state_of w.2) s more in
+      let parts = and_parts (bytes_eq w.0 (player_word)) (bytes_eq w.1 name) kept.0 in
       let state = (named_exact state_word all_states states_are).spelled w.2 s kept.1 in
-      let word : w.0 ≡ codes "player" = (bytes_eq-Decides w.0 (codes "player")).0 parts.0 in
+      let word : w.0 ≡ player_word = (bytes_eq-Decides w.0 (player_word)).0 parts.0 in
       let named : w.1 ≡ name = (bytes_eq-Decides w.1 name).0 parts.1 in
       (sym (join_with_byte-slice_split space row) ∙ ap line_text (three (words_of row) w is)
-      ∙ ap (λ x. line_text (x ∷ w.1 ∷ w.2 ∷ [])) word ∙ ap (λ x. line_text (codes "player" ∷ x ∷ w.2 ∷ [])) named
-      ∙ ap (λ x. line_text (codes "player" ∷ name ∷ x ∷ [])) state.0, tt))
+      ∙ ap (λ x. line_text (x ∷ w.1 ∷ w.2 ∷ [])) word ∙ ap (λ x. line_text (player_word ∷ x ∷ w.2 ∷ [])) named
+      ∙ ap (λ x. line_text (player_word ∷ name ∷ x ∷ [])) state.0, tt))
 
 -- What fits.
 
@@ -127,27 +128,27 @@ module _ (decls : List Decl) where
   FitWhole whole = FitsThen (λ (u : Unit {0}). Unit {0}) (FitsThen (λ (e : Ending). Unit {0}) FitSections) whole
 
 module _ (decls : List Decl) (are : AreNames decls) where
-  -- no name of a player has a space
-  name-lacks : (player : ℕ) → Lacks space (player_name decls player)
-  name-lacks player = by_object (slice_get (players decls) player) where
-    by_decl : (object : ℕ) (o : Option Decl) → slice_get decls object ≡ o → Lacks space (option_map_or name_of o [])
+  -- a byte that no word has isn't in the name of a player
+  pub name-lacks : (c : ℕ) → is_plain c ≡ false → (player : ℕ) → Lacks c (player_name decls player)
+  name-lacks c fails player = by_object (slice_get (players decls) player) where
+    by_decl : (object : ℕ) (o : Option Decl) → slice_get decls object ≡ o → Lacks c (option_map_or name_of o [])
     by_decl object None there = tt
-    by_decl object (Some d) there = lacks_plain space refl (name_of d) (plain-name (name_of d) (are.formed object d there))
+    by_decl object (Some d) there = lacks_plain c fails (name_of d) (plain-name (name_of d) (are.formed object d there))
 
-    by_object : (o : Option ℕ) → Lacks space (object_name decls o)
+    by_object : (o : Option ℕ) → Lacks c (object_name decls o)
     by_object None = tt
     by_object (Some object) = by_decl object (slice_get decls object) refl
 
   -- The sections.
 
   singles : IsBlock (singles_lines decls) (FitSingles decls) (read_singles decls)
-      (IsLater head_row IsPlayers (codes "work" ∷ codes "clock" ∷ codes "table" ∷ sem_names decls)) (IsLater head_row IsPlayers (sem_names decls))
+      (IsLater head_row IsPlayers (work_name ∷ clock_name ∷ table_name ∷ sem_names decls)) (IsLater head_row IsPlayers (sem_names decls))
   singles =
       let apart = sections_apart decls are in
       both (section_before heads (work_rows decls are) (item_look_rows decls are) (λ look fits last. work_apart decls are look) (over_work decls are) (over_item_look decls are)
-      (has_player decls) (codes "work") (codes "clock" ∷ codes "table" ∷ sem_names decls) apart.0)
-      (both (plain_section_before heads (clock_rows decls are) (over_clock decls are) (has_player decls) (codes "clock") (codes "table" ∷ sem_names decls) apart.1.0)
-      (plain_section_before heads (table_rows decls are) (over_table decls are) (has_player decls) (codes "table") (sem_names decls) apart.1.1.0))
+      (has_player decls) work_name (clock_name ∷ table_name ∷ sem_names decls) apart.0)
+      (both (plain_section_before heads (clock_rows decls are) (over_clock decls are) (has_player decls) clock_name (table_name ∷ sem_names decls) apart.1.0)
+      (plain_section_before heads (table_rows decls are) (over_table decls are) (has_player decls) table_name (sem_names decls) apart.1.1.0))
 
   sems_apart : AreApart (sem_names decls)
   sems_apart = (sections_apart decls are).1.1.1
@@ -178,15 +179,15 @@ module _ (decls : List Decl) (are : AreNames decls) where
       each_alike IsPlayerRow (λ line. ⊥)
       (λ player.
       let name = player_name decls player in
-      titled (answer_rows decls are) (over_answer decls are) (state_exact name (name-lacks player)) IsPlayerRow (λ s fits. (name ++ space ∷ state_word s, refl)))
+      titled (answer_rows decls are) (over_answer decls are) (state_exact name (name-lacks space refl player)) IsPlayerRow (λ s fits. (name ++ space ∷ state_word s, refl)))
       (player_numbers decls)
 
   sections : IsBlock (sections_lines decls) (FitSections decls) (read_sections decls)
-      (IsLater head_row IsPlayers (codes "work" ∷ codes "clock" ∷ codes "table" ∷ sem_names decls)) (λ line. ⊥)
+      (IsLater head_row IsPlayers (work_name ∷ clock_name ∷ table_name ∷ sem_names decls)) (λ line. ⊥)
   sections = both singles (both families all_players)
 
   -- all that stands in the text of a trace
   pub whole : IsBlock (whole_lines decls) (FitWhole decls) (read_whole decls) (λ line. Unit {0}) (λ line. ⊥)
   whole =
       both (one_line first_exact (λ line. Unit {0}) (λ line. Unit {0}) (λ u fits. tt))
-      (both (one_line ending_exact (λ line. Unit {0}) (IsLater head_row IsPlayers (codes "work" ∷ codes "clock" ∷ codes "table" ∷ sem_names decls)) (λ e fits. tt)) sections)
+      (both (one_line ending_exact (λ line. Unit {0}) (IsLater head_row IsPlayers (work_name ∷ clock_name ∷ table_name ∷ sem_names decls)) (λ e fits. tt)) sections)

@@ -5,6 +5,7 @@ pub mod Stood
 pub mod EntryKinds
 pub mod Form
 pub mod WholeRead
+pub mod WholeParts
 pub mod Names
 pub mod Words
 pub mod Parts

@@ -1,13 +1,10 @@
-use Rattle.std.specs.Prelude.{◌≡◌, ℕ, Bool, List, [], ◌∷◌, ◌++◌, map, codes, Vec, vec_items}
+use Rattle.std.specs.Prelude.{◌≡◌, ℕ, Bool, List, ◌∷◌, ◌++◌}
 use Rattle.std.specs.Str.{bytes_eq}
 use Rattle.zk_blocks.specs.Sections.{has_row}
-use Rattle.zk_words.specs.Text.{line_text}
+use Rattle.zk_words.specs.Bytes.{space}
 use Rattle.zk_line.specs.declared.types.Decl.{Decl}
 use Rattle.zk_scenario.specs.Players.{players}
-
--- the head of a section without its line feed
-abbrev pub head_row : List ℕ → List ℕ
-head_row name = line_text (codes "service" ∷ name ∷ [])
+use Rattle.zk_trace.specs.Text.{head_row, player_word}
 
 -- whether a line is the head of this section
 abbrev pub is_head : List ℕ → List ℕ → Bool
@@ -19,4 +16,4 @@ has_player decls = has_row (players decls)
 
 -- a line that begins the section of a player
 abbrev pub IsPlayerRow : List ℕ → Type 0
-IsPlayerRow line = (rest : List ℕ) × (line ≡ codes "player " ++ rest)
+IsPlayerRow line = (rest : List ℕ) × (line ≡ player_word ++ space ∷ rest)

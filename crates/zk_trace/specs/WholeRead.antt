@@ -24,7 +24,6 @@ use Rattle.zk_blocks.specs.Sections.{plain_section_of, plain_section_lines, sect
 use Rattle.zk_line.specs.Objects.{is_sem, is_msgq, is_signal, is_chan, is_observer, name_of}
 use Rattle.zk_line.specs.declared.types.Decl.{Decl}
 use Rattle.zk_words.specs.Pieces.{words_of}
-use Rattle.zk_words.specs.Text.{line_text}
 use Rattle.zk_worker.specs.declared.answers.Answered.{Answered}
 use Rattle.zk_worker.specs.declared.log.Log.{Log}
 use Rattle.zk_worker.specs.declared.log.PlayerState.{PlayerState}
@@ -41,8 +40,9 @@ use Rattle.zk_trace.specs.Fields.{named, three_words}
 use Rattle.zk_trace.specs.Form.{player_numbers}
 use Rattle.zk_trace.specs.LookRead.{item_look_row, says_item_look, signal_look_row, says_signal_look}
 use Rattle.zk_trace.specs.Names.{player_name}
-use Rattle.zk_trace.specs.SectionRead.{head_row, is_head, has_player}
+use Rattle.zk_trace.specs.SectionRead.{is_head, has_player}
 use Rattle.zk_trace.specs.Stood.{stood, steps_of}
+use Rattle.zk_trace.specs.Text.{work_name, clock_name, table_name, head_row, player_word, player_row, first_row}
 use Rattle.zk_trace.specs.Words.{ending_word, state_word}
 
 -- The services of which there is one: work with its looks, the clock and the object table.
@@ -53,15 +53,15 @@ Singles =
 
 abbrev pub read_singles : List Decl → List (List ℕ) → Reading (List ℕ) Singles
 read_singles decls lines =
-    then_of (section_of (has_player decls) (is_head (codes "work")) (λ last. work_of decls) (says_item_look decls))
-    (then_of (plain_section_of (has_player decls) (is_head (codes "clock")) (λ last. clock_of decls))
-    (plain_section_of (has_player decls) (is_head (codes "table")) (λ last. table_of decls))) lines
+    then_of (section_of (has_player decls) (is_head work_name) (λ last. work_of decls) (says_item_look decls))
+    (then_of (plain_section_of (has_player decls) (is_head clock_name) (λ last. clock_of decls))
+    (plain_section_of (has_player decls) (is_head table_name) (λ last. table_of decls))) lines
 
 abbrev pub singles_lines : List Decl → Singles → List (List ℕ)
 singles_lines decls singles =
-    then_lines (section_lines (head_row (codes "work")) (work_row decls) (item_look_row decls))
-    (then_lines (plain_section_lines (head_row (codes "clock")) (clock_row decls))
-    (plain_section_lines (head_row (codes "table")) (table_row decls))) singles
+    then_lines (section_lines (head_row work_name) (work_row decls) (item_look_row decls))
+    (then_lines (plain_section_lines (head_row clock_name) (clock_row decls))
+    (plain_section_lines (head_row table_name) (table_row decls))) singles
 
 -- Those of which there are many: semaphores, message queues, signals with their looks, channels and observers.
 
@@ -71,11 +71,15 @@ Families =
     × (List (List (Entry SignalOp SignalReply) × List SignalLook)
     × (List (List (Entry ChanOp ChanReply)) × List (List (Entry ObsOp ObsReply)))))
 
+abbrev pub read_signals : List Decl → List (List ℕ) → Reading (List ℕ) (List (List (Entry SignalOp SignalReply) × List SignalLook))
+read_signals decls lines =
+    section_family_of is_signal name_of (has_player decls) is_head (λ d last. signal_of decls) (λ d. says_signal_look decls) decls lines
+
 abbrev pub read_families : List Decl → List (List ℕ) → Reading (List ℕ) Families
 read_families decls lines =
     then_of (plain_family_of is_sem name_of (has_player decls) is_head (λ d last. sem_of decls) decls)
     (then_of (plain_family_of is_msgq name_of (has_player decls) is_head (λ d last. msgq_of decls) decls)
-    (then_of (section_family_of is_signal name_of (has_player decls) is_head (λ d last. signal_of decls) (λ d. says_signal_look decls) decls)
+    (then_of (read_signals decls)
     (then_of (plain_family_of is_chan name_of (has_player decls) is_head (λ d last. chan_of decls) decls)
     (plain_family_of is_observer name_of (has_player decls) is_head (λ d last. obs_of decls) decls)))) lines
 
@@ -89,10 +93,7 @@ families_lines decls families =
 
 -- The players: of each how it stands, and its answers.
 
--- how a player of this name stands, as a head
-abbrev pub player_row : List ℕ → PlayerState → List ℕ
-player_row name state = line_text (codes "player" ∷ name ∷ state_word state ∷ [])
-
+-- how a player of a name stands, by its head
 abbrev pub all_states : List PlayerState
 all_states = states.Spent ∷ states.Oops ∷ states.Done ∷ states.Standing ∷ []
 
@@ -100,7 +101,7 @@ abbrev pub state_of : List ℕ → Option PlayerState
 state_of word = named state_word all_states word
 
 abbrev pub state_by : List ℕ → List ℕ × List ℕ × List ℕ → Option PlayerState
-state_by name w = if bytes_eq w.0 (codes "player") && bytes_eq w.1 name then state_of w.2 else None
+state_by name w = if bytes_eq w.0 player_word && bytes_eq w.1 name then state_of w.2 else None
 
 abbrev pub player_state_of : List ℕ → List ℕ → Option PlayerState
 player_state_of name row = option_and_then (state_by name) (three_words (words_of row))
@@ -123,9 +124,6 @@ players_lines decls all = each_lines (player_lines decls) (player_numbers decls)
 -- The whole.
 
 -- the first line
-abbrev pub first_row : List ℕ
-first_row = line_text (codes "zt" ∷ codes "1" ∷ [])
-
 abbrev pub first_of : List ℕ → Option (Unit {0})
 first_of row = if bytes_eq row first_row then Some tt else None
 

@@ -10,6 +10,7 @@ ghost use Rattle.zk_trace.specs.SectionRead.{is_head, has_player};
 
 use crate::feed::Feed;
 use crate::lined::Lined;
+use crate::sections::SERVICE;
 use std::alloc::Global;
 use zk_base::{Listed, NoMemory};
 use zk_line::{kind_of, name_of};
@@ -73,7 +74,7 @@ fn read_row<X: Row>(
 fn is_head(name: &[u8], line: &[u8]) -> bool
     ensures { result ≡ is_head name.now line.now }
 {
-    match line.strip_prefix(b"service ") {
+    match line.strip_prefix(SERVICE) {
         Some(rest) => rest == name,
         None => false,
     }
