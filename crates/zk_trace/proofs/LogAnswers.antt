@@ -1,7 +1,7 @@
 -- The answers of a log that follows its scenario are of their calls, where what is shown is in form.
-use Rattle.std.proofs.Common.{◌≡◌, ◌⊎◌, inl, inr, ℕ, zero, suc, ◌+◌, ◌<◌, Bool, true, false, Option, Some, None, List, [], ◌∷◌, ◌++◌, length, map, All, refl, sym, ap, subst, ◌∙◌}
+use Rattle.std.proofs.Common.{◌≡◌, inl, inr, ℕ, zero, suc, ◌+◌, ◌<◌, Bool, true, false, Option, Some, None, List, [], ◌∷◌, length, All, refl, sym, ap, subst, ◌∙◌}
 use Rattle.std.specs.List.{AllByRecursion, AllZip, slice_get}
-use Rattle.std.specs.Option.{option_map, option_and_then}
+use Rattle.std.specs.Option.{option_map}
 use Rattle.std.proofs.lemmas.List.Elements.{All-nil, All-cons, All-head, All-tail, All-push}
 use Rattle.std.proofs.lemmas.Option.{same_Some, none-some, option_and_then_some}
 use Rattle.zk_base.specs.declared.ids.Entry.{Entry}
@@ -9,7 +9,7 @@ use Rattle.zk_blocks.specs.Blocks.{FitsGiven}
 use Rattle.zk_blocks.specs.Each.{EachFits}
 use Rattle.zk_line.specs.declared.types.Call.{Call}
 use Rattle.zk_line.specs.declared.types.Decl.{Decl}
-use Rattle.zk_line.specs.Objects.{number_of, places, is_item, is_sem, is_msgq, is_signal, is_chan, is_observer}
+use Rattle.zk_line.specs.Objects.{places, is_item, is_sem, is_msgq, is_signal, is_chan, is_observer}
 use Rattle.zk_scenario.specs.Content.{Content}
 use Rattle.zk_scenario.specs.Players.{players, calls_of}
 use Rattle.zk_model_bus.specs.declared.table.OopsWhy.{OopsWhy}
@@ -22,7 +22,7 @@ use Rattle.zk_worker.specs.declared.frames.Progress.TheVariants.{Goes, Answers, 
 use Rattle.zk_worker.specs.declared.frames.Role.{Role}
 use Rattle.zk_worker.specs.declared.frames.Role.TheVariants.{Script, Worker}
 use Rattle.zk_worker.specs.declared.frames.Stage.{Stage}
-use Rattle.zk_worker.specs.declared.frames.Stage.TheVariants.{Start, Runs}
+use Rattle.zk_worker.specs.declared.frames.Stage.TheVariants.{Start}
 use Rattle.zk_worker.specs.declared.steps.Spot.{Spot}
 use Rattle.zk_worker.specs.declared.steps.Spot.TheVariants as spots
 use Rattle.zk_worker.specs.declared.steps.Step.{Step}
@@ -32,11 +32,11 @@ use Rattle.zk_worker.specs.declared.steps.StepReply.TheVariants as step_replies
 use Rattle.zk_worker.specs.Calls.{plan_of, plan_progress}
 use Rattle.zk_worker.specs.Checks.{oops_in}
 use Rattle.zk_worker.specs.Families.{entry_at}
-use Rattle.zk_worker.specs.Follows.{StepMade, IsPlayed, made_at, Stands, IsFollowing}
+use Rattle.zk_worker.specs.Follows.{StepMade, IsPlayed, Stands, IsFollowing}
 use Rattle.zk_worker.specs.Places.{PlayerPlace}
-use Rattle.zk_worker.specs.Protocol.{call_attempts, role_attempts, frames_attempts, run_progress, worker_progress, call_progress, role_progress, first_frame, entered, frames_progress, frames_after, answers_after, spot_of, checked, after, role_at, starting, start_at, settled}
+use Rattle.zk_worker.specs.Protocol.{call_attempts, role_attempts, frames_attempts, run_progress, worker_progress, call_progress, role_progress, first_frame, entered, frames_progress, frames_after, answers_after, spot_of, checked, after, role_at, starting, start_at}
 use Rattle.zk_worker.specs.Shown.{Shown}
-use Rattle.zk_worker.proofs.CheckedSteps.{IsCheck, IsOwn, turn}
+use Rattle.zk_worker.proofs.CheckedSteps.{turn}
 use Rattle.zk_worker.proofs.Limits.{settled-all, entered-all}
 use Rattle.zk_worker.proofs.Lists.{known-there}
 use Rattle.zk_line.specs.Calls.{word_of}

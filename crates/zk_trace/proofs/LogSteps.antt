@@ -3,8 +3,8 @@ use Rattle.std.proofs.Common.{◌≡◌, ℕ, zero, suc, ◌+◌, ◌==◌, ◌<
 use Rattle.std.specs.List.{AllByRecursion, filter, range_with_len, slice_get}
 use Rattle.std.specs.Option.{option_map, option_map_or, option_and_then}
 use Rattle.std.proofs.lemmas.Bool.{and_parts, and_from, eqb-true, eq-eqb, ne_eqb, cond-true, cond-false}
-use Rattle.std.proofs.lemmas.List.Elements.{All-nil, All-cons, All-weaker, filter-append}
-use Rattle.std.proofs.lemmas.Option.{same_Some, none-some, slice_get-map, slice_get_within}
+use Rattle.std.proofs.lemmas.List.Elements.{All-nil, All-cons, filter-append}
+use Rattle.std.proofs.lemmas.Option.{same_Some, none-some, slice_get-map}
 use Rattle.zk_base.specs.declared.ids.Entry.{Entry}
 use Rattle.zk_base.specs.declared.seen.Seen.{Seen}
 use Rattle.zk_base.specs.Order.{Ascends, by_key}
@@ -15,7 +15,6 @@ use Rattle.zk_worker.specs.declared.steps.Spot.TheVariants as spots
 use Rattle.zk_worker.specs.Families.{entry_at}
 use Rattle.zk_worker.specs.Shown.{shown_at, is_look}
 use Rattle.zk_worker.specs.Single as single
-use Rattle.zk_worker.proofs.Lists.{known-there}
 use Rattle.zk_trace.specs.declared.looks.ItemLook.{ItemLook}
 use Rattle.zk_trace.specs.declared.looks.SignalLook.{SignalLook}
 use Rattle.zk_trace.specs.declared.stood.Family.{Family}
@@ -24,14 +23,14 @@ use Rattle.zk_trace.specs.declared.stood.Home.{Home}
 use Rattle.zk_trace.specs.declared.stood.Home.TheVariants as homes
 use Rattle.zk_trace.specs.declared.stood.Stood.{Stood}
 use Rattle.zk_trace.specs.declared.trace.Trace.{Trace}
-use Rattle.zk_trace.specs.Looked.{item_look_at, signal_look_at, all_looks, item_looks_of, signal_looks_of}
+use Rattle.zk_trace.specs.Looked.{item_look_at, signal_look_at, all_looks, signal_looks_of}
 use Rattle.zk_trace.specs.LookRead.{item_step, signal_step}
 use Rattle.zk_trace.specs.Place.{IsPlaced}
 use Rattle.zk_trace.specs.Shown.{trace_shown}
-use Rattle.zk_trace.specs.Stood.{spot_in, spot_at, entries_stood, histories_stood, item_look_stood, signal_look_stood, signals_stood, stood, is_of, sorted_spots, steps_of}
+use Rattle.zk_trace.specs.Stood.{spot_in, spot_at, entries_stood, histories_stood, item_look_stood, signal_look_stood, signals_stood, stood, is_of, steps_of}
 use Rattle.zk_trace.specs.Text.{looks_at}
-use Rattle.zk_trace.proofs.LinesOnce.{line_at, part_of, home_part, home-part, entries-each, histories-each, mapped-each, signals-each, filter-both, none-mine, entries-one, Stays, none-by, histories-one, signals-write, signals-look, logs-one}
-use Rattle.zk_trace.proofs.LooksFit.{all-append, logs-each, item-own, signal-own}
+use Rattle.zk_trace.proofs.LinesOnce.{line_at, part_of, home-part, entries-each, histories-each, mapped-each, signals-each, filter-both, none-mine, entries-one, Stays, none-by, histories-one, signals-write, signals-look, logs-one}
+use Rattle.zk_trace.proofs.LooksFit.{logs-each, item-own, signal-own}
 use Rattle.zk_trace.proofs.Stable.{of_key, ascends-same, of_key-by_key, ascends-by_key}
 
 begin : (p : ℕ) → 0 + p ≡ p
