@@ -2,7 +2,7 @@
 use Rattle.std.proofs.Common.{◌≡◌, ℕ, ◌^◌, ◌<◌, Option, Some, None, List, [], ◌∷◌, ◌++◌, codes, append_assoc, refl, sym, ap, subst, ◌∙◌}
 use Rattle.std.specs.Prelude.{option_map, option_and_then}
 use Rattle.std.specs.List.{AllByRecursion}
-use Rattle.std.proofs.lemmas.Option.{same_Some, none-some, option_and_then_some}
+use Rattle.std.proofs.lemmas.Option.{none-some, option_and_then_some}
 use Rattle.zk_base.specs.declared.ids.Entry.{Entry}
 use Rattle.zk_base.specs.declared.ids.Who.{Who}
 use Rattle.zk_blocks.specs.Rows.{IsRow}
@@ -52,6 +52,10 @@ entry_line-fed op_words reply_words decls e some =
 begun : (words : List (List ℕ)) → (rest : List ℕ) × (each_behind space words ++ sign ≡ space ∷ rest)
 begun [] = (codes "= ", refl)
 begun (word ∷ words) = ((word ++ each_behind space words) ++ sign, refl)
+
+-- the step that the first word of a line names
+abbrev pub first_step : List Decl → List ℕ → Option (ℕ × ℕ)
+first_step decls line = option_and_then (λ h. step_of decls h.0) (halves space line)
 
 module _ {O R : Type 0} (decls : List Decl) (are : AreNames decls) {op_words : O → List (List ℕ)} {reply_words : R → List (List ℕ)} {FitsOp : O → Type 0}
     {Answers : O → R → Type 0} {op_of : List (List ℕ) → Option O} {reply_of : O → List ℕ → Option R} (service : IsSpelled op_words reply_words FitsOp Answers op_of reply_of) where
@@ -114,13 +118,13 @@ module _ {O R : Type 0} (decls : List Decl) (are : AreNames decls) {op_words : O
       ∙ halves-again space first (behind.0 ++ reply) (lacks_plain space refl first ((spot_exact decls are).plain (e.who, e.step) (fits.known, fits.step))))
 
   -- a line whose first word names no step is no entry
-  pub no_entry : (line first rest : List ℕ) → halves space line ≡ Some (first, rest) → step_of decls first ≡ None → says line ≡ None
-  no_entry line first rest cut none = by (says line) refl where
+  pub no_entry : (line : List ℕ) → first_step decls line ≡ None → says line ≡ None
+  no_entry line none = by (says line) refl where
     by : (o : Option (Entry O R)) → says line ≡ o → says line ≡ None
     by None is = is
     by (Some e) is =
         let found = entry_exact.spelled line e is in
-        let there = first_word e found.1 in
-        let same = ap (λ h. h.0) (same_Some (first, rest) (spot_word decls e.who.number e.step, there.0) (sym cut ∙ ap (halves space) found.0 ∙ there.1)) in
         let number = who-number decls are e.who.number e.who found.1.known in
-        absurd (none-some (e.who.number, e.step) (sym none ∙ ap (step_of decls) same ∙ (step_exact decls are).again (e.who.number, e.step) (number.1, found.1.step)))
+        absurd (none-some (e.who.number, e.step)
+        (sym none ∙ ap (first_step decls) found.0 ∙ ap (option_and_then (λ h. step_of decls h.0)) (first_word e found.1).1
+        ∙ (step_exact decls are).again (e.who.number, e.step) (number.1, found.1.step)))

@@ -1,10 +1,12 @@
 -- Rows that are read one after another.
-use Rattle.std.proofs.Common.{◌≡◌, ℕ, ◌+◌, ◌-◌, ◌<◌, suc, Option, Some, None, List, [], ◌∷◌, ◌++◌, append_assoc, length, length-append, slice_get, drop, get_or, drop-cons, add-one, arith, refl, sym, ap, ◌∙◌}
-use Rattle.zk_blocks.specs.Blocks.{Reading, made_of}
+use Rattle.std.proofs.Common.{◌≡◌, ℕ, ◌+◌, ◌-◌, ◌<◌, ◌≤◌, suc, Option, Some, None, List, [], ◌∷◌, ◌++◌, append_assoc, length, length-append, slice_get, drop, get_or, drop-cons, add-one, arith, refl, sym, ap, ◌∙◌}
+use Rattle.std.proofs.lemmas.List.{drop_all}
+use Rattle.zk_blocks.specs.Blocks.{Reading, said, beside, onward, made_of}
 use Rattle.zk_blocks.specs.Each.{each_of, put_front}
-use Rattle.zk_blocks.specs.Rows.{rows_of, put_rows}
+use Rattle.zk_blocks.specs.Rows.{rows_of, all_rows, put_rows}
+use Rattle.zk_blocks.specs.Sections.{titled_of}
 use Rattle.zk_blocks.proofs.Blocks.{pair}
-use Rattle.zk_blocks.proofs.Loops.{each_on}
+use Rattle.zk_blocks.proofs.Loops.{each_on, each_over, each_out}
 use Rattle.zk_blocks.proofs.Numbers.{get_stands}
 
 -- the last of some
@@ -36,3 +38,21 @@ each_more read ds place d front a old now new within there before more =
     ∙ ap (λ rest. made_of (put_front front) (each_of read rest now)) (drop-cons ds place d within ∙ ap (λ x. x ∷ drop (suc place) ds) (sym there))
     ∙ each_on read front d (drop (suc place) ds) now new a more
     ∙ ap (λ n. made_of (put_front (front ++ a ∷ [])) (each_of read (drop n ds) new)) (sym (add-one place))
+
+module _ {L D A : Type 0} (read : D → List L → Reading L A) (ds : List D) (place : ℕ) (front : List A) (old now new : List L) (before : each_of read ds old ≡ made_of (put_front front) (each_of read (drop place ds) now)) where
+  -- one isn't there
+  pub each_less : (d : D) → place < length ds → d ≡ get_or ds place d → read d now ≡ (None, new) → each_of read ds old ≡ (None, new)
+  each_less d within there none =
+      before
+      ∙ ap (λ rest. made_of (put_front front) (each_of read rest now)) (drop-cons ds place d within ∙ ap (λ x. x ∷ drop (suc place) ds) (sym there))
+      ∙ each_over read front d (drop (suc place) ds) now new none
+
+  -- all are read
+  pub each_end : length ds ≤ place → each_of read ds old ≡ (Some front, now)
+  each_end past = before ∙ ap (λ rest. made_of (put_front front) (each_of read rest now)) (drop_all place ds past) ∙ each_out read front now
+
+-- a title and the rows under it
+pub titled_there : {L S X : Type 0} (title : L → Option S) (says : Option X → L → Option X) (lines : List L) (line : L) (rest left : List L) (s : S) (xs : List X) →
+    lines ≡ line ∷ rest → title line ≡ Some s → rows_of says None rest ≡ (xs, left) → titled_of title says lines ≡ (Some (s, xs), left)
+titled_there {L = L} {X = X} title says lines line rest left s xs is titled rows =
+    ap (titled_of title says) is ∙ ap (λ o. onward (all_rows says) (said o line rest)) titled ∙ ap (λ (r : List X × List L). beside s (Some r.0, r.1)) rows

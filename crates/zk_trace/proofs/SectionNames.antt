@@ -13,7 +13,8 @@ use Rattle.zk_blocks.specs.Heads.{AreHeads}
 use Rattle.zk_line.specs.Objects.{AreNames, name_of, object_of, is_sem, is_msgq, is_signal, is_chan, is_observer}
 use Rattle.zk_line.specs.declared.types.Decl.{Decl}
 use Rattle.zk_line.specs.declared.types.Decl.TheVariants.{Thread, Queue, Item, Sem, Msgq, Signal, Listener, Sub, Chan}
-use Rattle.zk_trace.specs.SectionRead.{head_row, is_head, IsPlayerRow}
+use Rattle.zk_trace.specs.SectionRead.{is_head, IsPlayerRow}
+use Rattle.zk_trace.specs.Text.{work_name, clock_name, table_name, head_row}
 
 -- the names of the sections in their order, from each family on
 abbrev pub observer_names : List Decl → List (List ℕ)
@@ -67,7 +68,7 @@ observers_are (Sub name capacity) is = refl
 observers_are d is = absurd (false≢true is)
 
 -- what holds of the one at each place holds of all
-all_at : {X : Type 0} (P : X → Type 0) (xs : List X) → ((place : ℕ) (x : X) → slice_get xs place ≡ Some x → P x) → AllByRecursion P xs
+pub all_at : {X : Type 0} (P : X → Type 0) (xs : List X) → ((place : ℕ) (x : X) → slice_get xs place ≡ Some x → P x) → AllByRecursion P xs
 all_at P [] each = tt
 all_at P (x ∷ xs) each = (each zero x refl, all_at P xs (λ place y there. each (suc place) y there))
 
@@ -179,14 +180,14 @@ module _ (decls : List Decl) (are : AreNames decls) where
 
   -- the names of all sections, in their order
   abbrev pub section_names : List (List ℕ)
-  section_names = codes "work" ∷ codes "clock" ∷ codes "table" ∷ sem_names decls
+  section_names = work_name ∷ clock_name ∷ table_name ∷ sem_names decls
 
   -- they differ
   pub sections_apart : AreApart section_names
   sections_apart = (
-    (differ (codes "work") (codes "clock") refl refl, (differ (codes "work") (codes "table") refl refl, none_sem (codes "work") (reserved_no (codes "work") refl))),
-    ((differ (codes "clock") (codes "table") refl refl, none_sem (codes "clock") (reserved_no (codes "clock") refl)),
-    (none_sem (codes "table") (reserved_no (codes "table") refl), sems_apart)),
+    (differ work_name clock_name refl refl, (differ work_name table_name refl refl, none_sem work_name (reserved_no work_name refl))),
+    ((differ clock_name table_name refl refl, none_sem clock_name (reserved_no clock_name refl)),
+    (none_sem table_name (reserved_no table_name refl), sems_apart)),
   )
 
 -- each name has a head of its own, which is no player's

@@ -2,6 +2,10 @@ pub mod EntryRead
 pub mod Feeds
 pub mod SectionRead
 pub mod Stood
+pub mod EntryKinds
+pub mod Form
+pub mod WholeRead
+pub mod WholeParts
 pub mod Names
 pub mod Words
 pub mod Parts

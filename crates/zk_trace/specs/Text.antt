@@ -27,9 +27,12 @@ use Rattle.zk_trace.specs.Obs as obs
 abbrev pub line : List (List ℕ) → List ℕ
 line words = line_text words ++ codes "\n"
 
--- the head of a service's section
+-- the head of a service's section, without and with its line feed
+abbrev pub head_row : List ℕ → List ℕ
+head_row name = line_text (codes "service" ∷ name ∷ [])
+
 abbrev pub section_head : List ℕ → List ℕ
-section_head name = line (codes "service" ∷ name ∷ [])
+section_head name = head_row name ++ codes "\n"
 
 -- the lines of a service, whose operations and replies have these words
 module _ {O R : Type 0} (op_words : List Decl → O → List (List ℕ))
@@ -87,9 +90,15 @@ answer_line decls a =
     line (decimal a.step ∷ call_word a.word ∷ codes "="
     ∷ part_word decls (answer_part a.answer) ∷ [])
 
--- the head of a player's section
+-- the head of a player's section, without and with its line feed
+abbrev pub player_word : List ℕ
+player_word = codes "player"
+
+abbrev pub player_row : List ℕ → PlayerState → List ℕ
+player_row name state = line_text (player_word ∷ name ∷ state_word state ∷ [])
+
 abbrev pub player_head : List ℕ → PlayerState → List ℕ
-player_head name state = line (codes "player" ∷ name ∷ state_word state ∷ [])
+player_head name state = player_row name state ++ codes "\n"
 
 -- the section of a player
 abbrev pub player_section : List Decl → ℕ → Log → List ℕ
@@ -102,12 +111,22 @@ player_sections decls player [] = []
 player_sections decls player (log ∷ logs) =
     player_section decls player log ++ player_sections decls (player + 1) logs
 
+-- the names of the services of which there is one
+abbrev pub work_name : List ℕ
+work_name = codes "work"
+
+abbrev pub clock_name : List ℕ
+clock_name = codes "clock"
+
+abbrev pub table_name : List ℕ
+table_name = codes "table"
+
 -- the sections of the services of which there is one: of the work service, the clock and the object table
 abbrev pub single_sections : Content → Trace → List ℕ
 single_sections s t =
-    looked_section work.op_words work.reply_words item_look_line s.decls (codes "work") t.work t.item_looks
-    ++ service_section clock.op_words clock.reply_words s.decls (codes "clock") t.clock
-    ++ service_section table.op_words table.reply_words s.decls (codes "table") t.table
+    looked_section work.op_words work.reply_words item_look_line s.decls work_name t.work t.item_looks
+    ++ service_section clock.op_words clock.reply_words s.decls clock_name t.clock
+    ++ service_section table.op_words table.reply_words s.decls table_name t.table
 
 -- the sections of the services: of those of which there is one, of the semaphores, the message queues, the signals, the
 -- channels and the observers
@@ -120,8 +139,12 @@ service_sections s t =
     ++ object_sections chan.op_words chan.reply_words s.decls 0 t.chans
     ++ object_sections obs.op_words obs.reply_words s.decls 0 t.observers
 
+-- the first line of the trace part, without its line feed
+abbrev pub first_row : List ℕ
+first_row = line_text (codes "zt" ∷ codes "1" ∷ [])
+
 -- the trace part of the output: its head, the ending, the services and the players
 abbrev pub trace_text : Content → Trace → List ℕ
 trace_text s t =
-    line (codes "zt" ∷ codes "1" ∷ []) ++ line (ending_word t.ending ∷ [])
+    (first_row ++ codes "\n") ++ line (ending_word t.ending ∷ [])
     ++ service_sections s t ++ player_sections s.decls 0 t.logs

@@ -1,7 +1,7 @@
-ghost use Rattle.std.specs.Prelude.{◌≡◌, ◌∷◌, [], length, MatchOption};
+ghost use Rattle.std.specs.Prelude.{◌≡◌, ◌==◌, ◌∷◌, [], length, count_by, MatchOption};
 ghost use Rattle.zk_trace.specs.Feeds.{lines_in};
 
-use crate::cut::{count_of, halves_of};
+use crate::halves::halves;
 use std::marker::Model;
 
 /// The lines of a text that are still to be read: those that have their line feed.
@@ -32,7 +32,7 @@ impl<'a> Feed<'a> {
     pub fn next(&self) -> Option<(&'a [u8], &'a [u8])>
         ensures { MatchOption result (self.now ≡ []) (λ cut. self.now ≡ cut.0.now ∷ lines_in cut.1.now) }
     {
-        match halves_of(b'\n', self.rest) {
+        match halves(b'\n', self.rest) {
             Some(cut) => Some(cut),
             None => None,
         }
@@ -51,4 +51,10 @@ impl<'a> Feed<'a> {
     {
         count_of(b'\n', self.rest)
     }
+}
+
+fn count_of(byte: u8, text: &[u8]) -> usize
+    ensures { result ≡ count_by (λ b. b == byte) text.now }
+{
+    text.iter().filter(|b| **b == byte).count()
 }

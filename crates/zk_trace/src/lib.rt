@@ -2,16 +2,18 @@
 #![tactic(auto)]
 
 mod answer_read;
+mod asked;
 mod chan;
 mod chan_read;
 mod choosing;
 mod clock;
 mod clock_read;
-mod cut;
+mod entry_read;
 mod expiries;
 mod feed;
 mod flags;
 mod halves;
+mod line_rows;
 mod lined;
 mod logs_read;
 mod look_read;
@@ -25,6 +27,7 @@ mod numerals;
 mod obs;
 mod obs_read;
 mod parts;
+mod players_read;
 mod print;
 mod row_words;
 mod rows_read;
@@ -41,6 +44,7 @@ mod stood;
 mod table;
 mod table_read;
 mod trace;
+mod whole_read;
 mod words;
 mod work;
 mod work_read;

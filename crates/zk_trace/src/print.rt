@@ -10,6 +10,9 @@ use std::alloc::Global;
 use zk_base::{NoMemory, put};
 use zk_scenario::{Scenario, print_scenario};
 
+/// The first line of the trace part.
+pub const FIRST: &[u8] = b"zt 1";
+
 /// Appends the trace part of the output: the head, the ending, the sections of the services and of the players.
 pub fn put_trace(out: &mut Vec<u8>, scenario: &Scenario, trace: &Trace) -> Result<(), NoMemory>
     ensures text { OnOk result (out.new.items ≡ out.old.items ++ trace_text scenario.now trace.now) }
@@ -27,7 +30,8 @@ fn put_all(out: &mut Vec<u8>, scenario: &Scenario, trace: &Trace) -> Result<(), 
     ensures text { OnOk result (out.new.items ≡ out.old.items ++ trace_text scenario.now trace.now) }
     ensures kept { OnErr result (StaysInFront out.old.items out.new.items) }
 {
-    put(out, b"zt 1\n")?;
+    put(out, FIRST)?;
+    put(out, b"\n")?;
     put(out, ending_word(trace.ending))?;
     put(out, b"\n")?;
     put_services(out, scenario, trace)?;
@@ -51,6 +55,15 @@ fn put_services(out: &mut Vec<u8>, scenario: &Scenario, trace: &Trace) -> Result
     put_objects(out, scenario, trace.observers.items())
 }
 
+/// The name of the work service.
+pub const WORK: &[u8] = b"work";
+
+/// The name of the clock.
+pub const CLOCK: &[u8] = b"clock";
+
+/// The name of the object table.
+pub const TABLE: &[u8] = b"table";
+
 /// The sections of the services of which there is one.
 fn put_single_services(
     out: &mut Vec<u8>,
@@ -63,12 +76,12 @@ fn put_single_services(
     put_looked(
         out,
         scenario,
-        b"work",
+        WORK,
         trace.work.items(),
         trace.item_looks.items(),
     )?;
-    put_service(out, scenario, b"clock", trace.clock.items())?;
-    put_service(out, scenario, b"table", trace.table.items())
+    put_service(out, scenario, CLOCK, trace.clock.items())?;
+    put_service(out, scenario, TABLE, trace.table.items())
 }
 
 /// The scenario's text and then the trace part.

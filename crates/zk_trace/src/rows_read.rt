@@ -6,10 +6,11 @@ ghost use Rattle.zk_blocks.specs.Rows.{rows_of};
 ghost use Rattle.zk_blocks.specs.Sections.{plain_section_of, section_of, neither};
 ghost use Rattle.zk_line.specs.declared.types.Decl.{Decl};
 ghost use Rattle.zk_line.specs.Objects.{is_met, name_of};
-ghost use Rattle.zk_trace.specs.SectionRead.{is_head, may_stand};
+ghost use Rattle.zk_trace.specs.SectionRead.{is_head, has_player};
 
 use crate::feed::Feed;
 use crate::lined::Lined;
+use crate::sections::SERVICE;
 use std::alloc::Global;
 use zk_base::{Listed, NoMemory};
 use zk_line::{kind_of, name_of};
@@ -73,7 +74,7 @@ fn read_row<X: Row>(
 fn is_head(name: &[u8], line: &[u8]) -> bool
     ensures { result ≡ is_head name.now line.now }
 {
-    match line.strip_prefix(b"service ") {
+    match line.strip_prefix(SERVICE) {
         Some(rest) => rest == name,
         None => false,
     }
@@ -87,7 +88,7 @@ pub fn read_section<E: Row>(
     feed: &mut Feed<'_>,
 ) -> Result<Option<Listed<E>>, NoMemory>
     ensures { let decls = scenario.now.decls in IfOk result (λ read.
-        Gives (λ x. x) read feed.new (plain_section_of (may_stand decls) (is_head name.now) (E.says decls) feed.old)) }
+        Gives (λ x. x) read feed.new (plain_section_of (has_player decls) (is_head name.now) (E.says decls) feed.old)) }
 {
     let Some((line, rest)) = feed.next() else {
         return Ok(Some(Listed::new(alloc)));
@@ -114,7 +115,7 @@ pub fn read_looked<E: Row, K: Row>(
     feed: &mut Feed<'_>,
 ) -> Result<Option<(Listed<E>, Listed<K>)>, NoMemory>
     ensures { let decls = scenario.now.decls in IfOk result (λ read.
-        Gives (λ x. x) read feed.new (section_of (may_stand decls) (is_head name.now) (E.says decls) (K.says decls) feed.old)) }
+        Gives (λ x. x) read feed.new (section_of (has_player decls) (is_head name.now) (E.says decls) (K.says decls) feed.old)) }
 {
     let Some((line, rest)) = feed.next() else {
         return Ok(Some((Listed::new(alloc), Listed::new(alloc))));
@@ -144,7 +145,7 @@ fn read_given<E: Row>(
 ) -> Result<Option<Listed<E>>, NoMemory>
     ensures { let decls = scenario.now.decls in IfOk result (λ read.
         Gives (λ x. x) read feed.new (given_of (is_met need decl.now) []
-        (plain_section_of (may_stand decls) (is_head (name_of decl.now)) (E.says decls)) feed.old)) }
+        (plain_section_of (has_player decls) (is_head (name_of decl.now)) (E.says decls)) feed.old)) }
 {
     if !need.is_met_by(kind_of(decl)) {
         return Ok(Some(Listed::new(alloc)));
@@ -160,7 +161,7 @@ pub fn read_family<E: Row>(
     feed: &mut Feed<'_>,
 ) -> Result<Option<Listed<Listed<E>>>, NoMemory>
     ensures { let decls = scenario.now.decls in IfOk result (λ read.
-        Gives (λ x. x) read feed.new (plain_family_of (is_met need) name_of (may_stand decls) is_head (λ d. E.says decls) decls feed.old)) }
+        Gives (λ x. x) read feed.new (plain_family_of (is_met need) name_of (has_player decls) is_head (λ d. E.says decls) decls feed.old)) }
 {
     let mut all = Vec::new(alloc);
     let decls = scenario.decls();
@@ -183,7 +184,7 @@ fn read_given_looked<E: Row, K: Row>(
 ) -> Result<Option<(Listed<E>, Listed<K>)>, NoMemory>
     ensures { let decls = scenario.now.decls in IfOk result (λ read.
         Gives (λ x. x) read feed.new (given_of (is_met need decl.now) neither
-        (section_of (may_stand decls) (is_head (name_of decl.now)) (E.says decls) (K.says decls)) feed.old)) }
+        (section_of (has_player decls) (is_head (name_of decl.now)) (E.says decls) (K.says decls)) feed.old)) }
 {
     if !need.is_met_by(kind_of(decl)) {
         return Ok(Some((Listed::new(alloc), Listed::new(alloc))));
@@ -199,7 +200,7 @@ pub fn read_looked_family<E: Row, K: Row>(
     feed: &mut Feed<'_>,
 ) -> Result<Option<Listed<(Listed<E>, Listed<K>)>>, NoMemory>
     ensures { let decls = scenario.now.decls in IfOk result (λ read.
-        Gives (λ x. x) read feed.new (section_family_of (is_met need) name_of (may_stand decls) is_head
+        Gives (λ x. x) read feed.new (section_family_of (is_met need) name_of (has_player decls) is_head
         (λ d. E.says decls) (λ d. K.says decls) decls feed.old)) }
 {
     let mut all = Vec::new(alloc);

@@ -130,11 +130,17 @@ pub fn looks_at<L>(looks: &[Listed<L>], object: usize) -> &[L]
     }
 }
 
+/// What stands before the name of a service in the head of its section.
+pub const SERVICE: &[u8] = b"service ";
+
+/// The first word in the head of a player's section.
+pub const PLAYER: &[u8] = b"player";
+
 fn put_service_head(out: &mut Vec<u8>, name: &[u8]) -> Result<(), NoMemory>
     ensures text { OnOk result (out.new.items ≡ out.old.items ++ section_head name.now) }
     ensures kept { OnErr result (StaysInFront out.old.items out.new.items) }
 {
-    put(out, b"service ")?;
+    put(out, SERVICE)?;
     put(out, name)?;
     put(out, b"\n")
 }
@@ -167,7 +173,8 @@ fn put_player_head(out: &mut Vec<u8>, name: &[u8], state: PlayerState) -> Result
     ensures text { OnOk result (out.new.items ≡ out.old.items ++ player_head name.now state) }
     ensures kept { OnErr result (StaysInFront out.old.items out.new.items) }
 {
-    put(out, b"player ")?;
+    put(out, PLAYER)?;
+    put(out, b" ")?;
     put(out, name)?;
     put(out, b" ")?;
     put(out, state_word(state))?;

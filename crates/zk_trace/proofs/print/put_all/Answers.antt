@@ -8,5 +8,6 @@ returns-clause-kept c =
     (λ last. front_before _ _ _ _ c.in_ok-put.ensures.ok
     (front_before _ _ _ _ c.in_ok-put-2.ensures.ok
     (front_before _ _ _ _ c.in_ok-put-3.ensures.ok
-    (front_before _ _ _ _ c.in_ok-put_services.ensures.text last))))
+    (front_before _ _ _ _ c.in_ok-put-4.ensures.ok
+    (front_before _ _ _ _ c.in_ok-put_services.ensures.text last)))))
     c.put_players.ensures.kept

@@ -1,0 +1,259 @@
+-- A trace in form is made of just one whole that fits, and what is made of one that fits is in form.
+use Rattle.std.proofs.Common.{◌≡◌, ℕ, ◌+◌, ◌<◌, zero, suc, Bool, true, false, Option, None, List, [], ◌∷◌, map, length, arith, refl, sym, ap, subst, ◌∙◌}
+use Rattle.std.specs.List.{AllByRecursion, range_with_len}
+use Rattle.std.proofs.lemmas.Bool.{true≢false}
+use Rattle.zk_base.specs.declared.ids.Entry.{Entry}
+use Rattle.zk_blocks.specs.Blocks.{IsBlock, FitsGiven}
+use Rattle.zk_blocks.specs.Each.{EachFits}
+use Rattle.zk_blocks.specs.Families.{FitsPlainFamily, FitsSectionFamily}
+use Rattle.zk_blocks.specs.Rows.{AllFit}
+use Rattle.zk_blocks.specs.Sections.{has_row, neither, FitsPlainSection, FitsSection, FitTwo}
+use Rattle.zk_blocks.proofs.Blocks.{pair}
+use Rattle.zk_blocks.proofs.Each.{each_fits-length}
+use Rattle.zk_blocks.proofs.Headed.{fits_headed}
+use Rattle.zk_blocks.proofs.Made.{made}
+use Rattle.zk_blocks.proofs.Rows.{fit_each, each_fit, no_rows}
+use Rattle.zk_blocks.proofs.Sections.{no_rows_of_two}
+use Rattle.zk_line.specs.Objects.{AreNames, is_sem, is_msgq, is_signal, is_chan, is_observer}
+use Rattle.zk_line.specs.declared.types.Decl.{Decl}
+use Rattle.zk_model_wait.specs.declared.signal.SignalOp.{SignalOp}
+use Rattle.zk_model_wait.specs.declared.signal.SignalReply.{SignalReply}
+use Rattle.zk_scenario.specs.Content.{Content}
+use Rattle.zk_scenario.specs.Players.{players}
+use Rattle.zk_worker.specs.declared.answers.Answered.{Answered}
+use Rattle.zk_worker.specs.declared.log.Log.{Log}
+use Rattle.zk_worker.specs.declared.log.PlayerState.{PlayerState}
+use Rattle.zk_trace.specs.declared.looks.ItemLook.{ItemLook}
+use Rattle.zk_trace.specs.declared.looks.SignalLook.{SignalLook}
+use Rattle.zk_trace.specs.declared.stood.Stood.{Stood}
+use Rattle.zk_trace.specs.declared.trace.Trace.{Trace}
+use Rattle.zk_trace.specs.AnswerRead.{IsAnswered}
+use Rattle.zk_trace.specs.EntryKinds.{IsWork, IsClock, IsTable, IsSem, IsMsgq, IsSignal, IsChan, IsObs}
+use Rattle.zk_trace.specs.EntryRead.{FitsEntry}
+use Rattle.zk_trace.specs.Form.{AreOfKind, IsLog, player_numbers, IsInForm}
+use Rattle.zk_trace.specs.LookRead.{FitsItemLook, FitsSignalLook}
+use Rattle.zk_trace.specs.SectionRead.{has_player}
+use Rattle.zk_trace.specs.Stood.{stood}
+use Rattle.zk_trace.specs.WholeRead.{Singles, Families, Players, Whole, whole_lines, logs_of, trace_of, pairs_of, whole_of, trace_lines, read_trace}
+use Rattle.zk_trace.proofs.SpotRead.{who-number}
+use Rattle.zk_trace.proofs.WholeRead.{FitSingles, FitFamilies, FitPlayer, FitPlayers, FitSections, FitWhole, whole}
+
+-- Lists.
+
+each_change : {D A : Type 0} {F G : D → A → Type 0} → ((d : D) (a : A) → F d a → G d a) → (ds : List D) (each : List A) → EachFits F ds each → EachFits G ds each
+each_change f [] [] fits = tt
+each_change f [] (a ∷ more) fits = absurd fits
+each_change f (d ∷ ds) [] fits = absurd fits
+each_change f (d ∷ ds) (a ∷ more) fits = (f d a fits.0, each_change f ds more fits.1)
+
+given_change : {A : Type 0} {F G : A → Type 0} (is : Bool) (none : A) → ((a : A) → F a → G a) → (a : A) → FitsGiven is none F a → FitsGiven is none G a
+given_change true none f a fits = f a fits
+given_change false none f a fits = fits
+
+module _ {E K : Type 0} where
+  -- what is paired and taken apart again is as it was
+  firsts-pairs : (es : List E) (ks : List K) → length es ≡ length ks → map (λ both. both.0) (pairs_of es ks) ≡ es
+  firsts-pairs [] ks same = refl
+  firsts-pairs (e ∷ es) [] same = absurd (omega (arith, same))
+  firsts-pairs (e ∷ es) (k ∷ ks) same = ap (λ l. e ∷ l) (firsts-pairs es ks (omega (arith, same)))
+
+  seconds-pairs : (es : List E) (ks : List K) → length es ≡ length ks → map (λ both. both.1) (pairs_of es ks) ≡ ks
+  seconds-pairs [] [] same = refl
+  seconds-pairs [] (k ∷ ks) same = absurd (omega (arith, same))
+  seconds-pairs (e ∷ es) [] same = absurd (omega (arith, same))
+  seconds-pairs (e ∷ es) (k ∷ ks) same = ap (λ l. k ∷ l) (seconds-pairs es ks (omega (arith, same)))
+
+  pairs-parts : (both : List (E × K)) → pairs_of (map (λ one. one.0) both) (map (λ one. one.1) both) ≡ both
+  pairs-parts [] = refl
+  pairs-parts (one ∷ both) = ap (λ l. one ∷ l) (pairs-parts both)
+
+  module _ {D : Type 0} (of_kind : D → Bool) (F : List E → Type 0) (G : List K → Type 0) where
+    abbrev FitsPair : D → List E × List K → Type 0
+    FitsPair d both = FitsGiven (of_kind d) neither (λ p. F p.0 × G p.1) both
+
+    pair_there : (is : Bool) (es : List E) (ks : List K) → FitsGiven is [] F es → FitsGiven is [] G ks → FitsGiven is neither (λ (p : List E × List K). F p.0 × G p.1) (es, ks)
+    pair_there true es ks first second = (first, second)
+    pair_there false es ks first second = pair first second
+
+    pair_back : (is : Bool) (both : List E × List K) → FitsGiven is neither (λ (p : List E × List K). F p.0 × G p.1) both → FitsGiven is [] F both.0 × FitsGiven is [] G both.1
+    pair_back true both fits = fits
+    pair_back false both fits = (ap (λ p. p.0) fits, ap (λ p. p.1) fits)
+
+    -- where two lists for each fit, their pairs do
+    pub pairs_there : (ds : List D) (all : List (List E)) (others : List (List K)) → EachFits (λ d. FitsGiven (of_kind d) [] F) ds all → EachFits (λ d. FitsGiven (of_kind d) [] G) ds others →
+        EachFits FitsPair ds (pairs_of all others)
+    pairs_there [] [] others first second = tt
+    pairs_there [] (es ∷ all) others first second = absurd first
+    pairs_there (d ∷ ds) [] others first second = absurd first
+    pairs_there (d ∷ ds) (es ∷ all) [] first second = absurd second
+    pairs_there (d ∷ ds) (es ∷ all) (ks ∷ others) first second = (pair_there (of_kind d) es ks first.0 second.0, pairs_there ds all others first.1 second.1)
+
+    pairs_back : (ds : List D) (both : List (List E × List K)) → EachFits FitsPair ds both →
+        EachFits (λ d. FitsGiven (of_kind d) [] F) ds (map (λ p. p.0) both) × EachFits (λ d. FitsGiven (of_kind d) [] G) ds (map (λ p. p.1) both)
+    pairs_back [] [] fits = (tt, tt)
+    pairs_back [] (one ∷ both) fits = absurd fits
+    pairs_back (d ∷ ds) [] fits = absurd fits
+    pairs_back (d ∷ ds) (one ∷ both) fits =
+        let here = pair_back (of_kind d) one fits.0 in
+        let there = pairs_back ds both fits.1 in
+        ((here.0, there.0), (here.1, there.1))
+
+-- What fits where a head may not be passed.
+
+none_below : (xs : List ℕ) → has_row xs ≡ false → (n : ℕ) → n < length xs → ⊥
+none_below [] no_row n below = omega arith
+none_below (x ∷ xs) no_row n below = true≢false no_row
+
+module _ (decls : List Decl) (are : AreNames decls) where
+  -- without a player there is no entry and no look
+  no_entries : {O R : Type 0} {FitsOp : O → Type 0} {Answers : O → R → Type 0} → has_player decls ≡ false → (e : Entry O R) → FitsEntry decls FitsOp Answers e → ⊥
+  no_entries nobody e fits = none_below (players decls) nobody e.who.number (who-number decls are e.who.number e.who fits.known).1
+
+  no_item_looks : has_player decls ≡ false → (look : ItemLook) → FitsItemLook decls None look → ⊥
+  no_item_looks nobody look fits = none_below (players decls) nobody look.player fits.1.player
+
+  no_signal_looks : has_player decls ≡ false → (look : SignalLook) → FitsSignalLook decls None look → ⊥
+  no_signal_looks nobody look fits = none_below (players decls) nobody look.player fits.1.player
+
+  -- Sections of entries alone.
+
+  module _ {X : Type 0} (Fits : X → Type 0) (never : has_player decls ≡ false → (x : X) → Fits x → ⊥) where
+    section_there : (xs : List X) → AllByRecursion Fits xs → FitsPlainSection (has_player decls) (λ last. Fits) xs
+    section_there xs fits = fits_headed (has_player decls) (λ nobody ys. no_rows (λ last. Fits) (never nobody) ys) xs (each_fit Fits None xs fits)
+
+    section_back : (xs : List X) → FitsPlainSection (has_player decls) (λ last. Fits) xs → AllByRecursion Fits xs
+    section_back xs fits = fit_each Fits None xs fits.0
+
+    family_there : (of_kind : Decl → Bool) (lists : List (List X)) → AreOfKind of_kind (AllByRecursion Fits) decls lists → FitsPlainFamily of_kind (has_player decls) (λ d last. Fits) decls lists
+    family_there of_kind = each_change (λ d. given_change (of_kind d) [] section_there) decls
+
+    family_back : (of_kind : Decl → Bool) (lists : List (List X)) → FitsPlainFamily of_kind (has_player decls) (λ d last. Fits) decls lists → AreOfKind of_kind (AllByRecursion Fits) decls lists
+    family_back of_kind = each_change (λ d. given_change (of_kind d) [] section_back) decls
+
+  -- Sections of entries and looks.
+
+  module _ {E K : Type 0} (First : E → Type 0) (Second : Option K → K → Type 0)
+      (no_first : has_player decls ≡ false → (e : E) → First e → ⊥) (no_second : has_player decls ≡ false → (k : K) → Second None k → ⊥) where
+    looked_there : (both : List E × List K) → AllByRecursion First both.0 × AllFit Second None both.1 → FitsSection (has_player decls) (λ last. First) Second both
+    looked_there both fits =
+        fits_headed (has_player decls) (λ nobody b. no_rows_of_two (λ last. First) Second (no_first nobody) (no_second nobody) b) both (each_fit First None both.0 fits.0, fits.1)
+
+    looked_back : (both : List E × List K) → FitsSection (has_player decls) (λ last. First) Second both → AllByRecursion First both.0 × AllFit Second None both.1
+    looked_back both fits = (fit_each First None both.0 fits.0.0, fits.0.1)
+
+    looked_family_there : (of_kind : Decl → Bool) (all : List (List E)) (others : List (List K)) → AreOfKind of_kind (AllByRecursion First) decls all → AreOfKind of_kind (AllFit Second None) decls others →
+        FitsSectionFamily of_kind (has_player decls) (λ d last. First) (λ d. Second) decls (pairs_of all others)
+    looked_family_there of_kind all others first second =
+        each_change (λ d. given_change (of_kind d) neither looked_there) decls (pairs_of all others)
+        (pairs_there of_kind (AllByRecursion First) (AllFit Second None) decls all others first second)
+
+    looked_family_back : (of_kind : Decl → Bool) (both : List (List E × List K)) → FitsSectionFamily of_kind (has_player decls) (λ d last. First) (λ d. Second) decls both →
+        AreOfKind of_kind (AllByRecursion First) decls (map (λ p. p.0) both) × AreOfKind of_kind (AllFit Second None) decls (map (λ p. p.1) both)
+    looked_family_back of_kind both fits =
+        pairs_back of_kind (AllByRecursion First) (AllFit Second None) decls both
+        (each_change (λ d. given_change (of_kind d) neither looked_back) decls both fits)
+
+  -- Players.
+
+  abbrev shown : Log → PlayerState × List Answered
+  shown log = (log.state, log.answers)
+
+  players_there : (lines : List Stood) (count player : ℕ) (logs : List Log) → EachFits (IsLog decls lines) (range_with_len player count) logs →
+      EachFits (λ p. FitPlayer decls) (range_with_len player count) (map shown logs) × (logs_of lines player (map shown logs) ≡ logs)
+  players_there lines zero player [] fits = (tt, refl)
+  players_there lines zero player (log ∷ logs) fits = absurd fits
+  players_there lines (suc count) player [] fits = absurd fits
+  players_there lines (suc count) player (log ∷ logs) fits =
+      let there = players_there lines count (player + 1) logs fits.1 in
+      (((tt, each_fit (IsAnswered decls) None log.answers fits.0.answers), there.0),
+      ap (λ steps. record { state = log.state; steps = steps; answers = log.answers } ∷ logs_of lines (player + 1) (map shown logs)) (sym fits.0.steps)
+      ∙ ap (λ l. log ∷ l) there.1)
+
+  players_back : (lines : List Stood) (count player : ℕ) (all : Players) → EachFits (λ p. FitPlayer decls) (range_with_len player count) all →
+      EachFits (IsLog decls lines) (range_with_len player count) (logs_of lines player all)
+  players_back lines zero player [] fits = tt
+  players_back lines zero player (one ∷ all) fits = absurd fits
+  players_back lines (suc count) player [] fits = absurd fits
+  players_back lines (suc count) player (one ∷ all) fits =
+      (record { steps = refl; answers = fit_each (IsAnswered decls) None one.1 fits.0.1 }, players_back lines count (player + 1) all fits.1)
+
+  shown-logs : (lines : List Stood) (player : ℕ) (all : Players) → map shown (logs_of lines player all) ≡ all
+  shown-logs lines player [] = refl
+  shown-logs lines player (one ∷ all) = ap (λ l. one ∷ l) (shown-logs lines (player + 1) all)
+
+module _ (s : Content) (are : AreNames s.decls) where
+  -- a trace, with other histories and looks of signals, and other logs
+  abbrev changed : Trace → List (List (Entry SignalOp SignalReply)) → List (List SignalLook) → List Log → Trace
+  changed t signals looks logs = record {
+    ending = t.ending;
+    work = t.work;
+    clock = t.clock;
+    table = t.table;
+    sems = t.sems;
+    msgqs = t.msgqs;
+    signals = signals;
+    chans = t.chans;
+    observers = t.observers;
+    item_looks = t.item_looks;
+    signal_looks = looks;
+    logs = logs;
+  }
+
+  -- what stands in a text, with other signals and other players
+  abbrev replaced : Whole → List (List (Entry SignalOp SignalReply) × List SignalLook) → Players → Whole
+  replaced w both all =
+      let families = w.1.1.1.0 in
+      (w.0, (w.1.0, (w.1.1.0, ((families.0, (families.1.0, (both, families.1.1.1))), all))))
+
+  -- a trace in form is made of what stands in its text, which fits
+  there : (t : Trace) → IsInForm s t → FitWhole s.decls (whole_of t) × (trace_of (whole_of t) ≡ t)
+  there t form =
+      let decls = s.decls in
+      let count = length (players decls) in
+      let logs = players_there decls are (stood t) count 0 t.logs form.logs in
+      let same : length t.signals ≡ length t.signal_looks =
+          sym (each_fits-length (λ d. FitsGiven (is_signal d) [] (AllByRecursion (IsSignal decls))) decls t.signals form.signals)
+          ∙ each_fits-length (λ d. FitsGiven (is_signal d) [] (AllFit (FitsSignalLook decls) None)) decls t.signal_looks form.signal_looks in
+      ((tt, (tt, ((looked_there decls are (IsWork decls) (FitsItemLook decls) (no_entries decls are) (no_item_looks decls are) (t.work, t.item_looks) (form.work, form.item_looks),
+      (section_there decls are (IsClock decls) (no_entries decls are) t.clock form.clock, section_there decls are (IsTable decls) (no_entries decls are) t.table form.table)),
+      ((family_there decls are (IsSem decls) (no_entries decls are) is_sem t.sems form.sems,
+      (family_there decls are (IsMsgq decls) (no_entries decls are) is_msgq t.msgqs form.msgqs,
+      (looked_family_there decls are (IsSignal decls) (FitsSignalLook decls) (no_entries decls are) (no_signal_looks decls are) is_signal t.signals t.signal_looks form.signals form.signal_looks,
+      (family_there decls are (IsChan decls) (no_entries decls are) is_chan t.chans form.chans,
+      family_there decls are (IsObs decls) (no_entries decls are) is_observer t.observers form.observers)))), logs.0)))),
+      ap (λ signals. changed t signals (map (λ both. both.1) (pairs_of t.signals t.signal_looks))
+      (logs_of (stood (changed t signals (map (λ both. both.1) (pairs_of t.signals t.signal_looks)) [])) 0 (map (shown decls are) t.logs))) (firsts-pairs t.signals t.signal_looks same)
+      ∙ ap (λ looks. changed t t.signals looks (logs_of (stood (changed t t.signals looks [])) 0 (map (shown decls are) t.logs))) (seconds-pairs t.signals t.signal_looks same)
+      ∙ ap (changed t t.signals t.signal_looks) logs.1)
+
+  -- and what is made of one that fits is in form, and has its text
+  back : (w : Whole) → FitWhole s.decls w → IsInForm s (trace_of w) × (whole_of (trace_of w) ≡ w)
+  back w fits =
+      let decls = s.decls in
+      let count = length (players decls) in
+      let singles = fits.1.1.0 in
+      let families = fits.1.1.1.0 in
+      let work = looked_back decls are (IsWork decls) (FitsItemLook decls) (no_entries decls are) (no_item_looks decls are) w.1.1.0.0 singles.0 in
+      let signals = looked_family_back decls are (IsSignal decls) (FitsSignalLook decls) (no_entries decls are) (no_signal_looks decls are) is_signal w.1.1.1.0.1.1.0 families.1.1.0 in
+      (record {
+        work = work.0;
+        clock = section_back decls are (IsClock decls) (no_entries decls are) w.1.1.0.1.0 singles.1.0;
+        table = section_back decls are (IsTable decls) (no_entries decls are) w.1.1.0.1.1 singles.1.1;
+        sems = family_back decls are (IsSem decls) (no_entries decls are) is_sem w.1.1.1.0.0 families.0;
+        msgqs = family_back decls are (IsMsgq decls) (no_entries decls are) is_msgq w.1.1.1.0.1.0 families.1.0;
+        signals = signals.0;
+        chans = family_back decls are (IsChan decls) (no_entries decls are) is_chan w.1.1.1.0.1.1.1.0 families.1.1.1.0;
+        observers = family_back decls are (IsObs decls) (no_entries decls are) is_observer w.1.1.1.0.1.1.1.1 families.1.1.1.1;
+        item_looks = work.1;
+        signal_looks = signals.1;
+        logs = players_back decls are (stood (trace_of w)) count 0 w.1.1.1.1 fits.1.1.1.1;
+      },
+      ap (λ both. replaced w both (map (shown decls are) (logs_of (stood (trace_of w)) 0 w.1.1.1.1))) (pairs-parts w.1.1.1.0.1.1.0)
+      ∙ ap (replaced w w.1.1.1.0.1.1.0) (shown-logs decls are (stood (trace_of w)) 0 w.1.1.1.1))
+
+  -- a trace is read exactly from its lines
+  pub trace_block : IsBlock (trace_lines s.decls) (IsInForm s) (read_trace s.decls) (λ line. Unit {0}) (λ line. ⊥)
+  trace_block =
+      made (whole s.decls are) trace_of
+      (λ t form. let is = there t form in (whole_of t, is, refl))
+      (λ w fits. let is = back w fits in (is.0, ap (whole_lines s.decls) (sym is.1)))

@@ -1,0 +1,84 @@
+ghost use Rattle.std.specs.Prelude.{◌≡◌, IfOk};
+ghost use Rattle.zk_blocks.specs.Blocks.{Gives};
+ghost use Rattle.zk_trace.specs.WholeRead.{state_of, player_state_of, read_player, read_players};
+
+use crate::feed::Feed;
+use crate::names::player_name;
+use crate::row_words::three_words;
+use crate::rows_read::read_rows;
+use crate::sections::PLAYER;
+use crate::words::state_word;
+use std::alloc::Global;
+use zk_base::{Listed, NoMemory};
+use zk_scenario::Scenario;
+use zk_words::Words;
+use zk_worker::{Answered, Answers, PlayerState};
+
+/// How players can stand.
+const STATES: [PlayerState; 4] = [
+    PlayerState::Spent,
+    PlayerState::Oops,
+    PlayerState::Done,
+    PlayerState::Standing,
+];
+
+/// How a player stands, by its word.
+fn state_of(word: &[u8]) -> Option<PlayerState>
+    ensures { result ≡ state_of word.now }
+{
+    STATES
+        .iter()
+        .copied()
+        .find(|state| word == state_word(*state))
+}
+
+/// How a player of this name stands, by its head.
+fn player_state_of(name: &[u8], row: &[u8]) -> Option<PlayerState>
+    ensures { result ≡ player_state_of name.now row.now }
+{
+    let (first, second, third) = three_words(Words::of(row))?;
+    if first == PLAYER && second == name {
+        state_of(third)
+    } else {
+        None
+    }
+}
+
+/// The section of a player; nothing where the lines don't go on so.
+fn read_player(
+    alloc: Global,
+    scenario: &Scenario,
+    player: u32,
+    feed: &mut Feed<'_>,
+) -> Result<Option<(PlayerState, Answers)>, NoMemory>
+    ensures { IfOk result (λ read. Gives (λ x. x) read feed.new (read_player scenario.now.decls player feed.old)) }
+{
+    let Some((line, rest)) = feed.next() else {
+        return Ok(None);
+    };
+    let name = player_name(scenario, player as usize);
+    let Some(state) = player_state_of(name, line) else {
+        return Ok(None);
+    };
+    feed.go_on(rest);
+    let answers = read_rows::<Answered>(alloc, scenario, feed)?;
+    Ok(Some((state, Listed::from_vec(answers))))
+}
+
+/// The sections of all players.
+pub fn read_players(
+    alloc: Global,
+    scenario: &Scenario,
+    feed: &mut Feed<'_>,
+) -> Result<Option<Listed<(PlayerState, Answers)>>, NoMemory>
+    ensures { IfOk result (λ read. Gives (λ x. x) read feed.new (read_players scenario.now.decls feed.old)) }
+{
+    let mut all = Vec::new(alloc);
+    for player in 0..scenario.players() {
+        match read_player(alloc, scenario, player, feed)? {
+            Some(one) => all.push(one)?,
+            None => return Ok(None),
+        }
+    }
+    Ok(Some(Listed::from_vec(all)))
+}
