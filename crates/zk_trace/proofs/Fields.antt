@@ -26,7 +26,7 @@ use Rattle.zk_words.specs.Text.{line_text}
 use Rattle.zk_words.proofs.HexText.{msg_spelled}
 use Rattle.zk_line.specs.declared.events.TheConstants.{MOST_EVENTS}
 use Rattle.zk_line.specs.declared.types.Decl.{Decl}
-use Rattle.zk_line.specs.Objects.{AreNames, name_at, number_of, object_of, is_at, is_thread, is_queue, is_chan, is_observer}
+use Rattle.zk_line.specs.Objects.{AreNames, name_at, number_of, object_of, is_thread, is_queue, is_chan, is_observer}
 use Rattle.zk_line.proofs.Options.{one_part}
 use Rattle.zk_trace.specs.Exact.{is_plain, IsPlain, IsUnfed, IsExact, IsExactRow}
 use Rattle.zk_trace.specs.Fields.{named, both, all_errnos, all_needs, all_whys, errno_of, need_of, why_of, oops_of, truth_of, waits_of, plug_of, state_of, flags_of, each_of, up_to, target_of, checked_of, thread_of, chan_of, observer_of, observers_of, behind, position_of, ready_of, queue_of, IsTarget, IsChecked, IsOf, IsMessage, AreObservers, ArePositions}
@@ -34,7 +34,7 @@ use Rattle.zk_trace.specs.Names.{target_name, checked_name, name_behind, names_w
 use Rattle.zk_trace.specs.Parts.{each_behind}
 use Rattle.zk_trace.specs.Words.{errno_word, need_word, why_word, oops_front, oops_word, flags_word, truth_word, wait_word, position_text, ready_front, ready_word}
 use Rattle.zk_trace.proofs.Lines.{join-first}
-use Rattle.zk_trace.proofs.NameWords.{unnamed, object_exact, object_named_exact, queue_exact}
+use Rattle.zk_trace.proofs.NameWords.{unnamed, unnamed_of, object_exact, object_named_exact, queue_exact}
 use Rattle.zk_trace.proofs.NumberWords.{fronted-again, fronted-spelled, position_exact}
 use Rattle.zk_trace.proofs.PlainWords.{IsOfWords, plain_by, lacks_is, lacks_plain, lacks-append, words-line, unfed-line}
 
@@ -422,7 +422,7 @@ module _ (decls : List Decl) (are : AreNames decls) where
   -- the queue that a submission names, or none
   pub target_exact : IsExact (target_name decls) (IsTarget decls) (target_of decls)
   target_exact = maybe_exact (target_name decls) (IsTarget decls) (queue_of decls) (queue_exact decls are) tt refl
-      (ap (λ o. option_map (number_of decls) (option_and_then (λ object. cond (is_at is_queue decls object) (Some object) None) o)) (unnamed decls are (target_name decls None) refl))
+      (ap (option_map (number_of decls)) (unnamed_of decls are is_queue (target_name decls None) refl))
 
   -- the object that a check asks of, or none
   pub checked_exact : IsExact (checked_name decls) (IsChecked decls) (checked_of decls)
@@ -466,7 +466,7 @@ module _ (decls : List Decl) (are : AreNames decls) where
         ∙ up_to-again most_few (object ∷ more) fits.few
 
     unmarked : others mark ≡ None
-    unmarked = ap (λ o. option_and_then (up_to most_few) (option_and_then (λ x. Some (x ∷ [])) (option_and_then (λ object. cond (is_at is_observer decls object) (Some object) None) o))) (unnamed decls are mark refl)
+    unmarked = ap (λ o. option_and_then (up_to most_few) (option_and_then (λ x. Some (x ∷ [])) o)) (unnamed_of decls are is_observer mark refl)
 
     again : (told : List ℕ) → AreObservers decls told → observers_of decls (names_word decls told) ≡ Some told
     again [] fits = refl

@@ -72,6 +72,10 @@ module _ (decls : List Decl) (are : AreNames decls) where
     plain = λ object below. plain-name (name_at decls object) (is_name-at object below);
   }
 
+  -- nor one of a kind
+  pub unnamed_of : (test : Decl → Bool) (word : List ℕ) → is_name word ≡ false → object_named test decls word ≡ None
+  unnamed_of test word no_name = ap (option_and_then (λ object. cond (is_at test decls object) (Some object) None)) (unnamed word no_name)
+
   below-at : (test : Decl → Bool) (object : ℕ) → IsOf test decls object → object < length decls
   below-at test object is = let o = declared test decls object is in slice_get_within decls object o.d o.there
 

@@ -21,12 +21,13 @@ abbrev pub AllDiffer : {W R : Type 0} → (R → W) → List R → Type 0
 AllDiffer text [] = Unit {0}
 AllDiffer text (r ∷ rs) = IsNoText text (text r) rs × AllDiffer text rs
 
--- the same two as tests
 module _ {W R : Type 0} (same : W → W → Bool) (text : R → W) where
+  -- whether none of some is written as this
   abbrev pub is_no_text : W → List R → Bool
   is_no_text word [] = true
   is_no_text word (r ∷ rs) = if same word (text r) then false else is_no_text word rs
 
+  -- whether all are written otherwise
   abbrev pub all_differ : List R → Bool
   all_differ [] = true
   all_differ (r ∷ rs) = if is_no_text (text r) rs then all_differ rs else false

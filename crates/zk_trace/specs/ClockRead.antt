@@ -50,7 +50,7 @@ open_reply decls verbs.Announce row = said_behind (fixed_word Now) (one replies.
 open_reply decls verbs.Alarm row = said_behind (fixed_word At) (one replies.At wide_of) (words_of row)
 open_reply decls verb row = None
 
--- which those are
+-- which the others are
 abbrev pub FitsOpen : List Decl → Verb → ClockReply → Type 0
 FitsOpen decls verbs.Announce (replies.Now time) = time < 2 ^ 64
 FitsOpen decls verbs.Alarm (replies.At moment) = moment < 2 ^ 64

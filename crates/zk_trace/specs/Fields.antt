@@ -171,33 +171,38 @@ abbrev pub ready_of : List ℕ → Option (List ℕ)
 ready_of row =
     option_and_then (up_to MOST_EVENTS) (option_and_then (each_of position_of) (behind ready_front (words_of row)))
 
--- just so many words
+-- the word, where there is just one
 abbrev pub one_word : List (List ℕ) → Option (List ℕ)
 one_word (word ∷ []) = Some word
 one_word words = None
 
+-- the words, where there are just two
 abbrev pub two_words : List (List ℕ) → Option (List ℕ × List ℕ)
 two_words (first ∷ second ∷ []) = Some (first, second)
 two_words words = None
 
+-- the words, where there are just three
 abbrev pub three_words : List (List ℕ) → Option (List ℕ × List ℕ × List ℕ)
 three_words (first ∷ second ∷ third ∷ []) = Some (first, second, third)
 three_words words = None
 
--- what is made of no word, of one, of two and of three
+-- this, where there is no word
 abbrev pub bare : {A : Type 0} → A → List (List ℕ) → Option A
 bare made [] = Some made
 bare made (word ∷ words) = None
 
+-- what is made of one word
 module _ {A D : Type 0} (make : A → D) (of : List ℕ → Option A) where
   abbrev pub one : List (List ℕ) → Option D
   one words = option_and_then (λ word. option_map make (of word)) (one_word words)
 
+-- what is made of two words
 module _ {A B D : Type 0} (make : A → B → D) (first_of : List ℕ → Option A) (second_of : List ℕ → Option B) where
   abbrev pub two : List (List ℕ) → Option D
   two words =
       option_and_then (λ w. option_and_then (λ a. option_map (make a) (second_of w.1)) (first_of w.0)) (two_words words)
 
+-- what is made of three words
 module _ {A B C D : Type 0} (make : A → B → C → D) (first_of : List ℕ → Option A) (second_of : List ℕ → Option B)
     (third_of : List ℕ → Option C) where
   abbrev pub three : List (List ℕ) → Option D
@@ -214,13 +219,15 @@ said_by verb_word all op_behind (word ∷ words) =
 
 -- What fits.
 
--- an item, a queue, and a queue or none
+-- an item, by its number among the items
 abbrev pub IsItem : List Decl → ℕ → Type 0
 IsItem decls item = item < length (places is_item decls)
 
+-- a queue, by its number among the queues
 abbrev pub IsQueue : List Decl → ℕ → Type 0
 IsQueue decls queue = queue < length (places is_queue decls)
 
+-- a queue or none
 abbrev pub IsTarget : List Decl → Option ℕ → Type 0
 IsTarget decls None = Unit {0}
 IsTarget decls (Some queue) = IsQueue decls queue
@@ -229,10 +236,11 @@ IsTarget decls (Some queue) = IsQueue decls queue
 abbrev pub IsOf : (Decl → Bool) → List Decl → ℕ → Type 0
 IsOf test decls object = is_at test decls object ≡ true
 
--- an object of any kind, and one or none
+-- an object of any kind
 abbrev pub IsObject : List Decl → ℕ → Type 0
 IsObject decls object = object < length decls
 
+-- an object or none
 abbrev pub IsChecked : List Decl → Option ℕ → Type 0
 IsChecked decls None = Unit {0}
 IsChecked decls (Some object) = IsObject decls object

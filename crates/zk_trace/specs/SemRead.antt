@@ -63,7 +63,7 @@ abbrev pub open_reply : List Decl → Verb → List ℕ → Option SemReply
 open_reply decls verbs.Count row = option_map replies.Number (narrow_of row)
 open_reply decls verb row = None
 
--- which those are
+-- which the others are
 abbrev pub FitsOpen : List Decl → Verb → SemReply → Type 0
 FitsOpen decls verbs.Count (replies.Number number) = number < 2 ^ 32
 FitsOpen decls verb reply = ⊥

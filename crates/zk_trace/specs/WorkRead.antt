@@ -108,6 +108,7 @@ words_eq words other = pointwise bytes_eq words other
 abbrev pub submission_of : List Decl → List (List ℕ) → Option Submitted
 submission_of decls words = one_of words_eq (submitted_words decls) (admitted_of decls) fixed_submissions words
 
+-- it can become so
 abbrev pub IsSubmission : List Decl → Submitted → Type 0
 IsSubmission decls submitted = IsIn submitted fixed_submissions ⊎ FitsAdmitted decls submitted
 
@@ -115,16 +116,17 @@ IsSubmission decls submitted = IsIn submitted fixed_submissions ⊎ FitsAdmitted
 abbrev pub expiry : ℕ → Submitted → Expiry
 expiry item submitted = record { item = item; submitted = submitted }
 
--- the same by its words
+-- the same, by its words
 abbrev pub expiry_by : List Decl → List (List ℕ) → Option Expiry
 expiry_by decls [] = None
 expiry_by decls (item ∷ words) =
     option_and_then (λ i. option_map (λ s. expiry i s) (submission_of decls words)) (item_of decls item)
 
--- and by all of them joined by colons
+-- the same, by its words with colons between them
 abbrev pub expiry_of : List Decl → List ℕ → Option Expiry
 expiry_of decls word = expiry_by decls (pieces_between colon word)
 
+-- the item is declared, and its submission can become so
 abbrev pub IsExpiry : List Decl → Expiry → Type 0
 IsExpiry decls e = IsItem decls e.item × IsSubmission decls e.submitted
 
@@ -161,14 +163,15 @@ fixed_replies verbs.Announce = []
 fixed_replies verbs.Begin = []
 fixed_replies verbs.End = replies.Done ∷ []
 
--- the others, by what stands behind the sign: what became of a submission that was admitted, and a number
+-- a submission that was admitted, by what stands behind the sign
 abbrev pub sub_of : List Decl → List ℕ → Option WorkReply
 sub_of decls row = option_map replies.Sub (admitted_of decls (words_of row))
 
+-- a number, by what stands behind the sign
 abbrev pub number_of : List ℕ → Option WorkReply
 number_of row = option_map replies.Number (wide_of row)
 
--- and all others
+-- the others, by what stands behind the sign
 abbrev pub open_reply : List Decl → Verb → List ℕ → Option WorkReply
 open_reply decls verbs.Submit row = sub_of decls row
 open_reply decls verbs.Cancel row = option_map replies.Flags (flags_of row)
@@ -182,15 +185,17 @@ open_reply decls verbs.Announce row = said_behind (fixed_word Now) (now_of decls
 open_reply decls verbs.Begin row = two replies.Run (item_of decls) admission_of (words_of row)
 open_reply decls verb row = None
 
--- which those are
+-- a submission that was admitted
 abbrev pub FitsSub : List Decl → WorkReply → Type 0
 FitsSub decls (replies.Sub submitted) = FitsAdmitted decls submitted
 FitsSub decls reply = ⊥
 
+-- a number of 64 bits
 abbrev pub FitsNumber : WorkReply → Type 0
 FitsNumber (replies.Number number) = number < 2 ^ 64
 FitsNumber reply = ⊥
 
+-- which the others are
 abbrev pub FitsOpen : List Decl → Verb → WorkReply → Type 0
 FitsOpen decls verbs.Submit reply = FitsSub decls reply
 FitsOpen decls verbs.Cancel (replies.Flags flags) = flags < 32

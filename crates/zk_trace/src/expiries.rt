@@ -9,15 +9,12 @@ use crate::look_ups::{item_of, queue_of};
 use crate::numerals::admission_of;
 use crate::parts::{FixedWord, fixed_word, static_row};
 use crate::row_words::{one_word, two_words};
-use crate::work::submitted_parts;
+use crate::work::{COLON, submitted_parts};
 use std::alloc::Global;
 use zk_base::{Errno, Listed, NoMemory};
 use zk_model_work::{Expiries, Expiry, Submitted};
 use zk_scenario::Scenario;
 use zk_words::{Pieces, Words};
-
-/// The byte between the parts of a delay that ended.
-const COLON: u8 = b':';
 
 /// What was admitted: behind the answer the number of the admission and the queue.
 pub fn admitted_of<const SEPARATOR: u8>(

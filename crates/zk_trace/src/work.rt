@@ -13,6 +13,9 @@ use zk_base::NoMemory;
 use zk_model_work::{Expiry, Submitted, WorkOp, WorkReply};
 use zk_scenario::Scenario;
 
+/// The byte between the words of a delay that ended.
+pub const COLON: u8 = b':';
+
 /// The verbs of the work service's operations.
 #[derive(Clone, Copy)]
 pub enum Verb {
@@ -201,7 +204,7 @@ fn put_expiry(out: &mut Vec<u8>, scenario: &Scenario, expiry: Expiry) -> Result<
     ensures kept { OnErr result (StaysInFront out.old.items out.new.items) }
 {
     put_part(out, scenario, b' ', &Part::Item(expiry.item))?;
-    put_parts(out, scenario, b':', &submitted_parts(expiry.submitted))
+    put_parts(out, scenario, COLON, &submitted_parts(expiry.submitted))
 }
 
 impl Sizes for WorkOp {
