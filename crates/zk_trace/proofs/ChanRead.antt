@@ -1,5 +1,5 @@
 -- The operations and the replies of a channel are read exactly.
-use Rattle.std.proofs.Common.{◌≡◌, ℕ, true, Some, List, [], map, is_none, refl}
+use Rattle.std.proofs.Common.{◌≡◌, ℕ, true, Some, List, map, is_none, refl}
 use Rattle.std.specs.List.{list_all}
 use Rattle.zk_line.specs.declared.types.Decl.{Decl}
 use Rattle.zk_line.specs.Objects.{AreNames}
@@ -14,6 +14,7 @@ use Rattle.zk_trace.specs.ChanRead.{all_verbs, verb_of, op_behind, op_of, FitsOp
 use Rattle.zk_trace.specs.Exact.{IsPlain, IsExactRow, IsSpelled}
 use Rattle.zk_trace.specs.Fields.{IsMessage, AreObservers}
 use Rattle.zk_trace.specs.Parts.{part_word}
+use Rattle.zk_trace.proofs.EntryRead.{IsWorded}
 use Rattle.zk_trace.proofs.Fields.{as_row, made, no_row, waits_exact, state_exact, message_exact, observer_exact, observers_exact}
 use Rattle.zk_trace.proofs.NumberWords.{wide_exact}
 use Rattle.zk_trace.proofs.Sayings.{AreRead, SaysOp, bare-says, one-there, one-says, two-there, two-says, is_table, apart_by_reading, service_spelled}
@@ -85,6 +86,6 @@ module _ (decls : List Decl) (are : AreNames decls) where
       table others (λ v. apart_by_reading (reply_row decls) (FitsOpen decls v) (open_reply decls v) (fixed_replies v) (others v) (unread v))
 
 -- each reply has a word
-pub chan_some : (decls : List Decl) (r : ChanReply) → reply_words decls r ≡ [] → ⊥
-chan_some decls replies.Got none = absurd (cc)
-chan_some decls r none = absurd (cc)
+pub chan_worded : (decls : List Decl) (r : ChanReply) → IsWorded (reply_words decls r)
+chan_worded decls replies.Got = tt
+chan_worded decls r = tt

@@ -1,5 +1,5 @@
 -- The operations and the replies of a message queue are read exactly.
-use Rattle.std.proofs.Common.{◌≡◌, ℕ, ◌^◌, ◌<◌, true, Some, List, [], map, is_none, refl}
+use Rattle.std.proofs.Common.{◌≡◌, ℕ, ◌^◌, ◌<◌, true, Some, List, map, is_none, refl}
 use Rattle.std.specs.List.{list_all}
 use Rattle.zk_line.specs.declared.types.Decl.{Decl}
 use Rattle.zk_line.specs.Objects.{AreNames}
@@ -14,6 +14,7 @@ use Rattle.zk_trace.specs.Fields.{IsMessage}
 use Rattle.zk_trace.specs.Parts.{part_word}
 use Rattle.zk_trace.specs.Msgq.{verb_word, said_of, op_words, reply_words}
 use Rattle.zk_trace.specs.MsgqRead.{all_verbs, verb_of, op_behind, op_of, FitsOp, fixed_replies, bytes_reply, number_reply, open_reply, IsBytes, IsNumber, FitsOpen, reply_row, reply_of, AnswersTo}
+use Rattle.zk_trace.proofs.EntryRead.{IsWorded}
 use Rattle.zk_trace.proofs.Fields.{as_row, made, no_row, waits_exact, message_exact}
 use Rattle.zk_trace.proofs.NumberWords.{wide_exact, narrow_exact}
 use Rattle.zk_trace.proofs.Sayings.{AreRead, SaysOp, bare-says, one-there, one-says, two-there, two-says, is_table, apart_by_reading, service_spelled}
@@ -101,6 +102,6 @@ module _ (decls : List Decl) (are : AreNames decls) where
       table others (λ v. apart_by_reading (reply_row decls) (FitsOpen decls v) (open_reply decls v) (fixed_replies v) (others v) (unread v))
 
 -- each reply has a word
-pub msgq_some : (decls : List Decl) (r : MsgqReply) → reply_words decls r ≡ [] → ⊥
-msgq_some decls replies.Done none = absurd (cc)
-msgq_some decls r none = absurd (cc)
+pub msgq_worded : (decls : List Decl) (r : MsgqReply) → IsWorded (reply_words decls r)
+msgq_worded decls replies.Done = tt
+msgq_worded decls r = tt

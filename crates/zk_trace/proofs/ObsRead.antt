@@ -17,6 +17,7 @@ use Rattle.zk_trace.specs.Fields.{IsOf}
 use Rattle.zk_trace.specs.Obs.{verb_word, said_of, op_words, reply_words}
 use Rattle.zk_trace.specs.ObsRead.{all_verbs, verb_of, op_behind, op_of, FitsOp, fixed_replies, channel_reply, open_reply, IsChannel, FitsOpen, reply_row, reply_of, AnswersTo}
 use Rattle.zk_trace.specs.Parts.{part_word}
+use Rattle.zk_trace.proofs.EntryRead.{IsWorded}
 use Rattle.zk_trace.proofs.Fields.{as_row, made, no_row, waits_exact, state_exact, chan_exact}
 use Rattle.zk_trace.proofs.NameWords.{unnamed}
 use Rattle.zk_trace.proofs.NumberWords.{wide_exact}
@@ -88,6 +89,6 @@ module _ (decls : List Decl) (are : AreNames decls) where
       table others (λ v. apart_by_reading (reply_row decls) (FitsOpen decls v) (open_reply decls v) (fixed_replies v) (others v) (unread v))
 
 -- each reply has a word
-pub obs_some : (decls : List Decl) (r : ObsReply) → reply_words decls r ≡ [] → ⊥
-obs_some decls replies.Off none = absurd (cc)
-obs_some decls r none = absurd (cc)
+pub obs_worded : (decls : List Decl) (r : ObsReply) → IsWorded (reply_words decls r)
+obs_worded decls replies.Off = tt
+obs_worded decls r = tt

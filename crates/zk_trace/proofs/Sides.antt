@@ -124,15 +124,6 @@ sides-spelled row front rest said = option_and_then_some trimmed (halves equals 
     ∙ ap (λ p. (p.0 ++ codes " ") ++ equals ∷ space ∷ p.1) r.2
     ∙ append_assoc front (codes " ") (equals ∷ space ∷ rest) ∙ sym (append_assoc front sign rest)))
 
--- the words of a line with a sign among them
-pub sides-line : (word : List ℕ) (words : List (List ℕ)) (first : List ℕ) (rest : List (List ℕ))
-    → line_text (word ∷ words ++ codes "=" ∷ first ∷ rest) ≡ sides_row (word ∷ words) (line_text (first ∷ rest))
-sides-line word [] first rest = sym (append_assoc word sign (line_text (first ∷ rest)))
-sides-line word (next ∷ words) first rest =
-    ap (λ l. word ++ space ∷ l) (sides-line next words first rest)
-    ∙ sym (append_assoc word (space ∷ line_text (next ∷ words) ++ sign) (line_text (first ∷ rest)))
-    ∙ ap (λ l. l ++ line_text (first ∷ rest)) (sym (append_assoc word (space ∷ line_text (next ∷ words)) sign))
-
 -- what is made of both sides of a row is read exactly, where both sides are
 module _ {A B C : Type 0} {words_of_front : A → List (List ℕ)} {FitsFront : A → Type 0} {front_of : List (List ℕ) → Option A}
     {text : B → List ℕ} {FitsAnswer : A → B → Type 0} {answer_of : A → List ℕ → Option B}

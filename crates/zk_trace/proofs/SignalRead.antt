@@ -1,5 +1,5 @@
 -- The operations and the replies of a signal are read exactly.
-use Rattle.std.proofs.Common.{◌≡◌, ℕ, ◌^◌, ◌<◌, Some, List, [], map, refl}
+use Rattle.std.proofs.Common.{◌≡◌, ℕ, ◌^◌, ◌<◌, Some, List, map, refl}
 use Rattle.zk_line.specs.declared.types.Decl.{Decl}
 use Rattle.zk_line.specs.Objects.{AreNames}
 use Rattle.zk_model_wait.specs.declared.signal.SignalOp.{SignalOp}
@@ -12,6 +12,7 @@ use Rattle.zk_trace.specs.Exact.{IsPlain, IsExactRow, IsSpelled}
 use Rattle.zk_trace.specs.Parts.{part_word}
 use Rattle.zk_trace.specs.Signal.{verb_word, said_of, op_words, reply_words}
 use Rattle.zk_trace.specs.SignalRead.{all_verbs, verb_of, op_behind, op_of, FitsOp, fixed_replies, open_reply, FitsOpen, reply_row, reply_of, AnswersTo}
+use Rattle.zk_trace.proofs.EntryRead.{IsWorded}
 use Rattle.zk_trace.proofs.Fields.{as_row, made}
 use Rattle.zk_trace.proofs.NumberWords.{short_exact, narrow_exact}
 use Rattle.zk_trace.proofs.Sayings.{AreRead, SaysOp, bare-says, one-there, one-says, service_spelled}
@@ -49,5 +50,5 @@ module _ (decls : List Decl) (are : AreNames decls) where
       (λ v. refl) others (λ v r fits. tt)
 
 -- each reply has a word
-pub signal_some : (decls : List Decl) (r : SignalReply) → reply_words decls r ≡ [] → ⊥
-signal_some decls (replies.Stamp stamp) none = absurd (cc)
+pub signal_worded : (decls : List Decl) (r : SignalReply) → IsWorded (reply_words decls r)
+signal_worded decls (replies.Stamp stamp) = tt

@@ -1,5 +1,5 @@
 -- The operations and the replies of the object table are read exactly.
-use Rattle.std.proofs.Common.{◌≡◌, ℕ, true, Some, List, [], map, is_none, refl}
+use Rattle.std.proofs.Common.{◌≡◌, ℕ, true, Some, List, map, is_none, refl}
 use Rattle.std.specs.List.{list_all}
 use Rattle.zk_line.specs.declared.types.Decl.{Decl}
 use Rattle.zk_line.specs.Objects.{AreNames}
@@ -14,6 +14,7 @@ use Rattle.zk_trace.specs.Exact.{IsPlain, IsExactRow, IsSpelled}
 use Rattle.zk_trace.specs.Parts.{part_word}
 use Rattle.zk_trace.specs.Table.{verb_word, said_of, op_words, reply_words}
 use Rattle.zk_trace.specs.TableRead.{all_verbs, verb_of, op_behind, op_of, FitsOp, fixed_replies, open_reply, IsOops, FitsOpen, reply_row, reply_of, AnswersTo}
+use Rattle.zk_trace.proofs.EntryRead.{IsWorded}
 use Rattle.zk_trace.proofs.Fields.{made, no_row, need_exact, oops_exact, checked_exact, thread_exact}
 use Rattle.zk_trace.proofs.NameWords.{object_exact}
 use Rattle.zk_trace.proofs.Sayings.{AreRead, SaysOp, bare-says, one-there, one-says, two-there, two-says, is_table, apart_by_reading, service_spelled}
@@ -71,6 +72,6 @@ module _ (decls : List Decl) (are : AreNames decls) where
       table others (λ v. apart_by_reading (reply_row decls) (FitsOpen decls v) (open_reply decls v) (fixed_replies v) (others v) (unread v))
 
 -- each reply has a word
-pub table_some : (decls : List Decl) (r : TableReply) → reply_words decls r ≡ [] → ⊥
-table_some decls replies.Done none = absurd (cc)
-table_some decls r none = absurd (cc)
+pub table_worded : (decls : List Decl) (r : TableReply) → IsWorded (reply_words decls r)
+table_worded decls replies.Done = tt
+table_worded decls r = tt

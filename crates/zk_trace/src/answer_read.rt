@@ -1,9 +1,11 @@
 ghost use Rattle.std.specs.Prelude.{◌≡◌, option_map, option_and_then};
+ghost use Rattle.std.specs.Str.{bytes_eq};
 ghost use Rattle.zk_trace.specs.AnswerRead.{call_of, refusals, refusal_of, can_be_value, value_words_of, signal_value, value_of, answer_of, answered_front_of, answered_of};
 ghost use Rattle.zk_trace.specs.Fields.{named};
 ghost use Rattle.zk_trace.specs.Sides.{kept};
-ghost use Rattle.zk_trace.specs.Words.{errno_word};
+ghost use Rattle.zk_trace.specs.Words.{errno_word, call_word};
 
+use crate::choosing::first_of;
 use crate::flags::flags_of;
 use crate::halves::sides_of;
 use crate::look_read::{can_be, raised_of};
@@ -18,56 +20,61 @@ use zk_scenario::Scenario;
 use zk_words::{Word, Words};
 use zk_worker::{Answer, Answered};
 
-/// All calls.
-const CALLS: [Word; 41] = [
-    Word::Submit,
-    Word::Cancel,
-    Word::CancelSync,
-    Word::Flush,
-    Word::Schedule,
-    Word::Reschedule,
-    Word::Remaining,
-    Word::Busy,
-    Word::Start,
-    Word::Drain,
-    Word::Unplug,
-    Word::Tick,
-    Word::Take,
-    Word::Give,
-    Word::Reset,
-    Word::Count,
-    Word::Put,
-    Word::Get,
-    Word::Peek,
-    Word::PeekAt,
-    Word::Purge,
-    Word::Used,
-    Word::Free,
-    Word::Raise,
-    Word::Clear,
-    Word::Check,
-    Word::Poll,
-    Word::Claim,
-    Word::Finish,
-    Word::Publish,
-    Word::Notify,
-    Word::Read,
-    Word::Mask,
-    Word::Enable,
-    Word::SubWait,
-    Word::Grant,
-    Word::Release,
-    Word::Revoke,
-    Word::Public,
-    Word::Init,
-    Word::User,
-];
-
-/// A call, as it is spelled in a scenario.
+/// A call, as it is spelled in a scenario. The compiler makes of each a comparison with the table's own text.
 fn call_of(word: &[u8]) -> Option<Word>
     ensures { result ≡ call_of word.now }
 {
-    CALLS.iter().copied().find(|call| word == call_word(*call))
+    first_of!(
+        is_spelled,
+        word;
+        Word::Submit,
+        Word::Cancel,
+        Word::CancelSync,
+        Word::Flush,
+        Word::Schedule,
+        Word::Reschedule,
+        Word::Remaining,
+        Word::Busy,
+        Word::Start,
+        Word::Drain,
+        Word::Unplug,
+        Word::Tick,
+        Word::Take,
+        Word::Give,
+        Word::Reset,
+        Word::Count,
+        Word::Put,
+        Word::Get,
+        Word::Peek,
+        Word::PeekAt,
+        Word::Purge,
+        Word::Used,
+        Word::Free,
+        Word::Raise,
+        Word::Clear,
+        Word::Check,
+        Word::Poll,
+        Word::Claim,
+        Word::Finish,
+        Word::Publish,
+        Word::Notify,
+        Word::Read,
+        Word::Mask,
+        Word::Enable,
+        Word::SubWait,
+        Word::Grant,
+        Word::Release,
+        Word::Revoke,
+        Word::Public,
+        Word::Init,
+        Word::User
+    )
+}
+
+fn is_spelled(call: Word, word: &[u8]) -> bool
+    ensures { result ≡ bytes_eq word.now (call_word call) }
+{
+    word == call_word(call)
 }
 
 /// With what a call can be refused.

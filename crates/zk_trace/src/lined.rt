@@ -51,6 +51,9 @@ impl<O: Spelled, R: Spelled> Lined for Entry<O, R> {
     }
 }
 
+/// What stands between the name of a player and the number of its step.
+pub const POINT: u8 = b'.';
+
 /// Whose step it is, and which.
 pub fn put_spot(
     out: &mut Vec<u8>,
@@ -62,7 +65,7 @@ pub fn put_spot(
     ensures kept { OnErr result (StaysInFront out.old.items out.new.items) }
 {
     put(out, player_name(scenario, player as usize))?;
-    out.push(b'.')?;
+    out.push(POINT)?;
     put_decimal(out, u64::from(step))
 }
 

@@ -3,6 +3,7 @@ ghost use Rattle.zk_line.specs.Objects.{is_at, is_thread, is_queue, places, numb
 ghost use Rattle.zk_trace.specs.SpotRead.{player_at, player_of, step_of, spot_of};
 
 use crate::halves::halves;
+use crate::lined::POINT;
 use crate::numerals::narrow_of;
 use zk_base::Who;
 use zk_scenario::{Decl, Scenario};
@@ -36,7 +37,7 @@ fn worker_at(scenario: &Scenario, object: u32) -> u32
 pub fn step_of(scenario: &Scenario, word: &[u8]) -> Option<(u32, u32)>
     ensures { result ≡ step_of scenario.now.decls word.now }
 {
-    let (name, step) = halves(b'.', word)?;
+    let (name, step) = halves(POINT, word)?;
     let player = player_of(scenario, name)?;
     Some((player, narrow_of(step)?))
 }
