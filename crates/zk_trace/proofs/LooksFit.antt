@@ -38,7 +38,7 @@ next-player (Some last) player step stands = grind (arith, nat_tests)
 behind-itself : (player step : ℕ) → may_stand (Some (player, step)) (player, step + 1) ≡ true
 behind-itself player step = grind (arith, nat_tests)
 
-all-append : {A : Type 0} (P : A → Type 0) (xs ys : List A) → AllByRecursion P xs → AllByRecursion P ys → AllByRecursion P (xs ++ ys)
+pub all-append : {A : Type 0} (P : A → Type 0) (xs ys : List A) → AllByRecursion P xs → AllByRecursion P ys → AllByRecursion P (xs ++ ys)
 all-append P [] ys all more = more
 all-append P (x ∷ xs) ys all more = (all.0, all-append P xs ys all.1 more)
 
@@ -77,7 +77,7 @@ module _ {L : Type 0} (look_at : ℕ → ℕ → Spot → Option L) (step_of : L
   all-rise player (log ∷ logs) last stands = player-rises player 0 log.steps last (all_looks look_at (player + 1) logs) stands (λ later. all-rise (player + 1) logs later)
 
   module _ (P : L → Type 0) where
-    steps-each : (player step : ℕ) (steps : List Spot) → ((k : ℕ) (spot : Spot) (l : L) → slice_get steps k ≡ Some spot → look_at player (step + k) spot ≡ Some l → P l) →
+    pub steps-each : (player step : ℕ) (steps : List Spot) → ((k : ℕ) (spot : Spot) (l : L) → slice_get steps k ≡ Some spot → look_at player (step + k) spot ≡ Some l → P l) →
         AllByRecursion P (looks_from look_at player step steps)
     steps-each player step [] each = tt
     steps-each player step (spot ∷ steps) each =
@@ -89,7 +89,7 @@ module _ {L : Type 0} (look_at : ℕ → ℕ → Spot → Option L) (step_of : L
         by (Some l) is rest = (each zero spot l refl (let same : step + zero ≡ step = omega arith in ap (λ (n : ℕ). look_at player n spot) same ∙ is), rest)
 
     -- what holds of the look that each step is, if it is one, holds of all looks
-    logs-each : (player : ℕ) (logs : List Log) → ((number : ℕ) (log : Log) (k : ℕ) (spot : Spot) (l : L) → slice_get logs number ≡ Some log → slice_get log.steps k ≡ Some spot →
+    pub logs-each : (player : ℕ) (logs : List Log) → ((number : ℕ) (log : Log) (k : ℕ) (spot : Spot) (l : L) → slice_get logs number ≡ Some log → slice_get log.steps k ≡ Some spot →
         look_at (player + number) k spot ≡ Some l → P l) → AllByRecursion P (all_looks look_at player logs)
     logs-each player [] each = tt
     logs-each player (log ∷ logs) each =
@@ -102,7 +102,7 @@ module _ {L : Type 0} (look_at : ℕ → ℕ → Spot → Option L) (step_of : L
 
 -- Looks at items.
 
-item-own : (player step : ℕ) (spot : Spot) (l : ItemLook) → item_look_at player step spot ≡ Some l → ◌≡◌ {A = ℕ × ℕ} (item_step l) (player, step)
+pub item-own : (player step : ℕ) (spot : Spot) (l : ItemLook) → item_look_at player step spot ≡ Some l → ◌≡◌ {A = ℕ × ℕ} (item_step l) (player, step)
 item-own player step (spots.LookItem item flags at) l is =
     ap item_step (sym (same_Some (record { player = player; step = step; item = item; flags = flags; at = at }) l is))
 item-own player step spot l is = absurd (none-some l is)
@@ -143,7 +143,7 @@ item-looks-fit decls logs holds sized =
 
 -- Looks at signals.
 
-signal-own : (object player step : ℕ) (spot : Spot) (l : SignalLook) → signal_look_at object player step spot ≡ Some l → ◌≡◌ {A = ℕ × ℕ} (signal_step l) (player, step)
+pub signal-own : (object player step : ℕ) (spot : Spot) (l : SignalLook) → signal_look_at object player step spot ≡ Some l → ◌≡◌ {A = ℕ × ℕ} (signal_step l) (player, step)
 signal-own object player step (spots.LookSignal at seen) l is = by (at == object) is where
   by : (b : Bool) → cond b (Some (record { player = player; step = step; seen = seen })) None ≡ Some l → ◌≡◌ {A = ℕ × ℕ} (signal_step l) (player, step)
   by true is = ap signal_step (sym (same_Some (record { player = player; step = step; seen = seen }) l is))

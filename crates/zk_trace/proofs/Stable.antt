@@ -48,7 +48,7 @@ module _ {A : Type 0} (key : A → ℕ) where
   ascends-put_all sorted (x ∷ xs) up = ascends-put_all (put_by key x sorted) xs (Ascends-put_by key x sorted up)
 
   -- those of one key
-  abbrev of_key : ℕ → List A → List A
+  abbrev pub of_key : ℕ → List A → List A
   of_key k xs = filter (λ a. eqb k (key a)) xs
 
   with-key : (k : ℕ) (x : A) (xs : List A) → k ≡ key x → of_key k (x ∷ xs) ≡ x ∷ of_key k xs
@@ -67,7 +67,7 @@ module _ {A : Type 0} (key : A → ℕ) where
   not-below x y xs ys up same low = absurd (cc (with-key (key x) x xs refl, same, none-below (key x) y ys up low))
 
   -- ascending lists are the same where they have the same of each key
-  ascends-same : (xs ys : List A) → Ascends key xs → Ascends key ys → ((of : A) → of_key (key of) xs ≡ of_key (key of) ys) → xs ≡ ys
+  pub ascends-same : (xs ys : List A) → Ascends key xs → Ascends key ys → ((of : A) → of_key (key of) xs ≡ of_key (key of) ys) → xs ≡ ys
   ascends-same [] [] up over same = refl
   ascends-same [] (y ∷ ys) up over same = absurd (cc (same y, with-key (key y) y ys refl))
   ascends-same (x ∷ xs) [] up over same = absurd (cc (same x, with-key (key x) x xs refl))
@@ -107,3 +107,11 @@ module _ {A : Type 0} (key : A → ℕ) where
       sym (filter-same (ties below of) (λ a. eqb k (key a)) ys (λ a. tied-is k (key a))) ∙ stable of
       ∙ filter-same (ties below of) (λ a. eqb k (key a)) xs (λ a. tied-is k (key a))
       ∙ sym (filter-by_key (λ a. eqb k (key a)) key xs ∙ by_key-ascending key (of_key k xs) (ascends-one k (of_key k xs) (all-of_key k xs))))
+
+  -- and the list by key has those of one key as they were
+  pub of_key-by_key : (k : ℕ) (xs : List A) → of_key k (by_key key xs) ≡ of_key k xs
+  of_key-by_key k xs =
+      filter-by_key (λ a. eqb k (key a)) key xs ∙ by_key-ascending key (of_key k xs) (ascends-one k (of_key k xs) (all-of_key k xs))
+
+  pub ascends-by_key : (xs : List A) → Ascends key (by_key key xs)
+  ascends-by_key xs = ascends-put_all [] xs tt
