@@ -1,16 +1,21 @@
 -- Lines that are put one after another, each in the list of its player, stand there in their order.
-use Rattle.std.proofs.Common.{◌≡◌, ℕ, ◌+◌, ◌<◌, ◌≤◌, zero, suc, Bool, true, false, cond, eqb, ltb, Option, Some, None, List, [], ◌∷◌, ◌++◌, append_assoc, append-nil, length, get_or, drop, drop-cons, add-one, map, slice_set, slice_get, arith, refl, sym, ap, inl, inr, ◌∙◌}
+use Rattle.std.proofs.Common.{◌≡◌, ℕ, ◌+◌, ◌<◌, ◌≤◌, zero, suc, Bool, true, false, cond, eqb, eq-eqb, Option, Some, None, List, [], ◌∷◌, ◌++◌, append_assoc, append-nil, length, get_or, drop, drop-cons, add-one, map, slice_set, slice_get, arith, refl, sym, ap, inl, inr, ◌∙◌}
 use Rattle.std.specs.Prelude.{option_map}
-use Rattle.std.specs.List.{filter}
-use Rattle.std.proofs.lemmas.Bool.{cases_Bool, cond-true, cond-false, eqb-true, eqb-false}
+use Rattle.std.specs.List.{filter, range_with_len}
+use Rattle.std.proofs.lemmas.Bool.{cases_Bool, eqb-true, eqb-false, ne_eqb}
+use Rattle.std.proofs.lemmas.List.FromFn.{length-map-range_with_len}
+use Rattle.std.proofs.lemmas.Option.{same_Some, none-some}
 use Rattle.zk_base.specs.declared.ids.Entry.{Entry}
+use Rattle.zk_line.proofs.Options.{one_part}
 use Rattle.zk_trace.specs.declared.looks.SignalLook.{SignalLook}
 use Rattle.zk_trace.specs.declared.stood.Family.{Family}
 use Rattle.zk_trace.specs.declared.stood.Family.TheVariants as families
 use Rattle.zk_trace.specs.declared.stood.Home.TheVariants as homes
 use Rattle.zk_trace.specs.declared.stood.Stood.{Stood}
-use Rattle.zk_trace.specs.Stood.{is_of, put_line, put_lines, entries_stood, histories_stood, signal_look_stood, signals_stood}
+use Rattle.zk_trace.specs.declared.trace.Trace.{Trace}
+use Rattle.zk_trace.specs.Stood.{is_of, stood, sorted_spots, steps_of, put_line, put_lines, entries_stood, histories_stood, item_look_stood, signal_look_stood, signals_stood}
 use Rattle.zk_trace.specs.Text.{looks_at}
+use Rattle.zk_trace.specs.WholeRead.{Players, logs_of, logs_with}
 
 -- a line more at the end of a list that is there
 pub put-there : (player : ℕ) (line : Stood) (lists : List (List Stood)) (old new : List Stood) → player < length lists →
@@ -53,3 +58,105 @@ module _ {O R : Type 0} (hs : List (List (Entry O R))) (object : ℕ) (h : List 
       let more = signals_stood looks (object + 1) (drop (object + 1) hs) in
       sym (ap (λ l. put_lines (signals_stood looks object l) lists) next
       ∙ put-append (writes ++ seen) more lists ∙ ap (put_lines more) (put-append writes seen lists))
+
+-- all lines of a trace, part by part
+pub all-put : (t : Trace) (start a b c d e f g h end : List (List Stood)) →
+    a ≡ put_lines (entries_stood homes.Work 0 t.work) start → b ≡ put_lines (map item_look_stood t.item_looks) a → c ≡ put_lines (entries_stood homes.Clock 0 t.clock) b →
+    d ≡ put_lines (entries_stood homes.Table 0 t.table) c → e ≡ put_lines (histories_stood families.Sem 0 t.sems) d → f ≡ put_lines (histories_stood families.Msgq 0 t.msgqs) e →
+    g ≡ put_lines (signals_stood t.signal_looks 0 t.signals) f → h ≡ put_lines (histories_stood families.Chan 0 t.chans) g → end ≡ put_lines (histories_stood families.Obs 0 t.observers) h →
+    end ≡ put_lines (stood t) start
+all-put t start a b c d e f g h end is_a is_b is_c is_d is_e is_f is_g is_h is_end =
+    let work = entries_stood homes.Work 0 t.work in
+    let looks = map item_look_stood t.item_looks in
+    let clock = entries_stood homes.Clock 0 t.clock in
+    let table = entries_stood homes.Table 0 t.table in
+    let sems = histories_stood families.Sem 0 t.sems in
+    let msgqs = histories_stood families.Msgq 0 t.msgqs in
+    let signals = signals_stood t.signal_looks 0 t.signals in
+    let chans = histories_stood families.Chan 0 t.chans in
+    let observers = histories_stood families.Obs 0 t.observers in
+    is_end ∙ ap (put_lines observers)
+    (is_h ∙ ap (put_lines chans) (is_g ∙ ap (put_lines signals) (is_f ∙ ap (put_lines msgqs) (is_e ∙ ap (put_lines sems) (is_d ∙ ap (put_lines table) (is_c ∙ ap (put_lines clock) (is_b ∙ ap (put_lines looks) is_a)))))))
+    ∙ sym (parts work looks clock table sems msgqs signals chans observers start) where
+      parts : (a b c d e f g h i : List Stood) (lists : List (List Stood)) →
+          put_lines (a ++ b ++ c ++ d ++ e ++ f ++ g ++ h ++ i) lists ≡ put_lines i (put_lines h (put_lines g (put_lines f (put_lines e (put_lines d (put_lines c (put_lines b (put_lines a lists))))))))
+      parts a b c d e f g h i lists = simp put-append
+
+-- What stands in each list.
+
+suc-eqb : (a b : ℕ) → eqb (suc a) (suc b) ≡ eqb a b
+suc-eqb a b = elim (cases_Bool (eqb a b)) [
+  | inl same ↦ eq-eqb (suc a) (suc b) (ap suc (eqb-true a b same)) ∙ sym same
+  | inr other ↦ ne_eqb (suc a) (suc b) (λ same. eqb-false a b other (omega arith)) ∙ sym other
+]
+
+-- a list with nothing more
+nothing-more : (b : Bool) (line : Stood) (o : Option (List Stood)) → b ≡ false → o ≡ option_map (λ l. l ++ cond b (line ∷ []) []) o
+nothing-more b line None is = refl
+nothing-more b line (Some l) is = ap Some (sym (ap (λ c. l ++ cond c (line ∷ []) []) is ∙ append-nil l))
+
+-- a line more, in the list of its player
+put-get : (player : ℕ) (line : Stood) (lists : List (List Stood)) (k : ℕ) →
+    slice_get (put_line player line lists) k ≡ option_map (λ l. l ++ cond (eqb player k) (line ∷ []) []) (slice_get lists k)
+put-get player line [] k = refl
+put-get zero line (l ∷ ls) zero = refl
+put-get zero line (l ∷ ls) (suc k) = nothing-more (eqb 0 (suc k)) line (slice_get ls k) (ne_eqb 0 (suc k) (λ same. omega arith))
+put-get (suc player) line (l ∷ ls) zero = nothing-more (eqb (suc player) 0) line (Some l) (ne_eqb (suc player) 0 (λ same. omega arith))
+put-get (suc player) line (l ∷ ls) (suc k) =
+    put-get player line ls k ∙ ap (λ b. option_map (λ l. l ++ cond b (line ∷ []) []) (slice_get ls k)) (sym (suc-eqb player k))
+
+put-length : (player : ℕ) (line : Stood) (lists : List (List Stood)) → length (put_line player line lists) ≡ length lists
+put-length player line [] = refl
+put-length zero line (l ∷ ls) = refl
+put-length (suc player) line (l ∷ ls) = omega (arith, put-length player line ls)
+
+all-length : (lines : List Stood) (lists : List (List Stood)) → length (put_lines lines lists) ≡ length lists
+all-length [] lists = refl
+all-length (x ∷ lines) lists = all-length lines (put_line x.player x lists) ∙ put-length x.player x lists
+
+-- all lines, each in the list of its player
+all-get : (lines : List Stood) (lists : List (List Stood)) (k : ℕ) → slice_get (put_lines lines lists) k ≡ option_map (λ l. l ++ filter (is_of k) lines) (slice_get lists k)
+all-get [] lists k = same (slice_get lists k) where
+  same : (o : Option (List Stood)) → o ≡ option_map (λ l. l ++ []) o
+  same None = refl
+  same (Some l) = ap Some (sym (append-nil l))
+all-get (x ∷ lines) lists k =
+    all-get lines (put_line x.player x lists) k
+    ∙ ap (option_map (λ l. l ++ filter (is_of k) lines)) (put-get x.player x lists k)
+    ∙ joined (slice_get lists k) where
+      one : (b : Bool) (l : List Stood) → (l ++ cond b (x ∷ []) []) ++ filter (is_of k) lines ≡ l ++ cond b (x ∷ filter (is_of k) lines) (filter (is_of k) lines)
+      one true l = append_assoc l (x ∷ []) (filter (is_of k) lines)
+      one false l = ap (λ y. y ++ filter (is_of k) lines) (append-nil l)
+
+      joined : (o : Option (List Stood)) →
+          option_map (λ l. l ++ filter (is_of k) lines) (option_map (λ l. l ++ cond (eqb x.player k) (x ∷ []) []) o) ≡ option_map (λ l. l ++ filter (is_of k) (x ∷ lines)) o
+      joined None = refl
+      joined (Some l) = ap Some (one (eqb x.player k) l)
+
+-- logs by lists that are those of their players
+logs-same : (lines : List Stood) (lists : List (List Stood)) (player : ℕ) (all : Players) → length lists ≡ length all →
+    ((k : ℕ) (l : List Stood) → slice_get lists k ≡ Some l → l ≡ filter (is_of (player + k)) lines) → logs_with lists all ≡ logs_of lines player all
+logs-same lines [] player [] same each = refl
+logs-same lines [] player (one ∷ all) same each = absurd (omega (arith, same))
+logs-same lines (l ∷ lists) player [] same each = absurd (omega (arith, same))
+logs-same lines (l ∷ lists) player (one ∷ all) same each =
+    ap (λ x. record { state = one.0; steps = sorted_spots x; answers = one.1 } ∷ logs_with lists all) (each zero l refl ∙ ap (λ n. filter (is_of n) lines) (omega arith))
+    ∙ ap (λ x. record { state = one.0; steps = steps_of lines player; answers = one.1 } ∷ x)
+    (logs-same lines lists (player + 1) all (omega (arith, same)) (λ k m there. each (suc k) m there ∙ ap (λ n. filter (is_of n) lines) (omega arith)))
+
+-- what stands in a list of empty ones is empty
+empty-get : (numbers : List ℕ) (k : ℕ) (l : List Stood) → slice_get (map (λ player. []) numbers) k ≡ Some l → l ≡ []
+empty-get [] k l there = absurd (none-some l there)
+empty-get (n ∷ numbers) zero l there = sym (same_Some [] l there)
+empty-get (n ∷ numbers) (suc k) l there = empty-get numbers k l there
+
+-- the logs by the lists into which all lines were put
+pub logs-put : (lines : List Stood) (count : ℕ) (all : Players) → length all ≡ count →
+    logs_with (put_lines lines (map (λ player. []) (range_with_len 0 count))) all ≡ logs_of lines 0 all
+logs-put lines count all same =
+    let empty : List (List Stood) = map (λ player. []) (range_with_len 0 count) in
+    let long : length empty ≡ count = length-map-range_with_len (λ player. []) 0 count in
+    logs-same lines (put_lines lines empty) 0 all (omega (arith, all-length lines empty, long))
+    (λ k l there.
+    let part = one_part (λ (x : List Stood). x ++ filter (is_of k) lines) (slice_get empty k) l (sym (all-get lines empty k) ∙ there) in
+    sym part.2 ∙ ap (λ (x : List Stood). x ++ filter (is_of k) lines) (empty-get (range_with_len 0 count) k part.0 part.1) ∙ ap (λ n. filter (is_of n) lines) (omega arith))

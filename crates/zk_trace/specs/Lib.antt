@@ -6,6 +6,7 @@ pub mod EntryKinds
 pub mod Form
 pub mod WholeRead
 pub mod WholeParts
+pub mod TraceRead
 pub mod Names
 pub mod Words
 pub mod Parts

@@ -1,4 +1,4 @@
-use Rattle.std.specs.Prelude.{ℕ, ◌+◌, ◌==◌, zero, suc, Bool, List, [], ◌∷◌, ◌++◌, map}
+use Rattle.std.specs.Prelude.{ℕ, ◌+◌, ◌^◌, ◌<◌, length, ◌==◌, zero, suc, Bool, List, [], ◌∷◌, ◌++◌, map}
 use Rattle.std.specs.List.{filter}
 use Rattle.zk_base.specs.declared.ids.Entry.{Entry}
 use Rattle.zk_base.specs.Order.{by_key}
@@ -64,6 +64,14 @@ stood t =
     ++ histories_stood families.Sem 0 t.sems ++ histories_stood families.Msgq 0 t.msgqs
     ++ signals_stood t.signal_looks 0 t.signals
     ++ histories_stood families.Chan 0 t.chans ++ histories_stood families.Obs 0 t.observers
+
+-- objects have numbers of 32 bits
+pub record AreFew (t : Trace) : Type 0 where
+  pub sems : length t.sems < 2 ^ 32
+  pub msgqs : length t.msgqs < 2 ^ 32
+  pub signals : length t.signals < 2 ^ 32
+  pub chans : length t.chans < 2 ^ 32
+  pub observers : length t.observers < 2 ^ 32
 
 -- whether a line is of a player
 abbrev pub is_of : ℕ → Stood → Bool

@@ -1,4 +1,4 @@
-//! The trace of a run, and its text.
+//! The trace of a run, its text, and how that is read back.
 #![tactic(auto)]
 
 mod answer_read;
@@ -29,6 +29,7 @@ mod obs_read;
 mod parts;
 mod players_read;
 mod print;
+mod read;
 mod row_words;
 mod rows_read;
 mod sections;
@@ -44,6 +45,7 @@ mod stood;
 mod table;
 mod table_read;
 mod trace;
+mod trace_made;
 mod whole_read;
 mod words;
 mod work;
@@ -51,5 +53,6 @@ mod work_read;
 
 pub use looks::{ItemLook, ItemLooks, SignalLook, SignalLooks};
 pub use print::{print_trace, put_trace};
+pub use read::TraceRefused;
 pub use sizes::trace_sizes;
 pub use trace::{Ending, Histories, History, Logs, Trace};

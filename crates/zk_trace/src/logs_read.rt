@@ -1,11 +1,17 @@
-ghost use Rattle.std.specs.Prelude.{◌≡◌, ℕ, List, map, OnOk, IfOk};
+ghost use Rattle.std.specs.Prelude.{◌≡◌, ℕ, List, [], ◌∷◌, map, length, MatchOption, OnOk, IfOk};
+ghost use Rattle.std.specs.List.{range_with_len};
+ghost use Rattle.zk_scenario.specs.Players.{players as players_of};
 ghost use Rattle.zk_base.specs.Order.{by_key};
-ghost use Rattle.zk_trace.specs.Stood.{sorted_spots};
+ghost use Rattle.zk_trace.specs.Stood.{AreFew, stood, sorted_spots, put_lines};
+ghost use Rattle.zk_trace.specs.WholeRead.{logs_of, logs_with};
 
-use crate::stood::Stood;
+use crate::stood::{Family, Home, Stood, put_entries, put_histories, put_item_looks, put_signals};
+use crate::trace::{Logs, Trace};
+use crate::whole_read::Players;
 use std::alloc::Global;
 use zk_base::{Listed, NoMemory};
-use zk_worker::Spots;
+use zk_scenario::Scenario;
+use zk_worker::{Log, Spots};
 
 /// Lines by step, and at equal steps in their order.
 fn sort_by_step(lines: &mut Vec<Stood>) -> Result<(), NoMemory>
@@ -26,4 +32,82 @@ fn spots_of(alloc: Global, lines: Listed<Stood>) -> Result<Spots, NoMemory>
         spots.push(line.spot)?;
     }
     Ok(Listed::from_vec(spots))
+}
+
+/// Takes the first of some things.
+fn take_first<T: Drop>(items: &mut Vec<T>) -> Option<T>
+    ensures { MatchOption result ((items.old.items ≡ []) × (items.new.items ≡ [])) (λ item. items.old.items ≡ item ∷ items.new.items) }
+{
+    if items.is_empty() {
+        return None;
+    }
+    Some(items.remove(0))
+}
+
+/// The logs of players, each with its lines.
+fn logs_with(
+    alloc: Global,
+    lists: Vec<Listed<Stood>>,
+    players: Players,
+) -> Result<Logs, NoMemory>
+    ensures { IfOk result (λ logs. logs ≡ logs_with lists.items players) }
+{
+    let mut lists = lists;
+    let mut players = players.into_vec();
+    let mut logs = Vec::new(alloc);
+    while let Some(lines) = take_first(&mut lists) {
+        let Some((state, answers)) = take_first(&mut players) else {
+            return Ok(Listed::from_vec(logs));
+        };
+        let steps = spots_of(alloc, lines)?;
+        logs.push(Log {
+            state,
+            steps,
+            answers,
+        })?;
+    }
+    Ok(Listed::from_vec(logs))
+}
+
+/// So many empty lists.
+fn no_lines(alloc: Global, count: u32) -> Result<Vec<Listed<Stood>>, NoMemory>
+    ensures { IfOk result (λ lists. lists.items ≡ map (λ player. []) (range_with_len 0 count)) }
+{
+    let mut lists = Vec::new(alloc);
+    for player in 0..count {
+        lists.push(Listed::new(alloc))?;
+    }
+    Ok(lists)
+}
+
+/// Puts all lines of entries and looks of a trace.
+fn put_trace_lines(lists: &mut Vec<Listed<Stood>>, trace: &Trace) -> Result<(), NoMemory>
+    requires { AreFew trace.now }
+    ensures { OnOk result (lists.new.items ≡ put_lines (stood trace.now) lists.old.items) }
+{
+    put_entries(lists, Home::Work, trace.work.items())?;
+    put_item_looks(lists, trace.item_looks.items())?;
+    put_entries(lists, Home::Clock, trace.clock.items())?;
+    put_entries(lists, Home::Table, trace.table.items())?;
+    put_histories(lists, Family::Sem, trace.sems.items())?;
+    put_histories(lists, Family::Msgq, trace.msgqs.items())?;
+    put_signals(lists, trace.signals.items(), trace.signal_looks.items())?;
+    put_histories(lists, Family::Chan, trace.chans.items())?;
+    put_histories(lists, Family::Obs, trace.observers.items())
+}
+
+/// The log of each player of a trace without logs, by how each stands and what it was answered.
+pub fn read_logs(
+    alloc: Global,
+    scenario: &Scenario,
+    trace: &Trace,
+    players: Players,
+) -> Result<Logs, NoMemory>
+    requires few { AreFew trace.now }
+    requires all { length players ≡ length (players_of scenario.now.decls) }
+    ensures { IfOk result (λ logs. logs ≡ logs_of (stood trace.now) 0 players) }
+{
+    let mut lists = no_lines(alloc, scenario.players())?;
+    put_trace_lines(&mut lists, trace)?;
+    logs_with(alloc, lists, players)
 }
