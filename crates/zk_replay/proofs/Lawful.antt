@@ -51,7 +51,7 @@ use Rattle.zk_replay.proofs.Legality.{run-legal, Work, Clock, Table, Sems, Msgqs
 use Rattle.zk_replay.proofs.OneRun.{none_goes_on}
 
 -- each entry is of a player that is there
-abbrev AreKnown : World → Type 0
+abbrev pub AreKnown : World → Type 0
 AreKnown w = (spot : Spot) (number step : ℕ) → shown_at w.shown spot ≡ Some (number, step) → number < length w.players
 
 known-first : (s : Content) → AreKnown (first s)
@@ -84,7 +84,7 @@ known-step m s w p at made ready known there choice spot number step is = by_spo
         omega (arith, long, ready.numbers p at there, slice_get_within w.players p at there)
 
 -- each world of the run of a valid scenario is ready, and each of its entries is of a player that is there
-run-known : (s : Content) (w : World) → IsValid s → IsRun (machines_of s) s w → IsReady s w × AreKnown w
+pub run-known : (s : Content) (w : World) → IsValid s → IsRun (machines_of s) s w → IsReady s w × AreKnown w
 run-known s w valid run =
     let m = machines_of s in
     let P : World → Type 0 = λ v. IsReady s v × AreKnown v in
@@ -96,7 +96,7 @@ run-known s w valid run =
     )) run.0 (first s) (ready-first s valid, known-first s))
 
 -- and there are as many players as the scenario has
-run-players : (s : Content) (w : World) → IsRun (machines_of s) s w → length w.players ≡ length (players s.decls)
+pub run-players : (s : Content) (w : World) → IsRun (machines_of s) s w → length w.players ≡ length (players s.decls)
 run-players s w run =
     let P : World → Type 0 = λ v. length v.players ≡ length (players s.decls) in
     subst P (sym run.1)

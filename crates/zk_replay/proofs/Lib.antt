@@ -15,3 +15,4 @@ pub mod AheadSays
 pub mod EntriesFit
 pub mod OpsFit
 pub mod RunHistories
+pub mod InForm

@@ -34,6 +34,7 @@ use Rattle.zk_trace.specs.ChanRead as chan_read
 use Rattle.zk_trace.specs.Obs as obs
 use Rattle.zk_trace.specs.ObsRead as obs_read
 use Rattle.zk_trace.proofs.HistoriesFit.{IsAsked, all-there, work-fits, clock-fits, table-fits, SemsFit, sems-fit, MsgqsFit, msgqs-fit, SignalsFit, signals-fit, ChansFit, chans-fit, ObserversFit, observers-fit}
+use Rattle.zk_trace.proofs.LogAnswers.{ShownFits}
 use Rattle.zk_replay.specs.RoundRobin.{World, IsRun}
 use Rattle.zk_replay.specs.Replay.{trace_of}
 use Rattle.zk_replay.proofs.AheadSays.{SaysFit}
@@ -62,19 +63,8 @@ module _ {O R : Type 0} (s : Content) (Op : O → Type 0) (Reply : R → Type 0)
       history-asked (step object) (fits object) h (λ k e at. each object k e (ap (option_and_then (λ (h : List (Entry O R)). slice_get h k)) there ∙ at))
       (All-at (All (IsSizedEntry Op Reply)) hs object h sized there))
 
--- all histories of a trace are in form
-pub record HistoriesFit (s : Content) (w : World) : Type 0 where
-  pub work : AllByRecursion (FitsEntry s.decls (work_read.FitsOp s.decls) (λ op r. work_read.AnswersTo s.decls (work.said_of op).0 r)) w.shown.work
-  pub clock : AllByRecursion (FitsEntry s.decls (clock_read.FitsOp s.decls) (λ op r. clock_read.AnswersTo s.decls (clock.said_of op).0 r)) w.shown.clock
-  pub table : AllByRecursion (FitsEntry s.decls (table_read.FitsOp s.decls) (λ op r. table_read.AnswersTo s.decls (table.said_of op).0 r)) w.shown.table
-  pub sems : SemsFit s.decls s.decls w.shown.sems
-  pub msgqs : MsgqsFit s.decls s.decls w.shown.msgqs
-  pub signals : SignalsFit s.decls s.decls w.shown.signals
-  pub chans : ChansFit s.decls s.decls w.shown.chans
-  pub observers : ObserversFit s.decls s.decls w.shown.observers
-
--- those of a run are, where the numbers of its trace are within their types
-pub histories-fit : (s : Content) (w : World) → IsValid s → IsRun (machines_of s) s w → IsSized (trace_of s w) → HistoriesFit s w
+-- all histories of a run are in form, where the numbers of its trace are within their types
+pub histories-fit : (s : Content) (w : World) → IsValid s → IsRun (machines_of s) s w → IsSized (trace_of s w) → ShownFits s.decls w.shown
 histories-fit s w valid run sized =
     let ds = s.decls in
     let legal = run-legal s w valid run in

@@ -2,6 +2,7 @@ ghost use Rattle.std.specs.Prelude.{◌≡◌, IfOk};
 ghost use Rattle.std.specs.List.{list_any};
 ghost use Rattle.zk_scenario.specs.Valid.{IsValid};
 ghost use Rattle.zk_worker.specs.Follows.{is_spent_at};
+ghost use Rattle.zk_trace.specs.Form.{IsInForm};
 ghost use Rattle.zk_trace.specs.Lawful.{IsLawful};
 ghost use Rattle.zk_replay.specs.Replay.{all_done, IsReplay};
 ghost use Rattle.zk_replay.specs.Ending.{ending_by};
@@ -12,7 +13,7 @@ use std::alloc::Global;
 use zk_base::NoMemory;
 use zk_scenario::Scenario;
 use zk_services::{first_players, first_services, gather};
-use zk_trace::{Ending, Trace};
+use zk_trace::{Ending, Trace, trace_sizes};
 use zk_worker::Player;
 
 fn is_any_spent(scenario: &Scenario, players: &[Player]) -> bool
@@ -48,6 +49,7 @@ pub fn replay(alloc: Global, scenario: &Scenario) -> Result<Trace, NoMemory>
     ensures replay { IfOk result (λ trace. IsReplay scenario.now trace) }
     ensures lawful { IfOk result (λ trace. IsLawful scenario.now trace) }
     ensures over { IfOk result (λ trace. IsOver scenario.now trace) }
+    ensures form { IfOk result (λ trace. IsInForm scenario.now trace) }
     ensures valid { IsValid scenario.now }
 {
     let mut services = first_services(alloc, scenario)?;
@@ -55,5 +57,6 @@ pub fn replay(alloc: Global, scenario: &Scenario) -> Result<Trace, NoMemory>
     play_rounds(alloc, &mut services, scenario, &mut players)?;
     let ending = ending_of(scenario, &players);
     let trace = gather(alloc, scenario, ending, services, players)?;
+    trace_sizes(&trace);
     Ok(trace)
 }

@@ -6,6 +6,7 @@ use Rattle.zk_replay.specs.Ready.{IsReady}
 use Rattle.zk_replay.specs.Turning.{world}
 use Rattle.zk_replay.proofs.Beginning.{ready-first, unspent-first, world-first}
 use Rattle.zk_replay.proofs.Endings.{replayed, over}
+use Rattle.zk_replay.proofs.InForm.{in-form}
 use Rattle.zk_replay.proofs.Lawful.{lawful}
 use Rattle.zk_replay.proofs.Readiness.{logs-short}
 use Rattle.zk_replay.proofs.run.replay.Goals as goal
@@ -48,3 +49,6 @@ returns-clause-lawful c = lawful c.args.scenario.now _ c.first_services.ensures.
 
 pub returns-clause-over : goal.returns-clause-over
 returns-clause-over c = over c.args.scenario.now _ c.first_services.ensures.valid (returns-clause-replay c)
+
+pub returns-clause-form : goal.returns-clause-form
+returns-clause-form c = in-form c.args.scenario.now _ c.first_services.ensures.valid (returns-clause-replay c) c.trace_sizes.ensures
