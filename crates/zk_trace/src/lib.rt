@@ -52,5 +52,5 @@ mod work_read;
 
 pub use looks::{ItemLook, ItemLooks, SignalLook, SignalLooks};
 pub use print::{print_trace, put_trace};
-pub use read::TraceRefused;
+pub use read::{TraceRefused, read_trace};
 pub use trace::{Ending, Histories, History, Logs, Trace};
