@@ -1,7 +1,7 @@
 -- The lines of a text that have their line feed, by the first of them, and how many there are.
-use Rattle.std.proofs.Common.{◌≡◌, ℕ, ◌+◌, eqb, Option, Some, None, List, [], ◌∷◌, ◌++◌, count_by, append_assoc, append-nil, length, length-append, arith, refl, sym, ap, subst, inl, inr, ◌∙◌}
+use Rattle.std.proofs.Common.{◌≡◌, ℕ, ◌+◌, eqb, Bool, true, false, if◌then◌else◌, Option, Some, None, List, [], ◌∷◌, ◌++◌, count_by, append_assoc, append-nil, length, length-append, arith, refl, sym, ap, subst, inl, inr, ◌∙◌}
 use Rattle.std.specs.Prelude.{option_map}
-use Rattle.std.proofs.lemmas.Bool.{cases_Bool, cond-true, cond-false}
+use Rattle.std.proofs.lemmas.Bool.{cases_Bool, cond-true, cond-false, ne_eqb}
 use Rattle.std.proofs.lemmas.List.Splits.{length-slice_split}
 use Rattle.std.proofs.lemmas.Option.{same_Some, none-some}
 use Rattle.zk_blocks.specs.Cut.{cut_of, put_byte, put_feed}
@@ -52,3 +52,33 @@ lines-nowhere (b ∷ bs) is = elim (cases_Bool (eqb b line_feed)) [
 pub lines-count : (text : List ℕ) → length (lines_in text) ≡ count_by (λ b. eqb b line_feed) text
 lines-count text =
     omega (arith, length-slice_split (λ b. eqb b line_feed) text, ap length (cut_pieces line_feed text), length-append (lines_in text) ((cut_of line_feed text).1 ∷ []))
+
+-- Nothing is behind the last feed just where a text ends with it.
+
+abbrev HasLine : List (List ℕ) → Type 0
+HasLine [] = ⊥
+HasLine (line ∷ lines) = Unit {0}
+
+fed-end : (front : List ℕ) → ((cut_of line_feed (front ++ line_feed ∷ [])).1 ≡ []) × HasLine (cut_of line_feed (front ++ line_feed ∷ [])).0
+fed-end [] = (refl, tt)
+fed-end (b ∷ front) = by (eqb b line_feed) (cut_of line_feed (front ++ line_feed ∷ [])) (fed-end front) where
+  by : (is : Bool) (cut : List (List ℕ) × List ℕ) → (cut.1 ≡ []) × HasLine cut.0 → ((if is then put_feed cut else put_byte b cut).1 ≡ []) × HasLine (if is then put_feed cut else put_byte b cut).0
+  by true cut there = (there.0, tt)
+  by false ([], piece) there = absurd there.1
+  by false ((line ∷ lines), piece) there = there
+
+other-end : (front : List ℕ) (b : ℕ) → (b ≡ line_feed → ⊥) → (cut_of line_feed (front ++ b ∷ [])).1 ≡ [] → ⊥
+other-end [] b other none = some (sym (ap (λ c. c.1) (cond-false (eqb b line_feed) (put_feed ([], [])) (put_byte b ([], [])) (ne_eqb b line_feed other))) ∙ none) where
+  some : b ∷ [] ≡ [] → ⊥
+  some is = let longer = ap length is in omega arith
+other-end (a ∷ front) b other none = by (eqb a line_feed) (cut_of line_feed (front ++ b ∷ [])) (other-end front b other) none where
+  by : (is : Bool) (cut : List (List ℕ) × List ℕ) → (cut.1 ≡ [] → ⊥) → (if is then put_feed cut else put_byte a cut).1 ≡ [] → ⊥
+  by true cut some none = some none
+  by false ([], piece) some none = let longer = ap length none in omega arith
+  by false ((line ∷ lines), piece) some none = some none
+
+pub fed-is : (text front : List ℕ) (last : ℕ) → text ≡ front ++ last ∷ [] → last ≡ line_feed → (cut_of line_feed text).1 ≡ []
+fed-is text front last is same = ap (λ t. (cut_of line_feed t).1) (is ∙ ap (λ b. front ++ b ∷ []) same) ∙ (fed-end front).0
+
+pub is-fed : (text front : List ℕ) (last : ℕ) → text ≡ front ++ last ∷ [] → (last ≡ line_feed → ⊥) → (cut_of line_feed text).1 ≡ [] → ⊥
+is-fed text front last is other none = other-end front last other (sym (ap (λ t. (cut_of line_feed t).1) is) ∙ none)

@@ -251,6 +251,9 @@ module _ (s : Content) (are : AreNames s.decls) where
       ap (λ both. replaced w both (map (shown decls are) (logs_of (stood (trace_of w)) 0 w.1.1.1.1))) (pairs-parts w.1.1.1.0.1.1.0)
       ∙ ap (replaced w w.1.1.1.0.1.1.0) (shown-logs decls are (stood (trace_of w)) 0 w.1.1.1.1))
 
+  pub made_in_form : (w : Whole) → FitWhole s.decls w → IsInForm s (trace_of w)
+  made_in_form w fits = (back w fits).0
+
   -- a trace is read exactly from its lines
   pub trace_block : IsBlock (trace_lines s.decls) (IsInForm s) (read_trace s.decls) (λ line. Unit {0}) (λ line. ⊥)
   trace_block =

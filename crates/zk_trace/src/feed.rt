@@ -1,4 +1,4 @@
-ghost use Rattle.std.specs.Prelude.{◌≡◌, ◌==◌, ◌∷◌, [], length, count_by, MatchOption};
+ghost use Rattle.std.specs.Prelude.{◌≡◌, ◌==◌, ◌∷◌, [], length, count_by, MatchOption, IsTrue, ◌↔◌};
 ghost use Rattle.zk_trace.specs.Feeds.{lines_in};
 
 use crate::halves::halves;
@@ -43,6 +43,13 @@ impl<'a> Feed<'a> {
         ensures { self.new ≡ lines_in rest.now }
     {
         self.rest = rest;
+    }
+
+    /// Whether there is no line more.
+    pub fn is_over(&self) -> bool
+        ensures { IsTrue result ↔ (self.now ≡ []) }
+    {
+        self.next().is_none()
     }
 
     /// How many lines there are still.

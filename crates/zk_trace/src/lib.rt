@@ -53,6 +53,6 @@ mod work_read;
 
 pub use looks::{ItemLook, ItemLooks, SignalLook, SignalLooks};
 pub use print::{print_trace, put_trace};
-pub use read::TraceRefused;
+pub use read::{TraceRefused, read_trace};
 pub use sizes::trace_sizes;
 pub use trace::{Ending, Histories, History, Logs, Trace};
