@@ -218,8 +218,12 @@ msgq-size (decl_kinds.Msgq name size capacity raw) is = (size, refl, λ fits. (a
 msgq-size d is = absurd (cc)
 
 chan-size : (d : Decl) → is_chan d ≡ true → (size : ℕ) × (size_of d ≡ Some size) × (decl_fits d ≡ true → (nat_le 1 size && nat_le size longest_message) ≡ true)
-chan-size (decl_kinds.Chan name message valid observers) is = (length message, refl, λ fits.
-    (and_parts (is_message message) (fews.is_few observers) (and_parts (is_message message && fews.is_few observers) (all_different observers) fits).0).0)
+chan-size (decl_kinds.Chan name message valid observers) is = (
+  length message,
+  refl,
+  λ fits.
+      (and_parts (is_message message) (fews.is_few observers) (and_parts (is_message message && fews.is_few observers) (all_different observers) fits).0).0,
+)
 chan-size d is = absurd (cc)
 
 -- a second object that is none's doesn't fit

@@ -122,12 +122,7 @@ fn put_misread(
 }
 
 /// What comes of the trace of the text, changed in this way.
-fn put_change(
-    alloc: Global,
-    out: &mut Vec<u8>,
-    text: &[u8],
-    line: &str,
-) -> Result<(), NoMemory> {
+fn put_change(alloc: Global, out: &mut Vec<u8>, text: &[u8], line: &str) -> Result<(), NoMemory> {
     let change = line.strip_prefix('?').unwrap_or("").trim_start();
     let Played { status: _, sink } = play(alloc, " replay", text)?;
     match sink.held().strip_prefix(text) {

@@ -110,12 +110,14 @@ module _ {O R : Type 0} (decls : List Decl) (are : AreNames decls) {op_words : O
   first_word e fits =
       let first = spot_word decls e.who.number e.step in
       let reply = line_text (reply_words e.reply) in
-      let behind = begun (op_words e.op) in
-      (behind.0 ++ reply, ap (halves space)
-      (ap (λ l. (l ++ sign) ++ reply) (join-first space first (op_words e.op))
-      ∙ ap (λ l. l ++ reply) (append_assoc first (each_behind space (op_words e.op)) sign ∙ ap (λ l. first ++ l) behind.1)
-      ∙ append_assoc first (space ∷ behind.0) reply)
-      ∙ halves-again space first (behind.0 ++ reply) (lacks_plain space refl first ((spot_exact decls are).plain (e.who, e.step) (fits.known, fits.step))))
+      let behind = begun (op_words e.op) in (
+        behind.0 ++ reply,
+        ap (halves space)
+            (ap (λ l. (l ++ sign) ++ reply) (join-first space first (op_words e.op))
+            ∙ ap (λ l. l ++ reply) (append_assoc first (each_behind space (op_words e.op)) sign ∙ ap (λ l. first ++ l) behind.1)
+            ∙ append_assoc first (space ∷ behind.0) reply)
+            ∙ halves-again space first (behind.0 ++ reply) (lacks_plain space refl first ((spot_exact decls are).plain (e.who, e.step) (fits.known, fits.step))),
+      )
 
   -- a line whose first word names no step is no entry
   pub no_entry : (line : List ℕ) → first_step decls line ≡ None → says line ≡ None

@@ -164,10 +164,11 @@ module _ (decls : List Decl) (are : AreNames decls) where
   players_there lines zero player (log ∷ logs) fits = absurd fits
   players_there lines (suc count) player [] fits = absurd fits
   players_there lines (suc count) player (log ∷ logs) fits =
-      let there = players_there lines count (player + 1) logs fits.1 in
-      (((tt, each_fit (IsAnswered decls) None log.answers fits.0.answers), there.0),
-      ap (λ steps. record { state = log.state; steps = steps; answers = log.answers } ∷ logs_of lines (player + 1) (map shown logs)) (sym fits.0.steps)
-      ∙ ap (λ l. log ∷ l) there.1)
+      let there = players_there lines count (player + 1) logs fits.1 in (
+        ((tt, each_fit (IsAnswered decls) None log.answers fits.0.answers), there.0),
+        ap (λ steps. record { state = log.state; steps = steps; answers = log.answers } ∷ logs_of lines (player + 1) (map shown logs)) (sym fits.0.steps)
+            ∙ ap (λ l. log ∷ l) there.1,
+      )
 
   players_back : (lines : List Stood) (count player : ℕ) (all : Players) → EachFits (λ p. FitPlayer decls) (range_with_len player count) all →
       EachFits (IsLog decls lines) (range_with_len player count) (logs_of lines player all)
@@ -212,19 +213,41 @@ module _ (s : Content) (are : AreNames s.decls) where
       let count = length (players decls) in
       let logs = players_there decls are (stood t) count 0 t.logs form.logs in
       let same : length t.signals ≡ length t.signal_looks =
-          sym (each_fits-length (λ d. FitsGiven (is_signal d) [] (AllByRecursion (IsSignal decls))) decls t.signals form.signals)
-          ∙ each_fits-length (λ d. FitsGiven (is_signal d) [] (AllFit (FitsSignalLook decls) None)) decls t.signal_looks form.signal_looks in
-      ((tt, (tt, ((looked_there decls are (IsWork decls) (FitsItemLook decls) (no_entries decls are) (no_item_looks decls are) (t.work, t.item_looks) (form.work, form.item_looks),
-      (section_there decls are (IsClock decls) (no_entries decls are) t.clock form.clock, section_there decls are (IsTable decls) (no_entries decls are) t.table form.table)),
-      ((family_there decls are (IsSem decls) (no_entries decls are) is_sem t.sems form.sems,
-      (family_there decls are (IsMsgq decls) (no_entries decls are) is_msgq t.msgqs form.msgqs,
-      (looked_family_there decls are (IsSignal decls) (FitsSignalLook decls) (no_entries decls are) (no_signal_looks decls are) is_signal t.signals t.signal_looks form.signals form.signal_looks,
-      (family_there decls are (IsChan decls) (no_entries decls are) is_chan t.chans form.chans,
-      family_there decls are (IsObs decls) (no_entries decls are) is_observer t.observers form.observers)))), logs.0)))),
-      ap (λ signals. changed t signals (map (λ both. both.1) (pairs_of t.signals t.signal_looks))
-      (logs_of (stood (changed t signals (map (λ both. both.1) (pairs_of t.signals t.signal_looks)) [])) 0 (map (shown decls are) t.logs))) (firsts-pairs t.signals t.signal_looks same)
-      ∙ ap (λ looks. changed t t.signals looks (logs_of (stood (changed t t.signals looks [])) 0 (map (shown decls are) t.logs))) (seconds-pairs t.signals t.signal_looks same)
-      ∙ ap (changed t t.signals t.signal_looks) logs.1)
+      sym (each_fits-length (λ d. FitsGiven (is_signal d) [] (AllByRecursion (IsSignal decls))) decls t.signals form.signals)
+      ∙ each_fits-length (λ d. FitsGiven (is_signal d) [] (AllFit (FitsSignalLook decls) None)) decls t.signal_looks form.signal_looks in (
+        (
+          tt,
+          (
+            tt,
+            (
+              (
+                looked_there decls are (IsWork decls) (FitsItemLook decls) (no_entries decls are) (no_item_looks decls are) (t.work, t.item_looks) (form.work, form.item_looks),
+                (section_there decls are (IsClock decls) (no_entries decls are) t.clock form.clock, section_there decls are (IsTable decls) (no_entries decls are) t.table form.table),
+              ),
+              (
+                (
+                  family_there decls are (IsSem decls) (no_entries decls are) is_sem t.sems form.sems,
+                  (
+                    family_there decls are (IsMsgq decls) (no_entries decls are) is_msgq t.msgqs form.msgqs,
+                    (
+                      looked_family_there decls are (IsSignal decls) (FitsSignalLook decls) (no_entries decls are) (no_signal_looks decls are) is_signal t.signals t.signal_looks form.signals form.signal_looks,
+                      (
+                        family_there decls are (IsChan decls) (no_entries decls are) is_chan t.chans form.chans,
+                        family_there decls are (IsObs decls) (no_entries decls are) is_observer t.observers form.observers,
+                      ),
+                    ),
+                  ),
+                ),
+                logs.0,
+              ),
+            ),
+          ),
+        ),
+        ap (λ signals. changed t signals (map (λ both. both.1) (pairs_of t.signals t.signal_looks))
+            (logs_of (stood (changed t signals (map (λ both. both.1) (pairs_of t.signals t.signal_looks)) [])) 0 (map (shown decls are) t.logs))) (firsts-pairs t.signals t.signal_looks same)
+            ∙ ap (λ looks. changed t t.signals looks (logs_of (stood (changed t t.signals looks [])) 0 (map (shown decls are) t.logs))) (seconds-pairs t.signals t.signal_looks same)
+            ∙ ap (changed t t.signals t.signal_looks) logs.1,
+      )
 
   -- and what is made of one that fits is in form, and has its text
   back : (w : Whole) → FitWhole s.decls w → IsInForm s (trace_of w) × (whole_of (trace_of w) ≡ w)
@@ -234,22 +257,23 @@ module _ (s : Content) (are : AreNames s.decls) where
       let singles = fits.1.1.0 in
       let families = fits.1.1.1.0 in
       let work = looked_back decls are (IsWork decls) (FitsItemLook decls) (no_entries decls are) (no_item_looks decls are) w.1.1.0.0 singles.0 in
-      let signals = looked_family_back decls are (IsSignal decls) (FitsSignalLook decls) (no_entries decls are) (no_signal_looks decls are) is_signal w.1.1.1.0.1.1.0 families.1.1.0 in
-      (record {
-        work = work.0;
-        clock = section_back decls are (IsClock decls) (no_entries decls are) w.1.1.0.1.0 singles.1.0;
-        table = section_back decls are (IsTable decls) (no_entries decls are) w.1.1.0.1.1 singles.1.1;
-        sems = family_back decls are (IsSem decls) (no_entries decls are) is_sem w.1.1.1.0.0 families.0;
-        msgqs = family_back decls are (IsMsgq decls) (no_entries decls are) is_msgq w.1.1.1.0.1.0 families.1.0;
-        signals = signals.0;
-        chans = family_back decls are (IsChan decls) (no_entries decls are) is_chan w.1.1.1.0.1.1.1.0 families.1.1.1.0;
-        observers = family_back decls are (IsObs decls) (no_entries decls are) is_observer w.1.1.1.0.1.1.1.1 families.1.1.1.1;
-        item_looks = work.1;
-        signal_looks = signals.1;
-        logs = players_back decls are (stood (trace_of w)) count 0 w.1.1.1.1 fits.1.1.1.1;
-      },
-      ap (λ both. replaced w both (map (shown decls are) (logs_of (stood (trace_of w)) 0 w.1.1.1.1))) (pairs-parts w.1.1.1.0.1.1.0)
-      ∙ ap (replaced w w.1.1.1.0.1.1.0) (shown-logs decls are (stood (trace_of w)) 0 w.1.1.1.1))
+      let signals = looked_family_back decls are (IsSignal decls) (FitsSignalLook decls) (no_entries decls are) (no_signal_looks decls are) is_signal w.1.1.1.0.1.1.0 families.1.1.0 in (
+        record {
+          work = work.0;
+          clock = section_back decls are (IsClock decls) (no_entries decls are) w.1.1.0.1.0 singles.1.0;
+          table = section_back decls are (IsTable decls) (no_entries decls are) w.1.1.0.1.1 singles.1.1;
+          sems = family_back decls are (IsSem decls) (no_entries decls are) is_sem w.1.1.1.0.0 families.0;
+          msgqs = family_back decls are (IsMsgq decls) (no_entries decls are) is_msgq w.1.1.1.0.1.0 families.1.0;
+          signals = signals.0;
+          chans = family_back decls are (IsChan decls) (no_entries decls are) is_chan w.1.1.1.0.1.1.1.0 families.1.1.1.0;
+          observers = family_back decls are (IsObs decls) (no_entries decls are) is_observer w.1.1.1.0.1.1.1.1 families.1.1.1.1;
+          item_looks = work.1;
+          signal_looks = signals.1;
+          logs = players_back decls are (stood (trace_of w)) count 0 w.1.1.1.1 fits.1.1.1.1;
+        },
+        ap (λ both. replaced w both (map (shown decls are) (logs_of (stood (trace_of w)) 0 w.1.1.1.1))) (pairs-parts w.1.1.1.0.1.1.0)
+            ∙ ap (replaced w w.1.1.1.0.1.1.0) (shown-logs decls are (stood (trace_of w)) 0 w.1.1.1.1),
+      )
 
   pub made_in_form : (w : Whole) → FitWhole s.decls w → IsInForm s (trace_of w)
   made_in_form w fits = (back w fits).0

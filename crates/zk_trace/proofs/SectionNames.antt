@@ -186,8 +186,10 @@ module _ (decls : List Decl) (are : AreNames decls) where
   pub sections_apart : AreApart section_names
   sections_apart = (
     (differ work_name clock_name refl refl, (differ work_name table_name refl refl, none_sem work_name (reserved_no work_name refl))),
-    ((differ clock_name table_name refl refl, none_sem clock_name (reserved_no clock_name refl)),
-    (none_sem table_name (reserved_no table_name refl), sems_apart)),
+    (
+      (differ clock_name table_name refl refl, none_sem clock_name (reserved_no clock_name refl)),
+      (none_sem table_name (reserved_no table_name refl), sems_apart),
+    ),
   )
 
 -- each name has a head of its own, which is no player's

@@ -106,19 +106,20 @@ module _ (decls : List Decl) (are : AreNames decls) where
       AreUnfed line_feed (each_lines (player_lines decls) (range_with_len player count) (map (λ log. (log.state, log.answers)) logs))
   unfed-players lines zero player logs fits = tt
   unfed-players lines (suc count) player [] fits = tt
-  unfed-players lines (suc count) player (log ∷ logs) fits =
-      (lacks-join line_feed space refl (player_word ∷ player_name decls player ∷ state_word log.state ∷ [])
-      (lacks_is line_feed (player_word) refl, (name-lacks decls are line_feed refl player, (lacks_plain line_feed refl (state_word log.state) (states_are log.state).1, tt))),
-      unfed-both (map (answered_row decls) log.answers) (each_lines (player_lines decls) (range_with_len (player + 1) count) (map (λ log. (log.state, log.answers)) logs))
-      (unfed-rows (answered_row decls) (IsAnswered decls) (answered_exact decls are).unfed log.answers fits.0.answers)
-      (unfed-players lines count (player + 1) logs fits.1))
+  unfed-players lines (suc count) player (log ∷ logs) fits = (
+    lacks-join line_feed space refl (player_word ∷ player_name decls player ∷ state_word log.state ∷ [])
+        (lacks_is line_feed (player_word) refl, (name-lacks decls are line_feed refl player, (lacks_plain line_feed refl (state_word log.state) (states_are log.state).1, tt))),
+    unfed-both (map (answered_row decls) log.answers) (each_lines (player_lines decls) (range_with_len (player + 1) count) (map (λ log. (log.state, log.answers)) logs))
+        (unfed-rows (answered_row decls) (IsAnswered decls) (answered_exact decls are).unfed log.answers fits.0.answers)
+        (unfed-players lines count (player + 1) logs fits.1),
+  )
 
 -- no line of a trace in form has a feed in it
 pub trace-unfed : (s : Content) → AreNames s.decls → (t : Trace) → IsInForm s t → AreUnfed line_feed (trace_lines s.decls t)
 trace-unfed s are t form =
     let decls = s.decls in
     let named : AllByRecursion (λ d. IsUnfed (name_of d)) decls =
-        all_at (λ d. IsUnfed (name_of d)) decls (λ place d there. lacks_plain line_feed refl (name_of d) (plain-name (name_of d) (are.formed place d there))) in
+    all_at (λ d. IsUnfed (name_of d)) decls (λ place d there. lacks_plain line_feed refl (name_of d) (plain-name (name_of d) (are.formed place d there))) in
     let work_rows = λ (h : List (Entry WorkOp WorkReply)). unfed-rows (work_row decls) (IsWork decls) (entry_exact decls are (work_spelled decls are)).unfed h in
     let clock_rows = λ (h : List (Entry ClockOp ClockReply)). unfed-rows (clock_row decls) (IsClock decls) (entry_exact decls are (clock_spelled decls are)).unfed h in
     let table_rows = λ (h : List (Entry TableOp TableReply)). unfed-rows (table_row decls) (IsTable decls) (entry_exact decls are (table_spelled decls are)).unfed h in
@@ -153,9 +154,13 @@ trace-unfed s are t form =
     (pairs_there is_signal (AllByRecursion (IsSignal decls)) (AllFit (FitsSignalLook decls) None) decls t.signals t.signal_looks form.signals form.signal_looks) in
     let chans = unfed-family is_chan [] has_row (AllByRecursion (IsChan decls)) (map (chan_row decls)) chan_rows decls t.chans named form.chans in
     let observers = unfed-family is_observer [] has_row (AllByRecursion (IsObs decls)) (map (obs_row decls)) obs_rows decls t.observers named form.observers in
-    let all = unfed-players decls are (stood t) (length (players decls)) 0 t.logs form.logs in
-    (lacks_is line_feed first_row refl, (lacks_plain line_feed refl (ending_word t.ending) (endings_are t.ending).1,
-    unfed-both (work_lines ++ (clock_lines ++ table_lines)) (families ++ all_lines)
-    (unfed-both work_lines (clock_lines ++ table_lines) work (unfed-both clock_lines table_lines clock table))
-    (unfed-both families all_lines
-    (unfed-both sem_lines from_msgqs sems (unfed-both msgq_lines from_signals msgqs (unfed-both signal_lines from_chans signals (unfed-both chan_lines obs_lines chans observers)))) all)))
+    let all = unfed-players decls are (stood t) (length (players decls)) 0 t.logs form.logs in (
+      lacks_is line_feed first_row refl,
+      (
+        lacks_plain line_feed refl (ending_word t.ending) (endings_are t.ending).1,
+        unfed-both (work_lines ++ (clock_lines ++ table_lines)) (families ++ all_lines)
+            (unfed-both work_lines (clock_lines ++ table_lines) work (unfed-both clock_lines table_lines clock table))
+            (unfed-both families all_lines
+            (unfed-both sem_lines from_msgqs sems (unfed-both msgq_lines from_signals msgqs (unfed-both signal_lines from_chans signals (unfed-both chan_lines obs_lines chans observers)))) all),
+      ),
+    )

@@ -92,10 +92,12 @@ state_exact name lacks = record { again = again; spelled = spelled } where
       let parts = and_parts (bytes_eq w.0 (player_word)) (bytes_eq w.1 name) kept.0 in
       let state = (named_exact state_word all_states states_are).spelled w.2 s kept.1 in
       let word : w.0 ≡ player_word = (bytes_eq-Decides w.0 (player_word)).0 parts.0 in
-      let named : w.1 ≡ name = (bytes_eq-Decides w.1 name).0 parts.1 in
-      (sym (join_with_byte-slice_split space row) ∙ ap line_text (three (words_of row) w is)
-      ∙ ap (λ x. line_text (x ∷ w.1 ∷ w.2 ∷ [])) word ∙ ap (λ x. line_text (player_word ∷ x ∷ w.2 ∷ [])) named
-      ∙ ap (λ x. line_text (player_word ∷ name ∷ x ∷ [])) state.0, tt))
+      let named : w.1 ≡ name = (bytes_eq-Decides w.1 name).0 parts.1 in (
+        sym (join_with_byte-slice_split space row) ∙ ap line_text (three (words_of row) w is)
+            ∙ ap (λ x. line_text (x ∷ w.1 ∷ w.2 ∷ [])) word ∙ ap (λ x. line_text (player_word ∷ x ∷ w.2 ∷ [])) named
+            ∙ ap (λ x. line_text (player_word ∷ name ∷ x ∷ [])) state.0,
+        tt,
+      ))
 
 -- What fits.
 

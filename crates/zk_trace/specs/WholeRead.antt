@@ -206,8 +206,16 @@ pairs_of (a ∷ more) [] = []
 pairs_of (a ∷ more) (b ∷ bs) = (a, b) ∷ pairs_of more bs
 
 abbrev pub whole_of : Trace → Whole
-whole_of t = (tt, (t.ending, (((t.work, t.item_looks), (t.clock, t.table)),
-    ((t.sems, (t.msgqs, (pairs_of t.signals t.signal_looks, (t.chans, t.observers)))), map (λ log. (log.state, log.answers)) t.logs))))
+whole_of t = (
+  tt,
+  (
+    t.ending,
+    (
+      ((t.work, t.item_looks), (t.clock, t.table)),
+      ((t.sems, (t.msgqs, (pairs_of t.signals t.signal_looks, (t.chans, t.observers)))), map (λ log. (log.state, log.answers)) t.logs),
+    ),
+  ),
+)
 
 -- the lines of a trace, without their feeds
 abbrev pub trace_lines : List Decl → Trace → List (List ℕ)

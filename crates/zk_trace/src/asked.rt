@@ -16,8 +16,10 @@ ghost use Rattle.zk_trace.specs.Work as work_words;
 ghost use Rattle.zk_trace.specs.WorkRead as work_reading;
 
 use crate::entry_read::Asked;
-use crate::{chan, chan_read, clock, clock_read, msgq, msgq_read, obs, obs_read};
-use crate::{sem, sem_read, signal, signal_read, table, table_read, work, work_read};
+use crate::{
+    chan, chan_read, clock, clock_read, msgq, msgq_read, obs, obs_read, sem, sem_read, signal,
+    signal_read, table, table_read, work, work_read,
+};
 use std::alloc::Global;
 use zk_base::NoMemory;
 use zk_model_bus::{ChanOp, ChanReply, ObsOp, ObsReply, TableOp, TableReply};

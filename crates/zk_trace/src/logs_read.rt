@@ -45,11 +45,7 @@ fn take_first<T: Drop>(items: &mut Vec<T>) -> Option<T>
 }
 
 /// The logs of players, each with its lines.
-fn logs_with(
-    alloc: Global,
-    lists: Vec<Listed<Stood>>,
-    players: Players,
-) -> Result<Logs, NoMemory>
+fn logs_with(alloc: Global, lists: Vec<Listed<Stood>>, players: Players) -> Result<Logs, NoMemory>
     ensures { IfOk result (λ logs. logs ≡ logs_with lists.items players) }
 {
     let mut lists = lists;

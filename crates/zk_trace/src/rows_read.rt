@@ -58,7 +58,7 @@ fn read_row<X: Row>(
     ensures front { IfOk result (λ row. MatchOption row
         ((rows_of (X.says scenario.now.decls) (option_copied last.entry) feed.old ≡ ([], feed.old)) × (feed.new ≡ feed.old))
         (λ one. rows_of (X.says scenario.now.decls) (option_copied last.entry) feed.old
-            ≡ (one ∷ (rows_of (X.says scenario.now.decls) (Some one) feed.new).0, (rows_of (X.says scenario.now.decls) (Some one) feed.new).1))) }
+        ≡ (one ∷ (rows_of (X.says scenario.now.decls) (Some one) feed.new).0, (rows_of (X.says scenario.now.decls) (Some one) feed.new).1))) }
 {
     let Some((line, rest)) = feed.next() else {
         return Ok(None);

@@ -75,8 +75,9 @@ fn read_singles(
 ) -> Result<Option<Singles>, NoMemory>
     ensures { IfOk result (λ read. Gives singles_of read feed.new (read_singles scenario.now.decls feed.old)) }
 {
-    let Some((work, item_looks)) =
-        read_looked::<Entry<WorkOp, WorkReply>, ItemLook>(alloc, scenario, WORK, feed)?
+    let Some((work, item_looks)) = read_looked::<Entry<WorkOp, WorkReply>, ItemLook>(
+        alloc, scenario, WORK, feed,
+    )?
     else {
         return Ok(None);
     };
@@ -103,8 +104,7 @@ fn read_families(
 ) -> Result<Option<Families>, NoMemory>
     ensures { IfOk result (λ read. Gives families_of read feed.new (read_families scenario.now.decls feed.old)) }
 {
-    let Some(sems) = read_family::<Entry<SemOp, SemReply>>(alloc, scenario, Need::Sem, feed)?
-    else {
+    let Some(sems) = read_family::<Entry<SemOp, SemReply>>(alloc, scenario, Need::Sem, feed)? else {
         return Ok(None);
     };
     let Some(msgqs) = read_family::<Entry<MsgqOp, MsgqReply>>(alloc, scenario, Need::Msgq, feed)?
