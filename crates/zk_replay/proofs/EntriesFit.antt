@@ -1,5 +1,5 @@
 -- What the entries and looks of a run are of: a known player with its priority, and what is declared.
-use Rattle.std.proofs.Common.{◌≡◌, ◌⊎◌, inl, inr, ℕ, zero, suc, true, Option, Some, None, List, [], ◌∷◌, ◌++◌, length, map, set, All, refl, sym, ap, subst, ◌∙◌}
+use Rattle.std.proofs.Common.{◌≡◌, ◌⊎◌, inl, inr, ℕ, zero, suc, true, Option, Some, None, List, [], ◌∷◌, ◌++◌, length, All, refl, sym, ap, subst, ◌∙◌}
 use Rattle.std.specs.List.{slice_get}
 use Rattle.std.specs.Option.{option_map, option_and_then}
 use Rattle.std.proofs.lemmas.List.Elements.{All-nil, All-push, All-set}
@@ -30,7 +30,6 @@ use Rattle.zk_worker.proofs.CheckedSteps.{after-spots}
 use Rattle.zk_worker.proofs.FitsStill.{ahead-fits}
 use Rattle.zk_worker.proofs.Lists.{at-end, none-passes}
 use Rattle.zk_worker.proofs.Starts.{start_at-fresh}
-use Rattle.zk_services.specs.Starts.{starts}
 use Rattle.zk_services.proofs.Starts.{starts-all}
 use Rattle.zk_replay.specs.RoundRobin.{World, IsRun, first, stepped}
 use Rattle.zk_replay.specs.Ready.{IsReady}

@@ -1,5 +1,5 @@
 -- The trace of a run is in form, where its numbers are within their types.
-use Rattle.std.proofs.Common.{◌≡◌, ℕ, zero, suc, ◌+◌, ◌<◌, Bool, true, Option, Some, None, List, [], ◌∷◌, length, map, take, All, refl, sym, ap, subst, ◌∙◌, arith}
+use Rattle.std.proofs.Common.{◌≡◌, ℕ, zero, suc, ◌+◌, ◌<◌, true, Option, Some, None, List, [], ◌∷◌, length, map, take, All, refl, sym, ap, subst, ◌∙◌, arith}
 use Rattle.std.specs.List.{AllByRecursion, AllZip, range_with_len, slice_get}
 use Rattle.std.specs.Option.{option_map}
 use Rattle.std.proofs.lemmas.List.Elements.{All-from_recursion, recursion_from_All}
@@ -14,7 +14,6 @@ use Rattle.zk_line.specs.declared.types.Decl.{Decl}
 use Rattle.zk_line.specs.Objects.{is_signal}
 use Rattle.zk_model_wait.specs.declared.signal.SignalOp.{SignalOp}
 use Rattle.zk_model_wait.specs.declared.signal.SignalOp.TheVariants as writes
-use Rattle.zk_model_wait.specs.declared.signal.SignalReply.{SignalReply}
 use Rattle.zk_model_wait.specs.Signal.{written_by, write_of, value_at, signal_machine}
 use Rattle.zk_model_work.specs.State.{State}
 use Rattle.zk_model_work.specs.Machine.{flags_of, work_machine}
@@ -25,13 +24,11 @@ use Rattle.zk_worker.specs.declared.answers.Answered.{Answered}
 use Rattle.zk_worker.specs.declared.log.Log.{Log}
 use Rattle.zk_worker.specs.declared.steps.Spot.{Spot}
 use Rattle.zk_worker.specs.declared.steps.Spot.TheVariants as spots
-use Rattle.zk_worker.specs.Families.{is_declared}
 use Rattle.zk_worker.specs.Follows.{log_of}
 use Rattle.zk_worker.specs.Looks.{writes_of, looks_at, IsKnown}
-use Rattle.zk_worker.specs.Machines.{work_start_of, items_of, item_of, flags_after, machines_of, signal_start}
+use Rattle.zk_worker.specs.Machines.{work_start_of, item_of, machines_of, signal_start}
 use Rattle.zk_worker.specs.Places.{PlayerPlace}
 use Rattle.zk_worker.specs.Right.{IsRight}
-use Rattle.zk_worker.specs.Shown.{Shown}
 use Rattle.zk_worker.proofs.Lists.{there-mapped}
 use Rattle.zk_trace.specs.declared.trace.Trace.{Trace}
 use Rattle.zk_trace.specs.AnswerRead.{IsAnswered}

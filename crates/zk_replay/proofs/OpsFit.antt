@@ -1,5 +1,5 @@
 -- An operation that names what is declared, and whose numbers are within their types, is in form.
-use Rattle.std.proofs.Common.{◌≡◌, ℕ, zero, suc, ◌+◌, ◌<◌, Bool, true, false, nat_lt, ◌&&◌, Option, Some, None, List, [], ◌∷◌, length, arith}
+use Rattle.std.proofs.Common.{◌≡◌, ℕ, zero, suc, Bool, true, nat_lt, ◌&&◌, Option, Some, None, List, [], ◌∷◌, length, arith}
 use Rattle.std.specs.Option.{option_map_or}
 use Rattle.std.proofs.lemmas.Bool.{and_parts, ltb-true}
 use Rattle.zk_base.specs.declared.kinds.Need.TheVariants as needs
@@ -24,7 +24,7 @@ use Rattle.zk_model_work.specs.declared.ops.WorkOp.TheVariants as ops
 use Rattle.zk_worker.specs.declared.steps.Step.TheVariants as steps
 use Rattle.zk_worker.specs.Ranges.{step_fits}
 use Rattle.zk_worker.specs.TableSetup.{is_object}
-use Rattle.zk_trace.specs.Fields.{IsItem, IsQueue, IsTarget, IsObject, IsMessage}
+use Rattle.zk_trace.specs.Fields.{IsItem, IsQueue, IsTarget, IsObject}
 use Rattle.zk_trace.specs.Sized.{AreSized, IsSizedWrite}
 use Rattle.zk_trace.specs.Work as work
 use Rattle.zk_trace.specs.WorkRead as work_read

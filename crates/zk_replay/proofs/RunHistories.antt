@@ -1,10 +1,9 @@
 -- The histories of a run are in form.
-use Rattle.std.proofs.Common.{◌≡◌, ℕ, true, Option, Some, None, List, [], ◌∷◌, map, All, refl, sym, ap, subst, ◌∙◌}
+use Rattle.std.proofs.Common.{◌≡◌, ℕ, true, Some, List, All, ap, ◌∙◌}
 use Rattle.std.specs.List.{AllByRecursion, slice_get}
 use Rattle.std.specs.Option.{option_map, option_and_then}
 use Rattle.zk_base.specs.declared.ids.Entry.{Entry}
 use Rattle.zk_base.proofs.Lists.{All-at}
-use Rattle.zk_line.specs.declared.types.Decl.{Decl}
 use Rattle.zk_scenario.specs.Content.{Content}
 use Rattle.zk_scenario.specs.Valid.{IsValid}
 use Rattle.zk_model_bus.specs.Table.{new_table}
@@ -15,7 +14,6 @@ use Rattle.zk_worker.specs.Families.{entry_at}
 use Rattle.zk_worker.specs.Machines.{machines_of}
 use Rattle.zk_worker.specs.Ranges.{step_fits}
 use Rattle.zk_worker.specs.TableSetup.{setup_of}
-use Rattle.zk_trace.specs.EntryRead.{FitsEntry}
 use Rattle.zk_trace.specs.Sized.{AreSized, IsSizedWork, IsSizedWrite, IsSizedEntry, IsSized}
 use Rattle.zk_trace.specs.Work as work
 use Rattle.zk_trace.specs.WorkRead as work_read
@@ -33,12 +31,12 @@ use Rattle.zk_trace.specs.Chan as chan
 use Rattle.zk_trace.specs.ChanRead as chan_read
 use Rattle.zk_trace.specs.Obs as obs
 use Rattle.zk_trace.specs.ObsRead as obs_read
-use Rattle.zk_trace.proofs.HistoriesFit.{IsAsked, all-there, work-fits, clock-fits, table-fits, SemsFit, sems-fit, MsgqsFit, msgqs-fit, SignalsFit, signals-fit, ChansFit, chans-fit, ObserversFit, observers-fit}
+use Rattle.zk_trace.proofs.HistoriesFit.{IsAsked, all-there, work-fits, clock-fits, table-fits, sems-fit, msgqs-fit, signals-fit, chans-fit, observers-fit}
 use Rattle.zk_trace.proofs.LogAnswers.{ShownFits}
 use Rattle.zk_replay.specs.RoundRobin.{World, IsRun}
 use Rattle.zk_replay.specs.Replay.{trace_of}
 use Rattle.zk_replay.proofs.AheadSays.{SaysFit}
-use Rattle.zk_replay.proofs.EntriesFit.{request, request_at, RequestFits, AreFitting, run-fitting}
+use Rattle.zk_replay.proofs.EntriesFit.{request, RequestFits, run-fitting}
 use Rattle.zk_replay.proofs.Legality.{run-legal, Work, Clock, Table, Sems, Msgqs, Signals, Chans, Observers}
 use Rattle.zk_replay.proofs.OpsFit.{work-op, clock-op, table-op, sem-op, msgq-op, signal-op, chan-op, obs-op}
 

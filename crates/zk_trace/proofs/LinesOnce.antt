@@ -1,36 +1,26 @@
 -- A line that stands once among the lines of a trace is the only one of its step.
-use Rattle.std.proofs.Common.{◌≡◌, ◌⊎◌, inl, inr, ℕ, zero, suc, ◌+◌, ◌==◌, ◌<◌, ◌≤◌, Bool, true, false, ◌&&◌, cond, eqb, Option, Some, None, List, [], ◌∷◌, ◌++◌, length, map, All, refl, sym, ap, subst, ◌∙◌, arith}
-use Rattle.std.specs.List.{AllByRecursion, filter, range_with_len, slice_get, cons_option}
-use Rattle.std.specs.Option.{option_map, option_map_or, option_and_then}
-use Rattle.std.proofs.lemmas.Bool.{and_parts, and_from, eqb-true, eqb-false, eq-eqb, cases_Bool, cond-true, cond-false}
+use Rattle.std.proofs.Common.{◌≡◌, ℕ, zero, suc, ◌+◌, ◌<◌, ◌≤◌, Bool, true, false, ◌&&◌, cond, Option, Some, None, List, [], ◌∷◌, ◌++◌, length, map, refl, sym, ap, subst, ◌∙◌, arith}
+use Rattle.std.specs.List.{AllByRecursion, filter, slice_get, cons_option}
+use Rattle.std.proofs.lemmas.Bool.{cond-true, cond-false}
 use Rattle.std.proofs.lemmas.List.{map-append}
-use Rattle.std.proofs.lemmas.List.Elements.{All-nil, All-cons, All-weaker, filter-append}
-use Rattle.std.proofs.lemmas.Option.{same_Some, none-some, slice_get-map, slice_get_within}
+use Rattle.std.proofs.lemmas.List.Elements.{filter-append}
+use Rattle.std.proofs.lemmas.Option.{same_Some, none-some}
 use Rattle.zk_base.specs.declared.ids.Entry.{Entry}
-use Rattle.zk_base.specs.Order.{Ascends, by_key}
-use Rattle.zk_scenario.specs.Content.{Content}
 use Rattle.zk_worker.specs.declared.log.Log.{Log}
 use Rattle.zk_worker.specs.declared.steps.Spot.{Spot}
 use Rattle.zk_worker.specs.declared.steps.Spot.TheVariants as spots
 use Rattle.zk_worker.specs.Families.{entry_at}
-use Rattle.zk_worker.specs.Shown.{shown_at, is_look}
-use Rattle.zk_worker.specs.Single as single
-use Rattle.zk_trace.specs.declared.looks.ItemLook.{ItemLook}
+use Rattle.zk_worker.specs.Shown.{is_look}
 use Rattle.zk_trace.specs.declared.looks.SignalLook.{SignalLook}
 use Rattle.zk_trace.specs.declared.stood.Family.{Family}
 use Rattle.zk_trace.specs.declared.stood.Family.TheVariants as families
 use Rattle.zk_trace.specs.declared.stood.Home.{Home}
 use Rattle.zk_trace.specs.declared.stood.Home.TheVariants as homes
 use Rattle.zk_trace.specs.declared.stood.Stood.{Stood}
-use Rattle.zk_trace.specs.declared.trace.Trace.{Trace}
-use Rattle.zk_trace.specs.Looked.{item_look_at, signal_look_at, looks_from, all_looks, item_looks_of, signal_looks_of}
-use Rattle.zk_trace.specs.LookRead.{item_step, signal_step}
-use Rattle.zk_trace.specs.Place.{IsPlaced}
-use Rattle.zk_trace.specs.Shown.{trace_shown}
-use Rattle.zk_trace.specs.Stood.{spot_in, spot_at, entries_stood, histories_stood, item_look_stood, signal_look_stood, signals_stood, stood, is_of, sorted_spots, steps_of}
+use Rattle.zk_trace.specs.Looked.{looks_from, all_looks}
+use Rattle.zk_trace.specs.Stood.{spot_in, spot_at, entries_stood, histories_stood, signal_look_stood, signals_stood}
 use Rattle.zk_trace.specs.Text.{looks_at}
-use Rattle.zk_trace.proofs.LooksFit.{all-append, steps-each, logs-each, item-own, signal-own}
-use Rattle.zk_trace.proofs.Stable.{of_key, ascends-same, of_key-by_key, ascends-by_key}
+use Rattle.zk_trace.proofs.LooksFit.{all-append, steps-each, logs-each}
 
 -- a line
 abbrev pub line_at : ℕ → ℕ → Spot → Stood
