@@ -33,7 +33,7 @@ use Rattle.zk_worker.proofs.Lists.{there-mapped}
 use Rattle.zk_trace.specs.declared.trace.Trace.{Trace}
 use Rattle.zk_trace.specs.AnswerRead.{IsAnswered}
 use Rattle.zk_trace.specs.Form.{AreOfKind, IsLog, IsInForm}
-use Rattle.zk_trace.specs.History.{IsLegalAt}
+use Rattle.zk_trace.proofs.LegalHistories.{IsLegalAt}
 use Rattle.zk_trace.specs.LookRead.{can_be_seen, FitsSignalLook}
 use Rattle.zk_trace.specs.Looked.{signal_looks_of}
 use Rattle.zk_trace.specs.Sized.{IsSizedAnswer, IsSizedLog, IsSizedSignalLook, IsSized}
