@@ -55,4 +55,5 @@ pub use looks::{ItemLook, ItemLooks, SignalLook, SignalLooks};
 pub use print::{print_trace, put_trace};
 pub use read::{TraceRefused, read_trace};
 pub use sizes::trace_sizes;
+pub use stood::Stood;
 pub use trace::{Ending, Histories, History, Logs, Trace};

@@ -1,0 +1,6 @@
+//! Whether a trace is lawful for its scenario, and if it isn't, at which line of the text and why.
+#![tactic(auto)]
+
+mod site;
+
+pub use site::{Fail, Site};
