@@ -1,5 +1,5 @@
 -- A placed trace has no more lines than its players may make steps, and so each history has room.
-use Rattle.std.proofs.Common.{◌≡◌, ℕ, zero, suc, ◌+◌, ◌*◌, ◌<◌, ◌≤◌, Bool, true, false, not, cond, List, [], ◌∷◌, ◌++◌, length, map, All, refl, sym, ap, subst, ◌∙◌, arith, zero-mul, suc-mul, mul-le-mul_right}
+use Rattle.std.proofs.Common.{◌≡◌, ℕ, zero, suc, ◌+◌, ◌*◌, ◌<◌, ◌≤◌, Bool, true, false, not, cond, List, [], ◌∷◌, ◌++◌, length, map, All, refl, ap, subst, ◌∙◌, arith, zero-mul, suc-mul, mul-le-mul_right}
 use Rattle.std.specs.List.{AllByRecursion, filter}
 use Rattle.std.proofs.lemmas.Bool.{not-true, eqb-false}
 use Rattle.std.proofs.lemmas.List.{length-append, length-map}

@@ -3,7 +3,7 @@ use Rattle.std.proofs.Common.{◌≡◌, ℕ, zero, suc, ◌<◌, Some, List, []
 use Rattle.std.specs.List.{AllByRecursion, slice_get}
 use Rattle.std.proofs.lemmas.Option.{same_Some, none-some}
 use Rattle.zk_trace.proofs.LooksFit.{all-append}
-use Rattle.zk_check.proofs.PlacedLists.{IsIn, in-front, in-back, each-in, each-from}
+use Rattle.zk_check.proofs.PlacedLists.{in-front, each-in, each-from}
 
 -- it holds of each element and each later one
 abbrev pub Later : {A : Type 0} → (A → A → Type 0) → List A → Type 0

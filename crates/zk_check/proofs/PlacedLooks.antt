@@ -1,5 +1,5 @@
 -- The looks of a trace are those of its logs, where the steps of each are numbered.
-use Rattle.std.proofs.Common.{◌≡◌, ◌⊎◌, ℕ, zero, suc, ◌+◌, ◌<◌, ◌≤◌, ◌==◌, Bool, true, false, ◌&&◌, cond, eqb, Option, Some, None, is_some, List, [], ◌∷◌, ◌++◌, append-nil, length, map, get_or, All, refl, sym, ap, subst, ◌∙◌, inl, inr, arith}
+use Rattle.std.proofs.Common.{◌≡◌, ◌⊎◌, ℕ, zero, suc, ◌+◌, ◌<◌, ◌≤◌, ◌==◌, Bool, true, false, ◌&&◌, cond, Option, Some, None, is_some, List, [], ◌∷◌, ◌++◌, append-nil, length, map, get_or, All, refl, sym, ap, subst, ◌∙◌, inl, inr, arith}
 use Rattle.std.specs.List.{AllByRecursion, filter, filter_map, range_with_len, slice_get, cons_option}
 use Rattle.std.specs.Option.{option_map, option_map_or}
 use Rattle.std.proofs.lemmas.Bool.{cases_eq, cond-true, cond-false, eq-eqb, ne_eqb, eqb-true}
@@ -7,19 +7,17 @@ use Rattle.std.proofs.lemmas.Bool.Decides.{nat_tests}
 use Rattle.std.proofs.lemmas.List.{length-map}
 use Rattle.std.proofs.lemmas.List.Elements.{All-from_recursion, filter-append, filter_agree}
 use Rattle.std.proofs.lemmas.List.FromFn.{fill_by_all}
-use Rattle.std.proofs.lemmas.Option.{none-some, slice_get_within, slice_get-get_or}
+use Rattle.std.proofs.lemmas.Option.{slice_get_within, slice_get-get_or}
 use Rattle.zk_base.specs.declared.ids.Entry.{Entry}
 use Rattle.zk_base.specs.Order.{Ascends, by_key}
 use Rattle.zk_base.proofs.Order.{map-by_key, filter-by_key, by_key-ascending, filter_all, filter_none}
 use Rattle.zk_blocks.specs.Blocks.{FitsGiven}
 use Rattle.zk_blocks.specs.Rows.{AllFit}
 use Rattle.zk_blocks.proofs.Each.{each_fits-length}
-use Rattle.zk_line.specs.declared.types.Decl.{Decl}
 use Rattle.zk_line.specs.Objects.{is_signal}
 use Rattle.zk_scenario.specs.Content.{Content}
 use Rattle.zk_worker.specs.declared.log.Log.{Log}
 use Rattle.zk_worker.specs.declared.steps.Spot.{Spot}
-use Rattle.zk_worker.specs.declared.steps.Spot.TheVariants as spots
 use Rattle.zk_trace.specs.declared.looks.ItemLook.{ItemLook}
 use Rattle.zk_trace.specs.declared.looks.SignalLook.{SignalLook}
 use Rattle.zk_trace.specs.declared.stood.Family.{Family}
@@ -38,7 +36,7 @@ use Rattle.zk_trace.proofs.LinesOnce.{line_at, entries-each, histories-each, map
 use Rattle.zk_trace.proofs.LooksFit.{all-append}
 use Rattle.zk_check.specs.PlaceFailure.{IsNumbered, step_numbers}
 use Rattle.zk_check.proofs.PlacedLater.{Later}
-use Rattle.zk_check.proofs.PlacedLists.{IsIn, in-map, each-in, each-of, each-from, each-weaker, there-is, from-filter, from-by_key, filter-map}
+use Rattle.zk_check.proofs.PlacedLists.{IsIn, in-map, each-in, each-of, each-from, each-weaker, from-filter, from-by_key, filter-map}
 use Rattle.zk_check.proofs.PlacedRows.{works, items, clocks, tables, sems, msgqs, signals, chans, observers, upto_items, upto_clocks, upto_tables, upto_sems, upto_msgqs, upto_signals, upto_chans}
 use Rattle.zk_check.proofs.PlacedSteps.{step_in, spot_of, AreNumbered, kind-at, looks-there, log-steps, players-known}
 

@@ -1,14 +1,13 @@
 -- The steps of each log are numbered, and each has its line; and each line is where the log of its player says.
-use Rattle.std.proofs.Common.{◌≡◌, ◌⊎◌, ℕ, zero, suc, ◌+◌, ◌<◌, ◌≤◌, ◌==◌, Bool, true, false, cond, Option, Some, None, List, [], ◌∷◌, ◌++◌, length, map, get_or, refl, sym, ap, subst, ◌∙◌, inl, inr, arith}
+use Rattle.std.proofs.Common.{◌≡◌, ◌⊎◌, ℕ, zero, suc, ◌+◌, ◌<◌, ◌==◌, Bool, true, false, Option, Some, None, List, [], ◌∷◌, length, refl, sym, ap, subst, ◌∙◌, inl, inr, arith}
 use Rattle.std.specs.List.{AllByRecursion, filter, range_with_len, slice_get, cons_option}
-use Rattle.std.specs.Option.{option_map, option_map_or, option_and_then}
+use Rattle.std.specs.Option.{option_map, option_map_or}
 use Rattle.std.proofs.lemmas.Bool.{cond-true, eq-eqb, eqb-true}
 use Rattle.std.proofs.lemmas.List.{length-map}
 use Rattle.std.proofs.lemmas.List.FromFn.{length-range_with_len, get_or-range_with_len}
 use Rattle.std.proofs.lemmas.Option.{same_Some, none-some, slice_get-map, slice_get-get_or, slice_get_within, option_and_then_some}
 use Rattle.zk_base.specs.declared.ids.Entry.{Entry}
 use Rattle.zk_base.specs.declared.ids.Who.{Who}
-use Rattle.zk_base.specs.declared.seen.Seen.{Seen}
 use Rattle.zk_base.specs.Order.{by_key}
 use Rattle.zk_blocks.specs.Blocks.{FitsGiven}
 use Rattle.zk_blocks.specs.Rows.{AllFit}
@@ -39,7 +38,7 @@ use Rattle.zk_trace.specs.Stood.{is_of, item_look_stood, signal_look_stood, step
 use Rattle.zk_trace.specs.Text.{looks_at}
 use Rattle.zk_trace.proofs.LinesOnce.{line_at}
 use Rattle.zk_check.specs.PlaceFailure.{IsNumbered, step_numbers}
-use Rattle.zk_check.proofs.PlacedLists.{IsIn, in-first, in-rest, in-front, in-back, in-cases, in-map, each-in, each-of, there-is, from-filter, in-filter, from-by_key, in-by_key}
+use Rattle.zk_check.proofs.PlacedLists.{IsIn, in-first, in-rest, in-front, in-back, in-map, each-in, each-of, there-is, from-filter, in-filter, from-by_key, in-by_key}
 use Rattle.zk_check.proofs.PlacedNumbers.{numbered, numbered-at, keys-ascend}
 use Rattle.zk_check.proofs.PlacedRows.{row-of-shown, row-of-item, row-of-look, stood-each}
 
