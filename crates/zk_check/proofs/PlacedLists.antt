@@ -16,6 +16,7 @@ abbrev pub IsIn : {A : Type 0} → List A → A → Type 0
 IsIn xs x = (place : ℕ) × (slice_get xs place ≡ Some x)
 
 module _ {A : Type 0} where
+  -- the first one is one, and so is each of the rest
   pub in-first : (x : A) (xs : List A) → IsIn (x ∷ xs) x
   in-first x xs = (zero, refl)
 
@@ -29,6 +30,7 @@ module _ {A : Type 0} where
     at zero there = inl (same_Some x y there)
     at (suc k) there = inr (k, there)
 
+  -- an element of either of two lists is one of both
   pub in-front : (xs ys : List A) (x : A) → IsIn xs x → IsIn (xs ++ ys) x
   in-front xs ys x is = (is.0, there-longer xs ys is.0 x is.1)
 
@@ -61,6 +63,7 @@ module _ {A : Type 0} where
   there-is (x ∷ xs) zero within = (x, refl)
   there-is (x ∷ xs) (suc k) within = there-is xs k (omega arith)
 
+  -- each of a list is one of it
   all-in : (xs : List A) → All (IsIn xs) xs
   all-in xs k d within = (k, slice_get-get_or xs k d within)
 
@@ -68,6 +71,7 @@ module _ {A : Type 0} where
   pub in-long : (xs : List A) (x : A) → IsIn xs x → 1 ≤ length xs
   in-long xs x is = let within = slice_get_within xs is.0 x is.1 in omega arith
 
+  -- what a test keeps are the elements that pass
   pub from-filter : (test : A → Bool) (xs : List A) (x : A) → IsIn (filter test xs) x → IsIn xs x × (test x ≡ true)
   from-filter test xs x is = (
     All-at (IsIn xs) (filter test xs) is.0 x (All-filter test (IsIn xs) xs (all-in xs)) is.1,
@@ -87,6 +91,7 @@ module _ {A : Type 0} where
         (subst (λ (z : A). IsIn (z ∷ filter test xs) x) (sym same) (in-first x (filter test xs)))
     by (inr rest) further = kept (test y) (further rest)
 
+  -- a list by key has the same elements
   pub from-by_key : (key : A → ℕ) (xs : List A) (x : A) → IsIn (by_key key xs) x → IsIn xs x
   from-by_key key xs x is = All-at (IsIn xs) (by_key key xs) is.0 x (All-by_key (IsIn xs) key xs (all-in xs)) is.1
 
@@ -96,6 +101,7 @@ module _ {A : Type 0} where
       (from-filter same (by_key key xs) x
       (subst (λ (l : List A). IsIn l x) (sym (of_key-by_key key (key x) xs)) (in-filter same xs x is (eq-eqb (key x) (key x) refl)))).0
 
+  -- what a function makes of an element is one of what it makes of all
   pub in-map : {B : Type 0} (f : A → B) (xs : List A) (x : A) → IsIn xs x → IsIn (map f xs) (f x)
   in-map f xs x is = (is.0, slice_get-map f xs is.0 ∙ ap (option_map f) is.1)
 

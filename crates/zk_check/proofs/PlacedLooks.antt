@@ -116,6 +116,7 @@ module _ {L : Type 0} (look_at : ℕ → ℕ → Spot → Option L) (f : L → S
     each-weaker (NotBelow y) (NotBelow x) (λ z stands. stand-further (f x).player (f x).step (f y).player (f y).step (f z).player (f z).step fit.0 stands) ys (not-below y ys fit.1),
   )
 
+  -- looks that fit stand behind each before them
   pub later-looks : (last : Option L) (xs : List L) → AllFit StandsBehind last xs → Later NotBelow xs
   later-looks last [] fit = tt
   later-looks last (x ∷ xs) fit = (not-below x xs fit.1, later-looks (Some x) xs fit.1)
@@ -321,6 +322,7 @@ rows-stand F G follows last (x ∷ xs) fit = (follows last x fit.0, rows-stand F
 abbrev pub ItemNotBelow : ItemLook → ItemLook → Type 0
 ItemNotBelow = NotBelow item_look_at item_look_stood item-told
 
+-- those of a trace in form don't fall
 pub items-later : (s : Content) (t : Trace) → IsInForm s t → Later ItemNotBelow t.item_looks
 items-later s t form =
     later-looks item_look_at item_look_stood item-told None t.item_looks
@@ -369,6 +371,7 @@ module _ (object : ℕ) where
   abbrev pub LookNotBelow : SignalLook → SignalLook → Type 0
   LookNotBelow = NotBelow (signal_look_at object) (signal_look_stood object) signal-told
 
+  -- nor do these
   pub signal-later : (s : Content) (t : Trace) → IsInForm s t → Later LookNotBelow (looks_at t.signal_looks object)
   signal-later s t form = by (slice_get t.signal_looks object) refl where
     stands : (last : Option SignalLook) (l : SignalLook) → signal_may_stand last l ≡ true → StandsBehind (signal_look_at object) (signal_look_stood object) signal-told last l

@@ -42,6 +42,7 @@ Distinct x y = x.player ≡ y.player → x.step ≡ y.step → ⊥
 
 -- By the lines that can't stand where they do.
 
+-- where there are none, the lines of a player and a part rise
 pub rise-nowhere : (lines : List Stood) → HoldsNowhere (IsMisplaced lines) → Later Rising lines
 rise-nowhere lines nowhere = later-from Rising lines (λ i j x y below at_x at_y same part. by i j x y below at_x at_y same part (cases_lt x.step y.step)) where
   by : (i j : ℕ) (x y : Stood) → i < j → slice_get lines i ≡ Some x → slice_get lines j ≡ Some y → x.player ≡ y.player → same_part x.spot y.spot ≡ true → ((x.step < y.step) ⊎ (y.step ≤ x.step)) → x.step < y.step
@@ -49,6 +50,7 @@ rise-nowhere lines nowhere = later-from Rising lines (λ i j x y below at_x at_y
   by i j x y below at_x at_y same part (inr above) =
       absurd (nowhere j (record { line = y; there = at_y; before = i; earlier = x; lower = below; stands = at_x; behind = (same, inr (part, above)) }))
 
+-- and where they rise and are distinct, there are none
 pub nowhere-rise : (lines : List Stood) → Later Rising lines → Later Distinct lines → HoldsNowhere (IsMisplaced lines)
 nowhere-rise lines rise distinct place is = by is.behind.1 where
   by : ((is.earlier.step ≡ is.line.step) ⊎ ((same_part is.earlier.spot is.line.spot ≡ true) × (is.line.step ≤ is.earlier.step))) → ⊥
@@ -105,7 +107,7 @@ apart P Q never xs ys first second rise more =
     later-join Rising xs ys rise more
     (each-weaker P (λ x. AllByRecursion (Rising x) ys) (λ x is. each-weaker Q (Rising x) (λ y other same part. absurd (never x y is other part)) ys second) xs first)
 
--- Histories.
+-- Histories: their entries rise where their lines do.
 
 entries-back : {O R : Type 0} (P : Stood → Type 0) (Q : Entry O R → Type 0) (home : Home) → ((place : ℕ) (e : Entry O R) → P (entry_line home place e) → Q e) → (place : ℕ) (h : List (Entry O R)) →
     AllByRecursion P (entries_stood home place h) → AllByRecursion Q h
