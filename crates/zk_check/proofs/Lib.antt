@@ -1,0 +1,9 @@
+pub mod Placed
+pub mod PlacedFew
+pub mod PlacedLater
+pub mod PlacedLists
+pub mod PlacedLooks
+pub mod PlacedNumbers
+pub mod PlacedOrder
+pub mod PlacedRows
+pub mod PlacedSteps
