@@ -1,27 +1,17 @@
--- Counting lines, where sums stop at the greatest number of 64 bits.
-use Rattle.std.proofs.Common.{◌≡◌, ℕ, ◌+◌, ◌-◌, ◌^◌, ◌<◌, ◌≤◌, min, ltb, List, [], ◌∷◌, ◌++◌, append_assoc, length, length-append, get_or, map, take, drop, arith, refl, sym, ap, ◌∙◌}
-use Rattle.std.specs.List.{sum_by}
-use Rattle.std.proofs.lemmas.Bool.{cond-true, cond-false, lt-ltb, le-ltb}
-use Rattle.std.proofs.lemmas.List.{drop_more, drop_all}
-use Rattle.std.proofs.lemmas.List.Sums.{sum_by-cons, sum_by-drop_more}
-use Rattle.zk_check.specs.Capped.{capped}
-use Rattle.zk_check.specs.Lines.{lines_of_section, row_line}
+-- How many writes and looks there are of each signal, from one on.
+use Rattle.std.proofs.Common.{◌≡◌, ℕ, zero, suc, ◌+◌, ◌<◌, List, [], ◌∷◌, length, get_or, drop, arith, ap, ◌∙◌}
+use Rattle.zk_trace.specs.Text.{looks_at}
+use Rattle.zk_check.specs.Lines.{both_lengths}
 
--- one sum more
-pub capped-more : (passed more rest : ℕ) → capped (capped (passed + capped more) + rest) ≡ capped (passed + (more + rest))
-capped-more passed more rest = omega arith
-
--- Rows of sections.
-
-pub row-in : (xs : List ℕ) (i rows left : ℕ) → i < length xs → rows ≡ get_or xs i rows → left < rows → row_line (drop i xs) left ≡ 1 + left
-row-in xs i rows left within is less =
-    ap (λ (ls : List ℕ). row_line ls left) (drop_more xs i rows within ∙ ap (λ n. n ∷ drop (i + 1) xs) (sym is))
-    ∙ cond-true (ltb left rows) (1 + left) (lines_of_section rows + row_line (drop (i + 1) xs) (left - rows)) (lt-ltb left rows less)
-
-pub row-behind : (xs : List ℕ) (i rows left : ℕ) → i < length xs → rows ≡ get_or xs i rows → rows ≤ left → row_line (drop i xs) left ≡ lines_of_section rows + row_line (drop (i + 1) xs) (left - rows)
-row-behind xs i rows left within is more =
-    ap (λ (ls : List ℕ). row_line ls left) (drop_more xs i rows within ∙ ap (λ n. n ∷ drop (i + 1) xs) (sym is))
-    ∙ cond-false (ltb left rows) (1 + left) (lines_of_section rows + row_line (drop (i + 1) xs) (left - rows)) (le-ltb left rows more)
-
-pub row-past : (xs : List ℕ) (i left : ℕ) → length xs ≤ i → row_line (drop i xs) left ≡ left
-row-past xs i left past = ap (λ (ls : List ℕ). row_line ls left) (drop_all i xs past)
+module _ {A B : Type 0} where
+  pub both-more : (hs : List (List A)) (looks : List (List B)) (object : ℕ) (h : List A) → object < length hs → h ≡ get_or hs object h →
+      both_lengths (drop object hs) (drop object looks) ≡ (length h + length (looks_at looks object)) ∷ both_lengths (drop (suc object) hs) (drop (suc object) looks)
+  both-more [] looks object h within is = absurd (omega (arith, within))
+  both-more (x ∷ hs) [] zero h within is = ap (λ n. n ∷ both_lengths {B = B} hs []) (let same = ap length is in omega (arith, same))
+  both-more (x ∷ hs) (l ∷ looks) zero h within is = ap (λ n. n ∷ both_lengths hs looks) (let same = ap length is in omega (arith, same))
+  both-more (x ∷ hs) [] (suc object) h within is = nothing object (both-more hs [] object h (omega (arith, within)) is) where
+    nothing : (n : ℕ) → both_lengths {B = B} (drop n hs) (drop n []) ≡ (length h + length (looks_at {L = B} [] n)) ∷ both_lengths {B = B} (drop (suc n) hs) [] →
+        both_lengths {B = B} (drop n hs) [] ≡ (length h + length (looks_at {L = B} [] (suc n))) ∷ both_lengths {B = B} (drop (suc n) hs) []
+    nothing zero same = same
+    nothing (suc n) same = same
+  both-more (x ∷ hs) (l ∷ looks) (suc object) h within is = both-more hs looks object h (omega (arith, within)) is

@@ -104,3 +104,12 @@ pub owns-past : (lines : List Stood) (line : Stood) (owns : List Own) → AreOwn
 owns-past lines line owns are past player own here =
     let within = slice_get_within owns player own here in
     own-other player lines line own (ne_eqb line.player player (λ same. omega (arith, same, within, past))) (are player own here)
+
+-- a player more who has none
+pub owns-none : (owns : List Own) (new : Own) → AreOwn [] owns → ((player : ℕ) → IsOwn player [] new) → AreOwn [] (owns ++ new ∷ [])
+owns-none owns new are none player own there = by owns player there (are player) where
+  by : (os : List Own) (k : ℕ) → slice_get (os ++ new ∷ []) k ≡ Some own → ((o : Own) → slice_get os k ≡ Some o → IsOwn player [] o) → IsOwn player [] own
+  by [] zero here each = subst (λ (o : Own). IsOwn player [] o) (same_Some new own here) (none player)
+  by [] (suc k) here each = absurd (none-some own here)
+  by (o ∷ os) zero here each = each own here
+  by (o ∷ os) (suc k) here each = by os k here each

@@ -5,6 +5,7 @@ ghost use Rattle.zk_trace.specs.Form.{IsInForm};
 ghost use Rattle.zk_trace.specs.Text.{looks_at};
 ghost use Rattle.zk_trace.specs.TraceRead.{line_number};
 ghost use Rattle.zk_check.specs.Capped.{capped};
+ghost use Rattle.zk_check.specs.LineOf.{IsItsLine};
 ghost use Rattle.zk_check.specs.Lines.{both_lengths, section_lengths, lines_of_section, row_line, player_line, trace_line, line_at};
 
 use crate::site::Site;
@@ -28,6 +29,14 @@ pub fn line_at(
     let lengths = section_lengths(alloc, trace)?;
     let first = (line_count(&text) as u64).saturating_add(1);
     Ok(line_number(first, trace_line(trace, &lengths, site)))
+}
+
+/// The line of this number is that of what stands there.
+pub fn is_its_line(scenario: &Scenario, trace: &Trace, site: Site)
+    requires { IsInForm scenario.now trace.now }
+    ensures { IsItsLine scenario.now trace.now site }
+{
+    let _readable = scenario.decls();
 }
 
 /// How many lines of a text have their line feed.
