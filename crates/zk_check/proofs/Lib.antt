@@ -1,3 +1,8 @@
+pub mod Counted
+pub mod Gaps
+pub mod LineOf
+pub mod Misplaced
+pub mod Owns
 pub mod Placed
 pub mod PlacedFew
 pub mod PlacedLater
@@ -7,3 +12,4 @@ pub mod PlacedNumbers
 pub mod PlacedOrder
 pub mod PlacedRows
 pub mod PlacedSteps
+pub mod Together

@@ -1,7 +1,12 @@
+pub mod Capped
 pub mod Failure
 pub mod First
 pub mod HistoryFailure
+pub mod LineOf
 pub mod Lines
 pub mod LogFailure
 pub mod LookFailure
+pub mod Own
+pub mod Parts
 pub mod PlaceFailure
+pub mod Standing
