@@ -1,3 +1,5 @@
+pub mod Answering
+pub mod CanStep
 pub mod Failure
 pub mod First
 pub mod HistoryFailure
@@ -5,3 +7,5 @@ pub mod Lines
 pub mod LogFailure
 pub mod LookFailure
 pub mod PlaceFailure
+pub mod Playable
+pub mod Played

@@ -1,6 +1,10 @@
 //! Whether a trace is lawful for its scenario, and if it isn't, at which line of the text and why.
 #![tactic(auto)]
 
+mod alike;
+mod ending;
+mod history;
 mod site;
+mod unlike;
 
 pub use site::{Fail, Site};
