@@ -97,32 +97,6 @@ length-parts t =
     ap (λ (l : List Stood). length l) (lines-parts t) ∙ length-append (single_lines t) (waited_lines t ++ bus_lines t)
     ∙ ap (λ (n : ℕ). length (single_lines t) + n) (length-append (waited_lines t) (bus_lines t))
 
--- no history of a kind has more entries than there are lines
-short-each : {O R : Type 0} (most : ℕ) (looks : List (List SignalLook)) (object : ℕ) (hs : List (List (Entry O R))) → line_count looks object hs < most →
-    All (λ h. length h < most) hs
-short-each {O} {R} most looks object [] few = let P : List (Entry O R) → Type 0 = λ h. length h < most in All-nil P
-short-each {O} {R} most looks object (h ∷ hs) few =
-    let P : List (Entry O R) → Type 0 = λ h. length h < most in
-    All-cons P h hs (omega arith) (short-each most looks (object + 1) hs (omega arith))
-
--- a trace with few lines has short histories
-pub short-histories : (t : Trace) → length (stood t) < most_entries → AreShort (trace_shown t)
-short-histories t few =
-    let all = length-parts t in
-    let single = length-single t in
-    let waited = length-waited t in
-    let bus = length-bus t in
-    record {
-      work = omega arith;
-      clock = omega arith;
-      table = omega arith;
-      sems = short-each most_entries [] 0 t.sems (omega arith);
-      msgqs = short-each most_entries [] 0 t.msgqs (omega arith);
-      signals = short-each most_entries t.signal_looks 0 t.signals (omega arith);
-      chans = short-each most_entries [] 0 t.chans (omega arith);
-      observers = short-each most_entries [] 0 t.observers (omega arith);
-    }
-
 -- The histories of the objects of a kind.
 
 -- an object is of a kind just where it starts in a state
@@ -166,10 +140,9 @@ module _ {S O R : Type 0} (m : Machine S O R) (always : (s : S) (op : O) → m.i
         each-playable ds hs fit.1 (All-tail Rises h hs rise) (All-tail P h hs short),
       )
 
--- a trace in form whose histories rise, and that has few lines, can be played
-pub playable : (s : Content) (t : Trace) → IsInForm s t → EachRises t → length (stood t) < most_entries → ArePlayable (machines_of s) t
-playable s t form rises few =
-    let short = short-histories t few in
+-- a trace in form whose histories rise and are short can be played
+pub playable : (s : Content) (t : Trace) → IsInForm s t → EachRises t → AreShort (trace_shown t) → length (stood t) < most_entries → ArePlayable (machines_of s) t
+playable s t form rises short few =
     record {
       work = record { rises = rises.work; range = work-range s t.work form.work; short = short.work };
       clock = record { rises = rises.clock; range = each-range clock_machine new_clock (IsClock s.decls) (λ e fit. refl) t.clock form.clock; short = short.clock };
