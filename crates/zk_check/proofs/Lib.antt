@@ -6,3 +6,12 @@ pub mod InRange
 pub mod PlayableTraces
 pub mod UnlikeLines
 pub mod WaitingItems
+pub mod Placed
+pub mod PlacedFew
+pub mod PlacedLater
+pub mod PlacedLists
+pub mod PlacedLooks
+pub mod PlacedNumbers
+pub mod PlacedOrder
+pub mod PlacedRows
+pub mod PlacedSteps
