@@ -1,5 +1,10 @@
+pub mod Answered
 pub mod Counted
+pub mod Endings
+pub mod FollowedFits
 pub mod Gaps
+pub mod HistoryParts
+pub mod InRange
 pub mod LineOf
 pub mod Misplaced
 pub mod Owns
@@ -12,4 +17,7 @@ pub mod PlacedNumbers
 pub mod PlacedOrder
 pub mod PlacedRows
 pub mod PlacedSteps
+pub mod PlayableTraces
 pub mod Together
+pub mod UnlikeLines
+pub mod WaitingItems

@@ -1,3 +1,5 @@
+pub mod Answering
+pub mod CanStep
 pub mod Capped
 pub mod Failure
 pub mod First
@@ -9,4 +11,6 @@ pub mod LookFailure
 pub mod Own
 pub mod Parts
 pub mod PlaceFailure
+pub mod Playable
+pub mod Played
 pub mod Standing

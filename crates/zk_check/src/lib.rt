@@ -1,10 +1,14 @@
 //! Whether a trace is lawful for its scenario, and if it isn't, at which line of the text and why.
 #![tactic(auto)]
 
+mod alike;
+mod ending;
+mod history;
 mod lines;
 mod own;
 mod part;
 mod place;
 mod site;
+mod unlike;
 
 pub use site::{Fail, Site};
