@@ -12,7 +12,7 @@ use Rattle.zk_scenario.specs.Content.{Content}
 use Rattle.zk_worker.specs.declared.steps.Spot.{Spot}
 use Rattle.zk_worker.specs.declared.steps.Spot.TheVariants as spots
 use Rattle.zk_worker.specs.Families.{Family}
-use Rattle.zk_worker.specs.Machines.{machines_of}
+use Rattle.zk_worker.specs.Machines.{Machines, machines_of}
 use Rattle.zk_trace.specs.declared.trace.Trace.{Trace}
 use Rattle.zk_trace.specs.Form.{IsInForm}
 use Rattle.zk_trace.specs.History.{IsAnsweredAt, AreLegal}
@@ -76,6 +76,7 @@ module _ {S O R : Type 0} (m : Machine S O R) where
 -- where all histories stand, no line is an entry that its service doesn't answer so
 pub unlike-never : (s : Content) (t : Trace) → IsInForm s t → AreLegal s t → (place : ℕ) → IsUnanswered s t place → ⊥
 unlike-never s t form legal place is = by is.line.spot is.unlike where
+  m : Machines
   m = machines_of s
 
   by : (spot : Spot) → IsUnlikeIn (machines_of s) t spot → ⊥

@@ -39,9 +39,9 @@ module _ (m : Machines) (shown : Shown) (who : Who) where
       let here : reply_in m shown who x ≡ Some reply = ap (reply_in m shown who) (same_Some x step there) ∙ possible in
       let first : or_else x (Some reply) (first_possible m shown who ahead) ≡ None = ap (λ (o : Option StepReply). or_else x o (first_possible m shown who ahead)) (sym here) ∙ none in
       absurd (cc)
-  possible-some (x ∷ ahead) (suc k) step reply there possible none = by (reply_in m shown who x) none where
-    by : (o : Option StepReply) → or_else x o (first_possible m shown who ahead) ≡ None → ⊥
-    by None none = possible-some ahead k step reply there possible none
+  possible-some (x ∷ ahead) (suc k) step reply there possible none = possible-some ahead k step reply there possible (by (reply_in m shown who x) none) where
+    by : (o : Option StepReply) → or_else x o (first_possible m shown who ahead) ≡ None → first_possible m shown who ahead ≡ None
+    by None none = none
     by (Some r) none = absurd (cc)
 
   -- where none is, there is none

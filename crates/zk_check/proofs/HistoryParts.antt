@@ -82,13 +82,13 @@ module _ (m : Machines) (t : Trace) where
       found-front Bad (entries_stood homes.Work 0 t.work) _ row (history-found Bad m.work homes.Work m.work_start t.work (λ k bad. bad) (λ k bad. bad) row first)
 
   behind-work : (lines : List Stood) (row place : ℕ) → Replays m.work m.work_start t.work → row ≡ length t.work + length t.item_looks + place → IsFoundAt Bad lines place →
-      IsFoundAt Bad (entries_stood homes.Work 0 t.work ++ map item_look_stood t.item_looks ++ lines) row
+      IsFoundAt Bad (entries_stood homes.Work 0 t.work ++ (map item_look_stood t.item_looks ++ lines)) row
   behind-work lines row place stands is found =
       let work = entries_stood homes.Work 0 t.work in
       let looks = map item_look_stood t.item_looks in
       let long = length-entries Bad homes.Work 0 t.work in
       let looked = length-map t.item_looks item_look_stood in
-      subst (λ (n : ℕ). IsFoundAt Bad (work ++ looks ++ lines) n) (omega arith)
+      subst (λ (n : ℕ). IsFoundAt Bad (work ++ (looks ++ lines)) n) (omega arith)
       (found-behind Bad work (looks ++ lines) (length looks + place) (work-none stands) (found-behind Bad looks lines place looks-none found))
 
   pub clock-first : (row place : ℕ) → Replays m.work m.work_start t.work → row ≡ length t.work + length t.item_looks + place →
@@ -184,14 +184,14 @@ module _ (m : Machines) (t : Trace) where
   pub waited-first : (row place : ℕ) → SinglesStand m t → row ≡ length (single_lines t) + place → IsFoundAt Bad (waited_lines t) place → IsFoundAt Bad (stood t) row
   waited-first row place stand is found =
       subst (λ (lines : List Stood). IsFoundAt Bad lines row) (sym (lines-parts t))
-      (subst (λ (n : ℕ). IsFoundAt Bad (single_lines t ++ waited_lines t ++ bus_lines t) n) (sym is)
+      (subst (λ (n : ℕ). IsFoundAt Bad (single_lines t ++ (waited_lines t ++ bus_lines t)) n) (sym is)
       (found-behind Bad (single_lines t) (waited_lines t ++ bus_lines t) place (single-none stand) (found-front Bad (waited_lines t) (bus_lines t) place found)))
 
   pub bus-first : (row place : ℕ) → SinglesStand m t → WaitedStand m t → row ≡ length (single_lines t) + length (waited_lines t) + place → IsFoundAt Bad (bus_lines t) place →
       IsFoundAt Bad (stood t) row
   bus-first row place stand wait is found =
       subst (λ (lines : List Stood). IsFoundAt Bad lines row) (sym (lines-parts t))
-      (subst (λ (n : ℕ). IsFoundAt Bad (single_lines t ++ waited_lines t ++ bus_lines t) n) (omega arith)
+      (subst (λ (n : ℕ). IsFoundAt Bad (single_lines t ++ (waited_lines t ++ bus_lines t)) n) (omega arith)
       (found-behind Bad (single_lines t) (waited_lines t ++ bus_lines t) (length (waited_lines t) + place) (single-none stand)
       (found-behind Bad (waited_lines t) (bus_lines t) place (waited-none wait) found)))
 

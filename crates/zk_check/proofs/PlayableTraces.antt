@@ -41,10 +41,10 @@ use Rattle.zk_check.proofs.UnlikeLines.{length-entries, length-objects, objects_
 
 -- The lines of a trace, part by part.
 
-parts : (w l c t s m g h o : List Stood) → w ++ l ++ c ++ t ++ s ++ m ++ g ++ h ++ o ≡ (w ++ l ++ c ++ t) ++ (s ++ m ++ g) ++ (h ++ o)
+parts : (w l c t s m g h o : List Stood) → w ++ l ++ c ++ t ++ s ++ m ++ g ++ h ++ o ≡ (w ++ (l ++ (c ++ t))) ++ ((s ++ (m ++ g)) ++ (h ++ o))
 parts w l c t s m g h o = simp append_assoc
 
-pub lines-parts : (t : Trace) → stood t ≡ single_lines t ++ waited_lines t ++ bus_lines t
+pub lines-parts : (t : Trace) → stood t ≡ single_lines t ++ (waited_lines t ++ bus_lines t)
 lines-parts t =
     parts (entries_stood homes.Work 0 t.work) (map item_look_stood t.item_looks) (entries_stood homes.Clock 0 t.clock) (entries_stood homes.Table 0 t.table)
     (histories_stood families.Sem 0 t.sems) (histories_stood families.Msgq 0 t.msgqs) (signals_stood t.signal_looks 0 t.signals)
@@ -61,7 +61,7 @@ length-single t =
     let l = map item_look_stood t.item_looks in
     let c = entries_stood homes.Clock 0 t.clock in
     let b = entries_stood homes.Table 0 t.table in
-    let whole = length-append w (l ++ c ++ b) in
+    let whole = length-append w (l ++ (c ++ b)) in
     let behind = length-append l (c ++ b) in
     let last = length-append c b in
     let work = length-entries none homes.Work 0 t.work in

@@ -1,5 +1,5 @@
 -- The first line of a trace that its service doesn't answer so, by those of the histories.
-use Rattle.std.proofs.Common.{◌≡◌, ◌⊎◌, inl, inr, ℕ, zero, suc, ◌+◌, ◌<◌, Option, Some, None, List, [], ◌∷◌, ◌++◌, length, map, append_assoc, length-append, refl, sym, ap, subst, ◌∙◌, arith}
+use Rattle.std.proofs.Common.{◌≡◌, ◌⊎◌, inl, inr, ℕ, zero, suc, ◌+◌, ◌<◌, Option, Some, None, List, [], ◌∷◌, ◌++◌, length, map, append_assoc, append-nil, length-append, refl, sym, ap, subst, ◌∙◌, arith}
 use Rattle.std.specs.List.{slice_get, AllByRecursion, AllZip}
 use Rattle.std.proofs.lemmas.List.{length-map}
 use Rattle.std.proofs.lemmas.Option.{same_Some, slice_get_within}
@@ -157,7 +157,8 @@ pub histories-objects : {O R : Type 0} (family : Family) (object : ℕ) (hs : Li
     objects_stood family [] object hs ≡ histories_stood family object hs
 histories-objects family object [] = refl
 histories-objects family object (h ∷ hs) =
-    ap (λ (l : List Stood). entries_stood (homes.Object family object) 0 h ++ l) (histories-objects family (object + 1) hs)
+    let entries = entries_stood (homes.Object family object) 0 h in
+    ap (λ (l : List Stood). l ++ objects_stood family [] (object + 1) hs) (append-nil entries) ∙ ap (λ (l : List Stood). entries ++ l) (histories-objects family (object + 1) hs)
 
 -- as many as are counted
 pub length-objects : {O R : Type 0} (family : Family) (looks : List (List SignalLook)) (object : ℕ) (hs : List (List (Entry O R))) →
@@ -167,8 +168,8 @@ length-objects family looks object (h ∷ hs) =
     let entries = entries_stood (homes.Object family object) 0 h in
     let seen = map (signal_look_stood object) (looks_at looks object) in
     let more = objects_stood family looks (object + 1) hs in
-    let all = length-append entries (seen ++ more) in
-    let behind = length-append seen more in
+    let all = length-append (entries ++ seen) more in
+    let front = length-append entries seen in
     let long = length-entries (λ (spot : Spot). ⊥) (homes.Object family object) 0 h in
     let looked = length-map (looks_at looks object) (signal_look_stood object) in
     let rest = length-objects family looks (object + 1) hs in
@@ -221,8 +222,10 @@ module _ (Unlike : Spot → Type 0) {S O R : Type 0} (m : Machine S O R) (family
   objects-none object (start ∷ starts) (h ∷ hs) means stand =
       let seen = map (signal_look_stood object) (looks_at looks object) in
       let more = objects_stood family looks (object + 1) hs in
-      none-append Unlike (entries_stood (homes.Object family object) 0 h) (seen ++ more) (first-none object start starts h hs means stand.0)
-      (none-append Unlike seen more (looks-none Unlike look object (looks_at looks object)) (objects-none (object + 1) starts hs (means-next object start starts h hs means) stand.1))
+      let entries = entries_stood (homes.Object family object) 0 h in
+      none-append Unlike (entries ++ seen) more
+      (none-append Unlike entries seen (first-none object start starts h hs means stand.0) (looks-none Unlike look object (looks_at looks object)))
+      (objects-none (object + 1) starts hs (means-next object start starts h hs means) stand.1)
 
   -- and else the first is that of the first entry that its machine doesn't answer so
   pub objects-found : (object : ℕ) (starts : List (Option S)) (hs : List (List (Entry O R))) (row : ℕ) → Means object starts hs → FirstAmong m looks object starts hs (Some row) →
@@ -231,8 +234,11 @@ module _ (Unlike : Spot → Type 0) {S O R : Type 0} (m : Machine S O R) (family
   objects-found object (start ∷ starts) [] row means found = absurd found
   objects-found object (None ∷ starts) (h ∷ hs) row means (inl found) = absurd found
   objects-found object (Some s ∷ starts) (h ∷ hs) row means (inl found) =
-      found-front Unlike (entries_stood (homes.Object family object) 0 h) (map (signal_look_stood object) (looks_at looks object) ++ objects_stood family looks (object + 1) hs) row
-      (history-found Unlike m (homes.Object family object) s h (there-first object s starts h hs means) (back-first object s starts h hs means) row found)
+      let entries = entries_stood (homes.Object family object) 0 h in
+      let seen = map (signal_look_stood object) (looks_at looks object) in
+      found-front Unlike (entries ++ seen) (objects_stood family looks (object + 1) hs) row
+      (found-front Unlike entries seen row
+      (history-found Unlike m (homes.Object family object) s h (there-first object s starts h hs means) (back-first object s starts h hs means) row found))
   objects-found object (start ∷ starts) (h ∷ hs) row means (inr further) =
       let entries = entries_stood (homes.Object family object) 0 h in
       let seen = map (signal_look_stood object) (looks_at looks object) in
@@ -240,6 +246,7 @@ module _ (Unlike : Spot → Type 0) {S O R : Type 0} (m : Machine S O R) (family
       let is = objects-found (object + 1) starts hs further.1 (means-next object start starts h hs means) further.3 in
       let long = length-entries Unlike (homes.Object family object) 0 h in
       let looked = length-map (looks_at looks object) (signal_look_stood object) in
+      let front = length-append entries seen in
       subst (λ (n : ℕ). IsFoundAt Unlike (entries ++ seen ++ more) n) (omega (arith, further.2))
-      (found-behind Unlike entries (seen ++ more) (length seen + further.1) (first-none object start starts h hs means further.0)
-      (found-behind Unlike seen more further.1 (looks-none Unlike look object (looks_at looks object)) is))
+      (found-behind Unlike (entries ++ seen) more further.1
+      (none-append Unlike entries seen (first-none object start starts h hs means further.0) (looks-none Unlike look object (looks_at looks object))) is)

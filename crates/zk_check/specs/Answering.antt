@@ -69,14 +69,14 @@ Sought Stands Unlike lines (Some place) = IsFoundAt Unlike lines place
 -- those of the services of which there is one
 abbrev pub single_lines : Trace → List Stood
 single_lines t =
-    entries_stood homes.Work 0 t.work ++ map item_look_stood t.item_looks
-    ++ entries_stood homes.Clock 0 t.clock ++ entries_stood homes.Table 0 t.table
+    entries_stood homes.Work 0 t.work ++ (map item_look_stood t.item_looks
+    ++ (entries_stood homes.Clock 0 t.clock ++ entries_stood homes.Table 0 t.table))
 
 -- those of what players wait for
 abbrev pub waited_lines : Trace → List Stood
 waited_lines t =
-    histories_stood families.Sem 0 t.sems ++ histories_stood families.Msgq 0 t.msgqs
-    ++ signals_stood t.signal_looks 0 t.signals
+    histories_stood families.Sem 0 t.sems ++ (histories_stood families.Msgq 0 t.msgqs
+    ++ signals_stood t.signal_looks 0 t.signals)
 
 -- those of the bus
 abbrev pub bus_lines : Trace → List Stood

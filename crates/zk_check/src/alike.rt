@@ -2,7 +2,7 @@ ghost use Rattle.std.specs.Prelude.{◌≡◌, ◌↔◌, IsTrue};
 
 use zk_model_bus::{ChanReply, ObsReply, TableReply};
 use zk_model_wait::{ClockReply, MsgqReply, SemReply, SignalReply};
-use zk_model_work::WorkReply;
+use zk_model_work::{Expiries, WorkReply};
 
 /// Replies that are told apart exactly.
 pub trait Alike: Drop {
@@ -11,9 +11,33 @@ pub trait Alike: Drop {
         ensures { IsTrue result ↔ (self.now ≡ other.now) };
 }
 
+/// The same delays ended, in the same order.
+fn are_alike(ended: &Expiries, other: &Expiries) -> bool
+    ensures { IsTrue result ↔ (ended.now ≡ other.now) }
+{
+    ended == other
+}
+
 impl Alike for WorkReply {
     fn is_like(&self, other: &WorkReply) -> bool {
-        self == other
+        match (self, other) {
+            (WorkReply::Sub(submitted), WorkReply::Sub(found)) => submitted == found,
+            (WorkReply::Armed, WorkReply::Armed) => true,
+            (WorkReply::Flags(flags), WorkReply::Flags(found)) => flags == found,
+            (WorkReply::Truth(truth), WorkReply::Truth(found)) => truth == found,
+            (WorkReply::Wait, WorkReply::Wait) => true,
+            (WorkReply::WaitFor(number), WorkReply::WaitFor(found)) => number == found,
+            (WorkReply::Number(number), WorkReply::Number(found)) => number == found,
+            (WorkReply::Done, WorkReply::Done) => true,
+            (WorkReply::Already, WorkReply::Already) => true,
+            (WorkReply::Now(time, ended), WorkReply::Now(at, found)) => {
+                time == at && are_alike(ended, found)
+            }
+            (WorkReply::Run(item, number), WorkReply::Run(found, at)) => {
+                item == found && number == at
+            }
+            _ => false,
+        }
     }
 }
 
