@@ -1,7 +1,10 @@
 pub mod Failure
 pub mod First
+pub mod Found
 pub mod HistoryFailure
 pub mod Lines
 pub mod LogFailure
 pub mod LookFailure
+pub mod OtherAnswers
 pub mod PlaceFailure
+pub mod Played

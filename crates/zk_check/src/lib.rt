@@ -1,6 +1,8 @@
 //! Whether a trace is lawful for its scenario, and if it isn't, at which line of the text and why.
 #![tactic(auto)]
 
+mod found;
+mod log;
 mod site;
 
 pub use site::{Fail, Site};
