@@ -1,4 +1,4 @@
-use Rattle.std.specs.Prelude.{◌≡◌, true, Option, Some}
+use Rattle.std.specs.Prelude.{◌≡◌, Bool, true, Option, Some}
 use Rattle.zk_worker.specs.declared.steps.Spot.{Spot}
 use Rattle.zk_worker.specs.declared.steps.Spot.TheVariants as spots
 use Rattle.zk_worker.specs.declared.steps.Step.{Step}
@@ -15,5 +15,5 @@ found_at shown spot = made_at shown spot
 
 -- an attempt can be the step that was found: a look needn't have had to find the signal raised
 abbrev pub IsFor : Step → Step → Type 0
-IsFor (steps.LookSignal object must) (steps.LookSignal at raised) = (object ≡ at) × (must ≡ true → raised ≡ true)
+IsFor attempt (steps.LookSignal object raised) = (must : Bool) × (attempt ≡ steps.LookSignal object must) × (must ≡ true → raised ≡ true)
 IsFor attempt step = attempt ≡ step

@@ -1,0 +1,4 @@
+pub mod LedPlayers
+pub mod LogsLed
+pub mod FoundSteps
+pub mod PlayedLogs
