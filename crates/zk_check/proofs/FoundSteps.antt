@@ -53,25 +53,25 @@ for-same attempt step no is = is
 
 -- an entry stands as what was found and as nothing else
 entry-stands : (found : StepMade) (o : Option StepMade) (attempt : Step) → IsNoLook found → o ≡ Some found → IsFor attempt found.0 → o ≡ Some (attempt, found.1)
-entry-stands found o attempt no is for = is ∙ ap (λ (step : Step). Some (step, found.1)) (sym (for-same attempt found.0 no for))
+entry-stands found o attempt no is can = is ∙ ap (λ (step : Step). let made : StepMade = (step, found.1) in Some made) (sym (for-same attempt found.0 no can))
 
 entry-for : (found made : StepMade) (o : Option StepMade) → o ≡ Some found → o ≡ Some made → IsFor made.0 found.0
 entry-for found made o is stands = subst (λ (m : StepMade). IsFor m.0 found.0) (same_Some found made (sym is ∙ stands)) (for-itself found.0)
 
 -- an attempt that can be the step found stands there
 pub found-stands : (shown : Shown) (spot : Spot) (found : StepMade) (attempt : Step) → found_at shown spot ≡ Some found → IsFor attempt found.0 → Stands shown spot (attempt, found.1)
-found-stands shown (spots.LookItem object flags at) found attempt is for =
+found-stands shown (spots.LookItem object flags at) found attempt is can =
     let same = same_Some {A = StepMade} (steps.LookItem object, step_replies.Flags flags at) found is in
-    let step : attempt ≡ steps.LookItem object = subst (λ (m : StepMade). IsFor attempt m.0) (sym same) for in
+    let step : attempt ≡ steps.LookItem object = subst (λ (m : StepMade). IsFor attempt m.0) (sym same) can in
     ap (λ (x : Step). let made : StepMade = (x, found.1) in made) step ∙ ap (λ (m : StepMade). let made : StepMade = (steps.LookItem object, m.1) in made) (sym same)
-found-stands shown (spots.LookSignal object seen) found attempt is for =
+found-stands shown (spots.LookSignal object seen) found attempt is can =
     let same = same_Some {A = StepMade} (steps.LookSignal object seen.raised, step_replies.Seen seen) found is in
-    let step = subst (λ (m : StepMade). IsFor attempt m.0) (sym same) for in (
+    let step = subst (λ (m : StepMade). IsFor attempt m.0) (sym same) can in (
       step.0,
       ap (λ (x : Step). let made : StepMade = (x, found.1) in made) step.1 ∙ ap (λ (m : StepMade). let made : StepMade = (steps.LookSignal object step.0, m.1) in made) (sym same),
       step.2,
     )
-found-stands shown spot found attempt is for = entry-stands found (made_at shown spot) attempt (entry-no-look shown spot found is) is for
+found-stands shown spot found attempt is can = entry-stands found (made_at shown spot) attempt (entry-no-look shown spot found is) is can
 
 -- what stands there can be the step found
 pub stands-found : (shown : Shown) (spot : Spot) (found made : StepMade) → found_at shown spot ≡ Some found → Stands shown spot made → IsFor made.0 found.0
@@ -92,19 +92,19 @@ none-stands shown spot made none stands = none-some made (sym none ∙ stands)
 module _ {X : Type 0} (P : X → Type 0) (xs : List X) (i : ℕ) (none : (k : ℕ) (x : X) → k < i → slice_get xs k ≡ Some x → P x → ⊥) where
   -- it goes on behind one that isn't so
   pub none-more : (y : X) → slice_get xs i ≡ Some y → (P y → ⊥) → (k : ℕ) (x : X) → k < i + 1 → slice_get xs k ≡ Some x → P x → ⊥
-  none-more y here not k x below there is = by (cases_lt k i) where
+  none-more y here isnt k x below there is = by (cases_lt k i) where
     by : (k < i) ⊎ (i ≤ k) → ⊥
     by (inl less) = none k x less there is
     by (inr at) =
         let same : k ≡ i = omega arith in
-        not (subst P (same_Some x y (sym there ∙ ap (slice_get xs) same ∙ here)) is)
+        isnt (subst P (same_Some x y (sym there ∙ ap (slice_get xs) same ∙ here)) is)
 
   -- at the end none is so
   pub none-left : length xs ≤ i → (x : X) → (k : ℕ) × (slice_get xs k ≡ Some x) → P x → ⊥
   none-left end x there is = let within = slice_get_within xs there.0 x there.1 in none there.0 x (omega arith) there.1 is
 
   pub none-past : slice_get xs i ≡ None → (x : X) → (k : ℕ) × (slice_get xs k ≡ Some x) → P x → ⊥
-  none-past past x there is = none-left (end (slice_get_cases xs i).1) x there is where
-    end : ((y : X) × (i < length xs) × (slice_get xs i ≡ Some y) × (get_or xs i y ≡ y)) ⊎ ((length xs ≤ i) × (slice_get xs i ≡ None)) → length xs ≤ i
-    end (inl within) = absurd (none-some within.0 (sym past ∙ within.2.1))
-    end (inr past) = past.0
+  none-past past x there is = none-left (by (slice_get_cases xs i).1) x there is where
+    by : ((y : X) × (i < length xs) × (slice_get xs i ≡ Some y) × (get_or xs i y ≡ y)) ⊎ ((length xs ≤ i) × (slice_get xs i ≡ None)) → length xs ≤ i
+    by (inl within) = absurd (none-some within.0 (sym past ∙ within.2))
+    by (inr beyond) = beyond.0

@@ -94,11 +94,11 @@ log-same s t player log here led all long state =
 -- one that has more answers, or doesn't stand so, hasn't
 pub other-end : (s : Content) (t : Trace) (player : ℕ) (log : Log) (here : PlayerPlace) → IsLed s t player log (length log.steps) here →
     ((length here.answers ≡ length log.answers) × (state_at s here ≡ log.state) → ⊥) → IsOtherEnd s t player
-other-end s t player log here led not = record {
+other-end s t player log here led isnt = record {
   log = log;
   here = here;
   led = led;
-  other = λ is. not (ap (λ (l : Log). length l.answers) is, ap (λ (l : Log). l.state) is);
+  other = λ is. isnt (ap (λ (l : Log). length l.answers) is, ap (λ (l : Log). l.state) is);
 }
 
 pub played-out : (s : Content) (t : Trace) (player : ℕ) (log : Log) (here : PlayerPlace) → IsLed s t player log (length log.steps) here → log_of s here ≡ log → IsPlayedOut s t player here
