@@ -48,12 +48,12 @@ for-itself step = refl
 
 -- a step that is no look at a signal can be no other one
 for-same : (attempt step : Step) → looks_at_signal step ≡ false → IsFor attempt step → attempt ≡ step
-for-same attempt (steps.LookSignal object must) no is = absurd (cc)
-for-same attempt step no is = is
+for-same attempt (steps.LookSignal object must) other is = absurd (cc)
+for-same attempt step other is = is
 
 -- an entry stands as what was found and as nothing else
 entry-stands : (found : StepMade) (o : Option StepMade) (attempt : Step) → IsNoLook found → o ≡ Some found → IsFor attempt found.0 → o ≡ Some (attempt, found.1)
-entry-stands found o attempt no is can = is ∙ ap (λ (step : Step). let made : StepMade = (step, found.1) in Some made) (sym (for-same attempt found.0 no can))
+entry-stands found o attempt other is can = is ∙ ap (λ (step : Step). let made : StepMade = (step, found.1) in Some made) (sym (for-same attempt found.0 other can))
 
 entry-for : (found made : StepMade) (o : Option StepMade) → o ≡ Some found → o ≡ Some made → IsFor made.0 found.0
 entry-for found made o is stands = subst (λ (m : StepMade). IsFor m.0 found.0) (same_Some found made (sym is ∙ stands)) (for-itself found.0)

@@ -2,3 +2,12 @@ pub mod LedPlayers
 pub mod LogsLed
 pub mod FoundSteps
 pub mod PlayedLogs
+pub mod Placed
+pub mod PlacedFew
+pub mod PlacedLater
+pub mod PlacedLists
+pub mod PlacedLooks
+pub mod PlacedNumbers
+pub mod PlacedOrder
+pub mod PlacedRows
+pub mod PlacedSteps
