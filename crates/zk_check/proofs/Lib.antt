@@ -2,10 +2,13 @@ pub mod Answered
 pub mod Counted
 pub mod Endings
 pub mod FollowedFits
+pub mod FoundSteps
 pub mod Gaps
 pub mod HistoryParts
 pub mod InRange
+pub mod LedPlayers
 pub mod LineOf
+pub mod LogsLed
 pub mod Misplaced
 pub mod Owns
 pub mod Placed
@@ -18,6 +21,7 @@ pub mod PlacedOrder
 pub mod PlacedRows
 pub mod PlacedSteps
 pub mod PlayableTraces
+pub mod PlayedLogs
 pub mod Together
 pub mod UnlikeLines
 pub mod WaitingItems

@@ -3,11 +3,13 @@ pub mod CanStep
 pub mod Capped
 pub mod Failure
 pub mod First
+pub mod Found
 pub mod HistoryFailure
 pub mod LineOf
 pub mod Lines
 pub mod LogFailure
 pub mod LookFailure
+pub mod OtherAnswers
 pub mod Own
 pub mod Parts
 pub mod PlaceFailure

@@ -3,8 +3,10 @@
 
 mod alike;
 mod ending;
+mod found;
 mod history;
 mod lines;
+mod log;
 mod own;
 mod part;
 mod place;
