@@ -1,3 +1,7 @@
+pub mod ItemsFound
+pub mod LookOrders
+pub mod LooksFound
+pub mod LooksRight
 pub mod Placed
 pub mod PlacedFew
 pub mod PlacedLater

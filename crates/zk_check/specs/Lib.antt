@@ -1,7 +1,10 @@
 pub mod Failure
 pub mod First
 pub mod HistoryFailure
+pub mod ItemLooks
 pub mod Lines
 pub mod LogFailure
 pub mod LookFailure
+pub mod LookOrder
+pub mod LooksHeld
 pub mod PlaceFailure
