@@ -6,9 +6,13 @@ pub mod FoundSteps
 pub mod Gaps
 pub mod HistoryParts
 pub mod InRange
+pub mod ItemsFound
 pub mod LedPlayers
 pub mod LineOf
 pub mod LogsLed
+pub mod LookOrders
+pub mod LooksFound
+pub mod LooksRight
 pub mod Misplaced
 pub mod Owns
 pub mod Placed

@@ -5,10 +5,13 @@ pub mod Failure
 pub mod First
 pub mod Found
 pub mod HistoryFailure
+pub mod ItemLooks
 pub mod LineOf
 pub mod Lines
 pub mod LogFailure
 pub mod LookFailure
+pub mod LookOrder
+pub mod LooksHeld
 pub mod OtherAnswers
 pub mod Own
 pub mod Parts

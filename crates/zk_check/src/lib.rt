@@ -5,12 +5,16 @@ mod alike;
 mod ending;
 mod found;
 mod history;
+mod item_looks;
 mod lines;
 mod log;
+mod look_order;
+mod looks;
 mod own;
 mod part;
 mod place;
 mod site;
 mod unlike;
 
+pub use looks::look_failure;
 pub use site::{Fail, Site};
