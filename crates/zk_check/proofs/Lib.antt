@@ -1,6 +1,7 @@
 pub mod Answered
 pub mod Counted
 pub mod Endings
+pub mod Failures
 pub mod FollowedFits
 pub mod FoundSteps
 pub mod Gaps

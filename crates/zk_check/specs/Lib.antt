@@ -1,6 +1,7 @@
 pub mod Answering
 pub mod CanStep
 pub mod Capped
+pub mod Checking
 pub mod Failure
 pub mod First
 pub mod Found

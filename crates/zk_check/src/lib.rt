@@ -2,6 +2,7 @@
 #![tactic(auto)]
 
 mod alike;
+mod check;
 mod ending;
 mod found;
 mod history;
@@ -16,5 +17,6 @@ mod place;
 mod site;
 mod unlike;
 
-pub use looks::look_failure;
+pub use check::{Checked, check};
+pub use lines::is_its_line;
 pub use site::{Fail, Site};
