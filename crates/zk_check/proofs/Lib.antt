@@ -12,4 +12,5 @@ pub mod PlacedNumbers
 pub mod PlacedOrder
 pub mod PlacedRows
 pub mod PlacedSteps
+pub mod PlaceSites
 pub mod Together

@@ -141,14 +141,14 @@ module _ (lines : List Stood) (place : ℕ) (line : Stood) (there : slice_get li
                 let both = grouped before l.place place earlier last line less l.lower here l.there there same in
                 let low = below last up both.1 in
                 none_before l.place l.lower (record {
-                    line = last;
-                    there = l.there;
-                    before = before;
-                    earlier = earlier;
-                    lower = less;
-                    stands = here;
-                    behind = (behind.0 ∙ sym (eqb-true last.player line.player l.mine), inr (both.0, omega (arith, low, high)));
-                  })
+                  line = last;
+                  there = l.there;
+                  before = before;
+                  earlier = earlier;
+                  lower = less;
+                  stands = here;
+                  behind = (behind.0 ∙ sym (eqb-true last.player line.player l.mine), inr (both.0, omega (arith, low, high)));
+                })
             | inr more ↦
                 let most = l.latest before earlier lower here mine in
                 let at : before ≡ l.place = omega (arith, more, most) in

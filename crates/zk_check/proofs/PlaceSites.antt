@@ -1,0 +1,32 @@
+-- The line that is told where a place is wrong.
+use Rattle.std.proofs.Common.{◌≡◌, ℕ, ◌<◌, Option, Some, None, List, length, sym, subst, arith, ◌∙◌}
+use Rattle.std.specs.Prelude.{MatchOption}
+use Rattle.zk_scenario.specs.Content.{Content}
+use Rattle.zk_scenario.specs.Players.{players}
+use Rattle.zk_trace.specs.declared.stood.Stood.{Stood}
+use Rattle.zk_trace.specs.declared.trace.Trace.{Trace}
+use Rattle.zk_trace.specs.Form.{IsInForm}
+use Rattle.zk_trace.specs.Stood.{stood}
+use Rattle.zk_check.specs.First.{IsFirst, HoldsNowhere}
+use Rattle.zk_check.specs.Parts.{AreBelow, AreTogether}
+use Rattle.zk_check.specs.PlaceFailure.{IsMisplaced}
+use Rattle.zk_check.proofs.PlacedLists.{each-in}
+use Rattle.zk_check.proofs.PlacedSteps.{logs-long, players-known}
+use Rattle.zk_check.proofs.Together.{together}
+
+-- the lines of a trace in form are of its players
+pub below : (s : Content) (t : Trace) → IsInForm s t → (count : ℕ) → count ≡ length (players s.decls) → AreBelow count (stood t)
+below s t form count same place line there =
+    let known = each-in (λ l. l.player < length t.logs) (stood t) line (players-known s t form) (place, there) in
+    let long = logs-long s t form in
+    omega (arith, known, long, same)
+
+abbrev MisplacedAt : List Stood → Option ℕ → Type 0
+MisplacedAt rows place = MatchOption place (HoldsNowhere (IsMisplaced rows)) (λ place. IsFirst (IsMisplaced rows) place)
+
+-- what was found of its lines holds of the trace
+pub found : (s : Content) (t : Trace) → IsInForm s t → (rows : List Stood) → rows ≡ stood t → (count : ℕ) → count ≡ length (players s.decls) → (place : Option ℕ) →
+    (AreTogether rows → AreBelow count rows → MisplacedAt rows place) → MisplacedAt (stood t) place
+found s t form rows same count many place finds =
+    subst (λ (ls : List Stood). MisplacedAt ls place) same
+    (finds (subst AreTogether (sym same) (together t)) (subst (AreBelow count) (sym same) (below s t form count many)))
