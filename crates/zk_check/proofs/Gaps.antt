@@ -1,11 +1,11 @@
 -- Where no line is misplaced, a player has a gap just where its steps go higher than they are many, or are too many.
-use Rattle.std.proofs.Common.{◌≡◌, ℕ, zero, suc, ◌+◌, ◌<◌, ◌≤◌, max, Bool, true, false, ◌&&◌, ◌||◌, cond, eqb, ltb, leb, Some, List, [], ◌∷◌, length, get_or, map, slice_get, arith, refl, sym, ap, subst, inl, inr, ◌⊎◌, ◌∙◌}
+use Rattle.std.proofs.Common.{◌≡◌, ℕ, zero, suc, ◌+◌, ◌<◌, ◌≤◌, max, Bool, true, false, ◌&&◌, ◌||◌, cond, eqb, ltb, leb, Some, List, [], ◌∷◌, length, get_or, map, slice_get, arith, refl, sym, ap, subst, inl, inr, ◌∙◌}
 use Rattle.std.specs.List.{All, AllByRecursion, list_any, filter, range_with_len, count_by}
 use Rattle.std.proofs.lemmas.Bool.{eqb-true, eq-eqb, cases_eq, or_cases, or_parts, or_from, lt-leb, leb-false, ltb-true, ltb-false, false_from_ne_true, true_from_ne_false, false≢true}
 use Rattle.std.proofs.lemmas.List.{length-map}
-use Rattle.std.proofs.lemmas.List.Elements.{All-from_recursion, recursion_from_All}
+use Rattle.std.proofs.lemmas.List.Elements.{All-from_recursion}
 use Rattle.std.proofs.lemmas.List.Sums.{length-filter}
-use Rattle.std.proofs.lemmas.Option.{none-some, slice_get_within, slice_get-get_or}
+use Rattle.std.proofs.lemmas.Option.{slice_get_within, slice_get-get_or}
 use Rattle.zk_base.specs.Order.{by_key, Ascends}
 use Rattle.zk_base.proofs.Order.{All-by_key, length-by_key, length-filter_by_key, list_any-by_key}
 use Rattle.zk_scenario.specs.Content.{Content}
@@ -18,7 +18,7 @@ use Rattle.zk_trace.proofs.LinesOnce.{filter-both}
 use Rattle.zk_trace.proofs.Stable.{ascends-by_key}
 use Rattle.zk_check.specs.declared.own.Own.{Own}
 use Rattle.zk_check.specs.First.{IsFirst, HoldsNowhere}
-use Rattle.zk_check.specs.Own.{IsOwn, AreOwn, has_gap, IsGapAt}
+use Rattle.zk_check.specs.Own.{AreOwn, has_gap, IsGapAt}
 use Rattle.zk_check.specs.Standing.{is_step, above_of}
 use Rattle.zk_check.specs.PlaceFailure.{IsMisplaced, IsGapped, IsNumbered, step_numbers}
 use Rattle.zk_check.proofs.PlacedLists.{in-long, in-filter, there-is}

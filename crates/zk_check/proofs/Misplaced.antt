@@ -1,8 +1,8 @@
 -- A line may stand behind others just where it isn't misplaced.
-use Rattle.std.proofs.Common.{◌≡◌, ℕ, zero, suc, ◌<◌, ◌≤◌, Bool, true, false, not, ◌&&◌, ◌||◌, cond, eqb, ltb, Option, Some, None, List, [], ◌∷◌, take, slice_get, arith, refl, sym, ap, subst, inl, inr, ◌⊎◌, ◌∙◌}
+use Rattle.std.proofs.Common.{◌≡◌, ℕ, zero, suc, ◌<◌, ◌≤◌, Bool, true, false, not, cond, eqb, ltb, Option, Some, None, List, [], ◌∷◌, take, slice_get, arith, refl, sym, ap, subst, inl, inr, ◌∙◌}
 use Rattle.std.specs.List.{list_any}
 use Rattle.std.specs.Option.{option_or}
-use Rattle.std.proofs.lemmas.Bool.{eqb-true, eq-eqb, ltb-true, ltb-false, cases_Bool, cases_lt, and_parts, and_from, and_cases, or_cases, or_parts, or_left, or_right, not-true, not-false, both_ways, true≢false, false≢true}
+use Rattle.std.proofs.lemmas.Bool.{eqb-true, eq-eqb, ltb-true, ltb-false, cases_lt, and_parts, and_from, and_cases, or_cases, or_parts, or_left, or_right, not-true, not-false, both_ways, true≢false, false≢true}
 use Rattle.std.proofs.lemmas.Option.{none-some, same_Some}
 use Rattle.zk_trace.specs.declared.stood.Stood.{Stood}
 use Rattle.zk_check.specs.Standing.{is_step, last_of, rises, may_stand}

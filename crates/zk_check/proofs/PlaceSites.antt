@@ -1,5 +1,5 @@
 -- The line that is told where a place is wrong.
-use Rattle.std.proofs.Common.{◌≡◌, ℕ, ◌<◌, Option, Some, None, List, length, sym, subst, arith, ◌∙◌}
+use Rattle.std.proofs.Common.{◌≡◌, ℕ, ◌<◌, Option, List, length, sym, subst, arith}
 use Rattle.std.specs.Prelude.{MatchOption}
 use Rattle.zk_scenario.specs.Content.{Content}
 use Rattle.zk_scenario.specs.Players.{players}

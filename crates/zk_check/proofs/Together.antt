@@ -1,5 +1,5 @@
 -- Lines of one part have one part, and in a trace they stand together.
-use Rattle.std.proofs.Common.{◌≡◌, ℕ, zero, suc, ◌+◌, ◌*◌, ◌<◌, ◌≤◌, true, false, Some, List, [], ◌∷◌, ◌++◌, map, slice_get, arith, refl, sym, ap, subst, ◌∙◌}
+use Rattle.std.proofs.Common.{◌≡◌, ℕ, ◌+◌, ◌*◌, ◌<◌, ◌≤◌, true, List, [], ◌∷◌, ◌++◌, map, arith, refl, ap, subst}
 use Rattle.std.specs.List.{AllByRecursion}
 use Rattle.std.proofs.lemmas.Bool.{eqb-true, eq-eqb, false≢true}
 use Rattle.zk_base.specs.declared.ids.Entry.{Entry}
@@ -13,7 +13,7 @@ use Rattle.zk_trace.specs.declared.stood.Home.{Home}
 use Rattle.zk_trace.specs.declared.stood.Home.TheVariants as homes
 use Rattle.zk_trace.specs.declared.stood.Stood.{Stood}
 use Rattle.zk_trace.specs.declared.trace.Trace.{Trace}
-use Rattle.zk_trace.specs.Stood.{spot_in, spot_at, entries_stood, histories_stood, item_look_stood, signal_look_stood, signals_stood, stood}
+use Rattle.zk_trace.specs.Stood.{spot_at, entries_stood, histories_stood, item_look_stood, signal_look_stood, signals_stood, stood}
 use Rattle.zk_trace.specs.Text.{looks_at}
 use Rattle.zk_trace.proofs.LooksFit.{all-append}
 use Rattle.zk_check.specs.declared.part.Part.{Part}

@@ -7,4 +7,5 @@ mod part;
 mod place;
 mod site;
 
+pub use lines::is_its_line;
 pub use site::{Fail, Site};
