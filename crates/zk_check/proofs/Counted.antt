@@ -1,5 +1,5 @@
 -- How many writes and looks there are of each signal, from one on.
-use Rattle.std.proofs.Common.{◌≡◌, ℕ, zero, suc, ◌+◌, ◌<◌, List, [], ◌∷◌, length, get_or, drop, arith, ap, ◌∙◌}
+use Rattle.std.proofs.Common.{◌≡◌, ℕ, zero, suc, ◌+◌, ◌<◌, List, [], ◌∷◌, length, get_or, drop, arith, ap}
 use Rattle.zk_trace.specs.Text.{looks_at}
 use Rattle.zk_check.specs.Lines.{both_lengths}
 

@@ -1,11 +1,11 @@
 -- Where no line is misplaced, a player has a gap just where its steps go higher than they are many, or are too many.
-use Rattle.std.proofs.Common.{◌≡◌, ℕ, zero, suc, ◌+◌, ◌<◌, ◌≤◌, max, Bool, true, false, ◌&&◌, ◌||◌, cond, eqb, ltb, leb, Some, List, [], ◌∷◌, length, get_or, map, slice_get, arith, refl, sym, ap, subst, inl, inr, ◌⊎◌, ◌∙◌}
+use Rattle.std.proofs.Common.{◌≡◌, ℕ, zero, suc, ◌+◌, ◌<◌, ◌≤◌, max, Bool, true, false, ◌&&◌, ◌||◌, cond, eqb, ltb, leb, Some, List, [], ◌∷◌, length, get_or, map, slice_get, arith, refl, sym, ap, subst, inl, inr, ◌∙◌}
 use Rattle.std.specs.List.{All, AllByRecursion, list_any, filter, range_with_len, count_by}
 use Rattle.std.proofs.lemmas.Bool.{eqb-true, eq-eqb, cases_eq, or_cases, or_parts, or_from, lt-leb, leb-false, ltb-true, ltb-false, false_from_ne_true, true_from_ne_false, false≢true}
 use Rattle.std.proofs.lemmas.List.{length-map}
-use Rattle.std.proofs.lemmas.List.Elements.{All-from_recursion, recursion_from_All}
+use Rattle.std.proofs.lemmas.List.Elements.{All-from_recursion}
 use Rattle.std.proofs.lemmas.List.Sums.{length-filter}
-use Rattle.std.proofs.lemmas.Option.{none-some, slice_get_within, slice_get-get_or}
+use Rattle.std.proofs.lemmas.Option.{slice_get_within, slice_get-get_or}
 use Rattle.zk_base.specs.Order.{by_key, Ascends}
 use Rattle.zk_base.proofs.Order.{All-by_key, length-by_key, length-filter_by_key, list_any-by_key}
 use Rattle.zk_scenario.specs.Content.{Content}
@@ -18,9 +18,10 @@ use Rattle.zk_trace.proofs.LinesOnce.{filter-both}
 use Rattle.zk_trace.proofs.Stable.{ascends-by_key}
 use Rattle.zk_check.specs.declared.own.Own.{Own}
 use Rattle.zk_check.specs.First.{IsFirst, HoldsNowhere}
-use Rattle.zk_check.specs.Own.{IsOwn, AreOwn, has_gap, IsGapAt}
+use Rattle.zk_check.specs.Own.{AreOwn, has_gap, IsGapAt}
 use Rattle.zk_check.specs.Standing.{is_step, above_of}
 use Rattle.zk_check.specs.PlaceFailure.{IsMisplaced, IsGapped, IsNumbered, step_numbers}
+use Rattle.zk_check.proofs.PlacedLists.{in-long, in-filter, there-is}
 
 -- Each step of a player has one line, where none is misplaced.
 
@@ -57,14 +58,14 @@ once (x ∷ xs) nowhere player step = by (is_step player step x) refl (once xs (
       let first = step-is player step x here in
       let other = step-is player step p.1 p.3 in
       nowhere (suc p.0) (record {
-          line = p.1;
-          there = p.2;
-          before = 0;
-          earlier = x;
-          lower = omega arith;
-          stands = refl;
-          behind = (first.0 ∙ sym other.0, inl (first.1 ∙ sym other.1));
-        })
+        line = p.1;
+        there = p.2;
+        before = 0;
+        earlier = x;
+        lower = omega arith;
+        stands = refl;
+        behind = (first.0 ∙ sym other.0, inl (first.1 ∙ sym other.1));
+      })
 
   by : (b : Bool) → is_step player step x ≡ b → length (filter (is_step player step) xs) ≤ 1 → length (cond b (x ∷ filter (is_step player step) xs) (filter (is_step player step) xs)) ≤ 1
   by true here rest = let none = none-kept (is_step player step) xs (false_from_ne_true (list_any (is_step player step) xs) (alone here)) in omega (arith, none)
@@ -84,20 +85,6 @@ keys-behind x xs single k = by (has_key k x) (single k) where
   by true short = omega (arith, short)
   by false short = short
 
-kept-some : (k : ℕ) (xs : List Stood) (place : ℕ) (line : Stood) → slice_get xs place ≡ Some line → line.step ≡ k → 1 ≤ length (filter (has_key k) xs)
-kept-some k [] place line there is = absurd (none-some line there)
-kept-some k (x ∷ xs) zero line there is = by (has_key k x) (eq-eqb x.step k (ap (λ (l : Stood). l.step) (same x line there) ∙ is)) where
-  same : (a b : Stood) → Some a ≡ Some b → a ≡ b
-  same a b h = cc
-
-  by : (b : Bool) → b ≡ true → 1 ≤ length (cond b (x ∷ filter (has_key k) xs) (filter (has_key k) xs))
-  by true is = omega arith
-  by false is = absurd (false≢true is)
-kept-some k (x ∷ xs) (suc place) line there is = by (has_key k x) (kept-some k xs place line there is) where
-  by : (b : Bool) → 1 ≤ length (filter (has_key k) xs) → 1 ≤ length (cond b (x ∷ filter (has_key k) xs) (filter (has_key k) xs))
-  by true some = omega arith
-  by false some = some
-
 -- where one is of the first key, no other is
 alone : (x : Stood) (xs : List Stood) → length (filter (has_key x.step) (x ∷ xs)) ≤ 1 → length (filter (has_key x.step) xs) ≡ 0
 alone x xs short = by (has_key x.step x) (eq-eqb x.step x.step refl) short where
@@ -111,7 +98,7 @@ rising x xs up single place d within =
     let y = get_or xs place d in
     let none = alone x xs (single x.step) in
     elim (cases_eq y.step x.step) [
-      | inl same ↦ let some = kept-some x.step xs place y (slice_get-get_or xs place d within) same in absurd (omega (arith, none, some))
+      | inl same ↦ let some = in-long (filter (has_key x.step) xs) y (in-filter (has_key x.step) xs y (place, slice_get-get_or xs place d within) (eq-eqb y.step x.step same)) in absurd (omega (arith, none, some))
       | inr other ↦ grind (arith, above, other)
     ]
 
@@ -220,20 +207,20 @@ module _ (s : Content) (t : Trace) (owns : List Own) (are : AreOwn (stood t) own
   gap-found : (player : ℕ) → IsGapped s t player → IsGapAt (steps_of s) owns player
   gap-found player g =
       let within : player < length owns = omega (arith, g.one, count) in
-      let here = there owns player within in
+      let here = there-is owns player within in
       let is = are player here.0 here.1 in
-      record { own = here.0; there = here.1; gap = true_from_ne_false (has_gap (steps_of s) here.0) (λ none.
-        let parts = or_parts (ltb here.0.rows here.0.above) (ltb (steps_of s) here.0.rows) none in
-        let high = ltb-false here.0.rows here.0.above parts.0 in
-        let most = ltb-false (steps_of s) here.0.rows parts.1 in
-        elim g.gap [
-          | inl gap ↦ gap (numbered-so (stood t) player nowhere (omega (arith, high, is.rows, is.above)))
-          | inr many ↦ omega (arith, many, most, is.rows, counted (stood t) player)
-        ]) } where
-          there : (os : List Own) (k : ℕ) → k < length os → (own : Own) × (slice_get os k ≡ Some own)
-          there [] k less = absurd (omega (arith, less))
-          there (o ∷ os) zero less = (o, refl)
-          there (o ∷ os) (suc k) less = there os k (omega (arith, less))
+      record {
+        own = here.0;
+        there = here.1;
+        gap = true_from_ne_false (has_gap (steps_of s) here.0) (λ none.
+            let parts = or_parts (ltb here.0.rows here.0.above) (ltb (steps_of s) here.0.rows) none in
+            let high = ltb-false here.0.rows here.0.above parts.0 in
+            let most = ltb-false (steps_of s) here.0.rows parts.1 in
+            elim g.gap [
+              | inl gap ↦ gap (numbered-so (stood t) player nowhere (omega (arith, high, is.rows, is.above)))
+              | inr many ↦ omega (arith, many, most, is.rows, counted (stood t) player)
+            ]);
+      }
 
   pub gaps-nowhere : HoldsNowhere (IsGapAt (steps_of s) owns) → HoldsNowhere (IsGapped s t)
   gaps-nowhere none player g = none player (gap-found player g)

@@ -16,6 +16,7 @@ pub mod LooksFound
 pub mod LooksRight
 pub mod Misplaced
 pub mod Owns
+pub mod PlaceSites
 pub mod Placed
 pub mod PlacedFew
 pub mod PlacedLater

@@ -1,12 +1,12 @@
 -- In a scenario's text followed by a trace's, each line has the number that is told of what stands there.
-use Rattle.std.proofs.Common.{◌≡◌, ℕ, zero, suc, ◌+◌, ◌-◌, ◌<◌, ◌≤◌, Bool, true, false, cond, eqb, ltb, Option, Some, None, List, [], ◌∷◌, ◌++◌, append_assoc, length, length-append, map, take, slice_get, arith, refl, sym, ap, subst, inl, inr, ◌∙◌}
-use Rattle.std.specs.Prelude.{option_map, option_and_then}
+use Rattle.std.proofs.Common.{◌≡◌, ℕ, zero, suc, ◌+◌, ◌-◌, ◌<◌, Bool, true, false, cond, eqb, ltb, Some, None, List, [], ◌∷◌, ◌++◌, append_assoc, length, length-append, map, take, slice_get, arith, refl, sym, ap, inl, inr, ◌∙◌}
+use Rattle.std.specs.Prelude.{option_map}
 use Rattle.std.specs.List.{AllByRecursion, flat_map, range_with_len, sum_by}
-use Rattle.std.proofs.lemmas.Bool.{cases_lt, cond-true, cond-false, eqb-false, lt-ltb, le-ltb, ne_eqb}
+use Rattle.std.proofs.lemmas.Bool.{cases_lt, cond-true, cond-false, lt-ltb, le-ltb, ne_eqb}
 use Rattle.std.proofs.lemmas.List.{length-map, map-append}
 use Rattle.std.proofs.lemmas.List.Concat.{flat_map-append}
 use Rattle.std.proofs.lemmas.List.Sums.{sum_by-cons}
-use Rattle.std.proofs.lemmas.Option.{none-some, same_Some, slice_get_within, slice_get-map, slice_get_past, option_and_then_some}
+use Rattle.std.proofs.lemmas.Option.{none-some, same_Some, slice_get_within, slice_get-map, option_and_then_some}
 use Rattle.zk_base.specs.declared.ids.Entry.{Entry}
 use Rattle.zk_blocks.specs.Blocks.{FitsGiven, given_lines}
 use Rattle.zk_blocks.specs.Cut.{cut_of, fed, fed_lines, put_byte, put_feed}
@@ -22,10 +22,12 @@ use Rattle.zk_scenario.specs.Content.{Content}
 use Rattle.zk_scenario.specs.Players.{players}
 use Rattle.zk_scenario.specs.Spelling.{lines_of, text_of}
 use Rattle.zk_words.specs.Bytes.{line_feed}
-use Rattle.zk_worker.specs.declared.answers.Answered.{Answered}
 use Rattle.zk_worker.specs.declared.log.Log.{Log}
 use Rattle.zk_model_wait.specs.declared.signal.SignalOp.{SignalOp}
 use Rattle.zk_model_wait.specs.declared.signal.SignalReply.{SignalReply}
+use Rattle.zk_model_work.specs.declared.ops.WorkOp.{WorkOp}
+use Rattle.zk_model_work.specs.declared.ops.WorkReply.{WorkReply}
+use Rattle.zk_trace.specs.declared.looks.ItemLook.{ItemLook}
 use Rattle.zk_trace.specs.declared.looks.SignalLook.{SignalLook}
 use Rattle.zk_trace.specs.declared.stood.Stood.{Stood}
 use Rattle.zk_trace.specs.declared.trace.Trace.{Trace}
@@ -43,8 +45,8 @@ use Rattle.zk_trace.proofs.TraceText.{text-lines}
 use Rattle.zk_trace.proofs.TraceUnfed.{trace-unfed}
 use Rattle.zk_check.specs.declared.site.Site.{Site}
 use Rattle.zk_check.specs.declared.site.Site.TheVariants as sites
-use Rattle.zk_check.specs.LineOf.{signal_texts, texts_of, text_at, IsItsLine}
-use Rattle.zk_check.specs.Lines.{both_lengths, section_lengths, lines_of_section, row_line, player_line, trace_line}
+use Rattle.zk_check.specs.LineOf.{signal_texts, texts_of, IsItsLine}
+use Rattle.zk_check.specs.Lines.{both_lengths, section_lengths, lines_of_section, row_line, player_line}
 
 -- What is in one of two lists.
 
@@ -278,9 +280,9 @@ module _ (s : Content) (t : Trace) (form : IsInForm s t) where
   abbrev player_part : List (List ℕ)
   player_part = each_lines (player_lines decls) (range_with_len 0 (length (players decls))) (map (λ log. (log.state, log.answers)) t.logs)
 
-  work-lines : (h : List (List ℕ)) → section_lines (head_row work_name) (work_row decls) (item_look_row decls) (t.work, t.item_looks) ≡ block_lines work_block
-  work-lines h = by t.work t.item_looks where
-    by : (es : List (Entry Rattle.zk_model_work.specs.declared.ops.WorkOp.WorkOp Rattle.zk_model_work.specs.declared.ops.WorkReply.WorkReply)) (ls : List Rattle.zk_trace.specs.declared.looks.ItemLook.ItemLook) →
+  work-lines : section_lines (head_row work_name) (work_row decls) (item_look_row decls) (t.work, t.item_looks) ≡ block_lines work_block
+  work-lines = by t.work t.item_looks where
+    by : (es : List (Entry WorkOp WorkReply)) (ls : List ItemLook) →
         section_lines (head_row work_name) (work_row decls) (item_look_row decls) (es, ls) ≡ block_lines (head_row work_name, map (work_row decls) es ++ map (item_look_row decls) ls)
     by [] [] = refl
     by [] (l ∷ ls) = refl
@@ -302,7 +304,7 @@ module _ (s : Content) (t : Trace) (form : IsInForm s t) where
       let chan_is = family-lines (chan_row decls) is_chan (AllByRecursion (IsChan decls)) decls t.chans form.chans in
       let obs_is = family-lines (obs_row decls) is_observer (AllByRecursion (IsObs decls)) decls t.observers form.observers in
       ap (λ (ls : List (List ℕ)). first_row ∷ ending_word t.ending ∷ ls)
-      (same (work-lines []) (plain-lines (clock_row decls) (head_row clock_name) t.clock) (plain-lines (table_row decls) (head_row table_name) t.table) sem_is msgq_is signal_is chan_is obs_is
+      (same work-lines (plain-lines (clock_row decls) (head_row clock_name) t.clock) (plain-lines (table_row decls) (head_row table_name) t.table) sem_is msgq_is signal_is chan_is obs_is
       ∙ regroup (block_lines work_block) (block_lines clock_block) (block_lines table_block) (flat_map block_lines sems) (flat_map block_lines msgqs) (flat_map block_lines signals)
       (flat_map block_lines chans) (flat_map block_lines observers) player_part
       ∙ ap (λ (ls : List (List ℕ)). ls ++ player_part) (sym (joined block_lines work_block clock_block table_block sems msgqs signals chans observers))) where

@@ -1,8 +1,8 @@
 -- A line may stand behind others just where it isn't misplaced.
-use Rattle.std.proofs.Common.{◌≡◌, ℕ, zero, suc, ◌<◌, ◌≤◌, Bool, true, false, not, ◌&&◌, ◌||◌, cond, eqb, ltb, Option, Some, None, List, [], ◌∷◌, take, slice_get, arith, refl, sym, ap, subst, inl, inr, ◌⊎◌, ◌∙◌}
+use Rattle.std.proofs.Common.{◌≡◌, ℕ, zero, suc, ◌<◌, ◌≤◌, Bool, true, false, not, cond, eqb, ltb, Option, Some, None, List, [], ◌∷◌, take, slice_get, arith, refl, sym, ap, subst, inl, inr, ◌∙◌}
 use Rattle.std.specs.List.{list_any}
 use Rattle.std.specs.Option.{option_or}
-use Rattle.std.proofs.lemmas.Bool.{eqb-true, eq-eqb, ltb-true, ltb-false, cases_Bool, cases_lt, and_parts, and_from, and_cases, or_cases, or_parts, or_left, or_right, not-true, not-false, both_ways, true≢false, false≢true}
+use Rattle.std.proofs.lemmas.Bool.{eqb-true, eq-eqb, ltb-true, ltb-false, cases_lt, and_parts, and_from, and_cases, or_cases, or_parts, or_left, or_right, not-true, not-false, both_ways, true≢false, false≢true}
 use Rattle.std.proofs.lemmas.Option.{none-some, same_Some}
 use Rattle.zk_trace.specs.declared.stood.Stood.{Stood}
 use Rattle.zk_check.specs.Standing.{is_step, last_of, rises, may_stand}
@@ -141,14 +141,14 @@ module _ (lines : List Stood) (place : ℕ) (line : Stood) (there : slice_get li
                 let both = grouped before l.place place earlier last line less l.lower here l.there there same in
                 let low = below last up both.1 in
                 none_before l.place l.lower (record {
-                    line = last;
-                    there = l.there;
-                    before = before;
-                    earlier = earlier;
-                    lower = less;
-                    stands = here;
-                    behind = (behind.0 ∙ sym (eqb-true last.player line.player l.mine), inr (both.0, omega (arith, low, high)));
-                  })
+                  line = last;
+                  there = l.there;
+                  before = before;
+                  earlier = earlier;
+                  lower = less;
+                  stands = here;
+                  behind = (behind.0 ∙ sym (eqb-true last.player line.player l.mine), inr (both.0, omega (arith, low, high)));
+                })
             | inr more ↦
                 let most = l.latest before earlier lower here mine in
                 let at : before ≡ l.place = omega (arith, more, most) in

@@ -1,8 +1,7 @@
 -- Lines of one part have one part, and in a trace they stand together.
-use Rattle.std.proofs.Common.{◌≡◌, ℕ, zero, suc, ◌+◌, ◌*◌, ◌<◌, ◌≤◌, true, false, Some, List, [], ◌∷◌, ◌++◌, map, slice_get, arith, refl, sym, ap, subst, ◌∙◌}
+use Rattle.std.proofs.Common.{◌≡◌, ℕ, ◌+◌, ◌*◌, ◌<◌, ◌≤◌, true, List, [], ◌∷◌, ◌++◌, map, arith, refl, ap, subst}
 use Rattle.std.specs.List.{AllByRecursion}
 use Rattle.std.proofs.lemmas.Bool.{eqb-true, eq-eqb, false≢true}
-use Rattle.std.proofs.lemmas.Option.{none-some, same_Some}
 use Rattle.zk_base.specs.declared.ids.Entry.{Entry}
 use Rattle.zk_worker.specs.declared.steps.Spot.{Spot}
 use Rattle.zk_worker.specs.declared.steps.Spot.TheVariants as spots
@@ -14,13 +13,15 @@ use Rattle.zk_trace.specs.declared.stood.Home.{Home}
 use Rattle.zk_trace.specs.declared.stood.Home.TheVariants as homes
 use Rattle.zk_trace.specs.declared.stood.Stood.{Stood}
 use Rattle.zk_trace.specs.declared.trace.Trace.{Trace}
-use Rattle.zk_trace.specs.Stood.{spot_in, spot_at, entries_stood, histories_stood, item_look_stood, signal_look_stood, signals_stood, stood}
+use Rattle.zk_trace.specs.Stood.{spot_at, entries_stood, histories_stood, item_look_stood, signal_look_stood, signals_stood, stood}
 use Rattle.zk_trace.specs.Text.{looks_at}
 use Rattle.zk_trace.proofs.LooksFit.{all-append}
 use Rattle.zk_check.specs.declared.part.Part.{Part}
 use Rattle.zk_check.specs.declared.part.Part.TheVariants as parts
 use Rattle.zk_check.specs.Parts.{part_of, AreTogether}
 use Rattle.zk_check.specs.PlaceFailure.{same_part}
+use Rattle.zk_check.proofs.PlacedLater.{Later, later-join, later-at}
+use Rattle.zk_check.proofs.PlacedLists.{each-weaker}
 
 -- What a part is, by two numbers: its place among the kinds of parts, and its place in its kind.
 
@@ -89,8 +90,7 @@ record NotAfter (a b : Stood) : Type 0 where
   subs : section_of a ≡ section_of b → sub_of a ≤ sub_of b
 
 abbrev InOrder : List Stood → Type 0
-InOrder [] = Unit {0}
-InOrder (x ∷ xs) = AllByRecursion (NotAfter x) xs × InOrder xs
+InOrder lines = Later NotAfter lines
 
 -- a line of a kind of parts, in this part of it, or from there on
 record IsIn (kind part : ℕ) (line : Stood) : Type 0 where
@@ -101,23 +101,10 @@ record IsFrom (kind part : ℕ) (line : Stood) : Type 0 where
   section_is : section_of line ≡ kind
   sub_from : part ≤ sub_of line
 
-each-weaker : (P Q : Stood → Type 0) → ((l : Stood) → P l → Q l) → (xs : List Stood) → AllByRecursion P xs → AllByRecursion Q xs
-each-weaker P Q weaker [] all = tt
-each-weaker P Q weaker (x ∷ xs) all = (weaker x all.0, each-weaker P Q weaker xs all.1)
-
-each-at : (P : Stood → Type 0) (xs : List Stood) (k : ℕ) (x : Stood) → AllByRecursion P xs → slice_get xs k ≡ Some x → P x
-each-at P [] k x all there = absurd (none-some x there)
-each-at P (y ∷ xs) zero x all there = subst P (same_Some y x there) all.0
-each-at P (y ∷ xs) (suc k) x all there = each-at P xs k x all.1 there
-
 cross : (P Q : Stood → Type 0) → ((x y : Stood) → P x → Q y → NotAfter x y) → (xs ys : List Stood) → AllByRecursion P xs → AllByRecursion Q ys →
     AllByRecursion (λ x. AllByRecursion (NotAfter x) ys) xs
 cross P Q apart [] ys ps qs = tt
 cross P Q apart (x ∷ xs) ys ps qs = (each-weaker Q (NotAfter x) (λ y q. apart x y ps.0 q) ys qs, cross P Q apart xs ys ps.1 qs)
-
-order-append : (xs ys : List Stood) → InOrder xs → InOrder ys → AllByRecursion (λ x. AllByRecursion (NotAfter x) ys) xs → InOrder (xs ++ ys)
-order-append [] ys up over apart = over
-order-append (x ∷ xs) ys up over apart = (all-append (NotAfter x) xs ys up.0 apart.0, order-append xs ys up.1 over apart.1)
 
 order-one : (kind part : ℕ) (xs : List Stood) → AllByRecursion (IsIn kind part) xs → InOrder xs
 order-one kind part [] all = tt
@@ -130,7 +117,7 @@ order-one kind part (x ∷ xs) all = (
 -- lines of one part, and then those of later ones of the kind
 order-kind : (kind part next : ℕ) (xs ys : List Stood) → part < next → AllByRecursion (IsIn kind part) xs → InOrder ys → AllByRecursion (IsFrom kind next) ys → InOrder (xs ++ ys)
 order-kind kind part next xs ys less here over there =
-    order-append xs ys (order-one kind part xs here) over
+    later-join NotAfter xs ys (order-one kind part xs here) over
     (cross (IsIn kind part) (IsFrom kind next)
     (λ x y is from. record { sections = omega (arith, is.section_is, from.section_is); subs = λ same. omega (arith, is.sub_is, from.sub_from) }) xs ys here there)
 
@@ -255,7 +242,7 @@ module _ {O R : Type 0} where
     signals-order : (object : ℕ) (hs : List (List (Entry O R))) → InOrder (signals_stood looks object hs)
     signals-order object [] = tt
     signals-order object (h ∷ hs) =
-        order-append (one_signal looks object h) (signals_stood looks (object + 1) hs)
+        later-join NotAfter (one_signal looks object h) (signals_stood looks (object + 1) hs)
         (order-kind 6 (2 * object) (2 * object + 1) (entries_stood (homes.Object families.Signal object) 0 h) (seen looks object) (omega arith)
         (entries-in (homes.Object families.Signal object) 0 h)
         (order-one 6 (2 * object + 1) (seen looks object) (looks-in object (looks_at looks object))) (seen-from looks object))
@@ -270,7 +257,7 @@ Upto kind xs = InOrder xs × AllByRecursion (λ l. section_of l < kind) xs
 
 next-kind : (kind : ℕ) (xs ys : List Stood) → Upto kind xs → InOrder ys → AllByRecursion (λ l. section_of l ≡ kind) ys → Upto (kind + 1) (xs ++ ys)
 next-kind kind xs ys upto over is = (
-  order-append xs ys upto.0 over
+  later-join NotAfter xs ys upto.0 over
       (cross (λ l. section_of l < kind) (λ l. section_of l ≡ kind) (λ x y less here. record { sections = omega (arith, less, here); subs = λ same. absurd (omega (arith, less, here, same)) }) xs ys upto.1 is),
   all-append (λ l. section_of l < kind + 1) xs ys (each-weaker (λ l. section_of l < kind) (λ l. section_of l < kind + 1) (λ l less. omega (arith, less)) xs upto.1)
       (each-weaker (λ l. section_of l ≡ kind) (λ l. section_of l < kind + 1) (λ l here. omega (arith, here)) ys is),
@@ -313,19 +300,12 @@ stood-order t =
     let seventh = many-more 7 0 (works ++ items ++ clocks ++ tables ++ sems ++ msgqs ++ signals) chans sixth (histories-order families.Chan 0 t.chans) (histories-from families.Chan 0 t.chans) in
     (many-more 8 0 (works ++ items ++ clocks ++ tables ++ sems ++ msgqs ++ signals ++ chans) observers seventh (histories-order families.Obs 0 t.observers) (histories-from families.Obs 0 t.observers)).0
 
-order-get : (xs : List Stood) (i j : ℕ) (a b : Stood) → InOrder xs → i < j → slice_get xs i ≡ Some a → slice_get xs j ≡ Some b → NotAfter a b
-order-get [] i j a b up less here there = absurd (none-some a here)
-order-get (x ∷ xs) zero zero a b up less here there = absurd (omega (arith, less))
-order-get (x ∷ xs) zero (suc j) a b up less here there = subst (λ (z : Stood). NotAfter z b) (same_Some x a here) (each-at (NotAfter x) xs j b up.0 there)
-order-get (x ∷ xs) (suc i) zero a b up less here there = absurd (omega (arith, less))
-order-get (x ∷ xs) (suc i) (suc j) a b up less here there = order-get xs i j a b up.1 (omega (arith, less)) here there
-
 -- lines of one part stand together
 pub together : (t : Trace) → AreTogether (stood t)
 together t first between last a b c less later here there end same =
     let up = stood-order t in
-    let ab = order-get (stood t) first between a b up less here there in
-    let bc = order-get (stood t) between last b c up later there end in
+    let ab = later-at NotAfter (stood t) up first between a b less here there in
+    let bc = later-at NotAfter (stood t) up between last b c later there end in
     let part = same-part a.spot c.spot same in
     let sections : section_of a ≡ section_of c = ap section part in
     let subs : sub_of a ≡ sub_of c = ap sub part in

@@ -1,4 +1,4 @@
-use Rattle.std.proofs.Common.{◌≡◌, ℕ, ◌+◌, suc, List, [], ◌∷◌, ◌++◌, append_assoc, drop, length, add-one, arith, sym, ap, ◌∙◌}
+use Rattle.std.proofs.Common.{◌≡◌, ℕ, ◌+◌, List, [], ◌∷◌, ◌++◌, append_assoc, drop, length, add-one, arith, sym, ap, ◌∙◌}
 use Rattle.zk_trace.specs.Text.{looks_at}
 use Rattle.zk_check.specs.Lines.{both_lengths}
 use Rattle.zk_check.proofs.Counted.{both-more}
