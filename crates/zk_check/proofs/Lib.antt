@@ -1,11 +1,9 @@
+pub mod AmongObjects
 pub mod Answered
 pub mod Endings
 pub mod FollowedFits
 pub mod HistoryParts
 pub mod InRange
-pub mod PlayableTraces
-pub mod UnlikeLines
-pub mod WaitingItems
 pub mod Placed
 pub mod PlacedFew
 pub mod PlacedLater
@@ -15,3 +13,6 @@ pub mod PlacedNumbers
 pub mod PlacedOrder
 pub mod PlacedRows
 pub mod PlacedSteps
+pub mod PlayableTraces
+pub mod UnlikeLines
+pub mod WaitingItems
