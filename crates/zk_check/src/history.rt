@@ -1,6 +1,5 @@
 ghost use Rattle.std.specs.Prelude.{◌≡◌, ◌<◌, [], None, length, All, IfOk, MatchOption};
 ghost use Rattle.zk_base.specs.Limits.{most_entries};
-ghost use Rattle.zk_scenario.specs.Valid.{IsValid};
 ghost use Rattle.zk_worker.specs.Machines.{machines_of};
 ghost use Rattle.zk_worker.specs.Shown.{nothing_shown};
 ghost use Rattle.zk_services.specs.Alone.{plain_machines, plain_shown};
@@ -131,6 +130,7 @@ pub fn history_failure(
             × (plain_machines services.new ≡ machines_of scenario.now))
         (λ row. IsFirst (IsUnanswered scenario.now trace.now) row)) }
 {
+    let _valid = scenario.decls();
     if let Some(row) = single_failure(services, trace)? {
         return Ok(Some(row));
     }
