@@ -63,6 +63,11 @@ module _ {S O R : Type 0} (m : Machine S O R) where
       unlike-none_each ss hs object place stand.1
       (record { start = unlike.start; h = unlike.h; starts = unlike.starts; stands = unlike.stands; entry = unlike.entry })
 
+  -- with an entry more that the machine answers so it stands still
+  pub replays-more : (s : S) (h : List (Entry O R)) (e : Entry O R) → Replays m s h → m.reply_of (state_after m s h) e.who e.op ≡ Some e.reply → Replays m s (h ++ e ∷ [])
+  replays-more s [] e stands is = (is, tt)
+  replays-more s (x ∷ h) e stands is = (stands.0, replays-more (m.next s x.who x.op) h e stands.1 is)
+
   -- the step of an entry is above those before it
   pub above-at : (h : List (Entry O R)) (place : ℕ) (e : Entry O R) → Rises h → slice_get h place ≡ Some e → IsAbove (take place h) e.who.number e.step
   above-at [] place e rises there = absurd (cc)

@@ -2,13 +2,16 @@
 use Rattle.std.proofs.Common.{◌≡◌, ℕ, ◌+◌, ◌<◌, Option, Some, None, List, [], ◌∷◌, ◌++◌, length, map, All, refl, sym, ap, subst, ◌∙◌, arith}
 use Rattle.std.specs.List.{AllZip}
 use Rattle.std.proofs.lemmas.List.{length-map}
+use Rattle.std.proofs.lemmas.List.Elements.{All-nil, All-cons}
 use Rattle.zk_base.specs.declared.ids.Entry.{Entry}
 use Rattle.zk_base.specs.declared.seen.Seen.{Seen}
 use Rattle.zk_base.specs.Legal.{Machine, Replays}
+use Rattle.zk_line.specs.declared.types.Decl.{Decl}
 use Rattle.zk_scenario.specs.Content.{Content}
 use Rattle.zk_worker.specs.declared.steps.Spot.{Spot}
 use Rattle.zk_worker.specs.declared.steps.Spot.TheVariants as spots
-use Rattle.zk_worker.specs.Families.{Family as Objects}
+use Rattle.zk_worker.specs.Families.{Family as Objects, no_entries}
+use Rattle.zk_worker.specs.Shown.{Shown, nothing_shown}
 use Rattle.zk_worker.specs.Machines.{Machines, machines_of}
 use Rattle.zk_trace.specs.declared.looks.SignalLook.{SignalLook}
 use Rattle.zk_trace.specs.declared.stood.Family.{Family}
@@ -17,6 +20,7 @@ use Rattle.zk_trace.specs.declared.stood.Home.TheVariants as homes
 use Rattle.zk_trace.specs.declared.stood.Stood.{Stood}
 use Rattle.zk_trace.specs.declared.trace.Trace.{Trace}
 use Rattle.zk_trace.specs.History.{IsAnsweredAt, AreLegal}
+use Rattle.zk_trace.specs.Shown.{trace_shown}
 use Rattle.zk_trace.specs.Stood.{stood, spot_in, entries_stood, histories_stood, signals_stood, item_look_stood}
 use Rattle.zk_check.specs.Answering.{StandsAt, EachStands, FirstAmong, IsFoundAt, Sought, line_count, single_lines, waited_lines, bus_lines, SinglesStand, WaitedStand, BusStands}
 use Rattle.zk_check.specs.First.{IsFirst}
@@ -194,6 +198,21 @@ module _ (m : Machines) (t : Trace) where
       (subst (λ (n : ℕ). IsFoundAt Bad (single_lines t ++ (waited_lines t ++ bus_lines t)) n) (omega arith)
       (found-behind Bad (single_lines t) (waited_lines t ++ bus_lines t) (length (waited_lines t) + place) (single-none stand)
       (found-behind Bad (waited_lines t) (bus_lines t) place (waited-none wait) found)))
+
+-- What the services show.
+
+-- nothing was done at any object at first
+pub none-entries : {A O R : Type 0} (objects : List A) → All (λ (h : List (Entry O R)). h ≡ []) (no_entries objects)
+none-entries {A} {O} {R} [] = let P : List (Entry O R) → Type 0 = λ h. h ≡ [] in All-nil P
+none-entries {A} {O} {R} (x ∷ xs) = let P : List (Entry O R) → Type 0 = λ h. h ≡ [] in All-cons P [] (no_entries xs) refl (none-entries xs)
+
+-- and in the end all of the trace was
+pub shown-all : (decls : List Decl) (t : Trace) (old one two three : Shown) → old ≡ nothing_shown decls → one ≡ record old { work = t.work; clock = t.clock; table = t.table } →
+    two ≡ record one { sems = t.sems; msgqs = t.msgqs; signals = t.signals } → three ≡ record two { chans = t.chans; observers = t.observers } → three ≡ trace_shown t
+shown-all decls t old one two three first second third last =
+    last ∙ ap (λ (x : Shown). record x { chans = t.chans; observers = t.observers })
+    (third ∙ ap (λ (x : Shown). record x { sems = t.sems; msgqs = t.msgqs; signals = t.signals })
+    (second ∙ ap (λ (x : Shown). record x { work = t.work; clock = t.clock; table = t.table }) first))
 
 -- the first line is the first that isn't answered so
 pub unanswered-first : (s : Content) (t : Trace) (row : ℕ) → IsFoundAt (IsUnlikeIn (machines_of s) t) (stood t) row → IsFirst (IsUnanswered s t) row

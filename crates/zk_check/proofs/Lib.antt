@@ -1,3 +1,4 @@
+pub mod AmongObjects
 pub mod Answered
 pub mod Counted
 pub mod Endings

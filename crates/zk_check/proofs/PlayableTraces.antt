@@ -97,6 +97,21 @@ length-parts t =
     ap (λ (l : List Stood). length l) (lines-parts t) ∙ length-append (single_lines t) (waited_lines t ++ bus_lines t)
     ∙ ap (λ (n : ℕ). length (single_lines t) + n) (length-append (waited_lines t) (bus_lines t))
 
+-- how many lines the parts have together
+pub record FewLines (t : Trace) : Type 0 where
+  pub single : length (single_lines t) + (length (waited_lines t) + length (bus_lines t)) < most_entries
+  pub histories : length t.work + length t.item_looks + (length t.clock + length t.table) < most_entries
+  pub waited : line_count [] 0 t.sems + line_count [] 0 t.msgqs + line_count t.signal_looks 0 t.signals < most_entries
+  pub bus : line_count [] 0 t.chans + line_count [] 0 t.observers < most_entries
+
+pub few-lines : (t : Trace) → length (stood t) < most_entries → FewLines t
+few-lines t few =
+    let all = length-parts t in
+    let single = length-single t in
+    let waited = length-waited t in
+    let bus = length-bus t in
+    record { single = omega arith; histories = omega arith; waited = omega arith; bus = omega arith }
+
 -- The histories of the objects of a kind.
 
 -- an object is of a kind just where it starts in a state

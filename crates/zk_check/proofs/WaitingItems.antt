@@ -1,8 +1,8 @@
 -- Whether an admission waits, by the busy flags of the items.
-use Rattle.std.proofs.Common.{◌≡◌, ◌≢◌, ℕ, zero, suc, ◌+◌, ◌*◌, ◌/◌, ◌%◌, ◌^◌, ◌<◌, ◌≤◌, Bool, true, false, not, ◌&&◌, cond, eqb, eq-eqb, Option, Some, None, is_some, List, [], ◌∷◌, length, map, All, bit_and, refl, sym, ap, subst, ◌∙◌, arith}
+use Rattle.std.proofs.Common.{◌≡◌, ◌≢◌, ℕ, zero, suc, ◌+◌, ◌*◌, ◌/◌, ◌%◌, ◌^◌, ◌<◌, ◌≤◌, Bool, true, false, not, ◌&&◌, cond, eqb, nat_lt, eq-eqb, Option, Some, None, is_some, List, [], ◌∷◌, length, map, All, bit_and, refl, sym, ap, subst, ◌∙◌, arith}
 use Rattle.std.specs.List.{slice_get, list_all, position, AllByRecursion}
 use Rattle.std.specs.Int.{bit_at}
-use Rattle.std.proofs.lemmas.Bool.{and_from, false≢true}
+use Rattle.std.proofs.lemmas.Bool.{and_from, lt-ltb, false≢true}
 use Rattle.std.proofs.lemmas.List.Elements.{All-nil}
 use Rattle.std.proofs.lemmas.List.FromFn.{length-range_with_len}
 use Rattle.std.proofs.lemmas.Nat.Bits.{and_pow}
@@ -23,7 +23,8 @@ use Rattle.zk_model_work.proofs.Counts.{length-fresh_queues}
 use Rattle.zk_model_work.proofs.Overlaps.{position-none}
 use Rattle.zk_model_work.proofs.Replies.{position-at}
 use Rattle.zk_scenario.specs.Content.{Content}
-use Rattle.zk_worker.specs.Machines.{workers, is_on, work_start_of}
+use Rattle.zk_worker.specs.Machines.{Machines, machines_of, workers, is_on, work_start_of}
+use Rattle.zk_worker.specs.Shown.{Shown}
 use Rattle.zk_worker.proofs.Ranges.{same-lengths}
 use Rattle.zk_trace.specs.Ending.{none_waits}
 use Rattle.zk_trace.specs.EntryKinds.{IsWork}
@@ -95,6 +96,28 @@ queued-flag st item = by _ _ (is_some (waiting st.admissions item)) _ _ where
       let bit : word / 4 % 2 ≡ weight 1 queued = omega arith in
       and_pow word 2 ∙ (omega (arith, bit))
 
+pub set-flag : (set : Bool) → (4 * weight 1 set ≡ 0 → ⊥) → set ≡ true
+set-flag true is = refl
+set-flag false is = absurd (is (omega arith))
+
+pub clear-flag : (set : Bool) → 4 * weight 1 set ≡ 0 → set ≡ false
+clear-flag true is = absurd (omega arith)
+clear-flag false is = refl
+
+-- the word of an item where this history is shown
+pub word-says : (s : Content) (m : Machines) (shown : Shown) (h : List (Entry WorkOp WorkReply)) (item word : ℕ) → m ≡ machines_of s → shown.work ≡ h → item < length (places is_item s.decls) →
+    word ≡ cond (nat_lt item (state_after work_machine m.work_start shown.work).items) (flags_of (state_after work_machine m.work_start shown.work) item) 0 →
+    bit_and word 4 ≡ 4 * weight 1 (is_some (waiting (state_after work_machine (work_start_of s) h).admissions item))
+word-says s m shown h item word same history within is =
+    let st = state_after work_machine (work_start_of s) h in
+    let states : state_after work_machine m.work_start shown.work ≡ st =
+        ap (λ (x : State). state_after work_machine x shown.work) (ap (λ (x : Machines). x.work_start) same) ∙ ap (state_after work_machine (work_start_of s)) history in
+    let items : st.items ≡ length (places is_item s.decls) = items-after (work_start_of s) h in
+    let there : nat_lt item st.items ≡ true = lt-ltb item st.items (omega arith) in
+    ap (λ (n : ℕ). bit_and n 4)
+    (is ∙ ap (λ (x : State). cond (nat_lt item x.items) (flags_of x item) 0) states ∙ ap (λ (b : Bool). cond b (flags_of st item) 0) there)
+    ∙ queued-flag st item
+
 -- No admission waits just where no item says so.
 
 all-by-place : {A : Type 0} (test : A → Bool) (xs : List A) → ((n : ℕ) (x : A) → slice_get xs n ≡ Some x → test x ≡ true) → list_all test xs ≡ true
@@ -105,12 +128,12 @@ not-true : (b : Bool) → b ≡ false → not b ≡ true
 not-true true is = absurd (cc)
 not-true false is = refl
 
-pub none-waiting : (st : State) (many : ℕ) → All (λ a. a.item < many) st.admissions → ((item : ℕ) → item < many → is_some (waiting st.admissions item) ≡ false) →
-    none_waits st ≡ true
-none-waiting st many within none = all-by-place (λ a. not (is_waiting a.life)) st.admissions each where
+pub none-waiting : (decls : List Decl) (st : State) → All (Admits decls) st.admissions →
+    ((item : ℕ) → item < length (places is_item decls) → is_some (waiting st.admissions item) ≡ false) → none_waits st ≡ true
+none-waiting decls st declared none = all-by-place (λ a. not (is_waiting a.life)) st.admissions each where
   each : (n : ℕ) (a : Admission) → slice_get st.admissions n ≡ Some a → not (is_waiting a.life) ≡ true
   each n a there =
-      let less = All-at (λ (b : Admission). b.item < many) st.admissions n a within there in
+      let less = (All-at (Admits decls) st.admissions n a declared there).0 in
       let nothing = position-none (waits_as a.item) st.admissions n a (none_from_is_some (waiting st.admissions a.item) (none a.item less)) there in
       not-true (is_waiting a.life) (and_second (eqb a.item a.item) (is_waiting a.life) (eq-eqb a.item a.item refl) nothing)
 

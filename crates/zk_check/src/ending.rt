@@ -28,6 +28,7 @@ fn none_waits(services: &Plain, scenario: &Scenario, trace: &Trace) -> bool
     requires shown { plain_shown services.now ≡ trace_shown trace.now }
     ensures { result ≡ none_waits (state_after work_machine (work_start_of scenario.now) trace.now.work) }
 {
+    let _valid = scenario.decls();
     for item in 0..scenario.items().len() {
         if services.work.word(item as u32) & QUEUED != 0 {
             return false;

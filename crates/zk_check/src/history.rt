@@ -1,5 +1,5 @@
-ghost use Rattle.std.specs.Prelude.{◌≡◌, [], None, length, All, IfOk, MatchOption};
-ghost use Rattle.zk_scenario.specs.Valid.{IsValid};
+ghost use Rattle.std.specs.Prelude.{◌≡◌, ◌<◌, [], None, length, All, IfOk, MatchOption};
+ghost use Rattle.zk_base.specs.Limits.{most_entries};
 ghost use Rattle.zk_worker.specs.Machines.{machines_of};
 ghost use Rattle.zk_worker.specs.Shown.{nothing_shown};
 ghost use Rattle.zk_services.specs.Alone.{plain_machines, plain_shown};
@@ -94,7 +94,7 @@ fn bus_failure(services: &mut Plain, trace: &Trace) -> Result<Option<u64>, NoMem
 
 /// How many lines the services have of which there is one.
 fn single_count(trace: &Trace) -> u64
-    requires { length (single_lines trace.now) < 2 ^ 32 }
+    requires { length (single_lines trace.now) < most_entries }
     ensures { result ≡ length (single_lines trace.now) }
 {
     let work = trace.work.items().len() + trace.item_looks.items().len();
@@ -104,7 +104,7 @@ fn single_count(trace: &Trace) -> u64
 
 /// How many lines there are of what players wait for.
 fn waited_count(trace: &Trace) -> u64
-    requires { length (waited_lines trace.now) < 2 ^ 32 }
+    requires { length (waited_lines trace.now) < most_entries }
     ensures { result ≡ length (waited_lines trace.now) }
 {
     let sems = line_count(trace.sems.items(), &[]);
@@ -130,6 +130,7 @@ pub fn history_failure(
             × (plain_machines services.new ≡ machines_of scenario.now))
         (λ row. IsFirst (IsUnanswered scenario.now trace.now) row)) }
 {
+    let _valid = scenario.decls();
     if let Some(row) = single_failure(services, trace)? {
         return Ok(Some(row));
     }
