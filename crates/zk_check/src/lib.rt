@@ -3,6 +3,7 @@
 
 mod found;
 mod log;
+mod same;
 mod site;
 
 pub use site::{Fail, Site};

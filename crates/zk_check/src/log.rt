@@ -17,6 +17,7 @@ ghost use Rattle.zk_worker.specs.declared.steps.Step.{Step};
 
 use crate::Site;
 use crate::found::found_at;
+use crate::same::{is_same_answer, is_same_step};
 use std::alloc::Global;
 use zk_base::NoMemory;
 use zk_scenario::Scenario;
@@ -31,7 +32,7 @@ fn is_for(attempt: &Step, step: &Step) -> bool
         (Step::LookSignal(object, must), Step::LookSignal(at, raised)) => {
             object == at && (!*must || *raised)
         }
-        _ => attempt == step,
+        _ => is_same_step(attempt, step),
     }
 }
 
@@ -100,7 +101,7 @@ fn has_at(answers: &[Answered], place: usize, answer: &Answered) -> bool
     ensures { IsTrue result ↔ HasAt answers.now place answer.now }
 {
     match answers.get(place) {
-        Some(own) => own == answer,
+        Some(own) => is_same_answer(own, answer),
         None => false,
     }
 }
