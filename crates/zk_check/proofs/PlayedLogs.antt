@@ -1,9 +1,9 @@
 -- Players that are led by their logs, step by step and one after another.
-use Rattle.std.proofs.Common.{◌≡◌, ◌⊎◌, inl, inr, ℕ, zero, suc, ◌+◌, ◌≤◌, ◌<◌, Some, List, [], ◌∷◌, ◌++◌, length, take, get_or, refl, sym, ap, subst, ◌∙◌, arith, length-append}
-use Rattle.std.specs.List.{slice_get, range_with_len}
+use Rattle.std.proofs.Common.{◌≡◌, ◌⊎◌, inl, inr, ℕ, zero, suc, ◌+◌, ◌≤◌, ◌<◌, Some, List, [], ◌∷◌, ◌++◌, length, take, get_or, refl, sym, ap, subst, ◌∙◌, arith}
+use Rattle.std.specs.List.{slice_get}
 use Rattle.std.proofs.lemmas.List.{take_all, take_more}
 use Rattle.std.proofs.lemmas.List.FromFn.{length-range_with_len}
-use Rattle.std.proofs.lemmas.Option.{same_Some, none-some, slice_get_within, slice_get_read, get_or_from_slice_get}
+use Rattle.std.proofs.lemmas.Option.{same_Some, slice_get_within, slice_get_read, get_or_from_slice_get}
 use Rattle.zk_base.specs.Limits.{most_players}
 use Rattle.zk_blocks.proofs.Each.{each_fits-length}
 use Rattle.zk_scenario.specs.Content.{Content}
@@ -14,9 +14,9 @@ use Rattle.zk_worker.specs.declared.answers.Answered.{Answered}
 use Rattle.zk_worker.specs.declared.log.Log.{Log}
 use Rattle.zk_worker.specs.declared.log.PlayerState.{PlayerState}
 use Rattle.zk_worker.specs.declared.steps.Spot.{Spot}
-use Rattle.zk_worker.specs.Follows.{StepMade, Stands, Follows, log_of, state_at}
+use Rattle.zk_worker.specs.Follows.{StepMade, Stands, log_of, state_at}
 use Rattle.zk_worker.specs.Places.{PlayerPlace}
-use Rattle.zk_worker.specs.Protocol.{IsAhead, after, start_at, spot_of}
+use Rattle.zk_worker.specs.Protocol.{IsAhead, after, start_at}
 use Rattle.zk_worker.proofs.Following.{following-fresh, following-more}
 use Rattle.zk_worker.proofs.Lists.{at-end}
 use Rattle.zk_worker.proofs.Starts.{start_at-fresh}

@@ -6,4 +6,5 @@ mod log;
 mod same;
 mod site;
 
+pub use log::log_failure;
 pub use site::{Fail, Site};
