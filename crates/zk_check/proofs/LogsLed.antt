@@ -42,7 +42,7 @@ same-end s t player log other here there one two =
     let same = same_Some log other (sym one.logged ∙ two.logged) in (
       same,
       one-place s player (trace_shown t) here there one.led two.led
-      (all-taken log here one.by ∙ ap (λ (l : Log). l.steps) same ∙ sym (all-taken other there two.by)),
+          (all-taken log here one.by ∙ ap (λ (l : Log). l.steps) same ∙ sym (all-taken other there two.by)),
     )
 
 -- all steps of a log that follows lead its player where it stands so
