@@ -1,7 +1,6 @@
 -- What stands at a spot is found there, and an attempt that can be the step found stands there.
-use Rattle.std.proofs.Common.{◌≡◌, ℕ, ◌≤◌, ◌<◌, ◌⊎◌, inl, inr, Bool, true, false, Option, Some, None, List, length, get_or, ◌+◌, refl, sym, ap, subst, ◌∙◌, arith}
+use Rattle.std.proofs.Common.{◌≡◌, ◌↔◌, ℕ, ◌≤◌, ◌<◌, ◌⊎◌, inl, inr, Bool, true, false, Option, Some, None, List, length, get_or, ◌+◌, refl, sym, ap, subst, ◌∙◌, arith}
 use Rattle.std.specs.List.{slice_get}
-use Rattle.std.specs.Option.{option_map}
 use Rattle.std.proofs.lemmas.Bool.{cases_lt}
 use Rattle.std.proofs.lemmas.Option.{same_Some, none-some, slice_get_within, slice_get_cases}
 use Rattle.zk_worker.specs.declared.steps.Spot.{Spot}
@@ -50,6 +49,20 @@ for-itself step = refl
 for-same : (attempt step : Step) → looks_at_signal step ≡ false → IsFor attempt step → attempt ≡ step
 for-same attempt (steps.LookSignal object must) other is = absurd (cc)
 for-same attempt step other is = is
+
+-- where they aren't both looks at signals, only one that is the step can be it
+pub for-other : (attempt step : Step) (b : Bool) → (b ≡ true) ↔ (attempt ≡ step) → ((object : ℕ) (must : Bool) → attempt ≡ steps.LookSignal object must → looks_at_signal step ≡ false) →
+    (b ≡ true) ↔ IsFor attempt step
+for-other attempt (steps.LookSignal object must) b same apart = (
+  λ is. absurd (let looks : true ≡ false = apart object must (same.0 is) in cc),
+  λ can. absurd (let looks : true ≡ false = apart object can.0 can.1 in cc),
+)
+for-other attempt step b same apart = same
+
+-- a step that isn't such a look
+pub no-look : (step : Step) → ((object : ℕ) (must : Bool) → step ≡ steps.LookSignal object must → ⊥) → looks_at_signal step ≡ false
+no-look (steps.LookSignal object must) none = absurd (none object must refl)
+no-look step none = refl
 
 -- an entry stands as what was found and as nothing else
 entry-stands : (found : StepMade) (o : Option StepMade) (attempt : Step) → IsNoLook found → o ≡ Some found → IsFor attempt found.0 → o ≡ Some (attempt, found.1)

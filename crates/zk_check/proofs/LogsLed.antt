@@ -1,5 +1,5 @@
 -- Where a log fails it doesn't follow the scenario: it leads its player to one place.
-use Rattle.std.proofs.Common.{◌≡◌, ℕ, ◌≤◌, ◌<◌, Some, List, length, take, refl, sym, ap, subst, ◌∙◌, arith}
+use Rattle.std.proofs.Common.{◌≡◌, ℕ, Some, List, length, take, sym, ap, subst, ◌∙◌, arith}
 use Rattle.std.specs.List.{slice_get}
 use Rattle.std.proofs.lemmas.List.{take_all}
 use Rattle.std.proofs.lemmas.Option.{same_Some}
@@ -7,7 +7,7 @@ use Rattle.zk_scenario.specs.Content.{Content}
 use Rattle.zk_worker.specs.declared.answers.Answered.{Answered}
 use Rattle.zk_worker.specs.declared.log.Log.{Log}
 use Rattle.zk_worker.specs.declared.steps.Spot.{Spot}
-use Rattle.zk_worker.specs.Follows.{Follows, log_of}
+use Rattle.zk_worker.specs.Follows.{log_of}
 use Rattle.zk_worker.specs.Places.{PlayerPlace}
 use Rattle.zk_worker.specs.Protocol.{IsAhead}
 use Rattle.zk_trace.specs.declared.trace.Trace.{Trace}
@@ -42,7 +42,7 @@ same-end s t player log other here there one two =
     let same = same_Some log other (sym one.logged ∙ two.logged) in (
       same,
       one-place s player (trace_shown t) here there one.led two.led
-      (all-taken log here one.by ∙ ap (λ (l : Log). l.steps) same ∙ sym (all-taken other there two.by)),
+          (all-taken log here one.by ∙ ap (λ (l : Log). l.steps) same ∙ sym (all-taken other there two.by)),
     )
 
 -- all steps of a log that follows lead its player where it stands so

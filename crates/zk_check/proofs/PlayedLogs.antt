@@ -1,9 +1,9 @@
 -- Players that are led by their logs, step by step and one after another.
-use Rattle.std.proofs.Common.{◌≡◌, ◌⊎◌, inl, inr, ℕ, zero, suc, ◌+◌, ◌≤◌, ◌<◌, Some, List, [], ◌∷◌, ◌++◌, length, take, get_or, refl, sym, ap, subst, ◌∙◌, arith, length-append}
-use Rattle.std.specs.List.{slice_get, range_with_len}
+use Rattle.std.proofs.Common.{◌≡◌, ◌⊎◌, inl, inr, ℕ, zero, suc, ◌+◌, ◌≤◌, ◌<◌, Some, List, [], ◌∷◌, ◌++◌, length, take, get_or, refl, sym, ap, subst, ◌∙◌, arith}
+use Rattle.std.specs.List.{slice_get}
 use Rattle.std.proofs.lemmas.List.{take_all, take_more}
 use Rattle.std.proofs.lemmas.List.FromFn.{length-range_with_len}
-use Rattle.std.proofs.lemmas.Option.{same_Some, none-some, slice_get_within, get_or_from_slice_get}
+use Rattle.std.proofs.lemmas.Option.{same_Some, slice_get_within, slice_get_read, get_or_from_slice_get}
 use Rattle.zk_base.specs.Limits.{most_players}
 use Rattle.zk_blocks.proofs.Each.{each_fits-length}
 use Rattle.zk_scenario.specs.Content.{Content}
@@ -14,22 +14,26 @@ use Rattle.zk_worker.specs.declared.answers.Answered.{Answered}
 use Rattle.zk_worker.specs.declared.log.Log.{Log}
 use Rattle.zk_worker.specs.declared.log.PlayerState.{PlayerState}
 use Rattle.zk_worker.specs.declared.steps.Spot.{Spot}
-use Rattle.zk_worker.specs.Follows.{StepMade, Stands, Follows, log_of, state_at}
+use Rattle.zk_worker.specs.Follows.{StepMade, Stands, log_of, state_at}
 use Rattle.zk_worker.specs.Places.{PlayerPlace}
-use Rattle.zk_worker.specs.Protocol.{IsAhead, after, start_at, spot_of}
+use Rattle.zk_worker.specs.Protocol.{IsAhead, after, start_at}
 use Rattle.zk_worker.proofs.Following.{following-fresh, following-more}
 use Rattle.zk_worker.proofs.Lists.{at-end}
 use Rattle.zk_worker.proofs.Starts.{start_at-fresh}
+use Rattle.zk_trace.specs.declared.stood.Stood.{Stood}
 use Rattle.zk_trace.specs.declared.trace.Trace.{Trace}
 use Rattle.zk_trace.specs.Form.{IsInForm, IsLog, player_numbers}
 use Rattle.zk_trace.specs.Log.{AreLogged}
+use Rattle.zk_trace.specs.Place.{IsPlaced}
 use Rattle.zk_trace.specs.Shown.{trace_shown}
 use Rattle.zk_trace.specs.Stood.{stood}
-use Rattle.zk_check.specs.LogFailure.{IsLed, IsAstray, IsOtherEnd, IsGood}
+use Rattle.zk_check.specs.declared.site.Site.{Site}
+use Rattle.zk_check.specs.LogFailure.{IsLed, IsAstray, IsRowOf, IsOtherEnd, IsGood, FailsLog, IsLogFailure}
 use Rattle.zk_check.specs.OtherAnswers.{HaveAll}
 use Rattle.zk_check.specs.Played.{IsPlayedOut, EachPlayedOut}
 use Rattle.zk_check.proofs.LedPlayers.{stands-spot, spots-after}
 use Rattle.zk_check.proofs.LogsLed.{all-taken}
+use Rattle.zk_check.proofs.PlacedSteps.{row-of-step}
 
 -- One step after another.
 
@@ -129,6 +133,18 @@ each-good s t at each player below log there =
       logged = same_Some (log_of s found.0) log (sym is.logged ∙ there);
     }
 
+-- the first log that fails stands behind those of players that are led by theirs
+pub first-failure : (s : Content) (t : Trace) (at : List PlayerPlace) (player : ℕ) (site : Site) → length at ≡ player → EachPlayedOut s t at → FailsLog s t player site → IsLogFailure s t site
+first-failure s t at player site count each fails = record {
+  player = player;
+  fails = fails;
+  first = λ earlier below. each-good s t at each earlier (omega (arith, count));
+}
+
+-- the log of a player, as it was read
+pub log-read : (t : Trace) (logs : List Log) (player : ℕ) (log : Log) → logs ≡ t.logs → player < length logs → log ≡ get_or logs player log → slice_get t.logs player ≡ Some log
+log-read t logs player log all below is = subst (λ (l : List Log). slice_get l player ≡ Some log) all (slice_get_read logs (length logs) player log refl below is)
+
 -- in a trace in form there is a log for each player
 pub logs-all : (s : Content) (t : Trace) → IsInForm s t → length t.logs ≡ length (players s.decls)
 logs-all s t form = omega (arith, each_fits-length (IsLog s.decls (stood t)) (player_numbers s.decls) t.logs form.logs, length-range_with_len 0 (length (players s.decls)))
@@ -142,3 +158,22 @@ all-logged s t at form all each = record {
   logged = logs-all s t form;
   follow = λ player log there. let within = slice_get_within t.logs player log there in each-good s t at each player (omega (arith, all)) log there;
 }
+
+-- The line of a step that isn't made.
+
+-- what is found among the lines is that of the step
+pub row-found : (t : Trace) (rows : List Stood) (player step place : ℕ) → rows ≡ stood t → (line : Stood) × (slice_get rows place ≡ Some line) × (line.player ≡ player) × (line.step ≡ step) →
+    IsRowOf t player step place
+row-found t rows player step place all found = record {
+  line = found.0;
+  there = subst (λ (l : List Stood). slice_get l place ≡ Some found.0) all found.1;
+  player_is = found.2;
+  step_is = found.3;
+}
+
+-- it is found
+pub row-missing : (s : Content) (t : Trace) (rows : List Stood) (player step : ℕ) → IsInForm s t → IsPlaced s t → rows ≡ stood t → IsAstray s t player step →
+    ((place : ℕ) (line : Stood) → slice_get rows place ≡ Some line → line.player ≡ player → line.step ≡ step → ⊥) → ⊥
+row-missing s t rows player step form placed all is none =
+    let row = row-of-step s t form placed player is.log step is.spot is.led.logged is.next in
+    none row.0 row.1 (subst (λ (l : List Stood). slice_get l row.0 ≡ Some row.1) (sym all) row.2) row.3 row.4

@@ -14,9 +14,11 @@ mod looks;
 mod own;
 mod part;
 mod place;
+mod same;
 mod site;
 mod unlike;
 
 pub use check::{Checked, check};
 pub use lines::is_its_line;
+pub use log::log_failure;
 pub use site::{Fail, Site};

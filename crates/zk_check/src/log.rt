@@ -1,4 +1,5 @@
 ghost use Rattle.std.specs.Prelude.{◌≡◌, ◌↔◌, ℕ, Some, [], IsTrue, IfOk, IfSome, IfNone, MatchOption, length, slice_get};
+ghost use Rattle.zk_worker.specs.declared.steps.Step.{Step};
 ghost use Rattle.zk_worker.specs.Follows.{StepMade, Stands, log_of, state_at};
 ghost use Rattle.zk_worker.specs.Protocol.{IsAhead, start_at};
 ghost use Rattle.zk_trace.specs.declared.stood.Stood.{Stood};
@@ -9,19 +10,19 @@ ghost use Rattle.zk_trace.specs.Place.{IsPlaced};
 ghost use Rattle.zk_trace.specs.Shown.{trace_shown};
 ghost use Rattle.zk_trace.specs.Stood.{stood};
 ghost use Rattle.zk_check.specs.First.{IsFirst};
-ghost use Rattle.zk_check.specs.LogFailure.{IsLed, IsAstray, FailsLog, IsLogFailure};
 ghost use Rattle.zk_check.specs.Found.{IsFor};
+ghost use Rattle.zk_check.specs.LogFailure.{IsLed, IsAstray, FailsLog, IsLogFailure};
 ghost use Rattle.zk_check.specs.OtherAnswers.{HasAt, HaveAll, IsOtherAt};
 ghost use Rattle.zk_check.specs.Played.{ArePlayedOut};
-ghost use Rattle.zk_worker.specs.declared.steps.Step.{Step};
 
 use crate::Site;
-use crate::found::found_at;
+use crate::found::{Made, found_at};
+use crate::same::{is_same_answer, is_same_step};
 use std::alloc::Global;
 use zk_base::NoMemory;
 use zk_scenario::Scenario;
 use zk_trace::{Stood, Trace};
-use zk_worker::{Answered, Log, MOST_ATTEMPTS, Player, Spot, Step, StepReply};
+use zk_worker::{Answered, Log, MOST_ATTEMPTS, Player, Spot, Step};
 
 /// Whether an attempt can be the step that was found: a look needn't have had to find the signal raised.
 fn is_for(attempt: &Step, step: &Step) -> bool
@@ -31,7 +32,7 @@ fn is_for(attempt: &Step, step: &Step) -> bool
         (Step::LookSignal(object, must), Step::LookSignal(at, raised)) => {
             object == at && (!*must || *raised)
         }
-        _ => attempt == step,
+        _ => is_same_step(attempt, step),
     }
 }
 
@@ -59,7 +60,7 @@ fn made_at(
     trace: &Trace,
     player: &Player,
     spot: &Spot,
-) -> Result<Option<(Step, StepReply)>, NoMemory>
+) -> Result<Option<Made>, NoMemory>
     ensures { IfOk result (λ made. MatchOption made
         ((made : StepMade) → Stands (trace_shown trace.now) spot.now made → IsAhead scenario.now player.now made.0 → ⊥)
         (λ made. Stands (trace_shown trace.now) spot.now made × IsAhead scenario.now player.now made.0)) }
@@ -100,7 +101,7 @@ fn has_at(answers: &[Answered], place: usize, answer: &Answered) -> bool
     ensures { IsTrue result ↔ HasAt answers.now place answer.now }
 {
     match answers.get(place) {
-        Some(own) => own == answer,
+        Some(own) => is_same_answer(own, answer),
         None => false,
     }
 }

@@ -1,4 +1,5 @@
-use Rattle.std.proofs.Common.{refl}
+use Rattle.std.proofs.Common.{refl, sym, ◌∙◌}
+use Rattle.std.proofs.lemmas.Bool.{false≢true}
 use Rattle.zk_check.proofs.LogsLed.{other-first, other-nowhere}
 use Rattle.zk_check.proofs.PlayedLogs.{log-same, other-end}
 use Rattle.zk_check.proofs.log.other_end.Goals as goal
@@ -13,4 +14,8 @@ returns-then-stands_so c = λ trace led.
     log-same c.args.scenario.now trace c.args.number c.args.log.now c.args.player.now led (rw (c.answers.ensures, c.items.ensures) at c.in_default.ensures) so.0 so.1
 
 pub returns-else-stands_so : goal.returns-else-stands_so
-returns-else-stands_so c = λ trace led. ?
+returns-else-stands_so c = λ trace led. (
+  refl,
+  other-nowhere c.args.scenario.now trace c.args.number c.args.log.now c.args.player.now led (rw (c.answers.ensures, c.items.ensures) at c.in_default.ensures),
+  other-end c.args.scenario.now trace c.args.number c.args.log.now c.args.player.now led (λ both. false≢true (sym c.if-stands_so.false ∙ c.stands_so.ensures.1 both)),
+)
