@@ -2,6 +2,7 @@ pub mod ItemsFound
 pub mod LookOrders
 pub mod LooksFound
 pub mod LooksRight
+pub mod LooksTold
 pub mod Placed
 pub mod PlacedFew
 pub mod PlacedLater
