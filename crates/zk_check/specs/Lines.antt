@@ -10,8 +10,8 @@ use Rattle.zk_check.specs.declared.site.Site.TheVariants.{Ending, Row, Player, A
 
 -- how many rows each section of signals has: the writes and the looks
 abbrev pub both_lengths : {A B : Type 0} → List (List A) → List (List B) → List ℕ
-both_lengths {B = B} [] looks = []
-both_lengths {B = B} (h ∷ hs) [] = length h ∷ both_lengths {B = B} hs []
+both_lengths [] looks = []
+both_lengths {A} {B} (h ∷ hs) [] = length h ∷ both_lengths {B = B} hs []
 both_lengths (h ∷ hs) (l ∷ ls) = (length h + length l) ∷ both_lengths hs ls
 
 -- how many rows each section has, in the order of the text; one without rows doesn't stand there
