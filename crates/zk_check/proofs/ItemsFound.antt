@@ -255,6 +255,15 @@ module _ (start : State) (items : List (Option ℕ)) (h : List (Entry WorkOp Wor
           let least : place ≤ earlier = All-at (λ (other : ℕ). place ≤ other) places its.0 earlier low its.1 in
           absurd (omega arith)
 
+-- So the lowest place says which is the first.
+pub first-told : (start : State) (items : List (Option ℕ)) (h : List (Entry WorkOp WorkReply)) (looks : List ItemLook) (places : List ℕ) (first : Option ℕ) →
+    places ≡ missed_places start items h (by_front looks) →
+    MatchOption first (places ≡ []) (λ low. Contains places low × All (λ place. low ≤ place) places) →
+    MatchOption first (All (λ look. finds start items h look ≡ true) looks) (λ place. IsFirstMissed (finds start items h) looks place)
+first-told start items h looks all None is none = none-missed start items h looks (sym is ∙ none)
+first-told start items h looks all (Some place) is low =
+    lowest-missed start items h looks place (subst (λ (l : List ℕ). Contains l place) is low.0) (subst (All (λ (other : ℕ). place ≤ other)) is low.1)
+
 -- What is found is what is right.
 
 -- the word of an item that there is has its flags

@@ -15,6 +15,7 @@ pub mod LogsLed
 pub mod LookOrders
 pub mod LooksFound
 pub mod LooksRight
+pub mod LooksTold
 pub mod Misplaced
 pub mod Owns
 pub mod PlaceSites

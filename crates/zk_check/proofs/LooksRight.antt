@@ -2,21 +2,24 @@
 use Rattle.std.proofs.Common.{◌≡◌, ◌⊎◌, ℕ, zero, suc, ◌+◌, ◌-◌, ◌<◌, ◌≤◌, Bool, true, false, ◌&&◌, cond, eqb, Option, Some, None, List, [], ◌∷◌, ◌++◌, length, map, take, drop, All, refl, sym, ap, subst, ◌∙◌, inl, inr, arith}
 use Rattle.std.specs.List.{slice_get}
 use Rattle.std.specs.Option.{option_map, option_map_or, option_and_then}
-use Rattle.std.proofs.lemmas.Bool.{cases_Bool, cases_lt, cond-true, cond-false, and_parts, and_from, eqb-true}
+use Rattle.std.proofs.lemmas.Bool.{cases_Bool, cases_lt, cases_eq, true≢false, cond-true, cond-false, and_parts, and_from, eqb-true}
 use Rattle.std.proofs.lemmas.Option.{same_Some, none-some, slice_get-map}
 use Rattle.zk_base.specs.declared.ids.Entry.{Entry}
+use Rattle.zk_base.specs.declared.seen.Seen.{Seen}
 use Rattle.zk_base.specs.History.{Rises}
 use Rattle.zk_base.proofs.Lists.{All-at}
 use Rattle.zk_line.proofs.Options.{one_part}
 use Rattle.zk_model_wait.specs.declared.signal.SignalOp.{SignalOp}
 use Rattle.zk_model_wait.specs.declared.signal.SignalReply.{SignalReply}
+use Rattle.zk_model_wait.specs.Signal.{value_at}
 use Rattle.zk_scenario.specs.Content.{Content}
 use Rattle.zk_worker.specs.declared.log.Log.{Log}
 use Rattle.zk_worker.specs.declared.steps.Spot.{Spot}
 use Rattle.zk_worker.specs.declared.steps.Spot.TheVariants as spots
 use Rattle.zk_worker.specs.Families.{entry_at}
-use Rattle.zk_worker.specs.Machines.{machines_of}
-use Rattle.zk_worker.specs.Right.{IsRight, stamp_at, NotOlder, LooksRight}
+use Rattle.zk_worker.specs.Looks.{writes_of}
+use Rattle.zk_worker.specs.Machines.{machines_of, flags_after}
+use Rattle.zk_worker.specs.Right.{IsRight, work_front, stamp_at, NotOlder, LooksRight}
 use Rattle.zk_worker.specs.Shown.{is_look, shown_at}
 use Rattle.zk_worker.specs.Single as single
 use Rattle.zk_trace.specs.declared.stood.Stood.{Stood}
@@ -63,7 +66,7 @@ rises-apart {O = O} {R = R} (x ∷ xs) zero (suc q) e f rises below first second
 rises-apart (x ∷ xs) (suc p) (suc q) e f rises below first second same = rises-apart xs p q e f rises.1 (omega arith) first second same
 
 -- an entry at an object's history
-entry-there : {O R : Type 0} (hs : List (List (Entry O R))) (object place : ℕ) (e : Entry O R) → entry_at hs object place ≡ Some e →
+pub entry-there : {O R : Type 0} (hs : List (List (Entry O R))) (object place : ℕ) (e : Entry O R) → entry_at hs object place ≡ Some e →
     (h : List (Entry O R)) × (slice_get hs object ≡ Some h) × (slice_get h place ≡ Some e)
 entry-there {O = O} {R = R} hs object place e there = by (slice_get hs object) refl there where
   by : (o : Option (List (Entry O R))) → slice_get hs object ≡ o → option_and_then (λ h. slice_get h place) o ≡ Some e →
@@ -233,3 +236,79 @@ module _ (s : Content) (t : Trace) (placed : IsPlaced s t)
         (writes-early (drop (suc line.step) steps) line.spot (λ k other there write.
           let at = sym (dropped-at (suc line.step) steps k) ∙ there in
           fits.later (line_at line.player (suc line.step + k) other) (row line.player (suc line.step + k) its.0 other its.1 at) refl (omega arith) write))
+
+-- A look fits where it can't be that it doesn't.
+
+stable-le : (a b : ℕ) → ((a ≤ b → ⊥) → ⊥) → a ≤ b
+stable-le a b never = by (cases_lt b a) where
+  by : ((b < a) ⊎ (a ≤ b)) → a ≤ b
+  by (inl above) = absurd (never (λ low. absurd (omega arith)))
+  by (inr low) = low
+
+stable-not_older : (a b : Spot) → ((NotOlder a b → ⊥) → ⊥) → NotOlder a b
+stable-not_older a (spots.LookItem item flags at) never = stable-le (work_front a) at never
+stable-not_older a (spots.LookSignal object seen) never = stable-le (stamp_at object a) seen.stamp never
+stable-not_older a (spots.Signal object p) never = stable-le (stamp_at object a) (p + 1) never
+stable-not_older a (spots.Work p) never = tt
+stable-not_older a (spots.Clock p) never = tt
+stable-not_older a (spots.Table p) never = tt
+stable-not_older a (spots.Sem o p) never = tt
+stable-not_older a (spots.Msgq o p) never = tt
+stable-not_older a (spots.Chan o p) never = tt
+stable-not_older a (spots.Obs o p) never = tt
+
+stable-some : (o : Option ℕ) (n : ℕ) → ((o ≡ Some n → ⊥) → ⊥) → o ≡ Some n
+stable-some None n never = absurd (never (λ is. none-some n is))
+stable-some (Some m) n never = by (cases_eq m n) where
+  by : ((m ≡ n) ⊎ (m ≡ n → ⊥)) → Some m ≡ Some n
+  by (inl same) = ap Some same
+  by (inr other) = absurd (never (λ is. other (same_Some m n is)))
+
+stable-seen : (a b : Seen) → ((a ≡ b → ⊥) → ⊥) → a ≡ b
+stable-seen a b never = by a.raised b.raised refl refl (cases_eq a.result b.result) (cases_eq a.stamp b.stamp) where
+  all : a.raised ≡ b.raised → a.result ≡ b.result → a.stamp ≡ b.stamp → a ≡ b
+  all raised result stamp =
+      ap (λ (r : Bool). record { raised = r; result = a.result; stamp = a.stamp }) raised
+      ∙ ap (λ (n : ℕ). record { raised = b.raised; result = n; stamp = a.stamp }) result
+      ∙ ap (λ (n : ℕ). record { raised = b.raised; result = b.result; stamp = n }) stamp
+
+  by : (r q : Bool) → a.raised ≡ r → b.raised ≡ q → ((a.result ≡ b.result) ⊎ (a.result ≡ b.result → ⊥)) → ((a.stamp ≡ b.stamp) ⊎ (a.stamp ≡ b.stamp → ⊥)) → a ≡ b
+  by r q is_r is_q result (inr other) = absurd (never (λ is. other (ap (λ (x : Seen). x.stamp) is)))
+  by r q is_r is_q (inr other) (inl stamp) = absurd (never (λ is. other (ap (λ (x : Seen). x.result) is)))
+  by true true is_r is_q (inl result) (inl stamp) = all (is_r ∙ sym is_q) result stamp
+  by false false is_r is_q (inl result) (inl stamp) = all (is_r ∙ sym is_q) result stamp
+  by true false is_r is_q (inl result) (inl stamp) = absurd (never (λ is. true≢false (sym is_r ∙ ap (λ (x : Seen). x.raised) is ∙ is_q)))
+  by false true is_r is_q (inl result) (inl stamp) = absurd (never (λ is. true≢false (sym is_q ∙ sym (ap (λ (x : Seen). x.raised) is) ∙ is_r)))
+
+stable-right : (s : Content) (t : Trace) (spot : Spot) → ((IsRight (machines_of s) (trace_shown t) spot → ⊥) → ⊥) → IsRight (machines_of s) (trace_shown t) spot
+stable-right s t (spots.LookItem object flags at) never = (
+  stable-le at (length t.work) (λ no. never (λ is. no is.0)),
+  stable-some (flags_after (machines_of s) (take at t.work) object) flags (λ no. never (λ is. no is.1)),
+)
+stable-right s t (spots.LookSignal object seen) never = by (slice_get t.signals object) refl where
+  by : (o : Option (List (Entry SignalOp SignalReply))) → slice_get t.signals object ≡ o → IsRight (machines_of s) (trace_shown t) (spots.LookSignal object seen)
+  by None is = absurd (never (λ right. none-some right.0 (sym is ∙ right.1)))
+  by (Some h) is =
+      let same : (right : IsRight (machines_of s) (trace_shown t) (spots.LookSignal object seen)) → right.0 ≡ h = λ right. same_Some right.0 h (sym right.1 ∙ is) in
+      (
+        h,
+        is,
+        stable-le seen.stamp (length h) (λ no. never (λ right. no (subst (λ (l : List (Entry SignalOp SignalReply)). seen.stamp ≤ length l) (same right) right.2))),
+        stable-seen (value_at (writes_of h) seen.stamp) seen
+            (λ no. never (λ right. no (subst (λ (l : List (Entry SignalOp SignalReply)). value_at (writes_of l) seen.stamp ≡ seen) (same right) right.3))),
+      )
+stable-right s t (spots.Work p) never = tt
+stable-right s t (spots.Clock p) never = tt
+stable-right s t (spots.Table p) never = tt
+stable-right s t (spots.Sem o p) never = tt
+stable-right s t (spots.Msgq o p) never = tt
+stable-right s t (spots.Signal o p) never = tt
+stable-right s t (spots.Chan o p) never = tt
+stable-right s t (spots.Obs o p) never = tt
+
+pub fits-stable : (s : Content) (t : Trace) (line : Stood) → ((LookFits s t line → ⊥) → ⊥) → LookFits s t line
+fits-stable s t line never = record {
+  right = stable-right s t line.spot (λ no. never (λ fits. no fits.right));
+  earlier = λ other there same below. stable-not_older other.spot line.spot (λ no. never (λ fits. no (fits.earlier other there same below)));
+  later = λ other there same above write. stable-not_older line.spot other.spot (λ no. never (λ fits. no (fits.later other there same above write)));
+}

@@ -1,5 +1,4 @@
-ghost use Rattle.std.specs.Prelude.{◌≡◌, ◌↔◌, ◌<◌, ◌≤◌, ℕ, true, Some, length, All, MatchOption, IfOk};
-ghost use Rattle.zk_base.specs.Limits.{most_entries};
+ghost use Rattle.std.specs.Prelude.{◌≡◌, ◌↔◌, ◌+◌, ◌^◌, ◌<◌, ◌≤◌, true, length, option_map, All, MatchOption, IfSome, IfOk};
 ghost use Rattle.zk_model_wait.specs.Signal.{written, value_at};
 ghost use Rattle.zk_trace.specs.Form.{IsInForm};
 ghost use Rattle.zk_trace.specs.History.{AreLegal};
@@ -132,7 +131,7 @@ fn all_orders(
 
 /// The row of a look at an item: these stand behind the entries of work.
 fn row_of_look(trace: &Trace, place: Option<usize>) -> Option<usize>
-    requires { IfSome place (λ place. place < length trace.now.item_looks) }
+    requires { IfSome place (λ place. length trace.now.work + place < 2 ^ 64) }
     ensures { result ≡ option_map (λ place. length trace.now.work + place) place }
 {
     match place {
@@ -156,11 +155,12 @@ pub fn look_failure(
         (AreRight scenario.now trace.now)
         (λ row. IsFirst (IsWrong scenario.now trace.now) row)) }
 {
+    let _valid = scenario.decls();
     let missed = first_missed(alloc, scenario, trace)?;
-    let missed = row_of_look(trace, missed);
+    let missed_row = row_of_look(trace, missed);
     let objects = trace.signals.items().len();
     let orders = all_orders(alloc, objects, trace.logs.items())?;
-    match first_unheld(trace.signals.items(), &orders, missed, rows) {
+    match first_unheld(trace.signals.items(), &orders, missed_row, rows) {
         Some(row) => Ok(Some(row as u64)),
         None => Ok(None),
     }
