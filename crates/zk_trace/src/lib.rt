@@ -51,9 +51,10 @@ mod words;
 mod work;
 mod work_read;
 
+pub use feed::line_count;
 pub use looks::{ItemLook, ItemLooks, SignalLook, SignalLooks};
 pub use print::{print_trace, put_trace};
 pub use read::{TraceRefused, read_trace};
 pub use sizes::trace_sizes;
-pub use stood::Stood;
+pub use stood::{Stood, stood};
 pub use trace::{Ending, Histories, History, Logs, Trace};

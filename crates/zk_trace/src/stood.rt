@@ -1,9 +1,10 @@
-ghost use Rattle.std.specs.Prelude.{◌≡◌, ◌^◌, ◌<◌, OnOk, length, map};
-ghost use Rattle.zk_trace.specs.Stood.{spot_at, spot_in, put_line, put_lines, entries_stood, histories_stood, item_look_stood, signal_look_stood, signals_stood};
+ghost use Rattle.std.specs.Prelude.{◌≡◌, ◌++◌, ◌^◌, ◌<◌, OnOk, IfOk, length, map};
+ghost use Rattle.zk_trace.specs.Stood.{AreFew, spot_at, spot_in, entries_stood, histories_stood, item_look_stood, signal_look_stood, signals_stood, stood};
 
-use crate::History;
 use crate::looks::{ItemLook, SignalLook};
 use crate::sections::looks_at;
+use crate::{History, Trace};
+use std::alloc::Global;
 use zk_base::{Entry, Listed, NoMemory};
 use zk_worker::Spot;
 
@@ -62,60 +63,45 @@ fn spot_in(family: Family, object: u32, place: u64) -> Spot
     }
 }
 
-/// Puts a line at the end of the list of its player, where there is one.
-fn put_line(lists: &mut Vec<Listed<Stood>>, line: Stood) -> Result<(), NoMemory>
-    ensures { OnOk result (lists.new.items ≡ put_line line.player line lists.old.items) }
-{
-    let player = line.player as usize;
-    if player < lists.len() {
-        lists[player].push(line)?;
-    }
-    Ok(())
-}
-
-/// Puts the lines of a history.
-pub fn put_entries<O, R>(
-    lists: &mut Vec<Listed<Stood>>,
+/// Adds the lines of a history.
+fn put_entries<O, R>(
+    lines: &mut Vec<Stood>,
     home: Home,
     entries: &[Entry<O, R>],
 ) -> Result<(), NoMemory>
-    ensures { OnOk result (lists.new.items ≡ put_lines (entries_stood home 0 entries.now) lists.old.items) }
+    ensures { OnOk result (lines.new.items ≡ lines.old.items ++ entries_stood home 0 entries.now) }
 {
     for (place, entry) in entries.iter().enumerate() {
-        let spot = spot_at(home, place as u64);
-        put_line(
-            lists,
-            Stood {
-                player: entry.who.number,
-                step: entry.step,
-                spot,
-            },
-        )?;
+        lines.push(Stood {
+            player: entry.who.number,
+            step: entry.step,
+            spot: spot_at(home, place as u64),
+        })?;
     }
     Ok(())
 }
 
-/// Puts the lines of the histories of a kind.
-pub fn put_histories<O, R>(
-    lists: &mut Vec<Listed<Stood>>,
+/// Adds the lines of the histories of a kind.
+fn put_histories<O, R>(
+    lines: &mut Vec<Stood>,
     family: Family,
     histories: &[History<O, R>],
 ) -> Result<(), NoMemory>
     requires { length histories.now < 2 ^ 32 }
-    ensures { OnOk result (lists.new.items ≡ put_lines (histories_stood family 0 histories.now) lists.old.items) }
+    ensures { OnOk result (lines.new.items ≡ lines.old.items ++ histories_stood family 0 histories.now) }
 {
     for (object, history) in histories.iter().enumerate() {
-        put_entries(lists, Home::Object(family, object as u32), history.items())?;
+        put_entries(lines, Home::Object(family, object as u32), history.items())?;
     }
     Ok(())
 }
 
-/// Puts the lines of the looks at items.
-pub fn put_item_looks(lists: &mut Vec<Listed<Stood>>, looks: &[ItemLook]) -> Result<(), NoMemory>
-    ensures { OnOk result (lists.new.items ≡ put_lines (map item_look_stood looks.now) lists.old.items) }
+/// Adds the lines of the looks at items.
+fn put_item_looks(lines: &mut Vec<Stood>, looks: &[ItemLook]) -> Result<(), NoMemory>
+    ensures { OnOk result (lines.new.items ≡ lines.old.items ++ map item_look_stood looks.now) }
 {
     for look in looks {
-        put_line(lists, item_look_stood(look))?;
+        lines.push(item_look_stood(look))?;
     }
     Ok(())
 }
@@ -140,33 +126,51 @@ fn signal_look_stood(object: u32, look: &SignalLook) -> Stood
     }
 }
 
-/// Puts the lines of the looks at a signal.
+/// Adds the lines of the looks at a signal.
 fn put_signal_looks(
-    lists: &mut Vec<Listed<Stood>>,
+    lines: &mut Vec<Stood>,
     object: u32,
     looks: &[SignalLook],
 ) -> Result<(), NoMemory>
-    ensures { OnOk result (lists.new.items ≡ put_lines (map (signal_look_stood object) looks.now) lists.old.items) }
+    ensures { OnOk result (lines.new.items ≡ lines.old.items ++ map (signal_look_stood object) looks.now) }
 {
     for look in looks {
-        put_line(lists, signal_look_stood(object, look))?;
+        lines.push(signal_look_stood(object, look))?;
     }
     Ok(())
 }
 
-/// Puts the lines of the signals: of each the writes, and then the looks.
-pub fn put_signals<O, R>(
-    lists: &mut Vec<Listed<Stood>>,
+/// Adds the lines of the signals: of each the writes, and then the looks.
+fn put_signals<O, R>(
+    lines: &mut Vec<Stood>,
     histories: &[History<O, R>],
     looks: &[Listed<SignalLook>],
 ) -> Result<(), NoMemory>
     requires { length histories.now < 2 ^ 32 }
-    ensures { OnOk result (lists.new.items ≡ put_lines (signals_stood looks.now 0 histories.now) lists.old.items) }
+    ensures { OnOk result (lines.new.items ≡ lines.old.items ++ signals_stood looks.now 0 histories.now) }
 {
     for (object, history) in histories.iter().enumerate() {
         let number = object as u32;
-        put_entries(lists, Home::Object(Family::Signal, number), history.items())?;
-        put_signal_looks(lists, number, looks_at(looks, object))?;
+        put_entries(lines, Home::Object(Family::Signal, number), history.items())?;
+        put_signal_looks(lines, number, looks_at(looks, object))?;
     }
     Ok(())
+}
+
+/// All lines of entries and looks of a trace, in the order of the text.
+pub fn stood(alloc: Global, trace: &Trace) -> Result<Vec<Stood>, NoMemory>
+    requires { AreFew trace.now }
+    ensures { IfOk result (λ lines. lines.items ≡ stood trace.now) }
+{
+    let mut lines = Vec::new(alloc);
+    put_entries(&mut lines, Home::Work, trace.work.items())?;
+    put_item_looks(&mut lines, trace.item_looks.items())?;
+    put_entries(&mut lines, Home::Clock, trace.clock.items())?;
+    put_entries(&mut lines, Home::Table, trace.table.items())?;
+    put_histories(&mut lines, Family::Sem, trace.sems.items())?;
+    put_histories(&mut lines, Family::Msgq, trace.msgqs.items())?;
+    put_signals(&mut lines, trace.signals.items(), trace.signal_looks.items())?;
+    put_histories(&mut lines, Family::Chan, trace.chans.items())?;
+    put_histories(&mut lines, Family::Obs, trace.observers.items())?;
+    Ok(lines)
 }
