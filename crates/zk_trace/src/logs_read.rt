@@ -108,7 +108,8 @@ pub fn read_logs(
     requires all { length players ≡ length (players_of scenario.now.decls) }
     ensures { IfOk result (λ logs. logs ≡ logs_of (stood trace.now) 0 players) }
 {
+    let lines = stood(alloc, trace)?;
     let mut lists = no_lines(alloc, scenario.players())?;
-    put_lines(&mut lists, &stood(alloc, trace)?)?;
+    put_lines(&mut lists, &lines)?;
     logs_with(alloc, lists, players)
 }
