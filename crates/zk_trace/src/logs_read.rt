@@ -5,7 +5,8 @@ ghost use Rattle.zk_base.specs.Order.{by_key};
 ghost use Rattle.zk_trace.specs.Stood.{AreFew, stood, sorted_spots, put_line, put_lines};
 ghost use Rattle.zk_trace.specs.WholeRead.{logs_of, logs_with};
 
-use crate::stood::{Stood, stood};
+use crate::standing::stood_lines;
+use crate::stood::Stood;
 use crate::trace::{Logs, Trace};
 use crate::whole_read::Players;
 use std::alloc::Global;
@@ -108,8 +109,9 @@ pub fn read_logs(
     requires all { length players ≡ length (players_of scenario.now.decls) }
     ensures { IfOk result (λ logs. logs ≡ logs_of (stood trace.now) 0 players) }
 {
-    let lines = stood(alloc, trace)?;
-    let mut lists = no_lines(alloc, scenario.players())?;
+    let count = scenario.players();
+    let mut lists = no_lines(alloc, count)?;
+    let lines = stood_lines(alloc, trace)?;
     put_lines(&mut lists, &lines)?;
     logs_with(alloc, lists, players)
 }

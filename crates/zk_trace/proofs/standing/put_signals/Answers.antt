@@ -4,7 +4,7 @@ use Rattle.zk_trace.specs.declared.stood.Home.TheVariants as homes
 use Rattle.zk_trace.specs.Stood.{entries_stood, signal_look_stood, signals_stood}
 use Rattle.zk_trace.specs.Text.{looks_at}
 use Rattle.zk_trace.proofs.StoodLists.{signals-on}
-use Rattle.zk_trace.proofs.stood.put_signals.Goals as goal
+use Rattle.zk_trace.proofs.standing.put_signals.Goals as goal
 
 pub loop-object-preserved : goal.loop-object-preserved
 loop-object-preserved g c =

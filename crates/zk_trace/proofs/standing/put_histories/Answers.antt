@@ -2,7 +2,7 @@ use Rattle.std.proofs.Common.{◌+◌, ◌++◌, drop, ap, ◌∙◌}
 use Rattle.zk_trace.specs.declared.stood.Home.TheVariants as homes
 use Rattle.zk_trace.specs.Stood.{entries_stood, histories_stood}
 use Rattle.zk_trace.proofs.StoodLists.{histories-on}
-use Rattle.zk_trace.proofs.stood.put_histories.Goals as goal
+use Rattle.zk_trace.proofs.standing.put_histories.Goals as goal
 
 pub loop-object-preserved : goal.loop-object-preserved
 loop-object-preserved g c =

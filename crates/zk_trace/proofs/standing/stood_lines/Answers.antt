@@ -1,5 +1,5 @@
 use Rattle.zk_trace.proofs.StoodLists.{all-stood}
-use Rattle.zk_trace.proofs.stood.stood.Goals as goal
+use Rattle.zk_trace.proofs.standing.stood_lines.Goals as goal
 
 pub returns : goal.returns
 returns c =
