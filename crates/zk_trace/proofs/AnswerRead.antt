@@ -28,7 +28,7 @@ use Rattle.zk_worker.specs.declared.answers.Answer.{Answer}
 use Rattle.zk_worker.specs.declared.answers.Answer.TheVariants as answers
 use Rattle.zk_worker.specs.declared.answers.Answered.{Answered}
 use Rattle.zk_trace.specs.AnswerRead.{all_calls, call_of, refusals, refusal_of, IsRefusal, oops_answer, IsOops, flags_answer, IsFlags, truth_answer, IsTruth, bytes_answer, IsBytes, can_be_value, value_words_of, signal_value, signal_answer, IsSignal, ready_answer, IsReady, channel_answer, IsChannel, number_answer, IsNumber, value_of, IsValue, answer_row, answer_of, FitsAnswer, answered_front, answered_front_of, answered, answered_row, answered_of, IsAnswered}
-use Rattle.zk_trace.specs.Choices.{IsIn}
+use Rattle.zk_blocks.specs.Choices.{IsIn}
 use Rattle.zk_trace.specs.Exact.{IsPlain, IsUnfed, IsExact, IsExactRow, AreExact}
 use Rattle.zk_trace.specs.Fields.{named, all_errnos, IsOf, IsMessage, ArePositions}
 use Rattle.zk_trace.specs.Looks.{raised_word}

@@ -55,7 +55,7 @@ use Rattle.zk_worker.specs.Refs.{ref_object, ref_number}
 use Rattle.zk_worker.specs.Replies.{work_answer, sem_answer, msgq_answer, chan_answer, obs_answer, table_answer, answer_of}
 use Rattle.zk_worker.specs.Waits.{opening_progress, wait_progress}
 use Rattle.zk_trace.specs.AnswerRead.{FitsAnswer}
-use Rattle.zk_trace.specs.Choices.{IsIn}
+use Rattle.zk_blocks.specs.Choices.{IsIn}
 use Rattle.zk_trace.specs.Work as work
 use Rattle.zk_trace.specs.WorkRead as work_read
 use Rattle.zk_trace.specs.Table as table

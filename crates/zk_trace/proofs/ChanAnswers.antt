@@ -25,7 +25,7 @@ use Rattle.zk_model_bus.specs.Channel.{Channel, unmasked, new_chan, holds, has_c
 use Rattle.zk_trace.specs.declared.chan.Verb.TheVariants as verbs
 use Rattle.zk_trace.specs.Chan.{said_of, reply_parts}
 use Rattle.zk_trace.specs.ChanRead.{FitsOp, AnswersTo}
-use Rattle.zk_trace.specs.Choices.{IsIn}
+use Rattle.zk_blocks.specs.Choices.{IsIn}
 use Rattle.zk_trace.specs.Fields.{IsOf, AreObservers}
 use Rattle.zk_trace.specs.Sized.{AreSized}
 use Rattle.zk_trace.proofs.DecidedWaits.{DecidedBy, none-decided, first_decided-by, ended-by, quitted-by, decision-by, quit-by}

@@ -19,7 +19,7 @@ use Rattle.zk_model_wait.specs.declared.msgq.MsgqReply.{MsgqReply}
 use Rattle.zk_model_wait.specs.declared.msgq.MsgqReply.TheVariants.{Done, NoMsg, Again, Bytes, Number, Noted, Plain}
 use Rattle.zk_model_wait.specs.Msgq.{Msgq, new_msgq, else_reply, put_reply, get_reply, peek_reply, poll_reply, msgq_reply, put_at_full, appended, put_to, moved_in, get_from, arm_at, msgq_changed, msgq_next, msgq_machine}
 use Rattle.zk_trace.specs.declared.msgq.Verb.TheVariants as verbs
-use Rattle.zk_trace.specs.Choices.{IsIn}
+use Rattle.zk_blocks.specs.Choices.{IsIn}
 use Rattle.zk_trace.specs.Fields.{IsMessage}
 use Rattle.zk_trace.specs.Msgq.{said_of, reply_parts}
 use Rattle.zk_trace.specs.MsgqRead.{IsBytes, FitsOp, AnswersTo}

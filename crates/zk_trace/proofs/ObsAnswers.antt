@@ -15,7 +15,7 @@ use Rattle.zk_model_bus.specs.declared.observer.ObsReply.{ObsReply}
 use Rattle.zk_model_bus.specs.declared.observer.ObsReply.TheVariants.{Off, Pushed, Full, Channel, Again, Done}
 use Rattle.zk_model_bus.specs.Observer.{Observer, new_obs, visit_reply, take_reply, obs_reply, listed, visited, taken, obs_changed, obs_next, obs_machine}
 use Rattle.zk_trace.specs.declared.obs.Verb.TheVariants as verbs
-use Rattle.zk_trace.specs.Choices.{IsIn}
+use Rattle.zk_blocks.specs.Choices.{IsIn}
 use Rattle.zk_trace.specs.Fields.{IsOf}
 use Rattle.zk_trace.specs.Obs.{said_of}
 use Rattle.zk_trace.specs.ObsRead.{IsChannel, FitsOp, AnswersTo}

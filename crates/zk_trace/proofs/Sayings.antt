@@ -1,20 +1,22 @@
 -- What is made of words that are read exactly is read exactly: operations by their verbs, and replies by those of a verb.
-use Rattle.std.proofs.Common.{◌≡◌, ◌⊎◌, ℕ, Bool, true, ◌&&◌, not, eqb, Option, Some, None, is_none, List, [], ◌∷◌, refl, sym, ap, subst, inl, inr, ◌∙◌}
+use Rattle.std.proofs.Common.{◌≡◌, ◌⊎◌, ℕ, Bool, true, ◌&&◌, not, eqb, Option, Some, None, is_none, List, [], ◌∷◌, map, refl, sym, ap, subst, inl, inr, ◌∙◌}
 use Rattle.std.specs.Prelude.{option_map, option_and_then, bytes_eq}
 use Rattle.std.specs.List.{AllByRecursion, list_all}
-use Rattle.std.proofs.lemmas.Bool.{and_parts}
+use Rattle.std.proofs.lemmas.Bool.{and_parts, false≢true}
 use Rattle.std.proofs.lemmas.Option.{same_Some, none-some, option_and_then_some}
 use Rattle.std.proofs.lemmas.List.Splits.{join_with_byte-slice_split}
 use Rattle.std.proofs.lemmas.Slice.Eq.{bytes_eq-Decides}
 use Rattle.zk_base.proofs.Lists.{find-passes}
+use Rattle.zk_blocks.specs.Apart.{IsNone, all_apart}
+use Rattle.zk_blocks.specs.Choices.{one_of, IsIn}
+use Rattle.zk_blocks.proofs.Apart.{differ}
+use Rattle.zk_blocks.proofs.Choices.{written, else_again, either}
 use Rattle.zk_words.specs.Bytes.{space, line_feed}
 use Rattle.zk_words.specs.Pieces.{words_of}
 use Rattle.zk_line.proofs.Options.{one_part}
-use Rattle.zk_trace.specs.Choices.{one_of, IsIn, IsNoText, all_differ}
 use Rattle.zk_words.specs.Text.{line_text}
 use Rattle.zk_trace.specs.Exact.{IsPlain, Lacks, IsUnfed, IsExact, IsExactRow, AreExact, IsSpelled}
 use Rattle.zk_trace.specs.Fields.{named, bare, one, two, three, behind, said_behind, said_by}
-use Rattle.zk_trace.proofs.Choices.{differ_is, written, else_again, either, apart}
 use Rattle.zk_trace.proofs.PlainWords.{lacks_is, each_lacks, pieces-join, unfed-line}
 use Rattle.zk_trace.proofs.Fields.{behind-again, behind-spelled}
 
@@ -175,7 +177,7 @@ module _ {V O : Type 0} (verb_word : V → List ℕ) (all : List V) (verb_of : O
 
 -- the replies that are the same in each line are written otherwise, each without a line feed
 abbrev pub is_table : {R : Type 0} → (R → List ℕ) → List R → Bool
-is_table text rs = all_differ bytes_eq text rs && list_all (λ r. list_all (λ b. not (eqb b line_feed)) (text r)) rs
+is_table text rs = all_apart bytes_eq (map text rs) && list_all (λ r. list_all (λ b. not (eqb b line_feed)) (text r)) rs
 
 unfed-in : {R : Type 0} (text : R → List ℕ) (rs : List R) (r : R) → list_all (λ r. list_all (λ b. not (eqb b line_feed)) (text r)) rs ≡ true → IsIn r rs → IsUnfed (text r)
 unfed-in text [] r unfed found = absurd found
@@ -188,35 +190,40 @@ unfed-in text (x ∷ rs) r unfed (inr more) =
 
 -- replies that are the same in each line, and others that are read exactly and are written as none of those, are read exactly
 pub replies_exact : {R : Type 0} (text : R → List ℕ) (FitsOpen : R → Type 0) (open_of : List ℕ → Option R) (fixed : List R)
-    → is_table text fixed ≡ true → IsExactRow text FitsOpen open_of → ((r : R) → FitsOpen r → IsNoText text (text r) fixed)
+    → is_table text fixed ≡ true → IsExactRow text FitsOpen open_of → ((r : R) → FitsOpen r → IsNone (text r) (map text fixed))
     → IsExactRow text (λ r. IsIn r fixed ⊎ FitsOpen r) (one_of bytes_eq text open_of fixed)
 replies_exact {R} text FitsOpen open_of fixed table exact other = record { again = again; spelled = spelled; unfed = unfed } where
-  same_is : (a b : List ℕ) → bytes_eq a b ≡ true → a ≡ b
-  same_is a b is = (bytes_eq-Decides a b).0 is
-
-  is_same : (a : List ℕ) → bytes_eq a a ≡ true
-  is_same a = (bytes_eq-Decides a a).1 refl
-
-  tabled : (all_differ bytes_eq text fixed ≡ true) × (list_all (λ r. list_all (λ b. not (eqb b line_feed)) (text r)) fixed ≡ true)
-  tabled = and_parts (all_differ bytes_eq text fixed) (list_all (λ r. list_all (λ b. not (eqb b line_feed)) (text r)) fixed) table
+  tabled : (all_apart bytes_eq (map text fixed) ≡ true) × (list_all (λ r. list_all (λ b. not (eqb b line_feed)) (text r)) fixed ≡ true)
+  tabled = and_parts (all_apart bytes_eq (map text fixed)) (list_all (λ r. list_all (λ b. not (eqb b line_feed)) (text r)) fixed) table
 
   again : (r : R) → IsIn r fixed ⊎ FitsOpen r → one_of bytes_eq text open_of fixed (text r) ≡ Some r
   again r (inl found) =
-      written {FitsElse = FitsOpen} same_is is_same exact.again exact.spelled fixed
-      (differ_is text (λ a b is. (bytes_eq-Decides a b).1 is) fixed tabled.0) r found
-  again r (inr fits) = else_again {FitsElse = FitsOpen} same_is is_same exact.again exact.spelled fixed r fits (other r fits)
+      written {FitsElse = FitsOpen} bytes_eq-Decides (record { again = exact.again; spelled = exact.spelled }) fixed
+      (differ bytes_eq-Decides (map text fixed) tabled.0) r found
+  again r (inr fits) = else_again {FitsElse = FitsOpen} bytes_eq-Decides (record { again = exact.again; spelled = exact.spelled }) fixed r fits (other r fits)
 
   spelled : (row : List ℕ) (r : R) → one_of bytes_eq text open_of fixed row ≡ Some r → (row ≡ text r) × (IsIn r fixed ⊎ FitsOpen r)
-  spelled row r said = either {FitsElse = FitsOpen} same_is is_same exact.again exact.spelled fixed row r said
+  spelled row r said = either {FitsElse = FitsOpen} bytes_eq-Decides (record { again = exact.again; spelled = exact.spelled }) fixed row r said
 
   unfed : (r : R) → IsIn r fixed ⊎ FitsOpen r → IsUnfed (text r)
   unfed r (inl found) = unfed-in text fixed r tabled.1 found
   unfed r (inr fits) = exact.unfed r fits
 
+-- what is read is written as none of those that are read as nothing else
+module _ {W R : Type 0} (text : R → W) (else_of : W → Option R) where
+  pub unread-none : (rs : List R) (w : W) (x : R) → else_of w ≡ Some x → list_all (λ r. is_none (else_of (text r))) rs ≡ true → IsNone w (map text rs)
+  unread-none [] w x is none = tt
+  unread-none (r ∷ rs) w x is none =
+      let parts = and_parts (is_none (else_of (text r))) (list_all (λ r. is_none (else_of (text r))) rs) none in
+      (λ same. said (else_of (text r)) parts.0 (sym (ap else_of same) ∙ is), unread-none rs w x is parts.1) where
+        said : (o : Option R) → is_none o ≡ true → o ≡ Some x → ⊥
+        said None none is = absurd (none-some x is)
+        said (Some y) none is = absurd (false≢true none)
+
 -- the others are written as none of those, where those are read as none of the others
 pub apart_by_reading : {R : Type 0} (text : R → List ℕ) (FitsOpen : R → Type 0) (open_of : List ℕ → Option R) (fixed : List R)
-    → IsExactRow text FitsOpen open_of → list_all (λ r. is_none (open_of (text r))) fixed ≡ true → (r : R) → FitsOpen r → IsNoText text (text r) fixed
-apart_by_reading text FitsOpen open_of fixed exact unread r fits = apart text open_of fixed (text r) r (exact.again r fits) unread
+    → IsExactRow text FitsOpen open_of → list_all (λ r. is_none (open_of (text r))) fixed ≡ true → (r : R) → FitsOpen r → IsNone (text r) (map text fixed)
+apart_by_reading text FitsOpen open_of fixed exact unread r fits = unread-none text open_of fixed (text r) r (exact.again r fits) unread
 
 -- A service.
 
@@ -228,7 +235,7 @@ pub service_spelled : {V O R : Type 0} (verb_word : V → List ℕ) (all : List 
     → ((v : V) (words : List (List ℕ)) (op : O) → op_behind v words ≡ Some op → SaysOp verb_of args FitsOp v words op)
     → ((v : V) → is_table (λ r. line_text (reply_words r)) (fixed v) ≡ true)
     → ((v : V) → IsExactRow (λ r. line_text (reply_words r)) (FitsOpen v) (open_of v))
-    → ((v : V) (r : R) → FitsOpen v r → IsNoText (λ r. line_text (reply_words r)) (line_text (reply_words r)) (fixed v))
+    → ((v : V) (r : R) → FitsOpen v r → IsNone (line_text (reply_words r)) (map (λ r. line_text (reply_words r)) (fixed v)))
     → IsSpelled (λ op. verb_word (verb_of op) ∷ args op) reply_words FitsOp (λ op r. IsIn r (fixed (verb_of op)) ⊎ FitsOpen (verb_of op) r)
     (said_by verb_word all op_behind) (λ op row. one_of bytes_eq (λ r. line_text (reply_words r)) (open_of (verb_of op)) (fixed (verb_of op)) row)
 service_spelled {V} {O} {R} verb_word all verb_of args FitsOp op_behind reply_words fixed FitsOpen open_of verbs there says table exact other = record {

@@ -12,7 +12,7 @@ use Rattle.zk_model_wait.specs.declared.sem.SemOp.TheVariants as ops
 use Rattle.zk_model_wait.specs.declared.sem.SemReply.{SemReply}
 use Rattle.zk_model_wait.specs.declared.sem.SemReply.TheVariants.{Got, Again, Done, Number, Noted, Plain}
 use Rattle.zk_model_wait.specs.Sem.{Sem, new_sem, take_reply, poll_reply, sem_reply, take_at, arm_at, give_to, sem_changed, sem_next, sem_machine}
-use Rattle.zk_trace.specs.Choices.{IsIn}
+use Rattle.zk_blocks.specs.Choices.{IsIn}
 use Rattle.zk_trace.specs.Sem.{said_of, reply_parts}
 use Rattle.zk_trace.specs.SemRead.{AnswersTo}
 use Rattle.zk_trace.specs.Sized.{AreSized}

@@ -30,57 +30,44 @@ put-past player line [] past = refl
 put-past zero line (l ∷ ls) past = absurd (omega arith)
 put-past (suc player) line (l ∷ ls) past = ap (λ x. l ∷ x) (put-past player line ls (omega arith))
 
--- lines and then others
-pub put-append : (xs ys : List Stood) (lists : List (List Stood)) → put_lines (xs ++ ys) lists ≡ put_lines ys (put_lines xs lists)
-put-append [] ys lists = refl
-put-append (x ∷ xs) ys lists = put-append xs ys (put_line x.player x lists)
-
 module _ {O R : Type 0} (hs : List (List (Entry O R))) (object : ℕ) (h : List (Entry O R)) (there : object < length hs) (is : h ≡ get_or hs object h) where
   next : drop object hs ≡ h ∷ drop (object + 1) hs
   next = drop-cons hs object h there ∙ ap (λ x. x ∷ drop (suc object) hs) (sym is) ∙ ap (λ n. h ∷ drop n hs) (sym (add-one object))
 
-  -- the lines of one history, and then those of the others
-  pub histories-on : (family : Family) (lists : List (List Stood)) →
-      put_lines (histories_stood family (object + 1) (drop (object + 1) hs)) (put_lines (entries_stood (homes.Object family object) 0 h) lists)
-      ≡ put_lines (histories_stood family object (drop object hs)) lists
-  histories-on family lists =
-      sym (ap (λ l. put_lines (histories_stood family object l) lists) next
-      ∙ put-append (entries_stood (homes.Object family object) 0 h) (histories_stood family (object + 1) (drop (object + 1) hs)) lists)
+  -- behind some lines those of one history, and then those of the others
+  pub histories-on : (family : Family) (lines : List Stood) →
+      lines ++ entries_stood (homes.Object family object) 0 h ++ histories_stood family (object + 1) (drop (object + 1) hs)
+      ≡ lines ++ histories_stood family object (drop object hs)
+  histories-on family lines =
+      append_assoc lines (entries_stood (homes.Object family object) 0 h) (histories_stood family (object + 1) (drop (object + 1) hs))
+      ∙ ap (λ l. lines ++ histories_stood family object l) (sym next)
 
   -- the same of signals, whose looks follow the writes
-  pub signals-on : (looks : List (List SignalLook)) (lists : List (List Stood)) →
-      put_lines (signals_stood looks (object + 1) (drop (object + 1) hs))
-      (put_lines (map (signal_look_stood object) (looks_at looks object)) (put_lines (entries_stood (homes.Object families.Signal object) 0 h) lists))
-      ≡ put_lines (signals_stood looks object (drop object hs)) lists
-  signals-on looks lists =
+  pub signals-on : (looks : List (List SignalLook)) (lines : List Stood) →
+      lines ++ entries_stood (homes.Object families.Signal object) 0 h ++ map (signal_look_stood object) (looks_at looks object)
+      ++ signals_stood looks (object + 1) (drop (object + 1) hs)
+      ≡ lines ++ signals_stood looks object (drop object hs)
+  signals-on looks lines =
       let writes = entries_stood (homes.Object families.Signal object) 0 h in
       let seen = map (signal_look_stood object) (looks_at looks object) in
       let more = signals_stood looks (object + 1) (drop (object + 1) hs) in
-      sym (ap (λ l. put_lines (signals_stood looks object l) lists) next
-      ∙ put-append (writes ++ seen) more lists ∙ ap (put_lines more) (put-append writes seen lists))
+      ap (λ l. l ++ more) (append_assoc lines writes seen) ∙ append_assoc lines (writes ++ seen) more
+      ∙ ap (λ l. lines ++ signals_stood looks object l) (sym next)
 
 -- all lines of a trace, part by part
-pub all-put : (t : Trace) (start a b c d e f g h end : List (List Stood)) →
-    a ≡ put_lines (entries_stood homes.Work 0 t.work) start → b ≡ put_lines (map item_look_stood t.item_looks) a → c ≡ put_lines (entries_stood homes.Clock 0 t.clock) b →
-    d ≡ put_lines (entries_stood homes.Table 0 t.table) c → e ≡ put_lines (histories_stood families.Sem 0 t.sems) d → f ≡ put_lines (histories_stood families.Msgq 0 t.msgqs) e →
-    g ≡ put_lines (signals_stood t.signal_looks 0 t.signals) f → h ≡ put_lines (histories_stood families.Chan 0 t.chans) g → end ≡ put_lines (histories_stood families.Obs 0 t.observers) h →
-    end ≡ put_lines (stood t) start
-all-put t start a b c d e f g h end is_a is_b is_c is_d is_e is_f is_g is_h is_end =
-    let work = entries_stood homes.Work 0 t.work in
-    let looks = map item_look_stood t.item_looks in
-    let clock = entries_stood homes.Clock 0 t.clock in
-    let table = entries_stood homes.Table 0 t.table in
-    let sems = histories_stood families.Sem 0 t.sems in
-    let msgqs = histories_stood families.Msgq 0 t.msgqs in
-    let signals = signals_stood t.signal_looks 0 t.signals in
-    let chans = histories_stood families.Chan 0 t.chans in
-    let observers = histories_stood families.Obs 0 t.observers in
-    is_end ∙ ap (put_lines observers)
-    (is_h ∙ ap (put_lines chans) (is_g ∙ ap (put_lines signals) (is_f ∙ ap (put_lines msgqs) (is_e ∙ ap (put_lines sems) (is_d ∙ ap (put_lines table) (is_c ∙ ap (put_lines clock) (is_b ∙ ap (put_lines looks) is_a)))))))
-    ∙ sym (parts work looks clock table sems msgqs signals chans observers start) where
-      parts : (a b c d e f g h i : List Stood) (lists : List (List Stood)) →
-          put_lines (a ++ b ++ c ++ d ++ e ++ f ++ g ++ h ++ i) lists ≡ put_lines i (put_lines h (put_lines g (put_lines f (put_lines e (put_lines d (put_lines c (put_lines b (put_lines a lists))))))))
-      parts a b c d e f g h i lists = simp put-append
+pub all-stood : (t : Trace) (start a b c d e f g h end : List Stood) → start ≡ [] →
+    a ≡ start ++ entries_stood homes.Work 0 t.work → b ≡ a ++ map item_look_stood t.item_looks → c ≡ b ++ entries_stood homes.Clock 0 t.clock →
+    d ≡ c ++ entries_stood homes.Table 0 t.table → e ≡ d ++ histories_stood families.Sem 0 t.sems → f ≡ e ++ histories_stood families.Msgq 0 t.msgqs →
+    g ≡ f ++ signals_stood t.signal_looks 0 t.signals → h ≡ g ++ histories_stood families.Chan 0 t.chans → end ≡ h ++ histories_stood families.Obs 0 t.observers →
+    end ≡ stood t
+all-stood t start a b c d e f g h end empty is_a is_b is_c is_d is_e is_f is_g is_h is_end =
+    is_end ∙ behind (histories_stood families.Obs 0 t.observers) (is_h ∙ behind (histories_stood families.Chan 0 t.chans)
+    (is_g ∙ behind (signals_stood t.signal_looks 0 t.signals) (is_f ∙ behind (histories_stood families.Msgq 0 t.msgqs)
+    (is_e ∙ behind (histories_stood families.Sem 0 t.sems) (is_d ∙ behind (entries_stood homes.Table 0 t.table)
+    (is_c ∙ behind (entries_stood homes.Clock 0 t.clock) (is_b ∙ behind (map item_look_stood t.item_looks)
+    (is_a ∙ behind (entries_stood homes.Work 0 t.work) empty)))))))) where
+      behind : (more : List Stood) {x y : List Stood} → x ≡ y → x ++ more ≡ y ++ more
+      behind more is = ap (λ l. l ++ more) is
 
 -- What stands in each list.
 

@@ -1,11 +1,15 @@
 -- What became of submissions is read exactly, and so are delays that ended.
-use Rattle.std.proofs.Common.{◌≡◌, ℕ, true, false, cond, eqb, Some, None, List, [], ◌∷◌, map, refl, sym, ap, subst, inl, inr, ◌∙◌}
+use Rattle.std.proofs.Common.{◌≡◌, ℕ, true, false, cond, eqb, Decides, Some, None, List, [], ◌∷◌, map, refl, sym, ap, subst, inl, inr, ◌∙◌}
 use Rattle.std.specs.Prelude.{option_map, option_and_then, bytes_eq}
 use Rattle.std.specs.List.{AllByRecursion, join_with_byte}
 use Rattle.std.proofs.lemmas.Bool.{cases_Bool, cond-true, cond-false}
 use Rattle.std.proofs.lemmas.Option.{none-some, option_and_then_some}
 use Rattle.std.proofs.lemmas.List.Splits.{join_with_byte-slice_split}
 use Rattle.std.proofs.lemmas.Slice.Eq.{bytes_eq-Decides, slice_eq-Decides}
+use Rattle.zk_blocks.specs.Choices.{IsIn}
+use Rattle.zk_blocks.specs.Exact as block
+use Rattle.zk_blocks.proofs.Apart.{differ}
+use Rattle.zk_blocks.proofs.Choices.{written, else_again, either}
 use Rattle.zk_words.specs.Bytes.{colon}
 use Rattle.zk_words.specs.Pieces.{pieces_between}
 use Rattle.zk_line.specs.declared.types.Decl.{Decl}
@@ -15,18 +19,16 @@ use Rattle.zk_model_work.specs.declared.ops.Expiry.{Expiry}
 use Rattle.zk_model_work.specs.declared.ops.Submitted.{Submitted}
 use Rattle.zk_model_work.specs.declared.ops.Submitted.TheVariants as submissions
 use Rattle.zk_trace.specs.declared.parts.FixedWord.TheVariants.{One, Two}
-use Rattle.zk_trace.specs.Choices.{IsIn}
 use Rattle.zk_trace.specs.Exact.{is_plain, IsPlain, Lacks}
 use Rattle.zk_trace.specs.Fields.{two, admission_of, item_of, queue_of}
 use Rattle.zk_trace.specs.Names.{item_name}
 use Rattle.zk_trace.specs.Parts.{fixed_word}
 use Rattle.zk_trace.specs.Work.{expiry_word}
 use Rattle.zk_trace.specs.WorkRead.{submitted_words, admitted_of, FitsAdmitted, fixed_submissions, words_eq, submission_of, IsSubmission, expiry, expiry_by, expiry_of, IsExpiry}
-use Rattle.zk_trace.proofs.Choices.{differ_is, written, else_again, either, apart}
 use Rattle.zk_trace.proofs.NameWords.{item_exact, queue_exact}
 use Rattle.zk_trace.proofs.NumberWords.{admission_exact}
 use Rattle.zk_trace.proofs.PlainWords.{lacks-join, each_lacks, pieces-join}
-use Rattle.zk_trace.proofs.Sayings.{AreRead, two-there, two-says}
+use Rattle.zk_trace.proofs.Sayings.{AreRead, two-there, two-says, unread-none}
 
 module _ (decls : List Decl) (are : AreNames decls) where
   -- what was admitted
@@ -58,24 +60,21 @@ module _ (decls : List Decl) (are : AreNames decls) where
       | inr none ↦ absurd (none-some s (sym (cond-false (bytes_eq answer (fixed_word Two)) (two submissions.Rerun admission_of (queue_of decls) words) None none) ∙ said))
     ]
 
+  admitted_exact : block.IsExact (submitted_words decls) (FitsAdmitted decls) (admitted_of decls)
+  admitted_exact = record { again = λ s fits. (admitted-there s fits).0; spelled = admitted-says }
+
+  same_words : (a b : List (List ℕ)) → Decides (words_eq a b) (a ≡ b)
+  same_words a b = slice_eq-Decides bytes_eq-Decides a b (words_eq a b) refl
+
   -- what became of a submission by nobody
-  words_same : (a b : List (List ℕ)) → words_eq a b ≡ true → a ≡ b
-  words_same a b is = (slice_eq-Decides bytes_eq-Decides a b (words_eq a b) refl).0 is
-
-  same_words : (a b : List (List ℕ)) → a ≡ b → words_eq a b ≡ true
-  same_words a b is = (slice_eq-Decides bytes_eq-Decides a b (words_eq a b) refl).1 is
-
   submission-again : (s : Submitted) → IsSubmission decls s → submission_of decls (submitted_words decls s) ≡ Some s
-  submission-again s (inl found) =
-      written {FitsElse = FitsAdmitted decls} words_same (λ a. same_words a a refl) (λ s fits. (admitted-there s fits).0) admitted-says fixed_submissions
-      (differ_is (submitted_words decls) same_words fixed_submissions refl) s found
+  submission-again s (inl found) = written same_words admitted_exact fixed_submissions (differ same_words (map (submitted_words decls) fixed_submissions) refl) s found
   submission-again s (inr fits) =
-      else_again {FitsElse = FitsAdmitted decls} words_same (λ a. same_words a a refl) (λ s fits. (admitted-there s fits).0) admitted-says fixed_submissions s fits
-      (apart (submitted_words decls) (admitted_of decls) fixed_submissions (submitted_words decls s) s (admitted-there s fits).0 refl)
+      else_again same_words admitted_exact fixed_submissions s fits
+      (unread-none (submitted_words decls) (admitted_of decls) fixed_submissions (submitted_words decls s) s (admitted-there s fits).0 refl)
 
   submission-says : (words : List (List ℕ)) (s : Submitted) → submission_of decls words ≡ Some s → (words ≡ submitted_words decls s) × IsSubmission decls s
-  submission-says words s said =
-      either {FitsElse = FitsAdmitted decls} words_same (λ a. same_words a a refl) (λ s fits. (admitted-there s fits).0) admitted-says fixed_submissions words s said
+  submission-says words s said = either same_words admitted_exact fixed_submissions words s said
 
   fixed-plain : (s : Submitted) → IsIn s fixed_submissions → AllByRecursion IsPlain (submitted_words decls s)
   fixed-plain s (inl is) = subst (λ x. AllByRecursion IsPlain (submitted_words decls x)) (sym is) (refl, tt)

@@ -18,7 +18,7 @@ use Rattle.zk_worker.specs.declared.steps.Step.TheVariants as steps
 use Rattle.zk_worker.specs.declared.steps.StepReply.{StepReply}
 use Rattle.zk_worker.specs.declared.steps.StepReply.TheVariants as step_replies
 use Rattle.zk_trace.specs.AnswerRead.{FitsAnswer}
-use Rattle.zk_trace.specs.Choices.{IsIn}
+use Rattle.zk_blocks.specs.Choices.{IsIn}
 use Rattle.zk_trace.specs.LookRead.{can_be_seen}
 use Rattle.zk_trace.specs.Parts.{answer_part}
 use Rattle.zk_trace.specs.Sized.{IsSizedPart}

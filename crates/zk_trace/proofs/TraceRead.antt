@@ -1,28 +1,28 @@
 -- A trace in form is read again from its text; what is read is in form and has this text; and where the reading ends before, no right text goes on.
-use Rattle.std.proofs.Common.{◌≡◌, ℕ, ◌+◌, ◌-◌, ◌^◌, ◌≤◌, ◌<◌, Option, Some, None, List, [], ◌∷◌, ◌++◌, length, length-append, arith, refl, sym, ap, subst, ◌∙◌}
+use Rattle.std.proofs.Common.{◌≡◌, ℕ, ◌+◌, ◌-◌, ◌≤◌, ◌<◌, Option, Some, None, List, [], ◌∷◌, ◌++◌, length, length-append, arith, refl, sym, ap, subst, ◌∙◌}
 use Rattle.std.specs.Prelude.{option_map, Result, Err}
-use Rattle.std.specs.List.{AllByRecursion}
 use Rattle.std.proofs.lemmas.List.FromFn.{length-range_with_len}
 use Rattle.std.proofs.lemmas.Option.{same_Some, none-some}
-use Rattle.zk_blocks.specs.Blocks.{made_of, FitsGiven}
+use Rattle.zk_blocks.specs.Blocks.{made_of}
 use Rattle.zk_blocks.specs.Cut.{fed_lines, cut_of, IsRead, IsTextOf, FailsAt}
 use Rattle.zk_blocks.proofs.Blocks.{pair}
 use Rattle.zk_blocks.proofs.Each.{each_fits-length}
 use Rattle.zk_blocks.proofs.Texts.{text_again, text_spelled, one_meaning, fails}
-use Rattle.zk_line.specs.Objects.{AreNames, is_sem, is_msgq, is_signal, is_chan, is_observer}
+use Rattle.zk_line.specs.Objects.{AreNames}
 use Rattle.zk_scenario.specs.Content.{Content}
 use Rattle.zk_scenario.specs.Players.{players}
+use Rattle.zk_scenario.specs.Valid.{IsValid}
 use Rattle.zk_words.specs.Bytes.{line_feed}
 use Rattle.zk_trace.specs.declared.read.TraceRefused.{TraceRefused}
 use Rattle.zk_trace.specs.declared.read.TraceRefused.TheVariants.{At}
 use Rattle.zk_trace.specs.declared.trace.Trace.{Trace}
-use Rattle.zk_trace.specs.EntryKinds.{IsSem, IsMsgq, IsSignal, IsChan, IsObs}
 use Rattle.zk_trace.specs.Feeds.{lines_in}
 use Rattle.zk_trace.specs.Form.{player_numbers, IsInForm}
 use Rattle.zk_trace.specs.Stood.{AreFew}
 use Rattle.zk_trace.specs.Text.{trace_text}
 use Rattle.zk_trace.specs.TraceRead.{IsTraceText, IfAt, line_number, IsRefusedAt}
 use Rattle.zk_trace.specs.WholeRead.{Whole, read_whole, trace_of, trace_lines, read_trace}
+use Rattle.zk_trace.proofs.FewObjects.{form-few}
 use Rattle.zk_trace.proofs.FormWhole.{made_in_form, trace_block}
 use Rattle.zk_trace.proofs.TraceText.{text-lines}
 use Rattle.zk_trace.proofs.TraceUnfed.{trace-unfed}
@@ -95,18 +95,8 @@ module _ (s : Content) (are : AreNames s.decls) where
       sym (each_fits-length (λ player. FitPlayer s.decls) (player_numbers s.decls) w.1.1.1.1 fits.1.1.1.1) ∙ length-range_with_len 0 (length (players s.decls))
 
   -- and its objects have numbers of 32 bits
-  pub whole-few : length s.decls < 2 ^ 32 → (lines left : List (List ℕ)) (w : Whole) → read_whole s.decls lines ≡ (Some w, left) → AreFew (trace_of w)
-  whole-few few lines left w is =
-      let decls = s.decls in
-      let t = trace_of w in
-      let form = made_in_form s are w ((whole decls are).spelled lines left w is).1 in
-      record {
-        sems = omega (arith, each_fits-length (λ d. FitsGiven (is_sem d) [] (AllByRecursion (IsSem decls))) decls t.sems form.sems);
-        msgqs = omega (arith, each_fits-length (λ d. FitsGiven (is_msgq d) [] (AllByRecursion (IsMsgq decls))) decls t.msgqs form.msgqs);
-        signals = omega (arith, each_fits-length (λ d. FitsGiven (is_signal d) [] (AllByRecursion (IsSignal decls))) decls t.signals form.signals);
-        chans = omega (arith, each_fits-length (λ d. FitsGiven (is_chan d) [] (AllByRecursion (IsChan decls))) decls t.chans form.chans);
-        observers = omega (arith, each_fits-length (λ d. FitsGiven (is_observer d) [] (AllByRecursion (IsObs decls))) decls t.observers form.observers);
-      }
+  pub whole-few : IsValid s → (lines left : List (List ℕ)) (w : Whole) → read_whole s.decls lines ≡ (Some w, left) → AreFew (trace_of w)
+  whole-few valid lines left w is = form-few s (trace_of w) (made_in_form s are w ((whole s.decls are).spelled lines left w is).1) valid
 
   module _ (text : List ℕ) (left : List (List ℕ)) where
     -- what is made of what was read

@@ -30,7 +30,7 @@ use Rattle.zk_model_work.specs.Machine.{submit, submission_in, cancel, flags_of,
 use Rattle.zk_model_work.specs.Questions.{runs_as, running, last_queue, line, due, deadline_of, is_empty_and_idle, weight, busy_flags, item_of}
 use Rattle.zk_model_work.specs.State.{State}
 use Rattle.zk_trace.specs.declared.work.Verb.TheVariants as verbs
-use Rattle.zk_trace.specs.Choices.{IsIn}
+use Rattle.zk_blocks.specs.Choices.{IsIn}
 use Rattle.zk_trace.specs.Fields.{IsItem, IsQueue}
 use Rattle.zk_trace.specs.Sized.{AreSized, IsSizedExpiry, IsSizedWork}
 use Rattle.zk_trace.specs.Work.{said_of, submitted_parts}

@@ -11,7 +11,7 @@ use Rattle.zk_line.specs.Objects.{is_chan}
 use Rattle.zk_worker.specs.declared.answers.Answer.{Answer}
 use Rattle.zk_worker.specs.declared.answers.Answer.TheVariants as answers
 use Rattle.zk_worker.specs.declared.answers.Answered.{Answered}
-use Rattle.zk_trace.specs.Choices.{IsIn}
+use Rattle.zk_blocks.specs.Choices.{IsIn}
 use Rattle.zk_trace.specs.Fields.{named, two, wide_of, narrow_of, short_of, flags_of, truth_of, ready_of, oops_of, chan_of, IsOf, IsMessage, ArePositions}
 use Rattle.zk_trace.specs.LookRead.{raised_of, can_be}
 use Rattle.zk_trace.specs.Parts.{part_word, answer_part}

@@ -11,7 +11,7 @@ use Rattle.zk_model_bus.specs.declared.channel.ChanReply.TheVariants as replies
 use Rattle.zk_trace.specs.declared.chan.Verb.{Verb}
 use Rattle.zk_trace.specs.declared.chan.Verb.TheVariants as verbs
 use Rattle.zk_trace.specs.Chan.{verb_word, reply_words}
-use Rattle.zk_trace.specs.Choices.{one_of, IsIn}
+use Rattle.zk_blocks.specs.Choices.{one_of, IsIn}
 use Rattle.zk_trace.specs.Fields.{named, bare, one, two, said_by, wide_of, waits_of, state_of, observer_of, observers_of, IsOf, IsMessage, AreObservers}
 
 -- all verbs

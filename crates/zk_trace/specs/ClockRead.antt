@@ -10,7 +10,7 @@ use Rattle.zk_model_wait.specs.declared.clock.ClockReply.TheVariants as replies
 use Rattle.zk_trace.specs.declared.clock.Verb.{Verb}
 use Rattle.zk_trace.specs.declared.clock.Verb.TheVariants as verbs
 use Rattle.zk_trace.specs.declared.parts.FixedWord.TheVariants.{Now, At}
-use Rattle.zk_trace.specs.Choices.{one_of, IsIn}
+use Rattle.zk_blocks.specs.Choices.{one_of, IsIn}
 use Rattle.zk_trace.specs.Clock.{verb_word, reply_words}
 use Rattle.zk_trace.specs.Fields.{named, one, said_behind, said_by, wide_of, narrow_of}
 use Rattle.zk_trace.specs.Parts.{fixed_word}

@@ -40,7 +40,6 @@ pub mod Look
 pub mod Ending
 pub mod Lawful
 pub mod Exact
-pub mod Choices
 pub mod Fields
 pub mod Sized
 pub mod SemRead

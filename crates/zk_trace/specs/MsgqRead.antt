@@ -9,7 +9,7 @@ use Rattle.zk_model_wait.specs.declared.msgq.MsgqReply.{MsgqReply}
 use Rattle.zk_model_wait.specs.declared.msgq.MsgqReply.TheVariants as replies
 use Rattle.zk_trace.specs.declared.msgq.Verb.{Verb}
 use Rattle.zk_trace.specs.declared.msgq.Verb.TheVariants as verbs
-use Rattle.zk_trace.specs.Choices.{one_of, IsIn}
+use Rattle.zk_blocks.specs.Choices.{one_of, IsIn}
 use Rattle.zk_trace.specs.Fields.{named, bare, one, two, said_by, wide_of, narrow_of, waits_of, IsMessage}
 use Rattle.zk_trace.specs.Msgq.{verb_word, reply_words}
 

@@ -9,7 +9,7 @@ use Rattle.zk_model_bus.specs.declared.observer.ObsReply.{ObsReply}
 use Rattle.zk_model_bus.specs.declared.observer.ObsReply.TheVariants as replies
 use Rattle.zk_trace.specs.declared.obs.Verb.{Verb}
 use Rattle.zk_trace.specs.declared.obs.Verb.TheVariants as verbs
-use Rattle.zk_trace.specs.Choices.{one_of, IsIn}
+use Rattle.zk_blocks.specs.Choices.{one_of, IsIn}
 use Rattle.zk_trace.specs.Fields.{named, one, said_by, wide_of, waits_of, state_of, chan_of, IsOf}
 use Rattle.zk_trace.specs.Obs.{verb_word, reply_words}
 

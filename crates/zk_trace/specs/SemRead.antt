@@ -8,7 +8,7 @@ use Rattle.zk_model_wait.specs.declared.sem.SemReply.{SemReply}
 use Rattle.zk_model_wait.specs.declared.sem.SemReply.TheVariants as replies
 use Rattle.zk_trace.specs.declared.sem.Verb.{Verb}
 use Rattle.zk_trace.specs.declared.sem.Verb.TheVariants as verbs
-use Rattle.zk_trace.specs.Choices.{one_of, IsIn}
+use Rattle.zk_blocks.specs.Choices.{one_of, IsIn}
 use Rattle.zk_trace.specs.Fields.{named, bare, one, said_by, wide_of, narrow_of, waits_of}
 use Rattle.zk_trace.specs.Sem.{verb_word, reply_words}
 

@@ -8,7 +8,7 @@ use Rattle.zk_model_wait.specs.declared.signal.SignalReply.{SignalReply}
 use Rattle.zk_model_wait.specs.declared.signal.SignalReply.TheVariants as replies
 use Rattle.zk_trace.specs.declared.signal.Verb.{Verb}
 use Rattle.zk_trace.specs.declared.signal.Verb.TheVariants as verbs
-use Rattle.zk_trace.specs.Choices.{one_of, IsIn}
+use Rattle.zk_blocks.specs.Choices.{one_of, IsIn}
 use Rattle.zk_trace.specs.Fields.{named, bare, one, said_by, short_of, narrow_of}
 use Rattle.zk_trace.specs.Signal.{verb_word, reply_words}
 

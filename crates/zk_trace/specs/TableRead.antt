@@ -9,7 +9,7 @@ use Rattle.zk_model_bus.specs.declared.table.TableReply.{TableReply}
 use Rattle.zk_model_bus.specs.declared.table.TableReply.TheVariants as replies
 use Rattle.zk_trace.specs.declared.table.Verb.{Verb}
 use Rattle.zk_trace.specs.declared.table.Verb.TheVariants as verbs
-use Rattle.zk_trace.specs.Choices.{one_of, IsIn}
+use Rattle.zk_blocks.specs.Choices.{one_of, IsIn}
 use Rattle.zk_trace.specs.Fields.{named, bare, one, two, said_by, need_of, thread_of, checked_of, oops_of, IsOf, IsObject, IsChecked}
 use Rattle.zk_trace.specs.Table.{verb_word, reply_words}
 

@@ -17,7 +17,7 @@ use Rattle.zk_model_work.specs.declared.ops.WorkReply.TheVariants as replies
 use Rattle.zk_trace.specs.declared.parts.FixedWord.TheVariants.{One, Two, Wait, Now}
 use Rattle.zk_trace.specs.declared.work.Verb.{Verb}
 use Rattle.zk_trace.specs.declared.work.Verb.TheVariants as verbs
-use Rattle.zk_trace.specs.Choices.{one_of, IsIn}
+use Rattle.zk_blocks.specs.Choices.{one_of, IsIn}
 use Rattle.zk_trace.specs.Fields.{named, one, two, three, each_of, said_behind, said_by, wide_of, narrow_of, admission_of, item_of, queue_of, target_of, plug_of, flags_of, IsItem, IsQueue, IsTarget}
 use Rattle.zk_trace.specs.Parts.{part_word, fixed_word}
 use Rattle.zk_trace.specs.Work.{verb_word, submitted_parts, reply_words}

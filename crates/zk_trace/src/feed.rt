@@ -60,6 +60,13 @@ impl<'a> Feed<'a> {
     }
 }
 
+/// How many lines of a text have their line feed.
+pub fn line_count(text: &[u8]) -> usize
+    ensures { result ≡ length (lines_in text.now) }
+{
+    Feed::of(text).left()
+}
+
 fn count_of(byte: u8, text: &[u8]) -> usize
     ensures { result ≡ count_by (λ b. b == byte) text.now }
 {

@@ -2,10 +2,11 @@ ghost use Rattle.std.specs.Prelude.{◌≡◌, ℕ, List, [], ◌∷◌, map, le
 ghost use Rattle.std.specs.List.{range_with_len};
 ghost use Rattle.zk_scenario.specs.Players.{players as players_of};
 ghost use Rattle.zk_base.specs.Order.{by_key};
-ghost use Rattle.zk_trace.specs.Stood.{AreFew, stood, sorted_spots, put_lines};
+ghost use Rattle.zk_trace.specs.Stood.{AreFew, stood, sorted_spots, put_line, put_lines};
 ghost use Rattle.zk_trace.specs.WholeRead.{logs_of, logs_with};
 
-use crate::stood::{Family, Home, Stood, put_entries, put_histories, put_item_looks, put_signals};
+use crate::standing::stood_lines;
+use crate::stood::Stood;
 use crate::trace::{Logs, Trace};
 use crate::whole_read::Players;
 use std::alloc::Global;
@@ -76,20 +77,25 @@ fn no_lines(alloc: Global, count: u32) -> Result<Vec<Listed<Stood>>, NoMemory>
     Ok(lists)
 }
 
-/// Puts all lines of entries and looks of a trace.
-fn put_trace_lines(lists: &mut Vec<Listed<Stood>>, trace: &Trace) -> Result<(), NoMemory>
-    requires { AreFew trace.now }
-    ensures { OnOk result (lists.new.items ≡ put_lines (stood trace.now) lists.old.items) }
+/// Puts a line at the end of the list of its player, where there is one.
+fn put_line(lists: &mut Vec<Listed<Stood>>, line: Stood) -> Result<(), NoMemory>
+    ensures { OnOk result (lists.new.items ≡ put_line line.player line lists.old.items) }
 {
-    put_entries(lists, Home::Work, trace.work.items())?;
-    put_item_looks(lists, trace.item_looks.items())?;
-    put_entries(lists, Home::Clock, trace.clock.items())?;
-    put_entries(lists, Home::Table, trace.table.items())?;
-    put_histories(lists, Family::Sem, trace.sems.items())?;
-    put_histories(lists, Family::Msgq, trace.msgqs.items())?;
-    put_signals(lists, trace.signals.items(), trace.signal_looks.items())?;
-    put_histories(lists, Family::Chan, trace.chans.items())?;
-    put_histories(lists, Family::Obs, trace.observers.items())
+    let player = line.player as usize;
+    if player < lists.len() {
+        lists[player].push(line)?;
+    }
+    Ok(())
+}
+
+/// Puts lines one after another, each in the list of its player.
+fn put_lines(lists: &mut Vec<Listed<Stood>>, lines: &[Stood]) -> Result<(), NoMemory>
+    ensures { OnOk result (lists.new.items ≡ put_lines lines.now lists.old.items) }
+{
+    for line in lines {
+        put_line(lists, *line)?;
+    }
+    Ok(())
 }
 
 /// The log of each player of a trace without logs, by how each stands and what it was answered.
@@ -103,7 +109,9 @@ pub fn read_logs(
     requires all { length players ≡ length (players_of scenario.now.decls) }
     ensures { IfOk result (λ logs. logs ≡ logs_of (stood trace.now) 0 players) }
 {
-    let mut lists = no_lines(alloc, scenario.players())?;
-    put_trace_lines(&mut lists, trace)?;
+    let count = scenario.players();
+    let mut lists = no_lines(alloc, count)?;
+    let lines = stood_lines(alloc, trace)?;
+    put_lines(&mut lists, &lines)?;
     logs_with(alloc, lists, players)
 }

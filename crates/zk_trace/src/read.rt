@@ -9,7 +9,7 @@ ghost use Rattle.zk_trace.specs.Text.{trace_text};
 ghost use Rattle.zk_trace.specs.TraceRead.{IsReadAs, IfAt, IsRefusedAt, line_number};
 
 use crate::Trace;
-use crate::feed::Feed;
+use crate::feed::{Feed, line_count};
 use crate::trace_made::trace_of;
 use crate::whole_read::read_whole;
 use std::alloc::Global;
@@ -81,8 +81,8 @@ fn is_read(bytes: &[u8], feed: &Feed<'_>) -> bool
 fn refused(bytes: &[u8], first_line: u32, feed: &Feed<'_>) -> TraceRefused
     ensures { result ≡ At (line_number first_line (length (lines_in bytes.now) - length feed.now)) }
 {
-    let lines = Feed::of(bytes).left();
-    TraceRefused::At(line_number(first_line, lines.saturating_sub(feed.left())))
+    let place = line_count(bytes).saturating_sub(feed.left());
+    TraceRefused::At(line_number(first_line, place))
 }
 
 /// The number of a line, by its place.

@@ -1,6 +1,5 @@
-use Rattle.std.proofs.Common.{◌-◌, ◌<◌, ◌^◌, Some, None, length, arith, refl, sym, ◌∙◌}
+use Rattle.std.proofs.Common.{◌-◌, Some, None, length, refl, sym, ◌∙◌}
 use Rattle.std.proofs.lemmas.Bool.{false≢true}
-use Rattle.zk_scenario.proofs.Valid.{length-decls}
 use Rattle.zk_trace.specs.Feeds.{lines_in}
 use Rattle.zk_trace.specs.Form.{IsInForm}
 use Rattle.zk_trace.specs.Text.{trace_text}
@@ -45,10 +44,8 @@ returns-then-not-is_read-clause-at c =
 pub trace_of-requires-clause-few : goal.trace_of-requires-clause-few
 trace_of-requires-clause-few c =
     let s = c.args.scenario.now in
-    let most = length-decls s c.decls-readable.ensures.valid in
-    let few : length s.decls < 2 ^ 32 = omega (arith, most) in
     let read = rw (c.in-Some.is, c.of-feed.ensures) at c.in_ok-whole.ensures in
-    whole-few s c.decls-readable.ensures.valid.named few (lines_in c.args.bytes.now) c.read_whole.new.feed (parts_of c.in-Some.whole) read
+    whole-few s c.decls-readable.ensures.valid.named c.decls-readable.ensures.valid (lines_in c.args.bytes.now) c.read_whole.new.feed (parts_of c.in-Some.whole) read
 
 pub trace_of-requires-clause-all : goal.trace_of-requires-clause-all
 trace_of-requires-clause-all c =

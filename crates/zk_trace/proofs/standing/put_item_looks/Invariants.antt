@@ -1,0 +1,6 @@
+use Rattle.std.proofs.Common.{◌≡◌, ◌++◌, drop, map}
+use Rattle.zk_trace.specs.Stood.{item_look_stood}
+use Rattle.zk_trace.proofs.standing.put_item_looks.Given as goal
+
+abbrev pub invariant-loop-look : goal.invariant-loop-look
+invariant-loop-look l = l.lines.items ++ map item_look_stood (drop l.look-index l.looks) ≡ l.fn.lines.items ++ map item_look_stood l.looks
