@@ -20,5 +20,4 @@ mod unlike;
 
 pub use check::{Checked, check};
 pub use lines::is_its_line;
-pub use log::log_failure;
 pub use site::{Fail, Site};

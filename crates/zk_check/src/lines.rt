@@ -1,6 +1,5 @@
-ghost use Rattle.std.specs.Prelude.{◌≡◌, ◌+◌, ◌==◌, ◌++◌, count_by, map, length, IfOk, OnOk};
+ghost use Rattle.std.specs.Prelude.{◌≡◌, ◌+◌, ◌++◌, map, length, IfOk, OnOk};
 ghost use Rattle.std.specs.List.{sum_by};
-ghost use Rattle.zk_trace.specs.Feeds.{lines_in};
 ghost use Rattle.zk_trace.specs.Form.{IsInForm};
 ghost use Rattle.zk_trace.specs.Text.{looks_at};
 ghost use Rattle.zk_trace.specs.TraceRead.{line_number};
@@ -12,7 +11,7 @@ use crate::site::Site;
 use std::alloc::Global;
 use zk_base::{Listed, NoMemory};
 use zk_scenario::{Scenario, print_scenario};
-use zk_trace::{History, SignalLook, Trace};
+use zk_trace::{History, SignalLook, Trace, line_count};
 use zk_worker::Log;
 
 /// The number of the line of what stands somewhere, from 1, in the scenario's text followed by the trace's.
@@ -37,19 +36,6 @@ pub fn is_its_line(scenario: &Scenario, trace: &Trace, site: Site)
     ensures { IsItsLine scenario.now trace.now site }
 {
     let _readable = scenario.decls();
-}
-
-/// How many lines of a text have their line feed.
-fn line_count(text: &[u8]) -> usize
-    ensures { result ≡ length (lines_in text.now) }
-{
-    feeds_in(b'\n', text)
-}
-
-fn feeds_in(feed: u8, text: &[u8]) -> usize
-    ensures { result ≡ count_by (λ b. b == feed) text.now }
-{
-    text.iter().filter(|b| **b == feed).count()
 }
 
 /// The number of a line, by its place.

@@ -1,58 +1,82 @@
-use Rattle.std.specs.Prelude.{◌≡◌, ℕ, ◌+◌, if◌then◌else◌, Option, Some, None, Result, Ok, Err, List, [], ◌∷◌, drop, codes, IfSome, ⊤}
+use Rattle.std.specs.Prelude.{◌≡◌, ℕ, ◌+◌, if◌then◌else◌, Option, Some, None, Result, Ok, Err, List, [], ◌∷◌, drop, codes, option_map, IfSome, ⊤}
 use Rattle.std.specs.Str.{bytes_eq}
 use Rattle.std.specs.Io.KnownBytes.{Appends, Keeps}
 use Rattle.zk_base.specs.Causes.{Rose}
 use Rattle.zk_base.specs.declared.errors.Status.{Status}
 use Rattle.zk_base.specs.declared.errors.Status.TheVariants.{Success, Words, Refused, Stuck, Spent, ReadFault, WriteFault, NoMemory, Unlawful}
+use Rattle.zk_words.specs.Numbers.{number_in}
 use Rattle.zk_scenario.specs.Content.{Content}
 use Rattle.zk_scenario.specs.declared.limits.TheConstants.{LONGEST_SCENARIO}
 use Rattle.zk_scenario.specs.declared.refused.ScenarioRefused.{ScenarioRefused}
 use Rattle.zk_scenario.specs.Grammar.{scenario_of}
 use Rattle.zk_trace.specs.declared.trace.Trace.{Trace}
 use Rattle.zk_cli.specs.declared.form.Form.{Form}
-use Rattle.zk_cli.specs.declared.form.Form.TheVariants.{Replay, Check}
-use Rattle.zk_cli.specs.declared.form.TheConstants.{LONGEST_TRACE}
+use Rattle.zk_cli.specs.declared.form.Form.TheVariants.{Replay, Check, Soak}
+use Rattle.zk_cli.specs.declared.form.TheConstants.{LONGEST_TRACE, MOST_SOAK}
 use Rattle.zk_cli.specs.Output.{AppendsFront}
 use Rattle.zk_cli.specs.Answer.{IsOutput}
 use Rattle.zk_cli.specs.CheckAnswer.{IsTraceOf, IsCheckOutput}
+use Rattle.zk_cli.specs.SoakAnswer.{IsSoakOutput}
 
--- the form that the words ask for, if they are those of one: the word `replay` alone, or `check`
+-- the form that the words ask for, if they are those of one: the word `replay` alone, or `check`, or `soak` and a number
 abbrev pub form_of : List (List ℕ) → Option Form
 form_of (word ∷ []) =
     if bytes_eq word (codes "replay") then Some Replay else
     if bytes_eq word (codes "check") then Some Check else None
+form_of (word ∷ number ∷ []) =
+    if bytes_eq word (codes "soak") then option_map Soak (number_in 0 MOST_SOAK number) else None
 form_of words = None
+
+-- whether a form reads the input
+abbrev pub Reads : Form → Type 0
+Reads Replay = Unit {0}
+Reads Check = Unit {0}
+Reads (Soak number) = ⊥
+
+-- the input of a form: what the source has left, and nothing where none is read
+abbrev pub input_of : Form → Option (List ℕ) → Option (List ℕ)
+input_of Replay left = left
+input_of Check left = left
+input_of (Soak number) left = Some []
 
 -- the longest input of a form
 abbrev pub limit_of : Form → ℕ
 limit_of Replay = LONGEST_SCENARIO
 limit_of Check = LONGEST_TRACE
+limit_of (Soak number) = 0
 
 -- the whole output of a form that goes with a status, for an input
 abbrev pub IsOutputOf : Form → Status → List ℕ → List ℕ → Type 0
 IsOutputOf Replay status input output = IsOutput status input output
 IsOutputOf Check status input output = IsCheckOutput status input output
+IsOutputOf (Soak number) status input output = IsSoakOutput number status output
 
 -- what is printed where the words are no form
 abbrev pub words_refused : List ℕ
 words_refused = codes "refused words\n"
 
--- the sink got this output for the input of the source, where that tells its bytes
+-- the sink got this output for an input, where that is told
 abbrev pub Prints : Option (List ℕ) → Option (List ℕ) → Option (List ℕ) →
     (List ℕ → List ℕ → Type 0) → Type 0
 Prints left old new IsTheOutput =
     IfSome left (λ input. (output : List ℕ) × IsTheOutput input output × Appends old new output)
 
--- the sink got a front of an output of a form for the input of the source, where that tells its bytes
+-- the sink got a front of an output of a form for its input, where that is told
 abbrev pub PrintsFront : Form → Option (List ℕ) → Option (List ℕ) → Option (List ℕ) → Type 0
 PrintsFront form left old new =
-    IfSome left (λ input. (status : Status) × (output : List ℕ) × IsOutputOf form status input output
+    IfSome (input_of form left) (λ input. (status : Status) × (output : List ℕ) × IsOutputOf form status input output
     × AppendsFront old new output)
 
--- the source has given all its bytes, or one more than the form's input may have
+-- the source has given all its bytes, or so many
+abbrev pub HasGiven : ℕ → Option (List ℕ) → Option (List ℕ) → Type 0
+HasGiven many None left = ⊤
+HasGiven many (Some input) left = left ≡ Some (drop many input)
+
+-- the source has given all its bytes, or one more than the form's input may have; where none is read it has given none
 abbrev pub HasReadAll : Form → Option (List ℕ) → Option (List ℕ) → Type 0
-HasReadAll form None left = ⊤
-HasReadAll form (Some input) left = left ≡ Some (drop (limit_of form + 1) input)
+HasReadAll Replay old new = HasGiven (limit_of Replay + 1) old new
+HasReadAll Check old new = HasGiven (limit_of Check + 1) old new
+HasReadAll (Soak number) old new = new ≡ old
 
 -- the statuses of calls that printed their whole output for an input
 abbrev pub IsAnswer : Status → Type 0
@@ -87,13 +111,21 @@ MayCheck input Unlawful = IsTrace input
 MayCheck input Refused = IsTrace input → ⊥
 MayCheck input status = ⊥
 
+-- the statuses of a soak that can come: as the run ended
+abbrev pub MaySoak : Status → Type 0
+MaySoak Success = Unit {0}
+MaySoak Stuck = Unit {0}
+MaySoak Spent = Unit {0}
+MaySoak status = ⊥
+
 -- the statuses that can come for the input of a form: those of its answers, the faults and want of memory
 abbrev pub MayEnd : Form → List ℕ → Status → Type 0
-MayEnd form input ReadFault = Unit {0}
+MayEnd form input ReadFault = Reads form
 MayEnd form input WriteFault = Unit {0}
 MayEnd form input NoMemory = Unit {0}
 MayEnd Replay input status = MayRun (scenario_of input) status
 MayEnd Check input status = MayCheck input status
+MayEnd (Soak number) input status = MaySoak status
 
 -- how the output for an input went to the sink
 pub data Answered (form : Form) (input : List ℕ) (old new : Option (List ℕ)) (faults faults' : ℕ)
@@ -112,12 +144,12 @@ pub data CallOutcome (words : List (List ℕ)) (left left' old new : Option (Lis
       CallOutcome words left left' old new reads reads' writes writes' Words
   no_form_cut : form_of words ≡ None → AppendsFront old new words_refused →
       Rose writes writes' → CallOutcome words left left' old new reads reads' writes writes' WriteFault
-  unread : (form : Form) → form_of words ≡ Some form → Rose reads reads' → Keeps old new →
+  unread : (form : Form) → Reads form → form_of words ≡ Some form → Rose reads reads' → Keeps old new →
       CallOutcome words left left' old new reads reads' writes writes' ReadFault
   no_memory : (form : Form) → form_of words ≡ Some form → Keeps old new →
       CallOutcome words left left' old new reads reads' writes writes' NoMemory
   printed : (form : Form) (status : Status) → form_of words ≡ Some form → IsAnswer status → HasReadAll form left left' →
-      Prints left old new (IsOutputOf form status) →
+      Prints (input_of form left) old new (IsOutputOf form status) →
       CallOutcome words left left' old new reads reads' writes writes' status
   cut : (form : Form) → form_of words ≡ Some form → HasReadAll form left left' → PrintsFront form left old new →
       Rose writes writes' → CallOutcome words left left' old new reads reads' writes writes' WriteFault

@@ -1,7 +1,10 @@
-ghost use Rattle.std.specs.Prelude.{◌≡◌, map, string_bytes};
+ghost use Rattle.std.specs.Prelude.{◌≡◌, map, option_map, string_bytes};
+ghost use Rattle.zk_words.specs.Numbers.{number_in};
+ghost use Rattle.zk_cli.specs.declared.form.Form.TheVariants.{Soak};
 ghost use Rattle.zk_cli.specs.Top.{form_of, limit_of};
 
 use zk_scenario::LONGEST_SCENARIO;
+use zk_words::number_in;
 
 /// What the program is asked to do.
 #[derive(Clone, Copy, Debug, PartialEq, Eq)]
@@ -10,7 +13,12 @@ pub enum Form {
     Replay,
     /// `check`: reads what `replay` prints, and says whether the trace is lawful for its scenario.
     Check,
+    /// `soak N`: plays the generated scenario of this number, checks the trace, and prints one line. It reads nothing.
+    Soak(u32),
 }
+
+/// The greatest number of a generated scenario.
+pub const MOST_SOAK: u32 = 999_999;
 
 /// The form that these words ask for, if they are those of one.
 pub fn form_of(words: &[String]) -> Option<Form>
@@ -19,19 +27,27 @@ pub fn form_of(words: &[String]) -> Option<Form>
     match words {
         [word] if word.as_bytes() == b"replay".as_slice() => Some(Form::Replay),
         [word] if word.as_bytes() == b"check".as_slice() => Some(Form::Check),
+        [word, number] if word.as_bytes() == b"soak".as_slice() => soak_of(number.as_bytes()),
         _ => None,
     }
+}
+
+fn soak_of(number: &[u8]) -> Option<Form>
+    ensures { result ≡ option_map Soak (number_in 0 MOST_SOAK number.now) }
+{
+    Some(Form::Soak(number_in(0, MOST_SOAK, number)?))
 }
 
 /// The longest input of `check`, in bytes.
 pub const LONGEST_TRACE: usize = 536_870_912;
 
-/// The longest input of a form, in bytes.
+/// The longest input of a form, in bytes. `soak` reads none.
 pub fn limit_of(form: Form) -> usize
     ensures { result ≡ limit_of form }
 {
     match form {
         Form::Replay => LONGEST_SCENARIO,
         Form::Check => LONGEST_TRACE,
+        Form::Soak(_) => 0,
     }
 }

@@ -2,19 +2,21 @@ ghost use Rattle.std.specs.Prelude.{◌≡◌, ◌≢◌, ◌⊎◌, true, false
 ghost use Rattle.std.specs.Io.KnownBytes.{Appends, Keeps};
 ghost use Rattle.zk_base.specs.Causes.{Rose};
 ghost use Rattle.zk_cli.specs.Output.{AppendsFront};
-ghost use Rattle.zk_cli.specs.Top.{form_of, IsOutputOf, words_refused, Prints, PrintsFront, HasReadAll, HasInput, MayEnd, Answered, CallOutcome};
+ghost use Rattle.zk_cli.specs.Top.{form_of, Reads, input_of, IsOutputOf, words_refused, Prints, PrintsFront, HasReadAll, HasInput, MayEnd, Answered, CallOutcome};
 
 use crate::answer::output_of;
 use crate::check::check_output;
 use crate::form::{Form, form_of, limit_of};
 use crate::input::{NoInput, read_input};
 use crate::output::write_text;
+use crate::soak::soak_output;
 use std::alloc::Global;
 use zk_base::{Sink, Source, Status};
 
 /// The program over any source and any sink. `replay` reads a scenario, plays it on one thread by round robin, and prints
 /// the scenario's text and the trace. `check` reads that again, and says whether the trace is lawful for the scenario, or at
-/// which line it isn't, and why. It always returns.
+/// which line it isn't, and why. `soak N` plays the generated scenario of that number and checks its trace. It always
+/// returns.
 ///
 /// The words are those behind the program's name. The whole output is made in memory and then written, piece after
 /// piece; writing takes no memory. What is said of the input and the output is said where the source and the sink tell
@@ -27,15 +29,15 @@ pub fn zk_plain<S: Source, K: Sink>(
 ) -> Status
     // What each status that prints says of the input and the output.
     ensures success { (form : Form) → form_of (map string_bytes words.now) ≡ Some form → result ≡ Status.Success →
-        Prints (S.left source.old) (K.held sink.old) (K.held sink.new) (IsOutputOf form Status.Success) }
+        Prints (input_of form (S.left source.old)) (K.held sink.old) (K.held sink.new) (IsOutputOf form Status.Success) }
     ensures stuck { (form : Form) → form_of (map string_bytes words.now) ≡ Some form → result ≡ Status.Stuck →
-        Prints (S.left source.old) (K.held sink.old) (K.held sink.new) (IsOutputOf form Status.Stuck) }
+        Prints (input_of form (S.left source.old)) (K.held sink.old) (K.held sink.new) (IsOutputOf form Status.Stuck) }
     ensures spent { (form : Form) → form_of (map string_bytes words.now) ≡ Some form → result ≡ Status.Spent →
-        Prints (S.left source.old) (K.held sink.old) (K.held sink.new) (IsOutputOf form Status.Spent) }
+        Prints (input_of form (S.left source.old)) (K.held sink.old) (K.held sink.new) (IsOutputOf form Status.Spent) }
     ensures unlawful { (form : Form) → form_of (map string_bytes words.now) ≡ Some form → result ≡ Status.Unlawful →
-        Prints (S.left source.old) (K.held sink.old) (K.held sink.new) (IsOutputOf form Status.Unlawful) }
+        Prints (input_of form (S.left source.old)) (K.held sink.old) (K.held sink.new) (IsOutputOf form Status.Unlawful) }
     ensures refused { (form : Form) → form_of (map string_bytes words.now) ≡ Some form → result ≡ Status.Refused →
-        Prints (S.left source.old) (K.held sink.old) (K.held sink.new) (IsOutputOf form Status.Refused) }
+        Prints (input_of form (S.left source.old)) (K.held sink.old) (K.held sink.new) (IsOutputOf form Status.Refused) }
     ensures words { result ≡ Status.Words → Appends (K.held sink.old) (K.held sink.new) words_refused }
 
     // When each status comes.
@@ -43,7 +45,7 @@ pub fn zk_plain<S: Source, K: Sink>(
     ensures no_form { form_of (map string_bytes words.now) ≡ None →
         (result ≡ Status.Words) ⊎ (result ≡ Status.WriteFault) }
     ensures complete { (form : Form) → form_of (map string_bytes words.now) ≡ Some form →
-        IfSome (S.left source.old) (λ input. MayEnd form input result) }
+        IfSome (input_of form (S.left source.old)) (λ input. MayEnd form input result) }
     ensures read_fault { result ≡ Status.ReadFault → Rose (S.faults source.old) (S.faults source.new) }
     ensures write_fault { result ≡ Status.WriteFault → Rose (K.faults sink.old) (K.faults sink.new) }
 
@@ -79,6 +81,7 @@ fn plain<S: Source, K: Sink>(
 {
     match form_of(words) {
         None => refuse_words(sink),
+        Some(Form::Soak(number)) => answer(alloc, Form::Soak(number), Vec::new(alloc), sink),
         Some(form) => match read_input(alloc, source, limit_of(form)) {
             Ok(input) => answer(alloc, form, input, sink),
             Err(NoInput::Fault) => Status::ReadFault,
@@ -107,6 +110,7 @@ fn answer<K: Sink>(alloc: Global, form: Form, input: Vec<u8>, sink: &mut K) -> S
     let made = match form {
         Form::Replay => output_of(alloc, input),
         Form::Check => check_output(alloc, input),
+        Form::Soak(number) => soak_output(alloc, number),
     };
     let Ok((output, status)) = made else {
         return Status::NoMemory;
