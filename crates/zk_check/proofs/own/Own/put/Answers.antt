@@ -1,4 +1,4 @@
-use Rattle.std.proofs.Common.{◌+◌, max, ◌≡◌, Some, refl, arith}
+use Rattle.std.proofs.Common.{◌+◌, Some, refl, arith}
 use Rattle.zk_check.proofs.Owns.{own-more}
 use Rattle.zk_check.proofs.own.Own.put.Goals as goal
 
