@@ -1,5 +1,5 @@
 -- Whether a run ends so, by its logs, its history of work and what its players can still do.
-use Rattle.std.proofs.Common.{◌≡◌, ℕ, zero, suc, ◌+◌, ◌<◌, Bool, true, false, Option, Some, None, List, [], ◌∷◌, length, refl, sym, ap, subst, ◌∙◌, arith}
+use Rattle.std.proofs.Common.{◌≡◌, ◌↔◌, IsTrue, ℕ, zero, suc, ◌+◌, ◌<◌, Bool, true, false, Option, Some, None, is_some, List, [], ◌∷◌, length, refl, sym, ap, subst, ◌∙◌, arith}
 use Rattle.std.specs.List.{slice_get}
 use Rattle.std.specs.Option.{option_and_then}
 use Rattle.std.proofs.lemmas.Option.{same_Some}
@@ -50,6 +50,17 @@ module _ (m : Machines) (shown : Shown) (who : Who) where
   possible-none (x ∷ ahead) each =
       ap (λ (o : Option StepReply). or_else x o (first_possible m shown who ahead)) (each 0 x refl) ∙ possible-none ahead (λ k step there. each (suc k) step there)
 
+-- behind the last attempt there is none
+pub below-end : (ahead : List Step) (n k : ℕ) (step : Step) → slice_get ahead n ≡ None → slice_get ahead k ≡ Some step → k < n
+below-end [] n k step none there = absurd (cc)
+below-end (x ∷ ahead) zero k step none there = absurd (cc)
+below-end (x ∷ ahead) (suc n) zero step none there = omega arith
+below-end (x ∷ ahead) (suc n) (suc k) step none there = let less = below-end ahead n k step none there in omega arith
+
+pub some-is : {A : Type 0} (o : Option A) → is_some o ≡ true → (x : A) × (o ≡ Some x)
+some-is None is = absurd (cc)
+some-is (Some x) is = (x, refl)
+
 -- Endings.
 
 there-is : (xs : List PlayerPlace) (k : ℕ) → k < length xs → (x : PlayerPlace) × (slice_get xs k ≡ Some x)
@@ -85,6 +96,12 @@ module _ (s : Content) (t : Trace) where
   ends-never players out unspent some ends =
       let so = out.1 some.number some.at some.there in
       some.steps (ends.halts unspent some.number (log_of s some.at) so.logged some.at so.led refl)
+
+  -- so the run ends so just where none can go on
+  pub ends-decided : (players : List PlayerPlace) → t.ending ≡ lawful_ending s t → ArePlayedOut s t players → (t.ending ≡ Spent → ⊥) →
+      (so : Bool) → NoneSteps (machines_of s) s (trace_shown t) players so → IsTrue so ↔ EndsSo s t
+  ends-decided players ends out unspent true halted = (λ is. ends-halted players ends out halted, λ is. refl)
+  ends-decided players ends out unspent false some = (λ is. absurd (cc), λ is. absurd (ends-never players out unspent some is))
 
   -- of a player just the steps of its log are shown
   shows-log : (number : ℕ) (log : Log) → IsPlaced s t → slice_get t.logs number ≡ Some log → ShowsLog (trace_shown t) number log.steps

@@ -1,4 +1,5 @@
 ghost use Rattle.std.specs.Prelude.{◌≡◌, ◌↔◌, false, IsTrue, IfOk};
+ghost use Rattle.std.specs.List.{list_any, list_all};
 ghost use Rattle.zk_base.specs.Legal.{state_after};
 ghost use Rattle.zk_model_work.specs.Machine.{work_machine};
 ghost use Rattle.zk_worker.specs.Machines.{work_start_of, machines_of};
@@ -54,6 +55,18 @@ fn is_done(log: &Log) -> bool
     }
 }
 
+fn any_spent(logs: &[Log]) -> bool
+    ensures { result ≡ list_any (λ log. is_spent_state log.state) logs.now }
+{
+    logs.iter().any(|log| is_spent(log))
+}
+
+fn all_done(logs: &[Log]) -> bool
+    ensures { result ≡ list_all (λ log. is_done_state log.state) logs.now }
+{
+    logs.iter().all(|log| is_done(log))
+}
+
 /// How a run ends that ends as these services and logs stand.
 fn ending_of(services: &Plain, scenario: &Scenario, trace: &Trace) -> Ending
     requires form { IsInForm scenario.now trace.now }
@@ -62,10 +75,10 @@ fn ending_of(services: &Plain, scenario: &Scenario, trace: &Trace) -> Ending
     ensures { result ≡ lawful_ending scenario.now trace.now }
 {
     let logs = trace.logs.items();
-    if logs.iter().any(|log| is_spent(log)) {
+    if any_spent(logs) {
         return Ending::Spent;
     }
-    if logs.iter().all(|log| is_done(log)) && none_waits(services, scenario, trace) {
+    if all_done(logs) && none_waits(services, scenario, trace) {
         Ending::Ended
     } else {
         Ending::Stuck
