@@ -1,17 +1,16 @@
 -- What looks at items find: the flags at each front, and the first look that missed them.
-use Rattle.std.proofs.Common.{◌≡◌, ◌⊎◌, ◌↔◌, ℕ, zero, suc, ◌+◌, ◌-◌, ◌<◌, ◌≤◌, min, Bool, true, false, not, ◌&&◌, cond, eqb, leb, ltb, nat_lt, Option, Some, None, List, [], ◌∷◌, ◌++◌, append_assoc, length, length-append, length-take, map, take, drop, drop-cons, get_or, All, refl, sym, ap, subst, ◌∙◌, inl, inr, arith}
-use Rattle.std.specs.List.{AllByRecursion, Contains, filter, slice_get}
+use Rattle.std.proofs.Common.{◌≡◌, ◌⊎◌, ℕ, zero, suc, ◌+◌, ◌-◌, ◌<◌, ◌≤◌, min, Bool, true, false, not, ◌&&◌, cond, eqb, leb, nat_lt, Option, Some, None, List, [], ◌∷◌, ◌++◌, append_assoc, length, length-append, length-take, map, take, drop, drop-cons, get_or, All, refl, sym, ap, subst, ◌∙◌, inl, inr, arith}
+use Rattle.std.specs.List.{Contains, filter, slice_get}
 use Rattle.std.specs.Option.{MatchOption, option_map, option_map_or, option_and_then}
 use Rattle.std.proofs.Math.Seq.{take-add}
-use Rattle.std.proofs.lemmas.Bool.{cases_Bool, cases_lt, true≢false, false≢true, not-true, and_parts, and_from, eq-eqb, eqb-true, ltb-true, le-leb, leb-true, leb-false, not_from_false}
+use Rattle.std.proofs.lemmas.Bool.{cases_lt, false≢true, not-true, and_parts, and_from, eq-eqb, eqb-true, le-leb, leb-true}
 use Rattle.std.proofs.lemmas.List.{take-append-drop, take_more, take_min, drop_more, get_or_at, get_or_append_left, get_or_default}
 use Rattle.std.proofs.lemmas.List.Elements.{All-nil, All-cons, All-head, All-append, All-weaker}
-use Rattle.std.proofs.lemmas.Option.{same_Some, none-some, slice_get-map, slice_get-get_or, slice_get_within}
-use Rattle.zk_base.specs.declared.ids.Who.{Who}
+use Rattle.std.proofs.lemmas.Option.{same_Some, none-some, slice_get-map, slice_get-get_or}
 use Rattle.zk_base.specs.declared.ids.Entry.{Entry}
-use Rattle.zk_base.specs.History.{Rises, IsAbove, entry, extended}
-use Rattle.zk_base.specs.Legal.{Machine, state_after, Replays, IsLegal}
-use Rattle.zk_base.specs.Order.{by_key, Ascends}
+use Rattle.zk_base.specs.History.{Rises, IsAbove, extended}
+use Rattle.zk_base.specs.Legal.{Machine, state_after, IsLegal}
+use Rattle.zk_base.specs.Order.{Ascends}
 use Rattle.zk_base.proofs.Histories.{IsLegal-front, Replays-rest, in_range-after}
 use Rattle.zk_base.proofs.Lists.{All-at, All-back}
 use Rattle.zk_line.specs.Objects.{is_item}
@@ -19,7 +18,7 @@ use Rattle.zk_line.proofs.Options.{one_part}
 use Rattle.zk_model_work.specs.declared.ops.WorkOp.{WorkOp}
 use Rattle.zk_model_work.specs.declared.ops.WorkOp.TheVariants as ops
 use Rattle.zk_model_work.specs.declared.ops.WorkReply.{WorkReply}
-use Rattle.zk_model_work.specs.Machine.{work_machine, in_range, flags_of}
+use Rattle.zk_model_work.specs.Machine.{work_machine, flags_of}
 use Rattle.zk_model_work.specs.State.{State}
 use Rattle.zk_scenario.specs.Content.{Content}
 use Rattle.zk_work.proofs.Owed.{ranges}
@@ -316,9 +315,11 @@ lowest-more xs x new None none lower =
     subst (λ (l : List ℕ). Contains (l ++ x ∷ []) new × All (λ place. new ≤ place) (l ++ x ∷ [])) (sym none)
     ((0, omega arith, sym is), All-cons (λ place. new ≤ place) x [] (omega arith) (All-nil (λ (place : ℕ). new ≤ place)))
 lowest-more xs x new (Some low) is lower =
-    let least : new ≡ min x low = same_Some new (min x low) lower in
-    (among (cases_lt x low) least, All-append (λ place. new ≤ place) xs (x ∷ []) (All-weaker (λ place. low ≤ place) (λ place. new ≤ place) (λ place h. omega arith) xs is.1)
-    (All-cons (λ place. new ≤ place) x [] (omega arith) (All-nil (λ (place : ℕ). new ≤ place)))) where
+    let least : new ≡ min x low = same_Some new (min x low) lower in (
+      among (cases_lt x low) least,
+      All-append (λ place. new ≤ place) xs (x ∷ []) (All-weaker (λ place. low ≤ place) (λ place. new ≤ place) (λ place h. omega arith) xs is.1)
+          (All-cons (λ place. new ≤ place) x [] (omega arith) (All-nil (λ (place : ℕ). new ≤ place))),
+    ) where
       among : ((x < low) ⊎ (low ≤ x)) → new ≡ min x low → Contains (xs ++ x ∷ []) new
       among (inl less) least = (length xs, (let long = length-append xs (x ∷ []) in omega arith), get_or_at xs x [] new (length xs) refl ∙ (let same : x ≡ new = omega arith in same))
       among (inr more) least =

@@ -13,6 +13,7 @@ pub mod LedPlayers
 pub mod LineOf
 pub mod LogsLed
 pub mod LookOrders
+pub mod LooksByStep
 pub mod LooksFound
 pub mod LooksRight
 pub mod LooksTold

@@ -61,12 +61,12 @@ module _ (floor new : Floor) (earlier : List Spot) (spot : Spot) (is : IsFloor f
   floor-kept none same = record {
     front = front-more;
     stamps = λ object within.
-      let was = is.stamps object (subst (λ (l : List ℕ). object < length l) same within) in
-      let here : get_or new.stamps.items object 0 ≡ get_or floor.stamps.items object 0 = ap (λ (l : List ℕ). get_or l object 0) same in
-      let nothing : stamp_at object spot ≡ 0 =
-      stamp-named spot object ∙ ap (λ (o : Option (ℕ × ℕ)). option_map_or (λ (named : ℕ × ℕ). cond (eqb named.0 object) named.1 0) o 0) none in
-      let more = most-snoc (stamp_at object) earlier spot in
-      omega arith;
+        let was = is.stamps object (subst (λ (l : List ℕ). object < length l) same within) in
+        let here : get_or new.stamps.items object 0 ≡ get_or floor.stamps.items object 0 = ap (λ (l : List ℕ). get_or l object 0) same in
+        let nothing : stamp_at object spot ≡ 0 =
+        stamp-named spot object ∙ ap (λ (o : Option (ℕ × ℕ)). option_map_or (λ (named : ℕ × ℕ). cond (eqb named.0 object) named.1 0) o 0) none in
+        let more = most-snoc (stamp_at object) earlier spot in
+        omega arith;
   }
 
   -- and one that names one
@@ -75,8 +75,8 @@ module _ (floor new : Floor) (earlier : List Spot) (spot : Spot) (is : IsFloor f
   floor-raised at stamp named there same = record {
     front = front-more;
     stamps = λ object within. by object (cases_eq object at)
-      (subst (λ (n : ℕ). object < n) (ap length same ∙ length-set floor.stamps.items at (max (get_or floor.stamps.items at 0) stamp)) within)
-      (most-snoc (stamp_at object) earlier spot);
+        (subst (λ (n : ℕ). object < n) (ap length same ∙ length-set floor.stamps.items at (max (get_or floor.stamps.items at 0) stamp)) within)
+        (most-snoc (stamp_at object) earlier spot);
   } where
     raised : ℕ
     raised = max (get_or floor.stamps.items at 0) stamp

@@ -1,12 +1,10 @@
 -- The first line that isn't held is that of the first wrong look.
-use Rattle.std.proofs.Common.{◌≡◌, ◌⊎◌, ℕ, zero, suc, ◌+◌, ◌-◌, ◌^◌, ◌<◌, ◌≤◌, Bool, true, false, Option, Some, None, List, [], ◌∷◌, ◌++◌, length, map, get_or, All, refl, sym, ap, subst, ◌∙◌, inl, inr, arith}
+use Rattle.std.proofs.Common.{◌≡◌, ◌⊎◌, ℕ, suc, ◌+◌, ◌^◌, ◌<◌, Bool, true, Option, Some, None, List, [], ◌∷◌, ◌++◌, length, get_or, All, refl, sym, ap, subst, ◌∙◌, inl, inr, arith}
 use Rattle.std.specs.List.{AllByRecursion, slice_get}
 use Rattle.std.specs.Option.{MatchOption, IfSome, option_map}
 use Rattle.std.proofs.lemmas.Bool.{cases_order, true≢false, true_from_ne_false}
-use Rattle.std.proofs.lemmas.List.{length-map}
 use Rattle.std.proofs.lemmas.Option.{same_Some, none-some, slice_get-map, slice_get-get_or, slice_get_within}
 use Rattle.zk_base.specs.declared.ids.Entry.{Entry}
-use Rattle.zk_base.specs.declared.seen.Seen.{Seen}
 use Rattle.zk_base.specs.Limits.{most_entries}
 use Rattle.zk_base.proofs.Lists.{All-at}
 use Rattle.zk_line.specs.Objects.{is_item}
@@ -15,7 +13,6 @@ use Rattle.zk_model_wait.specs.declared.signal.SignalOp.{SignalOp}
 use Rattle.zk_model_wait.specs.declared.signal.SignalReply.{SignalReply}
 use Rattle.zk_scenario.specs.Content.{Content}
 use Rattle.zk_scenario.specs.Valid.{IsValid}
-use Rattle.zk_worker.specs.declared.log.Log.{Log}
 use Rattle.zk_worker.specs.declared.steps.Spot.{Spot}
 use Rattle.zk_worker.specs.declared.steps.Spot.TheVariants as spots
 use Rattle.zk_worker.specs.Families.{entry_at}
@@ -26,8 +23,6 @@ use Rattle.zk_worker.specs.Single as single
 use Rattle.zk_worker.proofs.Lists.{there-longer}
 use Rattle.zk_trace.specs.declared.looks.ItemLook.{ItemLook}
 use Rattle.zk_trace.specs.declared.looks.SignalLook.{SignalLook}
-use Rattle.zk_trace.specs.declared.stood.Family.TheVariants as families
-use Rattle.zk_trace.specs.declared.stood.Home.{Home}
 use Rattle.zk_trace.specs.declared.stood.Home.TheVariants as homes
 use Rattle.zk_trace.specs.declared.stood.Stood.{Stood}
 use Rattle.zk_trace.specs.declared.trace.Trace.{Trace}
@@ -37,22 +32,23 @@ use Rattle.zk_trace.specs.Look.{AreRight}
 use Rattle.zk_trace.specs.LookRead.{IsItemLook, FitsItemLook}
 use Rattle.zk_trace.specs.Place.{IsPlaced}
 use Rattle.zk_trace.specs.Shown.{trace_shown}
-use Rattle.zk_trace.specs.Stood.{spot_at, entries_stood, item_look_stood, signal_look_stood, stood}
+use Rattle.zk_trace.specs.Stood.{item_look_stood, signal_look_stood, stood}
 use Rattle.zk_trace.specs.Text.{looks_at}
 use Rattle.zk_trace.proofs.LinesOnce.{line_at}
-use Rattle.zk_check.specs.First.{IsFirst, HoldsNowhere}
+use Rattle.zk_check.specs.First.{IsFirst}
 use Rattle.zk_check.specs.ItemLooks.{finds, IsFirstMissed}
 use Rattle.zk_check.specs.LookFailure.{IsRow, LookFits, IsWrong}
 use Rattle.zk_check.specs.LookOrder.{IsWithin}
-use Rattle.zk_check.specs.LooksHeld.{all_orders, is_in_order, IsKnownAt, FitsAt, IsFit, IsHeld, AreHeld, IsFirstUnheld}
+use Rattle.zk_check.specs.LooksHeld.{all_orders, is_in_order, FitsAt, IsHeld, AreHeld, IsFirstUnheld}
 use Rattle.zk_check.proofs.PlacedFew.{entries-long, rows-short}
 use Rattle.zk_check.proofs.PlacedLater.{Later, later-at}
 use Rattle.zk_check.proofs.PlacedLists.{IsIn, each-in, each-of, each-from}
 use Rattle.zk_check.proofs.PlacedOrder.{Distinct, distinct-rows}
 use Rattle.zk_check.proofs.PlacedRows.{works, items, clocks, tables, sems, msgqs, signals, chans, observers, upto_items, upto_clocks, upto_tables, upto_sems, upto_msgqs, upto_signals, upto_chans, stood-each}
-use Rattle.zk_check.proofs.PlacedSteps.{fits-each, are-numbered, row-by-number, step-of-row}
+use Rattle.zk_check.proofs.PlacedSteps.{fits-each, are-numbered}
 use Rattle.zk_check.proofs.ItemsFound.{finds-right, right-finds}
-use Rattle.zk_check.proofs.LooksRight.{entry-there, fits-stable, right-all, wrong-never, in-order, order-in}
+use Rattle.zk_check.proofs.LooksByStep.{entry-there, in-order, order-in}
+use Rattle.zk_check.proofs.LooksRight.{row, stepped, fitting-right}
 
 -- Where the looks at items stand: behind the entries of work.
 
@@ -119,12 +115,15 @@ one-place s t form placed i j x y at_x at_y player step = by (cases_order i j) w
 -- What the code has found.
 
 module _ (s : Content) (t : Trace) (form : IsInForm s t) (placed : IsPlaced s t) where
+<<<<<<< HEAD
   pub row : (player step : ℕ) (log : Log) (spot : Spot) → slice_get t.logs player ≡ Some log → slice_get log.steps step ≡ Some spot → IsRow t (line_at player step spot)
   row player step log spot logged there = row-by-number s t form (are-numbered s t form placed) player log step spot logged there
 
   pub stepped : (line : Stood) → IsRow t line → (log : Log) × (slice_get t.logs line.player ≡ Some log) × (slice_get log.steps line.step ≡ Some line.spot)
   stepped line is = step-of-row s t form placed is.0 line is.1
 
+=======
+>>>>>>> 9bb46aea49b7b476be8387a1b2541fd202362260
   -- a look at an item is at one
   item-is : (k : ℕ) (look : ItemLook) → slice_get t.item_looks k ≡ Some look → IsOf is_item s.decls look.item
   item-is k look there =
@@ -164,7 +163,7 @@ module _ (s : Content) (t : Trace) (form : IsInForm s t) (placed : IsPlaced s t)
   held-fits first is n held place line below there look = by line.spot refl where
     fits : is_in_order (all_orders t.logs) line ≡ true → IsRight (machines_of s) (trace_shown t) line.spot → LookFits s t line
     fits ordered right =
-        let order = in-order s t placed row stepped line (place, there) ordered look in
+        let order = in-order s t placed (row s t form placed) (stepped s t form placed) line (place, there) ordered look in
         record { right = right; earlier = order.0; later = order.1 }
 
     by : (spot : Spot) → line.spot ≡ spot → LookFits s t line
@@ -192,7 +191,7 @@ module _ (s : Content) (t : Trace) (form : IsInForm s t) (placed : IsPlaced s t)
   fits-held : (first : Option ℕ) → FirstMissed first → (place : ℕ) (line : Stood) → slice_get (stood t) place ≡ Some line → (is_look line.spot ≡ true → LookFits s t line) → Held first place line
   fits-held first is place line there fits = record { other = other first is; fit = fit line.spot refl } where
     ordered : (spot : Spot) → line.spot ≡ spot → is_look spot ≡ true → is_in_order (all_orders t.logs) line ≡ true
-    ordered spot same look = order-in s t placed row stepped line (place, there) (fits (ap is_look same ∙ look))
+    ordered spot same look = order-in s t placed (row s t form placed) (stepped s t form placed) line (place, there) (fits (ap is_look same ∙ look))
 
     fit : (spot : Spot) → line.spot ≡ spot → FitsAt t.signals (is_in_order (all_orders t.logs) line) line.spot
     fit (spots.LookItem item flags at) same = subst (FitsAt t.signals (is_in_order (all_orders t.logs) line)) (sym same) (ordered (spots.LookItem item flags at) same refl)
@@ -220,7 +219,7 @@ module _ (s : Content) (t : Trace) (form : IsInForm s t) (placed : IsPlaced s t)
   -- where each line is held the looks are right
   pub held-right : (first : Option ℕ) → FirstMissed first → AreHeld t.signals (all_orders t.logs) (missed_row first) (stood t) → AreRight s t
   held-right first is held =
-      right-all s t placed row stepped (λ line at look.
+      fitting-right s t form placed (λ line at look.
       held-fits first is (length (stood t)) (λ place line below there. held place line there) at.0 line (slice_get_within (stood t) at.0 line at.1) at.1 look)
 
   -- and the first line that isn't is that of the first wrong look
@@ -233,15 +232,8 @@ module _ (s : Content) (t : Trace) (form : IsInForm s t) (placed : IsPlaced s t)
       wrong = λ fits. unheld.unheld (fits-held first is place unheld.line unheld.there (λ look. fits));
     };
     none_before = λ earlier below wrong.
-      wrong.wrong (held-fits first is place (λ place line lower there. unheld.none_before place line lower there) earlier wrong.line below wrong.there wrong.look);
+        wrong.wrong (held-fits first is place (λ place line lower there. unheld.none_before place line lower there) earlier wrong.line below wrong.there wrong.look);
   }
-
-  -- where no look is wrong the looks are right, and the other way round
-  pub right : HoldsNowhere (IsWrong s t) → AreRight s t
-  right nowhere = right-all s t placed row stepped (λ line at look. fits-stable s t line (λ isnt. nowhere at.0 (record { line = line; there = at.1; look = look; wrong = isnt })))
-
-  pub none-wrong : AreRight s t → (place : ℕ) → IsWrong s t place → ⊥
-  none-wrong all = wrong-never s t placed row stepped all
 
   -- The steps of a log are within what the tables have.
 
@@ -275,7 +267,7 @@ module _ (s : Content) (t : Trace) (form : IsInForm s t) (placed : IsPlaced s t)
       let log = get_or t.logs n d in
       let spot = get_or log.steps k e in
       each-in (λ l. IsWithin (length t.signals) l.spot) (stood t) (line_at n k spot) (lines-within short)
-      (row n k log spot (slice_get-get_or t.logs n d within) (slice_get-get_or log.steps k e below))
+      (row s t form placed n k log spot (slice_get-get_or t.logs n d within) (slice_get-get_or log.steps k e below))
 
   -- the row of a look that missed what was there is one of the rows, which are few
   pub missed-below : IsValid s → (first : Option ℕ) → FirstMissed first → IfSome first (λ place. length t.work + place < 2 ^ 64)

@@ -49,11 +49,7 @@ fn is_known(writes: &[Entry<SignalOp, SignalReply>], seen: Seen) -> bool
 }
 
 /// Whether a look found what the signal of an object number was.
-fn is_known_at(
-    signals: &[History<SignalOp, SignalReply>],
-    object: u32,
-    seen: Seen,
-) -> bool
+fn is_known_at(signals: &[History<SignalOp, SignalReply>], object: u32, seen: Seen) -> bool
     ensures { (result ≡ true) ↔ IsKnownAt signals.now object seen }
 {
     match signals.get(object as usize) {
@@ -77,11 +73,7 @@ fn is_in_order(orders: &[Listed<bool>], line: &Stood) -> bool
 }
 
 /// Whether a line stands in order and found what was there, where it is a look; one at an item may have found anything.
-fn is_fit(
-    signals: &[History<SignalOp, SignalReply>],
-    orders: &[Listed<bool>],
-    line: &Stood,
-) -> bool
+fn is_fit(signals: &[History<SignalOp, SignalReply>], orders: &[Listed<bool>], line: &Stood) -> bool
     ensures { (result ≡ true) ↔ IsFit signals.now orders.now line.now }
 {
     match line.spot {
@@ -113,11 +105,7 @@ fn first_unheld(
 }
 
 /// Whether each step of each player stands in order.
-fn all_orders(
-    alloc: Global,
-    objects: usize,
-    logs: &[Log],
-) -> Result<Vec<Listed<bool>>, NoMemory>
+fn all_orders(alloc: Global, objects: usize, logs: &[Log]) -> Result<Vec<Listed<bool>>, NoMemory>
     requires { All (λ log. All (IsWithin objects) log.steps) logs.now }
     ensures { IfOk result (λ orders. orders.items ≡ all_orders logs.now) }
 {

@@ -1,4 +1,4 @@
-use Rattle.std.proofs.Common.{rules, ◌≡◌, ℕ, ◌++◌, length, take, drop, ap, sym, refl, subst, ◌∙◌, true}
+use Rattle.std.proofs.Common.{length, ap, sym, refl, subst, ◌∙◌, true}
 use Rattle.zk_base.specs.Legal.{IsLegal}
 use Rattle.zk_model_work.specs.Machine.{work_machine}
 use Rattle.std.proofs.lemmas.Bool.{le-leb}

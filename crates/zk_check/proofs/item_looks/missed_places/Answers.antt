@@ -1,5 +1,4 @@
-use Rattle.std.proofs.Common.{rules, ◌≡◌, ℕ, ap, sym, ◌∙◌, ◌++◌, get_or, Vec, Global}
-use Rattle.zk_trace.specs.declared.looks.ItemLook.{ItemLook}
+use Rattle.std.proofs.Common.{ℕ, ap, ◌∙◌, ◌++◌, get_or, Vec, Global}
 use Rattle.zk_check.specs.declared.item_looks.Fronted.{Fronted}
 use Rattle.zk_check.specs.ItemLooks.{finds, missed_places}
 use Rattle.zk_work.specs.Seen.{work_start, work_history}

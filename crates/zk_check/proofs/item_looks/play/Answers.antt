@@ -1,4 +1,4 @@
-use Rattle.std.proofs.Common.{rules, ◌≡◌, true, ap, sym, subst, ◌∙◌}
+use Rattle.std.proofs.Common.{ap, ◌∙◌}
 use Rattle.zk_model_work.specs.Machine.{work_machine}
 use Rattle.zk_base.specs.Legal.{state_after}
 use Rattle.zk_base.specs.Limits.{most_entries}
@@ -30,7 +30,7 @@ loop-entry-preserved c =
     record {
       start = c.in_ok-act.ensures.start ∙ start;
       history =
-        play-one work_machine (work_start c.args.work.now) (work_history c.args.work.now) c.args.entries.now c.loop-entry.entry-index e c.loop-entry-test.true c.entry-item.is
-        c.requires.legal h c.loop-entry.invariant.history (work_history c.act.new.self) c.in_ok-act.field-0
-        (c.in_ok-act.ensures.reply ∙ ap (λ s. work_machine.reply_of (state_after work_machine s h) e.who e.op) start) c.in_ok-act.ensures.entry;
+          play-one work_machine (work_start c.args.work.now) (work_history c.args.work.now) c.args.entries.now c.loop-entry.entry-index e c.loop-entry-test.true c.entry-item.is
+          c.requires.legal h c.loop-entry.invariant.history (work_history c.act.new.self) c.in_ok-act.field-0
+          (c.in_ok-act.ensures.reply ∙ ap (λ s. work_machine.reply_of (state_after work_machine s h) e.who e.op) start) c.in_ok-act.ensures.entry;
     }

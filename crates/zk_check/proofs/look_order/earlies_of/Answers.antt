@@ -23,9 +23,9 @@ loop-step-preserved c =
     record {
       objects = ap length same ∙ c.lower.ensures.objects ∙ ap length c.deref_mut.ensures.value ∙ c.loop-step.invariant.objects;
       ceiling = subst (λ (l : List (Option ℕ)). IsCeiling l (drop step steps)) (sym same)
-        (subst (IsCeiling new) (sym next) (c.lower.ensures.ceiling (drop c.loop-step.step steps) ceiling));
+          (subst (IsCeiling new) (sym next) (c.lower.ensures.ceiling (drop c.loop-step.step steps) ceiling));
       earlies =
-        ap reverse c.in_ok-push.ensures.items ∙ reverse-append c.loop-step.earlies.items (c.is_early.result ∷ [])
-        ∙ ap (λ (b : Bool). b ∷ reverse c.loop-step.earlies.items) early ∙ ap (λ (l : List Bool). is_early (drop c.loop-step.step steps) spot ∷ l) c.loop-step.invariant.earlies
-        ∙ sym (ap earlies_of next);
+          ap reverse c.in_ok-push.ensures.items ∙ reverse-append c.loop-step.earlies.items (c.is_early.result ∷ [])
+          ∙ ap (λ (b : Bool). b ∷ reverse c.loop-step.earlies.items) early ∙ ap (λ (l : List Bool). is_early (drop c.loop-step.step steps) spot ∷ l) c.loop-step.invariant.earlies
+          ∙ sym (ap earlies_of next);
     }

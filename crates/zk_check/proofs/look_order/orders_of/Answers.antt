@@ -27,12 +27,12 @@ loop-step-preserved c =
       objects = c.add.ensures.objects ∙ c.loop-step.invariant.objects;
       floor = subst (IsFloor c.add.new.self) (sym to) (c.add.ensures.floor (take step steps) c.loop-step.invariant.floor);
       orders = orders-more steps step spot c.loop-step.orders.items c.push.new.self.items c.if-is_late.push to next c.in_ok-push.ensures.items
-        (elim c.if-is_late.branch [
-          | then-is_late w ↦
-              let read = w.index.ensures ∙ ap (λ (l : List Bool). get_or l step w.index.result.now) c.in_ok-earlies.ensures in
-              w.push-is ∙ read ∙ earlies-at steps step spot w.index.result.now within spot_is
-              ∙ sym (ap (λ (b : Bool). b && is_early (drop (suc step) steps) spot) (sym late ∙ w.if-is_late.true))
-          | else-is_late w ↦ w.push-is ∙ w.if-is_late.false ∙ sym (ap (λ (b : Bool). b && is_early (drop (suc step) steps) spot) (sym late ∙ w.if-is_late.false))
-        ])
-        c.loop-step.invariant.orders;
+          (elim c.if-is_late.branch [
+            | then-is_late w ↦
+                let read = w.index.ensures ∙ ap (λ (l : List Bool). get_or l step w.index.result.now) c.in_ok-earlies.ensures in
+                w.push-is ∙ read ∙ earlies-at steps step spot w.index.result.now within spot_is
+                ∙ sym (ap (λ (b : Bool). b && is_early (drop (suc step) steps) spot) (sym late ∙ w.if-is_late.true))
+            | else-is_late w ↦ w.push-is ∙ w.if-is_late.false ∙ sym (ap (λ (b : Bool). b && is_early (drop (suc step) steps) spot) (sym late ∙ w.if-is_late.false))
+          ])
+          c.loop-step.invariant.orders;
     }
