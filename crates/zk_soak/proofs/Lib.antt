@@ -1,0 +1,5 @@
+pub mod CallsRead
+pub mod LinesRead
+pub mod Pieces
+pub mod ScriptsRead
+pub mod WordsRead
