@@ -4,4 +4,7 @@ pub mod LinesRead
 pub mod Pieces
 pub mod ScriptsRead
 pub mod SlotsSaid
+pub mod SoakCalls
+pub mod SoakObjects
+pub mod SoakReadable
 pub mod WordsRead

@@ -1,7 +1,7 @@
 -- The pieces of a text: its lines are told apart again by their feeds, and the words of a line by its spaces.
-use Rattle.std.proofs.Common.{◌≡◌, ℕ, ◌*◌, ◌≤◌, Bool, true, not, eqb, ◌&&◌, List, [], ◌∷◌, ◌++◌, length, length-append, append_assoc, arith, refl, ap, ◌∙◌}
+use Rattle.std.proofs.Common.{◌≡◌, ℕ, ◌*◌, ◌≤◌, Bool, true, not, eqb, nat_le, ◌&&◌, List, [], ◌∷◌, ◌++◌, length, length-append, append_assoc, arith, refl, ap, ◌∙◌}
 use Rattle.std.specs.List.{AllByRecursion, list_all, onto_first}
-use Rattle.std.proofs.lemmas.Bool.{and_parts, and_from, not-true}
+use Rattle.std.proofs.lemmas.Bool.{and_parts, and_from, not-true, leb-true}
 use Rattle.std.proofs.lemmas.List.Folds.{list_all-append}
 use Rattle.std.proofs.lemmas.List.Splits.{slice_split-cons_yes, slice_split-cons_no}
 use Rattle.zk_words.specs.Bytes.{space, line_feed}
@@ -25,6 +25,17 @@ IsPlain word = list_all is_plain word ≡ true
 pub record IsLine (line : List ℕ) : Type 0 where
   pub unfed : list_all (is_other line_feed) line ≡ true
   pub short : length line ≤ 64
+
+-- the test of it
+abbrev pub is_line : List ℕ → Bool
+is_line line = list_all (is_other line_feed) line && nat_le (length line) 64
+
+pub lines_by : (lines : List (List ℕ)) → list_all is_line lines ≡ true → AllByRecursion IsLine lines
+lines_by [] each = tt
+lines_by (line ∷ lines) each =
+    let parts = and_parts (is_line line) (list_all is_line lines) each in
+    let both = and_parts (list_all (is_other line_feed) line) (nat_le (length line) 64) parts.0 in
+    (record { unfed = both.0; short = leb-true (length line) 64 both.1 }, lines_by lines parts.1)
 
 itself : (c : ℕ) → eqb c c ≡ true
 itself c = grind arith

@@ -13,14 +13,14 @@ use Rattle.zk_soak.specs.Drawn.{calls_drawn, x_behind}
 abbrev pub soak_written : List Declared
 soak_written = map Object (range_with_len 0 40)
 
--- the script of thread tK: 300 calls, drawn from x on
-abbrev pub thread_script : ℕ → ℕ → Script
-thread_script k x = record { owner = k; calls = calls_drawn 300 x }
+-- the script of thread tK: so many calls, drawn from x on
+abbrev pub thread_script : ℕ → ℕ → ℕ → Script
+thread_script k calls x = record { owner = k; calls = calls_drawn calls x }
 
--- the scripts of so many threads, tK and on, drawn one behind the other
-abbrev pub thread_scripts : ℕ → ℕ → ℕ → List Script
-thread_scripts zero k x = []
-thread_scripts (suc n) k x = thread_script k x ∷ thread_scripts n (k + 1) (x_behind 300 x)
+-- the scripts of so many threads, tK and those behind it, of so many calls each, drawn one behind the other
+abbrev pub thread_scripts : ℕ → ℕ → ℕ → ℕ → List Script
+thread_scripts zero calls k x = []
+thread_scripts (suc n) calls k x = thread_script k calls x ∷ thread_scripts n calls (k + 1) (x_behind calls x)
 
 -- the script of item wK: `give sJ`, J being K modulo 4
 abbrev pub item_script : ℕ → Script
@@ -32,4 +32,5 @@ item_scripts = map item_script (range_with_len 0 16)
 
 -- the scenario of `soak N`: x starts as N
 abbrev pub soak_scenario : ℕ → Content
-soak_scenario number = record { decls = soak_decls; written = soak_written; scripts = thread_scripts 12 0 number ++ item_scripts }
+soak_scenario number =
+    record { decls = soak_decls; written = soak_written; scripts = thread_scripts 12 300 0 number ++ item_scripts }
