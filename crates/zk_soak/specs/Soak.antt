@@ -1,4 +1,4 @@
-use Rattle.std.specs.Prelude.{ℕ, zero, suc, ◌+◌, ◌%◌, List, [], ◌∷◌, ◌++◌, map}
+use Rattle.std.specs.Prelude.{ℕ, zero, suc, ◌+◌, ◌%◌, List, [], ◌∷◌, ◌++◌, map, codes}
 use Rattle.std.specs.List.{range_with_len}
 use Rattle.zk_line.specs.declared.types.Call.TheVariants.{Give}
 use Rattle.zk_line.specs.declared.types.Declared.{Declared}
@@ -6,12 +6,17 @@ use Rattle.zk_line.specs.declared.types.Declared.TheVariants.{Object}
 use Rattle.zk_line.specs.declared.types.Ref.TheVariants.{Known}
 use Rattle.zk_scenario.specs.declared.types.Script.{Script}
 use Rattle.zk_scenario.specs.Content.{Content}
+use Rattle.zk_scenario.specs.Spelling.{declared_line, lines_text}
 use Rattle.zk_soak.specs.Objects.{soak_decls}
 use Rattle.zk_soak.specs.Drawn.{calls_drawn, x_behind}
 
 -- the lines of the declarations: of all objects, in their order
 abbrev pub soak_written : List Declared
 soak_written = map Object (range_with_len 0 40)
+
+-- the text of the header and the declarations
+abbrev pub declared_text : List ℕ
+declared_text = lines_text (codes "zk 1" ∷ map (declared_line soak_decls) soak_written)
 
 -- the script of thread tK: so many calls, drawn from x on
 abbrev pub thread_script : ℕ → ℕ → ℕ → Script

@@ -1,6 +1,7 @@
-//! The scenario of `soak`, of a number: twelve threads make 300 drawn calls each.
+//! The scenario of `soak`, of any number: twelve threads that make 300 drawn calls each.
 #![tactic(auto)]
 
 mod draws;
+mod text;
 
-pub use draws::Draws;
+pub use text::generate;
