@@ -1,5 +1,6 @@
 pub mod CallsRead
 pub mod CallsTaken
+pub mod Left
 pub mod LinesRead
 pub mod Pieces
 pub mod ScriptsRead
@@ -7,4 +8,5 @@ pub mod SlotsSaid
 pub mod SoakCalls
 pub mod SoakObjects
 pub mod SoakReadable
+pub mod SoakText
 pub mod WordsRead

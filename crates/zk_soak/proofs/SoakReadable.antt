@@ -1,16 +1,16 @@
 -- The text of the scenario is read as the scenario.
-use Rattle.std.proofs.Common.{◌≡◌, ℕ, zero, suc, ◌+◌, ◌*◌, ◌%◌, ◌≤◌, None, List, [], ◌++◌, length, length-append, map, arith, refl, ap, subst, ◌∙◌}
+use Rattle.std.proofs.Common.{◌≡◌, ℕ, zero, suc, ◌+◌, ◌*◌, ◌%◌, ◌≤◌, None, Ok, List, [], ◌++◌, length, length-append, map, arith, refl, ap, subst, ◌∙◌}
 use Rattle.std.specs.Fmt.{digits}
 use Rattle.std.specs.List.{flat_map, range_with_len}
 use Rattle.std.proofs.Math.Nat.{mod-lt}
 use Rattle.zk_scenario.specs.declared.types.Script.{Script}
-use Rattle.zk_scenario.specs.Grammar.{IsReadable}
+use Rattle.zk_scenario.specs.Grammar.{scenario_of, IsReadable}
 use Rattle.zk_scenario.specs.Reading.{start}
 use Rattle.zk_scenario.specs.Spelling.{declared_line, script_lines}
 use Rattle.zk_scenario.specs.Valid.{call_count}
 use Rattle.zk_soak.specs.Objects.{soak_decls}
 use Rattle.zk_soak.specs.Drawn.{x_behind}
-use Rattle.zk_soak.specs.Soak.{soak_written, thread_script, thread_scripts, item_script, item_scripts, soak_scenario}
+use Rattle.zk_soak.specs.Soak.{soak_written, declared_text, thread_script, thread_scripts, item_script, item_scripts, soak_scenario}
 use Rattle.zk_soak.proofs.Pieces.{lines_by}
 use Rattle.zk_soak.proofs.LinesRead.{IsRead, joined, scenario-read}
 use Rattle.zk_soak.proofs.CallsRead.{reading, call_count-cons}
@@ -70,3 +70,7 @@ soak_readable number =
     let count : call_count (thread_scripts 12 300 0 number ++ item_scripts) ≡ 3616 = calls_in-threads 12 300 0 number item_scripts ∙ ap (λ n. 3600 + n) (calls_in-items 0 16) in
     let many : length (thread_scripts 12 300 0 number ++ item_scripts) ≡ 28 = length-threads 12 300 0 number item_scripts in
     scripts_readable (thread_scripts 12 300 0 number ++ item_scripts) (threads_played 12 300 0 number 12 item_scripts refl (omega arith) (items_played 0 16 12 (omega arith) (omega arith))) (omega (arith, count)) (omega (arith, many))
+
+-- the declarations alone are a scenario
+pub declared_readable : scenario_of declared_text ≡ Ok (record { decls = soak_decls; written = soak_written; scripts = [] })
+declared_readable = (scripts_readable [] tt (omega arith) (omega arith)).read_back

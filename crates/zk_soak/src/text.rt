@@ -3,8 +3,9 @@ ghost use Rattle.std.specs.Result.{IsOk};
 ghost use Rattle.std.specs.List.{flat_map, range_with_len};
 ghost use Rattle.zk_line.specs.Text.{call_line};
 ghost use Rattle.zk_scenario.specs.Grammar.{scenario_of};
-ghost use Rattle.zk_scenario.specs.Spelling.{script_line, end_line, script_lines, fed, lines_text};
+ghost use Rattle.zk_scenario.specs.Spelling.{script_line, end_line, script_lines, fed, lines_text, text_of};
 ghost use Rattle.zk_soak.specs.Drawn.{calls_drawn, x_behind};
+ghost use Rattle.zk_soak.specs.Objects.{soak_decls};
 ghost use Rattle.zk_soak.specs.Soak.{declared_text, thread_script, thread_scripts, item_script, soak_scenario};
 
 use crate::draws::Draws;
@@ -19,13 +20,21 @@ pub fn generate(alloc: Global, number: u32) -> Result<Scenario, NoMemory>
     ensures { IfOk result (λ scenario. scenario ≡ soak_scenario number) }
 {
     let declared = read(alloc, declarations())?;
-    let decls = declared.decls();
+    let text = soak_text(alloc, declared.decls(), number)?;
+    read(alloc, &text)
+}
+
+/// The text of the scenario, over the declarations.
+fn soak_text(alloc: Global, decls: &[Decl], number: u32) -> Result<Vec<u8>, NoMemory>
+    requires { decls.now ≡ soak_decls }
+    ensures { IfOk result (λ text. text.items ≡ text_of (soak_scenario number)) }
+{
     let mut draws = Draws::from(number);
     let mut text = Vec::new(alloc);
     put(&mut text, declarations())?;
     put_threads(&mut text, decls, &mut draws, 12, 300)?;
     put_items(&mut text, decls)?;
-    read(alloc, &text)
+    Ok(text)
 }
 
 /// The header and the declarations.
