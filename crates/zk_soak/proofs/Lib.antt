@@ -1,0 +1,12 @@
+pub mod CallsRead
+pub mod CallsTaken
+pub mod Left
+pub mod LinesRead
+pub mod Pieces
+pub mod ScriptsRead
+pub mod SlotsSaid
+pub mod SoakCalls
+pub mod SoakObjects
+pub mod SoakReadable
+pub mod SoakText
+pub mod WordsRead

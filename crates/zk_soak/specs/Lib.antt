@@ -1,0 +1,3 @@
+pub mod Drawn
+pub mod Objects
+pub mod Soak
