@@ -14,7 +14,6 @@ use Rattle.zk_check.specs.LookFailure.{IsLookFailure}
 use Rattle.zk_check.specs.PlaceFailure.{IsPlaceFailure}
 use Rattle.zk_check.proofs.Answered.{unlike-never}
 use Rattle.zk_check.proofs.LogsLed.{log-never}
-use Rattle.zk_check.proofs.LooksFound.{row, stepped}
 use Rattle.zk_check.proofs.LooksRight.{wrong-never}
 use Rattle.zk_check.proofs.Placed.{misplaced-never, gapped-never}
 
@@ -33,7 +32,7 @@ module _ (s : Content) (t : Trace) (form : IsInForm s t) where
 
   look-unlawful : (site : Site) → IsLookFailure s t site → IsLawful s t → ⊥
   look-unlawful (Row place) first lawful =
-      wrong-never s t lawful.place (row s t form lawful.place) (stepped s t form lawful.place) lawful.look place first.fails
+      wrong-never s t form lawful.place lawful.look place first.fails
   look-unlawful (Player player) first lawful = absurd first
   look-unlawful (Answer player place) first lawful = absurd first
   look-unlawful Ending first lawful = absurd first

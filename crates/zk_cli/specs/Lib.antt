@@ -11,5 +11,6 @@ pub mod Publishes
 pub mod UserChecks
 pub mod Refusal
 pub mod Scripts
+pub mod SoakAnswer
 pub mod Told
 pub mod Top

@@ -45,7 +45,7 @@ fn run(alloc: Global, text: Vec<u8>, scenario: &Scenario) -> Result<(Vec<u8>, St
 }
 
 /// The status of a run with this ending.
-fn status_of(ending: Ending) -> Status
+pub fn status_of(ending: Ending) -> Status
     ensures { result ≡ status_of ending }
 {
     match ending {

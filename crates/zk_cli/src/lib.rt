@@ -6,6 +6,7 @@ mod check;
 mod form;
 mod input;
 mod output;
+mod soak;
 mod top;
 
 pub use form::{Form, LONGEST_TRACE};
