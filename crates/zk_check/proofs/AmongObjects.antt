@@ -1,9 +1,10 @@
 -- The objects of a kind, played one after another.
-use Rattle.std.proofs.Common.{◌≡◌, ◌⊎◌, inl, inr, ℕ, zero, suc, ◌+◌, ◌<◌, ◌≤◌, Option, Some, None, List, [], ◌∷◌, ◌++◌, length, map, take, drop, set, get_or, All, refl, sym, ap, subst, ◌∙◌, arith}
+use Rattle.std.proofs.Common.{◌≡◌, inl, inr, ℕ, zero, suc, ◌+◌, ◌<◌, ◌≤◌, Option, Some, None, List, [], ◌∷◌, ◌++◌, length, map, take, drop, set, All, refl, sym, ap, subst, ◌∙◌, arith}
 use Rattle.std.specs.List.{slice_get, AllZip}
 use Rattle.std.specs.Option.{option_map}
 use Rattle.std.proofs.lemmas.List.Elements.{All-head, All-tail}
-use Rattle.std.proofs.lemmas.List.{length-map}
+use Rattle.std.proofs.lemmas.List.{length-map, drop_all}
+use Rattle.std.proofs.lemmas.Slice.Zip.{AllZip-long}
 use Rattle.std.proofs.lemmas.Option.{same_Some, slice_get_within}
 use Rattle.zk_base.specs.declared.ids.Entry.{Entry}
 use Rattle.zk_base.specs.Legal.{Machine}
@@ -11,7 +12,6 @@ use Rattle.zk_services.specs.Objects.{starts_of, history_of, histories_of}
 use Rattle.zk_trace.specs.declared.looks.SignalLook.{SignalLook}
 use Rattle.zk_trace.specs.Text.{looks_at}
 use Rattle.zk_check.specs.Answering.{FirstUnlikeAt, StandsAt, FirstAmong, line_count}
-use Rattle.zk_check.specs.Playable.{IsPlayableAt}
 
 -- no history of any
 abbrev pub none_of : {E : Type 0} → List (List E) → List (List E)
@@ -26,24 +26,11 @@ module _ {A B : Type 0} (R : A → B → Type 0) where
       subst (λ (u : A). R u y) (same_Some a x one) (subst (R a) (same_Some b y other) zip.0)
   zip-at (a ∷ xs) (b ∷ ys) (suc k) x y zip one other = zip-at xs ys k x y zip.1 one other
 
-  -- and both are of one length
-  pub zip-long : (xs : List A) (ys : List B) → AllZip R xs ys → length xs ≡ length ys
-  zip-long [] [] zip = refl
-  zip-long [] (y ∷ ys) zip = absurd zip
-  zip-long (x ∷ xs) [] zip = absurd zip
-  zip-long (x ∷ xs) (y ∷ ys) zip = ap suc (zip-long xs ys zip.1)
-
 -- what is at a place of a list, and what is behind it
 pub cut-there : {A : Type 0} (xs : List A) (k : ℕ) (x : A) → slice_get xs k ≡ Some x → drop k xs ≡ x ∷ drop (k + 1) xs
 cut-there [] k x there = absurd (cc)
 cut-there (y ∷ xs) zero x there = let same : 0 + 1 ≡ suc 0 = omega arith in ap (λ (z : _). z ∷ xs) (same_Some y x there) ∙ ap (λ (n : ℕ). x ∷ drop n (y ∷ xs)) (sym same)
 cut-there (y ∷ xs) (suc k) x there = let same : suc k + 1 ≡ suc (k + 1) = omega arith in cut-there xs k x there ∙ ap (λ (n : ℕ). x ∷ drop n (y ∷ xs)) (sym same)
-
-nothing-past : {A : Type 0} (xs : List A) (k : ℕ) → length xs ≤ k → drop k xs ≡ []
-nothing-past [] zero past = refl
-nothing-past [] (suc k) past = refl
-nothing-past (x ∷ xs) zero past = absurd (omega arith)
-nothing-past (x ∷ xs) (suc k) past = nothing-past xs k (omega arith)
 
 module _ {E : Type 0} where
   -- where no object has a history at first
@@ -88,7 +75,7 @@ histories-set history (o ∷ os) (suc k) slot = ap (λ (l : List (List _)). hist
 -- there are as many objects as histories
 pub objects-long : {V S E : Type 0} (R : Option S → List E → Type 0) (start : V → S) (objects : List (Option V)) (starts : List (Option S)) (hs : List (List E)) →
     starts_of start objects ≡ starts → AllZip R starts hs → length objects ≡ length hs
-objects-long R start objects starts hs same zip = sym (length-map objects (option_map start)) ∙ ap (λ (l : List (Option _)). length l) same ∙ zip-long R starts hs zip
+objects-long R start objects starts hs same zip = sym (length-map objects (option_map start)) ∙ ap (λ (l : List (Option _)). length l) same ∙ sym (AllZip-long R starts hs zip)
 
 module _ {S O R : Type 0} (m : Machine S O R) (looks : List (List SignalLook)) where
   -- the first is one of them
@@ -126,8 +113,8 @@ module _ {S O R : Type 0} (m : Machine S O R) (looks : List (List SignalLook)) w
   -- the end
   pub found-none : (object : ℕ) (starts : List (Option S)) (hs : List (List (Entry O R))) (k : ℕ) → length starts ≤ k → length hs ≤ k → FirstAmong m looks object (drop k starts) (drop k hs) None
   found-none object starts hs k past over =
-      subst (λ (l : List (Option S)). AllZip (StandsAt m) l (drop k hs)) (sym (nothing-past starts k past))
-      (subst (λ (l : List (List (Entry O R))). AllZip (StandsAt m) [] l) (sym (nothing-past hs k over)) tt)
+      subst (λ (l : List (Option S)). AllZip (StandsAt m) l (drop k hs)) (sym (drop_all k starts past))
+      (subst (λ (l : List (List (Entry O R))). AllZip (StandsAt m) [] l) (sym (drop_all k hs over)) tt)
 
   -- two counts of lines passed, one behind the other
   pub passed-both : (a b c : ℕ) (row : Option ℕ) → c ≡ a + b → option_map (λ n. c + n) row ≡ option_map (λ n. a + n) (option_map (λ n. b + n) row)

@@ -1,13 +1,12 @@
 -- Whether a run ends so, by its logs, its history of work and what its players can still do.
-use Rattle.std.proofs.Common.{◌≡◌, ◌↔◌, IsTrue, ℕ, zero, suc, ◌+◌, ◌<◌, Bool, true, false, Option, Some, None, is_some, List, [], ◌∷◌, length, refl, sym, ap, subst, ◌∙◌, arith}
+use Rattle.std.proofs.Common.{◌≡◌, ◌↔◌, IsTrue, ℕ, zero, suc, ◌<◌, Bool, true, false, Option, Some, None, List, [], ◌∷◌, refl, sym, ap, subst, ◌∙◌, arith}
 use Rattle.std.specs.List.{slice_get}
 use Rattle.std.specs.Option.{option_and_then}
-use Rattle.std.proofs.lemmas.Option.{same_Some}
+use Rattle.std.proofs.lemmas.Option.{same_Some, slice_get_within}
 use Rattle.zk_base.specs.declared.ids.Who.{Who}
 use Rattle.zk_scenario.specs.Content.{Content}
 use Rattle.zk_scenario.specs.Valid.{IsValid}
 use Rattle.zk_worker.specs.declared.log.Log.{Log}
-use Rattle.zk_worker.specs.declared.steps.Spot.{Spot}
 use Rattle.zk_worker.specs.declared.steps.Step.{Step}
 use Rattle.zk_worker.specs.declared.steps.StepReply.{StepReply}
 use Rattle.zk_worker.specs.Attempt.{reply_in}
@@ -15,7 +14,7 @@ use Rattle.zk_worker.specs.Choosing.{or_else, first_possible, chosen}
 use Rattle.zk_worker.specs.Follows.{IsFollowing, log_of}
 use Rattle.zk_worker.specs.Machines.{Machines, machines_of}
 use Rattle.zk_worker.specs.Places.{PlayerPlace}
-use Rattle.zk_worker.specs.Shown.{Shown, shown_at, ShowsLog}
+use Rattle.zk_worker.specs.Shown.{Shown, ShowsLog}
 use Rattle.zk_worker.proofs.Ranges.{ahead-takes}
 use Rattle.zk_trace.specs.declared.trace.Ending.TheVariants.{Spent}
 use Rattle.zk_trace.specs.declared.trace.Trace.{Trace}
@@ -24,9 +23,10 @@ use Rattle.zk_trace.specs.History.{AreLegal}
 use Rattle.zk_trace.specs.Place.{IsPlaced}
 use Rattle.zk_trace.specs.Shown.{trace_shown}
 use Rattle.zk_trace.proofs.OnePlace.{one-place}
-use Rattle.zk_check.specs.CanStep.{CanTry, EachCanTry, IsHalted, SomeSteps, NoneSteps}
-use Rattle.zk_check.specs.Played.{IsPlayedOut, EachPlayedOut, ArePlayedOut}
+use Rattle.zk_check.specs.CanStep.{EachCanTry, NoneSteps}
+use Rattle.zk_check.specs.Played.{ArePlayedOut}
 use Rattle.zk_check.proofs.FollowedFits.{followed-fits, followed-number}
+use Rattle.zk_check.proofs.PlacedLists.{there-is}
 
 -- Attempts.
 
@@ -57,21 +57,7 @@ below-end (x ∷ ahead) zero k step none there = absurd (cc)
 below-end (x ∷ ahead) (suc n) zero step none there = omega arith
 below-end (x ∷ ahead) (suc n) (suc k) step none there = let less = below-end ahead n k step none there in omega arith
 
-pub some-is : {A : Type 0} (o : Option A) → is_some o ≡ true → (x : A) × (o ≡ Some x)
-some-is None is = absurd (cc)
-some-is (Some x) is = (x, refl)
-
 -- Endings.
-
-there-is : (xs : List PlayerPlace) (k : ℕ) → k < length xs → (x : PlayerPlace) × (slice_get xs k ≡ Some x)
-there-is [] k within = absurd (omega arith)
-there-is (x ∷ xs) zero within = (x, refl)
-there-is (x ∷ xs) (suc k) within = there-is xs k (omega arith)
-
-within-there : (xs : List Log) (k : ℕ) (x : Log) → slice_get xs k ≡ Some x → k < length xs
-within-there [] k x there = absurd (cc)
-within-there (y ∷ xs) zero x there = omega arith
-within-there (y ∷ xs) (suc k) x there = let less = within-there xs k x there in omega arith
 
 module _ (s : Content) (t : Trace) where
   -- where a player is spent no more is asked
@@ -84,7 +70,7 @@ module _ (s : Content) (t : Trace) where
     halts : (t.ending ≡ Spent → ⊥) → (number : ℕ) (log : Log) → slice_get t.logs number ≡ Some log → (end : PlayerPlace) → IsFollowing s number (trace_shown t) end → log_of s end ≡ log →
         chosen (machines_of s) s (trace_shown t) end ≡ None
     halts unspent number log logged end led is =
-        let within = within-there t.logs number log logged in
+        let within = slice_get_within t.logs number log logged in
         let it = there-is players number (omega (arith, out.0)) in
         let so = out.1 number it.0 it.1 in
         let same : log ≡ log_of s it.0 = same_Some log (log_of s it.0) (sym logged ∙ so.logged) in

@@ -1,11 +1,11 @@
 -- A player that stands where its log leads it attempts only what is in range, in a trace whose histories stand.
-use Rattle.std.proofs.Common.{◌≡◌, ℕ, zero, suc, ◌<◌, Bool, true, false, Option, Some, None, List, [], ◌∷◌, ◌++◌, length, length-take, map, take, refl, sym, ap, subst, ◌∙◌, arith}
+use Rattle.std.proofs.Common.{◌≡◌, ℕ, zero, suc, Option, Some, None, List, [], ◌∷◌, length, length-take, map, take, refl, sym, ap, subst, ◌∙◌, arith}
 use Rattle.std.specs.List.{slice_get, AllZip}
-use Rattle.std.specs.Option.{option_map, option_and_then}
-use Rattle.std.proofs.lemmas.Option.{same_Some, slice_get_within, slice_get-map, option_and_then_some}
+use Rattle.std.specs.Option.{option_map}
+use Rattle.std.proofs.lemmas.Option.{slice_get_within}
 use Rattle.zk_base.specs.declared.ids.Entry.{Entry}
 use Rattle.zk_base.specs.declared.ids.Who.{Who}
-use Rattle.zk_base.specs.Legal.{Machine, state_after, Replays}
+use Rattle.zk_base.specs.Legal.{Machine, Replays}
 use Rattle.zk_scenario.specs.Content.{Content}
 use Rattle.zk_scenario.specs.Valid.{IsValid}
 use Rattle.zk_worker.specs.declared.steps.Spot.{Spot}
@@ -15,11 +15,11 @@ use Rattle.zk_worker.specs.declared.steps.Step.TheVariants as steps
 use Rattle.zk_worker.specs.declared.steps.StepReply.{StepReply}
 use Rattle.zk_worker.specs.declared.steps.StepReply.TheVariants as step_replies
 use Rattle.zk_worker.specs.Attempt.{reply_in}
-use Rattle.zk_worker.specs.Families.{Family, start_of, entry_at, answer_at}
+use Rattle.zk_worker.specs.Families.{entry_at, answer_at}
 use Rattle.zk_worker.specs.Follows.{StepMade, Stands, IsPlayed, IsFollowing}
-use Rattle.zk_worker.specs.Machines.{Machines, machines_of}
+use Rattle.zk_worker.specs.Machines.{machines_of}
 use Rattle.zk_worker.specs.Places.{PlayerPlace}
-use Rattle.zk_worker.specs.Protocol.{IsAhead, after}
+use Rattle.zk_worker.specs.Protocol.{after}
 use Rattle.zk_worker.specs.Ranges.{IsFit, ReplyFits, PassesFit}
 use Rattle.zk_worker.specs.Shown.{Shown}
 use Rattle.zk_worker.specs.Single.{answer_in}

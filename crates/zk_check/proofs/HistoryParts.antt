@@ -1,5 +1,5 @@
 -- The first line that isn't answered so, by the parts of a trace; and where there is none, the histories stand.
-use Rattle.std.proofs.Common.{◌≡◌, ℕ, ◌+◌, ◌<◌, Option, Some, None, List, [], ◌∷◌, ◌++◌, length, map, All, refl, sym, ap, subst, ◌∙◌, arith}
+use Rattle.std.proofs.Common.{◌≡◌, ℕ, ◌+◌, Option, Some, None, List, [], ◌∷◌, ◌++◌, length, map, All, refl, sym, ap, subst, ◌∙◌, arith}
 use Rattle.std.specs.List.{AllZip}
 use Rattle.std.proofs.lemmas.List.{length-map}
 use Rattle.std.proofs.lemmas.List.Elements.{All-nil, All-cons}
@@ -22,12 +22,13 @@ use Rattle.zk_trace.specs.declared.trace.Trace.{Trace}
 use Rattle.zk_trace.specs.History.{IsAnsweredAt, AreLegal}
 use Rattle.zk_trace.specs.Shown.{trace_shown}
 use Rattle.zk_trace.specs.Stood.{stood, spot_in, entries_stood, histories_stood, signals_stood, item_look_stood}
-use Rattle.zk_check.specs.Answering.{StandsAt, EachStands, FirstAmong, IsFoundAt, Sought, line_count, single_lines, waited_lines, bus_lines, SinglesStand, WaitedStand, BusStands}
+use Rattle.zk_check.specs.Answering.{StandsAt, EachStands, FirstAmong, IsFoundAt, line_count, single_lines, waited_lines, bus_lines, SinglesStand, WaitedStand, BusStands}
 use Rattle.zk_check.specs.First.{IsFirst}
 use Rattle.zk_check.specs.HistoryFailure.{IsUnlike, IsUnlikeAt, IsUnlikeIn, IsUnanswered}
 use Rattle.zk_check.specs.Playable.{IsPlayableAt, ArePlayable}
+use Rattle.zk_check.proofs.PlacedFew.{entries-long}
 use Rattle.zk_check.proofs.PlayableTraces.{lines-parts, length-histories}
-use Rattle.zk_check.proofs.UnlikeLines.{NoneUnlike, none-append, found-front, found-behind, found-there, found-first, item_looks-none, length-entries, history-none, history-found, objects_stood, histories-objects, signals-objects, Means, objects-none, objects-found}
+use Rattle.zk_check.proofs.UnlikeLines.{NoneUnlike, none-append, found-front, found-behind, found-there, found-first, item_looks-none, history-none, history-found, objects_stood, histories-objects, signals-objects, Means, objects-none, objects-found}
 
 -- The objects of a kind.
 module _ (Unlike : Spot → Type 0) (look : (object : ℕ) (seen : Seen) → Unlike (spots.LookSignal object seen) → ⊥) {S O R : Type 0} (objects : Objects S O R) (family : Family)
@@ -90,7 +91,7 @@ module _ (m : Machines) (t : Trace) where
   behind-work lines row place stands is found =
       let work = entries_stood homes.Work 0 t.work in
       let looks = map item_look_stood t.item_looks in
-      let long = length-entries Bad homes.Work 0 t.work in
+      let long = entries-long homes.Work 0 t.work in
       let looked = length-map t.item_looks item_look_stood in
       subst (λ (n : ℕ). IsFoundAt Bad (work ++ (looks ++ lines)) n) (omega arith)
       (found-behind Bad work (looks ++ lines) (length looks + place) (work-none stands) (found-behind Bad looks lines place looks-none found))
@@ -107,7 +108,7 @@ module _ (m : Machines) (t : Trace) where
   table-first row place stands ticks is first =
       let clock = entries_stood homes.Clock 0 t.clock in
       let table = entries_stood homes.Table 0 t.table in
-      let long = length-entries Bad homes.Clock 0 t.clock in
+      let long = entries-long homes.Clock 0 t.clock in
       behind-work (clock ++ table) row (length clock + place) stands (omega arith)
       (found-behind Bad clock table place (clock-none ticks)
       (history-found Bad m.table homes.Table m.table_start t.table (λ k bad. bad) (λ k bad. bad) place first))

@@ -1,8 +1,8 @@
 -- A trace that is in form and placed can be played at the services.
-use Rattle.std.proofs.Common.{◌≡◌, append_assoc, ℕ, ◌+◌, ◌<◌, ◌≤◌, Bool, true, false, Option, Some, None, is_some, List, [], ◌∷◌, ◌++◌, length, map, length-append, All, refl, sym, ap, subst, ◌∙◌, arith}
+use Rattle.std.proofs.Common.{◌≡◌, append_assoc, ℕ, ◌+◌, ◌<◌, Bool, true, false, Option, Some, None, is_some, List, [], ◌∷◌, ◌++◌, length, map, length-append, All, refl, sym, ap, ◌∙◌, arith}
 use Rattle.std.specs.List.{AllByRecursion, AllZip}
 use Rattle.std.proofs.lemmas.List.{length-map}
-use Rattle.std.proofs.lemmas.List.Elements.{All-nil, All-cons, All-head, All-tail}
+use Rattle.std.proofs.lemmas.List.Elements.{All-head, All-tail}
 use Rattle.zk_base.specs.declared.ids.Entry.{Entry}
 use Rattle.zk_base.specs.History.{Rises}
 use Rattle.zk_base.specs.Legal.{Machine}
@@ -21,7 +21,6 @@ use Rattle.zk_model_wait.specs.Sem.{sem_machine}
 use Rattle.zk_model_wait.specs.Signal.{signal_machine}
 use Rattle.zk_worker.specs.Machines.{machines_of, sem_start, msgq_start, signal_start, chan_start, observer_start}
 use Rattle.zk_worker.specs.Shown.{AreShort}
-use Rattle.zk_trace.specs.declared.looks.SignalLook.{SignalLook}
 use Rattle.zk_trace.specs.declared.stood.Family.{Family}
 use Rattle.zk_trace.specs.declared.stood.Family.TheVariants as families
 use Rattle.zk_trace.specs.declared.stood.Home.TheVariants as homes
@@ -32,12 +31,11 @@ use Rattle.zk_trace.specs.Form.{IsInForm}
 use Rattle.zk_trace.specs.Place.{EachRises}
 use Rattle.zk_trace.specs.Shown.{trace_shown}
 use Rattle.zk_trace.specs.Stood.{stood, entries_stood, histories_stood, signals_stood, item_look_stood}
-use Rattle.zk_worker.specs.declared.steps.Spot.{Spot}
-use Rattle.zk_trace.specs.Text.{looks_at}
 use Rattle.zk_check.specs.Answering.{line_count, single_lines, waited_lines, bus_lines}
-use Rattle.zk_check.specs.Playable.{IsPlayable, IsPlayableAt, ArePlayable}
+use Rattle.zk_check.specs.Playable.{IsPlayableAt, ArePlayable}
 use Rattle.zk_check.proofs.InRange.{each-range, work-range, table-range}
-use Rattle.zk_check.proofs.UnlikeLines.{length-entries, length-objects, objects_stood, histories-objects, signals-objects}
+use Rattle.zk_check.proofs.PlacedFew.{entries-long}
+use Rattle.zk_check.proofs.UnlikeLines.{length-objects, histories-objects, signals-objects}
 
 -- The lines of a trace, part by part.
 
@@ -56,7 +54,6 @@ length-histories family hs = ap (λ (l : List Stood). length l) (sym (histories-
 -- how many lines each part has
 pub length-single : (t : Trace) → length (single_lines t) ≡ length t.work + length t.item_looks + (length t.clock + length t.table)
 length-single t =
-    let none : Spot → Type 0 = λ spot. ⊥ in
     let w = entries_stood homes.Work 0 t.work in
     let l = map item_look_stood t.item_looks in
     let c = entries_stood homes.Clock 0 t.clock in
@@ -64,10 +61,10 @@ length-single t =
     let whole = length-append w (l ++ (c ++ b)) in
     let behind = length-append l (c ++ b) in
     let last = length-append c b in
-    let work = length-entries none homes.Work 0 t.work in
+    let work = entries-long homes.Work 0 t.work in
     let looks = length-map t.item_looks item_look_stood in
-    let clock = length-entries none homes.Clock 0 t.clock in
-    let table = length-entries none homes.Table 0 t.table in
+    let clock = entries-long homes.Clock 0 t.clock in
+    let table = entries-long homes.Table 0 t.table in
     omega arith
 
 pub length-waited : (t : Trace) → length (waited_lines t) ≡ line_count [] 0 t.sems + line_count [] 0 t.msgqs + line_count t.signal_looks 0 t.signals
@@ -80,7 +77,7 @@ length-waited t =
     let sems = length-histories families.Sem t.sems in
     let msgqs = length-histories families.Msgq t.msgqs in
     let signals : length c ≡ line_count t.signal_looks 0 t.signals =
-        ap (λ (l : List Stood). length l) (sym (signals-objects t.signal_looks 0 t.signals)) ∙ length-objects families.Signal t.signal_looks 0 t.signals in
+    ap (λ (l : List Stood). length l) (sym (signals-objects t.signal_looks 0 t.signals)) ∙ length-objects families.Signal t.signal_looks 0 t.signals in
     omega arith
 
 pub length-bus : (t : Trace) → length (bus_lines t) ≡ line_count [] 0 t.chans + line_count [] 0 t.observers

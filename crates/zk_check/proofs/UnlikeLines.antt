@@ -1,5 +1,5 @@
 -- The first line of a trace that its service doesn't answer so, by those of the histories.
-use Rattle.std.proofs.Common.{◌≡◌, ◌⊎◌, inl, inr, ℕ, zero, suc, ◌+◌, ◌<◌, Option, Some, None, List, [], ◌∷◌, ◌++◌, length, map, append_assoc, append-nil, length-append, refl, sym, ap, subst, ◌∙◌, arith}
+use Rattle.std.proofs.Common.{◌≡◌, inl, inr, ℕ, zero, suc, ◌+◌, ◌<◌, Option, Some, None, List, [], ◌∷◌, ◌++◌, length, map, append_assoc, append-nil, length-append, refl, sym, ap, subst, ◌∙◌, arith}
 use Rattle.std.specs.List.{slice_get, AllByRecursion, AllZip}
 use Rattle.std.proofs.lemmas.List.{length-map}
 use Rattle.std.proofs.lemmas.Option.{same_Some, slice_get_within}
@@ -17,10 +17,11 @@ use Rattle.zk_trace.specs.declared.stood.Home.TheVariants as homes
 use Rattle.zk_trace.specs.declared.stood.Stood.{Stood}
 use Rattle.zk_trace.specs.Stood.{spot_at, spot_in, entries_stood, histories_stood, item_look_stood, signal_look_stood, signals_stood}
 use Rattle.zk_trace.specs.Text.{looks_at}
-use Rattle.zk_check.specs.Answering.{FirstUnlike, FirstUnlikeAt, StandsAt, FirstAmong, IsFoundAt, line_count}
+use Rattle.zk_check.specs.Answering.{StandsAt, FirstAmong, IsFoundAt, line_count}
 use Rattle.zk_check.specs.First.{IsFirst}
 use Rattle.zk_check.specs.HistoryFailure.{IsUnlike, IsUnlikeAt}
 use Rattle.zk_check.proofs.Answered.{unlike-none}
+use Rattle.zk_check.proofs.PlacedFew.{entries-long}
 
 module _ (Unlike : Spot → Type 0) where
   -- none of these lines is so
@@ -124,10 +125,6 @@ module _ (Unlike : Spot → Type 0) where
           unlike = more.unlike;
         }
 
-    pub length-entries : (place : ℕ) (es : List (Entry O R)) → length (entries_stood home place es) ≡ length es
-    length-entries place [] = refl
-    length-entries place (e ∷ es) = ap suc (length-entries (place + 1) es)
-
   -- A history whose lines are so just where its entries are unlike what the machine answers.
   module _ {S O R : Type 0} (m : Machine S O R) (home : Home) (s : S) (h : List (Entry O R)) (there : (k : ℕ) → Unlike (spot_at home k) → IsUnlike m s h k)
       (back : (k : ℕ) → IsUnlike m s h k → Unlike (spot_at home k)) where
@@ -170,7 +167,7 @@ length-objects family looks object (h ∷ hs) =
     let more = objects_stood family looks (object + 1) hs in
     let all = length-append (entries ++ seen) more in
     let front = length-append entries seen in
-    let long = length-entries (λ (spot : Spot). ⊥) (homes.Object family object) 0 h in
+    let long = entries-long (homes.Object family object) 0 h in
     let looked = length-map (looks_at looks object) (signal_look_stood object) in
     let rest = length-objects family looks (object + 1) hs in
     omega arith
@@ -244,7 +241,7 @@ module _ (Unlike : Spot → Type 0) {S O R : Type 0} (m : Machine S O R) (family
       let seen = map (signal_look_stood object) (looks_at looks object) in
       let more = objects_stood family looks (object + 1) hs in
       let is = objects-found (object + 1) starts hs further.1 (means-next object start starts h hs means) further.3 in
-      let long = length-entries Unlike (homes.Object family object) 0 h in
+      let long = entries-long (homes.Object family object) 0 h in
       let looked = length-map (looks_at looks object) (signal_look_stood object) in
       let front = length-append entries seen in
       subst (λ (n : ℕ). IsFoundAt Unlike (entries ++ seen ++ more) n) (omega (arith, further.2))

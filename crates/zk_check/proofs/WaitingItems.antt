@@ -1,7 +1,6 @@
 -- Whether an admission waits, by the busy flags of the items.
-use Rattle.std.proofs.Common.{◌≡◌, ◌≢◌, ℕ, zero, suc, ◌+◌, ◌*◌, ◌/◌, ◌%◌, ◌^◌, ◌<◌, ◌≤◌, Bool, true, false, not, ◌&&◌, cond, eqb, nat_lt, eq-eqb, Option, Some, None, is_some, List, [], ◌∷◌, length, map, All, bit_and, refl, sym, ap, subst, ◌∙◌, arith}
-use Rattle.std.specs.List.{slice_get, list_all, position, AllByRecursion}
-use Rattle.std.specs.Int.{bit_at}
+use Rattle.std.proofs.Common.{◌≡◌, ℕ, suc, ◌+◌, ◌*◌, ◌/◌, ◌%◌, ◌<◌, ◌≤◌, Bool, true, false, not, ◌&&◌, cond, eqb, nat_lt, eq-eqb, Option, Some, None, is_some, List, [], ◌∷◌, length, map, All, bit_and, refl, sym, ap, ◌∙◌, arith}
+use Rattle.std.specs.List.{slice_get, list_all, AllByRecursion}
 use Rattle.std.proofs.lemmas.Bool.{and_from, lt-ltb, false≢true}
 use Rattle.std.proofs.lemmas.List.Elements.{All-nil}
 use Rattle.std.proofs.lemmas.List.FromFn.{length-range_with_len}
@@ -35,7 +34,7 @@ use Rattle.zk_trace.proofs.WorkStates.{Admits, Arms, Keeps, keeps}
 items-delayed : (st : State) (who : Who) (item queue delay : ℕ) → (delayed st who item queue delay).items ≡ st.items
 items-delayed st who item queue delay =
     elim (eqb delay 0) as (λ b. (cond b (record st { admissions = submit st.admissions item (submission_in st (Some who.number) item (Some queue)) })
-        (record st { arms = arm st.arms item queue (st.time + delay) })).items ≡ st.items)
+    (record st { arms = arm st.arms item queue (st.time + delay) })).items ≡ st.items)
     [ true ↦ refl | false ↦ refl ]
 
 items-scheduled : (st : State) (who : Who) (item queue delay : ℕ) → (schedule st who item queue delay).items ≡ st.items
@@ -111,7 +110,7 @@ pub word-says : (s : Content) (m : Machines) (shown : Shown) (h : List (Entry Wo
 word-says s m shown h item word same history within is =
     let st = state_after work_machine (work_start_of s) h in
     let states : state_after work_machine m.work_start shown.work ≡ st =
-        ap (λ (x : State). state_after work_machine x shown.work) (ap (λ (x : Machines). x.work_start) same) ∙ ap (state_after work_machine (work_start_of s)) history in
+    ap (λ (x : State). state_after work_machine x shown.work) (ap (λ (x : Machines). x.work_start) same) ∙ ap (state_after work_machine (work_start_of s)) history in
     let items : st.items ≡ length (places is_item s.decls) = items-after (work_start_of s) h in
     let there : nat_lt item st.items ≡ true = lt-ltb item st.items (omega arith) in
     ap (λ (n : ℕ). bit_and n 4)

@@ -16,7 +16,8 @@ use Rattle.zk_check.specs.First.{IsFirst}
 use Rattle.zk_check.specs.HistoryFailure.{IsUnlike, IsUnlikeIn}
 
 -- whether an entry is what a machine answers behind a history, which then has it
-abbrev pub Answers : {S O R : Type 0} → Machine S O R → S → List (Entry O R) → Entry O R → List (Entry O R) → Bool → Type 0
+abbrev pub Answers : {S O R : Type 0} → Machine S O R → S → List (Entry O R) → Entry O R → List (Entry O R) → Bool →
+    Type 0
 Answers m start h e after true = (m.reply_of (state_after m start h) e.who e.op ≡ Some e.reply) × (after ≡ h ++ e ∷ [])
 Answers m start h e after false = m.reply_of (state_after m start h) e.who e.op ≡ Some e.reply → ⊥
 
@@ -41,13 +42,15 @@ line_count looks object [] = 0
 line_count looks object (h ∷ hs) = length h + length (looks_at looks object) + line_count looks (object + 1) hs
 
 -- the first of these lines that isn't answered so, if there is one
-abbrev pub FirstAmong : {S O R : Type 0} → Machine S O R → List (List SignalLook) → ℕ → List (Option S) → List (List (Entry O R)) → Option ℕ → Type 0
+abbrev pub FirstAmong : {S O R : Type 0} → Machine S O R → List (List SignalLook) → ℕ → List (Option S) →
+    List (List (Entry O R)) → Option ℕ → Type 0
 FirstAmong m looks object starts hs None = AllZip (StandsAt m) starts hs
 FirstAmong m looks object [] hs (Some row) = ⊥
 FirstAmong m looks object (start ∷ starts) [] (Some row) = ⊥
 FirstAmong m looks object (start ∷ starts) (h ∷ hs) (Some row) =
     FirstUnlikeAt m start h (Some row)
-    ⊎ (StandsAt m start h × (more : ℕ) × (row ≡ length h + length (looks_at looks object) + more) × FirstAmong m looks (object + 1) starts hs (Some more))
+    ⊎ (StandsAt m start h × (more : ℕ) × (row ≡ length h + length (looks_at looks object) + more)
+    × FirstAmong m looks (object + 1) starts hs (Some more))
 
 -- the first of some lines whose spot is so
 pub record IsFoundAt (Unlike : Spot → Type 0) (lines : List Stood) (place : ℕ) : Type 0 where
@@ -88,7 +91,8 @@ EachStands family histories = AllZip (StandsAt family.machine) family.starts his
 
 -- all histories of each part stand
 abbrev pub SinglesStand : Machines → Trace → Type 0
-SinglesStand m t = Replays m.work m.work_start t.work × Replays m.clock m.clock_start t.clock × Replays m.table m.table_start t.table
+SinglesStand m t =
+    Replays m.work m.work_start t.work × Replays m.clock m.clock_start t.clock × Replays m.table m.table_start t.table
 
 abbrev pub WaitedStand : Machines → Trace → Type 0
 WaitedStand m t = EachStands m.sems t.sems × EachStands m.msgqs t.msgqs × EachStands m.signals t.signals

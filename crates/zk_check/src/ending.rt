@@ -86,11 +86,7 @@ fn ending_of(services: &Plain, scenario: &Scenario, trace: &Trace) -> Ending
 }
 
 /// Whether a player can make one of its next attempts; if so the first such is made.
-fn can_step(
-    services: &mut Plain,
-    scenario: &Scenario,
-    player: &Player,
-) -> Result<bool, NoMemory>
+fn can_step(services: &mut Plain, scenario: &Scenario, player: &Player) -> Result<bool, NoMemory>
     requires can_try { CanTry (plain_machines services.old) scenario.now (plain_shown services.old) player.now }
     requires short { AreShort (plain_shown services.old) }
     ensures steps { IfOk result (λ steps.

@@ -127,7 +127,7 @@ pub fn history_failure(
     requires fresh { plain_shown services.old ≡ nothing_shown scenario.now.decls }
     ensures found { IfOk result (λ row. MatchOption row
         (AreLegal scenario.now trace.now × (plain_shown services.new ≡ trace_shown trace.now)
-            × (plain_machines services.new ≡ machines_of scenario.now))
+        × (plain_machines services.new ≡ machines_of scenario.now))
         (λ row. IsFirst (IsUnanswered scenario.now trace.now) row)) }
 {
     let _valid = scenario.decls();

@@ -12,10 +12,7 @@ use zk_base::{Entry, Listed, NoMemory, Service};
 use zk_trace::{History, SignalLook};
 
 /// Makes an entry anew, and says whether it is answered as it was.
-fn answers<S: Service>(
-    service: &mut S,
-    entry: &Entry<S::Op, S::Reply>,
-) -> Result<bool, NoMemory>
+fn answers<S: Service>(service: &mut S, entry: &Entry<S::Op, S::Reply>) -> Result<bool, NoMemory>
 where
     S::Op: Copy,
     S::Reply: Alike,

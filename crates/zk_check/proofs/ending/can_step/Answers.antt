@@ -1,4 +1,4 @@
-use Rattle.std.proofs.Common.{◌≡◌, ℕ, ◌<◌, ◌∙◌, true, false, Some, None, length, refl, sym, ap, subst, below_more, arith}
+use Rattle.std.proofs.Common.{◌≡◌, ℕ, ◌∙◌, true, Some, None, length, refl, sym, subst, below_more, arith}
 use Rattle.std.specs.List.{slice_get}
 use Rattle.std.proofs.lemmas.Option.{same_Some, slice_get_within}
 use Rattle.zk_base.specs.declared.ids.Who.{Who}
@@ -11,7 +11,8 @@ use Rattle.zk_worker.proofs.Between.{log-later}
 use Rattle.zk_worker.proofs.Limits.{attempts-few}
 use Rattle.zk_worker.proofs.Trying.{attempted-some, attempted-none}
 use Rattle.zk_services.specs.Alone.{plain_machines, plain_shown}
-use Rattle.zk_check.proofs.Endings.{possible-some, possible-none, below-end, some-is}
+use Rattle.zk_line.proofs.Makes.{is_some-some}
+use Rattle.zk_check.proofs.Endings.{possible-some, possible-none, below-end}
 use Rattle.zk_check.proofs.ending.can_step.Goals as goal
 
 pub returns-in_default-clause-steps : goal.returns-in_default-clause-steps
@@ -60,9 +61,9 @@ returns-then-is_some-clause-steps c =
     let now = plain_shown c.loop-index.services in
     let step = c.in-Some.step in
     let there = sym {b = slice_get ahead index} c.in-Some.ensures in
-    let it = some-is c.in_ok-attempt.field-0 (sym c.is_some.ensures ∙ c.if-is_some.true) in
+    let it = is_some-some c.in_ok-attempt.field-0 (sym c.is_some.ensures ∙ c.if-is_some.true) in
     let made = attempted-some true true m (plain_machines c.loop-index.services) at.who c.who.result (length at.spots) c.steps.result step now (plain_shown c.attempt.new.self)
-        c.in_ok-attempt.field-0 it.0 refl was.machines c.who.ensures c.steps.ensures.count c.in_ok-attempt.ensures.attempted it.1 in
+    c.in_ok-attempt.field-0 it.0 refl was.machines c.who.ensures c.steps.ensures.count c.in_ok-attempt.ensures.attempted it.1 in
     λ halted. possible-some m shown at.who ahead index step it.0 there (subst (λ x. reply_in m x at.who step ≡ Some it.0) (made.since ∙ was.shown) made.replied) halted
 
 pub loop-index-preserved : goal.loop-index-preserved
@@ -79,7 +80,7 @@ loop-index-preserved c =
     let there = sym {b = slice_get ahead index} c.in-Some.ensures in
     let none = none_from_is_some c.in_ok-attempt.field-0 (sym c.is_some.ensures ∙ c.if-is_some.false) in
     let vain = attempted-none true true m (plain_machines c.loop-index.services) at.who c.who.result (length at.spots) c.steps.result step now (plain_shown c.attempt.new.self)
-        c.in_ok-attempt.field-0 refl was.machines c.who.ensures c.steps.ensures.count c.in_ok-attempt.ensures.attempted none in
+    c.in_ok-attempt.field-0 refl was.machines c.who.ensures c.steps.ensures.count c.in_ok-attempt.ensures.attempted none in
     let still = vain.0 ∙ was.shown in
     let impossible = subst (λ x. reply_in m x at.who step ≡ None) still vain.1 in
     record {

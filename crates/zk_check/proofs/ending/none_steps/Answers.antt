@@ -1,4 +1,4 @@
-use Rattle.std.proofs.Common.{◌≡◌, ℕ, ◌<◌, ◌∙◌, true, false, Some, length, refl, sym, ap, subst, below_more, arith}
+use Rattle.std.proofs.Common.{◌≡◌, ℕ, ◌∙◌, Some, length, refl, sym, subst, below_more, arith}
 use Rattle.std.specs.List.{slice_get}
 use Rattle.std.proofs.lemmas.Option.{same_Some, slice_get_read, slice_get_within}
 use Rattle.zk_worker.specs.Places.{PlayerPlace}
@@ -29,7 +29,7 @@ returns-then-branch c =
     let at = c.player-item.result in
     let there = slice_get_read players (length players) index at refl c.loop-player-test.true c.player-item.is in
     let told = subst (λ x. Steps m s x at c.in_ok-can_step.field-0) was.shown (subst (λ n. Steps n s (plain_shown c.loop-player.services) at c.in_ok-can_step.field-0) was.machines
-        c.in_ok-can_step.ensures.steps) in
+    c.in_ok-can_step.ensures.steps) in
     record { number = index; at = at; there = there; steps = subst (Steps m s shown at) c.if-branch.true told }
 
 pub loop-player-preserved : goal.loop-player-preserved
@@ -43,7 +43,7 @@ loop-player-preserved c =
     let at = c.player-item.result in
     let there = slice_get_read players (length players) index at refl c.loop-player-test.true c.player-item.is in
     let told = subst (λ x. Steps m s x at c.in_ok-can_step.field-0) was.shown (subst (λ n. Steps n s (plain_shown c.loop-player.services) at c.in_ok-can_step.field-0) was.machines
-        c.in_ok-can_step.ensures.steps) in
+    c.in_ok-can_step.ensures.steps) in
     let halted = subst (Steps m s shown at) c.if-branch.false told in
     record {
       shown = c.in_ok-can_step.ensures.still c.if-branch.false ∙ was.shown;

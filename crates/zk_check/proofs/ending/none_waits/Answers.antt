@@ -1,4 +1,4 @@
-use Rattle.std.proofs.Common.{◌≡◌, ◌<◌, ◌∙◌, length, sym, ap, below_more, arith}
+use Rattle.std.proofs.Common.{◌∙◌, length, sym, ap, below_more, arith}
 use Rattle.std.specs.Option.{is_some}
 use Rattle.zk_base.specs.Legal.{state_after}
 use Rattle.zk_line.specs.Objects.{is_item}
@@ -28,7 +28,7 @@ returns-then-word-ne0 c =
     let items = ap (λ l. length l) c.items-item-end.ensures in
     let less = c.loop-item-test.true in
     let says = word-says s (plain_machines c.args.services.now) (plain_shown c.args.services.now) h item c.word.result c.requires.machines (ap (λ x. x.work) c.requires.shown) (omega arith)
-        c.word.ensures.word in
+    c.word.ensures.word in
     sym (some-waiting st item (set-flag (is_some (waiting st.admissions item)) (λ zero. c.if-word-ne0.true (says ∙ zero))))
 
 pub loop-item-preserved : goal.loop-item-preserved
@@ -40,7 +40,7 @@ loop-item-preserved c =
     let items = ap (λ l. length l) c.items-item-end.ensures in
     let less = c.loop-item-test.true in
     let says = word-says s (plain_machines c.args.services.now) (plain_shown c.args.services.now) h item c.word.result c.requires.machines (ap (λ x. x.work) c.requires.shown) (omega arith)
-        c.word.ensures.word in
+    c.word.ensures.word in
     below_more _ _ c.loop-item.invariant (clear-flag (is_some (waiting st.admissions item)) (sym says ∙ c.if-word-ne0.false))
 
 pub returns : goal.returns

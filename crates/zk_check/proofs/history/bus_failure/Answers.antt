@@ -1,4 +1,4 @@
-use Rattle.std.proofs.Common.{◌≡◌, ◌+◌, ◌<◌, ◌∙◌, Some, None, [], length, subst, ap, arith}
+use Rattle.std.proofs.Common.{◌+◌, ◌∙◌, [], subst, ap, arith}
 use Rattle.zk_services.specs.Alone.{plain_machines}
 use Rattle.zk_check.specs.Answering.{FirstAmong, line_count}
 use Rattle.zk_check.proofs.AmongObjects.{among-within}
@@ -40,7 +40,7 @@ overflow_add-result c =
     let held = c.line_count-lines.ensures ∙ ap (λ l. line_count [] 0 l) c.items-2.ensures in
     let observers = subst (λ l. FirstAmong m.observers.machine [] 0 m.observers.starts l c.in_ok-row-2.field-0) c.items-3.ensures c.in_ok-row-2.ensures.found in
     let within = among-within m.observers.machine [] 0 m.observers.starts t.observers c.in-Some-2.row
-        (subst (FirstAmong m.observers.machine [] 0 m.observers.starts t.observers) c.in-Some-2.is observers) in
+    (subst (FirstAmong m.observers.machine [] 0 m.observers.starts t.observers) c.in-Some-2.is observers) in
     omega arith
 
 pub returns-in-Some-2-clause-found : goal.returns-in-Some-2-clause-found

@@ -1,5 +1,4 @@
-use Rattle.std.proofs.Common.{◌≡◌, ◌+◌, ◌<◌, ◌∙◌, Some, None, [], length, All, refl, sym, subst, ap, arith}
-use Rattle.zk_worker.specs.Machines.{machines_of}
+use Rattle.std.proofs.Common.{◌≡◌, ◌+◌, ◌∙◌, [], All, sym, subst, ap, arith}
 use Rattle.zk_services.specs.Alone.{plain_machines, plain_shown}
 use Rattle.zk_trace.specs.Stood.{stood}
 use Rattle.zk_check.specs.Answering.{IsFoundAt, Sought, single_lines, waited_lines, bus_lines, SinglesStand, WaitedStand, BusStands}
@@ -69,7 +68,7 @@ overflow_add-result c =
     let lines = few-lines t few in
     let mid = plain_machines c.single_failure.new.services in
     let found = subst (λ n. IsFoundAt (IsUnlikeIn n t) (waited_lines t) c.in-Some-2.row) c.single_failure.ensures.machines
-        (subst (Sought (WaitedStand mid t) (IsUnlikeIn mid t) (waited_lines t)) c.in-Some-2.is c.in_ok-row-2.ensures.found) in
+    (subst (Sought (WaitedStand mid t) (IsUnlikeIn mid t) (waited_lines t)) c.in-Some-2.is c.in_ok-row-2.ensures.found) in
     let within = found-within (IsUnlikeIn (plain_machines c.args.services.now) t) (waited_lines t) c.in-Some-2.row found in
     let most = lines.single in
     let count = c.single_count-lines.ensures in
@@ -83,7 +82,7 @@ returns-in-Some-2 c =
     let single = subst (Sought (SinglesStand m t) (IsUnlikeIn m t) (single_lines t)) c.in_default.is c.in_ok-row.ensures.found in
     let mid = plain_machines c.single_failure.new.services in
     let found = subst (λ n. IsFoundAt (IsUnlikeIn n t) (waited_lines t) c.in-Some-2.row) c.single_failure.ensures.machines
-        (subst (Sought (WaitedStand mid t) (IsUnlikeIn mid t) (waited_lines t)) c.in-Some-2.is c.in_ok-row-2.ensures.found) in
+    (subst (Sought (WaitedStand mid t) (IsUnlikeIn mid t) (waited_lines t)) c.in-Some-2.is c.in_ok-row-2.ensures.found) in
     let row = c.single_count-lines.result + c.in-Some-2.row in
     let count = c.single_count-lines.ensures in
     let whole = waited-first m t row c.in-Some-2.row single (omega arith) found in
@@ -140,7 +139,7 @@ overflow_add-result-in-Some-3 c =
     let last = plain_machines c.waited_failure.new.services in
     let same = c.waited_failure.ensures.machines ∙ c.single_failure.ensures.machines in
     let found = subst (λ n. IsFoundAt (IsUnlikeIn n t) (bus_lines t) c.in-Some-3.row) same
-        (subst (Sought (BusStands last t) (IsUnlikeIn last t) (bus_lines t)) c.in-Some-3.is c.in_ok-row-3.ensures.found) in
+    (subst (Sought (BusStands last t) (IsUnlikeIn last t) (bus_lines t)) c.in-Some-3.is c.in_ok-row-3.ensures.found) in
     let within = found-within (IsUnlikeIn (plain_machines c.args.services.now) t) (bus_lines t) c.in-Some-3.row found in
     let most = lines.single in
     let count = c.single_count-lines.ensures in
@@ -158,7 +157,7 @@ returns-in-Some-3 c =
     let last = plain_machines c.waited_failure.new.services in
     let same = c.waited_failure.ensures.machines ∙ c.single_failure.ensures.machines in
     let found = subst (λ n. IsFoundAt (IsUnlikeIn n t) (bus_lines t) c.in-Some-3.row) same
-        (subst (Sought (BusStands last t) (IsUnlikeIn last t) (bus_lines t)) c.in-Some-3.is c.in_ok-row-3.ensures.found) in
+    (subst (Sought (BusStands last t) (IsUnlikeIn last t) (bus_lines t)) c.in-Some-3.is c.in_ok-row-3.ensures.found) in
     let row = c.single_count-lines.result + c.waited_count.result + c.in-Some-3.row in
     let count = c.single_count-lines.ensures in
     let waited = c.waited_count.ensures in
@@ -178,14 +177,14 @@ returns-in-None c =
     let waits = subst (λ n. WaitedStand n t) c.single_failure.ensures.machines (subst (Sought (WaitedStand mid t) (IsUnlikeIn mid t) (waited_lines t)) c.in_default-2.is c.in_ok-row-2.ensures.found) in
     let last = plain_machines c.waited_failure.new.services in
     let rest = subst (λ n. BusStands n t) (c.waited_failure.ensures.machines ∙ c.single_failure.ensures.machines)
-        (subst (Sought (BusStands last t) (IsUnlikeIn last t) (bus_lines t)) c.in-None.is c.in_ok-row-3.ensures.found) in
+    (subst (Sought (BusStands last t) (IsUnlikeIn last t) (bus_lines t)) c.in-None.is c.in_ok-row-3.ensures.found) in
     record {
       found = (
         all-answered s t all (subst (λ n. SinglesStand n t) c.requires.machines single) (subst (λ n. WaitedStand n t) c.requires.machines waits)
-        (subst (λ n. BusStands n t) c.requires.machines rest),
+            (subst (λ n. BusStands n t) c.requires.machines rest),
         shown-all s.decls t (plain_shown c.args.services.now) (plain_shown c.single_failure.new.services) (plain_shown c.waited_failure.new.services)
-        (plain_shown c.bus_failure.new.services) c.requires.fresh (c.in_ok-row.ensures.shown c.in_default.is) (c.in_ok-row-2.ensures.shown c.in_default-2.is)
-        (c.in_ok-row-3.ensures.shown c.in-None.is),
+            (plain_shown c.bus_failure.new.services) c.requires.fresh (c.in_ok-row.ensures.shown c.in_default.is) (c.in_ok-row-2.ensures.shown c.in_default-2.is)
+            (c.in_ok-row-3.ensures.shown c.in-None.is),
         c.bus_failure.ensures.machines ∙ c.waited_failure.ensures.machines ∙ c.single_failure.ensures.machines ∙ c.requires.machines,
       );
     }

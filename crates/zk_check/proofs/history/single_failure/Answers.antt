@@ -1,4 +1,4 @@
-use Rattle.std.proofs.Common.{◌≡◌, ◌+◌, ◌<◌, ◌∙◌, Some, None, [], length, subst, ap, arith}
+use Rattle.std.proofs.Common.{◌+◌, length, subst, ap, arith}
 use Rattle.std.proofs.lemmas.Option.{slice_get_within}
 use Rattle.zk_services.specs.Alone.{plain_machines}
 use Rattle.zk_check.specs.Answering.{FirstUnlike}

@@ -1,4 +1,4 @@
-use Rattle.std.proofs.Common.{◌≡◌, ◌+◌, ◌<◌, ◌∙◌, Some, None, [], length, subst, ap, arith}
+use Rattle.std.proofs.Common.{◌+◌, ◌∙◌, [], subst, ap, arith}
 use Rattle.zk_services.specs.Alone.{plain_machines}
 use Rattle.zk_check.specs.Answering.{FirstAmong, line_count}
 use Rattle.zk_check.proofs.AmongObjects.{among-within}
@@ -81,9 +81,9 @@ overflow_add-result-in-Some-3 c =
     let msgqs = subst (λ l. FirstAmong m.msgqs.machine [] 0 m.msgqs.starts l c.in_ok-row-2.field-0) c.items-3.ensures c.in_ok-row-2.ensures.found in
     let queued = c.line_count.ensures ∙ ap (λ l. line_count [] 0 l) c.items-4.ensures in
     let signals = subst (λ l. FirstAmong m.signals.machine l 0 m.signals.starts t.signals c.in_ok-row-3.field-0) c.items-looks.ensures
-        (subst (λ l. FirstAmong m.signals.machine c.items-looks.result.now 0 m.signals.starts l c.in_ok-row-3.field-0) c.items-5.ensures c.in_ok-row-3.ensures.found) in
+    (subst (λ l. FirstAmong m.signals.machine c.items-looks.result.now 0 m.signals.starts l c.in_ok-row-3.field-0) c.items-5.ensures c.in_ok-row-3.ensures.found) in
     let within = among-within m.signals.machine t.signal_looks 0 m.signals.starts t.signals c.in-Some-3.row
-        (subst (FirstAmong m.signals.machine t.signal_looks 0 m.signals.starts t.signals) c.in-Some-3.is signals) in
+    (subst (FirstAmong m.signals.machine t.signal_looks 0 m.signals.starts t.signals) c.in-Some-3.is signals) in
     omega arith
 
 pub returns-in-Some-3-clause-found : goal.returns-in-Some-3-clause-found
@@ -95,7 +95,7 @@ returns-in-Some-3-clause-found c =
     let msgqs = subst (λ l. FirstAmong m.msgqs.machine [] 0 m.msgqs.starts l c.in_ok-row-2.field-0) c.items-3.ensures c.in_ok-row-2.ensures.found in
     let queued = c.line_count.ensures ∙ ap (λ l. line_count [] 0 l) c.items-4.ensures in
     let signals = subst (λ l. FirstAmong m.signals.machine l 0 m.signals.starts t.signals c.in_ok-row-3.field-0) c.items-looks.ensures
-        (subst (λ l. FirstAmong m.signals.machine c.items-looks.result.now 0 m.signals.starts l c.in_ok-row-3.field-0) c.items-5.ensures c.in_ok-row-3.ensures.found) in
+    (subst (λ l. FirstAmong m.signals.machine c.items-looks.result.now 0 m.signals.starts l c.in_ok-row-3.field-0) c.items-5.ensures c.in_ok-row-3.ensures.found) in
     signals-first m t (c.line_count-lines.result + c.line_count.result + c.in-Some-3.row) c.in-Some-3.row (subst (FirstAmong m.sems.machine [] 0 m.sems.starts t.sems) c.in_default.is sems)
     (subst (FirstAmong m.msgqs.machine [] 0 m.msgqs.starts t.msgqs) c.in_default-2.is msgqs) (omega arith)
     (subst (FirstAmong m.signals.machine t.signal_looks 0 m.signals.starts t.signals) c.in-Some-3.is signals)

@@ -1,14 +1,15 @@
-use Rattle.std.proofs.Common.{◌≡◌, ℕ, ◌+◌, ◌<◌, Option, Some, None, List, [], ◌∷◌, ◌++◌, length, take, drop, set, refl, sym, ap, subst, ◌∙◌, arith}
+use Rattle.std.proofs.Common.{◌≡◌, ◌+◌, Some, None, length, set, refl, sym, ap, subst, ◌∙◌, arith}
 use Rattle.std.specs.List.{slice_get}
 use Rattle.std.specs.Option.{option_map}
-use Rattle.std.proofs.lemmas.List.{length-map, length-set}
+use Rattle.std.proofs.lemmas.List.{length-map}
 use Rattle.std.proofs.lemmas.Option.{slice_get_read, slice_get-map}
+use Rattle.std.proofs.lemmas.Slice.Zip.{AllZip-long}
 use Rattle.zk_services.specs.Objects.{starts_of, history_of, histories_of}
 use Rattle.zk_services.proofs.Among.{starts-same}
 use Rattle.zk_trace.specs.Text.{looks_at}
 use Rattle.zk_check.specs.Answering.{FirstUnlikeAt, StandsAt, FirstAmong, line_count}
 use Rattle.zk_check.specs.Playable.{IsPlayableAt}
-use Rattle.zk_check.proofs.AmongObjects.{none_of, zip-at, zip-long, objects-long, cut-there, none-first, none-there, none-next, none-last, histories-set, first-within, found-here, found-behind, found-none, passed-both, passed-none}
+use Rattle.zk_check.proofs.AmongObjects.{zip-at, objects-long, cut-there, none-first, none-there, none-next, none-last, histories-set, first-within, found-here, found-behind, found-none, passed-both, passed-none}
 use Rattle.zk_check.proofs.unlike.first_among.Goals as goal
 
 pub loop-object-init : goal.loop-object-init
@@ -57,7 +58,7 @@ first_unlike_at-requires-clause-playable g c =
     let there = slice_get_read objects (length objects) k slot refl (omega (arith, long, c.loop-object-test.true)) c.index_mut.ensures.value in
     let own = slice_get_read hs (length hs) k h refl c.loop-object-test.true c.index-histories-object.is in
     let first : slice_get (starts_of start c.args.objects.now.items) k ≡ Some (option_map start slot) =
-        ap (λ l. slice_get l k) (sym was.starts) ∙ slice_get-map (option_map start) objects k ∙ ap (option_map (option_map start)) there in
+    ap (λ l. slice_get l k) (sym was.starts) ∙ slice_get-map (option_map start) objects k ∙ ap (option_map (option_map start)) there in
     subst (IsPlayableAt m (option_map start slot)) (sym c.items.ensures)
     (zip-at (IsPlayableAt m) (starts_of start c.args.objects.now.items) hs k (option_map start slot) h c.requires.playable first own)
 
@@ -113,7 +114,7 @@ returns-in-Some-clause-found g c =
     let there = slice_get_read objects (length objects) k slot refl (omega (arith, long, c.loop-object-test.true)) c.index_mut.ensures.value in
     let own = slice_get_read hs (length hs) k h refl c.loop-object-test.true c.index-histories-object.is in
     let first : slice_get (starts_of start c.args.objects.now.items) k ≡ Some (option_map start slot) =
-        ap (λ l. slice_get l k) (sym was.starts) ∙ slice_get-map (option_map start) objects k ∙ ap (option_map (option_map start)) there in
+    ap (λ l. slice_get l k) (sym was.starts) ∙ slice_get-map (option_map start) objects k ∙ ap (option_map (option_map start)) there in
     let told = subst (λ l. FirstUnlikeAt m (option_map start slot) l c.in_ok-place.field-0) c.items.ensures c.in_ok-place.ensures.found in
     was.found (Some c.in-Some.place)
     (found-here m c.args.looks.now k (starts_of start c.args.objects.now.items) hs k (option_map start slot) h c.in-Some.place first own
@@ -150,7 +151,7 @@ loop-object-preserved g c =
     let there = slice_get_read objects (length objects) k slot refl (omega (arith, long, c.loop-object-test.true)) c.index_mut.ensures.value in
     let own = slice_get_read hs (length hs) k h refl c.loop-object-test.true c.index-histories-object.is in
     let first : slice_get (starts_of start c.args.objects.now.items) k ≡ Some (option_map start slot) =
-        ap (λ l. slice_get l k) (sym was.starts) ∙ slice_get-map (option_map start) objects k ∙ ap (option_map (option_map start)) there in
+    ap (λ l. slice_get l k) (sym was.starts) ∙ slice_get-map (option_map start) objects k ∙ ap (option_map (option_map start)) there in
     let told = subst (λ l. FirstUnlikeAt m (option_map start slot) l c.in_ok-place.field-0) c.items.ensures c.in_ok-place.ensures.found in
     let looks = c.args.looks.now in
     let starts = starts_of start c.args.objects.now.items in
@@ -181,7 +182,7 @@ returns-clause-found g c =
     let looks = c.args.looks.now in
     let hs = c.args.histories.now in
     let starts = starts_of g.S.Service.start c.args.objects.now.items in
-    let long = zip-long (IsPlayableAt m) starts hs c.requires.playable in
+    let long = AllZip-long (IsPlayableAt m) starts hs c.requires.playable in
     let over = c.loop-object-test.false in
     c.loop-object.invariant.found None (found-none m looks c.loop-object.object starts hs c.loop-object.object (omega arith) over)
 

@@ -1,4 +1,4 @@
-use Rattle.std.proofs.Common.{◌≡◌, ℕ, ◌+◌, Option, List, [], ◌++◌, length, take, drop, map}
+use Rattle.std.proofs.Common.{◌≡◌, ℕ, ◌+◌, Option, [], ◌++◌, take, drop, map}
 use Rattle.std.specs.Option.{option_map}
 use Rattle.zk_services.specs.Objects.{starts_of, histories_of}
 use Rattle.zk_check.specs.Answering.{FirstAmong, line_count}
