@@ -1,7 +1,8 @@
 -- What each way of a call comes to.
-use Rattle.std.proofs.Common.{◌≡◌, ℕ, ◌<◌, ◌⊎◌, cond, Option, Some, None, Ok, Err, List, length, take, refl, sym, ap, ◌∙◌, subst, inl, inr, arith}
+use Rattle.std.proofs.Common.{◌≡◌, ℕ, ◌+◌, ◌<◌, ◌⊎◌, cond, Option, Some, None, Ok, Err, List, length, take, refl, sym, ap, ◌∙◌, subst, inl, inr, arith}
 use Rattle.std.specs.Prelude.{Result, IfSome}
 use Rattle.std.proofs.lemmas.Bool.{lt-ltb, cases_lt}
+use Rattle.std.proofs.lemmas.Option.{same_Some, none-some}
 use Rattle.std.proofs.lemmas.List.{take_all, length-take-le}
 use Rattle.std.specs.Io.KnownBytes.{Appends, Keeps}
 use Rattle.zk_base.specs.Causes.{Rose}
@@ -11,15 +12,18 @@ use Rattle.zk_scenario.specs.Content.{Content}
 use Rattle.zk_scenario.specs.declared.refused.Why.TheVariants as why
 use Rattle.zk_scenario.specs.declared.refused.ScenarioRefused.{ScenarioRefused}
 use Rattle.zk_scenario.specs.declared.refused.ScenarioRefused.TheVariants as refusals
+use Rattle.zk_scenario.specs.declared.limits.TheConstants.{LONGEST_SCENARIO}
 use Rattle.zk_scenario.specs.Grammar.{scenario_of, read_pieces, pieces_of}
 use Rattle.zk_trace.specs.declared.trace.Ending.{Ending}
 use Rattle.zk_trace.specs.declared.trace.Ending.TheVariants as endings
 use Rattle.zk_cli.specs.declared.form.Form.{Form}
-use Rattle.zk_cli.specs.declared.form.Form.TheVariants.{Replay}
+use Rattle.zk_cli.specs.declared.form.Form.TheVariants.{Replay, Check}
+use Rattle.zk_cli.specs.declared.form.TheConstants.{LONGEST_TRACE}
 use Rattle.zk_cli.specs.Input.{HasRead}
 use Rattle.zk_cli.specs.Output.{AppendsFront}
 use Rattle.zk_cli.specs.Answer.{IsRun, IsRefusal, IsOutput, status_of}
-use Rattle.zk_cli.specs.Top.{form_of, words_refused, Prints, PrintsFront, HasReadAll, IsAnswer, HasInput, MayEnd, Answered, answered, cut_short, unmade, CallOutcome, no_form, no_form_cut, unread, no_memory, printed, cut}
+use Rattle.zk_cli.specs.CheckAnswer.{IsRefusedSo, too_long, no_scenario, no_trace, IsCheckOutput}
+use Rattle.zk_cli.specs.Top.{form_of, limit_of, IsOutputOf, words_refused, Prints, PrintsFront, HasReadAll, IsAnswer, HasInput, MayRun, MayEnd, Answered, answered, cut_short, unmade, CallOutcome, no_form, no_form_cut, unread, no_memory, printed, cut}
 
 -- what was not written to stays
 pub Keeps-same : (held : Option (List ℕ)) → Keeps held held
@@ -27,8 +31,8 @@ Keeps-same None = tt
 Keeps-same (Some xs) = refl
 
 -- a text above the limit is refused for its length
-scenario_of-long : (text : List ℕ) → 1048576 < length text → scenario_of text ≡ Err (refusals.At 0 why.Length)
-scenario_of-long text long = ap (λ b. cond b (Err (refusals.At 0 why.Length)) (read_pieces (pieces_of text))) (lt-ltb 1048576 (length text) long)
+scenario_of-long : (text : List ℕ) → LONGEST_SCENARIO < length text → scenario_of text ≡ Err (refusals.At 0 why.Length)
+scenario_of-long text long = ap (λ b. cond b (Err (refusals.At 0 why.Length)) (read_pieces (pieces_of text))) (lt-ltb LONGEST_SCENARIO (length text) long)
 
 -- a run is the answer of the status that its ending has
 pub output-run : (ending : Ending) (input output : List ℕ) → IsRun ending input output → IsOutput (status_of ending) input output
@@ -62,46 +66,92 @@ long_output WriteFault front input output e short long is = absurd is
 long_output NoMemory front input output e short long is = absurd is
 long_output Unlawful front input output e short long is = absurd is
 
--- one byte above the limit says as much of an input as all of it
-IsOutput-front : (status : Status) (n : ℕ) (input output : List ℕ) → n ≡ 1048577 → IsOutput status (take n input) output → IsOutput status input output
-IsOutput-front status n input output is out = elim (cases_lt n (length input)) [
+-- one byte above the limit says as much of a scenario as all of it
+run-front : (status : Status) (n : ℕ) (input output : List ℕ) → n ≡ LONGEST_SCENARIO + 1 → IsOutput status (take n input) output → IsOutput status input output
+run-front status n input output is out = elim (cases_lt n (length input)) [
   | inr within ↦ subst (λ (i : List ℕ). IsOutput status i output) (take_all n input within) out
   | inl above ↦
       let sized = length-take-le n input (omega arith) in
-      let long : 1048576 < length input = omega arith in
-      let front : 1048576 < length (take n input) = omega arith in
+      let long : LONGEST_SCENARIO < length input = omega arith in
+      let front : LONGEST_SCENARIO < length (take n input) = omega arith in
       long_output status (take n input) input output (refusals.At 0 why.Length) (scenario_of-long (take n input) front) (scenario_of-long input long) out
 ]
 
-HasReadAll-read : (left left' : Option (List ℕ)) (read : List ℕ) → HasRead left left' read → HasReadAll left left'
-HasReadAll-read None left' read has = tt
-HasReadAll-read (Some input) None read has = absurd has
-HasReadAll-read (Some input) (Some rest) read has = ap Some has.1
+-- and of the input of a check
+too-long : (front input output : List ℕ) → LONGEST_TRACE < length front → LONGEST_TRACE < length input → IsRefusedSo front output → IsRefusedSo input output
+too-long front input output long more (too_long above says) = too_long more says
+too-long front input output long more (no_scenario f t within parts says) = absurd (omega (arith, long, within))
+too-long front input output long more (no_trace f t s line within parts read refused says) = absurd (omega (arith, long, within))
 
-Prints-read : (left left' old new : Option (List ℕ)) (read : List ℕ) (status : Status) (output : List ℕ) → HasRead left left' read → IsOutput status read output → Appends old new output → Prints left old new (IsOutput status)
-Prints-read None left' old new read status output has is wrote = tt
-Prints-read (Some input) None old new read status output has is wrote = absurd has
-Prints-read (Some input) (Some rest) old new read status output has is wrote =
-    (output, IsOutput-front status 1048577 input output refl (subst (λ (i : List ℕ). IsOutput status i output) has.0 is), wrote)
+long_check : (status : Status) (front input output : List ℕ) → LONGEST_TRACE < length front → LONGEST_TRACE < length input → IsCheckOutput status front output → IsCheckOutput status input output
+long_check Success front input output long more is = absurd (omega (arith, long, is.given.short))
+long_check Unlawful front input output long more is = absurd (omega (arith, long, is.given.short))
+long_check Refused front input output long more is = record {
+  never = λ s t given. absurd (omega (arith, more, given.short));
+  why_so = too-long front input output long more is.why_so;
+}
+long_check Stuck front input output long more is = absurd is
+long_check Spent front input output long more is = absurd is
+long_check Words front input output long more is = absurd is
+long_check ReadFault front input output long more is = absurd is
+long_check WriteFault front input output long more is = absurd is
+long_check NoMemory front input output long more is = absurd is
 
-PrintsFront-read : (left left' old new : Option (List ℕ)) (read : List ℕ) (status : Status) (output : List ℕ) → HasRead left left' read → IsOutput status read output → AppendsFront old new output → PrintsFront left old new
-PrintsFront-read None left' old new read status output has is wrote = tt
-PrintsFront-read (Some input) None old new read status output has is wrote = absurd has
-PrintsFront-read (Some input) (Some rest) old new read status output has is wrote =
-    (status, output, IsOutput-front status 1048577 input output refl (subst (λ (i : List ℕ). IsOutput status i output) has.0 is), wrote)
+check-front : (status : Status) (n : ℕ) (input output : List ℕ) → n ≡ LONGEST_TRACE + 1 → IsCheckOutput status (take n input) output → IsCheckOutput status input output
+check-front status n input output is out = elim (cases_lt n (length input)) [
+  | inr within ↦ subst (λ (i : List ℕ). IsCheckOutput status i output) (take_all n input within) out
+  | inl above ↦
+      let sized = length-take-le n input (omega arith) in
+      long_check status (take n input) input output (omega arith) (omega arith) out
+]
 
--- there is one form
-pub form-replay : (form : Form) → form ≡ Replay
-form-replay Replay = refl
+IsOutput-front : (form : Form) (status : Status) (n : ℕ) (input output : List ℕ) → n ≡ limit_of form + 1 → IsOutputOf form status (take n input) output → IsOutputOf form status input output
+IsOutput-front Replay status n input output is out = run-front status n input output is out
+IsOutput-front Check status n input output is out = check-front status n input output is out
+
+-- a status that has an output of a check is one that prints
+IsAnswer-check : (status : Status) (input output : List ℕ) → IsCheckOutput status input output → IsAnswer status
+IsAnswer-check Success input output is = tt
+IsAnswer-check Unlawful input output is = tt
+IsAnswer-check Refused input output is = tt
+IsAnswer-check Stuck input output is = absurd is
+IsAnswer-check Spent input output is = absurd is
+IsAnswer-check Words input output is = absurd is
+IsAnswer-check ReadFault input output is = absurd is
+IsAnswer-check WriteFault input output is = absurd is
+IsAnswer-check NoMemory input output is = absurd is
+
+IsAnswer-of : (form : Form) (status : Status) (input output : List ℕ) → IsOutputOf form status input output → IsAnswer status
+IsAnswer-of Replay status input output is = IsAnswer-output status input output is
+IsAnswer-of Check status input output is = IsAnswer-check status input output is
+
+HasReadAll-read : (form : Form) (left left' : Option (List ℕ)) (read : List ℕ) → HasRead (limit_of form) left left' read → HasReadAll form left left'
+HasReadAll-read form None left' read has = tt
+HasReadAll-read form (Some input) None read has = absurd has
+HasReadAll-read form (Some input) (Some rest) read has = ap Some has.1
+
+Prints-read : (form : Form) (left left' old new : Option (List ℕ)) (read : List ℕ) (status : Status) (output : List ℕ) →
+    HasRead (limit_of form) left left' read → IsOutputOf form status read output → Appends old new output → Prints left old new (IsOutputOf form status)
+Prints-read form None left' old new read status output has is wrote = tt
+Prints-read form (Some input) None old new read status output has is wrote = absurd has
+Prints-read form (Some input) (Some rest) old new read status output has is wrote =
+    (output, IsOutput-front form status (limit_of form + 1) input output refl (subst (λ (i : List ℕ). IsOutputOf form status i output) has.0 is), wrote)
+
+PrintsFront-read : (form : Form) (left left' old new : Option (List ℕ)) (read : List ℕ) (status : Status) (output : List ℕ) →
+    HasRead (limit_of form) left left' read → IsOutputOf form status read output → AppendsFront old new output → PrintsFront form left old new
+PrintsFront-read form None left' old new read status output has is wrote = tt
+PrintsFront-read form (Some input) None old new read status output has is wrote = absurd has
+PrintsFront-read form (Some input) (Some rest) old new read status output has is wrote =
+    (status, output, IsOutput-front form status (limit_of form + 1) input output refl (subst (λ (i : List ℕ). IsOutputOf form status i output) has.0 is), wrote)
 
 -- an input that was read and answered
-pub Went-answered : (words : List (List ℕ)) (left left' old new : Option (List ℕ)) (reads reads' writes writes' : ℕ) (status : Status) (read : List ℕ) →
-    form_of words ≡ Some Replay → HasRead left left' read → Answered read old new writes writes' status → CallOutcome words left left' old new reads reads' writes writes' status
-Went-answered words left left' old new reads reads' writes writes' status read form has (answered status' output is wrote) =
-    printed status' form (IsAnswer-output status' read output is) (HasReadAll-read left left' read has) (Prints-read left left' old new read status' output has is wrote)
-Went-answered words left left' old new reads reads' writes writes' status read form has (cut_short status' output is wrote rose) =
-    cut form (HasReadAll-read left left' read has) (PrintsFront-read left left' old new read status' output has is wrote) rose
-Went-answered words left left' old new reads reads' writes writes' status read form has (unmade keeps) = no_memory form keeps
+pub Went-answered : (words : List (List ℕ)) (left left' old new : Option (List ℕ)) (reads reads' writes writes' : ℕ) (status : Status) (form : Form) (read : List ℕ) →
+    form_of words ≡ Some form → HasRead (limit_of form) left left' read → Answered form read old new writes writes' status → CallOutcome words left left' old new reads reads' writes writes' status
+Went-answered words left left' old new reads reads' writes writes' status form read asked has (answered status' output is wrote) =
+    printed form status' asked (IsAnswer-of form status' read output is) (HasReadAll-read form left left' read has) (Prints-read form left left' old new read status' output has is wrote)
+Went-answered words left left' old new reads reads' writes writes' status form read asked has (cut_short status' output is wrote rose) =
+    cut form asked (HasReadAll-read form left left' read has) (PrintsFront-read form left left' old new read status' output has is wrote) rose
+Went-answered words left left' old new reads reads' writes writes' status form read asked has (unmade keeps) = no_memory form asked keeps
 
 -- words that are no form
 pub Went-refused : (words : List (List ℕ)) (left left' old new : Option (List ℕ)) (reads reads' writes writes' : ℕ) (status : Status) →
@@ -110,121 +160,153 @@ Went-refused words left left' old new reads reads' writes writes' status other r
     let W : Status → Type 0 = λ s. CallOutcome words left left' old new reads reads' writes writes' s in
     elim refused [ inl all ↦ subst W (sym all.0) (no_form other all.1) | inr short ↦ subst W (sym short.0) (no_form_cut other short.1 short.2) ]
 
+-- the words ask for one form
+one-form : {a b : Form} (asked : Option Form) → asked ≡ Some a → asked ≡ Some b → a ≡ b
+one-form {a} {b} asked one other = same_Some a b (sym one ∙ other)
+
+no-form : {a : Form} (asked : Option Form) → asked ≡ None → asked ≡ Some a → ⊥
+no-form {a} asked none some = none-some a (sym none ∙ some)
+
 module _ (words : List (List ℕ)) (left left' old new : Option (List ℕ)) (reads reads' writes writes' : ℕ) where
+  abbrev Went : Status → Type 0
+  Went status = CallOutcome words left left' old new reads reads' writes writes' status
+
   -- a status that prints goes with its output
-  pub Went-prints : (status which : Status) → CallOutcome words left left' old new reads reads' writes writes' status → IsAnswer which → status ≡ which → Prints left old new (IsOutput which)
-  Went-prints status which (no_form other wrote) is same = absurd (subst IsAnswer (sym same) is)
-  Went-prints status which (no_form_cut other front rose) is same = absurd (subst IsAnswer (sym same) is)
-  Went-prints status which (unread form rose keeps) is same = absurd (subst IsAnswer (sym same) is)
-  Went-prints status which (no_memory form keeps) is same = absurd (subst IsAnswer (sym same) is)
-  Went-prints status which (printed said form is' all prints) is same = subst (λ (s : Status). Prints left old new (IsOutput s)) same prints
-  Went-prints status which (cut form all prints rose) is same = absurd (subst IsAnswer (sym same) is)
+  pub Went-prints : (form : Form) (status which : Status) → Went status → form_of words ≡ Some form → IsAnswer which → status ≡ which →
+      Prints left old new (IsOutputOf form which)
+  Went-prints form status which (no_form other wrote) asked is same = absurd (no-form (form_of words) other asked)
+  Went-prints form status which (no_form_cut other front rose) asked is same = absurd (no-form (form_of words) other asked)
+  Went-prints form status which (unread f asked' rose keeps) asked is same = absurd (subst IsAnswer (sym same) is)
+  Went-prints form status which (no_memory f asked' keeps) asked is same = absurd (subst IsAnswer (sym same) is)
+  Went-prints form status which (printed f said asked' is' all prints) asked is same =
+      subst (λ (s : Status). Prints left old new (IsOutputOf form s)) same
+      (subst (λ (f : Form). Prints left old new (IsOutputOf f said)) (one-form (form_of words) asked' asked) prints)
+  Went-prints form status which (cut f asked' all prints rose) asked is same = absurd (subst IsAnswer (sym same) is)
 
   -- status 1 comes only for words that are no form, and says so
-  pub Went-words : (status : Status) → CallOutcome words left left' old new reads reads' writes writes' status → status ≡ Words → (form_of words ≡ None) × Appends old new words_refused
+  pub Went-words : (status : Status) → Went status → status ≡ Words → (form_of words ≡ None) × Appends old new words_refused
   Went-words status (no_form other wrote) same = (other, wrote)
   Went-words status (no_form_cut other front rose) same = absurd (cc)
-  Went-words status (unread form rose keeps) same = absurd (cc)
-  Went-words status (no_memory form keeps) same = absurd (cc)
-  Went-words status (printed said form is all prints) same = absurd (subst IsAnswer same is)
-  Went-words status (cut form all prints rose) same = absurd (cc)
+  Went-words status (unread f asked rose keeps) same = absurd (cc)
+  Went-words status (no_memory f asked keeps) same = absurd (cc)
+  Went-words status (printed f said asked is all prints) same = absurd (subst IsAnswer same is)
+  Went-words status (cut f asked all prints rose) same = absurd (cc)
 
   -- words that are no form are told so, unless the sink fails
-  pub Went-no_form : (status : Status) → CallOutcome words left left' old new reads reads' writes writes' status → form_of words ≡ None → (status ≡ Words) ⊎ (status ≡ WriteFault)
+  pub Went-no_form : (status : Status) → Went status → form_of words ≡ None → (status ≡ Words) ⊎ (status ≡ WriteFault)
   Went-no_form status (no_form other wrote) not = inl refl
   Went-no_form status (no_form_cut other front rose) not = inr refl
-  Went-no_form status (unread form rose keeps) not = absurd (cc)
-  Went-no_form status (no_memory form keeps) not = absurd (cc)
-  Went-no_form status (printed said form is all prints) not = absurd (cc)
-  Went-no_form status (cut form all prints rose) not = inr refl
+  Went-no_form status (unread f asked rose keeps) not = absurd (no-form (form_of words) not asked)
+  Went-no_form status (no_memory f asked keeps) not = absurd (no-form (form_of words) not asked)
+  Went-no_form status (printed f said asked is all prints) not = absurd (no-form (form_of words) not asked)
+  Went-no_form status (cut f asked all prints rose) not = inr refl
 
   -- a fault of reading comes only where the count of the source rose
-  pub Went-read_fault : (status : Status) → CallOutcome words left left' old new reads reads' writes writes' status → status ≡ ReadFault → Rose reads reads'
+  pub Went-read_fault : (status : Status) → Went status → status ≡ ReadFault → Rose reads reads'
   Went-read_fault status (no_form other wrote) same = absurd (cc)
   Went-read_fault status (no_form_cut other front rose) same = absurd (cc)
-  Went-read_fault status (unread form rose keeps) same = rose
-  Went-read_fault status (no_memory form keeps) same = absurd (cc)
-  Went-read_fault status (printed said form is all prints) same = absurd (subst IsAnswer same is)
-  Went-read_fault status (cut form all prints rose) same = absurd (cc)
+  Went-read_fault status (unread f asked rose keeps) same = rose
+  Went-read_fault status (no_memory f asked keeps) same = absurd (cc)
+  Went-read_fault status (printed f said asked is all prints) same = absurd (subst IsAnswer same is)
+  Went-read_fault status (cut f asked all prints rose) same = absurd (cc)
 
   -- a fault of writing comes only where the count of the sink rose
-  pub Went-write_fault : (status : Status) → CallOutcome words left left' old new reads reads' writes writes' status → status ≡ WriteFault → Rose writes writes'
+  pub Went-write_fault : (status : Status) → Went status → status ≡ WriteFault → Rose writes writes'
   Went-write_fault status (no_form other wrote) same = absurd (cc)
   Went-write_fault status (no_form_cut other front rose) same = rose
-  Went-write_fault status (unread form rose keeps) same = absurd (cc)
-  Went-write_fault status (no_memory form keeps) same = absurd (cc)
-  Went-write_fault status (printed said form is all prints) same = absurd (subst IsAnswer same is)
-  Went-write_fault status (cut form all prints rose) same = rose
+  Went-write_fault status (unread f asked rose keeps) same = absurd (cc)
+  Went-write_fault status (no_memory f asked keeps) same = absurd (cc)
+  Went-write_fault status (printed f said asked is all prints) same = absurd (subst IsAnswer same is)
+  Went-write_fault status (cut f asked all prints rose) same = rose
 
   -- nothing is written where nothing was read, and where there was no memory
-  pub Went-nothing : (status : Status) → CallOutcome words left left' old new reads reads' writes writes' status → (status ≡ ReadFault) ⊎ (status ≡ NoMemory) → Keeps old new
+  pub Went-nothing : (status : Status) → Went status → (status ≡ ReadFault) ⊎ (status ≡ NoMemory) → Keeps old new
   Went-nothing status (no_form other wrote) which = elim which [ inl same ↦ absurd (cc) | inr same ↦ absurd (cc) ]
   Went-nothing status (no_form_cut other front rose) which = elim which [ inl same ↦ absurd (cc) | inr same ↦ absurd (cc) ]
-  Went-nothing status (unread form rose keeps) which = keeps
-  Went-nothing status (no_memory form keeps) which = keeps
-  Went-nothing status (printed said form is all prints) which = elim which [ inl same ↦ absurd (subst IsAnswer same is) | inr same ↦ absurd (subst IsAnswer same is) ]
-  Went-nothing status (cut form all prints rose) which = elim which [ inl same ↦ absurd (cc) | inr same ↦ absurd (cc) ]
+  Went-nothing status (unread f asked rose keeps) which = keeps
+  Went-nothing status (no_memory f asked keeps) which = keeps
+  Went-nothing status (printed f said asked is all prints) which = elim which [ inl same ↦ absurd (subst IsAnswer same is) | inr same ↦ absurd (subst IsAnswer same is) ]
+  Went-nothing status (cut f asked all prints rose) which = elim which [ inl same ↦ absurd (cc) | inr same ↦ absurd (cc) ]
 
   -- after a fault of writing the sink has a front of the output
-  pub Went-front : (status : Status) → CallOutcome words left left' old new reads reads' writes writes' status → form_of words ≡ Some Replay → status ≡ WriteFault → PrintsFront left old new
-  Went-front status (no_form other wrote) form same = absurd (cc)
-  Went-front status (no_form_cut other front rose) form same = absurd (cc)
-  Went-front status (unread form' rose keeps) form same = absurd (cc)
-  Went-front status (no_memory form' keeps) form same = absurd (cc)
-  Went-front status (printed said form' is all prints) form same = absurd (subst IsAnswer same is)
-  Went-front status (cut form' all prints rose) form same = prints
+  pub Went-front : (form : Form) (status : Status) → Went status → form_of words ≡ Some form → status ≡ WriteFault → PrintsFront form left old new
+  Went-front form status (no_form other wrote) asked same = absurd (cc)
+  Went-front form status (no_form_cut other front rose) asked same = absurd (no-form (form_of words) other asked)
+  Went-front form status (unread f asked' rose keeps) asked same = absurd (cc)
+  Went-front form status (no_memory f asked' keeps) asked same = absurd (cc)
+  Went-front form status (printed f said asked' is all prints) asked same = absurd (subst IsAnswer same is)
+  Went-front form status (cut f asked' all prints rose) asked same = subst (λ (f : Form). PrintsFront f left old new) (one-form (form_of words) asked' asked) prints
 
   -- and of the line that refuses the words, where they are no form
-  pub Went-words_front : (status : Status) → CallOutcome words left left' old new reads reads' writes writes' status →
-      form_of words ≡ None → status ≡ WriteFault → AppendsFront old new words_refused
+  pub Went-words_front : (status : Status) → Went status → form_of words ≡ None → status ≡ WriteFault → AppendsFront old new words_refused
   Went-words_front status (no_form other wrote) not same = absurd (cc)
   Went-words_front status (no_form_cut other front rose) not same = front
-  Went-words_front status (unread form rose keeps) not same = absurd (cc)
-  Went-words_front status (no_memory form keeps) not same = absurd (cc)
-  Went-words_front status (printed said form is all prints) not same = absurd (cc)
-  Went-words_front status (cut form all prints rose) not same = absurd (cc)
+  Went-words_front status (unread f asked rose keeps) not same = absurd (cc)
+  Went-words_front status (no_memory f asked keeps) not same = absurd (cc)
+  Went-words_front status (printed f said asked is all prints) not same = absurd (no-form (form_of words) not asked)
+  Went-words_front status (cut f asked all prints rose) not same = absurd (no-form (form_of words) not asked)
 
   -- the input was read where its output was written
-  pub Went-read : (status : Status) → CallOutcome words left left' old new reads reads' writes writes' status → form_of words ≡ Some Replay → HasInput status → HasReadAll left left'
-  Went-read status (no_form other wrote) form has = absurd has
-  Went-read status (no_form_cut other front rose) form has = absurd (cc)
-  Went-read status (unread form' rose keeps) form has = absurd has
-  Went-read status (no_memory form' keeps) form has = absurd has
-  Went-read status (printed said form' is all prints) form has = all
-  Went-read status (cut form' all prints rose) form has = all
+  pub Went-read : (form : Form) (status : Status) → Went status → form_of words ≡ Some form → HasInput status → HasReadAll form left left'
+  Went-read form status (no_form other wrote) asked has = absurd has
+  Went-read form status (no_form_cut other front rose) asked has = absurd (no-form (form_of words) other asked)
+  Went-read form status (unread f asked' rose keeps) asked has = absurd has
+  Went-read form status (no_memory f asked' keeps) asked has = absurd has
+  Went-read form status (printed f said asked' is all prints) asked has = subst (λ (f : Form). HasReadAll f left left') (one-form (form_of words) asked' asked) all
+  Went-read form status (cut f asked' all prints rose) asked has = subst (λ (f : Form). HasReadAll f left left') (one-form (form_of words) asked' asked) all
 
-MayEnd-ok : (said : Result Content ScenarioRefused) (s : Content) (status : Status) → said ≡ Ok s → MayEnd (Ok s) status → MayEnd said status
-MayEnd-ok said s status is may = subst (λ (r : Result Content ScenarioRefused). MayEnd r status) (sym is) may
+-- Which statuses can come for an input.
 
-MayEnd-refused : (said : Result Content ScenarioRefused) (output : List ℕ) → IsRefusal said output → MayEnd said Refused
-MayEnd-refused (Ok s) output is = absurd is
-MayEnd-refused (Err e) output is = tt
+MayRun-ok : (said : Result Content ScenarioRefused) (s : Content) (status : Status) → said ≡ Ok s → MayRun (Ok s) status → MayRun said status
+MayRun-ok said s status is may = subst (λ (r : Result Content ScenarioRefused). MayRun r status) (sym is) may
 
-MayEnd-output : (status : Status) (input output : List ℕ) → IsOutput status input output → MayEnd (scenario_of input) status
-MayEnd-output Success input output is = MayEnd-ok (scenario_of input) is.scenario Success is.read tt
-MayEnd-output Stuck input output is = MayEnd-ok (scenario_of input) is.scenario Stuck is.read tt
-MayEnd-output Spent input output is = MayEnd-ok (scenario_of input) is.scenario Spent is.read tt
-MayEnd-output Refused input output is = MayEnd-refused (scenario_of input) output is
-MayEnd-output Words input output is = absurd is
-MayEnd-output ReadFault input output is = absurd is
-MayEnd-output WriteFault input output is = absurd is
-MayEnd-output NoMemory input output is = absurd is
-MayEnd-output Unlawful input output is = absurd is
+MayRun-refused : (said : Result Content ScenarioRefused) (output : List ℕ) → IsRefusal said output → MayRun said Refused
+MayRun-refused (Ok s) output is = absurd is
+MayRun-refused (Err e) output is = tt
 
-MayEnd-fault : (status : Status) → ((said : Result Content ScenarioRefused) → MayEnd said status) → (left : Option (List ℕ)) → IfSome left (λ input. MayEnd (scenario_of input) status)
-MayEnd-fault status may None = tt
-MayEnd-fault status may (Some input) = may (scenario_of input)
+MayEnd-output : (form : Form) (status : Status) (input output : List ℕ) → IsOutputOf form status input output → MayEnd form input status
+MayEnd-output Replay Success input output is = MayRun-ok (scenario_of input) is.scenario Success is.read tt
+MayEnd-output Replay Stuck input output is = MayRun-ok (scenario_of input) is.scenario Stuck is.read tt
+MayEnd-output Replay Spent input output is = MayRun-ok (scenario_of input) is.scenario Spent is.read tt
+MayEnd-output Replay Refused input output is = MayRun-refused (scenario_of input) output is
+MayEnd-output Replay Words input output is = absurd is
+MayEnd-output Replay ReadFault input output is = absurd is
+MayEnd-output Replay WriteFault input output is = absurd is
+MayEnd-output Replay NoMemory input output is = absurd is
+MayEnd-output Replay Unlawful input output is = absurd is
+MayEnd-output Check Success input output is = (is.s, is.t, is.given)
+MayEnd-output Check Unlawful input output is = (is.s, is.t, is.given)
+MayEnd-output Check Refused input output is = λ trace. is.never trace.0 trace.1 trace.2
+MayEnd-output Check Stuck input output is = absurd is
+MayEnd-output Check Spent input output is = absurd is
+MayEnd-output Check Words input output is = absurd is
+MayEnd-output Check ReadFault input output is = absurd is
+MayEnd-output Check WriteFault input output is = absurd is
+MayEnd-output Check NoMemory input output is = absurd is
 
-MayEnd-prints : (status : Status) (left old new : Option (List ℕ)) → Prints left old new (IsOutput status) → IfSome left (λ input. MayEnd (scenario_of input) status)
-MayEnd-prints status None old new prints = tt
-MayEnd-prints status (Some input) old new prints = MayEnd-output status input prints.0 prints.1
+MayEnd-always : (form : Form) (status : Status) → ((input : List ℕ) → MayEnd form input status) → (left : Option (List ℕ)) → IfSome left (λ input. MayEnd form input status)
+MayEnd-always form status may None = tt
+MayEnd-always form status may (Some input) = may input
 
--- which statuses can come for an input
-pub Went-complete : (words : List (List ℕ)) (left left' old new : Option (List ℕ)) (reads reads' writes writes' : ℕ) (status : Status) →
-    CallOutcome words left left' old new reads reads' writes writes' status → form_of words ≡ Some Replay → IfSome left (λ input. MayEnd (scenario_of input) status)
-Went-complete words left left' old new reads reads' writes writes' status (no_form other wrote) form = absurd (cc)
-Went-complete words left left' old new reads reads' writes writes' status (no_form_cut other front rose) form = absurd (cc)
-Went-complete words left left' old new reads reads' writes writes' status (unread form' rose keeps) form = MayEnd-fault ReadFault (λ said. tt) left
-Went-complete words left left' old new reads reads' writes writes' status (no_memory form' keeps) form = MayEnd-fault NoMemory (λ said. tt) left
-Went-complete words left left' old new reads reads' writes writes' status (printed said form' is all prints) form = MayEnd-prints said left old new prints
-Went-complete words left left' old new reads reads' writes writes' status (cut form' all prints rose) form = MayEnd-fault WriteFault (λ said. tt) left
+MayEnd-prints : (form : Form) (status : Status) (left old new : Option (List ℕ)) → Prints left old new (IsOutputOf form status) → IfSome left (λ input. MayEnd form input status)
+MayEnd-prints form status None old new prints = tt
+MayEnd-prints form status (Some input) old new prints = MayEnd-output form status input prints.0 prints.1
+
+pub Went-complete : (words : List (List ℕ)) (left left' old new : Option (List ℕ)) (reads reads' writes writes' : ℕ) (form : Form) (status : Status) →
+    CallOutcome words left left' old new reads reads' writes writes' status → form_of words ≡ Some form → IfSome left (λ input. MayEnd form input status)
+Went-complete words left left' old new reads reads' writes writes' form status (no_form other wrote) asked = absurd (no-form (form_of words) other asked)
+Went-complete words left left' old new reads reads' writes writes' form status (no_form_cut other front rose) asked = absurd (no-form (form_of words) other asked)
+Went-complete words left left' old new reads reads' writes writes' form status (unread f asked' rose keeps) asked = MayEnd-always form ReadFault (may-fault form) left where
+  may-fault : (form : Form) (input : List ℕ) → MayEnd form input ReadFault
+  may-fault Replay input = tt
+  may-fault Check input = tt
+Went-complete words left left' old new reads reads' writes writes' form status (no_memory f asked' keeps) asked = MayEnd-always form NoMemory (may-want form) left where
+  may-want : (form : Form) (input : List ℕ) → MayEnd form input NoMemory
+  may-want Replay input = tt
+  may-want Check input = tt
+Went-complete words left left' old new reads reads' writes writes' form status (printed f said asked' is all prints) asked =
+    subst (λ (f : Form). IfSome left (λ input. MayEnd f input said)) (one-form (form_of words) asked' asked) (MayEnd-prints f said left old new prints)
+Went-complete words left left' old new reads reads' writes writes' form status (cut f asked' all prints rose) asked = MayEnd-always form WriteFault (may-cut form) left where
+  may-cut : (form : Form) (input : List ℕ) → MayEnd form input WriteFault
+  may-cut Replay input = tt
+  may-cut Check input = tt

@@ -30,20 +30,21 @@ at_limit n xs ys read so full = (
   sym (ap (λ k. drop k xs) (sym full) ∙ ap (λ l. drop (length read) l) so ∙ drop-append_seam read ys),
 )
 
--- what was read to the end, or to one byte above the limit
-pub HasRead-done : (first left : Option (List ℕ)) (read : List ℕ) → Consumes first left read → ((length read ≤ 1048576) × IsAtEnd left) ⊎ (length read ≡ 1048577) → HasRead first left read
-HasRead-done None left read so done = so
-HasRead-done (Some xs) None read so done = so
-HasRead-done (Some xs) (Some ys) read so done =
-    elim done [ inl ended ↦ at_end 1048577 xs ys read so (omega (arith, ended.0)) ended.1 | inr full ↦ at_limit 1048577 xs ys read so full ]
+module _ (limit : ℕ) where
+  -- what was read to the end, or to one byte above the limit
+  pub HasRead-done : (first left : Option (List ℕ)) (read : List ℕ) → Consumes first left read → ((length read ≤ limit) × IsAtEnd left) ⊎ (length read ≡ limit + 1) → HasRead limit first left read
+  HasRead-done None left read so done = so
+  HasRead-done (Some xs) None read so done = so
+  HasRead-done (Some xs) (Some ys) read so done =
+      elim done [ inl ended ↦ at_end (limit + 1) xs ys read so (omega (arith, ended.0)) ended.1 | inr full ↦ at_limit (limit + 1) xs ys read so full ]
 
--- a read that gave nothing was at the end
-pub HasRead-end : (first left left' : Option (List ℕ)) (read read' : List ℕ) (n : ℕ) → Consumes first left read → Moves left left' read read' n → n ≡ 0 → length read' ≤ 1048576 → HasRead first left' read'
-HasRead-end None left left' read read' n so more none short = so
-HasRead-end (Some xs) None left' read read' n so more none short = absurd so
-HasRead-end (Some xs) (Some ys) None read read' n so more none short = absurd more
-HasRead-end (Some xs) (Some ys) (Some zs) read read' n so more none short =
-    HasRead-done (Some xs) (Some zs) read' (Consumes-more (Some xs) (Some ys) (Some zs) read read' n so more) (inl (short, more.3 none))
+  -- a read that gave nothing was at the end
+  pub HasRead-end : (first left left' : Option (List ℕ)) (read read' : List ℕ) (n : ℕ) → Consumes first left read → Moves left left' read read' n → n ≡ 0 → length read' ≤ limit → HasRead limit first left' read'
+  HasRead-end None left left' read read' n so more none short = so
+  HasRead-end (Some xs) None left' read read' n so more none short = absurd so
+  HasRead-end (Some xs) (Some ys) None read read' n so more none short = absurd more
+  HasRead-end (Some xs) (Some ys) (Some zs) read read' n so more none short =
+      HasRead-done (Some xs) (Some zs) read' (Consumes-more (Some xs) (Some ys) (Some zs) read read' n so more) (inl (short, more.3 none))
 
 -- one piece more was written
 pub Appends-more : (first held held' : Option (List ℕ)) (text : List ℕ) (m n : ℕ) → m ≤ length text →

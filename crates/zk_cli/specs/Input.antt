@@ -1,13 +1,13 @@
-use Rattle.std.specs.Prelude.{◌≡◌, ℕ, List, [], ◌++◌, take, drop, Option, Some, None, ⊤}
+use Rattle.std.specs.Prelude.{◌≡◌, ℕ, ◌+◌, List, [], ◌++◌, take, drop, Option, Some, None, ⊤}
 use Rattle.zk_base.specs.Causes.{Rose}
 use Rattle.zk_cli.specs.declared.input.NoInput.{NoInput}
 use Rattle.zk_cli.specs.declared.input.NoInput.TheVariants.{Fault, NoMemory}
 
--- the source gave all its bytes, or one byte more than a scenario may have, and keeps the rest
-abbrev pub HasRead : Option (List ℕ) → Option (List ℕ) → List ℕ → Type 0
-HasRead None left read = ⊤
-HasRead (Some input) None read = ⊥
-HasRead (Some input) (Some left) read = (read ≡ take 1048577 input) × (left ≡ drop 1048577 input)
+-- the source gave all its bytes, or one byte above the limit, and keeps the rest
+abbrev pub HasRead : ℕ → Option (List ℕ) → Option (List ℕ) → List ℕ → Type 0
+HasRead limit None left read = ⊤
+HasRead limit (Some input) None read = ⊥
+HasRead limit (Some input) (Some left) read = (read ≡ take (limit + 1) input) × (left ≡ drop (limit + 1) input)
 
 -- the next n bytes moved from the source to the end of what was read, and 0 is the end
 abbrev pub Moves : Option (List ℕ) → Option (List ℕ) → List ℕ → List ℕ → ℕ → Type 0

@@ -1,6 +1,7 @@
 pub mod Answer
 pub mod Attempts
 pub mod CallsMade
+pub mod CheckAnswer
 pub mod Input
 pub mod Moments
 pub mod Output

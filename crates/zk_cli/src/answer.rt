@@ -56,7 +56,7 @@ fn status_of(ending: Ending) -> Status
 }
 
 /// The line of a refusal.
-fn refusal(alloc: Global, line: u32, why: Why) -> Result<Vec<u8>, NoMemory>
+pub fn refusal(alloc: Global, line: u32, why: Why) -> Result<Vec<u8>, NoMemory>
     ensures { IfOk result (λ text. text.items ≡ refusal_text line why) }
 {
     let mut text = Vec::new(alloc);

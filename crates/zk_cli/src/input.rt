@@ -1,14 +1,9 @@
-ghost use Rattle.std.specs.Prelude.{◌≡◌, ℕ, ◌+◌, ◌≤◌, [], ◌++◌, length, take, drop, List, Option, IfOk, IfErr, OnOk, OnErr, vec_len, IfSome, Some};
+ghost use Rattle.std.specs.Prelude.{◌≡◌, ℕ, ◌+◌, ◌^◌, ◌<◌, ◌≤◌, [], ◌++◌, length, take, drop, List, Option, IfOk, IfErr, OnOk, OnErr, vec_len, IfSome, Some};
 ghost use Rattle.zk_base.specs.Causes.{Rose};
 ghost use Rattle.zk_cli.specs.Input.{HasRead, IsCaused, Moves};
-ghost use Rattle.zk_cli.specs.declared.input.TheConstants.{LIMIT};
 
 use std::alloc::{AllocError, AllocFailed, Global};
 use zk_base::{Failed, Source};
-use zk_scenario::LONGEST_SCENARIO;
-
-/// The longest scenario, in bytes.
-pub const LIMIT: usize = LONGEST_SCENARIO;
 
 /// How many bytes one call of the source is asked for, at the most.
 const CHUNK: usize = 4096;
@@ -44,17 +39,22 @@ impl From<Failed> for NoInput {
 }
 
 /// The source's bytes to their end, or to one byte above the limit.
-pub fn read_input<S: Source>(alloc: Global, source: &mut S) -> Result<Vec<u8>, NoInput>
-    ensures bytes { IfOk result (λ read. HasRead (S.left source.old) (S.left source.new) read.items) }
+pub fn read_input<S: Source>(
+    alloc: Global,
+    source: &mut S,
+    limit: usize,
+) -> Result<Vec<u8>, NoInput>
+    requires { limit < 2 ^ 32 }
+    ensures bytes { IfOk result (λ read. HasRead limit (S.left source.old) (S.left source.new) read.items) }
     ensures fault { IfErr result (λ e. IsCaused (S.faults source.old) (S.faults source.new) e) }
     ensures counts { IfOk result (λ _. S.faults source.new ≡ S.faults source.old) }
 {
     let mut bytes = Vec::new(alloc);
-    for _ in 0..LIMIT + 1 {
-        if read_some(source, &mut bytes)? == 0 {
+    for _ in 0..limit + 1 {
+        if read_some(source, &mut bytes, limit)? == 0 {
             return Ok(bytes);
         }
-        if bytes.len() > LIMIT {
+        if bytes.len() > limit {
             return Ok(bytes);
         }
     }
@@ -62,16 +62,21 @@ pub fn read_input<S: Source>(alloc: Global, source: &mut S) -> Result<Vec<u8>, N
 }
 
 /// Reads once, to the end of these bytes, and never past one byte above the limit.
-fn read_some<S: Source>(source: &mut S, bytes: &mut Vec<u8>) -> Result<usize, NoInput>
-    requires { vec_len bytes.old ≤ LIMIT }
+fn read_some<S: Source>(
+    source: &mut S,
+    bytes: &mut Vec<u8>,
+    limit: usize,
+) -> Result<usize, NoInput>
+    requires small { limit < 2 ^ 32 }
+    requires within { vec_len bytes.old ≤ limit }
     ensures moved { IfOk result (λ n. Moves (S.left source.old) (S.left source.new) bytes.old.items bytes.new.items n) }
     ensures size { IfOk result (λ n. vec_len bytes.new ≡ vec_len bytes.old + n) }
-    ensures within { IfOk result (λ n. vec_len bytes.new ≤ LIMIT + 1) }
+    ensures within { IfOk result (λ n. vec_len bytes.new ≤ limit + 1) }
     ensures fault { IfErr result (λ e. IsCaused (S.faults source.old) (S.faults source.new) e) }
     ensures counts { IfOk result (λ _. S.faults source.new ≡ S.faults source.old) }
 {
     let mut chunk = [0; CHUNK];
-    let most = CHUNK.min(LIMIT + 1 - bytes.len());
+    let most = CHUNK.min(limit + 1 - bytes.len());
     let into = &mut chunk[..most];
     let count = source.read(into)?;
     bytes.extend_from_slice(&into[..count])?;

@@ -2,11 +2,11 @@
 #![tactic(auto)]
 
 mod answer;
+mod check;
 mod form;
 mod input;
 mod output;
 mod top;
 
-pub use form::Form;
-pub use input::LIMIT;
+pub use form::{Form, LONGEST_TRACE};
 pub use top::zk_plain;

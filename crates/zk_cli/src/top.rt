@@ -1,20 +1,20 @@
 ghost use Rattle.std.specs.Prelude.{◌≡◌, ◌≢◌, ◌⊎◌, true, false, map, codes, IfSome, string_bytes};
 ghost use Rattle.std.specs.Io.KnownBytes.{Appends, Keeps};
 ghost use Rattle.zk_base.specs.Causes.{Rose};
-ghost use Rattle.zk_scenario.specs.Grammar.{scenario_of};
 ghost use Rattle.zk_cli.specs.Output.{AppendsFront};
-ghost use Rattle.zk_cli.specs.Answer.{IsOutput};
-ghost use Rattle.zk_cli.specs.Top.{form_of, words_refused, Prints, PrintsFront, HasReadAll, HasInput, MayEnd, Answered, CallOutcome};
+ghost use Rattle.zk_cli.specs.Top.{form_of, IsOutputOf, words_refused, Prints, PrintsFront, HasReadAll, HasInput, MayEnd, Answered, CallOutcome};
 
 use crate::answer::output_of;
-use crate::form::{Form, form_of};
+use crate::check::check_output;
+use crate::form::{Form, form_of, limit_of};
 use crate::input::{NoInput, read_input};
 use crate::output::write_text;
 use std::alloc::Global;
 use zk_base::{Sink, Source, Status};
 
-/// The program over any source and any sink. Its only form is `replay`: it reads a scenario, plays it on one thread by
-/// round robin, and prints the scenario's text and the trace. It always returns.
+/// The program over any source and any sink. `replay` reads a scenario, plays it on one thread by round robin, and prints
+/// the scenario's text and the trace. `check` reads that again, and says whether the trace is lawful for the scenario, or at
+/// which line it isn't, and why. It always returns.
 ///
 /// The words are those behind the program's name. The whole output is made in memory and then written, piece after
 /// piece; writing takes no memory. What is said of the input and the output is said where the source and the sink tell
@@ -26,22 +26,24 @@ pub fn zk_plain<S: Source, K: Sink>(
     sink: &mut K,
 ) -> Status
     // What each status that prints says of the input and the output.
-    ensures success { form_of (map string_bytes words.now) ≡ Some Form.Replay → result ≡ Status.Success →
-        Prints (S.left source.old) (K.held sink.old) (K.held sink.new) (IsOutput Status.Success) }
-    ensures stuck { form_of (map string_bytes words.now) ≡ Some Form.Replay → result ≡ Status.Stuck →
-        Prints (S.left source.old) (K.held sink.old) (K.held sink.new) (IsOutput Status.Stuck) }
-    ensures spent { form_of (map string_bytes words.now) ≡ Some Form.Replay → result ≡ Status.Spent →
-        Prints (S.left source.old) (K.held sink.old) (K.held sink.new) (IsOutput Status.Spent) }
-    ensures refused { form_of (map string_bytes words.now) ≡ Some Form.Replay → result ≡ Status.Refused →
-        Prints (S.left source.old) (K.held sink.old) (K.held sink.new) (IsOutput Status.Refused) }
+    ensures success { (form : Form) → form_of (map string_bytes words.now) ≡ Some form → result ≡ Status.Success →
+        Prints (S.left source.old) (K.held sink.old) (K.held sink.new) (IsOutputOf form Status.Success) }
+    ensures stuck { (form : Form) → form_of (map string_bytes words.now) ≡ Some form → result ≡ Status.Stuck →
+        Prints (S.left source.old) (K.held sink.old) (K.held sink.new) (IsOutputOf form Status.Stuck) }
+    ensures spent { (form : Form) → form_of (map string_bytes words.now) ≡ Some form → result ≡ Status.Spent →
+        Prints (S.left source.old) (K.held sink.old) (K.held sink.new) (IsOutputOf form Status.Spent) }
+    ensures unlawful { (form : Form) → form_of (map string_bytes words.now) ≡ Some form → result ≡ Status.Unlawful →
+        Prints (S.left source.old) (K.held sink.old) (K.held sink.new) (IsOutputOf form Status.Unlawful) }
+    ensures refused { (form : Form) → form_of (map string_bytes words.now) ≡ Some form → result ≡ Status.Refused →
+        Prints (S.left source.old) (K.held sink.old) (K.held sink.new) (IsOutputOf form Status.Refused) }
     ensures words { result ≡ Status.Words → Appends (K.held sink.old) (K.held sink.new) words_refused }
 
     // When each status comes.
     ensures a_form { result ≡ Status.Words → form_of (map string_bytes words.now) ≡ None }
     ensures no_form { form_of (map string_bytes words.now) ≡ None →
         (result ≡ Status.Words) ⊎ (result ≡ Status.WriteFault) }
-    ensures complete { form_of (map string_bytes words.now) ≡ Some Form.Replay →
-        IfSome (S.left source.old) (λ input. MayEnd (scenario_of input) result) }
+    ensures complete { (form : Form) → form_of (map string_bytes words.now) ≡ Some form →
+        IfSome (S.left source.old) (λ input. MayEnd form input result) }
     ensures read_fault { result ≡ Status.ReadFault → Rose (S.faults source.old) (S.faults source.new) }
     ensures write_fault { result ≡ Status.WriteFault → Rose (K.faults sink.old) (K.faults sink.new) }
 
@@ -52,14 +54,14 @@ pub fn zk_plain<S: Source, K: Sink>(
     // Where nothing, or not all, was written.
     ensures nothing { (result ≡ Status.ReadFault) ⊎ (result ≡ Status.NoMemory) →
         Keeps (K.held sink.old) (K.held sink.new) }
-    ensures front { form_of (map string_bytes words.now) ≡ Some Form.Replay → result ≡ Status.WriteFault →
-        PrintsFront (S.left source.old) (K.held sink.old) (K.held sink.new) }
+    ensures front { (form : Form) → form_of (map string_bytes words.now) ≡ Some form → result ≡ Status.WriteFault →
+        PrintsFront form (S.left source.old) (K.held sink.old) (K.held sink.new) }
     ensures words_front { form_of (map string_bytes words.now) ≡ None → result ≡ Status.WriteFault →
         AppendsFront (K.held sink.old) (K.held sink.new) words_refused }
 
-    // Where the input was read to its end, or to one byte above the limit.
-    ensures read { form_of (map string_bytes words.now) ≡ Some Form.Replay → HasInput result →
-        HasReadAll (S.left source.old) (S.left source.new) }
+    // Where the input was read to its end, or to one byte above the form's limit.
+    ensures read { (form : Form) → form_of (map string_bytes words.now) ≡ Some form → HasInput result →
+        HasReadAll form (S.left source.old) (S.left source.new) }
 {
     plain(alloc, words, source, sink)
 }
@@ -77,8 +79,8 @@ fn plain<S: Source, K: Sink>(
 {
     match form_of(words) {
         None => refuse_words(sink),
-        Some(Form::Replay) => match read_input(alloc, source) {
-            Ok(input) => answer(alloc, input, sink),
+        Some(form) => match read_input(alloc, source, limit_of(form)) {
+            Ok(input) => answer(alloc, form, input, sink),
             Err(NoInput::Fault) => Status::ReadFault,
             Err(NoInput::NoMemory) => Status::NoMemory,
         },
@@ -97,12 +99,16 @@ fn refuse_words<K: Sink>(sink: &mut K) -> Status
     }
 }
 
-/// Prints the output for this input.
-fn answer<K: Sink>(alloc: Global, input: Vec<u8>, sink: &mut K) -> Status
-    ensures answered { Answered input.items (K.held sink.old) (K.held sink.new) (K.faults sink.old) (K.faults sink.new) result }
+/// Prints the output of a form for this input.
+fn answer<K: Sink>(alloc: Global, form: Form, input: Vec<u8>, sink: &mut K) -> Status
+    ensures answered { Answered form input.items (K.held sink.old) (K.held sink.new) (K.faults sink.old) (K.faults sink.new) result }
     ensures writes { result ≢ Status.WriteFault → K.faults sink.new ≡ K.faults sink.old }
 {
-    let Ok((output, status)) = output_of(alloc, input) else {
+    let made = match form {
+        Form::Replay => output_of(alloc, input),
+        Form::Check => check_output(alloc, input),
+    };
+    let Ok((output, status)) = made else {
         return Status::NoMemory;
     };
     match write_text(sink, &output) {

@@ -14,7 +14,7 @@ use Rattle.zk_trace.specs.Sides.{longer, halves}
 use Rattle.zk_trace.proofs.Sides.{halves-spelled}
 
 -- what is in front of the first of a byte lacks it
-halves-lacks : (byte : ℕ) (text : List ℕ) (h : List ℕ × List ℕ) → halves byte text ≡ Some h → Lacks byte h.0
+pub halves-lacks : (byte : ℕ) (text : List ℕ) (h : List ℕ × List ℕ) → halves byte text ≡ Some h → Lacks byte h.0
 halves-lacks byte [] h said = absurd (none-some h said)
 halves-lacks byte (b ∷ bs) h said = elim (cases_Bool (eqb b byte)) [
   | inl is ↦ subst (λ (k : List ℕ × List ℕ). Lacks byte k.0)

@@ -9,6 +9,7 @@ pub mod WholeParts
 pub mod TraceRead
 pub mod Names
 pub mod Words
+pub mod Parting
 pub mod Parts
 pub mod Work
 pub mod Clock

@@ -26,6 +26,7 @@ mod names;
 mod numerals;
 mod obs;
 mod obs_read;
+
 mod parts;
 mod players_read;
 mod print;
@@ -40,6 +41,7 @@ mod signal;
 mod signal_read;
 mod sizes;
 mod spelled;
+mod split;
 mod spot_read;
 mod stood;
 mod table;
@@ -52,6 +54,7 @@ mod work;
 mod work_read;
 
 pub use looks::{ItemLook, ItemLooks, SignalLook, SignalLooks};
+pub use split::split_text;
 pub use print::{print_trace, put_trace};
 pub use read::{TraceRefused, read_trace};
 pub use sizes::trace_sizes;

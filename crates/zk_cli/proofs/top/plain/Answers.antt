@@ -1,6 +1,6 @@
-use Rattle.std.proofs.Common.{Some, ap, sym, ◌∙◌}
+use Rattle.std.proofs.Common.{ap, sym, ◌∙◌}
 use Rattle.zk_cli.specs.Top.{unread, no_memory}
-use Rattle.zk_cli.proofs.Outcomes.{form-replay, Keeps-same, Went-answered, Went-refused}
+use Rattle.zk_cli.proofs.Outcomes.{Keeps-same, Went-answered, Went-refused}
 use Rattle.zk_cli.proofs.top.plain.Goals as goal
 
 pub returns-in-None-clause-went : goal.returns-in-None-clause-went
@@ -8,12 +8,13 @@ returns-in-None-clause-went g c = Went-refused _ _ _ _ _ _ _ _ _ _ (sym c.form_o
 
 pub returns-in-Ok-clause-went : goal.returns-in-Ok-clause-went
 returns-in-Ok-clause-went g c =
-    Went-answered _ _ _ _ _ _ _ _ _ _ c.in-Ok.input.items (sym c.form_of.ensures ∙ c.in-Some-Replay.is ∙ ap Some (form-replay c.in-Some-Replay.field-0)) c.in-Ok.ensures.bytes c.answer.ensures.answered
+    let has = rw c.limit_of.ensures at c.in-Ok.ensures.bytes in
+    Went-answered _ _ _ _ _ _ _ _ _ _ c.in-Some.form c.in-Ok.input.items (sym c.form_of.ensures ∙ c.in-Some.is) has c.answer.ensures.answered
 
 pub returns-in-Err-Fault-clause-went : goal.returns-in-Err-Fault-clause-went
 returns-in-Err-Fault-clause-went g c =
     let rose = rw c.in-Err-Fault.field-0-is at c.in-Err-Fault.ensures.fault in
-    unread (sym c.form_of.ensures ∙ c.in-Some-Replay.is ∙ ap Some (form-replay c.in-Some-Replay.field-0)) rose (Keeps-same (g.K.Sink.held c.args.sink.now))
+    unread c.in-Some.form (sym c.form_of.ensures ∙ c.in-Some.is) rose (Keeps-same (g.K.Sink.held c.args.sink.now))
 
 pub returns-in-Err-NoMemory-clause-went : goal.returns-in-Err-NoMemory-clause-went
-returns-in-Err-NoMemory-clause-went g c = no_memory (sym c.form_of.ensures ∙ c.in-Some-Replay.is ∙ ap Some (form-replay c.in-Some-Replay.field-0)) (Keeps-same (g.K.Sink.held c.args.sink.now))
+returns-in-Err-NoMemory-clause-went g c = no_memory c.in-Some.form (sym c.form_of.ensures ∙ c.in-Some.is) (Keeps-same (g.K.Sink.held c.args.sink.now))

@@ -1,0 +1,78 @@
+ghost use Rattle.std.specs.Prelude.{◌≡◌, ◌↔◌, ⊥, MatchOption, IfOk};
+ghost use Rattle.zk_trace.specs.Form.{IsInForm};
+ghost use Rattle.zk_trace.specs.Lawful.{IsLawful};
+ghost use Rattle.zk_check.specs.declared.check.Checked.TheVariants.{Lawful};
+ghost use Rattle.zk_check.specs.Checking.{IfNot, IsNamed};
+ghost use Rattle.zk_check.specs.Failure.{IsFailure};
+
+use crate::ending::ends_so;
+use crate::history::history_failure;
+use crate::lines::line_at;
+use crate::log::log_failure;
+use crate::looks::look_failure;
+use crate::place::place_failure;
+use crate::site::{Fail, Site};
+use std::alloc::Global;
+use zk_base::NoMemory;
+use zk_scenario::Scenario;
+use zk_services::first_services;
+use zk_trace::{Trace, stood_lines};
+
+/// What a check answers.
+#[derive(Clone, Copy, Debug, PartialEq, Eq)]
+pub enum Checked {
+    /// The trace is lawful for its scenario.
+    Lawful,
+    /// It isn't: the number of the line that fails, from 1, in the scenario's text followed by the trace's, and why. The
+    /// reasons are tested in the order of `Fail`, and the line is the first that the first of them names.
+    Not(u32, Fail),
+}
+
+/// Whether a trace in form is lawful for its scenario.
+///
+/// It works from what the trace says alone: the services play its entries again, and the players the steps of their logs.
+pub fn check(alloc: Global, scenario: &Scenario, trace: &Trace) -> Result<Checked, NoMemory>
+    requires form { IsInForm scenario.now trace.now }
+    ensures lawful { IfOk result (λ checked. (checked ≡ Lawful) ↔ IsLawful scenario.now trace.now) }
+    ensures named { IfOk result (λ checked. IfNot checked (IsNamed scenario.now trace.now)) }
+{
+    match failure(alloc, scenario, trace)? {
+        None => Ok(Checked::Lawful),
+        Some((fail, site)) => {
+            let line = line_at(alloc, scenario, trace, site)?;
+            Ok(Checked::Not(line, fail))
+        }
+    }
+}
+
+/// The first reason why a trace isn't lawful, and where.
+fn failure(
+    alloc: Global,
+    scenario: &Scenario,
+    trace: &Trace,
+) -> Result<Option<(Fail, Site)>, NoMemory>
+    requires form { IsInForm scenario.now trace.now }
+    ensures { IfOk result (λ found. MatchOption found (IsLawful scenario.now trace.now)
+        (λ f. IsFailure scenario.now trace.now f.0 f.1 × (IsLawful scenario.now trace.now → ⊥))) }
+{
+    let rows = stood_lines(alloc, trace)?;
+    if let Some(site) = place_failure(alloc, scenario, &rows)? {
+        return Ok(Some((Fail::Place, site)));
+    }
+    let mut services = first_services(alloc, scenario)?;
+    if let Some(row) = history_failure(&mut services, scenario, trace)? {
+        return Ok(Some((Fail::History, Site::Row(row))));
+    }
+    let mut players = Vec::new(alloc);
+    if let Some(site) = log_failure(alloc, scenario, trace, &rows, &mut players)? {
+        return Ok(Some((Fail::Log, site)));
+    }
+    if let Some(row) = look_failure(alloc, scenario, trace, &rows)? {
+        return Ok(Some((Fail::Look, Site::Row(row))));
+    }
+    if ends_so(&mut services, scenario, trace, &players)? {
+        Ok(None)
+    } else {
+        Ok(Some((Fail::Ending, Site::Ending)))
+    }
+}
