@@ -1,7 +1,7 @@
 -- The first line that isn't held is that of the first wrong look.
-use Rattle.std.proofs.Common.{◌≡◌, ◌⊎◌, ℕ, suc, ◌+◌, ◌^◌, ◌<◌, Bool, true, Option, Some, None, List, [], ◌∷◌, ◌++◌, length, get_or, All, refl, sym, ap, subst, ◌∙◌, inl, inr, arith}
+use Rattle.std.proofs.Common.{◌≡◌, ◌⊎◌, ℕ, suc, ◌+◌, ◌^◌, ◌<◌, true, Option, Some, None, List, [], ◌∷◌, ◌++◌, length, get_or, All, refl, sym, ap, subst, ◌∙◌, inl, inr, arith}
 use Rattle.std.specs.List.{AllByRecursion, slice_get}
-use Rattle.std.specs.Option.{MatchOption, IfSome, option_map}
+use Rattle.std.specs.Option.{IfSome, option_map}
 use Rattle.std.proofs.lemmas.Bool.{cases_order, true≢false, true_from_ne_false}
 use Rattle.std.proofs.lemmas.Option.{same_Some, none-some, slice_get-map, slice_get-get_or, slice_get_within}
 use Rattle.zk_base.specs.declared.ids.Entry.{Entry}
@@ -16,7 +16,7 @@ use Rattle.zk_scenario.specs.Valid.{IsValid}
 use Rattle.zk_worker.specs.declared.steps.Spot.{Spot}
 use Rattle.zk_worker.specs.declared.steps.Spot.TheVariants as spots
 use Rattle.zk_worker.specs.Families.{entry_at}
-use Rattle.zk_worker.specs.Machines.{machines_of, work_start_of, items_of}
+use Rattle.zk_worker.specs.Machines.{machines_of}
 use Rattle.zk_worker.specs.Right.{IsRight}
 use Rattle.zk_worker.specs.Shown.{AreShort, is_look, shown_at}
 use Rattle.zk_worker.specs.Single as single
@@ -36,7 +36,7 @@ use Rattle.zk_trace.specs.Stood.{item_look_stood, signal_look_stood, stood}
 use Rattle.zk_trace.specs.Text.{looks_at}
 use Rattle.zk_trace.proofs.LinesOnce.{line_at}
 use Rattle.zk_check.specs.First.{IsFirst}
-use Rattle.zk_check.specs.ItemLooks.{finds, IsFirstMissed}
+use Rattle.zk_check.specs.ItemLooks.{FirstMissed, is_found}
 use Rattle.zk_check.specs.LookFailure.{IsRow, LookFits, IsWrong}
 use Rattle.zk_check.specs.LookOrder.{IsWithin}
 use Rattle.zk_check.specs.LooksHeld.{all_orders, is_in_order, FitsAt, IsHeld, AreHeld, IsFirstUnheld}
@@ -129,15 +129,8 @@ module _ (s : Content) (t : Trace) (form : IsInForm s t) (placed : IsPlaced s t)
   item-is k look there =
       (each-in (IsItemLook s.decls) t.item_looks look (fits-each (FitsItemLook s.decls) (IsItemLook s.decls) (λ last l fits. fits.1) None t.item_looks form.item_looks) (k, there)).item
 
-  abbrev pub found : ItemLook → Bool
-  found look = finds (work_start_of s) (items_of s.decls) t.work look
-
   abbrev pub missed_row : Option ℕ → Option ℕ
   missed_row first = option_map (λ place. length t.work + place) first
-
-  -- the first look at an item that missed what was there, if one did
-  abbrev pub FirstMissed : Option ℕ → Type 0
-  FirstMissed first = MatchOption first (All (λ look. found look ≡ true) t.item_looks) (λ place. IsFirstMissed found t.item_looks place)
 
   abbrev pub Held : Option ℕ → ℕ → Stood → Type 0
   Held first place line = IsHeld t.signals (all_orders t.logs) (missed_row first) place line
@@ -147,18 +140,18 @@ module _ (s : Content) (t : Trace) (form : IsInForm s t) (placed : IsPlaced s t)
   missed-unheld first k same line held = held.other (ap (λ (n : ℕ). Some (length t.work + n)) same)
 
   -- where the lines below a place are held each look at an item there found what was there
-  held-found : (first : Option ℕ) → FirstMissed first → (n : ℕ) → ((place : ℕ) (line : Stood) → place < n → slice_get (stood t) place ≡ Some line → Held first place line) →
-      (k : ℕ) (look : ItemLook) → length t.work + k < n → slice_get t.item_looks k ≡ Some look → found look ≡ true
-  held-found None all n held k look below there = All-at (λ (look : ItemLook). found look ≡ true) t.item_looks k look all there
+  held-found : (first : Option ℕ) → FirstMissed s t first → (n : ℕ) → ((place : ℕ) (line : Stood) → place < n → slice_get (stood t) place ≡ Some line → Held first place line) →
+      (k : ℕ) (look : ItemLook) → length t.work + k < n → slice_get t.item_looks k ≡ Some look → is_found s t look ≡ true
+  held-found None all n held k look below there = All-at (λ (look : ItemLook). is_found s t look ≡ true) t.item_looks k look all there
   held-found (Some first) is n held k look below there = by (cases_order k first) where
-    by : ((k ≡ first) ⊎ ((k < first) ⊎ (first < k))) → found look ≡ true
+    by : ((k ≡ first) ⊎ ((k < first) ⊎ (first < k))) → is_found s t look ≡ true
     by (inl same) = absurd (missed-unheld first k (sym same) (item_look_stood look) (held (length t.work + k) (item_look_stood look) below (item-row t k look there)))
     by (inr (inl lower)) = is.none_before k look lower there
     by (inr (inr above)) =
         absurd (missed-unheld first first refl (item_look_stood is.look) (held (length t.work + first) (item_look_stood is.look) (omega arith) (item-row t first is.look is.there)))
 
   -- a held look fits
-  held-fits : (first : Option ℕ) → FirstMissed first → (n : ℕ) → ((place : ℕ) (line : Stood) → place < n → slice_get (stood t) place ≡ Some line → Held first place line) →
+  held-fits : (first : Option ℕ) → FirstMissed s t first → (n : ℕ) → ((place : ℕ) (line : Stood) → place < n → slice_get (stood t) place ≡ Some line → Held first place line) →
       (place : ℕ) (line : Stood) → place < n → slice_get (stood t) place ≡ Some line → is_look line.spot ≡ true → LookFits s t line
   held-fits first is n held place line below there look = by line.spot refl where
     fits : is_in_order (all_orders t.logs) line ≡ true → IsRight (machines_of s) (trace_shown t) line.spot → LookFits s t line
@@ -188,7 +181,7 @@ module _ (s : Content) (t : Trace) (form : IsInForm s t) (placed : IsPlaced s t)
     by (spots.Obs o p) same = absurd (true≢false (sym look ∙ ap is_look same))
 
   -- a line is held where it is no look, or fits
-  fits-held : (first : Option ℕ) → FirstMissed first → (place : ℕ) (line : Stood) → slice_get (stood t) place ≡ Some line → (is_look line.spot ≡ true → LookFits s t line) → Held first place line
+  fits-held : (first : Option ℕ) → FirstMissed s t first → (place : ℕ) (line : Stood) → slice_get (stood t) place ≡ Some line → (is_look line.spot ≡ true → LookFits s t line) → Held first place line
   fits-held first is place line there fits = record { other = other first is; fit = fit line.spot refl } where
     ordered : (spot : Spot) → line.spot ≡ spot → is_look spot ≡ true → is_in_order (all_orders t.logs) line ≡ true
     ordered spot same look = order-in s t placed (row s t form placed) (stepped s t form placed) line (place, there) (fits (ap is_look same ∙ look))
@@ -207,7 +200,7 @@ module _ (s : Content) (t : Trace) (form : IsInForm s t) (placed : IsPlaced s t)
     fit (spots.Chan o p) same = subst (FitsAt t.signals (is_in_order (all_orders t.logs) line)) (sym same) tt
     fit (spots.Obs o p) same = subst (FitsAt t.signals (is_in_order (all_orders t.logs) line)) (sym same) tt
 
-    other : (first : Option ℕ) → FirstMissed first → missed_row first ≡ Some place → ⊥
+    other : (first : Option ℕ) → FirstMissed s t first → missed_row first ≡ Some place → ⊥
     other None is same = none-some place same
     other (Some first) is same =
         let at : length t.work + first ≡ place = same_Some (length t.work + first) place same in
@@ -217,13 +210,13 @@ module _ (s : Content) (t : Trace) (form : IsInForm s t) (placed : IsPlaced s t)
         true≢false (sym (right-finds s t is.look (item-is first is.look is.there) right) ∙ is.missed)
 
   -- where each line is held the looks are right
-  pub held-right : (first : Option ℕ) → FirstMissed first → AreHeld t.signals (all_orders t.logs) (missed_row first) (stood t) → AreRight s t
+  pub held-right : (first : Option ℕ) → FirstMissed s t first → AreHeld t.signals (all_orders t.logs) (missed_row first) (stood t) → AreRight s t
   held-right first is held =
       fitting-right s t form placed (λ line at look.
       held-fits first is (length (stood t)) (λ place line below there. held place line there) at.0 line (slice_get_within (stood t) at.0 line at.1) at.1 look)
 
   -- and the first line that isn't is that of the first wrong look
-  pub unheld-first : (first : Option ℕ) → FirstMissed first → (place : ℕ) → IsFirstUnheld t.signals (all_orders t.logs) (missed_row first) (stood t) place → IsFirst (IsWrong s t) place
+  pub unheld-first : (first : Option ℕ) → FirstMissed s t first → (place : ℕ) → IsFirstUnheld t.signals (all_orders t.logs) (missed_row first) (stood t) place → IsFirst (IsWrong s t) place
   unheld-first first is place unheld = record {
     fails = record {
       line = unheld.line;
@@ -270,7 +263,7 @@ module _ (s : Content) (t : Trace) (form : IsInForm s t) (placed : IsPlaced s t)
       (row s t form placed n k log spot (slice_get-get_or t.logs n d within) (slice_get-get_or log.steps k e below))
 
   -- the row of a look that missed what was there is one of the rows, which are few
-  pub missed-below : IsValid s → (first : Option ℕ) → FirstMissed first → IfSome first (λ place. length t.work + place < 2 ^ 64)
+  pub missed-below : IsValid s → (first : Option ℕ) → FirstMissed s t first → IfSome first (λ place. length t.work + place < 2 ^ 64)
   missed-below valid None is = tt
   missed-below valid (Some place) is =
       let within = slice_get_within (stood t) (length t.work + place) (item_look_stood is.look) (item-row t place is.look is.there) in

@@ -1,4 +1,4 @@
-use Rattle.std.specs.Prelude.{◌≡◌, ℕ, ◌+◌, ◌<◌, ◌==◌, nat_le, Bool, true, false, not, ◌&&◌, Option, Some, List, [], ◌∷◌, length, map, take, slice_get, option_and_then}
+use Rattle.std.specs.Prelude.{◌≡◌, ℕ, ◌+◌, ◌<◌, ◌==◌, nat_le, Bool, true, false, not, ◌&&◌, Option, Some, List, [], ◌∷◌, length, map, take, slice_get, option_and_then, All, MatchOption}
 use Rattle.std.specs.List.{filter}
 use Rattle.std.specs.Option.{option_map_or}
 use Rattle.zk_base.specs.declared.ids.Entry.{Entry}
@@ -8,8 +8,11 @@ use Rattle.zk_model_work.specs.declared.ops.WorkOp.{WorkOp}
 use Rattle.zk_model_work.specs.declared.ops.WorkReply.{WorkReply}
 use Rattle.zk_model_work.specs.Machine.{work_machine}
 use Rattle.zk_model_work.specs.State.{State}
+use Rattle.zk_scenario.specs.Content.{Content}
 use Rattle.zk_trace.specs.declared.looks.ItemLook.{ItemLook}
+use Rattle.zk_trace.specs.declared.trace.Trace.{Trace}
 use Rattle.zk_work.specs.Words.{work_word}
+use Rattle.zk_worker.specs.Machines.{work_start_of, items_of}
 use Rattle.zk_check.specs.declared.item_looks.Fronted.{Fronted}
 
 -- looks with their places, from a place on
@@ -46,3 +49,12 @@ pub record IsFirstMissed (finds : ItemLook → Bool) (looks : List ItemLook) (pl
   pub there : slice_get looks place ≡ Some look
   pub missed : finds look ≡ false
   pub none_before : (earlier : ℕ) (other : ItemLook) → earlier < place → slice_get looks earlier ≡ Some other → finds other ≡ true
+
+-- a look found what was there in a trace
+abbrev pub is_found : Content → Trace → ItemLook → Bool
+is_found s t look = finds (work_start_of s) (items_of s.decls) t.work look
+
+-- this is the place of the first look of a trace that didn't, if there is one
+abbrev pub FirstMissed : Content → Trace → Option ℕ → Type 0
+FirstMissed s t first =
+    MatchOption first (All (λ look. is_found s t look ≡ true) t.item_looks) (λ place. IsFirstMissed (is_found s t) t.item_looks place)

@@ -1,11 +1,11 @@
-ghost use Rattle.std.specs.Prelude.{◌≡◌, ℕ, ◌<◌, ◌≤◌, true, Some, [], ◌++◌, length, take, slice_get, All, Contains, MatchOption, OnOk, IfOk};
+ghost use Rattle.std.specs.Prelude.{◌≡◌, ◌<◌, ◌≤◌, [], ◌++◌, length, take, All, Contains, MatchOption, OnOk, IfOk};
 ghost use Rattle.zk_base.specs.Legal.{IsLegal};
 ghost use Rattle.zk_base.specs.Limits.{most_entries};
 ghost use Rattle.zk_base.specs.Order.{Ascends, by_key};
 ghost use Rattle.zk_model_work.specs.Machine.{work_machine};
 ghost use Rattle.zk_work.specs.Seen.{work_start, work_history};
-ghost use Rattle.zk_worker.specs.Machines.{work_start_of, items_of};
-ghost use Rattle.zk_check.specs.ItemLooks.{IsFirstMissed, IsReached, by_front, finds, finds_now, missed_places};
+ghost use Rattle.zk_worker.specs.Machines.{work_start_of};
+ghost use Rattle.zk_check.specs.ItemLooks.{FirstMissed, IsReached, by_front, finds, finds_now, missed_places};
 ghost use Rattle.zk_check.specs.LookOrder.{lower_of};
 
 use std::alloc::Global;
@@ -141,9 +141,7 @@ pub fn first_missed(
 ) -> Result<Option<usize>, NoMemory>
     requires legal { IsLegal work_machine (work_start_of scenario.now) trace.now.work }
     requires short { length trace.now.work < most_entries }
-    ensures { IfOk result (λ place. MatchOption place
-        (All (λ look. finds (work_start_of scenario.now) (items_of scenario.now.decls) trace.now.work look ≡ true) trace.now.item_looks)
-        (λ place. IsFirstMissed (finds (work_start_of scenario.now) (items_of scenario.now.decls) trace.now.work) trace.now.item_looks place)) }
+    ensures { IfOk result (λ first. FirstMissed scenario.now trace.now first) }
 {
     let fronts = by_front(alloc, trace.item_looks.items())?;
     let mut services = first_services(alloc, scenario)?;

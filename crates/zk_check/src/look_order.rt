@@ -1,4 +1,4 @@
-ghost use Rattle.std.specs.Prelude.{◌≡◌, ℕ, ◌+◌, ◌<◌, max, nat_le, List, [], ◌∷◌, ◌++◌, length, set, get_or, replicate, IfOk, All};
+ghost use Rattle.std.specs.Prelude.{◌≡◌, ℕ, ◌<◌, max, List, [], ◌∷◌, ◌++◌, length, set, get_or, IfOk, All};
 ghost use Rattle.zk_worker.specs.Right.{work_front};
 ghost use Rattle.zk_check.specs.LookOrder.{IsWithin, IsFloor, IsCeiling, named_stamp, lower_of, is_up_to, is_late, is_early, earlies_of, orders_of};
 

@@ -9,7 +9,7 @@ ghost use Rattle.zk_worker.specs.Looks.{writes_of};
 ghost use Rattle.zk_check.specs.First.{IsFirst};
 ghost use Rattle.zk_check.specs.LookFailure.{IsWrong};
 ghost use Rattle.zk_check.specs.LookOrder.{IsWithin};
-ghost use Rattle.zk_check.specs.LooksHeld.{all_orders, is_in_order, IsKnownAt, IsFit, IsHeld, AreHeld, IsFirstUnheld};
+ghost use Rattle.zk_check.specs.LooksHeld.{all_orders, is_in_order, IsKnownAt, IsFit, AreHeld, IsFirstUnheld};
 
 use crate::item_looks::first_missed;
 use crate::look_order::orders_of;

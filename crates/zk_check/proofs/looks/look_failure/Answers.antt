@@ -1,4 +1,4 @@
-use Rattle.std.proofs.Common.{◌≡◌, ℕ, length, All, List, sym, ap, subst, ◌∙◌}
+use Rattle.std.proofs.Common.{ℕ, length, All, sym, ap, subst, ◌∙◌}
 use Rattle.zk_worker.specs.declared.log.Log.{Log}
 use Rattle.zk_trace.specs.Stood.{stood}
 use Rattle.zk_check.specs.LookOrder.{IsWithin}
