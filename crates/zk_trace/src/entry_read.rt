@@ -4,6 +4,7 @@ ghost use Rattle.zk_words.specs.Pieces.{words_of};
 ghost use Rattle.zk_trace.specs.EntryRead.{entry_front_of, entry_of};
 
 use crate::halves::sides_of;
+use crate::hints::Hints;
 use crate::rows_read::Row;
 use crate::spelled::Spelled;
 use crate::spot_read::spot_of;
@@ -43,16 +44,18 @@ impl<O: Asked> Row for Entry<O, O::Reply> {
     fn of_line(
         alloc: Global,
         scenario: &Scenario,
+        hints: &Hints,
         _last: Option<&Entry<O, O::Reply>>,
         line: &[u8],
     ) -> Result<Option<Entry<O, O::Reply>>, NoMemory> {
-        entry_of::<O>(alloc, scenario, line)
+        entry_of::<O>(alloc, scenario, hints, line)
     }
 }
 
 fn entry_of<O: Asked>(
     alloc: Global,
     scenario: &Scenario,
+    hints: &Hints,
     row: &[u8],
 ) -> Result<Option<Entry<O, O::Reply>>, NoMemory>
     ensures { let decls = scenario.now.decls in
@@ -61,7 +64,7 @@ fn entry_of<O: Asked>(
     let Some((front, answer)) = sides_of(row) else {
         return Ok(None);
     };
-    let Some(((who, step), op)) = asking_of::<O>(scenario, front) else {
+    let Some(((who, step), op)) = asking_of::<O>(scenario, hints, front) else {
         return Ok(None);
     };
     let Some(reply) = op.reply_of(alloc, scenario, answer)? else {
@@ -76,10 +79,10 @@ fn entry_of<O: Asked>(
 }
 
 /// Whose step it is, and what is asked.
-fn asking_of<O: Asked>(scenario: &Scenario, front: &[u8]) -> Option<((Who, u32), O)>
+fn asking_of<O: Asked>(scenario: &Scenario, hints: &Hints, front: &[u8]) -> Option<((Who, u32), O)>
     ensures { let decls = scenario.now.decls in result ≡ entry_front_of decls (O.op_of decls) (words_of front.now) }
 {
     let mut words = Words::of(front);
-    let spot = spot_of(scenario, words.next()?)?;
+    let spot = spot_of(scenario, hints, words.next()?)?;
     Some((spot, O::op_of(scenario, words)?))
 }

@@ -1,6 +1,8 @@
 ghost use Rattle.std.specs.Prelude.{◌≡◌, ◌==◌, position, MatchOption};
 ghost use Rattle.zk_trace.specs.Sides.{halves, sides_of};
 
+use memchr::memchr;
+
 /// What stands before the first of a byte, and behind it.
 pub fn halves(byte: u8, text: &[u8]) -> Option<(&[u8], &[u8])>
     ensures { MatchOption result (halves byte text.now ≡ None)
@@ -15,7 +17,7 @@ pub fn halves(byte: u8, text: &[u8]) -> Option<(&[u8], &[u8])>
 fn place_of(byte: u8, text: &[u8]) -> Option<usize>
     ensures { result ≡ position (λ b. b == byte) text.now }
 {
-    text.iter().position(|b| *b == byte)
+    memchr(byte, text)
 }
 
 const SPACE: &[u8] = b" ";

@@ -13,6 +13,7 @@ mod expiries;
 mod feed;
 mod flags;
 mod halves;
+mod hints;
 mod line_rows;
 mod lined;
 mod logs_read;

@@ -2,6 +2,7 @@ ghost use Rattle.zk_trace.specs.AnswerRead.{answered_of};
 ghost use Rattle.zk_trace.specs.LookRead.{says_item_look, says_signal_look};
 
 use crate::answer_read::answered_of;
+use crate::hints::Hints;
 use crate::look_read::{says_item_look, says_signal_look};
 use crate::looks::{ItemLook, SignalLook};
 use crate::rows_read::Row;
@@ -16,10 +17,11 @@ impl Row for ItemLook {
     fn of_line(
         _alloc: Global,
         scenario: &Scenario,
+        hints: &Hints,
         last: Option<&ItemLook>,
         line: &[u8],
     ) -> Result<Option<ItemLook>, NoMemory> {
-        Ok(says_item_look(scenario, last.copied(), line))
+        Ok(says_item_look(scenario, hints, last.copied(), line))
     }
 }
 
@@ -29,10 +31,11 @@ impl Row for SignalLook {
     fn of_line(
         _alloc: Global,
         scenario: &Scenario,
+        hints: &Hints,
         last: Option<&SignalLook>,
         line: &[u8],
     ) -> Result<Option<SignalLook>, NoMemory> {
-        Ok(says_signal_look(scenario, last.copied(), line))
+        Ok(says_signal_look(scenario, hints, last.copied(), line))
     }
 }
 
@@ -42,6 +45,7 @@ impl Row for Answered {
     fn of_line(
         _alloc: Global,
         scenario: &Scenario,
+        _hints: &Hints,
         _last: Option<&Answered>,
         line: &[u8],
     ) -> Result<Option<Answered>, NoMemory> {

@@ -5,6 +5,7 @@ ghost use Rattle.zk_trace.specs.LookRead.{same_word, raised_of, stamp_of, can_be
 
 use crate::flags::flags_of;
 use crate::halves::sides_of;
+use crate::hints::Hints;
 use crate::look_ups::object_named;
 use crate::looks::{BUSY, CHECK, ItemLook, LOOK, STAMP, SignalLook, raised_word};
 use crate::numerals::{narrow_of, short_of, wide_of};
@@ -60,11 +61,11 @@ fn narrow_stamp_of(word: &[u8]) -> Option<u32>
     narrow_of(word.strip_prefix(STAMP)?)
 }
 
-fn item_front_of(scenario: &Scenario, words: Words<'_>) -> Option<((u32, u32), u32)>
+fn item_front_of(scenario: &Scenario, hints: &Hints, words: Words<'_>) -> Option<((u32, u32), u32)>
     ensures { result ≡ item_front_of scenario.now.decls words.entry }
 {
     let (step, busy, item) = three_words(behind(LOOK, words)?)?;
-    let step = step_of(scenario, step)?;
+    let step = step_of(scenario, hints, step)?;
     same_word(BUSY, busy)?;
     Some((step, object_named(scenario, Need::Item, item)?))
 }
@@ -77,11 +78,11 @@ fn item_answer_of(words: Words<'_>) -> Option<(u8, u64)>
     Some((flags, wide_stamp_of(at)?))
 }
 
-fn item_look_of(scenario: &Scenario, row: &[u8]) -> Option<ItemLook>
+fn item_look_of(scenario: &Scenario, hints: &Hints, row: &[u8]) -> Option<ItemLook>
     ensures { result ≡ item_look_of scenario.now.decls row.now }
 {
     let (front, answer) = sides_of(row)?;
-    let ((player, step), item) = item_front_of(scenario, Words::of(front))?;
+    let ((player, step), item) = item_front_of(scenario, hints, Words::of(front))?;
     let (flags, at) = item_answer_of(Words::of(answer))?;
     Some(ItemLook {
         player,
@@ -102,10 +103,15 @@ fn item_may_stand(last: Option<ItemLook>, look: &ItemLook) -> bool
 }
 
 /// The look at an item that a line says behind the look before.
-pub fn says_item_look(scenario: &Scenario, last: Option<ItemLook>, row: &[u8]) -> Option<ItemLook>
+pub fn says_item_look(
+    scenario: &Scenario,
+    hints: &Hints,
+    last: Option<ItemLook>,
+    row: &[u8],
+) -> Option<ItemLook>
     ensures { result ≡ says_item_look scenario.now.decls last row.now }
 {
-    let look = item_look_of(scenario, row)?;
+    let look = item_look_of(scenario, hints, row)?;
     if item_may_stand(last, &look) {
         Some(look)
     } else {
@@ -113,11 +119,11 @@ pub fn says_item_look(scenario: &Scenario, last: Option<ItemLook>, row: &[u8]) -
     }
 }
 
-fn signal_front_of(scenario: &Scenario, words: Words<'_>) -> Option<(u32, u32)>
+fn signal_front_of(scenario: &Scenario, hints: &Hints, words: Words<'_>) -> Option<(u32, u32)>
     ensures { result ≡ signal_front_of scenario.now.decls words.entry }
 {
     let (step, check) = two_words(behind(LOOK, words)?)?;
-    let step = step_of(scenario, step)?;
+    let step = step_of(scenario, hints, step)?;
     same_word(CHECK, check)?;
     Some(step)
 }
@@ -140,11 +146,11 @@ fn signal_answer_of(words: Words<'_>) -> Option<Seen>
     }
 }
 
-fn signal_look_of(scenario: &Scenario, row: &[u8]) -> Option<SignalLook>
+fn signal_look_of(scenario: &Scenario, hints: &Hints, row: &[u8]) -> Option<SignalLook>
     ensures { result ≡ signal_look_of scenario.now.decls row.now }
 {
     let (front, answer) = sides_of(row)?;
-    let (player, step) = signal_front_of(scenario, Words::of(front))?;
+    let (player, step) = signal_front_of(scenario, hints, Words::of(front))?;
     let seen = signal_answer_of(Words::of(answer))?;
     Some(SignalLook { player, step, seen })
 }
@@ -161,12 +167,13 @@ fn signal_may_stand(last: Option<SignalLook>, look: &SignalLook) -> bool
 /// The look at a signal that a line says behind the look before.
 pub fn says_signal_look(
     scenario: &Scenario,
+    hints: &Hints,
     last: Option<SignalLook>,
     row: &[u8],
 ) -> Option<SignalLook>
     ensures { result ≡ says_signal_look scenario.now.decls last row.now }
 {
-    let look = signal_look_of(scenario, row)?;
+    let look = signal_look_of(scenario, hints, row)?;
     if signal_may_stand(last, &look) {
         Some(look)
     } else {

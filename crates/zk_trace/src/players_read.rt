@@ -3,6 +3,7 @@ ghost use Rattle.zk_blocks.specs.Blocks.{Gives};
 ghost use Rattle.zk_trace.specs.WholeRead.{state_of, player_state_of, read_player, read_players};
 
 use crate::feed::Feed;
+use crate::hints::Hints;
 use crate::names::player_name;
 use crate::row_words::three_words;
 use crate::rows_read::read_rows;
@@ -48,6 +49,7 @@ fn player_state_of(name: &[u8], row: &[u8]) -> Option<PlayerState>
 fn read_player(
     alloc: Global,
     scenario: &Scenario,
+    hints: &Hints,
     player: u32,
     feed: &mut Feed<'_>,
 ) -> Result<Option<(PlayerState, Answers)>, NoMemory>
@@ -61,7 +63,7 @@ fn read_player(
         return Ok(None);
     };
     feed.go_on(rest);
-    let answers = read_rows::<Answered>(alloc, scenario, feed)?;
+    let answers = read_rows::<Answered>(alloc, scenario, hints, feed)?;
     Ok(Some((state, Listed::from_vec(answers))))
 }
 
@@ -69,13 +71,14 @@ fn read_player(
 pub fn read_players(
     alloc: Global,
     scenario: &Scenario,
+    hints: &Hints,
     feed: &mut Feed<'_>,
 ) -> Result<Option<Listed<(PlayerState, Answers)>>, NoMemory>
     ensures { IfOk result (λ read. Gives (λ x. x) read feed.new (read_players scenario.now.decls feed.old)) }
 {
     let mut all = Vec::new(alloc);
     for player in 0..scenario.players() {
-        match read_player(alloc, scenario, player, feed)? {
+        match read_player(alloc, scenario, hints, player, feed)? {
             Some(one) => all.push(one)?,
             None => return Ok(None),
         }

@@ -10,6 +10,7 @@ ghost use Rattle.zk_trace.specs.TraceRead.{IsReadAs, IfAt, IsRefusedAt, line_num
 
 use crate::Trace;
 use crate::feed::{Feed, line_count};
+use crate::hints::Hints;
 use crate::trace_made::trace_of;
 use crate::whole_read::read_whole;
 use std::alloc::Global;
@@ -51,7 +52,8 @@ pub fn read_trace(
 {
     let _readable = scenario.decls();
     let mut feed = Feed::of(bytes);
-    let Some(whole) = read_whole(alloc, scenario, &mut feed)? else {
+    let hints = Hints::of(scenario);
+    let Some(whole) = read_whole(alloc, scenario, &hints, &mut feed)? else {
         return Err(refused(bytes, first_line, &feed));
     };
     if !is_read(bytes, &feed) {

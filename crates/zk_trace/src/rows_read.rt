@@ -9,6 +9,7 @@ ghost use Rattle.zk_line.specs.Objects.{is_met, name_of};
 ghost use Rattle.zk_trace.specs.SectionRead.{is_head, has_player};
 
 use crate::feed::Feed;
+use crate::hints::Hints;
 use crate::lined::Lined;
 use crate::sections::SERVICE;
 use std::alloc::Global;
@@ -26,6 +27,7 @@ pub trait Row: Lined + Drop {
     fn of_line(
         alloc: Global,
         scenario: &Scenario,
+        hints: &Hints,
         last: Option<&Self>,
         line: &[u8],
     ) -> Result<Option<Self>, NoMemory>
@@ -36,12 +38,13 @@ pub trait Row: Lined + Drop {
 pub fn read_rows<X: Row>(
     alloc: Global,
     scenario: &Scenario,
+    hints: &Hints,
     feed: &mut Feed<'_>,
 ) -> Result<Vec<X>, NoMemory>
     ensures { IfOk result (λ rows. rows_of (X.says scenario.now.decls) None feed.old ≡ (rows.items, feed.new)) }
 {
     let mut rows = Vec::new(alloc);
-    while let Some(row) = read_row::<X>(alloc, scenario, rows.last(), feed)? {
+    while let Some(row) = read_row::<X>(alloc, scenario, hints, rows.last(), feed)? {
         rows.push(row)?;
     }
     Ok(rows)
@@ -51,6 +54,7 @@ pub fn read_rows<X: Row>(
 fn read_row<X: Row>(
     alloc: Global,
     scenario: &Scenario,
+    hints: &Hints,
     last: Option<&X>,
     feed: &mut Feed<'_>,
 ) -> Result<Option<X>, NoMemory>
@@ -63,7 +67,7 @@ fn read_row<X: Row>(
     let Some((line, rest)) = feed.next() else {
         return Ok(None);
     };
-    let row = X::of_line(alloc, scenario, last, line)?;
+    let row = X::of_line(alloc, scenario, hints, last, line)?;
     if row.is_some() {
         feed.go_on(rest);
     }
@@ -84,6 +88,7 @@ fn is_head(name: &[u8], line: &[u8]) -> bool
 pub fn read_section<E: Row>(
     alloc: Global,
     scenario: &Scenario,
+    hints: &Hints,
     name: &[u8],
     feed: &mut Feed<'_>,
 ) -> Result<Option<Listed<E>>, NoMemory>
@@ -100,7 +105,7 @@ pub fn read_section<E: Row>(
         return Ok(None);
     }
     feed.go_on(rest);
-    let rows = read_rows::<E>(alloc, scenario, feed)?;
+    let rows = read_rows::<E>(alloc, scenario, hints, feed)?;
     if rows.is_empty() {
         return Ok(None);
     }
@@ -111,6 +116,7 @@ pub fn read_section<E: Row>(
 pub fn read_looked<E: Row, K: Row>(
     alloc: Global,
     scenario: &Scenario,
+    hints: &Hints,
     name: &[u8],
     feed: &mut Feed<'_>,
 ) -> Result<Option<(Listed<E>, Listed<K>)>, NoMemory>
@@ -127,8 +133,8 @@ pub fn read_looked<E: Row, K: Row>(
         return Ok(None);
     }
     feed.go_on(rest);
-    let entries = read_rows::<E>(alloc, scenario, feed)?;
-    let looks = read_rows::<K>(alloc, scenario, feed)?;
+    let entries = read_rows::<E>(alloc, scenario, hints, feed)?;
+    let looks = read_rows::<K>(alloc, scenario, hints, feed)?;
     if entries.is_empty() && looks.is_empty() {
         return Ok(None);
     }
@@ -139,6 +145,7 @@ pub fn read_looked<E: Row, K: Row>(
 fn read_given<E: Row>(
     alloc: Global,
     scenario: &Scenario,
+    hints: &Hints,
     need: Need,
     decl: &Decl,
     feed: &mut Feed<'_>,
@@ -150,13 +157,14 @@ fn read_given<E: Row>(
     if !need.is_met_by(kind_of(decl)) {
         return Ok(Some(Listed::new(alloc)));
     }
-    read_section(alloc, scenario, name_of(decl), feed)
+    read_section(alloc, scenario, hints, name_of(decl), feed)
 }
 
 /// The sections of all that meets a need, in declared order.
 pub fn read_family<E: Row>(
     alloc: Global,
     scenario: &Scenario,
+    hints: &Hints,
     need: Need,
     feed: &mut Feed<'_>,
 ) -> Result<Option<Listed<Listed<E>>>, NoMemory>
@@ -166,7 +174,7 @@ pub fn read_family<E: Row>(
     let mut all = Vec::new(alloc);
     let decls = scenario.decls();
     for decl in decls {
-        match read_given::<E>(alloc, scenario, need, decl, feed)? {
+        match read_given::<E>(alloc, scenario, hints, need, decl, feed)? {
             Some(rows) => all.push(rows)?,
             None => return Ok(None),
         }
@@ -178,6 +186,7 @@ pub fn read_family<E: Row>(
 fn read_given_looked<E: Row, K: Row>(
     alloc: Global,
     scenario: &Scenario,
+    hints: &Hints,
     need: Need,
     decl: &Decl,
     feed: &mut Feed<'_>,
@@ -189,13 +198,14 @@ fn read_given_looked<E: Row, K: Row>(
     if !need.is_met_by(kind_of(decl)) {
         return Ok(Some((Listed::new(alloc), Listed::new(alloc))));
     }
-    read_looked(alloc, scenario, name_of(decl), feed)
+    read_looked(alloc, scenario, hints, name_of(decl), feed)
 }
 
 /// The sections of all that meets a need with rows of two kinds, in declared order.
 pub fn read_looked_family<E: Row, K: Row>(
     alloc: Global,
     scenario: &Scenario,
+    hints: &Hints,
     need: Need,
     feed: &mut Feed<'_>,
 ) -> Result<Option<Listed<(Listed<E>, Listed<K>)>>, NoMemory>
@@ -206,7 +216,7 @@ pub fn read_looked_family<E: Row, K: Row>(
     let mut all = Vec::new(alloc);
     let decls = scenario.decls();
     for decl in decls {
-        match read_given_looked::<E, K>(alloc, scenario, need, decl, feed)? {
+        match read_given_looked::<E, K>(alloc, scenario, hints, need, decl, feed)? {
             Some(rows) => all.push(rows)?,
             None => return Ok(None),
         }

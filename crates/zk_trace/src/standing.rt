@@ -139,7 +139,11 @@ pub fn stood_lines(alloc: Global, trace: &Trace) -> Result<Vec<Stood>, NoMemory>
     put_entries(&mut lines, Home::Table, trace.table.items())?;
     put_histories(&mut lines, Family::Sem, trace.sems.items())?;
     put_histories(&mut lines, Family::Msgq, trace.msgqs.items())?;
-    put_signals(&mut lines, trace.signals.items(), trace.signal_looks.items())?;
+    put_signals(
+        &mut lines,
+        trace.signals.items(),
+        trace.signal_looks.items(),
+    )?;
     put_histories(&mut lines, Family::Chan, trace.chans.items())?;
     put_histories(&mut lines, Family::Obs, trace.observers.items())?;
     Ok(lines)

@@ -5,6 +5,7 @@ ghost use Rattle.zk_trace.specs.WholeRead.{first_of, ending_of, read_singles, re
 
 use crate::entry_read::Asked;
 use crate::feed::Feed;
+use crate::hints::Hints;
 use crate::looks::{ItemLook, ItemLooks, SignalLook};
 use crate::players_read::read_players;
 use crate::print::{CLOCK, FIRST, TABLE, WORK};
@@ -71,21 +72,26 @@ pub struct Whole {
 fn read_singles(
     alloc: Global,
     scenario: &Scenario,
+    hints: &Hints,
     feed: &mut Feed<'_>,
 ) -> Result<Option<Singles>, NoMemory>
     ensures { IfOk result (λ read. Gives singles_of read feed.new (read_singles scenario.now.decls feed.old)) }
 {
     let Some((work, item_looks)) = read_looked::<Entry<WorkOp, WorkReply>, ItemLook>(
-        alloc, scenario, WORK, feed,
+        alloc, scenario, hints, WORK, feed,
     )?
     else {
         return Ok(None);
     };
-    let Some(clock) = read_section::<Entry<ClockOp, ClockReply>>(alloc, scenario, CLOCK, feed)?
+    let Some(clock) = read_section::<Entry<ClockOp, ClockReply>>(
+        alloc, scenario, hints, CLOCK, feed,
+    )?
     else {
         return Ok(None);
     };
-    let Some(table) = read_section::<Entry<TableOp, TableReply>>(alloc, scenario, TABLE, feed)?
+    let Some(table) = read_section::<Entry<TableOp, TableReply>>(
+        alloc, scenario, hints, TABLE, feed,
+    )?
     else {
         return Ok(None);
     };
@@ -100,25 +106,45 @@ fn read_singles(
 fn read_families(
     alloc: Global,
     scenario: &Scenario,
+    hints: &Hints,
     feed: &mut Feed<'_>,
 ) -> Result<Option<Families>, NoMemory>
     ensures { IfOk result (λ read. Gives families_of read feed.new (read_families scenario.now.decls feed.old)) }
 {
-    let Some(sems) = read_family::<Entry<SemOp, SemReply>>(alloc, scenario, Need::Sem, feed)? else {
-        return Ok(None);
-    };
-    let Some(msgqs) = read_family::<Entry<MsgqOp, MsgqReply>>(alloc, scenario, Need::Msgq, feed)?
+    let Some(sems) = read_family::<Entry<SemOp, SemReply>>(alloc, scenario, hints, Need::Sem, feed)?
     else {
         return Ok(None);
     };
-    let Some(signals) = read_signals(alloc, scenario, feed)? else {
-        return Ok(None);
-    };
-    let Some(chans) = read_family::<Entry<ChanOp, ChanReply>>(alloc, scenario, Need::Chan, feed)?
+    let Some(msgqs) = read_family::<Entry<MsgqOp, MsgqReply>>(
+        alloc,
+        scenario,
+        hints,
+        Need::Msgq,
+        feed,
+    )?
     else {
         return Ok(None);
     };
-    let Some(observers) = read_family::<Entry<ObsOp, ObsReply>>(alloc, scenario, Need::Obs, feed)?
+    let Some(signals) = read_signals(alloc, scenario, hints, feed)? else {
+        return Ok(None);
+    };
+    let Some(chans) = read_family::<Entry<ChanOp, ChanReply>>(
+        alloc,
+        scenario,
+        hints,
+        Need::Chan,
+        feed,
+    )?
+    else {
+        return Ok(None);
+    };
+    let Some(observers) = read_family::<Entry<ObsOp, ObsReply>>(
+        alloc,
+        scenario,
+        hints,
+        Need::Obs,
+        feed,
+    )?
     else {
         return Ok(None);
     };
@@ -134,6 +160,7 @@ fn read_families(
 fn read_signals(
     alloc: Global,
     scenario: &Scenario,
+    hints: &Hints,
     feed: &mut Feed<'_>,
 ) -> Result<Option<Listed<SignalLines>>, NoMemory>
     ensures { IfOk result (λ read. Gives (λ x. x) read feed.new (read_signals scenario.now.decls feed.old)) }
@@ -141,6 +168,7 @@ fn read_signals(
     read_looked_family::<Entry<SignalOp, SignalReply>, SignalLook>(
         alloc,
         scenario,
+        hints,
         Need::Signal,
         feed,
     )
@@ -184,6 +212,7 @@ fn read_ending(feed: &mut Feed<'_>) -> Option<Ending>
 pub fn read_whole(
     alloc: Global,
     scenario: &Scenario,
+    hints: &Hints,
     feed: &mut Feed<'_>,
 ) -> Result<Option<Whole>, NoMemory>
     ensures { IfOk result (λ read. Gives parts_of read feed.new (read_whole scenario.now.decls feed.old)) }
@@ -194,13 +223,13 @@ pub fn read_whole(
     let Some(ending) = read_ending(feed) else {
         return Ok(None);
     };
-    let Some(singles) = read_singles(alloc, scenario, feed)? else {
+    let Some(singles) = read_singles(alloc, scenario, hints, feed)? else {
         return Ok(None);
     };
-    let Some(families) = read_families(alloc, scenario, feed)? else {
+    let Some(families) = read_families(alloc, scenario, hints, feed)? else {
         return Ok(None);
     };
-    let Some(players) = read_players(alloc, scenario, feed)? else {
+    let Some(players) = read_players(alloc, scenario, hints, feed)? else {
         return Ok(None);
     };
     Ok(Some(Whole {
