@@ -296,6 +296,7 @@ pub fn call_ahead(scenario: &Scenario, call: &Call, stage: &Stage, index: u32) -
 }
 
 /// A call that has its answer by this reply.
+#[inline(never)]
 fn answers(word: Word, reply: &StepReply) -> Progress
     ensures { result ≡ Progress.Answers word (answer_of reply.now) }
 {
