@@ -23,8 +23,8 @@ act_at-requires-clause-short c = λ h there.
     let P : List (Entry SignalOp SignalReply) → Type 0 = λ h. length h < most_entries in
     All-at P (plain_shown c.args.self.now).signals c.args.object h c.requires.short.signals there
 
-pub returns-in_ok-made-clause-attempted : goal.returns-in_ok-made-clause-attempted
-returns-in_ok-made-clause-attempted c =
+pub returns-clause-attempted : goal.returns-clause-attempted
+returns-clause-attempted c =
     let old = plain_shown c.args.self.now in
     let object = c.args.object in
     let op = c.args.op.now in
