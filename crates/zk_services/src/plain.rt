@@ -1,6 +1,7 @@
 ghost use Rattle.std.specs.Prelude.{◌≡◌, true, Some, IfOk};
 ghost use Rattle.zk_base.specs.declared.ids.Who.{Who};
-ghost use Rattle.zk_worker.specs.Attempt.{reply_in, is_in_range};
+ghost use Rattle.zk_worker.specs.Attempt.{reply_in, is_in_range, Attempted, KeepsElsewhere};
+ghost use Rattle.zk_worker.specs.Shown.{IsLater, AreShort};
 ghost use Rattle.zk_worker.specs.Looks.{look_reply};
 ghost use Rattle.zk_services.specs.Alone.{plain_machines, plain_shown};
 
@@ -91,6 +92,175 @@ impl Plain {
         })
     }
 
+    /// One attempt at the work service.
+    // Out of line, as the ones below: an attempt goes to one service, and what is answered has large places.
+    #[inline(never)]
+    fn attempt_work(
+        &mut self,
+        who: Who,
+        number: u32,
+        op: &WorkOp,
+    ) -> Result<Option<StepReply>, NoMemory>
+        requires range { is_in_range (plain_machines self.old) (Step.Work op.now) ≡ true }
+        requires later { IsLater (plain_shown self.old) who.number number }
+        requires short { AreShort (plain_shown self.old) }
+        ensures attempted { Attempted true (plain_machines self.old) who number (Step.Work op.now)
+            (plain_shown self.old) (plain_shown self.new) result }
+        ensures elsewhere { KeepsElsewhere (Step.Work op.now) (plain_shown self.old) (plain_shown self.new) }
+        ensures machines { plain_machines self.new ≡ plain_machines self.old }
+    {
+        let place = self.work.history().len() as u64;
+        let reply = self.work.act(who, number, *op)?;
+        Ok(reply.map(|reply| StepReply::Work(reply, place)))
+    }
+
+    /// One attempt at the clock.
+    #[inline(never)]
+    fn attempt_clock(
+        &mut self,
+        who: Who,
+        number: u32,
+        op: &ClockOp,
+    ) -> Result<Option<StepReply>, NoMemory>
+        requires range { is_in_range (plain_machines self.old) (Step.Clock op.now) ≡ true }
+        requires later { IsLater (plain_shown self.old) who.number number }
+        requires short { AreShort (plain_shown self.old) }
+        ensures attempted { Attempted true (plain_machines self.old) who number (Step.Clock op.now)
+            (plain_shown self.old) (plain_shown self.new) result }
+        ensures elsewhere { KeepsElsewhere (Step.Clock op.now) (plain_shown self.old) (plain_shown self.new) }
+        ensures machines { plain_machines self.new ≡ plain_machines self.old }
+    {
+        let place = self.clock.history().len() as u64;
+        let reply = self.clock.act(who, number, *op)?;
+        Ok(reply.map(|reply| StepReply::Clock(reply, place)))
+    }
+
+    /// One attempt at the object table.
+    #[inline(never)]
+    fn attempt_table(
+        &mut self,
+        who: Who,
+        number: u32,
+        op: &TableOp,
+    ) -> Result<Option<StepReply>, NoMemory>
+        requires range { is_in_range (plain_machines self.old) (Step.Table op.now) ≡ true }
+        requires later { IsLater (plain_shown self.old) who.number number }
+        requires short { AreShort (plain_shown self.old) }
+        ensures attempted { Attempted true (plain_machines self.old) who number (Step.Table op.now)
+            (plain_shown self.old) (plain_shown self.new) result }
+        ensures elsewhere { KeepsElsewhere (Step.Table op.now) (plain_shown self.old) (plain_shown self.new) }
+        ensures machines { plain_machines self.new ≡ plain_machines self.old }
+    {
+        let place = self.table.history().len() as u64;
+        let reply = self.table.act(who, number, *op)?;
+        Ok(reply.map(|reply| StepReply::Table(reply, place)))
+    }
+
+    /// One attempt at a semaphore.
+    #[inline(never)]
+    fn attempt_sem(
+        &mut self,
+        who: Who,
+        number: u32,
+        object: u32,
+        op: &SemOp,
+    ) -> Result<Option<StepReply>, NoMemory>
+        requires range { is_in_range (plain_machines self.old) (Step.Sem object op.now) ≡ true }
+        requires later { IsLater (plain_shown self.old) who.number number }
+        requires short { AreShort (plain_shown self.old) }
+        ensures attempted { Attempted true (plain_machines self.old) who number (Step.Sem object op.now)
+            (plain_shown self.old) (plain_shown self.new) result }
+        ensures elsewhere { KeepsElsewhere (Step.Sem object op.now) (plain_shown self.old) (plain_shown self.new) }
+        ensures machines { plain_machines self.new ≡ plain_machines self.old }
+    {
+        let made = act_at(&mut self.sems, object, who, number, *op)?;
+        Ok(made.map(|made| StepReply::Sem(object, made.0, made.1)))
+    }
+
+    /// One attempt at a message queue.
+    #[inline(never)]
+    fn attempt_msgq(
+        &mut self,
+        who: Who,
+        number: u32,
+        object: u32,
+        op: &MsgqOp,
+    ) -> Result<Option<StepReply>, NoMemory>
+        requires range { is_in_range (plain_machines self.old) (Step.Msgq object op.now) ≡ true }
+        requires later { IsLater (plain_shown self.old) who.number number }
+        requires short { AreShort (plain_shown self.old) }
+        ensures attempted { Attempted true (plain_machines self.old) who number (Step.Msgq object op.now)
+            (plain_shown self.old) (plain_shown self.new) result }
+        ensures elsewhere { KeepsElsewhere (Step.Msgq object op.now) (plain_shown self.old) (plain_shown self.new) }
+        ensures machines { plain_machines self.new ≡ plain_machines self.old }
+    {
+        let made = act_at(&mut self.msgqs, object, who, number, *op)?;
+        Ok(made.map(|made| StepReply::Msgq(object, made.0, made.1)))
+    }
+
+    /// One attempt at a signal.
+    #[inline(never)]
+    fn attempt_signal(
+        &mut self,
+        who: Who,
+        number: u32,
+        object: u32,
+        op: &SignalOp,
+    ) -> Result<Option<StepReply>, NoMemory>
+        requires range { is_in_range (plain_machines self.old) (Step.Signal object op.now) ≡ true }
+        requires later { IsLater (plain_shown self.old) who.number number }
+        requires short { AreShort (plain_shown self.old) }
+        ensures attempted { Attempted true (plain_machines self.old) who number (Step.Signal object op.now)
+            (plain_shown self.old) (plain_shown self.new) result }
+        ensures elsewhere { KeepsElsewhere (Step.Signal object op.now) (plain_shown self.old) (plain_shown self.new) }
+        ensures machines { plain_machines self.new ≡ plain_machines self.old }
+    {
+        let made = act_at(&mut self.signals, object, who, number, *op)?;
+        Ok(made.map(|made| StepReply::Signal(object, made.0, made.1)))
+    }
+
+    /// One attempt at a channel.
+    #[inline(never)]
+    fn attempt_chan(
+        &mut self,
+        who: Who,
+        number: u32,
+        object: u32,
+        op: &ChanOp,
+    ) -> Result<Option<StepReply>, NoMemory>
+        requires range { is_in_range (plain_machines self.old) (Step.Chan object op.now) ≡ true }
+        requires later { IsLater (plain_shown self.old) who.number number }
+        requires short { AreShort (plain_shown self.old) }
+        ensures attempted { Attempted true (plain_machines self.old) who number (Step.Chan object op.now)
+            (plain_shown self.old) (plain_shown self.new) result }
+        ensures elsewhere { KeepsElsewhere (Step.Chan object op.now) (plain_shown self.old) (plain_shown self.new) }
+        ensures machines { plain_machines self.new ≡ plain_machines self.old }
+    {
+        let made = act_at(&mut self.chans, object, who, number, *op)?;
+        Ok(made.map(|made| StepReply::Chan(object, made.0, made.1)))
+    }
+
+    /// One attempt at an observer.
+    #[inline(never)]
+    fn attempt_observer(
+        &mut self,
+        who: Who,
+        number: u32,
+        object: u32,
+        op: &ObsOp,
+    ) -> Result<Option<StepReply>, NoMemory>
+        requires range { is_in_range (plain_machines self.old) (Step.Obs object op.now) ≡ true }
+        requires later { IsLater (plain_shown self.old) who.number number }
+        requires short { AreShort (plain_shown self.old) }
+        ensures attempted { Attempted true (plain_machines self.old) who number (Step.Obs object op.now)
+            (plain_shown self.old) (plain_shown self.new) result }
+        ensures elsewhere { KeepsElsewhere (Step.Obs object op.now) (plain_shown self.old) (plain_shown self.new) }
+        ensures machines { plain_machines self.new ≡ plain_machines self.old }
+    {
+        let made = act_at(&mut self.observers, object, who, number, *op)?;
+        Ok(made.map(|made| StepReply::Obs(object, made.0, made.1)))
+    }
+
     /// The busy flags of the item of this object number, and how many entries the work service has.
     fn look_at_item(&self, object: u32) -> StepReply
         requires { is_in_range (plain_machines self.now) (Step.LookItem object) ≡ true }
@@ -153,41 +323,14 @@ impl Services for Plain {
         step: &Step,
     ) -> Result<Option<StepReply>, NoMemory> {
         match step {
-            Step::Work(op) => {
-                let place = self.work.history().len() as u64;
-                let reply = self.work.act(who, number, *op)?;
-                Ok(reply.map(|reply| StepReply::Work(reply, place)))
-            }
-            Step::Clock(op) => {
-                let place = self.clock.history().len() as u64;
-                let reply = self.clock.act(who, number, *op)?;
-                Ok(reply.map(|reply| StepReply::Clock(reply, place)))
-            }
-            Step::Table(op) => {
-                let place = self.table.history().len() as u64;
-                let reply = self.table.act(who, number, *op)?;
-                Ok(reply.map(|reply| StepReply::Table(reply, place)))
-            }
-            Step::Sem(object, op) => {
-                let made = act_at(&mut self.sems, *object, who, number, *op)?;
-                Ok(made.map(|made| StepReply::Sem(*object, made.0, made.1)))
-            }
-            Step::Msgq(object, op) => {
-                let made = act_at(&mut self.msgqs, *object, who, number, *op)?;
-                Ok(made.map(|made| StepReply::Msgq(*object, made.0, made.1)))
-            }
-            Step::Signal(object, op) => {
-                let made = act_at(&mut self.signals, *object, who, number, *op)?;
-                Ok(made.map(|made| StepReply::Signal(*object, made.0, made.1)))
-            }
-            Step::Chan(object, op) => {
-                let made = act_at(&mut self.chans, *object, who, number, *op)?;
-                Ok(made.map(|made| StepReply::Chan(*object, made.0, made.1)))
-            }
-            Step::Obs(object, op) => {
-                let made = act_at(&mut self.observers, *object, who, number, *op)?;
-                Ok(made.map(|made| StepReply::Obs(*object, made.0, made.1)))
-            }
+            Step::Work(op) => self.attempt_work(who, number, op),
+            Step::Clock(op) => self.attempt_clock(who, number, op),
+            Step::Table(op) => self.attempt_table(who, number, op),
+            Step::Sem(object, op) => self.attempt_sem(who, number, *object, op),
+            Step::Msgq(object, op) => self.attempt_msgq(who, number, *object, op),
+            Step::Signal(object, op) => self.attempt_signal(who, number, *object, op),
+            Step::Chan(object, op) => self.attempt_chan(who, number, *object, op),
+            Step::Obs(object, op) => self.attempt_observer(who, number, *object, op),
             Step::LookItem(object) => Ok(Some(self.look_at_item(*object))),
             Step::LookSignal(object, must) => Ok(self.look_at_signal(*object, *must)),
         }

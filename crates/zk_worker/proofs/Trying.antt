@@ -1,6 +1,7 @@
 -- What is known while the attempts of a player are made in order.
-use Rattle.std.proofs.Common.{◌≡◌, ◌⊎◌, inl, inr, ℕ, zero, suc, ◌+◌, ◌-◌, ◌^◌, ◌<◌, ◌≤◌, Bool, Option, Some, None, Result, Ok, Err, List, length, sym, ap, subst, ◌∙◌, arith}
+use Rattle.std.proofs.Common.{◌≡◌, ◌⊎◌, inl, inr, ℕ, get_or, zero, suc, ◌+◌, ◌-◌, ◌^◌, ◌<◌, ◌≤◌, Bool, Option, Some, None, Result, Ok, Err, List, length, sym, ap, subst, ◌∙◌, arith}
 use Rattle.std.specs.List.{slice_get}
+use Rattle.std.proofs.lemmas.Option.{slice_get_cases}
 use Rattle.zk_base.specs.declared.ids.Who.{Who}
 use Rattle.zk_base.specs.declared.errors.NoMemory.{NoMemory}
 use Rattle.zk_base.specs.Causes.{Rose}
@@ -86,6 +87,20 @@ none-left alone m who ahead many old new counts counts' tried all before = recor
   tried = λ k step below there. tried k step (omega arith) there;
 }
 
+-- behind the last there is none
+past : (xs : List Step) (k : ℕ) → slice_get xs k ≡ None → length xs ≤ k
+past xs k none = by_place (slice_get_cases xs k).1
+  where
+    by_place : ((x : Step) × (k < length xs) × (slice_get xs k ≡ Some x) × (get_or xs k x ≡ x)) ⊎ ((length xs ≤ k) × (slice_get xs k ≡ None)) → length xs ≤ k
+    by_place (inl there) = let some = there.2 in absurd cc
+    by_place (inr behind) = behind.0
+
+-- all attempts were made where there is no further one, and none was possible
+pub none-behind : (alone : Bool) (m : Machines) (who : Who) (ahead : List Step) (many : ℕ) (old new : Shown) (counts counts' : Counts) →
+    WereTried alone m who ahead many old new counts counts' → slice_get ahead many ≡ None → OnlyOthersCame alone who.number old new → WasNone alone m who ahead old new counts counts'
+none-behind alone m who ahead many old new counts counts' tried none before =
+    none-left alone m who ahead many old new counts counts' tried (past ahead many none) before
+
 -- what came of the attempts, by whether one was made
 pub tried-some : (alone : Bool) (m : Machines) (who : Who) (number : ℕ) (ahead : List Step) (step : Step) (reply : StepReply) (old new : Shown) (counts counts' : Counts) (made : Option (Step × StepReply)) →
     Tried alone m who number ahead old new counts counts' made → made ≡ Some (step, reply) → WasFirst alone m who number ahead step reply old new counts counts'
@@ -96,6 +111,12 @@ pub tried-none : (alone : Bool) (m : Machines) (who : Who) (number : ℕ) (ahead
     Tried alone m who number ahead old new counts counts' made → made ≡ None → WasNone alone m who ahead old new counts counts'
 tried-none alone m who number ahead old new counts counts' made tried is =
     subst (λ (o : Option (Step × StepReply)). Tried alone m who number ahead old new counts counts' o) is tried
+
+-- none was made, and what was made is still none
+pub none-made : (alone : Bool) (m : Machines) (who : Who) (number : ℕ) (ahead : List Step) (old new : Shown) (counts counts' : Counts) (made : Option (Step × StepReply)) →
+    made ≡ None → WasNone alone m who ahead old new counts counts' → Tried alone m who number ahead old new counts counts' made
+none-made alone m who number ahead old new counts counts' made is none =
+    subst (λ (o : Option (Step × StepReply)). Tried alone m who number ahead old new counts counts' o) (sym is) none
 
 -- the same attempt, as the start of the call has its services and its player
 attempted-same : (alone alone' : Bool) (m m' : Machines) (who who' : Who) (number number' : ℕ) (step : Step) (old new : Shown) (result : Result (Option StepReply) NoMemory) →

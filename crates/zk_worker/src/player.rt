@@ -208,6 +208,8 @@ impl Player {
     }
 
     /// A check was passed, or failed for this reason.
+    // Out of line: supervisors make none.
+    #[inline(never)]
     fn check(&mut self, word: Word, why: Option<OopsWhy>, spot: Spot)
         requires { length self.old.spots < MOST_STEPS }
         ensures { self.new ≡ checked self.old word why spot }

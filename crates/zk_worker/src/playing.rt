@@ -1,4 +1,4 @@
-ghost use Rattle.std.specs.Prelude.{◌≡◌, ℕ, ◌<◌, Bool, true, false, length, IfOk, OnErr};
+ghost use Rattle.std.specs.Prelude.{◌≡◌, ℕ, ◌<◌, Bool, true, false, None, length, IfOk, OnErr};
 ghost use Rattle.zk_base.specs.declared.ids.Who.{Who};
 ghost use Rattle.zk_scenario.specs.Valid.{IsValid};
 ghost use Rattle.zk_worker.specs.Protocol.{attempts, IsAhead};
@@ -28,21 +28,24 @@ pub enum Stepped {
     Spent,
 }
 
-/// Makes the attempts of a player in order, up to the first that is possible.
+/// Makes the attempts of a player in order, up to the first that is possible, and puts it and its reply where there is none.
+// Not handed out: they are large, and would be moved once for each layer of the answer.
 fn try_ahead<V: Services>(
     services: &mut V,
     scenario: &Scenario,
     player: &Player,
-) -> Result<Option<(Step, StepReply)>, NoMemory>
+    made: &mut Option<(Step, StepReply)>,
+) -> Result<(), NoMemory>
+    requires none { made.old ≡ None }
     requires served { V.serves services.old player.now.who }
     requires range { (step : Step) → IsAhead scenario.now player.now step →
         is_in_range (V.machines services.old) step ≡ true }
     requires log { ShowsLog (V.shown services.old) player.now.who.number player.now.spots }
     requires short { V.alone services.old ≡ true → AreShort (V.shown services.old) }
-    ensures tried { IfOk result (λ made.
+    ensures tried { IfOk result (λ _.
         Tried (V.alone services.old) (V.machines services.old)
         player.now.who (length player.now.spots) (attempts scenario.now player.now)
-        (V.shown services.old) (V.shown services.new) (V.counts services.old) (V.counts services.new) made) }
+        (V.shown services.old) (V.shown services.new) (V.counts services.old) (V.counts services.new) made.new) }
     ensures err { OnErr result (OnlyOthersCame (V.alone services.old) player.now.who.number
         (V.shown services.old) (V.shown services.new)) }
     ensures machines { V.machines services.new ≡ V.machines services.old }
@@ -52,13 +55,14 @@ fn try_ahead<V: Services>(
 {
     for index in 0..MOST_ATTEMPTS {
         let Some(step) = player.ahead(scenario, index) else {
-            return Ok(None);
+            return Ok(());
         };
         if let Some(reply) = services.attempt(player.who(), player.steps(), &step)? {
-            return Ok(Some((step, reply)));
+            *made = Some((step, reply));
+            return Ok(());
         }
     }
-    Ok(None)
+    Ok(())
 }
 
 impl Player {
@@ -104,9 +108,11 @@ impl Player {
         if self.is_through() {
             return Ok(Stepped::Ended);
         }
-        match try_ahead(services, scenario, self)? {
+        let mut made = None;
+        try_ahead(services, scenario, self, &mut made)?;
+        match &made {
             Some((step, reply)) => {
-                self.made(scenario, &step, &reply);
+                self.made(scenario, step, reply);
                 Ok(Stepped::Did)
             }
             None => Ok(Stepped::NotYet),

@@ -1,13 +1,13 @@
 ghost use Rattle.std.specs.Prelude.{◌≡◌, slice_get, reverse, option_copied};
 ghost use Rattle.zk_line.specs.Objects.{places, is_item};
 ghost use Rattle.zk_scenario.specs.Players.{players, calls_of};
-ghost use Rattle.zk_worker.specs.Protocol.{worker_attempts, call_attempts, role_attempts, run_progress, worker_progress, call_progress, role_progress, is_over, place_of, found_flags, found_seen, spot_of};
+ghost use Rattle.zk_worker.specs.Protocol.{worker_attempts, role_attempts, run_progress, worker_progress, role_progress, is_over, place_of, found_flags, found_seen, spot_of};
 
-use crate::calls::{plan_ahead, plan_of, plan_progress};
+use crate::calls::{call_ahead, call_progress};
 use crate::{Frame, Progress, Role, Spot, Stage, Step, StepReply};
 use zk_base::Seen;
 use zk_model_work::{WorkOp, WorkReply};
-use zk_scenario::{Call, Scenario, word_of};
+use zk_scenario::{Call, Scenario};
 
 /// The call of this number in an object's script.
 pub fn call_at(scenario: &Scenario, owner: u32, next: u32) -> Option<&Call>
@@ -32,24 +32,15 @@ fn worker_ahead(queue: u32, stage: &Stage, index: u32) -> Option<Step>
     }
 }
 
-fn call_ahead(scenario: &Scenario, call: Option<&Call>, stage: &Stage, index: u32) -> Option<Step>
-    ensures { result ≡ slice_get (call_attempts scenario.now.decls (option_copied call.entry) stage.now) index }
-{
-    match call {
-        Some(call) => plan_ahead(&plan_of(scenario, call), stage, index),
-        None => None,
-    }
-}
-
 /// The attempt of this index among the next attempts of an open script or run.
 pub fn role_ahead(scenario: &Scenario, frame: &Frame, index: u32) -> Option<Step>
     ensures { result ≡ slice_get (role_attempts scenario.now frame.now.role frame.now.next frame.now.stage) index }
 {
     match frame.role {
-        Role::Script(owner) => {
-            let call = call_at(scenario, owner, frame.next);
-            call_ahead(scenario, call, &frame.stage, index)
-        }
+        Role::Script(owner) => match call_at(scenario, owner, frame.next) {
+            Some(call) => call_ahead(scenario, call, &frame.stage, index),
+            None => None,
+        },
         Role::Worker(queue) => worker_ahead(scenario.number(queue), &frame.stage, index),
     }
 }
@@ -74,30 +65,15 @@ fn worker_progress(scenario: &Scenario, stage: &Stage, reply: &StepReply) -> Pro
     }
 }
 
-fn call_progress(
-    scenario: &Scenario,
-    call: Option<&Call>,
-    stage: &Stage,
-    made: &Step,
-    reply: &StepReply,
-) -> Progress
-    ensures { result ≡ call_progress scenario.now.decls (option_copied call.entry) stage.now made.now reply.now }
-{
-    match call {
-        Some(call) => plan_progress(word_of(call), &plan_of(scenario, call), stage, made, reply),
-        None => Progress::Goes(*stage),
-    }
-}
-
 /// What the reply to a step does to an open script or run.
 pub fn role_progress(scenario: &Scenario, frame: &Frame, made: &Step, reply: &StepReply) -> Progress
     ensures { result ≡ role_progress scenario.now frame.now.role frame.now.next frame.now.stage made.now reply.now }
 {
     match frame.role {
-        Role::Script(owner) => {
-            let call = call_at(scenario, owner, frame.next);
-            call_progress(scenario, call, &frame.stage, made, reply)
-        }
+        Role::Script(owner) => match call_at(scenario, owner, frame.next) {
+            Some(call) => call_progress(call, &frame.stage, made, reply),
+            None => Progress::Goes(frame.stage),
+        },
         Role::Worker(_) => worker_progress(scenario, &frame.stage, reply),
     }
 }

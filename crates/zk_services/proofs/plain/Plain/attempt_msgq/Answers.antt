@@ -1,0 +1,35 @@
+use Rattle.std.proofs.Common.{◌≡◌, ℕ, refl, ◌<◌, List, length, rules}
+use Rattle.std.specs.Option.{option_map}
+use Rattle.zk_base.specs.Limits.{most_entries}
+use Rattle.zk_base.specs.declared.ids.Entry.{Entry}
+use Rattle.zk_base.proofs.Lists.{All-at}
+use Rattle.zk_model_wait.specs.declared.msgq.MsgqOp.{MsgqOp}
+use Rattle.zk_model_wait.specs.declared.msgq.MsgqReply.{MsgqReply}
+use Rattle.zk_msgq.specs.Seen.{msgq_history}
+use Rattle.zk_worker.proofs.Between.{above-msgqs}
+use Rattle.zk_worker.specs.declared.steps.Step.TheVariants as steps
+use Rattle.zk_worker.specs.declared.steps.StepReply.TheVariants as step_replies
+use Rattle.zk_services.specs.Alone.{plain_machines, plain_shown}
+use Rattle.zk_services.specs.Objects.{histories_of}
+use Rattle.zk_services.proofs.Among.{attempted-at}
+use Rattle.zk_services.proofs.plain.Plain.attempt_msgq.Goals as goal
+
+pub act_at-requires-clause-later : goal.act_at-requires-clause-later
+act_at-requires-clause-later c = λ h there.
+    above-msgqs (plain_shown c.args.self.now) c.args.who.number c.args.number c.args.object h there c.requires.later
+
+pub act_at-requires-clause-short : goal.act_at-requires-clause-short
+act_at-requires-clause-short c = λ h there.
+    let P : List (Entry MsgqOp MsgqReply) → Type 0 = λ h. length h < most_entries in
+    All-at P (plain_shown c.args.self.now).msgqs c.args.object h c.requires.short.msgqs there
+
+pub returns-clause-attempted : goal.returns-clause-attempted
+returns-clause-attempted c =
+    let old = plain_shown c.args.self.now in
+    let object = c.args.object in
+    let op = c.args.op.now in
+    let made = c.in_ok-made in
+    let told : option_map (λ (m : MsgqReply × ℕ). step_replies.Msgq object m.0 m.1) made.made ≡ c.map.result = search rules in
+    attempted-at (plain_machines c.args.self.now) c.args.who c.args.number object op (steps.Msgq object op) (step_replies.Msgq object) old
+    (λ hs. record old { msgqs = hs }) old.msgqs refl refl (λ r place. refl)
+    (histories_of msgq_history c.act_at.new.objects.items) made.made _ _ (made.ensures.made step_replies.Msgq) made.ensures.entry refl told

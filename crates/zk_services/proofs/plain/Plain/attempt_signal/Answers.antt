@@ -1,0 +1,35 @@
+use Rattle.std.proofs.Common.{◌≡◌, ℕ, refl, ◌<◌, List, length, rules}
+use Rattle.std.specs.Option.{option_map}
+use Rattle.zk_base.specs.Limits.{most_entries}
+use Rattle.zk_base.specs.declared.ids.Entry.{Entry}
+use Rattle.zk_base.proofs.Lists.{All-at}
+use Rattle.zk_model_wait.specs.declared.signal.SignalOp.{SignalOp}
+use Rattle.zk_model_wait.specs.declared.signal.SignalReply.{SignalReply}
+use Rattle.zk_poll.specs.Seen.{signal_history}
+use Rattle.zk_worker.proofs.Between.{above-signals}
+use Rattle.zk_worker.specs.declared.steps.Step.TheVariants as steps
+use Rattle.zk_worker.specs.declared.steps.StepReply.TheVariants as step_replies
+use Rattle.zk_services.specs.Alone.{plain_machines, plain_shown}
+use Rattle.zk_services.specs.Objects.{histories_of}
+use Rattle.zk_services.proofs.Among.{attempted-at}
+use Rattle.zk_services.proofs.plain.Plain.attempt_signal.Goals as goal
+
+pub act_at-requires-clause-later : goal.act_at-requires-clause-later
+act_at-requires-clause-later c = λ h there.
+    above-signals (plain_shown c.args.self.now) c.args.who.number c.args.number c.args.object h there c.requires.later
+
+pub act_at-requires-clause-short : goal.act_at-requires-clause-short
+act_at-requires-clause-short c = λ h there.
+    let P : List (Entry SignalOp SignalReply) → Type 0 = λ h. length h < most_entries in
+    All-at P (plain_shown c.args.self.now).signals c.args.object h c.requires.short.signals there
+
+pub returns-clause-attempted : goal.returns-clause-attempted
+returns-clause-attempted c =
+    let old = plain_shown c.args.self.now in
+    let object = c.args.object in
+    let op = c.args.op.now in
+    let made = c.in_ok-made in
+    let told : option_map (λ (m : SignalReply × ℕ). step_replies.Signal object m.0 m.1) made.made ≡ c.map.result = search rules in
+    attempted-at (plain_machines c.args.self.now) c.args.who c.args.number object op (steps.Signal object op) (step_replies.Signal object) old
+    (λ hs. record old { signals = hs }) old.signals refl refl (λ r place. refl)
+    (histories_of signal_history c.act_at.new.objects.items) made.made _ _ (made.ensures.made step_replies.Signal) made.ensures.entry refl told
