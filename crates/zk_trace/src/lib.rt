@@ -64,3 +64,4 @@ pub use sizes::trace_sizes;
 pub use standing::stood_lines;
 pub use stood::Stood;
 pub use trace::{Ending, Histories, History, Logs, Trace};
+pub use words::ending_word;
