@@ -115,15 +115,6 @@ one-place s t form placed i j x y at_x at_y player step = by (cases_order i j) w
 -- What the code has found.
 
 module _ (s : Content) (t : Trace) (form : IsInForm s t) (placed : IsPlaced s t) where
-<<<<<<< HEAD
-  row : (player step : ℕ) (log : Log) (spot : Spot) → slice_get t.logs player ≡ Some log → slice_get log.steps step ≡ Some spot → IsRow t (line_at player step spot)
-  row player step log spot logged there = row-by-number s t form (are-numbered s t form placed) player log step spot logged there
-
-  stepped : (line : Stood) → IsRow t line → (log : Log) × (slice_get t.logs line.player ≡ Some log) × (slice_get log.steps line.step ≡ Some line.spot)
-  stepped line is = step-of-row s t form placed is.0 line is.1
-
-=======
->>>>>>> 9bb46aea49b7b476be8387a1b2541fd202362260
   -- a look at an item is at one
   item-is : (k : ℕ) (look : ItemLook) → slice_get t.item_looks k ≡ Some look → IsOf is_item s.decls look.item
   item-is k look there =

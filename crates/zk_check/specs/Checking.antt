@@ -1,8 +1,8 @@
 use Rattle.std.specs.Prelude.{◌≡◌, ℕ}
 use Rattle.zk_scenario.specs.Content.{Content}
 use Rattle.zk_trace.specs.declared.trace.Trace.{Trace}
-use Rattle.zk_check.specs.declared.check.Checked.{Checked}
-use Rattle.zk_check.specs.declared.check.Checked.TheVariants.{Lawful, Not}
+use Rattle.zk_check.specs.declared.verdict.Checked.{Checked}
+use Rattle.zk_check.specs.declared.verdict.Checked.TheVariants.{Lawful, Not}
 use Rattle.zk_check.specs.declared.site.Fail.{Fail}
 use Rattle.zk_check.specs.declared.site.Site.{Site}
 use Rattle.zk_check.specs.Failure.{IsFailure}

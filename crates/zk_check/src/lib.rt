@@ -2,7 +2,6 @@
 #![tactic(auto)]
 
 mod alike;
-mod check;
 mod ending;
 mod found;
 mod history;
@@ -17,7 +16,8 @@ mod place;
 mod same;
 mod site;
 mod unlike;
+mod verdict;
 
-pub use check::{Checked, check};
 pub use lines::is_its_line;
 pub use site::{Fail, Site};
+pub use verdict::{Checked, check};

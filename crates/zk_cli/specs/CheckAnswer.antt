@@ -12,8 +12,8 @@ use Rattle.zk_trace.specs.Lawful.{IsLawful}
 use Rattle.zk_trace.specs.Parting.{AreParts}
 use Rattle.zk_trace.specs.Text.{trace_text}
 use Rattle.zk_trace.specs.TraceRead.{IsRefusedAt}
-use Rattle.zk_check.specs.declared.check.Checked.{Checked}
-use Rattle.zk_check.specs.declared.check.Checked.TheVariants.{Lawful, Not}
+use Rattle.zk_check.specs.declared.verdict.Checked.{Checked}
+use Rattle.zk_check.specs.declared.verdict.Checked.TheVariants.{Lawful, Not}
 use Rattle.zk_check.specs.declared.site.Fail.{Fail}
 use Rattle.zk_check.specs.declared.site.Fail.TheVariants as fails
 use Rattle.zk_check.specs.declared.site.Site.{Site}

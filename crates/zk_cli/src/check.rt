@@ -10,7 +10,7 @@ use std::alloc::Global;
 use zk_base::{NoMemory, Status, put, put_decimal};
 use zk_check::{Checked, Fail, check};
 use zk_scenario::{Scenario, ScenarioRefused, Why, read_scenario};
-use zk_trace::{TraceRefused, line_count, split_text, read_trace};
+use zk_trace::{TraceRefused, line_count, read_trace, split_text};
 
 /// The whole output of `check` for this input, and the status that goes with it.
 pub fn check_output(alloc: Global, input: Vec<u8>) -> Result<(Vec<u8>, Status), NoMemory>

@@ -62,11 +62,7 @@ pub fn read_input<S: Source>(
 }
 
 /// Reads once, to the end of these bytes, and never past one byte above the limit.
-fn read_some<S: Source>(
-    source: &mut S,
-    bytes: &mut Vec<u8>,
-    limit: usize,
-) -> Result<usize, NoInput>
+fn read_some<S: Source>(source: &mut S, bytes: &mut Vec<u8>, limit: usize) -> Result<usize, NoInput>
     requires small { limit < 2 ^ 32 }
     requires within { vec_len bytes.old ≤ limit }
     ensures moved { IfOk result (λ n. Moves (S.left source.old) (S.left source.new) bytes.old.items bytes.new.items n) }

@@ -1,5 +1,5 @@
 -- What is left of calls and scripts that are made one behind the other.
-use Rattle.std.proofs.Common.{◌≡◌, ℕ, ◌+◌, ◌-◌, ◌<◌, ◌≤◌, suc, List, ◌∷◌, ◌++◌, map, append-nil, append_assoc, arith, sym, ap, ◌∙◌}
+use Rattle.std.proofs.Common.{◌≡◌, ℕ, ◌+◌, ◌-◌, ◌<◌, suc, List, ◌∷◌, ◌++◌, map, append_assoc, arith, sym, ap, ◌∙◌}
 use Rattle.std.specs.List.{flat_map, range_with_len}
 use Rattle.zk_line.specs.declared.types.Call.{Call}
 use Rattle.zk_scenario.specs.declared.types.Script.{Script}
@@ -40,19 +40,3 @@ module _ (n k : ℕ) (more : k < n) where
   items_step text out next same =
       ap (λ l. l ++ flat_map text (map item_script (range_with_len (k + 1) (n - (k + 1))))) same
       ∙ append_assoc out (text (item_script k)) _ ∙ sym (ap (λ ss. out ++ flat_map text ss) items_left)
-
--- none is left
-none_left : (n k : ℕ) → n ≤ k → n - k ≡ 0
-none_left n k all = omega arith
-
-pub calls_over : (n k : ℕ) → n ≤ k → (text : Call → List ℕ) (x : ℕ) (out : List ℕ) → out ++ flat_map text (calls_drawn (n - k) x) ≡ out
-calls_over n k all text x out = ap (λ m. out ++ flat_map text (calls_drawn m x)) (none_left n k all) ∙ append-nil out
-
-pub x_over : (n k : ℕ) → n ≤ k → (x : ℕ) → x_behind (n - k) x ≡ x
-x_over n k all x = ap (λ m. x_behind m x) (none_left n k all)
-
-pub scripts_over : (n k : ℕ) → n ≤ k → (text : Script → List ℕ) (calls x : ℕ) (out : List ℕ) → out ++ flat_map text (thread_scripts (n - k) calls k x) ≡ out
-scripts_over n k all text calls x out = ap (λ m. out ++ flat_map text (thread_scripts m calls k x)) (none_left n k all) ∙ append-nil out
-
-pub items_over : (n k : ℕ) → n ≤ k → (text : Script → List ℕ) (out : List ℕ) → out ++ flat_map text (map item_script (range_with_len k (n - k))) ≡ out
-items_over n k all text out = ap (λ m. out ++ flat_map text (map item_script (range_with_len k m))) (none_left n k all) ∙ append-nil out

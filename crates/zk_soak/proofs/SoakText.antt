@@ -15,7 +15,7 @@ scripts_text decls ss = flat_map (λ script. lines_text (script_lines decls scri
 -- a header and declarations, then scripts, then further ones
 pub text-parts : (decls : List Decl) (written : List Declared) (first second : List Script)
     → (lines_text (codes "zk 1" ∷ map (declared_line decls) written) ++ scripts_text decls first) ++ scripts_text decls second
-      ≡ text_of (record { decls = decls; written = written; scripts = first ++ second })
+    ≡ text_of (record { decls = decls; written = written; scripts = first ++ second })
 text-parts decls written first second =
     let front : List (List ℕ) = codes "zk 1" ∷ map (declared_line decls) written in
     append_assoc (lines_text front) (scripts_text decls first) (scripts_text decls second)

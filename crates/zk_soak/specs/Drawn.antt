@@ -9,31 +9,31 @@ use Rattle.zk_line.specs.declared.types.Ref.TheVariants.{Known}
 abbrev pub next : ℕ → ℕ
 next x = (6364136223846793005 * x + 1442695040888963407) % 2 ^ 64
 
--- what a draw below m gives
+-- what a draw below m gives, at x
 abbrev pub drawn : ℕ → ℕ → ℕ
 drawn x m = next x / 8589934592 % m
 
--- the queue of a draw, q0 or q1
+-- the queue of a draw, q0 or q1: objects 12 and 13
 abbrev pub queue_drawn : ℕ → Ref
 queue_drawn x = Known (12 + drawn x 2)
 
--- the item of a draw, w0 to w15
+-- the item of a draw, w0 to w15: objects 14 to 29
 abbrev pub item_drawn : ℕ → Ref
 item_drawn x = Known (14 + drawn x 16)
 
--- the semaphore of a draw, s0 to s3
+-- the semaphore of a draw, s0 to s3: objects 30 to 33
 abbrev pub sem_drawn : ℕ → Ref
 sem_drawn x = Known (30 + drawn x 4)
 
--- the message queue of a draw, m0 or m1
+-- the message queue of a draw, m0 or m1: objects 34 and 35
 abbrev pub msgq_drawn : ℕ → Ref
 msgq_drawn x = Known (34 + drawn x 2)
 
--- the signal of a draw, g0 or g1
+-- the signal of a draw, g0 or g1: objects 36 and 37
 abbrev pub signal_drawn : ℕ → Ref
 signal_drawn x = Known (36 + drawn x 2)
 
--- the channel c0
+-- the channel c0: object 39
 abbrev pub channel : Ref
 channel = Known 39
 

@@ -27,7 +27,7 @@ abbrev pub thread_scripts : ℕ → ℕ → ℕ → ℕ → List Script
 thread_scripts zero calls k x = []
 thread_scripts (suc n) calls k x = thread_script k calls x ∷ thread_scripts n calls (k + 1) (x_behind calls x)
 
--- the script of item wK: `give sJ`, J being K modulo 4
+-- the script of item wK: `give sJ`, J being K modulo 4; w0 is object 14, s0 object 30
 abbrev pub item_script : ℕ → Script
 item_script k = record { owner = 14 + k; calls = Give (Known (30 + k % 4)) ∷ [] }
 

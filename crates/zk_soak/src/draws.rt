@@ -6,6 +6,19 @@ use zk_base::Msg;
 use zk_line::{Call, Ref};
 use zk_words::Timeout;
 
+// Objects are numbered as they are declared, the threads from 0 on.
+const FIRST_QUEUE: u32 = 12;
+/// The number of the first item.
+pub const FIRST_ITEM: u32 = 14;
+/// The number of the first semaphore.
+pub const FIRST_SEM: u32 = 30;
+
+const FIRST_MSGQ: u32 = 34;
+
+const FIRST_SIGNAL: u32 = 36;
+
+const CHANNEL: u32 = 39;
+
 /// Pseudo-random numbers, and the calls that they make.
 #[derive(Drop)]
 pub struct Draws {
@@ -48,7 +61,7 @@ impl Draws {
             12 => Call::Put(self.msgq(), self.four_digits(), Timeout::No),
             13 => Call::Get(self.msgq(), Timeout::No),
             14 => Call::Raise(self.signal(), self.below(1_000) as u16),
-            _ => Call::Publish(Ref::Known(39), self.two_digits(), Timeout::Forever),
+            _ => Call::Publish(Ref::Known(CHANNEL), self.two_digits(), Timeout::Forever),
         }
     }
 
@@ -70,37 +83,38 @@ impl Draws {
         ensures drawn { result ≡ queue_drawn self.old }
         ensures next { self.new ≡ next self.old }
     {
-        Ref::Known(12 + self.below(2))
+        Ref::Known(FIRST_QUEUE + self.below(2))
     }
 
     fn item(&mut self) -> Ref
         ensures drawn { result ≡ item_drawn self.old }
         ensures next { self.new ≡ next self.old }
     {
-        Ref::Known(14 + self.below(16))
+        Ref::Known(FIRST_ITEM + self.below(16))
     }
 
     fn sem(&mut self) -> Ref
         ensures drawn { result ≡ sem_drawn self.old }
         ensures next { self.new ≡ next self.old }
     {
-        Ref::Known(30 + self.below(4))
+        Ref::Known(FIRST_SEM + self.below(4))
     }
 
     fn msgq(&mut self) -> Ref
         ensures drawn { result ≡ msgq_drawn self.old }
         ensures next { self.new ≡ next self.old }
     {
-        Ref::Known(34 + self.below(2))
+        Ref::Known(FIRST_MSGQ + self.below(2))
     }
 
     fn signal(&mut self) -> Ref
         ensures drawn { result ≡ signal_drawn self.old }
         ensures next { self.new ≡ next self.old }
     {
-        Ref::Known(36 + self.below(2))
+        Ref::Known(FIRST_SIGNAL + self.below(2))
     }
 
+    /// A message of two bytes.
     fn four_digits(&mut self) -> Msg
         ensures drawn { result ≡ four_digits self.old }
         ensures next { self.new ≡ next self.old }
@@ -109,6 +123,7 @@ impl Draws {
         message(&[(number / 256) as u8, (number % 256) as u8])
     }
 
+    /// A message of one byte.
     fn two_digits(&mut self) -> Msg
         ensures drawn { result ≡ two_digits self.old }
         ensures next { self.new ≡ next self.old }

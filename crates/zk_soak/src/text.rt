@@ -8,12 +8,21 @@ ghost use Rattle.zk_soak.specs.Drawn.{calls_drawn, x_behind};
 ghost use Rattle.zk_soak.specs.Objects.{soak_decls};
 ghost use Rattle.zk_soak.specs.Soak.{declared_text, thread_script, thread_scripts, item_script, soak_scenario};
 
-use crate::draws::Draws;
+use crate::draws::{Draws, FIRST_ITEM, FIRST_SEM};
 use std::alloc::Global;
 use zk_base::{NoMemory, put};
 use zk_line::{Arg, Call, Decl, Ref, put_call, put_said};
 use zk_scenario::{Scenario, ScenarioRefused, read_scenario};
 use zk_words::Head;
+
+/// How many threads there are.
+const THREADS: u32 = 12;
+
+/// How many calls each thread makes.
+const CALLS: u32 = 300;
+
+/// How many items there are. Each has a script of one call.
+const ITEMS: u32 = 16;
 
 /// The scenario that is played by `soak`, of this number.
 pub fn generate(alloc: Global, number: u32) -> Result<Scenario, NoMemory>
@@ -32,7 +41,7 @@ fn soak_text(alloc: Global, decls: &[Decl], number: u32) -> Result<Vec<u8>, NoMe
     let mut draws = Draws::from(number);
     let mut text = Vec::new(alloc);
     put(&mut text, declarations())?;
-    put_threads(&mut text, decls, &mut draws, 12, 300)?;
+    put_threads(&mut text, decls, &mut draws, THREADS, CALLS)?;
     put_items(&mut text, decls)?;
     Ok(text)
 }
@@ -134,7 +143,7 @@ fn put_items(out: &mut Vec<u8>, decls: &[Decl]) -> Result<(), NoMemory>
     ensures { OnOk result (out.new.items
         ≡ out.old.items ++ flat_map (λ script. lines_text (script_lines decls.now script)) (map item_script (range_with_len 0 16))) }
 {
-    for item in 0..16 {
+    for item in 0..ITEMS {
         put_item(out, decls, item)?;
     }
     Ok(())
@@ -145,8 +154,8 @@ fn put_item(out: &mut Vec<u8>, decls: &[Decl], item: u32) -> Result<(), NoMemory
     ensures { OnOk result
         (out.new.items ≡ out.old.items ++ lines_text (script_lines decls.now (item_script item))) }
 {
-    let sem = Ref::Known(30 + item % 4);
-    put_head(out, decls, 14 + item)?;
+    let sem = Ref::Known(FIRST_SEM + item % 4);
+    put_head(out, decls, FIRST_ITEM + item)?;
     put_fed_call(out, decls, &Call::Give(sem))?;
     put_end(out)
 }

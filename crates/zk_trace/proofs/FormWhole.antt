@@ -1,5 +1,5 @@
 -- A trace in form is made of just one whole that fits, and what is made of one that fits is in form.
-use Rattle.std.proofs.Common.{◌≡◌, ℕ, ◌+◌, ◌<◌, zero, suc, Bool, true, false, Option, None, List, [], ◌∷◌, map, length, arith, refl, sym, ap, subst, ◌∙◌}
+use Rattle.std.proofs.Common.{◌≡◌, ℕ, ◌+◌, ◌<◌, zero, suc, Bool, true, false, Option, None, List, [], ◌∷◌, map, length, arith, refl, sym, ap, ◌∙◌}
 use Rattle.std.specs.List.{AllByRecursion, range_with_len}
 use Rattle.std.proofs.lemmas.Bool.{true≢false}
 use Rattle.zk_base.specs.declared.ids.Entry.{Entry}
@@ -7,7 +7,7 @@ use Rattle.zk_blocks.specs.Blocks.{IsBlock, FitsGiven}
 use Rattle.zk_blocks.specs.Each.{EachFits}
 use Rattle.zk_blocks.specs.Families.{FitsPlainFamily, FitsSectionFamily}
 use Rattle.zk_blocks.specs.Rows.{AllFit}
-use Rattle.zk_blocks.specs.Sections.{has_row, neither, FitsPlainSection, FitsSection, FitTwo}
+use Rattle.zk_blocks.specs.Sections.{has_row, neither, FitsPlainSection, FitsSection}
 use Rattle.zk_blocks.proofs.Blocks.{pair}
 use Rattle.zk_blocks.proofs.Each.{each_fits-length}
 use Rattle.zk_blocks.proofs.Headed.{fits_headed}
@@ -30,13 +30,13 @@ use Rattle.zk_trace.specs.declared.trace.Trace.{Trace}
 use Rattle.zk_trace.specs.AnswerRead.{IsAnswered}
 use Rattle.zk_trace.specs.EntryKinds.{IsWork, IsClock, IsTable, IsSem, IsMsgq, IsSignal, IsChan, IsObs}
 use Rattle.zk_trace.specs.EntryRead.{FitsEntry}
-use Rattle.zk_trace.specs.Form.{AreOfKind, IsLog, player_numbers, IsInForm}
+use Rattle.zk_trace.specs.Form.{AreOfKind, IsLog, IsInForm}
 use Rattle.zk_trace.specs.LookRead.{FitsItemLook, FitsSignalLook}
 use Rattle.zk_trace.specs.SectionRead.{has_player}
 use Rattle.zk_trace.specs.Stood.{stood}
-use Rattle.zk_trace.specs.WholeRead.{Singles, Families, Players, Whole, whole_lines, logs_of, trace_of, pairs_of, whole_of, trace_lines, read_trace}
+use Rattle.zk_trace.specs.WholeRead.{Players, Whole, whole_lines, logs_of, trace_of, pairs_of, whole_of, trace_lines, read_trace}
 use Rattle.zk_trace.proofs.SpotRead.{who-number}
-use Rattle.zk_trace.proofs.WholeRead.{FitSingles, FitFamilies, FitPlayer, FitPlayers, FitSections, FitWhole, whole}
+use Rattle.zk_trace.proofs.WholeRead.{FitPlayer, FitWhole, whole}
 
 -- Lists.
 

@@ -13,7 +13,7 @@ use Rattle.zk_worker.specs.Families.{Family}
 use Rattle.zk_worker.specs.Machines.{work_start_of, machines_of}
 use Rattle.zk_worker.specs.TableSetup.{setup_of}
 use Rattle.zk_trace.specs.declared.trace.Trace.{Trace}
-use Rattle.zk_trace.specs.History.{IsAnsweredAt, EachAnswered, AreLegal}
+use Rattle.zk_trace.specs.History.{IsAnsweredAt, AreLegal}
 use Rattle.zk_trace.specs.Place.{EachRises}
 
 -- an object's history is legal from the state that it starts in; an object of another kind has none

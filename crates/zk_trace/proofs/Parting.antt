@@ -36,10 +36,10 @@ pub one-passed : (text rest line behind : List ℕ) → ArePassed text rest → 
 one-passed text rest line behind passed is other = record {
   lines = passed.lines ++ line ∷ [];
   whole =
-    passed.whole ∙ ap (λ l. fed_lines line_feed passed.lines ++ l) (halves-spelled line_feed rest line behind is)
-    ∙ ap (λ l. fed_lines line_feed passed.lines ++ l) (sym (ap (λ l. l ++ behind) (append-nil (fed line_feed line)) ∙ append_assoc line (line_feed ∷ []) behind))
-    ∙ sym (append_assoc (fed_lines line_feed passed.lines) (fed line_feed line ++ []) behind)
-    ∙ ap (λ l. l ++ behind) (sym (flat_map-append (fed line_feed) passed.lines (line ∷ [])));
+      passed.whole ∙ ap (λ l. fed_lines line_feed passed.lines ++ l) (halves-spelled line_feed rest line behind is)
+      ∙ ap (λ l. fed_lines line_feed passed.lines ++ l) (sym (ap (λ l. l ++ behind) (append-nil (fed line_feed line)) ∙ append_assoc line (line_feed ∷ []) behind))
+      ∙ sym (append_assoc (fed_lines line_feed passed.lines) (fed line_feed line ++ []) behind)
+      ∙ ap (λ l. l ++ behind) (sym (flat_map-append (fed line_feed) passed.lines (line ∷ [])));
   unfed = all-one_more (IsUnfed line_feed) passed.lines line passed.unfed (halves-lacks line_feed rest (line, behind) is);
   other = all-one_more IsOther passed.lines line passed.other other;
 }
@@ -59,22 +59,22 @@ pub part-begins : (text rest line behind : List ℕ) → ArePassed text rest →
 part-begins text rest line behind passed is same =
     subst (λ t. AreParts t (take (length t - length rest) t) (drop (length t - length rest) t)) (sym passed.whole)
     (cut-there (take-front front rest) (drop-front front rest)) where
-  front : List ℕ
-  front = fed_lines line_feed passed.lines
+      front : List ℕ
+      front = fed_lines line_feed passed.lines
 
-  parts : AreParts (front ++ rest) front rest
-  parts = record {
-    whole = refl;
-    before = subst (AllByRecursion IsOther) (sym (ap (λ c. c.0) (cut_again line_feed passed.lines passed.unfed))) passed.other;
-    begins = inr (record {
-      fed = ap (λ c. c.1) (cut_again line_feed passed.lines passed.unfed);
-      more = behind;
-      head = halves-spelled line_feed rest line behind is ∙ ap (λ l. l ++ line_feed ∷ behind) same;
-    });
-  }
+      parts : AreParts (front ++ rest) front rest
+      parts = record {
+        whole = refl;
+        before = subst (AllByRecursion IsOther) (sym (ap (λ c. c.0) (cut_again line_feed passed.lines passed.unfed))) passed.other;
+        begins = inr (record {
+          fed = ap (λ c. c.1) (cut_again line_feed passed.lines passed.unfed);
+          more = behind;
+          head = halves-spelled line_feed rest line behind is ∙ ap (λ l. l ++ line_feed ∷ behind) same;
+        });
+      }
 
-  cut-there : {a b : List ℕ} → a ≡ front → b ≡ rest → AreParts (front ++ rest) a b
-  cut-there {a} {b} one other = subst (λ f. AreParts (front ++ rest) f b) (sym one) (subst (AreParts (front ++ rest) front) (sym other) parts)
+      cut-there : {a b : List ℕ} → a ≡ front → b ≡ rest → AreParts (front ++ rest) a b
+      cut-there {a} {b} one other = subst (λ f. AreParts (front ++ rest) f b) (sym one) (subst (AreParts (front ++ rest) front) (sym other) parts)
 
 -- where it doesn't, all is the scenario's
 pub none-begins : (text rest : List ℕ) → ArePassed text rest → halves line_feed rest ≡ None → AreParts text text []

@@ -1,8 +1,8 @@
 -- The names of all sections differ, so that each has a head of its own.
-use Rattle.std.proofs.Common.{◌≡◌, ◌≢◌, ◌⊎◌, ℕ, ◌≤◌, ◌<◌, if◌then◌else◌, map, eqb, Bool, true, false, Decides, Option, Some, None, List, [], ◌∷◌, ◌++◌, codes, zero, suc, slice_get, arith, refl, sym, ap, subst, inl, inr, ◌∙◌}
+use Rattle.std.proofs.Common.{◌≡◌, ◌≢◌, ◌⊎◌, ℕ, ◌≤◌, ◌<◌, if◌then◌else◌, map, eqb, Bool, true, false, Some, List, [], ◌∷◌, codes, zero, suc, slice_get, arith, refl, sym, ap, inl, inr, ◌∙◌}
 use Rattle.std.specs.Prelude.{bytes_eq}
 use Rattle.std.specs.List.{AllByRecursion}
-use Rattle.std.proofs.lemmas.Bool.{cases_Bool, cond-true, cond-false, false≢true, true≢false}
+use Rattle.std.proofs.lemmas.Bool.{false≢true, true≢false}
 use Rattle.std.proofs.lemmas.List.{append_cancel_left}
 use Rattle.std.proofs.lemmas.Option.{same_Some}
 use Rattle.std.proofs.lemmas.Slice.Eq.{bytes_eq-Decides}
@@ -12,7 +12,7 @@ use Rattle.zk_blocks.specs.Families.{kind_names}
 use Rattle.zk_blocks.specs.Heads.{AreHeads}
 use Rattle.zk_line.specs.Objects.{AreNames, name_of, object_of, is_sem, is_msgq, is_signal, is_chan, is_observer}
 use Rattle.zk_line.specs.declared.types.Decl.{Decl}
-use Rattle.zk_line.specs.declared.types.Decl.TheVariants.{Thread, Queue, Item, Sem, Msgq, Signal, Listener, Sub, Chan}
+use Rattle.zk_line.specs.declared.types.Decl.TheVariants.{Sem, Msgq, Signal, Listener, Sub, Chan}
 use Rattle.zk_trace.specs.SectionRead.{is_head, IsPlayerRow}
 use Rattle.zk_trace.specs.Text.{work_name, clock_name, table_name, head_row}
 

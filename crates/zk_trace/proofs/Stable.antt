@@ -1,5 +1,5 @@
 -- What a stable sort by a number gives is the list by key.
-use Rattle.std.proofs.Common.{◌≡◌, ℕ, ◌+◌, suc, ◌<◌, Bool, true, false, not, ◌&&◌, cond, eqb, eq-eqb, ltb, List, [], ◌∷◌, get_or, Less, Equal, Greater, refl, sym, ap, inl, inr, ◌∙◌, arith}
+use Rattle.std.proofs.Common.{◌≡◌, ℕ, suc, ◌<◌, Bool, true, false, not, ◌&&◌, cond, eqb, eq-eqb, ltb, List, [], ◌∷◌, get_or, Less, Equal, Greater, refl, sym, ap, inl, inr, ◌∙◌, arith}
 use Rattle.std.specs.List.{All, filter}
 use Rattle.std.specs.List.Sorted.{IsSortedByKey, IsStableByKey, IsNonDecreasingBy, ties}
 use Rattle.std.specs.Ordering.{nat_cmp, is_lt}

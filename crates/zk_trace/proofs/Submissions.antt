@@ -1,5 +1,5 @@
 -- What became of submissions is read exactly, and so are delays that ended.
-use Rattle.std.proofs.Common.{◌≡◌, ℕ, true, false, cond, eqb, Decides, Some, None, List, [], ◌∷◌, map, refl, sym, ap, subst, inl, inr, ◌∙◌}
+use Rattle.std.proofs.Common.{◌≡◌, ℕ, false, cond, eqb, Decides, Some, None, List, [], ◌∷◌, map, refl, sym, ap, subst, inl, inr, ◌∙◌}
 use Rattle.std.specs.Prelude.{option_map, option_and_then, bytes_eq}
 use Rattle.std.specs.List.{AllByRecursion, join_with_byte}
 use Rattle.std.proofs.lemmas.Bool.{cases_Bool, cond-true, cond-false}

@@ -162,9 +162,9 @@ run-parts s t is =
         head = head;
       });
     } where
-  head : trace_text s t ≡ first_row ++ line_feed ∷ (line (ending_word t.ending ∷ []) ++ service_sections s t ++ player_sections s.decls 0 t.logs)
-  head =
-      append_assoc (first_row ++ codes "\n" ++ line (ending_word t.ending ∷ [])) (service_sections s t) (player_sections s.decls 0 t.logs)
-      ∙ append_assoc (first_row ++ codes "\n") (line (ending_word t.ending ∷ [])) (service_sections s t ++ player_sections s.decls 0 t.logs)
-      ∙ append_assoc first_row (codes "\n") (line (ending_word t.ending ∷ []) ++ (service_sections s t ++ player_sections s.decls 0 t.logs))
-      ∙ ap (λ l. first_row ++ line_feed ∷ l) (sym (append_assoc (line (ending_word t.ending ∷ [])) (service_sections s t) (player_sections s.decls 0 t.logs)))
+      head : trace_text s t ≡ first_row ++ line_feed ∷ (line (ending_word t.ending ∷ []) ++ service_sections s t ++ player_sections s.decls 0 t.logs)
+      head =
+          append_assoc (first_row ++ codes "\n" ++ line (ending_word t.ending ∷ [])) (service_sections s t) (player_sections s.decls 0 t.logs)
+          ∙ append_assoc (first_row ++ codes "\n") (line (ending_word t.ending ∷ [])) (service_sections s t ++ player_sections s.decls 0 t.logs)
+          ∙ append_assoc first_row (codes "\n") (line (ending_word t.ending ∷ []) ++ (service_sections s t ++ player_sections s.decls 0 t.logs))
+          ∙ ap (λ l. first_row ++ line_feed ∷ l) (sym (append_assoc (line (ending_word t.ending ∷ [])) (service_sections s t) (player_sections s.decls 0 t.logs)))

@@ -1,5 +1,5 @@
 -- Each sort of line behind a head is read exactly as a row, and no head is such a row.
-use Rattle.std.proofs.Common.{◌≡◌, ◌⊎◌, ℕ, Option, Some, None, List, [], ◌∷◌, ◌++◌, codes, refl, ap, inl, inr, ◌∙◌}
+use Rattle.std.proofs.Common.{◌≡◌, ◌⊎◌, ℕ, Option, None, List, ◌∷◌, ◌++◌, refl, ap, inl, inr, ◌∙◌}
 use Rattle.zk_base.specs.declared.ids.Entry.{Entry}
 use Rattle.zk_blocks.specs.Heads.{EndsRows}
 use Rattle.zk_blocks.specs.Rows.{IsRow}
@@ -28,7 +28,7 @@ use Rattle.zk_trace.specs.declared.looks.ItemLook.{ItemLook}
 use Rattle.zk_trace.specs.declared.looks.SignalLook.{SignalLook}
 use Rattle.zk_trace.specs.AnswerRead.{answered_row, answered_of, IsAnswered}
 use Rattle.zk_trace.specs.EntryKinds.{work_row, work_of, IsWork, clock_row, clock_of, IsClock, table_row, table_of, IsTable, sem_row, sem_of, IsSem, msgq_row, msgq_of, IsMsgq, signal_row, signal_of, IsSignal, chan_row, chan_of, IsChan, obs_row, obs_of, IsObs}
-use Rattle.zk_trace.specs.EntryRead.{entry_row, entry_of, FitsEntry}
+use Rattle.zk_trace.specs.EntryRead.{entry_of}
 use Rattle.zk_trace.specs.Exact.{IsExactRow, IsSpelled}
 use Rattle.zk_trace.specs.LookRead.{item_look_row, says_item_look, FitsItemLook, signal_look_row, says_signal_look, FitsSignalLook}
 use Rattle.zk_trace.specs.SectionRead.{IsPlayerRow}

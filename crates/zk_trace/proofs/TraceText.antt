@@ -1,11 +1,11 @@
 -- The text of a trace in form is that of its lines, each with its feed, and none of these has a feed in it.
-use Rattle.std.proofs.Common.{◌≡◌, ℕ, ◌+◌, zero, suc, Bool, true, false, Option, Some, None, List, [], ◌∷◌, ◌++◌, codes, append_assoc, map, length, slice_get, arith, refl, sym, ap, subst, ◌∙◌}
+use Rattle.std.proofs.Common.{◌≡◌, ℕ, ◌+◌, zero, suc, Bool, true, false, Some, None, List, [], ◌∷◌, ◌++◌, codes, append_assoc, map, length, slice_get, arith, refl, sym, ap, ◌∙◌}
 use Rattle.std.specs.List.{AllByRecursion, flat_map, range_with_len}
 use Rattle.std.specs.Option.{option_map_or}
 use Rattle.std.proofs.lemmas.List.Concat.{flat_map-append}
 use Rattle.zk_base.specs.declared.ids.Entry.{Entry}
 use Rattle.zk_blocks.specs.Blocks.{FitsGiven, given_lines}
-use Rattle.zk_blocks.specs.Cut.{fed, fed_lines, AreUnfed}
+use Rattle.zk_blocks.specs.Cut.{fed, fed_lines}
 use Rattle.zk_blocks.specs.Each.{each_lines, EachFits}
 use Rattle.zk_blocks.specs.Families.{plain_family_lines, section_family_lines}
 use Rattle.zk_blocks.specs.Sections.{plain_section_lines, section_lines, two_lines}
@@ -43,7 +43,7 @@ use Rattle.zk_trace.specs.LookRead.{item_look_row, signal_look_row, FitsSignalLo
 use Rattle.zk_trace.specs.Looks.{item_look_line, signal_look_line}
 use Rattle.zk_trace.specs.Names.{player_name}
 use Rattle.zk_trace.specs.Stood.{stood}
-use Rattle.zk_trace.specs.Text.{work_name, clock_name, table_name, head_row, first_row, line, trace_text, section_head, entry_line, service_section, object_section, object_sections, looks_at, looked_lines, looked_section, looked_object, looked_sections, answer_line, player_head, player_section, player_sections}
+use Rattle.zk_trace.specs.Text.{work_name, clock_name, table_name, head_row, first_row, line, trace_text, section_head, entry_line, service_section, object_section, object_sections, looked_lines, looked_section, looked_object, looked_sections, answer_line, player_head, player_sections}
 use Rattle.zk_trace.specs.WholeRead.{pairs_of, player_lines, players_lines, trace_lines}
 use Rattle.zk_trace.specs.Words.{ending_word}
 use Rattle.zk_trace.specs.Work as work

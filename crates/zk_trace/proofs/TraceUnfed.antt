@@ -1,5 +1,5 @@
 -- No line of a trace in form has a feed in it.
-use Rattle.std.proofs.Common.{◌≡◌, ℕ, ◌+◌, zero, suc, Bool, true, false, Option, Some, None, List, [], ◌∷◌, ◌++◌, codes, if◌then◌else◌, map, length, refl, subst}
+use Rattle.std.proofs.Common.{ℕ, ◌+◌, zero, suc, Bool, true, false, Option, Some, None, List, [], ◌∷◌, ◌++◌, codes, if◌then◌else◌, map, length, refl}
 use Rattle.std.specs.List.{AllByRecursion, range_with_len}
 use Rattle.zk_base.specs.declared.ids.Entry.{Entry}
 use Rattle.zk_blocks.specs.Blocks.{FitsGiven, given_lines}
@@ -37,7 +37,7 @@ use Rattle.zk_trace.specs.declared.trace.Trace.{Trace}
 use Rattle.zk_trace.specs.AnswerRead.{answered_row, IsAnswered}
 use Rattle.zk_trace.specs.EntryKinds.{work_row, IsWork, clock_row, IsClock, table_row, IsTable, sem_row, IsSem, msgq_row, IsMsgq, signal_row, IsSignal, chan_row, IsChan, obs_row, IsObs}
 use Rattle.zk_trace.specs.Exact.{IsUnfed}
-use Rattle.zk_trace.specs.Form.{AreOfKind, IsLog, IsInForm}
+use Rattle.zk_trace.specs.Form.{IsLog, IsInForm}
 use Rattle.zk_trace.specs.LookRead.{item_look_row, FitsItemLook, signal_look_row, FitsSignalLook}
 use Rattle.zk_trace.specs.Names.{player_name}
 use Rattle.zk_trace.specs.Stood.{stood}

@@ -1,7 +1,6 @@
 -- A whole trace is read exactly from its lines.
-use Rattle.std.proofs.Common.{◌≡◌, ◌⊎◌, ℕ, Bool, true, false, ◌&&◌, Option, Some, None, List, [], ◌∷◌, ◌++◌, codes, slice_get, refl, sym, ap, subst, inl, inr, ◌∙◌}
+use Rattle.std.proofs.Common.{◌≡◌, ℕ, Bool, false, ◌&&◌, Option, Some, None, List, [], ◌∷◌, ◌++◌, slice_get, refl, sym, ap, ◌∙◌}
 use Rattle.std.specs.Prelude.{bytes_eq, option_and_then}
-use Rattle.std.specs.List.{AllByRecursion}
 use Rattle.std.specs.Option.{option_map_or}
 use Rattle.std.proofs.lemmas.Bool.{and_parts, cond-true}
 use Rattle.std.proofs.lemmas.List.Splits.{join_with_byte-slice_split}
@@ -30,7 +29,7 @@ use Rattle.zk_worker.specs.declared.answers.Answered.{Answered}
 use Rattle.zk_worker.specs.declared.log.PlayerState.{PlayerState}
 use Rattle.zk_worker.specs.declared.log.PlayerState.TheVariants as states
 use Rattle.zk_trace.specs.declared.trace.Ending.{Ending}
-use Rattle.zk_trace.specs.declared.trace.Ending.TheVariants.{Ended, Stuck, Spent}
+use Rattle.zk_trace.specs.declared.trace.Ending.TheVariants.{Ended}
 use Rattle.zk_trace.specs.AnswerRead.{IsAnswered}
 use Rattle.zk_trace.specs.EntryKinds.{IsWork, IsClock, IsTable, IsSem, IsMsgq, IsSignal, IsChan, IsObs}
 use Rattle.zk_trace.specs.Exact.{is_plain, Lacks, IsPlain}
@@ -40,7 +39,7 @@ use Rattle.zk_trace.specs.LookRead.{FitsItemLook, FitsSignalLook}
 use Rattle.zk_trace.specs.Names.{object_name, player_name}
 use Rattle.zk_trace.specs.SectionRead.{has_player, IsPlayerRow}
 use Rattle.zk_trace.specs.Text.{work_name, clock_name, table_name, head_row, player_word, player_row, first_row}
-use Rattle.zk_trace.specs.WholeRead.{Singles, read_singles, singles_lines, Families, read_families, families_lines, all_states, state_of, state_by, player_state_of, Players, read_player, player_lines, read_players, players_lines, first_of, all_endings, ending_of, Sections, read_sections, sections_lines, Whole, read_whole, whole_lines}
+use Rattle.zk_trace.specs.WholeRead.{Singles, read_singles, singles_lines, Families, read_families, families_lines, all_states, state_of, state_by, player_state_of, Players, read_players, players_lines, first_of, all_endings, ending_of, Sections, read_sections, sections_lines, Whole, read_whole, whole_lines}
 use Rattle.zk_trace.specs.Words.{ending_word, state_word}
 use Rattle.zk_trace.proofs.Fields.{named_exact}
 use Rattle.zk_trace.proofs.PlainWords.{plain-name, lacks_plain, pieces-join}

@@ -1,7 +1,7 @@
 use Rattle.zk_trace.specs.declared.whole_read.Families as families_read
 use Rattle.zk_trace.specs.declared.whole_read.Singles as singles_read
 use Rattle.zk_trace.specs.declared.whole_read.Whole as whole_read
-use Rattle.zk_trace.specs.WholeRead.{Singles, Families, Sections, Whole}
+use Rattle.zk_trace.specs.WholeRead.{Singles, Families, Whole}
 
 -- What was read as its parts, in the order of the text.
 

@@ -27,7 +27,6 @@ mod names;
 mod numerals;
 mod obs;
 mod obs_read;
-
 mod parts;
 mod players_read;
 mod print;
@@ -57,10 +56,10 @@ mod work_read;
 
 pub use feed::line_count;
 pub use looks::{ItemLook, ItemLooks, SignalLook, SignalLooks};
-pub use split::split_text;
 pub use print::{print_trace, put_trace};
 pub use read::{TraceRefused, read_trace};
 pub use sizes::trace_sizes;
+pub use split::split_text;
 pub use standing::stood_lines;
 pub use stood::Stood;
 pub use trace::{Ending, Histories, History, Logs, Trace};

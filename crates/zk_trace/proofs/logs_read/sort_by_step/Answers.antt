@@ -1,4 +1,4 @@
-use Rattle.std.proofs.Common.{rules, ◌≡◌}
+use Rattle.std.proofs.Common.{rules}
 use Rattle.std.proofs.lemmas.List.Sorted.{answers_always}
 use Rattle.zk_trace.specs.declared.stood.Stood.{Stood}
 use Rattle.zk_trace.proofs.Stable.{stable-by_key}

@@ -1,8 +1,6 @@
 use Rattle.std.proofs.Common.{◌-◌, Some, None, length, refl, sym, ◌∙◌}
 use Rattle.std.proofs.lemmas.Bool.{false≢true}
 use Rattle.zk_trace.specs.Feeds.{lines_in}
-use Rattle.zk_trace.specs.Form.{IsInForm}
-use Rattle.zk_trace.specs.Text.{trace_text}
 use Rattle.zk_trace.specs.TraceRead.{line_number, IsRefusedAt}
 use Rattle.zk_trace.specs.WholeParts.{parts_of}
 use Rattle.zk_trace.proofs.TraceRead.{whole-players, whole-few, refused-whole, none-right, left-right, found, only, named-at}

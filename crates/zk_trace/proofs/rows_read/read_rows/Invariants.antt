@@ -1,4 +1,4 @@
-use Rattle.std.proofs.Common.{◌≡◌, ◌-◌, ℕ, None, length, slice_get}
+use Rattle.std.proofs.Common.{◌≡◌, ◌-◌, None, length, slice_get}
 use Rattle.zk_blocks.specs.Rows.{rows_of, put_rows}
 use Rattle.zk_trace.proofs.rows_read.read_rows.Given as goal
 

@@ -1,7 +1,7 @@
-ghost use Rattle.std.specs.Prelude.{◌≡◌, ◌↔◌, ⊥, MatchOption, IfOk};
+ghost use Rattle.std.specs.Prelude.{◌≡◌, ◌↔◌, MatchOption, IfOk};
 ghost use Rattle.zk_trace.specs.Form.{IsInForm};
 ghost use Rattle.zk_trace.specs.Lawful.{IsLawful};
-ghost use Rattle.zk_check.specs.declared.check.Checked.TheVariants.{Lawful};
+ghost use Rattle.zk_check.specs.declared.verdict.Checked.TheVariants.{Lawful};
 ghost use Rattle.zk_check.specs.Checking.{IfNot, IsNamed};
 ghost use Rattle.zk_check.specs.Failure.{IsFailure};
 
