@@ -65,6 +65,7 @@ pub fn is_read_again(alloc: Global, text: &[u8], behind: &[u8]) -> Result<bool, 
 ///     cuts     without its last line, its last two lines, and so on: the line that each is refused at
 ///     bytes    with another byte in place of each: how many are refused, and how many read
 ///     N LINE   with this line in place of the line of this number, or with these, where `\n` stands between them
+///     N        without the line of this number
 pub fn put_readings(
     alloc: Global,
     out: &mut Vec<u8>,
