@@ -2,6 +2,8 @@
 //! is a few lines of `stdin` and of `stdout`, and costs no proof.
 #![tactic(auto)]
 
+mod changes;
+mod checking;
 mod play;
 mod reading;
 mod rows;

@@ -40,15 +40,16 @@ pub fn read_again(
     }
 }
 
+/// How many lines end in these bytes.
+pub fn feeds_in(text: &[u8]) -> usize {
+    text.iter().filter(|byte| **byte == b'\n').count()
+}
+
 /// The number of the line behind these bytes.
-fn line_behind(text: &[u8]) -> u32 {
-    let mut line: u32 = 1;
-    for byte in text {
-        if *byte == b'\n' {
-            line = line.saturating_add(1);
-        }
-    }
-    line
+pub fn line_behind(text: &[u8]) -> u32 {
+    u32::try_from(feeds_in(text))
+        .unwrap_or(u32::MAX)
+        .saturating_add(1)
 }
 
 /// Whether the trace part behind the text of a scenario is read, and printed the same.
@@ -64,6 +65,7 @@ pub fn is_read_again(alloc: Global, text: &[u8], behind: &[u8]) -> Result<bool, 
 ///     cuts     without its last line, its last two lines, and so on: the line that each is refused at
 ///     bytes    with another byte in place of each: how many are refused, and how many read
 ///     N LINE   with this line in place of the line of this number, or with these, where `\n` stands between them
+///     N        without the line of this number
 pub fn put_readings(
     alloc: Global,
     out: &mut Vec<u8>,
@@ -158,13 +160,13 @@ fn put_bytes(
     put(out, b" misread")
 }
 
-/// These lines with another in place of the one of this number, where the first has the number `first`.
-fn with_line(
+/// These lines with others in place of the one of this number, where the first has the number `first`.
+fn with_lines(
     alloc: Global,
     behind: &[u8],
     first: u32,
     number: u32,
-    line: &[u8],
+    lines: &[u8],
 ) -> Result<Vec<u8>, NoMemory> {
     let mut changed = Vec::new(alloc);
     let mut at = first;
@@ -174,13 +176,38 @@ fn with_line(
         }
         if *byte == b'\n' {
             if at == number {
-                put(&mut changed, line)?;
-                changed.push(b'\n')?;
+                put(&mut changed, lines)?;
             }
             at = at.saturating_add(1);
         }
     }
     Ok(changed)
+}
+
+/// The same, with the number and the line in one: the number, a space, and the line. With the number alone the line is left
+/// out.
+pub fn with_line(
+    alloc: Global,
+    behind: &[u8],
+    first: u32,
+    change: &str,
+) -> Result<Vec<u8>, NoMemory> {
+    let mut lines = Vec::new(alloc);
+    let number = match change.split_once(' ') {
+        Some((number, line)) => {
+            put_spelled(&mut lines, line.as_bytes(), 0)?;
+            put(&mut lines, b"\n")?;
+            number
+        }
+        None => change,
+    };
+    with_lines(
+        alloc,
+        behind,
+        first,
+        number.parse::<u32>().unwrap_or(0),
+        &lines,
+    )
 }
 
 fn put_changed(
@@ -191,11 +218,7 @@ fn put_changed(
     first: u32,
     change: &str,
 ) -> Result<(), NoMemory> {
-    let (number, line) = change.split_once(' ').unwrap_or((change, ""));
-    let number = number.parse::<u32>().unwrap_or(0);
-    let mut spelled = Vec::new(alloc);
-    put_spelled(&mut spelled, line.as_bytes(), 0)?;
-    let changed = with_line(alloc, behind, first, number, &spelled)?;
+    let changed = with_line(alloc, behind, first, change)?;
     put_came(out, read_again(alloc, scenario, &changed, first)?)?;
     put(out, b": ")?;
     put(out, change.as_bytes())

@@ -1,8 +1,9 @@
+use crate::checking::{put_checks, put_unlawful};
 use crate::play::{Played, play};
 use crate::reading::{is_read_again, put_readings};
 use crate::spelled::{put_spelled, put_times};
 use std::alloc::Global;
-use zk_base::{NoMemory, Status, put, put_decimal};
+use zk_base::{NoMemory, Status, SureSink, put, put_decimal};
 
 /// What is printed of these lines:
 ///
@@ -13,8 +14,10 @@ use zk_base::{NoMemory, Status, put, put_decimal};
 ///     ! WORDS        plays the text by these words: the status, and what is printed behind the text
 ///     $ PIECE        plays the text: the status, and whether the output ends with this piece
 ///     ? CHANGE       plays the text, and reads the trace changed in this way
+///     ? check CHANGE plays the text, and checks the trace changed in this way
 ///
-/// Each trace that is played is read and printed again; where it isn't the same, `misread` is printed.
+/// Each trace that is played is read and printed again, and checked. Where it isn't the same, `misread` is printed, and where
+/// it isn't said to be lawful, what is said.
 pub fn answered(alloc: Global, lines: &str) -> Result<Vec<u8>, NoMemory> {
     let mut out = Vec::new(alloc);
     let mut text = Vec::new(alloc);
@@ -62,7 +65,8 @@ fn put_reading(
     let Played { status, sink } = play(alloc, " replay", &whole)?;
     put(out, said(status, sink.held(), &whole))?;
     put(out, b":")?;
-    put_line(out, piece)
+    put_line(out, piece)?;
+    put_faults(alloc, out, &whole, &sink)
 }
 
 /// What was said of a text: the refusal, or whether it is printed again as it stood, with a trace behind it.
@@ -83,7 +87,7 @@ fn put_play(alloc: Global, out: &mut Vec<u8>, text: &[u8], line: &str) -> Result
         Some(behind) => {
             put(out, b", behind the text:\n")?;
             put(out, behind)?;
-            put_misread(alloc, out, text, behind)
+            put_faults(alloc, out, text, &sink)
         }
         None => {
             put(out, b":\n")?;
@@ -104,30 +108,36 @@ fn put_end(alloc: Global, out: &mut Vec<u8>, text: &[u8], piece: &[u8]) -> Resul
         put(out, b", doesn't end with")?;
     }
     put_line(out, piece)?;
-    let behind = sink.held().strip_prefix(text).unwrap_or(b"");
-    put_misread(alloc, out, text, behind)
+    put_faults(alloc, out, text, &sink)
 }
 
-/// Says so where a trace isn't read and printed again as it stands.
-fn put_misread(
+/// Says so where a trace isn't read and printed again as it stands, and where it isn't lawful.
+fn put_faults(
     alloc: Global,
     out: &mut Vec<u8>,
     text: &[u8],
-    behind: &[u8],
+    sink: &SureSink,
 ) -> Result<(), NoMemory> {
-    if !behind.starts_with(b"zt 1\n") || is_read_again(alloc, text, behind)? {
+    let behind = sink.held().strip_prefix(text).unwrap_or(b"");
+    if !behind.starts_with(b"zt 1\n") {
         return Ok(());
     }
-    put(out, b"misread\n")
+    if !is_read_again(alloc, text, behind)? {
+        put(out, b"misread\n")?;
+    }
+    put_unlawful(alloc, out, sink.held())
 }
 
-/// What comes of the trace of the text, changed in this way.
+/// What comes of the trace of the text, changed in this way, and what `check` says of it.
 fn put_change(alloc: Global, out: &mut Vec<u8>, text: &[u8], line: &str) -> Result<(), NoMemory> {
     let change = line.strip_prefix('?').unwrap_or("").trim_start();
     let Played { status: _, sink } = play(alloc, " replay", text)?;
-    match sink.held().strip_prefix(text) {
-        Some(behind) => put_readings(alloc, out, text, behind, change),
-        None => put(out, b"no trace\n"),
+    let Some(behind) = sink.held().strip_prefix(text) else {
+        return put(out, b"no trace\n");
+    };
+    match change.strip_prefix("check ") {
+        Some(change) => put_checks(alloc, out, text, behind, change),
+        None => put_readings(alloc, out, text, behind, change),
     }
 }
 
