@@ -55,6 +55,7 @@ fn failure(
     ensures { IfOk result (λ found. MatchOption found (IsLawful scenario.now trace.now)
         (λ f. IsFailure scenario.now trace.now f.0 f.1 × (IsLawful scenario.now trace.now → ⊥))) }
 {
+    let _valid = scenario.decls();
     let rows = stood_lines(alloc, trace)?;
     if let Some(site) = place_failure(alloc, scenario, &rows)? {
         return Ok(Some((Fail::Place, site)));
